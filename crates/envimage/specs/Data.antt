@@ -1,0 +1,67 @@
+-- The data of an image: entries `name=value`, each ended by a NUL, then one more NUL, then anything.
+use Rattle.std.specs.Prelude.{◌≡◌, ◌≢◌, ℕ, ◌+◌, ◌==◌, Bool, true, false, List, [], ◌∷◌, ◌++◌, length, Option, None, Some, if◌then◌else◌}
+use Rattle.std.specs.List.{flat_map, AllByRecursion, before_first, after_first, list_any}
+use Rattle.envimage.specs.declared.content.DataError.{DataError}
+use Rattle.envimage.specs.declared.content.DataError.TheVariants.{NotTerminated, NoEquals, EmptyName}
+
+-- a variable: its name and its value
+abbrev pub Pair : Type 0
+Pair = List ℕ × List ℕ
+
+abbrev pub IsNameByte : ℕ → Type 0
+IsNameByte b = (b ≢ 0) × (b ≢ 61)
+
+pub record IsVariable (p : Pair) : Type 0 where
+  pub named : p.0 ≢ []
+  pub name : AllByRecursion IsNameByte p.0
+  pub value : AllByRecursion (λ b. b ≢ 0) p.1
+
+abbrev pub entry : Pair → List ℕ
+entry p = p.0 ++ 61 ∷ p.1 ++ 0 ∷ []
+
+-- The body is the entries of these variables, a NUL, and a filling.
+pub record IsData (body : List ℕ) (pairs : List Pair) : Type 0 where
+  pub filling : List ℕ
+  pub whole : body ≡ flat_map entry pairs ++ 0 ∷ filling
+  pub each : AllByRecursion IsVariable pairs
+
+-- ---- the same, computed from the texts between the NULs
+
+abbrev pub is_nul : ℕ → Bool
+is_nul b = b == 0
+
+abbrev pub is_equals : ℕ → Bool
+is_equals b = b == 61
+
+abbrev pub onto_first : ℕ → List (List ℕ) → List (List ℕ)
+onto_first b [] = []
+onto_first b (text ∷ texts) = (b ∷ text) ∷ texts
+
+-- the texts that the NULs end; what stands after the last NUL is none
+abbrev pub texts_of : List ℕ → List (List ℕ)
+texts_of [] = []
+texts_of (b ∷ bs) = if is_nul b then [] ∷ texts_of bs else onto_first b (texts_of bs)
+
+-- The first fault of the texts from a place on. An empty text is the data's end.
+abbrev pub texts_fault : ℕ → List (List ℕ) → Option DataError
+texts_fault at [] = Some NotTerminated
+texts_fault at ([] ∷ texts) = None
+texts_fault at ((b ∷ bs) ∷ texts) =
+    if is_equals b then Some (EmptyName at)
+    else (if list_any is_equals bs then texts_fault (at + (length bs + 2)) texts else Some (NoEquals at))
+
+-- the first fault of the data
+abbrev pub data_fault : List ℕ → Option DataError
+data_fault body = texts_fault 0 (texts_of body)
+
+abbrev pub pair_of : List ℕ → Pair
+pair_of text = (before_first is_equals text, after_first is_equals text)
+
+abbrev pub pairs_of_texts : List (List ℕ) → List Pair
+pairs_of_texts [] = []
+pairs_of_texts ([] ∷ rest) = []
+pairs_of_texts ((b ∷ bs) ∷ rest) = pair_of (b ∷ bs) ∷ pairs_of_texts rest
+
+-- the variables of the data
+abbrev pub pairs_of : List ℕ → List Pair
+pairs_of body = pairs_of_texts (texts_of body)

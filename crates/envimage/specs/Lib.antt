@@ -1,0 +1,9 @@
+pub mod Crc
+pub mod Data
+pub mod Encoding
+pub mod Entries
+pub mod Image
+pub mod Laws
+pub mod Over
+pub mod Rows
+pub mod Sink

@@ -1,0 +1,101 @@
+ghost use Rattle.std.specs.Prelude.{◌≡◌, ◌+◌, ◌<◌, ◌-◌, ◌^◌, min, ◌++◌, ◌↔◌, length, map, replicate, true, false, OnOk, IfOk, Err};
+ghost use Rattle.std.specs.List.{flat_map};
+ghost use Rattle.envimage.specs.Data.{entry};
+ghost use Rattle.envimage.specs.Entries.{pair_at};
+ghost use Rattle.envimage.specs.Image.{stored_bytes};
+ghost use Rattle.envimage.specs.Encoding.{is_image_size, needed, data_bytes, image_of};
+
+use crate::crc::crc32;
+use crate::image::{ByteOrder, COPY_HEADER, ImageError, SINGLE_HEADER, is_size};
+use std::alloc::{AllocError, Global};
+
+/// The length of the entries of the pairs, as far as it can be counted.
+fn entries_len(pairs: &[(&[u8], &[u8])]) -> usize
+    ensures { result ≡ min (length (flat_map entry (map pair_at pairs.now))) (2 ^ 64 - 1) }
+{
+    let mut total: usize = 0;
+    for (name, value) in pairs {
+        total = total
+            .saturating_add(name.len())
+            .saturating_add(value.len())
+            .saturating_add(2);
+    }
+    total
+}
+
+fn push_entry(out: &mut Vec<u8>, name: &[u8], value: &[u8]) -> Result<(), AllocError>
+    ensures { OnOk result (out.new.items ≡ out.old.items ++ entry (name.now, value.now)) }
+{
+    out.extend_from_slice(name)?;
+    out.push(b'=')?;
+    out.extend_from_slice(value)?;
+    out.push(0)?;
+    Ok(())
+}
+
+fn push_zeros(out: &mut Vec<u8>, count: usize) -> Result<(), AllocError>
+    ensures { OnOk result (out.new.items ≡ out.old.items ++ replicate count 0) }
+{
+    for done in 0..count {
+        out.push(0)?;
+    }
+    Ok(())
+}
+
+/// The entries of the pairs, a NUL, and zero bytes.
+fn data_of(alloc: Global, pairs: &[(&[u8], &[u8])], filling: usize) -> Result<Vec<u8>, AllocError>
+    ensures { IfOk result (λ v. v.items ≡ data_bytes (map pair_at pairs.now) filling) }
+{
+    let mut out = Vec::new(alloc);
+    for (name, value) in pairs {
+        push_entry(&mut out, name, value)?;
+    }
+    out.push(0)?;
+    push_zeros(&mut out, filling)?;
+    Ok(out)
+}
+
+fn crc_bytes(crc: u32, order: ByteOrder) -> [u8; 4]
+    ensures { result ≡ stored_bytes order crc }
+{
+    match order {
+        ByteOrder::Little => crc.to_le_bytes(),
+        ByteOrder::Big => crc.to_be_bytes(),
+    }
+}
+
+/// The image of the pairs, of this size. With a flag it is a copy of a pair.
+pub fn encode(
+    alloc: Global,
+    pairs: &[(&[u8], &[u8])],
+    size: usize,
+    flag: Option<u8>,
+    order: ByteOrder,
+) -> Result<Vec<u8>, ImageError>
+    ensures wrong_size { (result ≡ Err ImageError.WrongSize) ↔ (is_image_size flag size ≡ false) }
+    ensures too_large { (result ≡ Err ImageError.TooLarge)
+        ↔ ((is_image_size flag size ≡ true) × (size < needed flag (map pair_at pairs.now))) }
+    ensures ok { IfOk result (λ v. v.items ≡ image_of order flag size (map pair_at pairs.now)) }
+{
+    let header = if flag.is_some() {
+        COPY_HEADER
+    } else {
+        SINGLE_HEADER
+    };
+    if !is_size(size, header + 1) {
+        return Err(ImageError::WrongSize);
+    }
+    let room = size - header - 1;
+    let used = entries_len(pairs);
+    if used > room {
+        return Err(ImageError::TooLarge);
+    }
+    let body = data_of(alloc, pairs, room - used)?;
+    let mut image = Vec::with_capacity(alloc, size)?;
+    image.extend_from_slice(&crc_bytes(crc32(&body), order))?;
+    if let Some(flag) = flag {
+        image.push(flag)?;
+    }
+    image.extend_from_slice(&body)?;
+    Ok(image)
+}

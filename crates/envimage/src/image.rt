@@ -1,0 +1,191 @@
+ghost use Rattle.std.specs.Prelude.{◌≡◌, ◌≤◌, length, IsOk, None};
+ghost use Rattle.std.specs.Option.{option_copied};
+ghost use Rattle.envimage.specs.Data.{data_fault};
+ghost use Rattle.envimage.specs.Image.{is_right, is_newer, is_size, stored, current, chosen_of, load_of, Gives, shown, copy_shown};
+ghost use Rattle.envimage.specs.declared.image.ImageError.TheVariants.{Content, Memory};
+
+use crate::crc::crc32;
+use crate::content::{DataError, check_data};
+use std::alloc::{AllocError, AllocFailed};
+use thiserror::Error;
+
+/// The least size of a single image, and the greatest of any.
+pub const SINGLE_MIN: usize = 5;
+
+/// The least size of a copy of a pair.
+pub const COPY_MIN: usize = 6;
+
+pub const SIZE_MAX: usize = 1_048_576;
+
+pub(crate) const SINGLE_HEADER: usize = 4;
+
+pub(crate) const COPY_HEADER: usize = 5;
+
+/// How the checksum is stored.
+#[derive(Clone, Copy, Debug, PartialEq, Eq)]
+pub enum ByteOrder {
+    Little,
+    Big,
+}
+
+/// One of two copies. A single image is the first.
+#[derive(Clone, Copy, Debug, PartialEq, Eq)]
+pub enum Which {
+    First,
+    Second,
+}
+
+#[derive(Clone, Copy, Debug, PartialEq, Eq, Error)]
+pub enum ImageError {
+    #[error("the image has a wrong size")]
+    WrongSize,
+    #[error("the image has a bad CRC")]
+    BadCrc,
+    #[error("{0}")]
+    Content(DataError),
+    #[error("the variables do not fit the image")]
+    TooLarge,
+    #[error("out of memory")]
+    Memory,
+}
+
+impl From<DataError> for ImageError {
+    ghost from_gives = { λ fault e. e ≡ Content fault };
+
+    fn from(fault: DataError) -> ImageError {
+        ImageError::Content(fault)
+    }
+}
+
+impl From<AllocError> for ImageError {
+    ghost from_gives = { λ _ e. e ≡ Memory };
+
+    fn from(_error: AllocError) -> ImageError {
+        ImageError::Memory
+    }
+}
+
+impl<T: Drop> From<AllocFailed<T>> for ImageError {
+    ghost from_gives = { λ _ e. e ≡ Memory };
+
+    fn from(_error: AllocFailed<T>) -> ImageError {
+        ImageError::Memory
+    }
+}
+
+/// The data of an image that was found right.
+#[derive(Clone, Copy, Debug)]
+pub struct Loaded<'a> {
+    pub which: Which,
+    pub flag: Option<u8>,
+    pub order: ByteOrder,
+    pub body: &'a [u8],
+}
+
+fn stored_crc(copy: &[u8], order: ByteOrder) -> u32
+    requires { 4 ≤ length copy.now }
+    ensures { result ≡ stored order copy.now }
+{
+    let (front, _) = copy.split_at(4);
+    let bytes = [front[0], front[1], front[2], front[3]];
+    match order {
+        ByteOrder::Little => u32::from_le_bytes(bytes),
+        ByteOrder::Big => u32::from_be_bytes(bytes),
+    }
+}
+
+fn is_right(copy: &[u8], header: usize, order: ByteOrder) -> bool
+    requires front { 4 ≤ length copy.now }
+    requires header { header ≤ length copy.now }
+    ensures { result ≡ is_right order header copy.now }
+{
+    stored_crc(copy, order) == crc32(&copy[header..])
+}
+
+pub(crate) fn is_size(size: usize, least: usize) -> bool
+    ensures { result ≡ is_size least size }
+{
+    least <= size && size <= SIZE_MAX
+}
+
+/// Whether a copy with the second flag was written after one with the first.
+fn is_newer(first: u8, second: u8) -> bool
+    ensures { result ≡ is_newer first second }
+{
+    (first == 255 && second == 0) || (first < second && !(first == 0 && second == 255))
+}
+
+/// Which of two copies counts.
+fn current_copy(first: &[u8], second: &[u8], order: ByteOrder) -> Option<Which>
+    requires first { 5 ≤ length first.now }
+    requires second { 5 ≤ length second.now }
+    ensures { result ≡ current order first.now second.now }
+{
+    match (
+        is_right(first, COPY_HEADER, order),
+        is_right(second, COPY_HEADER, order),
+    ) {
+        (true, true) if is_newer(first[4], second[4]) => Some(Which::Second),
+        (true, _) => Some(Which::First),
+        (false, true) => Some(Which::Second),
+        (false, false) => None,
+    }
+}
+
+/// Finds the copy that counts.
+fn choose(first: &[u8], second: Option<&[u8]>, order: ByteOrder) -> Result<Which, ImageError>
+    ensures { result ≡ chosen_of order first.now (option_copied second.entry) }
+{
+    match second {
+        None => {
+            if !is_size(first.len(), SINGLE_MIN) {
+                return Err(ImageError::WrongSize);
+            }
+            if !is_right(first, SINGLE_HEADER, order) {
+                return Err(ImageError::BadCrc);
+            }
+            Ok(Which::First)
+        }
+        Some(second) => {
+            if !is_size(first.len(), COPY_MIN) || first.len() != second.len() {
+                return Err(ImageError::WrongSize);
+            }
+            current_copy(first, second, order).ok_or(ImageError::BadCrc)
+        }
+    }
+}
+
+/// Reads an image, or a pair of copies, and checks the data of the copy that counts.
+pub fn load<'a>(
+    first: &'a [u8],
+    second: Option<&'a [u8]>,
+    order: ByteOrder,
+) -> Result<Loaded<'a>, ImageError>
+    ensures { Gives shown result (load_of order first.now (option_copied second.entry)) }
+{
+    let which = choose(first, second, order)?;
+    let loaded = match (second, which) {
+        (None, _) => Loaded {
+            which: Which::First,
+            flag: None,
+            order,
+            body: &first[SINGLE_HEADER..],
+        },
+        (Some(_), Which::First) => copy_loaded(first, which, order),
+        (Some(second), Which::Second) => copy_loaded(second, which, order),
+    };
+    check_data(loaded.body)?;
+    Ok(loaded)
+}
+
+fn copy_loaded(copy: &[u8], which: Which, order: ByteOrder) -> Loaded<'_>
+    requires { 5 ≤ length copy.now }
+    ensures { shown result ≡ copy_shown order which copy.now }
+{
+    Loaded {
+        which,
+        flag: Some(copy[4]),
+        order,
+        body: &copy[COPY_HEADER..],
+    }
+}

@@ -1,0 +1,18 @@
+//! U-Boot environment images: their checksum, their data, and the outputs that everything above
+//! writes to.
+#![tactic(auto)]
+
+mod content;
+mod crc;
+mod encoding;
+mod image;
+pub mod laws;
+mod output;
+mod walk;
+
+pub use content::{DataError, check_data, entries};
+pub use crc::crc32;
+pub use encoding::encode;
+pub use image::{ByteOrder, ImageError, Loaded, Which, load};
+pub use output::{Out, OutFault, Over, write_all, write_parts};
+pub use walk::Entries;
