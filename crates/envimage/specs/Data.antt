@@ -1,5 +1,5 @@
 -- The data of an image: entries `name=value`, each ended by a NUL, then one more NUL, then anything.
-use Rattle.std.specs.Prelude.{◌≡◌, ◌≢◌, ℕ, ◌+◌, ◌==◌, Bool, true, false, List, [], ◌∷◌, ◌++◌, length, Option, None, Some, if◌then◌else◌}
+use Rattle.std.specs.Prelude.{◌≡◌, ◌≢◌, ℕ, ◌+◌, ◌≤◌, ◌==◌, Bool, true, false, List, [], ◌∷◌, ◌++◌, length, Option, None, Some, if◌then◌else◌}
 use Rattle.std.specs.List.{flat_map, AllByRecursion, before_first, after_first, list_any}
 use Rattle.envimage.specs.declared.content.DataError.{DataError}
 use Rattle.envimage.specs.declared.content.DataError.TheVariants.{NotTerminated, NoEquals, EmptyName}
@@ -24,6 +24,38 @@ pub record IsData (body : List ℕ) (pairs : List Pair) : Type 0 where
   pub filling : List ℕ
   pub whole : body ≡ flat_map entry pairs ++ 0 ∷ filling
   pub each : AllByRecursion IsVariable pairs
+
+-- The body begins with the entries of these variables, and goes on as the rest.
+pub record IsRow (body : List ℕ) (pairs : List Pair) (rest : List ℕ) : Type 0 where
+  pub whole : body ≡ flat_map entry pairs ++ rest
+  pub each : AllByRecursion IsVariable pairs
+
+-- No row of entries that the body begins with is longer.
+pub record IsLongestRow (body : List ℕ) (pairs : List Pair) (rest : List ℕ) : Type 0 where
+  pub row : IsRow body pairs rest
+  pub longest : (others : List Pair) (left : List ℕ) → IsRow body others left →
+    length (flat_map entry others) ≤ length (flat_map entry pairs)
+
+-- The rest begins with this text, which a NUL ends.
+pub record BeginsWithText (rest text : List ℕ) : Type 0 where
+  pub after : List ℕ
+  pub whole : rest ≡ text ++ 0 ∷ after
+  pub unbroken : AllByRecursion (λ b. b ≢ 0) text
+
+-- What is wrong at a place where no entry stands: nothing where the last NUL does.
+abbrev pub IsFaultAt : ℕ → List ℕ → Option DataError → Type 0
+IsFaultAt at rest None = BeginsWithText rest []
+IsFaultAt at rest (Some NotTerminated) = AllByRecursion (λ b. b ≢ 0) rest
+IsFaultAt at rest (Some (EmptyName place)) = (place ≡ at) × ((text : List ℕ) × BeginsWithText rest (61 ∷ text))
+IsFaultAt at rest (Some (NoEquals place)) =
+    (place ≡ at) × ((text : List ℕ) × (BeginsWithText rest text) × (text ≢ []) × (AllByRecursion IsNameByte text))
+
+-- The fault of a body is what is wrong behind its longest row of entries.
+pub record IsFault (body : List ℕ) (fault : Option DataError) : Type 0 where
+  pub pairs : List Pair
+  pub rest : List ℕ
+  pub row : IsLongestRow body pairs rest
+  pub fault_there : IsFaultAt (length (flat_map entry pairs)) rest fault
 
 -- ---- the same, computed from the texts between the NULs
 
