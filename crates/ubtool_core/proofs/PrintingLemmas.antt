@@ -1,0 +1,38 @@
+-- What reading the data of a loaded image answers.
+use Rattle.std.proofs.Common.{◌≡◌, ℕ, Bool, List, Option, None, Some, Result, Ok, Err, refl, sym, ap, subst, ◌∙◌}
+use Rattle.envimage.specs.Data.{data_fault, pairs_of}
+use Rattle.envimage.specs.Image.{Shown, load_of, chosen_of, shown_of, then_checked, checked}
+use Rattle.envimage.specs.declared.content.DataError.{DataError}
+use Rattle.envimage.specs.declared.image.ByteOrder.{ByteOrder}
+use Rattle.envimage.specs.declared.image.Which.{Which}
+use Rattle.envimage.specs.declared.image.ImageError.{ImageError}
+use Rattle.envtools.specs.Environment.{IsReadFrom, env_of}
+use Rattle.envtools.specs.declared.env_error.EnvError.{EnvError}
+use Rattle.envtools.specs.declared.env_error.EnvError.TheVariants.{Content, BadName, BadValue, Memory}
+use Rattle.ubtool_core.specs.Errors.{env_fault}
+use Rattle.ubtool_core.specs.Printing.{environment_in, Outputs, AreUnchanged, Prints}
+
+checked-ok : (shown s : Shown) (fault : Option DataError) → checked shown fault ≡ Ok s → (fault ≡ None) × (shown ≡ s)
+checked-ok shown s None e = (refl, cc)
+checked-ok shown s (Some fault) e = cc
+
+then_checked-ok : (chosen : Result Which ImageError) (show : Which → Shown) (s : Shown) → then_checked chosen show ≡ Ok s → data_fault s.body ≡ None
+then_checked-ok (Err e) show s h = cc
+then_checked-ok (Ok which) show s h =
+    let parts = checked-ok (show which) s (data_fault (show which).body) h in
+    ap (λ t. data_fault t.body) (sym parts.1) ∙ parts.0
+
+-- the data of what is loaded has no fault
+pub loaded-faultless : (order : ByteOrder) (first : List ℕ) (second : Option (List ℕ)) (s : Shown) → load_of order first second ≡ Ok s → data_fault s.body ≡ None
+loaded-faultless order first second s e = then_checked-ok (chosen_of order first second) (shown_of order first second) s e
+
+-- its variables can be refused for memory alone
+pub read-fault : (order : ByteOrder) (first : List ℕ) (second : Option (List ℕ)) (s : Shown) (error : EnvError) (names : List (List ℕ)) (header : Bool) (outputs : Outputs)
+    → load_of order first second ≡ Ok s → IsReadFrom s.body (Err error) → AreUnchanged outputs
+    → Prints (environment_in order first second) names header outputs (Err (env_fault error))
+read-fault order first second s (Content fault) names header outputs e read same =
+    let none = loaded-faultless order first second s e in cc
+read-fault order first second s BadName names header outputs e read same = absurd read
+read-fault order first second s BadValue names header outputs e read same = absurd read
+read-fault order first second s Memory names header outputs e read same =
+    ((env_of (pairs_of s.body), rw e refl), same)

@@ -1,0 +1,20 @@
+-- What a refusal of a part is for the whole: want of memory is one, wherever it comes from.
+use Rattle.envimage.specs.declared.image.ImageError.{ImageError}
+use Rattle.envimage.specs.declared.image.ImageError.TheVariants as image
+use Rattle.envtools.specs.declared.env_error.EnvError.{EnvError}
+use Rattle.envtools.specs.declared.env_error.EnvError.TheVariants as env
+use Rattle.ubtool_core.specs.declared.error.ToolError.{ToolError}
+use Rattle.ubtool_core.specs.declared.error.ToolError.TheVariants.{Image, Env, Memory}
+
+abbrev pub image_fault : ImageError → ToolError
+image_fault image.WrongSize = Image image.WrongSize
+image_fault image.BadCrc = Image image.BadCrc
+image_fault (image.Content fault) = Image (image.Content fault)
+image_fault image.TooLarge = Image image.TooLarge
+image_fault image.Memory = Memory
+
+abbrev pub env_fault : EnvError → ToolError
+env_fault (env.Content fault) = Image (image.Content fault)
+env_fault env.BadName = Env env.BadName
+env_fault env.BadValue = Env env.BadValue
+env_fault env.Memory = Memory

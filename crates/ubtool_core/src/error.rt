@@ -1,0 +1,60 @@
+use envimage::ImageError;
+use envtools::{EnvError, PrintError};
+use thiserror::Error;
+
+/// Why a call from bytes to bytes was refused.
+#[derive(Clone, Copy, Debug, Drop, PartialEq, Eq, Error)]
+pub enum ToolError {
+    /// The image, for another cause than memory.
+    #[error("{0}")]
+    Image(ImageError),
+    /// The change, for another cause than memory.
+    #[error("{0}")]
+    Env(EnvError),
+    /// An output failed.
+    #[error("output failed")]
+    Write,
+    /// A growth was refused.
+    #[error("out of memory")]
+    Memory,
+}
+
+impl From<ImageError> for ToolError {
+    ghost use Rattle.std.specs.Prelude.{◌≡◌};
+    ghost use Rattle.ubtool_core.specs.Errors.{image_fault};
+
+    ghost from_gives = { λ error e. e ≡ image_fault error };
+
+    fn from(error: ImageError) -> ToolError {
+        match error {
+            ImageError::Memory => ToolError::Memory,
+            error => ToolError::Image(error),
+        }
+    }
+}
+
+impl From<EnvError> for ToolError {
+    ghost use Rattle.std.specs.Prelude.{◌≡◌};
+    ghost use Rattle.ubtool_core.specs.Errors.{env_fault};
+
+    ghost from_gives = { λ error e. e ≡ env_fault error };
+
+    fn from(error: EnvError) -> ToolError {
+        match error {
+            EnvError::Memory => ToolError::Memory,
+            EnvError::Content(fault) => ToolError::Image(ImageError::Content(fault)),
+            error => ToolError::Env(error),
+        }
+    }
+}
+
+impl From<PrintError> for ToolError {
+    ghost use Rattle.std.specs.Prelude.{◌≡◌};
+    ghost use Rattle.ubtool_core.specs.declared.error.ToolError.TheVariants.{Write};
+
+    ghost from_gives = { λ _ e. e ≡ Write };
+
+    fn from(_error: PrintError) -> ToolError {
+        ToolError::Write
+    }
+}
