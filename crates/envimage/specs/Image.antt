@@ -33,7 +33,7 @@ is_size least size = nat_le least size && nat_le size 1048576
 abbrev pub is_newer : ℕ → ℕ → Bool
 is_newer a b = ((a == 255) && (b == 0)) || (nat_lt a b && not ((a == 0) && (b == 255)))
 
--- which of two copies counts
+-- which of two copies is current
 abbrev pub current : ByteOrder → List ℕ → List ℕ → Option Which
 current order a b = by (is_right order 5 a) (is_right order 5 b)
   where
@@ -47,7 +47,7 @@ abbrev pub or_bad_crc : Option Which → Result Which ImageError
 or_bad_crc (Some which) = Ok which
 or_bad_crc None = Err BadCrc
 
--- the copy that counts, or the first refusal
+-- the current copy, or the first refusal
 abbrev pub chosen_of : ByteOrder → List ℕ → Option (List ℕ) → Result Which ImageError
 chosen_of order first None =
     if not (is_size 5 (length first)) then Err WrongSize
@@ -56,7 +56,7 @@ chosen_of order first (Some second) =
     if not (is_size 6 (length first)) || not (length first == length second) then Err WrongSize
     else or_bad_crc (current order first second)
 
--- what an image says: the copy that counts, its flag, the byte order and the body
+-- what an image says: the current copy, its flag, the byte order and the body
 pub record Shown : Type 0 where
   pub which : Which
   pub flag : Option ℕ

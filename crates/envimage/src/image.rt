@@ -9,42 +9,53 @@ use crate::content::{DataError, check_data};
 use std::alloc::{AllocError, AllocFailed};
 use thiserror::Error;
 
-/// The least size of a single image, and the greatest of any.
+/// The least size of a single image, in bytes.
 pub const SINGLE_MIN: usize = 5;
 
-/// The least size of a copy of a pair.
+/// The least size of a copy of a redundant pair, in bytes.
 pub const COPY_MIN: usize = 6;
 
+/// The greatest size of an image, in bytes, its header counted.
 pub const SIZE_MAX: usize = 1_048_576;
 
 pub(crate) const SINGLE_HEADER: usize = 4;
 
 pub(crate) const COPY_HEADER: usize = 5;
 
-/// How the checksum is stored.
+/// How the checksum is stored. Nothing else of an image depends on it.
 #[derive(Clone, Copy, Debug, PartialEq, Eq)]
 pub enum ByteOrder {
+    /// The lowest byte first.
     Little,
+    /// The highest byte first.
     Big,
 }
 
 /// One of two copies. A single image is the first.
 #[derive(Clone, Copy, Debug, PartialEq, Eq)]
 pub enum Which {
+    /// The first copy, or the single image.
     First,
+    /// The second copy.
     Second,
 }
 
+/// Why an image was refused.
 #[derive(Clone, Copy, Debug, PartialEq, Eq, Error)]
 pub enum ImageError {
-    #[error("the image has a wrong size")]
+    /// The size is out of its range, or two copies differ in length.
+    #[error("wrong image size")]
     WrongSize,
-    #[error("the image has a bad CRC")]
+    /// No copy has a right checksum.
+    #[error("no image with a right CRC")]
     BadCrc,
+    /// The data of the current copy is faulty.
     #[error("{0}")]
     Content(DataError),
-    #[error("the variables do not fit the image")]
+    /// The variables do not fit the image.
+    #[error("environment is too large")]
     TooLarge,
+    /// A growth was refused.
     #[error("out of memory")]
     Memory,
 }
@@ -73,12 +84,16 @@ impl<T: Drop> From<AllocFailed<T>> for ImageError {
     }
 }
 
-/// The data of an image that was found right.
+/// What an image holds, or the copy of a pair that is current.
 #[derive(Clone, Copy, Debug)]
 pub struct Loaded<'a> {
+    /// Which copy is current.
     pub which: Which,
+    /// Its flag; a single image has none.
     pub flag: Option<u8>,
+    /// The byte order that it was read in.
     pub order: ByteOrder,
+    /// Its data, which has no fault.
     pub body: &'a [u8],
 }
 
@@ -115,7 +130,7 @@ fn is_newer(first: u8, second: u8) -> bool
     (first == 255 && second == 0) || (first < second && !(first == 0 && second == 255))
 }
 
-/// Which of two copies counts.
+/// Which of two copies is current.
 fn current_copy(first: &[u8], second: &[u8], order: ByteOrder) -> Option<Which>
     requires first { 5 ≤ length first.now }
     requires second { 5 ≤ length second.now }
@@ -132,7 +147,7 @@ fn current_copy(first: &[u8], second: &[u8], order: ByteOrder) -> Option<Which>
     }
 }
 
-/// Finds the copy that counts.
+/// Finds the current copy.
 fn choose(first: &[u8], second: Option<&[u8]>, order: ByteOrder) -> Result<Which, ImageError>
     ensures { result ≡ chosen_of order first.now (option_copied second.entry) }
 {
@@ -155,7 +170,12 @@ fn choose(first: &[u8], second: Option<&[u8]>, order: ByteOrder) -> Result<Which
     }
 }
 
-/// Reads an image, or a pair of copies, and checks the data of the copy that counts.
+/// Reads a single image, or the two copies of a redundant pair, and checks the data of the current
+/// copy alone. A copy is right where its first four bytes are the CRC-32 of what follows its header;
+/// the flag byte is not covered. If both copies are right the flags decide: the second is current
+/// where they are 255 and 0, or where its flag is greater and they are not 0 and 255.
+///
+/// Refusals in order: `WrongSize`, `BadCrc`, `Content`. It takes no memory.
 pub fn load<'a>(
     first: &'a [u8],
     second: Option<&'a [u8]>,

@@ -13,6 +13,6 @@ mod walk;
 pub use content::{DataError, check_data, entries};
 pub use crc::crc32;
 pub use encoding::encode;
-pub use image::{ByteOrder, ImageError, Loaded, Which, load};
+pub use image::{ByteOrder, COPY_MIN, ImageError, Loaded, SINGLE_MIN, SIZE_MAX, Which, load};
 pub use output::{Out, OutFault, Over, write_all, write_parts};
 pub use walk::Entries;

@@ -2,7 +2,13 @@
 #![tactic(auto)]
 
 mod error;
+mod fault;
+mod input;
 mod print;
+mod standard_input;
 
 pub use error::ToolError;
+pub use fault::{Fault, write_fault};
+pub use input::{ReadFault, read_up_to};
 pub use print::print_bytes;
+pub use standard_input::run_input;

@@ -1,0 +1,51 @@
+ghost use Rattle.std.specs.Prelude.{◌≡◌, ◌⊎◌, OnOk};
+ghost use Rattle.ubtool_core.specs.Input.{PrintsInput};
+
+use crate::error::ToolError;
+use crate::fault::{Fault, write_fault};
+use crate::input::{ReadFault, read_up_to};
+use crate::print::print_bytes;
+use envimage::{ByteOrder, Out, SIZE_MAX};
+use std::alloc::Global;
+use std::io::Read;
+
+/// Prints the variables of the single image that `input` holds, its checksum little-endian.
+fn print_input<R: Read, O: Out, E: Out>(
+    alloc: Global,
+    input: &mut R,
+    out: &mut O,
+    err: &mut E,
+) -> Result<(), Fault>
+    ensures { OnOk result (PrintsInput (R.remaining input.old) (O.sink out.old) (O.sink out.new)) }
+{
+    let image = match read_up_to(alloc, input, SIZE_MAX + 1) {
+        Ok(image) => image,
+        Err(ReadFault::Failed) => return Err(Fault::Input),
+        Err(ReadFault::Memory) => return Err(Fault::Tool(ToolError::Memory)),
+    };
+    match print_bytes(alloc, &image, None, ByteOrder::Little, &[], true, out, err) {
+        Ok(_) => Ok(()),
+        Err(error) => Err(Fault::Tool(error)),
+    }
+}
+
+/// Reads `input` up to its end, or one byte more than an image may have, and prints the variables
+/// of the single image that it is. The answer is the program's status: 0, or 1 where one line on
+/// `err` tells the fault. No failed read is tried again.
+pub fn run_input<R: Read, O: Out, E: Out>(
+    alloc: Global,
+    input: &mut R,
+    out: &mut O,
+    err: &mut E,
+) -> u8
+    ensures status { (result ≡ 0) ⊎ (result ≡ 1) }
+    ensures printed { result ≡ 0 → PrintsInput (R.remaining input.old) (O.sink out.old) (O.sink out.new) }
+{
+    match print_input(alloc, input, out, err) {
+        Ok(()) => 0,
+        Err(fault) => {
+            write_fault(err, &fault);
+            1
+        }
+    }
+}
