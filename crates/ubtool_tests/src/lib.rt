@@ -1,0 +1,11 @@
+//! Tests that cross the crates: what no contract says, with values from outside.
+#![tactic(auto)]
+
+pub mod writers;
+
+#[cfg(test)]
+mod images;
+#[cfg(test)]
+mod outputs;
+#[cfg(test)]
+mod printing;
