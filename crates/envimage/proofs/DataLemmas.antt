@@ -14,7 +14,7 @@ list_any-none p [] f = refl
 list_any-none p (b ∷ bs) f =
     rw (f 0 (omega arith)) (list_any-none p bs (λ k h. f (suc k) (omega arith)))
 
-position-none : (p : ℕ → Bool) (bytes : List ℕ) → position p bytes ≡ None → list_any p bytes ≡ false
+pub position-none : (p : ℕ → Bool) (bytes : List ℕ) → position p bytes ≡ None → list_any p bytes ≡ false
 position-none p bytes e =
     elim (cases_lt (position_or_len p bytes) (length bytes)) [
       | inl found ↦ let below : nat_lt (position_or_len p bytes) (length bytes) ≡ true = grind (arith, nat_tests) in

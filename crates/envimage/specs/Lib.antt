@@ -7,3 +7,4 @@ pub mod Laws
 pub mod Over
 pub mod Rows
 pub mod Sink
+pub mod Text

@@ -1,9 +1,9 @@
-ghost use Rattle.std.specs.Prelude.{◌≡◌, ◌+◌, ◌<◌, ◌-◌, ◌^◌, min, ◌++◌, ◌↔◌, length, map, replicate, true, false, OnOk, IfOk, Err};
-ghost use Rattle.std.specs.List.{flat_map};
-ghost use Rattle.envimage.specs.Data.{entry};
+ghost use Rattle.std.specs.Prelude.{◌≡◌, ◌+◌, ◌<◌, ◌-◌, ◌^◌, min, ◌++◌, ◌↔◌, length, map, replicate, true, false, OnOk, IfOk, IfErr, Err};
+ghost use Rattle.std.specs.List.{flat_map, AllByRecursion};
+ghost use Rattle.envimage.specs.Data.{entry, IsVariable};
 ghost use Rattle.envimage.specs.Entries.{pair_at};
 ghost use Rattle.envimage.specs.Image.{stored_bytes};
-ghost use Rattle.envimage.specs.Encoding.{is_image_size, needed, data_bytes, image_of};
+ghost use Rattle.envimage.specs.Encoding.{is_image_size, needed, data_bytes, image_of, ReadsBack, IsEncodeRefusal};
 
 use crate::crc::crc32;
 use crate::image::{ByteOrder, COPY_HEADER, ImageError, SINGLE_HEADER, is_size};
@@ -23,13 +23,18 @@ fn entries_len(pairs: &[(&[u8], &[u8])]) -> usize
     total
 }
 
+/// What ends an entry, what ends the data, and what fills the rest of an image.
+const ENTRY_END: u8 = 0;
+const DATA_END: u8 = 0;
+const FILLING: u8 = 0;
+
 fn push_entry(out: &mut Vec<u8>, name: &[u8], value: &[u8]) -> Result<(), AllocError>
     ensures { OnOk result (out.new.items ≡ out.old.items ++ entry (name.now, value.now)) }
 {
     out.extend_from_slice(name)?;
     out.push(b'=')?;
     out.extend_from_slice(value)?;
-    out.push(0)?;
+    out.push(ENTRY_END)?;
     Ok(())
 }
 
@@ -37,7 +42,7 @@ fn push_zeros(out: &mut Vec<u8>, count: usize) -> Result<(), AllocError>
     ensures { OnOk result (out.new.items ≡ out.old.items ++ replicate count 0) }
 {
     for done in 0..count {
-        out.push(0)?;
+        out.push(FILLING)?;
     }
     Ok(())
 }
@@ -50,7 +55,7 @@ fn data_of(alloc: Global, pairs: &[(&[u8], &[u8])], filling: usize) -> Result<Ve
     for (name, value) in pairs {
         push_entry(&mut out, name, value)?;
     }
-    out.push(0)?;
+    out.push(DATA_END)?;
     push_zeros(&mut out, filling)?;
     Ok(out)
 }
@@ -64,7 +69,10 @@ fn crc_bytes(crc: u32, order: ByteOrder) -> [u8; 4]
     }
 }
 
-/// The image of the pairs, of this size. With a flag it is a copy of a pair.
+/// The image of these variables, of this size in bytes, its header counted: the checksum in its byte
+/// order, the flag where it is a copy of a redundant pair, the entries, a NUL and zero bytes.
+///
+/// Refusals in order: `WrongSize`, `TooLarge`, `Memory`.
 pub fn encode(
     alloc: Global,
     pairs: &[(&[u8], &[u8])],
@@ -72,10 +80,13 @@ pub fn encode(
     flag: Option<u8>,
     order: ByteOrder,
 ) -> Result<Vec<u8>, ImageError>
+    requires { AllByRecursion IsVariable (map pair_at pairs.now) }
     ensures wrong_size { (result ≡ Err ImageError.WrongSize) ↔ (is_image_size flag size ≡ false) }
     ensures too_large { (result ≡ Err ImageError.TooLarge)
         ↔ ((is_image_size flag size ≡ true) × (size < needed flag (map pair_at pairs.now))) }
+    ensures other { IfErr result IsEncodeRefusal }
     ensures ok { IfOk result (λ v. v.items ≡ image_of order flag size (map pair_at pairs.now)) }
+    ensures back { IfOk result (λ v. ReadsBack order flag v.items (map pair_at pairs.now)) }
 {
     let header = if flag.is_some() {
         COPY_HEADER

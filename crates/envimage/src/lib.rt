@@ -8,6 +8,7 @@ mod encoding;
 mod image;
 pub mod laws;
 mod output;
+mod text;
 mod walk;
 
 pub use content::{DataError, check_data, entries};
@@ -15,4 +16,5 @@ pub use crc::crc32;
 pub use encoding::encode;
 pub use image::{ByteOrder, COPY_MIN, ImageError, Loaded, SINGLE_MIN, SIZE_MAX, Which, load};
 pub use output::{Out, OutFault, Over, write_all, write_parts};
+pub use text::Lines;
 pub use walk::Entries;

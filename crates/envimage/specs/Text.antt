@@ -1,0 +1,32 @@
+-- The lines of a text, and the words of a line.
+use Rattle.std.specs.Prelude.{ℕ, ◌+◌, ◌==◌, ◌||◌, not, Bool, true, false, List, [], ◌∷◌, length, filter, if◌then◌else◌}
+use Rattle.std.specs.List.{slice_split, enumerate_from}
+use Rattle.std.specs.Borrow.{Bor}
+use Rattle.envimage.specs.declared.text.Lines.{Lines}
+
+abbrev pub is_newline : ℕ → Bool
+is_newline b = b == 10
+
+-- a space, a tab or a carriage return
+abbrev pub is_blank : ℕ → Bool
+is_blank b = (b == 32) || ((b == 9) || (b == 13))
+
+-- the lines of a text, with their numbers from 1 on
+abbrev pub numbered_lines : List ℕ → List (ℕ × List ℕ)
+numbered_lines text = enumerate_from 1 (slice_split is_newline text)
+
+-- the words of a line are what blanks separate
+abbrev pub words_of : List ℕ → List (List ℕ)
+words_of line = filter (λ word. not (length word == 0)) (slice_split is_blank line)
+
+-- the lines that an iterator has left
+abbrev pub lines_left : Lines → List (ℕ × List ℕ)
+lines_left s = if s.is_done then [] else enumerate_from s.number (slice_split is_newline s.rest.now)
+
+-- a line behind its reference
+abbrev pub line_at : ℕ × Bor (List ℕ) → ℕ × List ℕ
+line_at item = (item.0, item.1.now)
+
+-- no more lines than this are left
+abbrev pub steps_left : Lines → ℕ
+steps_left s = if s.is_done then 0 else length s.rest.now + 1
