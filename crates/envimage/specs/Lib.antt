@@ -1,3 +1,4 @@
+pub mod Config
 pub mod Crc
 pub mod Data
 pub mod Encoding
@@ -5,6 +6,8 @@ pub mod Entries
 pub mod Image
 pub mod Laws
 pub mod Over
+pub mod Place
 pub mod Rows
 pub mod Sink
 pub mod Text
+pub mod Words

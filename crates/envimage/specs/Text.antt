@@ -1,5 +1,5 @@
--- The lines of a text, and the words of a line.
-use Rattle.std.specs.Prelude.{ℕ, ◌+◌, ◌==◌, ◌||◌, not, Bool, true, false, List, [], ◌∷◌, length, filter, if◌then◌else◌}
+-- The lines of a text.
+use Rattle.std.specs.Prelude.{ℕ, ◌+◌, ◌==◌, Bool, List, [], ◌∷◌, length, if◌then◌else◌}
 use Rattle.std.specs.List.{slice_split, enumerate_from}
 use Rattle.std.specs.Borrow.{Bor}
 use Rattle.envimage.specs.declared.text.Lines.{Lines}
@@ -7,17 +7,9 @@ use Rattle.envimage.specs.declared.text.Lines.{Lines}
 abbrev pub is_newline : ℕ → Bool
 is_newline b = b == 10
 
--- a space, a tab or a carriage return
-abbrev pub is_blank : ℕ → Bool
-is_blank b = (b == 32) || ((b == 9) || (b == 13))
-
 -- the lines of a text, with their numbers from 1 on
 abbrev pub numbered_lines : List ℕ → List (ℕ × List ℕ)
 numbered_lines text = enumerate_from 1 (slice_split is_newline text)
-
--- the words of a line are what blanks separate
-abbrev pub words_of : List ℕ → List (List ℕ)
-words_of line = filter (λ word. not (length word == 0)) (slice_split is_blank line)
 
 -- the lines that an iterator has left
 abbrev pub lines_left : Lines → List (ℕ × List ℕ)

@@ -2,15 +2,19 @@
 //! writes to.
 #![tactic(auto)]
 
+mod config;
 mod content;
 mod crc;
 mod encoding;
 mod image;
 pub mod laws;
+mod number;
 mod output;
 mod text;
 mod walk;
+mod words;
 
+pub use config::{ConfigError, Place, parse_config};
 pub use content::{DataError, check_data, entries};
 pub use crc::crc32;
 pub use encoding::encode;

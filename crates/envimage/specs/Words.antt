@@ -1,0 +1,16 @@
+-- The words of a line.
+use Rattle.std.specs.Prelude.{ℕ, ◌==◌, ◌||◌, not, Bool, List, [], ◌∷◌, length, filter, if◌then◌else◌}
+use Rattle.std.specs.List.{slice_split}
+
+-- a space, a tab or a carriage return
+abbrev pub is_blank : ℕ → Bool
+is_blank b = (b == 32) || ((b == 9) || (b == 13))
+
+-- what follows the bytes at the front that pass a test
+abbrev pub skipped : (ℕ → Bool) → List ℕ → List ℕ
+skipped p [] = []
+skipped p (b ∷ bs) = if p b then skipped p bs else b ∷ bs
+
+-- the words of a line are what blanks separate
+abbrev pub words_of : List ℕ → List (List ℕ)
+words_of line = filter (λ word. not (length word == 0)) (slice_split is_blank line)
