@@ -1,11 +1,11 @@
 -- The environment of a list of pairs, made one pair after another.
-use Rattle.std.proofs.Common.{◌≡◌, ◌≢◌, ℕ, zero, suc, ◌+◌, take, add-one, Bool, true, false, cond, not, filter, fold, inl, inr, List, [], ◌∷◌, ◌++◌, Option, None, Some, refl, sym, ap, subst, ◌∙◌, append_assoc}
+use Rattle.std.proofs.Common.{◌≡◌, ◌≢◌, ℕ, zero, suc, ◌+◌, take, add-one, length, length-append, arith, Bool, true, false, cond, not, filter, fold, inl, inr, List, [], ◌∷◌, ◌++◌, Option, None, Some, refl, sym, ap, subst, ◌∙◌, append_assoc}
 use Rattle.std.specs.Prelude.{unwrap_or, slice_get}
-use Rattle.std.specs.List.{AllByRecursion}
+use Rattle.std.specs.List.{AllByRecursion, flat_map}
 use Rattle.std.proofs.lemmas.List.{append-nil}
 use Rattle.std.proofs.lemmas.Bool.{cases_Bool}
 use Rattle.std.specs.Cmp.Lexicographic.{bytes_decides, nat_list_eq_equiv}
-use Rattle.envimage.specs.Data.{Pair}
+use Rattle.envimage.specs.Data.{Pair, entry}
 use Rattle.envtools.specs.Environment.{value_of, dropped, assigned, env_of, same, HasDistinctNames}
 
 itself : (name : List ℕ) → same name name ≡ true
@@ -103,3 +103,27 @@ assigned-suc (q ∷ qs) (suc at) p d e =
 -- the variable at a place is new to those before it
 pub assigned-next : (ps : List Pair) (at : ℕ) (p : Pair) → HasDistinctNames ps → slice_get ps at ≡ Some p → assigned (take at ps) p.0 p.1 ≡ take (at + 1) ps
 assigned-next ps at p d e = rw add-one (assigned-suc ps at p d e)
+
+-- ---- the variables one after another
+
+take-suc : (ps : List Pair) (at : ℕ) (p : Pair) → slice_get ps at ≡ Some p → take (suc at) ps ≡ take at ps ++ p ∷ []
+take-suc [] at p e = cc
+take-suc (q ∷ qs) zero p e = let one : q ≡ p = cc in ap (λ r. r ∷ []) one
+take-suc (q ∷ qs) (suc at) p e = ap (λ t. q ∷ t) (take-suc qs at p e)
+
+pub take-next : (ps : List Pair) (at : ℕ) (p : Pair) → slice_get ps at ≡ Some p → take (at + 1) ps ≡ take at ps ++ p ∷ []
+take-next ps at p e = rw add-one (take-suc ps at p e)
+
+length-entry : (p : Pair) → length (entry p) ≡ length p.0 + length p.1 + 2
+length-entry p =
+    ap length (append_assoc p.0 (61 ∷ p.1) (0 ∷ [])) ∙ (length-append p.0 ((61 ∷ p.1) ++ 0 ∷ []) ∙ omega (arith, length-append (61 ∷ p.1) (0 ∷ [])))
+
+flat_map-snoc : (ps : List Pair) (p : Pair) → length (flat_map entry (ps ++ p ∷ [])) ≡ length (flat_map entry ps) + length (entry p)
+flat_map-snoc [] p = omega (arith, ap length (append-nil (entry p)))
+flat_map-snoc (q ∷ qs) p =
+    length-append (entry q) (flat_map entry (qs ++ p ∷ [])) ∙ omega (arith, flat_map-snoc qs p, length-append (entry q) (flat_map entry qs))
+
+pub entries-next : (ps : List Pair) (at : ℕ) (p : Pair) → slice_get ps at ≡ Some p
+    → length (flat_map entry (take (at + 1) ps)) ≡ length (flat_map entry (take at ps)) + (length p.0 + length p.1 + 2)
+entries-next ps at p e =
+    ap (λ t. length (flat_map entry t)) (take-next ps at p e) ∙ (flat_map-snoc (take at ps) p ∙ ap (λ n. length (flat_map entry (take at ps)) + n) (length-entry p))

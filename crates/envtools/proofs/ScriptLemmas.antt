@@ -1,0 +1,106 @@
+-- The parts of a script's line.
+use Rattle.std.proofs.Common.{◌≡◌, ◌≢◌, ℕ, zero, suc, ◌+◌, ◌-◌, ◌<◌, ◌≤◌, Bool, true, false, List, [], ◌∷◌, ◌++◌, length, get_or, take, drop, Option, None, Some, Result, Ok, Err, refl, sym, ap, ◌∙◌, arith, inl, inr, eqb}
+use Rattle.std.proofs.lemmas.Bool.{cases_eq}
+use Rattle.std.proofs.lemmas.Bool.Decides.{nat_tests}
+use Rattle.std.proofs.lemmas.List.{take_all, take_more, take_rest}
+use Rattle.std.specs.List.{position, position_or_len}
+use Rattle.std.specs.Prelude.{unwrap_or}
+use Rattle.std.proofs.Math.ListN.{drop_of_length-le}
+use Rattle.envimage.proofs.WordLemmas.{position-or}
+use Rattle.envimage.specs.Data.{Pair}
+use Rattle.envimage.specs.Text.{numbered_lines}
+use Rattle.envimage.specs.Words.{skipped}
+use Rattle.envtools.specs.Scripting.{onto_line, without_returns, is_space, ends_name, name_and_value, Reached, go_on, after_line, line_change, scripted_lines, scripted, AppliesLine, AppliesScript}
+use Rattle.envtools.specs.declared.script.ScriptError.{ScriptError}
+use Rattle.envtools.specs.declared.script.ScriptError.TheVariants.{BadName, BadValue, Memory}
+
+trimmed-return : (line : List ℕ) → without_returns (line ++ 13 ∷ []) ≡ without_returns line
+trimmed-return [] = refl
+trimmed-return (b ∷ bs) = ap (onto_line b) (trimmed-return bs)
+
+trimmed-other : (line : List ℕ) (b : ℕ) → b ≢ 13 → without_returns (line ++ b ∷ []) ≡ line ++ b ∷ []
+trimmed-other [] b other = let apart : eqb b 13 ≡ false = grind (arith, nat_tests) in rw apart refl
+trimmed-other (c ∷ []) b other = ap (onto_line c) (trimmed-other [] b other)
+trimmed-other (c ∷ d ∷ cs) b other = ap (onto_line c) (trimmed-other (d ∷ cs) b other)
+
+-- the last of the first bytes of a line
+last_of : (line : List ℕ) (len : ℕ) → 0 < len → len ≤ length line → take len line ≡ take (len - 1) line ++ get_or line (len - 1) 0 ∷ []
+last_of line len some within =
+    let more : len ≡ (len - 1) + 1 = omega arith in
+    ap (λ n. take n line) more ∙ take_more line (len - 1) 0 (omega arith)
+
+pub returns-all : (line : List ℕ) → without_returns (take (length line) line) ≡ without_returns line
+returns-all line = ap without_returns (take_all (length line) line (omega arith))
+
+pub returns-step : (line : List ℕ) (len : ℕ) → 0 < len → len ≤ length line → get_or line (len - 1) 0 ≡ 13 → without_returns (take len line) ≡ without_returns line → without_returns (take (len - 1) line) ≡ without_returns line
+returns-step line len some within this before =
+    sym (ap without_returns (last_of line len some within ∙ ap (λ b. take (len - 1) line ++ b ∷ []) this) ∙ trimmed-return (take (len - 1) line)) ∙ before
+
+pub returns-stop : (line : List ℕ) (len : ℕ) → 0 < len → len ≤ length line → get_or line (len - 1) 0 ≢ 13 → without_returns (take len line) ≡ without_returns line → take len line ≡ without_returns line
+returns-stop line len some within other before =
+    last_of line len some within ∙ (sym (trimmed-other (take (len - 1) line) (get_or line (len - 1) 0) other) ∙ (sym (ap without_returns (last_of line len some within)) ∙ before))
+
+pub returns-none : (line : List ℕ) (len : ℕ) → len ≡ 0 → without_returns (take len line) ≡ without_returns line → [] ≡ without_returns line
+returns-none line len none before = sym (ap (λ n. without_returns (take n line)) none) ∙ before
+
+pub ruleset ends = (returns-all, returns-step, returns-stop, returns-none)
+
+-- ---- the name and the value
+
+pub name-unfound : (text : List ℕ) → position ends_name text ≡ None → (text, []) ≡ name_and_value text
+name-unfound text e =
+    let n : position_or_len ends_name text ≡ length text = sym (position-or ends_name text) ∙ ap (λ o. unwrap_or o (length text)) e in
+    let name : take (position_or_len ends_name text) text ≡ text = ap (λ k. take k text) n ∙ take_all (length text) text (omega arith) in
+    let value : skipped is_space (drop (position_or_len ends_name text + 1) text) ≡ [] =
+      ap (λ k. skipped is_space (drop (k + 1) text)) n ∙ ap (skipped is_space) (drop_of_length-le text {i = length text + 1} (omega arith)) in
+    λ i. (sym name i, sym value i)
+
+pub name-found : (text : List ℕ) (at : ℕ) → position ends_name text ≡ Some at → (take at text, skipped is_space (take (length text - (at + 1)) (drop (at + 1) text))) ≡ name_and_value text
+name-found text at e =
+    let n : at ≡ position_or_len ends_name text = sym (ap (λ o. unwrap_or o (length text)) e) ∙ position-or ends_name text in
+    let name : take at text ≡ take (position_or_len ends_name text) text = ap (λ k. take k text) n in
+    let value : skipped is_space (take (length text - (at + 1)) (drop (at + 1) text)) ≡ skipped is_space (drop (position_or_len ends_name text + 1) text) =
+      ap (skipped is_space) (take_rest text (at + 1)) ∙ ap (λ k. skipped is_space (drop (k + 1) text)) n in
+    λ i. (name i, value i)
+
+pub ruleset names = (name-unfound, name-found)
+
+-- ---- lines one after another
+
+abbrev Lines : Type 0
+Lines = List (ℕ × List ℕ)
+
+abbrev sound : List Pair → Reached
+sound env = record { env = env; fault = None }
+
+-- one line, and then others
+on_from : (old env : List Pair) (before left : Lines) (r : Result (List Pair) ScriptError)
+    → ((o : List Pair) → scripted_lines o before ≡ sound env → scripted_lines o (before ++ left) ≡ scripted_lines env left)
+    → go_on r old (λ next. scripted_lines next before) ≡ sound env → go_on r old (λ next. scripted_lines next (before ++ left)) ≡ scripted_lines env left
+on_from old env before left (Ok next) more e = more next e
+on_from old env before left (Err fault) more e = let bad : Some fault ≡ None = ap (λ r. r.fault) e in cc
+
+pub scripted-append : (old env : List Pair) (before left : Lines) → scripted_lines old before ≡ sound env → scripted_lines old (before ++ left) ≡ scripted_lines env left
+scripted-append old env [] left e = ap (λ r. scripted_lines r.env left) e
+scripted-append old env (l ∷ before) left e =
+    on_from old env before left (after_line old l.0 (line_change l.1)) (λ o. scripted-append o env before left) e
+
+-- one line more
+pub scripted-next : (old env new : List Pair) (before : Lines) (number : ℕ) (line : List ℕ) → scripted_lines old before ≡ sound env → after_line env number (line_change line) ≡ Ok new
+    → scripted_lines old (before ++ (number, line) ∷ []) ≡ sound new
+scripted-next old env new before number line reached done =
+    scripted-append old env before ((number, line) ∷ []) reached ∙ ap (λ r. go_on r env (λ next. sound next)) done
+
+-- a line that is refused
+module _ (old env new : List Pair) (text : List ℕ) (before left : Lines) (number : ℕ) (line : List ℕ)
+    (whole : numbered_lines text ≡ before ++ (number, line) ∷ left) (reached : scripted_lines old before ≡ sound env) where
+  faulty : (fault : ScriptError) → after_line env number (line_change line) ≡ Err fault → new ≡ env → scripted old text ≡ record { env = new; fault = Some fault }
+  faulty fault refused same =
+      ap (scripted_lines old) whole ∙ (scripted-append old env before ((number, line) ∷ left) reached
+      ∙ (ap (λ r. go_on r env (λ next. scripted_lines next left)) refused
+      ∙ ap (λ e. record { env = e; fault = Some fault }) (sym same)))
+
+  pub script-refused : (fault : ScriptError) → AppliesLine env number (line_change line) new (Err fault) → AppliesScript old text new (Err fault)
+  script-refused (BadName n) h = faulty (BadName n) h.0 h.1
+  script-refused (BadValue n) h = faulty (BadValue n) h.0 h.1
+  script-refused Memory h = record { before = before; after = (number, line) ∷ left; whole = whole; reached = reached ∙ ap sound (sym h) }

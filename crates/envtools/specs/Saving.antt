@@ -1,0 +1,69 @@
+-- What writing an environment back makes of a loaded image.
+use Rattle.std.specs.Prelude.{◌≡◌, ◌≤◌, ◌<◌, ℕ, ◌+◌, ◌%◌, Bool, true, false, List, length, slice_index, Option, None, Some, Result, Ok, Err}
+use Rattle.std.specs.List.{AllByRecursion}
+use Rattle.envimage.specs.Data.{Pair, IsVariable, pairs_of}
+use Rattle.envimage.specs.Encoding.{header_len, needed, image_of}
+use Rattle.envimage.specs.Image.{Shown, load_of, is_right}
+use Rattle.envimage.specs.declared.image.ByteOrder.{ByteOrder}
+use Rattle.envimage.specs.declared.image.ImageError.{ImageError}
+use Rattle.envimage.specs.declared.image.ImageError.TheVariants.{WrongSize, BadCrc, Content, TooLarge, Memory}
+use Rattle.envimage.specs.declared.image.Which.{Which}
+use Rattle.envimage.specs.declared.image.Which.TheVariants.{First, Second}
+
+-- the size of the image that was loaded, its header counted
+abbrev pub size_of : Shown → ℕ
+size_of loaded = header_len loaded.flag + length loaded.body
+
+-- the current flag plus one, modulo 256
+abbrev pub next_flag : Option ℕ → Option ℕ
+next_flag None = None
+next_flag (Some flag) = Some ((flag + 1) % 256)
+
+abbrev pub other_copy : Which → Which
+other_copy First = Second
+other_copy Second = First
+
+-- the copy of a pair that is not current, and a single image itself
+abbrev pub copy_to_write : Shown → Which
+copy_to_write loaded = by loaded.flag
+  where
+    by : Option ℕ → Which
+    by None = First
+    by (Some flag) = other_copy loaded.which
+
+-- the bytes that are written there
+abbrev pub saved_image : List Pair → Shown → List ℕ
+saved_image env loaded = image_of loaded.order (next_flag loaded.flag) (size_of loaded) env
+
+-- what writing back may be refused for
+abbrev pub IsSaveRefusal : ImageError → Type 0
+IsSaveRefusal WrongSize = ⊥
+IsSaveRefusal BadCrc = ⊥
+IsSaveRefusal (Content fault) = ⊥
+IsSaveRefusal TooLarge = Unit {0}
+IsSaveRefusal Memory = Unit {0}
+
+-- ---- laws
+
+-- a pair with other bytes in the place of its copy that is not current
+abbrev pub with_spare : Which → List ℕ → List ℕ → List ℕ → List ℕ × List ℕ
+with_spare First first second bytes = (first, bytes)
+with_spare Second first second bytes = (bytes, second)
+
+abbrev pub load_pair : ByteOrder → List ℕ × List ℕ → Result Shown ImageError
+load_pair order copies = load_of order copies.0 (Some copies.1)
+
+-- Any bytes of the size in the spare copy's place that are not right leave what was loaded current.
+abbrev pub SpareMayBreak : Type 0
+SpareMayBreak = (order : ByteOrder) (first second bytes : List ℕ) (loaded : Shown) →
+    load_of order first (Some second) ≡ Ok loaded → length bytes ≡ length first → is_right order 5 bytes ≡ false →
+    load_pair order (with_spare loaded.which first second bytes) ≡ Ok loaded
+
+-- The saved bytes in the spare copy's place make loading give the saved variables.
+abbrev pub SavedIsLoaded : Type 0
+SavedIsLoaded = (order : ByteOrder) (first second : List ℕ) (loaded : Shown) (env : List Pair) →
+    load_of order first (Some second) ≡ Ok loaded → slice_index first 4 < 256 → slice_index second 4 < 256 →
+    AllByRecursion IsVariable env → needed (next_flag loaded.flag) env ≤ size_of loaded →
+    (body : List ℕ) × (load_pair order (with_spare loaded.which first second (saved_image env loaded))
+      ≡ Ok (record { which = copy_to_write loaded; flag = next_flag loaded.flag; order = order; body = body }))
+      × (pairs_of body ≡ env)

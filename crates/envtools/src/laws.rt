@@ -1,0 +1,13 @@
+//! Laws of writing back, each the contract of a function that does nothing.
+
+ghost use Rattle.envtools.specs.Saving.{SpareMayBreak, SavedIsLoaded};
+
+/// Whatever stands in the spare copy's place, if it is not right, the loaded copy stays current.
+pub fn spare_may_break()
+    ensures { SpareMayBreak }
+{}
+
+/// What is saved in the spare copy's place is loaded, with the saved variables.
+pub fn saved_is_loaded()
+    ensures { SavedIsLoaded }
+{}

@@ -1,0 +1,134 @@
+ghost use Rattle.std.specs.Prelude.{◌≡◌, ◌≤◌, length};
+ghost use Rattle.std.specs.List.{position, position_or_len};
+ghost use Rattle.std.specs.Option.{option_map};
+ghost use Rattle.envimage.specs.Words.{skipped};
+ghost use Rattle.envtools.specs.Scripting.{is_space, ends_name, without_returns, name_and_value, change_of, line_change, AppliesLine, AppliesScript};
+
+use crate::env::Env;
+use crate::env_error::EnvError;
+use envimage::Lines;
+use thiserror::Error;
+
+/// Why a script was refused. Lines count from 1, skipped ones included.
+#[derive(Clone, Copy, Debug, Drop, PartialEq, Eq, Error)]
+pub enum ScriptError {
+    /// The line's name is empty, or holds NUL.
+    #[error("script line {0}: bad name")]
+    BadName(usize),
+    /// The line's value holds NUL.
+    #[error("script line {0}: bad value")]
+    BadValue(usize),
+    /// A growth was refused.
+    #[error("out of memory")]
+    Memory,
+}
+
+/// Whether a byte is a space or a tab.
+fn is_space(byte: u8) -> bool
+    ensures { result ≡ is_space byte }
+{
+    byte == b' ' || byte == b'\t'
+}
+
+/// Whether a byte ends a name: a blank or `=`.
+fn ends_name(byte: u8) -> bool
+    ensures { result ≡ ends_name byte }
+{
+    byte == b'=' || is_space(byte)
+}
+
+/// A line without the carriage returns at its end.
+#[tactic(auto, using(crate::proofs::ScriptLemmas::ends))]
+fn without_returns(line: &[u8]) -> &[u8]
+    ensures { result.now ≡ without_returns line.now }
+{
+    let mut len = line.len();
+    while len > 0 {
+        if line[len - 1] != b'\r' {
+            return &line[..len];
+        }
+        len -= 1;
+    }
+    &[]
+}
+
+/// What follows the blanks at the front.
+fn without_spaces(text: &[u8]) -> &[u8]
+    ensures { result.now ≡ skipped is_space text.now }
+{
+    let mut rest = text;
+    while let [first, more @ ..] = rest {
+        if !is_space(*first) {
+            break;
+        }
+        rest = more;
+    }
+    rest
+}
+
+/// The place of the byte that ends a name.
+fn name_end(text: &[u8]) -> Option<usize>
+    ensures { result ≡ position ends_name text.now }
+{
+    text.iter().position(|byte| ends_name(*byte))
+}
+
+/// The name that a text begins with, and the value behind it.
+
+#[tactic(auto, using(crate::proofs::ScriptLemmas::names))]
+fn name_and_value(text: &[u8]) -> (&[u8], &[u8])
+    ensures { (result.0.now, result.1.now) ≡ name_and_value text.now }
+{
+    match name_end(text) {
+        None => (text, &[]),
+        Some(at) => (&text[..at], without_spaces(&text[at + 1..])),
+    }
+}
+
+/// The change that a line makes: a name and its new value.
+fn line_change(line: &[u8]) -> Option<(&[u8], &[u8])>
+    ensures { option_map (λ p. (p.0.now, p.1.now)) result ≡ line_change line.now }
+{
+    let line = without_returns(line);
+    match line {
+        [] | [b'#', ..] => return None,
+        _ => (),
+    }
+    let text = without_spaces(line);
+    if text.is_empty() {
+        return None;
+    }
+    Some(name_and_value(text))
+}
+
+/// Makes the change of one line. An error changes nothing.
+fn apply_line(env: &mut Env, number: usize, line: &[u8]) -> Result<(), ScriptError>
+    ensures { AppliesLine env.old number (line_change line.now) env.new result }
+{
+    let Some((name, value)) = line_change(line) else {
+        return Ok(());
+    };
+    match env.change(name, &[value]) {
+        Ok(()) => Ok(()),
+        Err(EnvError::BadName) => Err(ScriptError::BadName(number)),
+        Err(EnvError::BadValue) => Err(ScriptError::BadValue(number)),
+        Err(EnvError::Content(_)) => Err(ScriptError::Memory),
+        Err(EnvError::Memory) => Err(ScriptError::Memory),
+    }
+}
+
+/// Makes the changes of a script, one a line. Carriage returns at a line's end are dropped. A line
+/// that begins with `#`, and one of nothing but spaces and tabs, is skipped. Blanks in front are
+/// skipped; the name ends before the first blank or `=`, that byte and blanks behind it are dropped,
+/// and the rest is the value, as it is. No value, or an empty one, deletes. A later line acts on what
+/// earlier ones left.
+///
+/// After a refusal, for memory too, the environment is the one after the lines before it.
+pub fn apply_script(env: &mut Env, text: &[u8]) -> Result<(), ScriptError>
+    ensures { AppliesScript env.old text.now env.new result }
+{
+    for (number, line) in Lines::new(text) {
+        apply_line(env, number, line)?;
+    }
+    Ok(())
+}
