@@ -5,7 +5,7 @@ use Rattle.std.proofs.lemmas.Bool.{cases_eq}
 use Rattle.std.proofs.lemmas.Bool.Decides.{nat_tests}
 use Rattle.std.specs.List.{AllByRecursion}
 use Rattle.envimage.specs.Data.{Pair, IsVariable, data_fault, pairs_of}
-use Rattle.envimage.specs.Encoding.{needed, image_of, data_bytes}
+use Rattle.envimage.specs.Encoding.{needed, image_of, data_bytes, is_image_size}
 use Rattle.envimage.specs.Image.{Shown, load_of, is_right, is_size, is_newer, current, chosen_of, shown_of, then_checked, checked, or_bad_crc}
 use Rattle.envimage.specs.declared.content.DataError.{DataError}
 use Rattle.envimage.specs.declared.image.ByteOrder.{ByteOrder}
@@ -176,3 +176,31 @@ saved_is_loaded order first second loaded env h f g all fits = by loaded (loadin
           saved_first order flag size env all enough second (sym whole) (ap (is_size 6) whole ∙ in_range) p.right (before_is_older (slice_index second 4) g),
           (data_is_read_back env (size - needed (Some flag) env) all).1,
         )
+
+-- ---- the size of what is loaded
+
+single_size : (first : List ℕ) → is_size 5 (length first) ≡ true → 4 + length (drop 4 first) ≡ length first
+single_size first size =
+    let least : 5 ≤ length first = grind (arith, nat_tests) in
+    omega (arith, least, length-drop 4 first)
+
+single_loaded : (order : ByteOrder) (first : List ℕ) (s : Shown) (size right : Bool) → is_size 5 (length first) ≡ size → is_right order 4 first ≡ right → load_of order first None ≡ Ok s
+    → (is_size 5 (length first) ≡ true) × (s ≡ record { which = First; flag = None; order = order; body = drop 4 first })
+single_loaded order first s false right es er h = let bad = rw es at h in cc
+single_loaded order first s true false es er h = let bad = rw (es, er) at h in cc
+single_loaded order first s true true es er h =
+    let good = rw (es, er) at h in (es, (checked-ok _ s (data_fault (drop 4 first)) good).1)
+
+-- what is loaded has a size that an image may have
+pub loaded-size : (order : ByteOrder) (first : List ℕ) (second : Option (List ℕ)) (s : Shown) → load_of order first second ≡ Ok s → is_image_size s.flag (size_of s) ≡ true
+loaded-size order first None s h =
+    let is = single_loaded order first s _ _ refl refl h in
+    ap (λ t. is_image_size t.flag (size_of t)) is.1 ∙ (ap (is_size 5) (single_size first is.0) ∙ is.0)
+loaded-size order first (Some second) s h = by (loading order first second s h)
+  where
+    by : Loading order first second s → is_image_size s.flag (size_of s) ≡ true
+    by (loaded_first p) = ap (λ t. is_image_size t.flag (size_of t)) p.shown ∙ (ap (is_size 6) (whole_size first p.size) ∙ p.size)
+    by (loaded_second p) =
+        let same : length first ≡ length second = eqb-true (length first) (length second) p.equal in
+        let in_range : is_size 6 (length second) ≡ true = ap (is_size 6) (sym same) ∙ p.size in
+        ap (λ t. is_image_size t.flag (size_of t)) p.shown ∙ (ap (is_size 6) (whole_size second in_range) ∙ in_range)

@@ -1,2 +1,3 @@
 pub mod InputLemmas
 pub mod PrintingLemmas
+pub mod SettingLemmas

@@ -3,8 +3,10 @@ use Rattle.envimage.specs.declared.image.ImageError.{ImageError}
 use Rattle.envimage.specs.declared.image.ImageError.TheVariants as image
 use Rattle.envtools.specs.declared.env_error.EnvError.{EnvError}
 use Rattle.envtools.specs.declared.env_error.EnvError.TheVariants as env
+use Rattle.envtools.specs.declared.script.ScriptError.{ScriptError}
+use Rattle.envtools.specs.declared.script.ScriptError.TheVariants as script
 use Rattle.ubtool_core.specs.declared.error.ToolError.{ToolError}
-use Rattle.ubtool_core.specs.declared.error.ToolError.TheVariants.{Image, Env, Memory}
+use Rattle.ubtool_core.specs.declared.error.ToolError.TheVariants.{Image, Env, Script, Memory}
 
 abbrev pub image_fault : ImageError → ToolError
 image_fault image.WrongSize = Image image.WrongSize
@@ -18,3 +20,8 @@ env_fault (env.Content fault) = Image (image.Content fault)
 env_fault env.BadName = Env env.BadName
 env_fault env.BadValue = Env env.BadValue
 env_fault env.Memory = Memory
+
+abbrev pub script_fault : ScriptError → ToolError
+script_fault (script.BadName line) = Script (script.BadName line)
+script_fault (script.BadValue line) = Script (script.BadValue line)
+script_fault script.Memory = Memory

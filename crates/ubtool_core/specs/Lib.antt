@@ -1,3 +1,4 @@
 pub mod Errors
 pub mod Input
 pub mod Printing
+pub mod Setting

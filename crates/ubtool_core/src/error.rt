@@ -1,5 +1,5 @@
 use envimage::ImageError;
-use envtools::{EnvError, PrintError};
+use envtools::{EnvError, PrintError, ScriptError};
 use thiserror::Error;
 
 /// Why a call from bytes to bytes was refused.
@@ -11,6 +11,9 @@ pub enum ToolError {
     /// The change, for another cause than memory.
     #[error("{0}")]
     Env(EnvError),
+    /// The script, for another cause than memory.
+    #[error("{0}")]
+    Script(ScriptError),
     /// An output failed.
     #[error("output failed")]
     Write,
@@ -56,5 +59,19 @@ impl From<PrintError> for ToolError {
 
     fn from(_error: PrintError) -> ToolError {
         ToolError::Write
+    }
+}
+
+impl From<ScriptError> for ToolError {
+    ghost use Rattle.std.specs.Prelude.{◌≡◌};
+    ghost use Rattle.ubtool_core.specs.Errors.{script_fault};
+
+    ghost from_gives = { λ error e. e ≡ script_fault error };
+
+    fn from(error: ScriptError) -> ToolError {
+        match error {
+            ScriptError::Memory => ToolError::Memory,
+            error => ToolError::Script(error),
+        }
     }
 }

@@ -4,11 +4,13 @@
 mod error;
 mod fault;
 mod input;
+mod change;
 mod print;
 mod standard_input;
 
 pub use error::ToolError;
 pub use fault::{Fault, write_fault};
 pub use input::{ReadFault, read_up_to};
+pub use change::{Edit, set_bytes};
 pub use print::print_bytes;
 pub use standard_input::run_input;

@@ -1,0 +1,73 @@
+-- What a change of an image answers.
+use Rattle.std.specs.Prelude.{◌≡◌, ◌<◌, ℕ, nat_lt, not, Bool, List, [], ◌∷◌, map, Option, None, Some, Result, Ok, Err, Vec, if◌then◌else◌}
+use Rattle.std.specs.declared.alloc.Global.{Global}
+use Rattle.envimage.specs.Data.{Pair, pairs_of}
+use Rattle.envimage.specs.Encoding.{needed}
+use Rattle.envimage.specs.Image.{Shown, load_of}
+use Rattle.envimage.specs.declared.image.ByteOrder.{ByteOrder}
+use Rattle.envimage.specs.declared.image.ImageError.{ImageError}
+use Rattle.envimage.specs.declared.image.ImageError.TheVariants.{TooLarge}
+use Rattle.envimage.specs.declared.image.Which.{Which}
+use Rattle.envtools.specs.Environment.{env_of, changed, is_name, are_values}
+use Rattle.envtools.specs.Saving.{size_of, next_flag, copy_to_write, saved_image}
+use Rattle.envtools.specs.Scripting.{Reached, scripted}
+use Rattle.envtools.specs.declared.env_error.EnvError.TheVariants.{BadName, BadValue}
+use Rattle.envtools.specs.declared.script.ScriptError.{ScriptError}
+use Rattle.ubtool_core.specs.Errors.{script_fault}
+use Rattle.ubtool_core.specs.declared.change.Edit.{Edit}
+use Rattle.ubtool_core.specs.declared.change.Edit.TheVariants as edit
+use Rattle.ubtool_core.specs.declared.error.ToolError.{ToolError}
+use Rattle.ubtool_core.specs.declared.error.ToolError.TheVariants.{Image, Env, Script, Write, Memory}
+
+abbrev pub one_edited : List Pair → List ℕ → List (List ℕ) → Result (List Pair) ToolError
+one_edited env name words =
+    if not (is_name name) then Err (Env BadName)
+    else (if not (are_values words) then Err (Env BadValue) else Ok (changed env name words))
+
+abbrev pub all_edited : Reached → Result (List Pair) ToolError
+all_edited reached = by reached.fault
+  where
+    by : Option ScriptError → Result (List Pair) ToolError
+    by None = Ok reached.env
+    by (Some fault) = Err (script_fault fault)
+
+-- the environment after an edit, or its refusal
+abbrev pub edited : List Pair → Edit → Result (List Pair) ToolError
+edited env (edit.One name words) = one_edited env name.now (map (λ w. w.now) words.now)
+edited env (edit.Script text) = all_edited (scripted env text.now)
+
+-- which copy is written, and its bytes
+abbrev pub written : Shown → List Pair → Result (Which × List ℕ) ToolError
+written loaded env =
+    if nat_lt (size_of loaded) (needed (next_flag loaded.flag) env) then Err (Image TooLarge)
+    else Ok (copy_to_write loaded, saved_image env loaded)
+
+abbrev pub then_written : Shown → Result (List Pair) ToolError → Result (Which × List ℕ) ToolError
+then_written loaded (Ok env) = written loaded env
+then_written loaded (Err e) = Err e
+
+abbrev pub then_edited : Edit → Result Shown ImageError → Result (Which × List ℕ) ToolError
+then_edited change (Ok loaded) = then_written loaded (edited (env_of (pairs_of loaded.body)) change)
+then_edited change (Err e) = Err (Image e)
+
+-- what a change of an image answers: refusals of the image, the change, the size, in this order
+abbrev pub set_of : ByteOrder → List ℕ → Option (List ℕ) → Edit → Result (Which × List ℕ) ToolError
+set_of order first second change = then_edited change (load_of order first second)
+
+-- ---- what the calls answer; memory can be refused wherever a growth is made
+
+abbrev pub Edits : List Pair → Edit → List Pair → Result (Unit {0}) ToolError → Type 0
+Edits old change new (Ok u) = edited old change ≡ Ok new
+Edits old change new (Err (Image e)) = ⊥
+Edits old change new (Err (Env e)) = edited old change ≡ Err (Env e)
+Edits old change new (Err (Script e)) = edited old change ≡ Err (Script e)
+Edits old change new (Err Write) = ⊥
+Edits old change new (Err Memory) = Unit {0}
+
+abbrev pub Answers : Result Shown ImageError → Result (Which × List ℕ) ToolError → Result (Which × Vec ℕ Global) ToolError → Type 0
+Answers loaded answer (Ok w) = answer ≡ Ok (w.0, w.1.items)
+Answers loaded answer (Err (Image e)) = answer ≡ Err (Image e)
+Answers loaded answer (Err (Env e)) = answer ≡ Err (Env e)
+Answers loaded answer (Err (Script e)) = answer ≡ Err (Script e)
+Answers loaded answer (Err Write) = ⊥
+Answers loaded answer (Err Memory) = (s : Shown) × (loaded ≡ Ok s)

@@ -1,0 +1,53 @@
+ghost use Rattle.std.specs.Option.{option_copied};
+ghost use Rattle.envimage.specs.Image.{load_of};
+ghost use Rattle.ubtool_core.specs.Setting.{set_of, Edits, Answers};
+
+use crate::error::ToolError;
+use envimage::{ByteOrder, Which, load};
+use envtools::{Env, apply_script, save};
+use std::alloc::Global;
+
+/// A change of an environment.
+#[derive(Clone, Copy, Debug)]
+pub enum Edit<'a> {
+    /// A variable and the words that it is given.
+    One {
+        /// The variable's name.
+        name: &'a [u8],
+        /// Its new value's words; none deletes it.
+        words: &'a [&'a [u8]],
+    },
+    /// The text of a script, one change a line.
+    Script(&'a [u8]),
+}
+
+/// Makes the change. After a refusal of a script the environment is the one after the lines before.
+fn edit_env(env: &mut Env, edit: Edit<'_>) -> Result<(), ToolError>
+    ensures { Edits env.old edit.entry env.new result }
+{
+    match edit {
+        Edit::One { name, words } => Ok(env.change(name, words)?),
+        Edit::Script(text) => Ok(apply_script(env, text)?),
+    }
+}
+
+/// Changes the environment of an image, or of a redundant pair, and answers which copy is to be
+/// written and its bytes; of a pair that is never the current copy. A change that makes no
+/// difference is written too.
+///
+/// Refusals in order: the image, the change or the script, `TooLarge`; `Memory` wherever a growth is
+/// made.
+pub fn set_bytes(
+    alloc: Global,
+    first: &[u8],
+    second: Option<&[u8]>,
+    order: ByteOrder,
+    edit: Edit<'_>,
+) -> Result<(Which, Vec<u8>), ToolError>
+    ensures { Answers (load_of order first.now (option_copied second.entry)) (set_of order first.now (option_copied second.entry) edit.entry) result }
+{
+    let loaded = load(first, second, order)?;
+    let mut env = Env::from_data(alloc, loaded.body)?;
+    edit_env(&mut env, edit)?;
+    Ok(save(alloc, &env, &loaded)?)
+}
