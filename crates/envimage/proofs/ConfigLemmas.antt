@@ -1,5 +1,5 @@
 -- Text and lines of a configuration.
-use Rattle.std.proofs.Common.{◌≡◌, ◌<◌, ℕ, Bool, true, false, not, List, [], ◌∷◌, length, filter, Result, Ok, Err, refl, sym, ap, ◌∙◌, arith, eqb, eq-eqb}
+use Rattle.std.proofs.Common.{◌≡◌, ◌<◌, ℕ, true, false, List, [], ◌∷◌, length, Ok, Err, ap, ◌∙◌, arith, eq-eqb}
 use Rattle.std.proofs.lemmas.Bool.Decides.{nat_tests}
 use Rattle.std.proofs.lemmas.Str.{utf8_valid_len-IsUtf8}
 use Rattle.std.specs.Prelude.{IsUtf8}

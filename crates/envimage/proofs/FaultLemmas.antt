@@ -1,9 +1,9 @@
 -- The fault of data is what stands behind its longest row of entries.
-use Rattle.std.proofs.Common.{◌≡◌, ◌≢◌, ℕ, zero, suc, ◌+◌, ◌<◌, ◌≤◌, Bool, true, false, cond, eqb, ◌⊎◌, inl, inr, List, [], ◌∷◌, ◌++◌, length, map, Option, None, Some, refl, sym, ap, subst, ◌∙◌, arith, append_assoc, length-append}
+use Rattle.std.proofs.Common.{◌≡◌, ◌≢◌, ℕ, zero, suc, ◌+◌, ◌≤◌, true, false, inl, inr, List, [], ◌∷◌, ◌++◌, length, map, Option, None, Some, refl, sym, ap, subst, ◌∙◌, arith, append_assoc, length-append}
 use Rattle.std.proofs.lemmas.Bool.{cases_eq}
 use Rattle.std.proofs.lemmas.Bool.Decides.{nat_tests}
 use Rattle.std.specs.List.{flat_map, AllByRecursion, list_any}
-use Rattle.envimage.specs.Data.{Pair, IsVariable, IsData, IsRow, IsLongestRow, BeginsWithText, IsFaultAt, IsFault, IsNameByte, entry, texts_of, texts_fault, is_nul, is_equals, data_fault, pairs_of}
+use Rattle.envimage.specs.Data.{Pair, IsVariable, IsData, IsRow, IsLongestRow, BeginsWithText, IsFaultAt, IsFault, IsNameByte, entry, texts_of, texts_fault, is_nul, is_equals}
 use Rattle.envimage.specs.Laws.{FaultIsComputed, EachFaultIsDefined, FaultlessIsData}
 use Rattle.envimage.specs.declared.content.DataError.{DataError}
 use Rattle.envimage.specs.declared.content.DataError.TheVariants.{NotTerminated, NoEquals, EmptyName}
@@ -22,7 +22,7 @@ texts_fault-row ((b ∷ bs, value) ∷ ps) at texts all =
     let head : is_equals b ≡ false = name-equals b all.0.name.0 in
     let tail : list_any is_equals (bs ++ 61 ∷ value) ≡ true = any-equals bs value in
     let one : length (entry (b ∷ bs, value)) ≡ length (bs ++ 61 ∷ value) + 2 =
-      ap length (append_assoc (b ∷ bs) (61 ∷ value) (0 ∷ [])) ∙ (length-append (b ∷ bs) ((61 ∷ value) ++ (0 ∷ [])) ∙ omega (arith, length-append (61 ∷ value) (0 ∷ []), length-append bs (61 ∷ value))) in
+    ap length (append_assoc (b ∷ bs) (61 ∷ value) (0 ∷ [])) ∙ (length-append (b ∷ bs) ((61 ∷ value) ++ (0 ∷ [])) ∙ omega (arith, length-append (61 ∷ value) (0 ∷ []), length-append bs (61 ∷ value))) in
     let both : length (entry (b ∷ bs, value) ++ flat_map entry ps) ≡ length (entry (b ∷ bs, value)) + length (flat_map entry ps) = length-append (entry (b ∷ bs, value)) (flat_map entry ps) in
     let places : (at + (length (bs ++ 61 ∷ value) + 2)) + length (flat_map entry ps) ≡ at + length (entry (b ∷ bs, value) ++ flat_map entry ps) = omega (arith, one, both) in
     rw (head, tail) (texts_fault-row ps (at + (length (bs ++ 61 ∷ value) + 2)) texts all.1 ∙ ap (λ n. texts_fault n texts) places)
@@ -155,9 +155,9 @@ one_entry at body p after v e h = record {
   fault = h.fault;
   row = record { row = row_more p h.pairs body after h.rest e v h.row.row; longest = longest };
   fault_there =
-    let places : at + length (entry p) + length (flat_map entry h.pairs) ≡ at + length (entry p ++ flat_map entry h.pairs) =
+      let places : at + length (entry p) + length (flat_map entry h.pairs) ≡ at + length (entry p ++ flat_map entry h.pairs) =
       omega (arith, length-append (entry p) (flat_map entry h.pairs)) in
-    subst (λ n. IsFaultAt n h.rest h.fault) places h.fault_there;
+      subst (λ n. IsFaultAt n h.rest h.fault) places h.fault_there;
 }
   where
     longest : (others : List Pair) (left : List ℕ) → IsRow body others left → length (flat_map entry others) ≤ length (entry p ++ flat_map entry h.pairs)
@@ -166,7 +166,7 @@ one_entry at body p after v e h = record {
         let front = row_front body q qs left row in
         let cut = cut_once (text_of q) (text_of p) (flat_map entry qs ++ left) after (text_of-unbroken q front.1) (text_of-unbroken p v) (sym front.0 ∙ e) in
         let more : length (flat_map entry qs) ≤ length (flat_map entry h.pairs) =
-          h.row.longest qs left (record { whole = sym cut.1; each = row.each.1 }) in
+        h.row.longest qs left (record { whole = sym cut.1; each = row.each.1 }) in
         let same : length (entry q) ≡ length (entry p) = ap (λ t. length (t ++ 0 ∷ [])) cut.0 in
         omega (arith, more, same, length-append (entry q) (flat_map entry qs), length-append (entry p) (flat_map entry h.pairs))
 
@@ -202,10 +202,10 @@ module _ (n : ℕ) (more : (at : ℕ) (body : List ℕ) → length body ≤ n �
   with_text [] t named = no_entry at body None t (λ q left v e. text-there q (same_text body [] t q left v e))
   with_text (b ∷ bs) t (nameless_text names) =
       no_entry at body (Some (NoEquals at)) (omega arith, (b ∷ bs, t, (λ e. cc), names)) (λ q left v e.
-        name-there q v (subst (AllByRecursion IsNameByte) (sym (same_text body (b ∷ bs) t q left v e)) names))
+      name-there q v (subst (AllByRecursion IsNameByte) (sym (same_text body (b ∷ bs) t q left v e)) names))
   with_text (b ∷ bs) t (named_text [] value whole names values) =
       no_entry at body (Some (EmptyName at)) (omega arith, (value, subst (BeginsWithText body) whole t)) (λ q left v e.
-        front-there q value v (same_text body (b ∷ bs) t q left v e ∙ whole))
+      front-there q value v (same_text body (b ∷ bs) t q left v e ∙ whole))
   with_text (b ∷ bs) t (named_text (c ∷ cs) value whole names values) =
       let p : Pair = (c ∷ cs, value) in
       let v : IsVariable p = record { named = λ e. cc; name = names; value = values } in

@@ -1,5 +1,5 @@
 -- The first word of a line.
-use Rattle.std.proofs.Common.{◌≡◌, ◌≢◌, ℕ, zero, suc, ◌+◌, ◌-◌, ◌<◌, ◌≤◌, Bool, true, false, not, eqb, cond, List, [], ◌∷◌, ◌++◌, length, filter, get_or, take, drop, nat_lt, refl, sym, ap, subst, ◌∙◌, arith, inl, inr}
+use Rattle.std.proofs.Common.{◌≡◌, ℕ, suc, ◌-◌, ◌≤◌, Bool, true, false, not, eqb, List, [], ◌∷◌, length, filter, take, drop, nat_lt, refl, sym, ap, subst, ◌∙◌, arith, inl, inr}
 use Rattle.std.proofs.lemmas.Bool.{cases_Bool, cases_lt}
 use Rattle.std.proofs.lemmas.Bool.Decides.{nat_tests}
 use Rattle.std.proofs.lemmas.List.{take_rest}
@@ -85,9 +85,9 @@ first_word line rest len e some n =
     let P : List ℕ → Type 0 = λ r. length r ≡ 0 → ⊥ in
     let there = word_there line (subst P e some) in
     let at : words_of rest ≡ take (position_or_len is_blank rest) rest ∷ words_of (drop (position_or_len is_blank rest) rest) =
-      subst (λ r. words_of r ≡ take (position_or_len is_blank r) r ∷ words_of (drop (position_or_len is_blank r) r)) (sym e) there in
+    subst (λ r. words_of r ≡ take (position_or_len is_blank r) r ∷ words_of (drop (position_or_len is_blank r) r)) (sym e) there in
     sym (words_of-skipped line) ∙ (ap words_of (sym e) ∙ (at ∙ subst (λ k. take (position_or_len is_blank rest) rest ∷ words_of (drop (position_or_len is_blank rest) rest) ≡ take k rest ∷ words_of (take (length rest - k) (drop k rest))) (sym n)
-      (ap (λ r. take (position_or_len is_blank rest) rest ∷ words_of r) (sym (take_rest rest (position_or_len is_blank rest))))))
+    (ap (λ r. take (position_or_len is_blank rest) rest ∷ words_of r) (sym (take_rest rest (position_or_len is_blank rest))))))
 
 pub no_words : (line rest : List ℕ) → rest ≡ skipped is_blank line → length rest ≡ 0 → words_of line ≡ []
 no_words line rest e none = no_word line (sym (ap length e) ∙ none)

@@ -1,12 +1,12 @@
 -- The places that a configuration names.
-use Rattle.std.specs.Prelude.{◌≡◌, ℕ, ◌+◌, ◌-◌, ◌*◌, ◌^◌, ◌==◌, ◌&&◌, ◌||◌, not, nat_lt, nat_le, Bool, true, false, List, [], ◌∷◌, length, map, filter, fold, Option, None, Some, Result, Ok, Err, if◌then◌else◌}
+use Rattle.std.specs.Prelude.{ℕ, ◌+◌, ◌-◌, ◌*◌, ◌^◌, ◌==◌, ◌&&◌, ◌||◌, not, nat_lt, nat_le, Bool, false, List, [], ◌∷◌, length, filter, fold, Option, None, Some, Result, Ok, Err, if◌then◌else◌}
 use Rattle.std.specs.Str.Lossy.{utf8_valid_len}
 use Rattle.std.specs.List.{list_all}
 use Rattle.envimage.specs.Image.{is_size}
 use Rattle.envimage.specs.Text.{numbered_lines}
 use Rattle.envimage.specs.Words.{words_of}
 use Rattle.envimage.specs.declared.config.ConfigError.{ConfigError}
-use Rattle.envimage.specs.declared.config.ConfigError.TheVariants.{BadLine, NotText, BadNumber, NoPlace, SizeOutOfRange, UnequalSizes, Memory}
+use Rattle.envimage.specs.declared.config.ConfigError.TheVariants.{BadLine, NotText, BadNumber, NoPlace, SizeOutOfRange, UnequalSizes}
 
 -- ---- numbers
 

@@ -1,5 +1,5 @@
 -- The data of an image: entries `name=value`, each ended by a NUL, then one more NUL, then anything.
-use Rattle.std.specs.Prelude.{◌≡◌, ◌≢◌, ℕ, ◌+◌, ◌≤◌, ◌==◌, Bool, true, false, List, [], ◌∷◌, ◌++◌, length, Option, None, Some, if◌then◌else◌}
+use Rattle.std.specs.Prelude.{◌≡◌, ◌≢◌, ℕ, ◌+◌, ◌≤◌, ◌==◌, Bool, List, [], ◌∷◌, ◌++◌, length, Option, None, Some, if◌then◌else◌}
 use Rattle.std.specs.List.{flat_map, AllByRecursion, before_first, after_first, list_any}
 use Rattle.envimage.specs.declared.content.DataError.{DataError}
 use Rattle.envimage.specs.declared.content.DataError.TheVariants.{NotTerminated, NoEquals, EmptyName}
@@ -34,7 +34,7 @@ pub record IsRow (body : List ℕ) (pairs : List Pair) (rest : List ℕ) : Type 
 pub record IsLongestRow (body : List ℕ) (pairs : List Pair) (rest : List ℕ) : Type 0 where
   pub row : IsRow body pairs rest
   pub longest : (others : List Pair) (left : List ℕ) → IsRow body others left →
-    length (flat_map entry others) ≤ length (flat_map entry pairs)
+      length (flat_map entry others) ≤ length (flat_map entry pairs)
 
 -- The rest begins with this text, which a NUL ends.
 pub record BeginsWithText (rest text : List ℕ) : Type 0 where

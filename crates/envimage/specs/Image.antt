@@ -1,5 +1,5 @@
 -- Images: a stored checksum, in a pair a flag, and data.
-use Rattle.std.specs.Prelude.{◌≡◌, ◌≢◌, ℕ, ◌+◌, ◌==◌, ◌&&◌, ◌||◌, not, nat_lt, nat_le, Bool, true, false, List, [], ◌∷◌, ◌++◌, length, take, drop, slice_index, Option, None, Some, Result, Ok, Err, MatchResult, if◌then◌else◌}
+use Rattle.std.specs.Prelude.{◌≡◌, ℕ, ◌==◌, ◌&&◌, ◌||◌, not, nat_lt, nat_le, Bool, true, false, List, length, take, drop, slice_index, Option, None, Some, Result, Ok, Err, if◌then◌else◌}
 use Rattle.std.specs.Int.{w32, from_le_bytes, from_be_bytes, to_le_bytes, to_be_bytes}
 use Rattle.envimage.specs.Crc.{crc}
 use Rattle.envimage.specs.Data.{data_fault}
@@ -9,7 +9,7 @@ use Rattle.envimage.specs.declared.image.ByteOrder.TheVariants.{Little, Big}
 use Rattle.envimage.specs.declared.image.Which.{Which}
 use Rattle.envimage.specs.declared.image.Which.TheVariants.{First, Second}
 use Rattle.envimage.specs.declared.image.ImageError.{ImageError}
-use Rattle.envimage.specs.declared.image.ImageError.TheVariants.{WrongSize, BadCrc, Content, TooLarge, Memory}
+use Rattle.envimage.specs.declared.image.ImageError.TheVariants.{WrongSize, BadCrc, Content}
 use Rattle.envimage.specs.declared.image.Loaded.{Loaded}
 
 -- the checksum that a copy begins with

@@ -1,7 +1,7 @@
 -- What reading a configuration answers.
-use Rattle.std.specs.Prelude.{◌≡◌, ℕ, List, [], ◌∷◌, Bool, filter, map, Result, Ok, Err, Vec, string_bytes}
+use Rattle.std.specs.Prelude.{◌≡◌, ℕ, List, filter, map, Result, Ok, Err, Vec, string_bytes}
 use Rattle.std.specs.declared.alloc.Global.{Global}
-use Rattle.envimage.specs.Config.{PlaceShown, places, place_of, is_place_line}
+use Rattle.envimage.specs.Config.{PlaceShown, is_place_line}
 use Rattle.envimage.specs.Text.{lines_left}
 use Rattle.envimage.specs.declared.config.ConfigError.{ConfigError}
 use Rattle.envimage.specs.declared.config.ConfigError.TheVariants.{BadLine, NotText, BadNumber, NoPlace, SizeOutOfRange, UnequalSizes, Memory}

@@ -175,11 +175,7 @@ fn list_of(alloc: Global, places: &[NamedPlace<'_>]) -> Result<Vec<Place>, Confi
 }
 
 /// The list of the one place of a single image.
-fn single(
-    alloc: Global,
-    number: usize,
-    place: NamedPlace<'_>,
-) -> Result<Vec<Place>, ConfigError>
+fn single(alloc: Global, number: usize, place: NamedPlace<'_>) -> Result<Vec<Place>, ConfigError>
     ensures { AnswersPlaces (single number (Ok (named_shown place.entry))) result }
 {
     if !is_size(place.size, SINGLE_MIN) {

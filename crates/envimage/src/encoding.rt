@@ -25,7 +25,9 @@ fn entries_len(pairs: &[(&[u8], &[u8])]) -> usize
 
 /// What ends an entry, what ends the data, and what fills the rest of an image.
 const ENTRY_END: u8 = 0;
+
 const DATA_END: u8 = 0;
+
 const FILLING: u8 = 0;
 
 fn push_entry(out: &mut Vec<u8>, name: &[u8], value: &[u8]) -> Result<(), AllocError>

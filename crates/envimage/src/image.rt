@@ -4,8 +4,8 @@ ghost use Rattle.envimage.specs.Data.{data_fault};
 ghost use Rattle.envimage.specs.Image.{is_right, is_newer, is_size, stored, current, chosen_of, load_of, Gives, shown, copy_shown};
 ghost use Rattle.envimage.specs.declared.image.ImageError.TheVariants.{Content, Memory};
 
-use crate::crc::crc32;
 use crate::content::{DataError, check_data};
+use crate::crc::crc32;
 use std::alloc::{AllocError, AllocFailed};
 use thiserror::Error;
 

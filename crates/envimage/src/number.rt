@@ -35,7 +35,11 @@ fn number_in(base: u64, digits: &[u8]) -> Option<u64>
         }
         number = number.saturating_mul(base).saturating_add(value);
     }
-    if number > NUMBER_MAX { None } else { Some(number) }
+    if number > NUMBER_MAX {
+        None
+    } else {
+        Some(number)
+    }
 }
 
 /// What follows `0x` or `0X`.

@@ -1,5 +1,5 @@
 -- The environment of a list of pairs, made one pair after another.
-use Rattle.std.proofs.Common.{◌≡◌, ◌≢◌, ℕ, zero, suc, ◌+◌, take, add-one, length, length-append, arith, Bool, true, false, cond, not, filter, fold, inl, inr, List, [], ◌∷◌, ◌++◌, Option, None, Some, refl, sym, ap, subst, ◌∙◌, append_assoc}
+use Rattle.std.proofs.Common.{◌≡◌, ℕ, zero, suc, ◌+◌, take, add-one, length, length-append, arith, true, false, cond, fold, inl, inr, List, [], ◌∷◌, ◌++◌, None, Some, refl, sym, ap, subst, ◌∙◌, append_assoc}
 use Rattle.std.specs.Prelude.{unwrap_or, slice_get}
 use Rattle.std.specs.List.{AllByRecursion, flat_map}
 use Rattle.std.proofs.lemmas.List.{append-nil}
@@ -47,7 +47,7 @@ dropped-assigned_other (p ∷ ps) name value other ne =
       | inr apart ↦ elim (cases_Bool (same other p.0)) [
         | inl it ↦ rw (apart, it) (dropped-assigned_other ps name value other ne)
         | inr kept ↦ rw (apart, kept, apart) (ap (λ t. p ∷ t) (dropped-assigned_other ps name value other ne))
-        ]
+      ]
     ]
 
 -- a first variable, before the others as they become
@@ -60,9 +60,9 @@ in_front-assigned p q later =
       | inl found ↦
           let one : q.0 ≡ p.0 = (bytes_decides q.0 p.0).0 found in
           let value : value_of (assigned later q.0 q.1) p.0 ≡ Some q.1 =
-            ap (λ n. value_of (assigned later q.0 q.1) n) (sym one) ∙ value_of-assigned later q.0 q.1 in
+          ap (λ n. value_of (assigned later q.0 q.1) n) (sym one) ∙ value_of-assigned later q.0 q.1 in
           let rest : dropped (assigned later q.0 q.1) p.0 ≡ dropped later p.0 =
-            ap (λ n. dropped (assigned later q.0 q.1) n) (sym one) ∙ (dropped-assigned later q.0 q.1 ∙ ap (dropped later) one) in
+          ap (λ n. dropped (assigned later q.0 q.1) n) (sym one) ∙ (dropped-assigned later q.0 q.1 ∙ ap (dropped later) one) in
           rw (found, value) (ap (λ t. (p.0, q.1) ∷ t) rest)
       | inr apart ↦
           rw (apart, value_of-assigned_other later q.0 q.1 p.0 apart)

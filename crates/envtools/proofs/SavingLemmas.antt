@@ -1,16 +1,14 @@
 -- A redundant pair with other bytes in the place of its spare copy.
-use Rattle.std.proofs.Common.{◌≡◌, ◌≤◌, ◌<◌, ℕ, ◌+◌, ◌%◌, ◌==◌, ◌&&◌, ◌||◌, not, Bool, true, false, ◌-◌, List, length, length-drop, eqb-true, drop, Option, None, Some, Result, Ok, Err, refl, sym, ap, subst, ◌∙◌, arith, eqb, eq-eqb, inl, inr}
+use Rattle.std.proofs.Common.{◌≡◌, ◌≤◌, ◌<◌, ℕ, ◌+◌, ◌%◌, ◌==◌, Bool, true, false, ◌-◌, List, length, length-drop, eqb-true, drop, Option, None, Some, Ok, refl, sym, ap, subst, ◌∙◌, arith, eq-eqb, inl, inr}
 use Rattle.std.specs.Prelude.{slice_index}
 use Rattle.std.proofs.lemmas.Bool.{cases_eq}
 use Rattle.std.proofs.lemmas.Bool.Decides.{nat_tests}
 use Rattle.std.specs.List.{AllByRecursion}
 use Rattle.envimage.specs.Data.{Pair, IsVariable, data_fault, pairs_of}
 use Rattle.envimage.specs.Encoding.{needed, image_of, data_bytes, is_image_size}
-use Rattle.envimage.specs.Image.{Shown, load_of, is_right, is_size, is_newer, current, chosen_of, shown_of, then_checked, checked, or_bad_crc}
+use Rattle.envimage.specs.Image.{Shown, load_of, is_right, is_size, is_newer, checked}
 use Rattle.envimage.specs.declared.content.DataError.{DataError}
 use Rattle.envimage.specs.declared.image.ByteOrder.{ByteOrder}
-use Rattle.envimage.specs.declared.image.ImageError.{ImageError}
-use Rattle.envimage.specs.declared.image.Which.{Which}
 use Rattle.envimage.specs.declared.image.Which.TheVariants.{First, Second}
 use Rattle.envimage.proofs.RoundTrip.{encoded_is_right, data_is_read_back, length-image_of, flag-there}
 use Rattle.envtools.specs.Saving.{SpareMayBreak, SavedIsLoaded, with_spare, load_pair, size_of, next_flag, copy_to_write, saved_image}
@@ -148,8 +146,8 @@ module _ (order : ByteOrder) (flag size : ℕ) (env : List Pair) (all : AllByRec
 abbrev Saved : ByteOrder → List ℕ → List ℕ → List Pair → Shown → Type 0
 Saved order first second env loaded =
     (body : List ℕ) × (load_pair order (with_spare loaded.which first second (saved_image env loaded))
-      ≡ Ok (record { which = copy_to_write loaded; flag = next_flag loaded.flag; order = order; body = body }))
-      × (pairs_of body ≡ env)
+    ≡ Ok (record { which = copy_to_write loaded; flag = next_flag loaded.flag; order = order; body = body }))
+    × (pairs_of body ≡ env)
 
 pub saved_is_loaded : SavedIsLoaded
 saved_is_loaded order first second loaded env h f g all fits = by loaded (loading order first second loaded h) fits

@@ -1,6 +1,5 @@
 -- The parts of a script's line.
-use Rattle.std.proofs.Common.{◌≡◌, ◌≢◌, ℕ, zero, suc, ◌+◌, ◌-◌, ◌<◌, ◌≤◌, Bool, true, false, List, [], ◌∷◌, ◌++◌, length, get_or, take, drop, Option, None, Some, Result, Ok, Err, refl, sym, ap, ◌∙◌, arith, inl, inr, eqb}
-use Rattle.std.proofs.lemmas.Bool.{cases_eq}
+use Rattle.std.proofs.Common.{◌≡◌, ◌≢◌, ℕ, ◌+◌, ◌-◌, ◌<◌, ◌≤◌, false, List, [], ◌∷◌, ◌++◌, length, get_or, take, drop, None, Some, Result, Ok, Err, refl, sym, ap, ◌∙◌, arith, eqb}
 use Rattle.std.proofs.lemmas.Bool.Decides.{nat_tests}
 use Rattle.std.proofs.lemmas.List.{take_all, take_more, take_rest}
 use Rattle.std.specs.List.{position, position_or_len}
@@ -52,7 +51,7 @@ name-unfound text e =
     let n : position_or_len ends_name text ≡ length text = sym (position-or ends_name text) ∙ ap (λ o. unwrap_or o (length text)) e in
     let name : take (position_or_len ends_name text) text ≡ text = ap (λ k. take k text) n ∙ take_all (length text) text (omega arith) in
     let value : skipped is_space (drop (position_or_len ends_name text + 1) text) ≡ [] =
-      ap (λ k. skipped is_space (drop (k + 1) text)) n ∙ ap (skipped is_space) (drop_of_length-le text {i = length text + 1} (omega arith)) in
+    ap (λ k. skipped is_space (drop (k + 1) text)) n ∙ ap (skipped is_space) (drop_of_length-le text {i = length text + 1} (omega arith)) in
     λ i. (sym name i, sym value i)
 
 pub name-found : (text : List ℕ) (at : ℕ) → position ends_name text ≡ Some at → (take at text, skipped is_space (take (length text - (at + 1)) (drop (at + 1) text))) ≡ name_and_value text
@@ -60,7 +59,7 @@ name-found text at e =
     let n : at ≡ position_or_len ends_name text = sym (ap (λ o. unwrap_or o (length text)) e) ∙ position-or ends_name text in
     let name : take at text ≡ take (position_or_len ends_name text) text = ap (λ k. take k text) n in
     let value : skipped is_space (take (length text - (at + 1)) (drop (at + 1) text)) ≡ skipped is_space (drop (position_or_len ends_name text + 1) text) =
-      ap (skipped is_space) (take_rest text (at + 1)) ∙ ap (λ k. skipped is_space (drop (k + 1) text)) n in
+    ap (skipped is_space) (take_rest text (at + 1)) ∙ ap (λ k. skipped is_space (drop (k + 1) text)) n in
     λ i. (name i, value i)
 
 pub ruleset names = (name-unfound, name-found)

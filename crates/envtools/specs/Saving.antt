@@ -1,5 +1,5 @@
 -- What writing an environment back makes of a loaded image.
-use Rattle.std.specs.Prelude.{◌≡◌, ◌≤◌, ◌<◌, ℕ, ◌+◌, ◌%◌, Bool, true, false, List, length, slice_index, Option, None, Some, Result, Ok, Err}
+use Rattle.std.specs.Prelude.{◌≡◌, ◌≤◌, ◌<◌, ℕ, ◌+◌, ◌%◌, false, List, length, slice_index, Option, None, Some, Result, Ok}
 use Rattle.std.specs.List.{AllByRecursion}
 use Rattle.envimage.specs.Data.{Pair, IsVariable, pairs_of}
 use Rattle.envimage.specs.Encoding.{header_len, needed, image_of}
@@ -65,5 +65,5 @@ SavedIsLoaded = (order : ByteOrder) (first second : List ℕ) (loaded : Shown) (
     load_of order first (Some second) ≡ Ok loaded → slice_index first 4 < 256 → slice_index second 4 < 256 →
     AllByRecursion IsVariable env → needed (next_flag loaded.flag) env ≤ size_of loaded →
     (body : List ℕ) × (load_pair order (with_spare loaded.which first second (saved_image env loaded))
-      ≡ Ok (record { which = copy_to_write loaded; flag = next_flag loaded.flag; order = order; body = body }))
-      × (pairs_of body ≡ env)
+    ≡ Ok (record { which = copy_to_write loaded; flag = next_flag loaded.flag; order = order; body = body }))
+    × (pairs_of body ≡ env)

@@ -43,11 +43,7 @@ fn copy_to_write(loaded: &Loaded<'_>) -> Which
 /// what was loaded.
 ///
 /// Refusals in order: `TooLarge`, `Memory`.
-pub fn save(
-    alloc: Global,
-    env: &Env,
-    loaded: &Loaded<'_>,
-) -> Result<(Which, Vec<u8>), ImageError>
+pub fn save(alloc: Global, env: &Env, loaded: &Loaded<'_>) -> Result<(Which, Vec<u8>), ImageError>
     requires { is_image_size loaded.now.flag (size_of (shown loaded.now)) ≡ true }
     ensures too_large { (result ≡ Err ImageError.TooLarge) ↔ (size_of (shown loaded.now) < needed (next_flag loaded.now.flag) env.now) }
     ensures other { IfErr result IsSaveRefusal }

@@ -1,5 +1,5 @@
 -- What reading the data of a loaded image answers.
-use Rattle.std.proofs.Common.{◌≡◌, ℕ, Bool, List, Option, None, Some, Result, Ok, Err, refl, sym, ap, subst, ◌∙◌}
+use Rattle.std.proofs.Common.{◌≡◌, ℕ, Bool, List, Option, None, Some, Result, Ok, Err, refl, sym, ap, ◌∙◌}
 use Rattle.envimage.specs.Data.{data_fault, pairs_of}
 use Rattle.envimage.specs.Image.{Shown, load_of, chosen_of, shown_of, then_checked, checked}
 use Rattle.envimage.specs.declared.content.DataError.{DataError}

@@ -1,5 +1,5 @@
 -- What a change of an image answers.
-use Rattle.std.specs.Prelude.{◌≡◌, ◌<◌, ℕ, nat_lt, not, Bool, List, [], ◌∷◌, map, Option, None, Some, Result, Ok, Err, Vec, if◌then◌else◌}
+use Rattle.std.specs.Prelude.{◌≡◌, ℕ, nat_lt, not, List, map, Option, None, Some, Result, Ok, Err, Vec, if◌then◌else◌}
 use Rattle.std.specs.declared.alloc.Global.{Global}
 use Rattle.envimage.specs.Data.{Pair, pairs_of}
 use Rattle.envimage.specs.Encoding.{needed}

@@ -42,9 +42,18 @@ fn checksums_are_those_of_zlib(rt: HostRuntime) {
 
 #[test]
 fn the_first_fault_of_data_is_found(rt: HostRuntime) {
-    assert_eq!(rt; check_data(&[0x61, 0x00, 0x00]), Err(DataError::NoEquals(0)));
-    assert_eq!(rt; check_data(&[0x3D, 0x61, 0x00, 0x00]), Err(DataError::EmptyName(0)));
-    assert_eq!(rt; check_data(&[0x61, 0x3D, 0x00, 0x3D, 0x00, 0x00]), Err(DataError::EmptyName(3)));
+    assert_eq!(rt;
+        check_data(&[0x61, 0x00, 0x00]),
+        Err(DataError::NoEquals(0))
+    );
+    assert_eq!(rt;
+        check_data(&[0x3D, 0x61, 0x00, 0x00]),
+        Err(DataError::EmptyName(0))
+    );
+    assert_eq!(rt;
+        check_data(&[0x61, 0x3D, 0x00, 0x3D, 0x00, 0x00]),
+        Err(DataError::EmptyName(3))
+    );
     assert_eq!(rt; check_data(&[]), Err(DataError::NotTerminated));
     assert_eq!(rt; check_data(&[0x61, 0x3D, 0x31, 0x00, 0x00]), Ok(()));
 }
@@ -56,9 +65,16 @@ fn single_images_are_refused_in_order(rt: HostRuntime) {
     let wrong: [u8; 9] = [0x3B, 0x06, 0x98, 0x45, 0x61, 0x3D, 0x31, 0x00, 0x01];
     assert_eq!(rt; refusal(&ONE, little), None);
     assert_eq!(rt; refusal(&wrong, little), Some(ImageError::BadCrc));
-    assert_eq!(rt; refusal(&cut, little), Some(ImageError::Content(DataError::NotTerminated)));
+    assert_eq!(rt;
+        refusal(&cut, little),
+        Some(ImageError::Content(DataError::NotTerminated))
+    );
     for end in 0..9usize {
-        let want = if end < 5 { ImageError::WrongSize } else { ImageError::BadCrc };
+        let want = if end < 5 {
+            ImageError::WrongSize
+        } else {
+            ImageError::BadCrc
+        };
         assert_eq!(rt; refusal(&ONE[..end], little), Some(want), "cut to {end}");
     }
 }
@@ -66,19 +82,38 @@ fn single_images_are_refused_in_order(rt: HostRuntime) {
 #[test]
 fn an_image_is_right_in_its_own_byte_order_alone(rt: HostRuntime) {
     assert_eq!(rt; refusal(&ONE_BIG, ByteOrder::Big), None);
-    assert_eq!(rt; refusal(&ONE_BIG, ByteOrder::Little), Some(ImageError::BadCrc));
+    assert_eq!(rt;
+        refusal(&ONE_BIG, ByteOrder::Little),
+        Some(ImageError::BadCrc)
+    );
     assert_eq!(rt; refusal(&ONE, ByteOrder::Big), Some(ImageError::BadCrc));
 }
 
 #[test]
 fn the_flags_choose_the_current_copy(rt: HostRuntime) {
     for (one, two) in [(0u8, 255u8), (1, 0), (7, 7), (255, 254)] {
-        assert_eq!(rt; which(&copy_one(one), &copy_two(two), ByteOrder::Little), Ok(Which::First), "{one} {two}");
-        assert_eq!(rt; which(&copy_one_big(one), &copy_two_big(two), ByteOrder::Big), Ok(Which::First), "{one} {two}");
+        assert_eq!(rt;
+            which(&copy_one(one), &copy_two(two), ByteOrder::Little),
+            Ok(Which::First),
+            "{one} {two}"
+        );
+        assert_eq!(rt;
+            which(&copy_one_big(one), &copy_two_big(two), ByteOrder::Big),
+            Ok(Which::First),
+            "{one} {two}"
+        );
     }
     for (one, two) in [(255u8, 0u8), (0, 1), (254, 255), (1, 255)] {
-        assert_eq!(rt; which(&copy_one(one), &copy_two(two), ByteOrder::Little), Ok(Which::Second), "{one} {two}");
-        assert_eq!(rt; which(&copy_one_big(one), &copy_two_big(two), ByteOrder::Big), Ok(Which::Second), "{one} {two}");
+        assert_eq!(rt;
+            which(&copy_one(one), &copy_two(two), ByteOrder::Little),
+            Ok(Which::Second),
+            "{one} {two}"
+        );
+        assert_eq!(rt;
+            which(&copy_one_big(one), &copy_two_big(two), ByteOrder::Big),
+            Ok(Which::Second),
+            "{one} {two}"
+        );
     }
 }
 
@@ -89,9 +124,18 @@ fn pairs_are_refused_and_chosen(rt: HostRuntime) {
     broken[9] = 1;
     assert_eq!(rt; which(&broken, &copy_two(0), little), Ok(Which::Second));
     let faulty: [u8; 10] = [0xEC, 0x07, 0x84, 0x2B, 0x01, 0x61, 0x3D, 0x31, 0x01, 0x01];
-    assert_eq!(rt; which(&copy_one(0), &faulty, little), Err(ImageError::Content(DataError::NotTerminated)));
+    assert_eq!(rt;
+        which(&copy_one(0), &faulty, little),
+        Err(ImageError::Content(DataError::NotTerminated))
+    );
     let empty: [u8; 6] = [0x8D, 0xEF, 0x02, 0xD2, 0x00, 0x00];
     assert_eq!(rt; which(&empty, &empty, little), Ok(Which::First));
-    assert_eq!(rt; which(&empty[..5], &empty[..5], little), Err(ImageError::WrongSize));
-    assert_eq!(rt; which(&copy_one(0), &ONE, little), Err(ImageError::WrongSize));
+    assert_eq!(rt;
+        which(&empty[..5], &empty[..5], little),
+        Err(ImageError::WrongSize)
+    );
+    assert_eq!(rt;
+        which(&copy_one(0), &ONE, little),
+        Err(ImageError::WrongSize)
+    );
 }

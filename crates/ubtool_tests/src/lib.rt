@@ -1,11 +1,10 @@
 //! Tests that cross the crates: what no contract says, with values from outside.
 #![tactic(auto)]
 
-pub mod writers;
-
 #[cfg(test)]
 mod images;
 #[cfg(test)]
 mod outputs;
 #[cfg(test)]
 mod printing;
+pub mod writers;

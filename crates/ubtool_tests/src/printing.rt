@@ -72,10 +72,34 @@ fn images_of_mkenvimage_are_printed(rt: HostRuntime) {
     let want = b"a=1\nb=x  y\n".as_slice();
     let little = ByteOrder::Little;
     let big = ByteOrder::Big;
-    assert_eq!(rt; print(rt.alloc(), &SINGLE, None, little, &[]).out.bytes.as_slice(), want);
-    assert_eq!(rt; print(rt.alloc(), &SINGLE_BIG, None, big, &[]).out.bytes.as_slice(), want);
-    assert_eq!(rt; print(rt.alloc(), &COPY, Some(&COPY), little, &[]).out.bytes.as_slice(), want);
-    assert_eq!(rt; print(rt.alloc(), &COPY_BIG, Some(&COPY_BIG), big, &[]).out.bytes.as_slice(), want);
+    assert_eq!(rt;
+        print(rt.alloc(), &SINGLE, None, little, &[])
+            .out
+            .bytes
+            .as_slice(),
+        want
+    );
+    assert_eq!(rt;
+        print(rt.alloc(), &SINGLE_BIG, None, big, &[])
+            .out
+            .bytes
+            .as_slice(),
+        want
+    );
+    assert_eq!(rt;
+        print(rt.alloc(), &COPY, Some(&COPY), little, &[])
+            .out
+            .bytes
+            .as_slice(),
+        want
+    );
+    assert_eq!(rt;
+        print(rt.alloc(), &COPY_BIG, Some(&COPY_BIG), big, &[])
+            .out
+            .bytes
+            .as_slice(),
+        want
+    );
     let refused = print(rt.alloc(), &SINGLE_BIG, None, little, &[]).answer;
     assert_eq!(rt; refused, Err(ToolError::Image(ImageError::BadCrc)));
 }
@@ -103,7 +127,10 @@ fn names_are_printed_in_the_order_asked(rt: HostRuntime) {
     let Printed { answer, out, err } = print(rt.alloc(), &ONE, None, ByteOrder::Little, &names);
     assert_eq!(rt; answer, Ok(false));
     assert_eq!(rt; out.bytes.as_slice(), b"a=1\n".as_slice());
-    assert_eq!(rt; err.bytes.as_slice(), b"## Error: \"b\" not defined\n".as_slice());
+    assert_eq!(rt;
+        err.bytes.as_slice(),
+        b"## Error: \"b\" not defined\n".as_slice()
+    );
 }
 
 #[test]
@@ -111,7 +138,16 @@ fn a_value_is_printed_alone(rt: HostRuntime) {
     let mut out = Memory::new(rt.alloc());
     let mut err = Memory::new(rt.alloc());
     let little = ByteOrder::Little;
-    let answer = print_bytes(rt.alloc(), &ONE, None, little, &[b"a"], false, &mut out, &mut err);
+    let answer = print_bytes(
+        rt.alloc(),
+        &ONE,
+        None,
+        little,
+        &[b"a"],
+        false,
+        &mut out,
+        &mut err,
+    );
     assert_eq!(rt; answer, Ok(true));
     assert_eq!(rt; out.bytes.as_slice(), b"1\n".as_slice());
 }
@@ -125,7 +161,16 @@ fn a_failing_output_keeps_a_front_of_the_lines(rt: HostRuntime) {
         };
         let mut err = Memory::new(rt.alloc());
         let little = ByteOrder::Little;
-        let answer = print_bytes(rt.alloc(), &SINGLE, None, little, &[], true, &mut out, &mut err);
+        let answer = print_bytes(
+            rt.alloc(),
+            &SINGLE,
+            None,
+            little,
+            &[],
+            true,
+            &mut out,
+            &mut err,
+        );
         assert_eq!(rt; answer, Err(ToolError::Write));
         assert_eq!(rt; out.memory.bytes.as_slice(), &b"a=1\nb=x  y\n"[..room]);
         assert_eq!(rt; out.memory.failures, 1);
@@ -138,7 +183,10 @@ fn standard_input_is_printed(rt: HostRuntime) {
     assert_eq!(rt; status, 0);
     assert_eq!(rt; out.bytes.as_slice(), b"a=1\n".as_slice());
     assert_eq!(rt; err.bytes.as_slice(), b"".as_slice());
-    for smallest in [[0x1C, 0xDF, 0x44, 0x21, 0, 0, 0, 0].as_slice(), &[0x8D, 0xEF, 0x02, 0xD2, 0x00]] {
+    for smallest in [
+        [0x1C, 0xDF, 0x44, 0x21, 0, 0, 0, 0].as_slice(),
+        &[0x8D, 0xEF, 0x02, 0xD2, 0x00],
+    ] {
         let (status, out, err) = run(rt.alloc(), smallest);
         assert_eq!(rt; status, 0);
         assert_eq!(rt; out.bytes.as_slice(), b"".as_slice());

@@ -1,4 +1,4 @@
-use Rattle.std.proofs.Common.{◌+◌, drop, ap, sym, ◌∙◌, take, ◌∷◌}
+use Rattle.std.proofs.Common.{◌+◌, ap, sym, ◌∙◌, take, ◌∷◌}
 use Rattle.std.proofs.lemmas.List.{take_rest}
 use Rattle.envimage.specs.Data.{texts_of}
 use Rattle.envimage.proofs.DataLemmas.{texts_of-cut, texts_of-uncut}

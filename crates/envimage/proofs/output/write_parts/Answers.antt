@@ -1,4 +1,3 @@
-use Rattle.std.proofs.Common.{List}
 use Rattle.std.proofs.lemmas.Result.{err_from_is_err_and}
 use Rattle.envimage.proofs.SinkLemmas.{BrokeOff-item}
 use Rattle.envimage.proofs.output.write_parts.Goals as goal

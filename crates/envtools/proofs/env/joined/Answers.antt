@@ -1,4 +1,4 @@
-use Rattle.std.proofs.Common.{◌≡◌, ℕ, ◌++◌, ◌∷◌, [], List, length, map, take, sym, ap, ◌∙◌, arith, get_or}
+use Rattle.std.proofs.Common.{◌≡◌, ℕ, ◌++◌, [], List, map, take, sym, ap, ◌∙◌, arith, get_or}
 use Rattle.std.specs.Borrow.{Bor}
 use Rattle.envtools.specs.Environment.{joined_words}
 use Rattle.envtools.proofs.WordsLemmas.{joined-first, joined-later}

@@ -1,6 +1,6 @@
 use Rattle.std.proofs.Common.{◌≡◌, ◌++◌, ◌∷◌, [], ℕ, List, Result, ap, sym, subst, ◌∙◌, append_assoc, Err}
 use Rattle.std.proofs.lemmas.Result.{err_from_is_err_and}
-use Rattle.envimage.specs.Text.{numbered_lines, lines_left}
+use Rattle.envimage.specs.Text.{lines_left}
 use Rattle.envtools.specs.Scripting.{AppliesScript}
 use Rattle.envtools.specs.declared.script.ScriptError.{ScriptError}
 use Rattle.envtools.proofs.ScriptLemmas.{scripted-next, script-refused}
@@ -26,4 +26,4 @@ returns-in_err-apply_line c =
     let answer : c.from_residual.result ≡ Err c.in_err-apply_line.field-0.0 = p.1 ∙ ap Err p.2 in
     let P : Result (Unit {0}) ScriptError → Type 0 = λ r. AppliesScript c.args.env.now c.args.text.now c.apply_line.new.env r in
     subst P (sym answer) (script-refused c.args.env.now c.loop-number.env c.apply_line.new.env c.args.text.now before (lines_left c.next.new.self) c.in-Some.number c.in-Some.line.now
-      (c.loop-number.invariant.whole ∙ ap (λ left. before ++ left) step) c.loop-number.invariant.reached c.in_err-apply_line.field-0.0 c.in_err-apply_line.ensures)
+    (c.loop-number.invariant.whole ∙ ap (λ left. before ++ left) step) c.loop-number.invariant.reached c.in_err-apply_line.field-0.0 c.in_err-apply_line.ensures)

@@ -1,4 +1,4 @@
-use Rattle.std.proofs.Common.{◌≡◌, List, [], ℕ, subst, sym, true, None, Bool}
+use Rattle.std.proofs.Common.{List, [], ℕ, subst, true, None}
 use Rattle.envimage.specs.declared.image.ByteOrder.TheVariants.{Little}
 use Rattle.ubtool_core.specs.Printing.{Outputs, PrintsAll, environment_in}
 use Rattle.ubtool_core.proofs.InputLemmas.{input-printed}

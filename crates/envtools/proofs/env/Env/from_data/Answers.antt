@@ -14,6 +14,6 @@ loop-name-init c =
     let d = faultless_is_data c.args.body.now (sym c.in_ok-check_data.ensures) in
     record {
       whole = ap (λ env. fold (λ env p. assigned env p.0 p.1) env (pairs_left c.into_iter-name-iterator.result)) c.new-env.ensures
-        ∙ (ap (fold (λ env p. assigned env p.0 p.1) []) left ∙ fold-assigned (pairs_of c.args.body.now));
+          ∙ (ap (fold (λ env p. assigned env p.0 p.1) []) left ∙ fold-assigned (pairs_of c.args.body.now));
       each = subst Each (sym left) d.each;
     }
