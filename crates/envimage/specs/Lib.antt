@@ -4,6 +4,7 @@ pub mod Data
 pub mod Encoding
 pub mod Entries
 pub mod Image
+pub mod ImageRows
 pub mod Laws
 pub mod Over
 pub mod Place
