@@ -1,0 +1,99 @@
+-- Worked examples of environments, scripts, printing and writing back, computed.
+use Rattle.std.specs.Prelude.{◌≡◌, true, false, [], ◌∷◌, ◌++◌, None, Some, codes, refl}
+use Rattle.envimage.specs.declared.image.ByteOrder.TheVariants.{Little, Big}
+use Rattle.envimage.specs.declared.image.Which.TheVariants.{First, Second}
+use Rattle.envtools.specs.Environment.{env_of, put, changed}
+use Rattle.envtools.specs.Printing.{printed_output, printed_errors}
+use Rattle.envtools.specs.Saving.{copy_to_write, saved_image}
+use Rattle.envtools.specs.Scripting.{scripted}
+use Rattle.envtools.specs.declared.script.ScriptError.TheVariants.{BadName, BadValue}
+
+-- ---- scripts
+
+-- a script of four lines, and its faulty fifth
+four_lines : scripted ((codes "a", codes "0") ∷ []) (codes "# c\na\nb  x  y\nc=1") ≡ record { env = ((codes "b", codes "x  y") ∷ (codes "c", codes "1") ∷ []); fault = None }
+four_lines = refl
+
+faulty_fifth : scripted ((codes "a", codes "0") ∷ []) (codes "# c\na\nb  x  y\nc=1\n=x") ≡ record { env = ((codes "b", codes "x  y") ∷ (codes "c", codes "1") ∷ []); fault = Some (BadName 5) }
+faulty_fifth = refl
+
+equals_in_the_value : scripted [] (codes "a = 1") ≡ record { env = ((codes "a", codes "= 1") ∷ []); fault = None }
+equals_in_the_value = refl
+
+blanks_round_a_value : scripted [] (codes "  k  v ") ≡ record { env = ((codes "k", codes "v ") ∷ []); fault = None }
+blanks_round_a_value = refl
+
+blanks_alone_delete : scripted ((codes "a", codes "0") ∷ []) (codes "a  ") ≡ record { env = []; fault = None }
+blanks_alone_delete = refl
+
+a_name_that_begins_with_a_hash : scripted ((codes "#x", codes "1") ∷ (codes "b", codes "2") ∷ []) (codes " #x") ≡ record { env = ((codes "b", codes "2") ∷ []); fault = None }
+a_name_that_begins_with_a_hash = refl
+
+carriage_returns : scripted ((codes "a", codes "0") ∷ []) (codes "\r\nb 1\r\r\n") ≡ record { env = ((codes "a", codes "0") ∷ (codes "b", codes "1") ∷ []); fault = None }
+carriage_returns = refl
+
+nul_in_a_value : scripted ((codes "a", codes "0") ∷ []) (codes "a " ++ 0 ∷ []) ≡ record { env = ((codes "a", codes "0") ∷ []); fault = Some (BadValue 1) }
+nul_in_a_value = refl
+
+a_later_line_acts_on_the_earlier : scripted ((codes "a", codes "0") ∷ []) (codes "b 1\na\nb 2\na 3") ≡ record { env = ((codes "b", codes "2") ∷ (codes "a", codes "3") ∷ []); fault = None }
+a_later_line_acts_on_the_earlier = refl
+
+-- ---- environments
+
+last_value_in_the_first_place : env_of ((codes "a", codes "1") ∷ (codes "b", codes "2") ∷ (codes "a", codes "3") ∷ []) ≡ ((codes "a", codes "3") ∷ (codes "b", codes "2") ∷ [])
+last_value_in_the_first_place = refl
+
+set_goes_last : put ((codes "a", codes "1") ∷ (codes "b", codes "2") ∷ []) (codes "a") (codes "1") ≡ ((codes "b", codes "2") ∷ (codes "a", codes "1") ∷ [])
+set_goes_last = refl
+
+same_value_keeps_its_place : changed ((codes "a", codes "1 2") ∷ (codes "b", codes "2") ∷ []) (codes "a") (codes "1" ∷ codes "2" ∷ []) ≡ ((codes "a", codes "1 2") ∷ (codes "b", codes "2") ∷ [])
+same_value_keeps_its_place = refl
+
+no_word_deletes : changed ((codes "a", codes "1") ∷ (codes "b", codes "2") ∷ []) (codes "a") [] ≡ ((codes "b", codes "2") ∷ [])
+no_word_deletes = refl
+
+an_empty_word_deletes : changed ((codes "a", codes "1") ∷ (codes "b", codes "2") ∷ []) (codes "a") ([] ∷ []) ≡ ((codes "b", codes "2") ∷ [])
+an_empty_word_deletes = refl
+
+words_are_joined : changed [] (codes "a") (codes "x" ∷ [] ∷ codes "y" ∷ []) ≡ ((codes "a", codes "x  y") ∷ [])
+words_are_joined = refl
+
+-- ---- printing
+
+a_missing_name : printed_output ((codes "a", codes "1") ∷ []) (codes "b" ∷ codes "a" ∷ []) true ≡ codes "a=1\n"
+a_missing_name = refl
+
+a_missing_name_is_told : printed_errors ((codes "a", codes "1") ∷ []) (codes "b" ∷ codes "a" ∷ []) ≡ codes "## Error: \"b\" not defined\n"
+a_missing_name_is_told = refl
+
+a_value_alone : printed_output ((codes "a", codes "1") ∷ []) (codes "a" ∷ []) false ≡ codes "1\n"
+a_value_alone = refl
+
+-- ---- writing back
+
+single_changed : saved_image ((codes "a", codes "2") ∷ []) (record { which = First; flag = None; order = Little; body = 0x61 ∷ 0x3d ∷ 0x31 ∷ 0 ∷ 0 ∷ [] }) ≡ (0x62 ∷ 0xb8 ∷ 0xde ∷ 0x47 ∷ 0x61 ∷ 0x3d ∷ 0x32 ∷ 0x00 ∷ 0x00 ∷ [])
+single_changed = refl
+
+single_unchanged : saved_image ((codes "a", codes "1") ∷ []) (record { which = First; flag = None; order = Little; body = 0x61 ∷ 0x3d ∷ 0x31 ∷ 0 ∷ 0 ∷ [] }) ≡ (0x3b ∷ 0x06 ∷ 0x98 ∷ 0x45 ∷ 0x61 ∷ 0x3d ∷ 0x31 ∷ 0x00 ∷ 0x00 ∷ [])
+single_unchanged = refl
+
+single_emptied : saved_image [] (record { which = First; flag = None; order = Little; body = 0x61 ∷ 0x3d ∷ 0x31 ∷ 0 ∷ 0 ∷ [] }) ≡ (0x1d ∷ 0xf7 ∷ 0x22 ∷ 0xc6 ∷ 0x00 ∷ 0x00 ∷ 0x00 ∷ 0x00 ∷ 0x00 ∷ [])
+single_emptied = refl
+
+pair_little_copy : copy_to_write (record { which = Second; flag = (Some 0); order = Little; body = 0x61 ∷ 0x3d ∷ 0x32 ∷ 0 ∷ 0 ∷ [] }) ≡ First
+pair_little_copy = refl
+
+pair_little : saved_image ((codes "a", codes "3") ∷ []) (record { which = Second; flag = (Some 0); order = Little; body = 0x61 ∷ 0x3d ∷ 0x32 ∷ 0 ∷ 0 ∷ [] }) ≡ (0x55 ∷ 0xd2 ∷ 0x1c ∷ 0x46 ∷ 0x01 ∷ 0x61 ∷ 0x3d ∷ 0x33 ∷ 0x00 ∷ 0x00 ∷ [])
+pair_little = refl
+
+pair_big_copy : copy_to_write (record { which = Second; flag = (Some 0); order = Big; body = 0x61 ∷ 0x3d ∷ 0x32 ∷ 0 ∷ 0 ∷ [] }) ≡ First
+pair_big_copy = refl
+
+pair_big : saved_image ((codes "a", codes "3") ∷ []) (record { which = Second; flag = (Some 0); order = Big; body = 0x61 ∷ 0x3d ∷ 0x32 ∷ 0 ∷ 0 ∷ [] }) ≡ (0x46 ∷ 0x1c ∷ 0xd2 ∷ 0x55 ∷ 0x01 ∷ 0x61 ∷ 0x3d ∷ 0x33 ∷ 0x00 ∷ 0x00 ∷ [])
+pair_big = refl
+
+flag_wraps_copy : copy_to_write (record { which = Second; flag = (Some 255); order = Little; body = 0x61 ∷ 0x3d ∷ 0x32 ∷ 0 ∷ 0 ∷ [] }) ≡ First
+flag_wraps_copy = refl
+
+flag_wraps : saved_image ((codes "a", codes "3") ∷ []) (record { which = Second; flag = (Some 255); order = Little; body = 0x61 ∷ 0x3d ∷ 0x32 ∷ 0 ∷ 0 ∷ [] }) ≡ (0x55 ∷ 0xd2 ∷ 0x1c ∷ 0x46 ∷ 0x00 ∷ 0x61 ∷ 0x3d ∷ 0x33 ∷ 0x00 ∷ 0x00 ∷ [])
+flag_wraps = refl
