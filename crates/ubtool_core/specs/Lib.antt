@@ -2,3 +2,11 @@ pub mod Errors
 pub mod Input
 pub mod Printing
 pub mod Setting
+pub mod Fault
+pub mod Told
+pub mod Read
+pub mod Machine
+pub mod Memory
+pub mod WordForm
+pub mod FileFaults
+pub mod Order

@@ -1,17 +1,78 @@
+//! The faults that the program tells, a line each.
+ghost use Rattle.envimage.specs.Sink.{Wrote};
+
 use crate::error::ToolError;
-use envimage::{Out, write_all};
+use crate::files::FileFault;
+use crate::word_form::WordForm;
+use envimage::{ConfigError, Out, write_all};
 use std::fmt;
 use thiserror::Error;
 
-/// What the program tells on its error output, a line each.
+/// Why the program gave up. The text is what it tells of it.
 #[derive(Debug, Drop, Error)]
 pub enum Fault {
-    /// A read of standard input failed.
-    #[error("cannot read standard input")]
-    Input,
+    /// The configuration was refused.
+    #[error("{0}")]
+    Config(ConfigError),
     /// A call from bytes to bytes was refused.
     #[error("{0}")]
     Tool(ToolError),
+    /// The device failed while the file was read.
+    #[error("cannot read {0}")]
+    CannotRead(WordForm),
+    /// The device failed while the file was written.
+    #[error("cannot write {0}")]
+    CannotWrite(WordForm),
+    /// The file ends before the bytes that were asked for.
+    #[error("{0} is too short")]
+    FileShort(WordForm),
+    /// The file has more bytes than are read.
+    #[error("{0} is too long")]
+    FileTooLong(WordForm),
+    /// Standard input failed.
+    #[error("cannot read standard input")]
+    CannotReadInput,
+    /// The variable to be rehearsed is not set.
+    #[error("no variable {0}")]
+    NoSuchVariable(WordForm),
+    /// The rehearsal has no run of this word, which is printed as it was given.
+    #[error("no run has the word {0}")]
+    NotARun(WordForm),
+    /// The rehearsal is still to come.
+    #[error("rehearse is not built yet")]
+    NotBuilt,
+    /// A growth was refused.
+    #[error("out of memory")]
+    Memory,
+}
+
+impl Fault {
+    ghost use Rattle.std.specs.Prelude.{◌≡◌};
+    ghost use Rattle.ubtool_core.specs.FileFaults.{path_form, read_fault, written_fault};
+
+    /// What is told where the file at the path could not be read.
+    pub fn of_read(path: String, fault: FileFault) -> Fault
+        ensures { result ≡ read_fault (path_form path) fault }
+    {
+        match fault {
+            FileFault::Failed => Fault::CannotRead(WordForm(path)),
+            FileFault::Short => Fault::FileShort(WordForm(path)),
+            FileFault::TooLong => Fault::FileTooLong(WordForm(path)),
+            FileFault::Memory => Fault::Memory,
+        }
+    }
+
+    /// What is told where the file at the path could not be written.
+    pub fn of_write(path: String, fault: FileFault) -> Fault
+        ensures { result ≡ written_fault (path_form path) fault }
+    {
+        match fault {
+            FileFault::Failed => Fault::CannotWrite(WordForm(path)),
+            FileFault::Short => Fault::FileShort(WordForm(path)),
+            FileFault::TooLong => Fault::FileTooLong(WordForm(path)),
+            FileFault::Memory => Fault::Memory,
+        }
+    }
 }
 
 /// Text for an output, by `write!`.
@@ -20,6 +81,9 @@ struct Line<'a, O> {
 }
 
 impl<O: Out> fmt::Write for Line<'_, O> {
+    ghost write_str_gives = { λ before text after.
+        Wrote (O.sink before.out.now) (O.sink after.out.now) text };
+
     fn write_str(&mut self, text: &str) -> fmt::Result {
         write_all(self.out, text.as_bytes()).map_err(|_| fmt::Error)
     }
@@ -34,3 +98,6 @@ pub fn write_fault<O: Out, E: fmt::Display>(err: &mut O, fault: &E) {
     let _ = write!(line, "ubtool: {fault}\n");
     let Line { out: _ } = line;
 }
+
+#[cfg(test)]
+mod tests;

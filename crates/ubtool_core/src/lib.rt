@@ -1,16 +1,26 @@
-//! From bytes to bytes: what the program does with images, whatever its files hold.
+//! From bytes to bytes, what the program does with images; files by their paths; the line of a fault.
 #![tactic(auto)]
 
 mod change;
 mod error;
 mod fault;
+mod files;
 mod input;
+mod machine;
+mod memory_files;
 mod print;
 mod standard_input;
+#[cfg(test)]
+mod tests;
+mod word_form;
 
 pub use change::{Edit, set_bytes};
 pub use error::ToolError;
 pub use fault::{Fault, write_fault};
+pub use files::{Action, FileFault, Files, LIMIT};
 pub use input::{ReadFault, read_up_to};
+pub use machine::Machine;
+pub use memory_files::{Call, MemoryFiles};
 pub use print::print_bytes;
 pub use standard_input::run_input;
+pub use word_form::WordForm;

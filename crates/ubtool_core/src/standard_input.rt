@@ -20,7 +20,7 @@ fn print_input<R: Read, O: Out, E: Out>(
 {
     let image = match read_up_to(alloc, input, SIZE_MAX + 1) {
         Ok(image) => image,
-        Err(ReadFault::Failed) => return Err(Fault::Input),
+        Err(ReadFault::Failed) => return Err(Fault::CannotReadInput),
         Err(ReadFault::Memory) => return Err(Fault::Tool(ToolError::Memory)),
     };
     match print_bytes(alloc, &image, None, ByteOrder::Little, &[], true, out, err) {

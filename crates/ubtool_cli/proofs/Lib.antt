@@ -1,0 +1,4 @@
+pub mod MadeLemmas
+pub mod EntryLemmas
+pub mod AnswerLemmas
+pub mod Rows

@@ -1,0 +1,100 @@
+-- Worked calls, computed: what the words ask for, and that `clap` accepts them or not.
+use Rattle.std.proofs.Common.{◌≡◌, true, false, refl, List, [], ◌∷◌, length, Some, None, codes}
+use Rattle.std.specs.Prelude.{nat_lt}
+use Rattle.clap.specs.Words.{Text, fault_of}
+use Rattle.clap.proofs.OnLiterals.{clap_on_literals}
+use Rattle.ubtool_cli.specs.Answers.{IsAccepted, asked}
+use Rattle.ubtool_cli.specs.Asked.{Asked, header_needs_one, needs_name, printing, rehearsing, script_and_name, scripted, setting}
+use Rattle.ubtool_cli.specs.CommandLine.{ubtool}
+
+-- the words are accepted and ask for this
+abbrev AsksFor : List Text → Asked → Type 0
+AsksFor words what = IsAccepted words × (asked words ≡ Some what)
+
+-- the words are refused
+abbrev IsRefused : List Text → Type 0
+IsRefused words = nat_lt 0 (length (fault_of ubtool words)) ≡ true
+
+-- rehearse -d d.txt --limit 1 z
+rehearsal : AsksFor
+    (codes "rehearse" ∷ codes "-d" ∷ codes "d.txt" ∷ codes "--limit" ∷ codes "1" ∷ codes "z" ∷ [])
+    (rehearsing (codes "/etc/fw_env.config") (codes "d.txt") (record {
+      variable = codes "bootcmd";
+      bounds = record { devices = 16; steps = 10000 };
+      after = None;
+      limit = Some 1;
+      names = codes "z" ∷ [];
+    }) false)
+unfolding clap_on_literals
+rehearsal = (refl, refl)
+
+-- printenv -n
+no_name_printed : AsksFor (codes "printenv" ∷ codes "-n" ∷ []) header_needs_one
+unfolding clap_on_literals
+no_name_printed = (refl, refl)
+
+-- printenv -n a b
+two_names_printed : AsksFor (codes "printenv" ∷ codes "-n" ∷ codes "a" ∷ codes "b" ∷ []) header_needs_one
+unfolding clap_on_literals
+two_names_printed = (refl, refl)
+
+-- printenv -- -x
+dashed_name : AsksFor (codes "printenv" ∷ codes "--" ∷ codes "-x" ∷ [])
+    (printing (codes "/etc/fw_env.config") true (codes "-x" ∷ []) false)
+unfolding clap_on_literals
+dashed_name = (refl, refl)
+
+-- setenv
+no_name_set : AsksFor (codes "setenv" ∷ []) needs_name
+unfolding clap_on_literals
+no_name_set = (refl, refl)
+
+-- setenv a 1 2
+words_set : AsksFor (codes "setenv" ∷ codes "a" ∷ codes "1" ∷ codes "2" ∷ [])
+    (setting (codes "/etc/fw_env.config") (codes "a") (codes "1" ∷ codes "2" ∷ []) false)
+unfolding clap_on_literals
+words_set = (refl, refl)
+
+-- setenv -s f a
+script_beside_name : AsksFor (codes "setenv" ∷ codes "-s" ∷ codes "f" ∷ codes "a" ∷ []) script_and_name
+unfolding clap_on_literals
+script_beside_name = (refl, refl)
+
+-- setenv -s f --big-endian
+big_script : AsksFor (codes "setenv" ∷ codes "-s" ∷ codes "f" ∷ codes "--big-endian" ∷ [])
+    (scripted (codes "/etc/fw_env.config") (codes "f") true)
+unfolding clap_on_literals
+big_script = (refl, refl)
+
+-- rehearse -d d --devices 32 --steps 0 --after . --big-endian
+bounded : AsksFor
+    (codes "rehearse" ∷ codes "-d" ∷ codes "d" ∷ codes "--devices" ∷ codes "32" ∷ codes "--steps" ∷ codes "0" ∷ codes "--after" ∷ codes "." ∷ codes "--big-endian" ∷ [])
+    (rehearsing (codes "/etc/fw_env.config") (codes "d") (record {
+      variable = codes "bootcmd";
+      bounds = record { devices = 32; steps = 0 };
+      after = Some (codes ".");
+      limit = None;
+      names = [];
+    }) true)
+unfolding clap_on_literals
+bounded = (refl, refl)
+
+-- no words
+no_words : IsRefused []
+unfolding clap_on_literals
+no_words = refl
+
+-- rehearse
+no_device_list : IsRefused (codes "rehearse" ∷ [])
+unfolding clap_on_literals
+no_device_list = refl
+
+-- rehearse -d d --devices 33
+too_many_devices : IsRefused (codes "rehearse" ∷ codes "-d" ∷ codes "d" ∷ codes "--devices" ∷ codes "33" ∷ [])
+unfolding clap_on_literals
+too_many_devices = refl
+
+-- rehearse -d d --limit 0
+limit_of_none : IsRefused (codes "rehearse" ∷ codes "-d" ∷ codes "d" ∷ codes "--limit" ∷ codes "0" ∷ [])
+unfolding clap_on_literals
+limit_of_none = refl

@@ -1,0 +1,93 @@
+-- What an answer of the reader of words says, and in which case each refusal comes. The refusals are
+-- ours.
+use Rattle.std.specs.Prelude.{◌≡◌, ◌≢◌, ◌⊎◌, Bool, List, [], map, Option, Some, None}
+use Rattle.std.specs.Prelude.{Result, Ok, Err, option_map, option_and_then, string_bytes}
+use Rattle.clap.specs.Words.{IsAmong, Text, fault_of, subcommand_of}
+use Rattle.clap.specs.declared.error.kind.ErrorKind.{ErrorKind}
+use Rattle.clap.specs.declared.error.kind.ErrorKind.TheVariants.{DisplayHelp, OutOfMemory}
+use Rattle.ubtool_cli.specs.declared.ask.Ask.{Ask}
+use Rattle.ubtool_cli.specs.declared.ask.Ask.TheVariants.{Print, Setenv, Rehearse, Help}
+use Rattle.ubtool_cli.specs.declared.ask.BoundsAsk.{BoundsAsk}
+use Rattle.ubtool_cli.specs.declared.ask.Change.{Change}
+use Rattle.ubtool_cli.specs.declared.ask.Change.TheVariants.{One, Script}
+use Rattle.ubtool_cli.specs.declared.ask.RehearseAsk.{RehearseAsk}
+use Rattle.ubtool_cli.specs.declared.ask.UseError.{UseError}
+use Rattle.ubtool_cli.specs.declared.ask.UseError.TheVariants.{Line, NeedName, ScriptAndName}
+use Rattle.ubtool_cli.specs.declared.ask.UseError.TheVariants.{HeaderNeedsOne, Memory}
+use Rattle.ubtool_cli.specs.Asked.{Asked, Bounds, Rehearsal, asked_of, printing, setting}
+use Rattle.ubtool_cli.specs.Asked.{scripted, rehearsing, needs_name, script_and_name}
+use Rattle.ubtool_cli.specs.Asked.{header_needs_one}
+use Rattle.ubtool_cli.specs.CommandLine.{ubtool}
+
+abbrev pub bounds_of : BoundsAsk → Bounds
+bounds_of b = record { devices = b.devices; steps = b.steps }
+
+abbrev pub rehearsal_of : RehearseAsk → Rehearsal
+rehearsal_of r = record {
+  variable = string_bytes r.name;
+  bounds = bounds_of r.bounds;
+  after = option_map string_bytes r.after;
+  limit = r.limit;
+  names = map string_bytes r.names.items;
+}
+
+abbrev pub change_of : Text → Change → Bool → Asked
+change_of config (One name words) big_endian =
+    setting config (string_bytes name) (map string_bytes words.items) big_endian
+change_of config (Script file) big_endian = scripted config (string_bytes file) big_endian
+
+-- what the value asks for, where it is no help text
+abbrev pub meaning_of : Ask → Option Asked
+meaning_of (Print config header names big_endian) =
+    Some (printing (string_bytes config) header (map string_bytes names.items) big_endian)
+meaning_of (Setenv config change big_endian) =
+    Some (change_of (string_bytes config) change big_endian)
+meaning_of (Rehearse config list what big_endian) =
+    Some (rehearsing (string_bytes config) (string_bytes list) (rehearsal_of what) big_endian)
+meaning_of (Help text) = None
+
+-- what the words ask for, by the subcommand that `clap` finds in them and its entries
+abbrev pub asked : List Text → Option Asked
+asked words = option_and_then (λ s. asked_of s.0 s.1) (subcommand_of ubtool words)
+
+-- `clap` finds no fault in the words
+abbrev pub IsAccepted : List Text → Type 0
+IsAccepted words = fault_of ubtool words ≡ []
+
+-- `clap` refuses the words for some mistake, and not to show the help
+abbrev pub IsMistaken : List Text → Type 0
+IsMistaken words = (k : ErrorKind) × IsAmong k (fault_of ubtool words) × (k ≢ DisplayHelp)
+
+-- the answer to words. A line that is no mistake would come of an accepted `rehearse` without its
+-- device list or with a number out of its range, which `clap` accepts nowhere
+abbrev pub Answers : List Text → Result Ask UseError → Type 0
+Answers words (Ok (Help text)) = IsAmong DisplayHelp (fault_of ubtool words)
+Answers words (Ok ask) = IsAccepted words × (meaning_of ask ≡ asked words)
+Answers words (Err NeedName) = IsAccepted words × (Some needs_name ≡ asked words)
+Answers words (Err ScriptAndName) = IsAccepted words × (Some script_and_name ≡ asked words)
+Answers words (Err HeaderNeedsOne) = IsAccepted words × (Some header_needs_one ≡ asked words)
+Answers words (Err (Line text)) = IsMistaken words ⊎ (IsAccepted words × (None ≡ asked words))
+Answers words (Err Memory) = Unit {0}
+
+-- the answer says this, or memory ran out; a line says nothing
+abbrev pub Says : Option Asked → Result Ask UseError → Type 0
+Says a (Ok (Help text)) = ⊥
+Says a (Ok ask) = meaning_of ask ≡ a
+Says a (Err NeedName) = Some needs_name ≡ a
+Says a (Err ScriptAndName) = Some script_and_name ≡ a
+Says a (Err HeaderNeedsOne) = Some header_needs_one ≡ a
+Says a (Err (Line text)) = None ≡ a
+Says a (Err Memory) = Unit {0}
+
+-- a line, or want of memory
+abbrev pub IsUnread : UseError → Type 0
+IsUnread (Line text) = Unit {0}
+IsUnread Memory = Unit {0}
+IsUnread _ = ⊥
+
+-- the answer to an error of `clap`
+abbrev pub Reports : ErrorKind → Result Ask UseError → Type 0
+Reports k (Ok (Help text)) = k ≡ DisplayHelp
+Reports k (Err (Line text)) = (k ≢ DisplayHelp) × (k ≢ OutOfMemory)
+Reports k (Err Memory) = Unit {0}
+Reports k _ = ⊥

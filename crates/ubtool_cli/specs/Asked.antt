@@ -1,0 +1,132 @@
+-- What the words of a call ask for, from the subcommand and the entries that `clap` finds in them.
+-- What the options mean is ours; `printenv` and `setenv` follow fw_printenv and fw_setenv, and the
+-- configuration's default path is theirs (U-Boot, tools/env README).
+use Rattle.std.specs.Prelude.{◌==◌, ◌&&◌, ℕ, Bool, true, false, not, List, [], length}
+use Rattle.std.specs.Prelude.{Option, Some, None, codes, unwrap_or, option_map, ◌^◌}
+use Rattle.std.specs.Prelude.{option_and_then, if◌then◌else◌, nat_le, nat_lt}
+use Rattle.std.specs.Str.{bytes_eq}
+use Rattle.std.specs.Option.{option_map_or}
+use Rattle.std.specs.Str.Parse.{digits_value, without_leading_plus}
+use Rattle.clap.specs.Words.{Row, Text, all_of, first_of, one_of}
+use Rattle.clap.specs.ValueTests.{is_numeral}
+
+-- how far each run may go
+pub record Bounds : Type 0 where
+  pub devices : ℕ
+  pub steps : ℕ
+
+-- what a rehearsal is asked for
+pub record Rehearsal : Type 0 where
+  pub variable : Text
+  pub bounds : Bounds
+  pub after : Option Text
+  pub limit : Option ℕ
+  pub names : List Text
+
+-- what a call asks for, or which of the product's own refusals it meets
+pub data Asked : Type 0 where
+  printing : (config : Text) (header : Bool) (names : List Text) (big_endian : Bool) → Asked
+  setting : (config : Text) (name : Text) (words : List Text) (big_endian : Bool) → Asked
+  scripted : (config : Text) (script : Text) (big_endian : Bool) → Asked
+  rehearsing : (config : Text) (device_list : Text) (what : Rehearsal) (big_endian : Bool) → Asked
+  needs_name : Asked
+  script_and_name : Asked
+  header_needs_one : Asked
+
+-- ---- the entries of a subcommand
+
+-- the flag was given
+abbrev pub is_set : Text → List Row → Bool
+is_set flag rows = option_map_or (λ t. bytes_eq t (codes "true")) (first_of flag rows) false
+
+-- all the values of an argument
+abbrev pub values_of : Text → List Row → List Text
+values_of id rows = unwrap_or (all_of id rows) []
+
+-- the number below 2^32 that the text writes in decimal
+abbrev pub number_of : Text → Option ℕ
+number_of text =
+    let ds = without_leading_plus text in
+    if is_numeral ds && nat_lt (digits_value 10 ds) (2 ^ 32) then Some (digits_value 10 ds)
+    else None
+
+-- the number given, if any is; nothing where its text writes none
+abbrev pub number_given : Text → List Row → Option (Option ℕ)
+number_given id rows =
+    option_map_or (λ t. option_map (λ n. Some n) (number_of t)) (one_of id rows) (Some None)
+
+-- a number that was given lies from `least` to `most`
+abbrev pub is_within : ℕ → ℕ → Option ℕ → Bool
+is_within least most None = true
+is_within least most (Some n) = nat_le least n && nat_le n most
+
+-- the number given, if any is; nothing where it is none from `least` to `most`
+abbrev pub number_within : ℕ → ℕ → Text → List Row → Option (Option ℕ)
+number_within least most id rows =
+    option_and_then (λ given. if is_within least most given then Some given else None)
+    (number_given id rows)
+
+abbrev pub config_of : List Row → Text
+config_of rows = unwrap_or (first_of (codes "config") rows) (codes "/etc/fw_env.config")
+
+-- the CRC of the image is stored big-endian
+abbrev pub is_big_endian : List Row → Bool
+is_big_endian rows = is_set (codes "big-endian") rows
+
+-- ---- the three subcommands
+
+abbrev pub print_asked : List Row → Asked
+print_asked rows =
+    let names = values_of (codes "names") rows in
+    let no_header = is_set (codes "no-header") rows in
+    if no_header && not (length names == 1) then header_needs_one
+    else printing (config_of rows) (not no_header) names (is_big_endian rows)
+
+-- from the script and the name that were given
+abbrev pub change_asked : Option Text → Option Text → List Row → Asked
+change_asked (Some script) None rows =
+    scripted (config_of rows) script (is_big_endian rows)
+change_asked (Some script) (Some name) rows = script_and_name
+change_asked None (Some name) rows = setting (config_of rows) name
+    (values_of (codes "values") rows) (is_big_endian rows)
+change_asked None None rows = needs_name
+
+abbrev pub set_asked : List Row → Asked
+set_asked rows =
+    change_asked (first_of (codes "script") rows) (first_of (codes "name") rows) rows
+
+abbrev pub variable_of : List Row → Text
+variable_of rows = unwrap_or (first_of (codes "variable") rows) (codes "bootcmd")
+
+-- 0 to 32 device commands and 0 to 1,000,000 steps; 16 and 10,000 where nothing is said
+abbrev pub bounds_asked : List Row → Option Bounds
+bounds_asked rows =
+    option_and_then (λ devices. option_map (λ steps.
+    record { devices = unwrap_or devices 16; steps = unwrap_or steps 10000 })
+    (number_within 0 1000000 (codes "steps") rows))
+    (number_within 0 32 (codes "devices") rows)
+
+-- with a device list, bounds and a limit that can be read
+abbrev pub rehearsal_with : Option Text → Option Bounds → Option (Option ℕ) → List Row
+    → Option Asked
+rehearsal_with (Some device_list) (Some bounds) (Some limit) rows =
+    Some (rehearsing (config_of rows) device_list (record {
+      variable = variable_of rows;
+      bounds = bounds;
+      after = first_of (codes "after") rows;
+      limit = limit;
+      names = values_of (codes "names") rows;
+    }) (is_big_endian rows))
+rehearsal_with _ _ _ rows = None
+
+-- the limit is at least 1
+abbrev pub rehearse_asked : List Row → Option Asked
+rehearse_asked rows = rehearsal_with (first_of (codes "device-list") rows) (bounds_asked rows)
+    (number_within 1 4294967295 (codes "limit") rows) rows
+
+-- what the entries of the subcommand of this name ask for
+abbrev pub asked_of : Text → List Row → Option Asked
+asked_of name rows =
+    if bytes_eq name (codes "printenv") then Some (print_asked rows)
+    else (if bytes_eq name (codes "setenv") then Some (set_asked rows)
+    else (if bytes_eq name (codes "rehearse") then rehearse_asked rows else None))

@@ -1,0 +1,117 @@
+//! What a call asks for, and why its words are refused.
+ghost use Rattle.std.specs.Prelude.{◌≤◌, ◌<◌};
+ghost use Rattle.std.specs.Option.{ForSome};
+
+use thiserror::Error;
+
+/// The configuration that is read where a call names none.
+pub const DEFAULT_CONFIG: &str = "/etc/fw_env.config";
+
+/// The variable that is rehearsed where a call names none.
+pub const DEFAULT_VARIABLE: &str = "bootcmd";
+
+/// The most device commands that a rehearsal may allow in one run.
+pub const MOST_DEVICES: u32 = 32;
+
+/// The device commands that a run may have where a call sets no bound.
+pub const DEFAULT_DEVICES: u32 = 16;
+
+/// The most steps that a rehearsal may allow in one run.
+pub const MOST_STEPS: u32 = 1_000_000;
+
+/// The steps that a run may have where a call sets no bound.
+pub const DEFAULT_STEPS: u32 = 10_000;
+
+/// How far each run of a rehearsal may go, in device commands and in steps.
+#[derive(Clone, Copy, Debug, PartialEq, Eq)]
+pub struct BoundsAsk {
+    /// The most device commands of one run.
+    pub devices: u32,
+    /// The most steps of one run. A step is one simple command, assignment or `for` that is begun.
+    pub steps: u32,
+    pub ghost devices_within: { devices ≤ 32 },
+    pub ghost steps_within: { steps ≤ 1000000 },
+}
+
+/// What the words of a call ask for.
+#[derive(Debug, Drop)]
+pub enum Ask {
+    /// To print variables.
+    Print {
+        /// The path of the configuration.
+        config: String,
+        /// Whether `NAME=` is printed before a value. Without it, `names` is one name.
+        header: bool,
+        /// The variables to print, in this order; none for all.
+        names: Vec<String>,
+        /// Whether the image's CRC is stored big-endian.
+        big_endian: bool,
+    },
+    /// To set or delete variables.
+    Setenv {
+        /// The path of the configuration.
+        config: String,
+        /// What to change.
+        change: Change,
+        /// Whether the image's CRC is stored big-endian.
+        big_endian: bool,
+    },
+    /// To list the runs of a boot script.
+    Rehearse {
+        /// The path of the configuration.
+        config: String,
+        /// The path of the device list.
+        devices_file: String,
+        /// What to list.
+        what: RehearseAsk,
+        /// Whether the image's CRC is stored big-endian.
+        big_endian: bool,
+    },
+    /// To read the help, which this text is.
+    Help(String),
+}
+
+/// What `setenv` is to change.
+#[derive(Debug, Drop)]
+pub enum Change {
+    /// The variable `name` becomes the words joined by one space; no word deletes it.
+    One { name: String, words: Vec<String> },
+    /// The changes stand in the script at this path.
+    Script(String),
+}
+
+/// What `rehearse` is to list.
+#[derive(Debug, Drop)]
+pub struct RehearseAsk {
+    /// The variable whose text is run.
+    pub name: String,
+    /// How far each run may go.
+    pub bounds: BoundsAsk,
+    /// The listing begins after the run of this word, as a listing prints it: `.` is the empty one.
+    pub after: Option<String>,
+    /// The most records to list.
+    pub limit: Option<u32>,
+    /// The variables to list after each run, in this order; none for all.
+    pub names: Vec<String>,
+    pub ghost limit_above_zero: { ForSome limit (λ n. 0 < n) },
+}
+
+/// Why the words of a call are refused.
+#[derive(Debug, Drop, Error)]
+pub enum UseError {
+    /// `clap` refuses the words. The text is its message, with its line ends.
+    #[error("{0}")]
+    Line(String),
+    /// `setenv` is given neither a name nor a script.
+    #[error("setenv needs a NAME")]
+    NeedName,
+    /// `setenv` is given a script and a name.
+    #[error("-s takes no NAME")]
+    ScriptAndName,
+    /// `printenv -n` is given no name, or several.
+    #[error("-n takes exactly one NAME")]
+    HeaderNeedsOne,
+    /// A growth was refused.
+    #[error("out of memory")]
+    Memory,
+}

@@ -1,0 +1,249 @@
+//! The command line that `clap` is given.
+ghost use Rattle.std.specs.Prelude.{◌≡◌, IfOk, false};
+ghost use Rattle.clap.specs.Words.{rule_of};
+ghost use Rattle.ubtool_cli.specs.CommandLine.{device_list, long_flag, long_option, many, number_option, one, printenv, rehearse, rehearse_options, setenv, short_flag, short_option, subcommand, ubtool};
+ghost use Rattle.ubtool_cli.specs.Made.{IsMade};
+
+use crate::ask::{MOST_DEVICES, MOST_STEPS};
+use clap::builder::ValueParser;
+use clap::{Arg, ArgAction, Command};
+use std::alloc::{AllocError, Global};
+
+const UBTOOL_NOTES: &str = "\
+Without words, one image is read from standard input, and all its variables
+are printed. Words that begin with - come after --, as in 'printenv -- -x'.
+
+The status is 0 when all is done, 1 when something is refused or a variable is
+missing, and 2 when the words are wrong.
+
+Examples:
+  ubtool printenv bootcmd
+  ubtool setenv bootdelay 3
+  ubtool rehearse -d devices.txt
+  ubtool < env.img
+
+'ubtool printenv --help' and its like tell more.
+";
+
+const PRINTENV_NOTES: &str = "\
+Each variable is printed as NAME=VALUE, on a line of its own. A missing one is
+reported on standard error, and the status is then 1.
+
+A line of the configuration is 'device offset size': one line for a single
+image, two for the copies of a redundant pair. Offset and size are bytes. The
+offset is decimal, hexadecimal after 0x or octal after 0; the size is
+hexadecimal, at most 100000 (1048576 bytes).
+
+Examples:
+  ubtool printenv
+  ubtool printenv bootcmd bootdelay
+  ubtool printenv -n serverip
+  ubtool printenv -c fw_env.config --big-endian
+";
+
+const SETENV_NOTES: &str = "\
+The VALUEs are joined by one space. A single image is written in place. Of a
+redundant pair the copy that is not current is written, and becomes current.
+
+A line of a script is 'NAME VALUE', or 'NAME' alone to delete the variable.
+Lines that begin with # are skipped. A script has at most 1048576 bytes.
+
+Examples:
+  ubtool setenv bootdelay 3
+  ubtool setenv bootargs console=ttyS0,115200 root=/dev/mmcblk0p2
+  ubtool setenv -c fw_env.config bootdelay
+  ubtool setenv -s changes.txt
+";
+
+const REHEARSE_NOTES: &str = "\
+Each way that the device commands can succeed or fail is a run, and each run is
+listed once, success before failure. A run's word has a digit for each device
+command: 0 where it succeeds, 1 where it fails. A run that meets a bound is
+listed as cut. The image is read and never written.
+
+A line of the device list is 'NAME', 'NAME VAR=VALUE' for a command that sets
+variables when it succeeds, or 'final NAME' for one that boots and so ends the
+run. Lines that begin with # are skipped.
+
+Examples:
+  ubtool rehearse -d devices.txt
+  ubtool rehearse -d devices.txt -b altbootcmd bootargs fdtfile
+  ubtool rehearse -d devices.txt --devices 8 --steps 1000
+  ubtool rehearse -d devices.txt --limit 20 --after 0110
+";
+
+fn short_option<'a>(alloc: Global, id: &'a str, letter: char, value: &'a str) -> Arg<'a>
+    ensures rule { rule_of result ≡ short_option id.entry.now letter }
+    ensures local { result.global ≡ false }
+{
+    Arg::new(alloc, id).short(letter).value_name(value)
+}
+
+fn long_option<'a>(alloc: Global, id: &'a str, value: &'a str) -> Arg<'a>
+    ensures rule { rule_of result ≡ long_option id.entry.now }
+    ensures local { result.global ≡ false }
+{
+    Arg::new(alloc, id).long(id).value_name(value)
+}
+
+fn number_option<'a>(alloc: Global, id: &'a str, least: u32, most: u32) -> Arg<'a>
+    ensures rule { rule_of result ≡ number_option id.entry.now least most }
+    ensures local { result.global ≡ false }
+{
+    let range = ValueParser::signed(i64::from(least), i64::from(most));
+    long_option(alloc, id, "N").value_parser(range)
+}
+
+fn long_flag<'a>(alloc: Global, id: &'a str) -> Arg<'a>
+    ensures rule { rule_of result ≡ long_flag id.entry.now }
+    ensures local { result.global ≡ false }
+{
+    Arg::new(alloc, id).long(id).action(ArgAction::SetTrue)
+}
+
+fn short_flag<'a>(alloc: Global, id: &'a str, letter: char) -> Arg<'a>
+    ensures rule { rule_of result ≡ short_flag id.entry.now letter }
+    ensures local { result.global ≡ false }
+{
+    Arg::new(alloc, id).short(letter).action(ArgAction::SetTrue)
+}
+
+fn one<'a>(alloc: Global, id: &'a str, value: &'a str) -> Arg<'a>
+    ensures rule { rule_of result ≡ one id.entry.now }
+    ensures local { result.global ≡ false }
+{
+    Arg::new(alloc, id).value_name(value)
+}
+
+fn many<'a>(alloc: Global, id: &'a str, value: &'a str) -> Arg<'a>
+    ensures rule { rule_of result ≡ many id.entry.now }
+    ensures local { result.global ≡ false }
+{
+    one(alloc, id, value).action(ArgAction::Append)
+}
+
+/// A subcommand, with the two options that all of them have.
+fn subcommand<'a>(
+    alloc: Global,
+    name: &'a str,
+    about: &'a str,
+    notes: &'a str,
+) -> Result<Command<'a>, AllocError>
+    ensures { IfOk result (IsMade (subcommand name.entry.now)) }
+{
+    let config = short_option(alloc, "config", 'c', "FILE").help(
+        "Configuration, at most 1048576 bytes [default: /etc/fw_env.config]",
+    );
+    let order = long_flag(alloc, "big-endian").help(
+        "The CRC is stored big-endian [default: little-endian]",
+    );
+    Command::new(alloc, name)
+        .about(about)
+        .after_help(notes)
+        .arg(config)?
+        .arg(order)
+}
+
+fn printenv<'a>(alloc: Global) -> Result<Command<'a>, AllocError>
+    ensures { IfOk result (IsMade printenv) }
+{
+    let no_header = short_flag(alloc, "no-header", 'n').help(
+        "Print the value alone, of exactly one NAME [default: NAME=VALUE]",
+    );
+    let names = many(alloc, "names", "NAME").help(
+        "Variables to print, in this order [default: all of the image]",
+    );
+    subcommand(
+        alloc,
+        "printenv",
+        "Print variables of the environment",
+        PRINTENV_NOTES,
+    )?
+    .arg(no_header)?
+    .arg(names)
+}
+
+fn setenv<'a>(alloc: Global) -> Result<Command<'a>, AllocError>
+    ensures { IfOk result (IsMade setenv) }
+{
+    let script = short_option(alloc, "script", 's', "FILE").help(
+        "Script of changes, at most 1048576 bytes [default: none, NAME instead]",
+    );
+    let name = one(alloc, "name", "NAME").help("Variable to set or delete");
+    let values = many(alloc, "values", "VALUE").help(
+        "Its new value [default: delete the variable]",
+    );
+    subcommand(
+        alloc,
+        "setenv",
+        "Set or delete variables of the environment",
+        SETENV_NOTES,
+    )?
+    .arg(script)?
+    .arg(name)?
+    .arg(values)
+}
+
+fn device_list<'a>(alloc: Global) -> Arg<'a>
+    ensures rule { rule_of result ≡ device_list }
+    ensures local { result.global ≡ false }
+{
+    short_option(alloc, "device-list", 'd', "FILE")
+        .required(true)
+        .help("Device list, at most 1048576 bytes: a command that may fail a line; required")
+}
+
+fn rehearse_options<'a>(alloc: Global) -> Result<Command<'a>, AllocError>
+    ensures { IfOk result (IsMade rehearse_options) }
+{
+    let variable = short_option(alloc, "variable", 'b', "NAME").help(
+        "Variable whose text is run [default: bootcmd]",
+    );
+    let devices = number_option(alloc, "devices", 0, MOST_DEVICES).help(
+        "At most N device commands a run, 0 to 32 [default: 16]",
+    );
+    let steps = number_option(alloc, "steps", 0, MOST_STEPS).help(
+        "At most N steps (commands begun) a run, 0 to 1000000 [default: 10000]",
+    );
+    subcommand(
+        alloc,
+        "rehearse",
+        "List every run of a boot script",
+        REHEARSE_NOTES,
+    )?
+    .arg(device_list(alloc))?
+    .arg(variable)?
+    .arg(devices)?
+    .arg(steps)
+}
+
+fn rehearse<'a>(alloc: Global) -> Result<Command<'a>, AllocError>
+    ensures { IfOk result (IsMade rehearse) }
+{
+    let after = long_option(alloc, "after", "WORD").help(
+        "Begin after the run of WORD, . for the empty one [default: the first]",
+    );
+    let limit = number_option(alloc, "limit", 1, u32::MAX).help(
+        "At most N records, 1 to 4294967295 [default: all]",
+    );
+    let names = many(alloc, "names", "NAME").help(
+        "Variables to list after each run, in this order [default: all]",
+    );
+    rehearse_options(alloc)?.arg(after)?.arg(limit)?.arg(names)
+}
+
+/// The program's command line.
+pub(crate) fn ubtool<'a>(alloc: Global) -> Result<Command<'a>, AllocError>
+    ensures { IfOk result (IsMade ubtool) }
+{
+    Command::new(alloc, "ubtool")
+        .about("Print and change U-Boot environments, and rehearse their boot scripts")
+        .after_help(UBTOOL_NOTES)
+        .bin_name("ubtool")?
+        .no_binary_name(true)
+        .subcommand_required(true)
+        .disable_help_subcommand(true)
+        .subcommand(printenv(alloc)?)?
+        .subcommand(setenv(alloc)?)?
+        .subcommand(rehearse(alloc)?)
+}

@@ -1,0 +1,228 @@
+//! Reading the words.
+ghost use Rattle.std.specs.Prelude.{◌≡◌, ◌≤◌, Some, None, IfOk, IfSome, map, option_map, option_and_then, string_bytes};
+ghost use Rattle.clap.specs.Words.{first_of, found_of, kind_of, rows_of, subcommand_rows_of};
+ghost use Rattle.ubtool_cli.specs.Asked.{asked_of, bounds_asked, config_of, is_big_endian, is_set, number_given, number_within, print_asked, rehearse_asked, set_asked, values_of, variable_of};
+ghost use Rattle.ubtool_cli.specs.declared.ask.UseError.TheVariants.{Memory};
+ghost use Rattle.ubtool_cli.specs.Answers.{Answers, bounds_of, IsUnread, Reports, Says};
+
+use crate::ask::{
+    Ask, BoundsAsk, Change, DEFAULT_CONFIG, DEFAULT_DEVICES, DEFAULT_STEPS, DEFAULT_VARIABLE,
+    MOST_DEVICES, MOST_STEPS, RehearseAsk, UseError,
+};
+use crate::command::ubtool;
+use clap::ArgMatches;
+use clap::error::ErrorKind;
+use std::alloc::{AllocError, Global};
+use std::convert::AsStr;
+
+impl From<AllocError> for UseError {
+    ghost from_gives = { λ _ e. e ≡ Memory };
+
+    fn from(_error: AllocError) -> UseError {
+        UseError::Memory
+    }
+}
+
+// ---- the entries of a subcommand
+
+/// The value of an argument, if it has one.
+fn text_of(alloc: Global, matches: &ArgMatches<'_>, id: &str) -> Result<Option<String>, AllocError>
+    ensures { IfOk result (λ t. option_map string_bytes t
+        ≡ first_of id.now (rows_of (found_of matches.now))) }
+{
+    match matches.get_str(id) {
+        Some(text) => Ok(Some(String::from_str(alloc, text)?)),
+        None => Ok(None),
+    }
+}
+
+/// All the values of an argument, in their order.
+fn texts_of(alloc: Global, matches: &ArgMatches<'_>, id: &str) -> Result<Vec<String>, AllocError>
+    ensures { IfOk result (λ v. map string_bytes v.items
+        ≡ values_of id.now (rows_of (found_of matches.now))) }
+{
+    let mut texts = Vec::new(alloc);
+    let values = matches.get_strs(id).unwrap_or(&[]);
+    for value in values {
+        texts.push(String::from_str(alloc, value)?)?;
+    }
+    Ok(texts)
+}
+
+/// Whether the flag was given.
+fn is_set(matches: &ArgMatches<'_>, flag: &str) -> bool
+    ensures { result ≡ is_set flag.now (rows_of (found_of matches.now)) }
+{
+    match matches.get_str(flag) {
+        Some(text) => text == "true",
+        None => false,
+    }
+}
+
+/// The number given, if any is; nothing where its text writes none.
+fn number_given(matches: &ArgMatches<'_>, id: &str) -> Option<Option<u32>>
+    ensures { result ≡ number_given id.now (rows_of (found_of matches.now)) }
+{
+    matches.try_get_one::<u32>(id).ok()
+}
+
+/// The number given, if any is; nothing where it is none from `least` to `most`.
+fn number_within(matches: &ArgMatches<'_>, id: &str, least: u32, most: u32) -> Option<Option<u32>>
+    ensures value { result ≡ number_within least most id.now (rows_of (found_of matches.now)) }
+    ensures within { IfSome result (λ given. IfSome given (λ n. (least ≤ n) × (n ≤ most))) }
+{
+    match number_given(matches, id)? {
+        Some(number) if number < least || most < number => None,
+        given => Some(given),
+    }
+}
+
+/// The path of the configuration.
+fn config_of(alloc: Global, matches: &ArgMatches<'_>) -> Result<String, AllocError>
+    ensures { IfOk result (λ t. string_bytes t ≡ config_of (rows_of (found_of matches.now))) }
+{
+    match text_of(alloc, matches, "config")? {
+        Some(config) => Ok(config),
+        None => String::from_str(alloc, DEFAULT_CONFIG),
+    }
+}
+
+/// Whether the CRC of the image is stored big-endian.
+fn is_big_endian(matches: &ArgMatches<'_>) -> bool
+    ensures { result ≡ is_big_endian (rows_of (found_of matches.now)) }
+{
+    is_set(matches, "big-endian")
+}
+
+// ---- the three subcommands
+
+fn print_ask(alloc: Global, matches: &ArgMatches<'_>) -> Result<Ask, UseError>
+    ensures { Says (Some (print_asked (rows_of (found_of matches.now)))) result }
+{
+    let names = texts_of(alloc, matches, "names")?;
+    let no_header = is_set(matches, "no-header");
+    if no_header && names.len() != 1 {
+        return Err(UseError::HeaderNeedsOne);
+    }
+    Ok(Ask::Print {
+        config: config_of(alloc, matches)?,
+        header: !no_header,
+        names,
+        big_endian: is_big_endian(matches),
+    })
+}
+
+fn set_ask(alloc: Global, matches: &ArgMatches<'_>) -> Result<Ask, UseError>
+    ensures { Says (Some (set_asked (rows_of (found_of matches.now)))) result }
+{
+    let script = text_of(alloc, matches, "script")?;
+    let name = text_of(alloc, matches, "name")?;
+    let change = match (script, name) {
+        (Some(script), None) => Change::Script(script),
+        (None, Some(name)) => Change::One {
+            name,
+            words: texts_of(alloc, matches, "values")?,
+        },
+        (Some(_), Some(_)) => return Err(UseError::ScriptAndName),
+        (None, None) => return Err(UseError::NeedName),
+    };
+    Ok(Ask::Setenv {
+        config: config_of(alloc, matches)?,
+        change,
+        big_endian: is_big_endian(matches),
+    })
+}
+
+/// What `clap` lets through nowhere: an argument is missing that the command line requires, or a
+/// value is out of its range.
+fn unread(alloc: Global) -> UseError
+    ensures { IsUnread result }
+{
+    match String::from_str(alloc, "error: the words cannot be read\n") {
+        Ok(text) => UseError::Line(text),
+        Err(_) => UseError::Memory,
+    }
+}
+
+fn variable_of(alloc: Global, matches: &ArgMatches<'_>) -> Result<String, AllocError>
+    ensures { IfOk result (λ t. string_bytes t ≡ variable_of (rows_of (found_of matches.now))) }
+{
+    match text_of(alloc, matches, "variable")? {
+        Some(name) => Ok(name),
+        None => String::from_str(alloc, DEFAULT_VARIABLE),
+    }
+}
+
+/// The two bounds; nothing where one is out of its range.
+fn bounds_of(matches: &ArgMatches<'_>) -> Option<BoundsAsk>
+    ensures { option_map bounds_of result ≡ bounds_asked (rows_of (found_of matches.now)) }
+{
+    let devices = number_within(matches, "devices", 0, MOST_DEVICES)?;
+    let steps = number_within(matches, "steps", 0, MOST_STEPS)?;
+    Some(BoundsAsk {
+        devices: devices.unwrap_or(DEFAULT_DEVICES),
+        steps: steps.unwrap_or(DEFAULT_STEPS),
+    })
+}
+
+fn rehearse_ask(alloc: Global, matches: &ArgMatches<'_>) -> Result<Ask, UseError>
+    ensures { Says (rehearse_asked (rows_of (found_of matches.now))) result }
+{
+    let list = text_of(alloc, matches, "device-list")?;
+    let bounds = bounds_of(matches);
+    let limit = number_within(matches, "limit", 1, u32::MAX);
+    let (Some(devices_file), Some(bounds), Some(limit)) = (list, bounds, limit) else {
+        return Err(unread(alloc));
+    };
+    Ok(Ask::Rehearse {
+        config: config_of(alloc, matches)?,
+        devices_file,
+        what: RehearseAsk {
+            name: variable_of(alloc, matches)?,
+            bounds,
+            after: text_of(alloc, matches, "after")?,
+            limit,
+            names: texts_of(alloc, matches, "names")?,
+        },
+        big_endian: is_big_endian(matches),
+    })
+}
+
+fn ask_of(alloc: Global, matches: &ArgMatches<'_>) -> Result<Ask, UseError>
+    ensures { Says (option_and_then (λ s. asked_of s.0 s.1) (subcommand_rows_of matches.now)) result }
+{
+    let Some((name, entries)) = matches.subcommand() else {
+        return Err(unread(alloc));
+    };
+    match name {
+        "printenv" => print_ask(alloc, entries),
+        "setenv" => set_ask(alloc, entries),
+        "rehearse" => rehearse_ask(alloc, entries),
+        _ => Err(unread(alloc)),
+    }
+}
+
+/// The answer where `clap` refuses the words, or shows its help.
+fn report(alloc: Global, error: &clap::Error) -> Result<Ask, UseError>
+    ensures { Reports (kind_of error.now) result }
+{
+    match error.kind() {
+        ErrorKind::OutOfMemory => Err(UseError::Memory),
+        ErrorKind::DisplayHelp => Ok(Ask::Help(error.to_string(alloc)?)),
+        _ => Err(UseError::Line(error.to_string(alloc)?)),
+    }
+}
+
+/// Reads the words after the program's name.
+///
+/// Refusals of `clap`, each a `Line`, come first. Then `setenv` refuses to have no name (`NeedName`) or
+/// a script and a name (`ScriptAndName`), and `printenv -n` any number of names but one
+/// (`HeaderNeedsOne`).
+pub fn read_command<S: AsStr>(alloc: Global, words: &[S]) -> Result<Ask, UseError>
+    ensures { Answers (map S.text words.now) result }
+{
+    match ubtool(alloc)?.try_get_matches_from(words) {
+        Ok(matches) => ask_of(alloc, &matches),
+        Err(error) => report(alloc, &error),
+    }
+}

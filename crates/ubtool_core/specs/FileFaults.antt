@@ -1,0 +1,26 @@
+-- What the fault of a call on files is told as. The texts are ours.
+use Rattle.std.specs.Prelude.{String}
+use Rattle.std.specs.declared.alloc.Global.{Global}
+use Rattle.ubtool_core.specs.declared.fault.Fault.{Fault}
+use Rattle.ubtool_core.specs.declared.fault.Fault.TheVariants as told
+use Rattle.ubtool_core.specs.declared.files.FileFault.{FileFault}
+use Rattle.ubtool_core.specs.declared.files.FileFault.TheVariants.{Failed, Short, TooLong, Memory}
+use Rattle.ubtool_core.specs.declared.word_form.WordForm.{WordForm}
+
+-- a path as it is printed
+abbrev pub path_form : String Global → WordForm
+path_form path = record { 0 = path }
+
+-- of a read of the file at the path
+abbrev pub read_fault : WordForm → FileFault → Fault
+read_fault path Failed = told.CannotRead path
+read_fault path Short = told.FileShort path
+read_fault path TooLong = told.FileTooLong path
+read_fault path Memory = told.Memory
+
+-- of a write
+abbrev pub written_fault : WordForm → FileFault → Fault
+written_fault path Failed = told.CannotWrite path
+written_fault path Short = told.FileShort path
+written_fault path TooLong = told.FileTooLong path
+written_fault path Memory = told.Memory
