@@ -1,0 +1,235 @@
+-- Tables of variables: what a change of one place does to the variables.
+use Rattle.std.proofs.Common.{◌≡◌, ℕ, Bool, true, false, cond, List, [], ◌∷◌, Option, Some, None, is_some, refl, sym, ap, subst, ◌∙◌, length, arith}
+use Rattle.std.specs.FinMap.{IsAntisymmetric, nat_cmp-IsAntisymmetric, slice_cmp-IsAntisymmetric, get, get-insert, get-remove, get-empty, same_map, entries, entries-insert, len-entries, len-empty, put}
+use Rattle.std.specs.declared.cmp.Ordering.{Ordering}
+use Rattle.std.specs.declared.cmp.Ordering.TheVariants.{Less, Equal, Greater}
+use Rattle.std.specs.Ordering.{nat_cmp, is_eq, eq_by_cmp, match_ordering}
+use Rattle.std.specs.Cmp.{eq_by_cmp_equiv}
+use Rattle.std.proofs.lemmas.Cmp.{nat_list_cmp_total}
+use Rattle.std.specs.Cmp.Lexicographic.{slice_cmp}
+use Rattle.std.specs.Map.{lookup, set_value, keys_of}
+use Rattle.std.specs.List.{AllZip, AllByRecursion}
+use Rattle.std.specs.List.Sorted.{IsStrictlySortedBy}
+use Rattle.std.proofs.lemmas.List.Elements.{same_from_all_zip}
+use Rattle.std.specs.BTreeMap.{insert_entry}
+use Rattle.std.specs.declared.alloc.Global.{Global}
+use Rattle.std.specs.declared.vec.Vec.{Vec}
+use Rattle.std.specs.List.{slice_get}
+use Rattle.std.proofs.Common.{drop, drop-cons, suc, ◌+◌, add-one}
+use Rattle.std.proofs.lemmas.Option.{slice_get_within, get_or_from_slice_get}
+use Rattle.bootstore.specs.Moment.{Bytes, Variables, option_items, bytes_of_words, set_in_turn}
+use Rattle.bootstore.specs.Record.{assigned}
+use Rattle.bootstore.specs.Slots.{Slot, live}
+use Rattle.bootstore.specs.Table.{slot_variables, is_name}
+
+abbrev by_bytes : Bytes → Bytes → Ordering
+by_bytes = slice_cmp nat_cmp
+
+exact : IsAntisymmetric by_bytes
+exact = slice_cmp-IsAntisymmetric nat_cmp-IsAntisymmetric
+
+equal_of : (r : Ordering) → is_eq r ≡ true → r ≡ Equal
+equal_of Less e = cc
+equal_of Equal e = refl
+equal_of Greater e = cc
+
+-- names that compare alike are one
+same_name : (p q : Bytes) → eq_by_cmp by_bytes p q ≡ true → p ≡ q
+same_name p q e = exact p q (equal_of _ e)
+
+compares_equal : (p q : Bytes) → p ≡ q → is_eq (by_bytes p q) ≡ true
+compares_equal p q e = subst (λ r. is_eq (by_bytes p r) ≡ true) e ((eq_by_cmp_equiv nat_list_cmp_total).refl p)
+
+pub get-assigned : (m : Variables) (k : Bytes) (o : Option Bytes) (q : Bytes) → get (assigned m k o) q ≡ cond (eq_by_cmp by_bytes q k) o (get m q)
+get-assigned m k None q = get-remove nat_list_cmp_total m k q
+get-assigned m k (Some v) q = get-insert nat_list_cmp_total m k v q
+
+over : {X : Type 0} (b : Bool) (p o g h : X) → h ≡ cond b o g → cond b p h ≡ cond b p g
+over true p o g h e = refl
+over false p o g h e = e
+
+swapped : {X : Type 0} (a b : Bool) (o p g : X) → (a ≡ true → b ≡ true → ⊥) → cond a o (cond b p g) ≡ cond b p (cond a o g)
+swapped true true o p g apart = absurd (apart refl refl)
+swapped true false o p g apart = refl
+swapped false true o p g apart = refl
+swapped false false o p g apart = refl
+
+alike : (m n : Variables) → ((q : Bytes) → get m q ≡ get n q) → m ≡ n
+alike m n h = same_map nat_list_cmp_total exact m n h
+
+-- of two values for a name the later one stays
+pub assigned-again : (m : Variables) (k : Bytes) (o p : Option Bytes) → assigned (assigned m k o) k p ≡ assigned m k p
+assigned-again m k o p = alike _ _ (λ q. get-assigned (assigned m k o) k p q ∙ over (eq_by_cmp by_bytes q k) p o (get m q) _ (get-assigned m k o q) ∙ sym (get-assigned m k p q))
+
+-- values of two names are set in any order
+pub assigned-swap : (m : Variables) (k j : Bytes) (o p : Option Bytes) → (k ≡ j → ⊥) → assigned (assigned m j p) k o ≡ assigned (assigned m k o) j p
+assigned-swap m k j o p apart = alike _ _ (λ q.
+    get-assigned (assigned m j p) k o q ∙ ap (cond (eq_by_cmp by_bytes q k) o) (get-assigned m j p q)
+    ∙ swapped (eq_by_cmp by_bytes q k) (eq_by_cmp by_bytes q j) o p (get m q) (λ a b. apart (sym (same_name q k a) ∙ same_name q j b))
+    ∙ sym (get-assigned (assigned m k o) j p q ∙ ap (cond (eq_by_cmp by_bytes q j) p) (get-assigned m k o q)))
+
+-- to give a name the value that it has changes nothing
+pub assigned-same : (m : Variables) (k : Bytes) (o : Option Bytes) → get m k ≡ o → assigned m k o ≡ m
+assigned-same m k o e = alike _ _ (λ q. get-assigned m k o q ∙ kept (eq_by_cmp by_bytes q k) q refl)
+  where
+    kept : (b : Bool) (q : Bytes) → eq_by_cmp by_bytes q k ≡ b → cond b o (get m q) ≡ get m q
+    kept true q t = sym (ap (get m) (same_name q k t) ∙ e)
+    kept false q t = refl
+
+-- the value at a place that was found
+abbrev pub slot_value : Option (Option (Vec ℕ Global)) → Option Bytes
+slot_value None = None
+slot_value (Some o) = option_items o
+
+pub get-slot_variables : (es : List Slot) (q : Bytes) → get (slot_variables es) q ≡ slot_value (lookup (is_name q) es)
+get-slot_variables [] q = get-empty by_bytes q
+get-slot_variables (e ∷ es) q = get-assigned (slot_variables es) e.0.items (option_items e.1) q ∙ ap (cond (is_name q e.0) (option_items e.1)) (get-slot_variables es q) ∙ chosen (is_name q e.0)
+  where
+    chosen : (b : Bool) → cond b (option_items e.1) (slot_value (lookup (is_name q) es)) ≡ slot_value (cond b (Some e.1) (lookup (is_name q) es))
+    chosen true = refl
+    chosen false = refl
+
+-- a value written at a place that is there is set
+pub variables-set_value : (es : List Slot) (name : Bytes) (w : Option (Vec ℕ Global)) → is_some (lookup (is_name name) es) ≡ true → slot_variables (set_value (is_name name) es w) ≡ assigned (slot_variables es) name (option_items w)
+variables-set_value [] name w there = cc
+variables-set_value (e ∷ es) name w there = at (variables-set_value es name w) (is_name name e.0) refl there
+  where
+    at : (is_some (lookup (is_name name) es) ≡ true → slot_variables (set_value (is_name name) es w) ≡ assigned (slot_variables es) name (option_items w)) → (b : Bool) → is_name name e.0 ≡ b → is_some (cond b (Some e.1) (lookup (is_name name) es)) ≡ true
+        → slot_variables (cond b ((e.0, w) ∷ es) (e ∷ set_value (is_name name) es w)) ≡ assigned (slot_variables (e ∷ es)) name (option_items w)
+    at rest true t h =
+        let same : name ≡ e.0.items = same_name name e.0.items t in
+        subst (λ n. assigned (slot_variables es) e.0.items (option_items w) ≡ assigned (slot_variables (e ∷ es)) n (option_items w)) (sym same)
+        (sym (assigned-again (slot_variables es) e.0.items (option_items e.1) (option_items w)))
+    at rest false t h = ap (λ m. assigned m e.0.items (option_items e.1)) (rest h)
+        ∙ sym (assigned-swap (slot_variables es) name e.0.items (option_items w) (option_items e.1) (λ s. let alike = compares_equal name e.0.items s in cc))
+
+-- the keys' order
+abbrev pub key_cmp : Vec ℕ Global → Vec ℕ Global → Ordering
+key_cmp x y = by_bytes x.items y.items
+
+pub variables-insert_entry : (es : List Slot) (k : Vec ℕ Global) (w : Option (Vec ℕ Global)) → slot_variables (insert_entry key_cmp es k w) ≡ assigned (slot_variables es) k.items (option_items w)
+variables-insert_entry [] k w = refl
+variables-insert_entry (e ∷ es) k w = at (variables-insert_entry es k w) (key_cmp k e.0) refl
+  where
+    at : slot_variables (insert_entry key_cmp es k w) ≡ assigned (slot_variables es) k.items (option_items w) → (r : Ordering) → key_cmp k e.0 ≡ r
+        → slot_variables (match_ordering r ((k, w) ∷ e ∷ es) ((e.0, w) ∷ es) (e ∷ insert_entry key_cmp es k w)) ≡ assigned (slot_variables (e ∷ es)) k.items (option_items w)
+    at rest Less t = refl
+    at rest Equal t = subst (λ n. assigned (slot_variables es) e.0.items (option_items w) ≡ assigned (slot_variables (e ∷ es)) n (option_items w)) (sym (exact k.items e.0.items t))
+        (sym (assigned-again (slot_variables es) e.0.items (option_items e.1) (option_items w)))
+    at rest Greater t = ap (λ m. assigned m e.0.items (option_items e.1)) rest
+        ∙ sym (assigned-swap (slot_variables es) k.items e.0.items (option_items w) (option_items e.1) (λ s. let alike = equal_of _ (compares_equal k.items e.0.items s) in cc))
+
+some_other : {X : Type 0} (b : Bool) (x y : X) (l : Option X) → is_some (cond b (Some x) l) ≡ is_some (cond b (Some y) l)
+some_other true x y l = refl
+some_other false x y l = refl
+
+some_rest : {X : Type 0} (b : Bool) (x : X) (l m : Option X) → is_some l ≡ is_some m → is_some (cond b (Some x) l) ≡ is_some (cond b (Some x) m)
+some_rest true x l m e = refl
+some_rest false x l m e = e
+
+some_more : {X : Type 0} (b : Bool) (x : X) (l : Option X) → is_some l ≡ true → is_some (cond b (Some x) l) ≡ true
+some_more true x l h = refl
+some_more false x l h = h
+
+some_kept : {X : Type 0} (b : Bool) (x : X) (l m : Option X) → (is_some l ≡ true → is_some m ≡ true) → is_some (cond b (Some x) l) ≡ true → is_some (cond b (Some x) m) ≡ true
+some_kept true x l m f h = refl
+some_kept false x l m f h = f h
+
+-- places stay
+pub slots-set_value : (test other : Vec ℕ Global → Bool) (es : List Slot) (w : Option (Vec ℕ Global)) → is_some (lookup other (set_value test es w)) ≡ is_some (lookup other es)
+slots-set_value test other [] w = refl
+slots-set_value test other (e ∷ es) w = at (slots-set_value test other es w) (test e.0)
+  where
+    at : is_some (lookup other (set_value test es w)) ≡ is_some (lookup other es) → (b : Bool) → is_some (lookup other (cond b ((e.0, w) ∷ es) (e ∷ set_value test es w))) ≡ is_some (lookup other (e ∷ es))
+    at rest true = some_other (other e.0) w e.1 _
+    at rest false = some_rest (other e.0) e.1 _ _ rest
+
+pub slots-insert_entry : (other : Vec ℕ Global → Bool) (es : List Slot) (k : Vec ℕ Global) (w : Option (Vec ℕ Global)) → is_some (lookup other es) ≡ true → is_some (lookup other (insert_entry key_cmp es k w)) ≡ true
+slots-insert_entry other [] k w h = cc
+slots-insert_entry other (e ∷ es) k w h = at (slots-insert_entry other es k w) (key_cmp k e.0)
+  where
+    at : (is_some (lookup other es) ≡ true → is_some (lookup other (insert_entry key_cmp es k w)) ≡ true) → (r : Ordering) → is_some (lookup other (match_ordering r ((k, w) ∷ e ∷ es) ((e.0, w) ∷ es) (e ∷ insert_entry key_cmp es k w))) ≡ true
+    at rest Less = some_more (other k) w _ h
+    at rest Equal = some_other (other e.0) w e.1 _ ∙ h
+    at rest Greater = some_kept (other e.0) e.1 _ _ rest h
+
+-- what a look-up finds is the value
+pub found : (es : List Slot) (q : Bytes) (r : Option (Option (Vec ℕ Global))) → r ≡ lookup (is_name q) es → slot_value r ≡ get (slot_variables es) q
+found es q r e = ap slot_value e ∙ sym (get-slot_variables es q)
+
+pub written : (es fs : List Slot) (name : Bytes) (old w : Option (Vec ℕ Global)) → Some old ≡ lookup (is_name name) es → fs ≡ set_value (is_name name) es w → slot_variables fs ≡ assigned (slot_variables es) name (option_items w)
+written es fs name old w there e = ap slot_variables e ∙ variables-set_value es name w (sym (ap is_some there))
+
+pub written_slots : (es fs : List Slot) (name : Bytes) (w : Option (Vec ℕ Global)) → fs ≡ set_value (is_name name) es w → (q : Bytes) → is_some (lookup (is_name q) es) ≡ true → is_some (lookup (is_name q) fs) ≡ true
+written_slots es fs name w e q h = ap (λ l. is_some (lookup (is_name q) l)) e ∙ slots-set_value (is_name name) (is_name q) es w ∙ h
+
+pub added : (es fs : List Slot) (k : Vec ℕ Global) (w : Option (Vec ℕ Global)) (name : Bytes) → k.items ≡ name → fs ≡ insert_entry key_cmp es k w → slot_variables fs ≡ assigned (slot_variables es) name (option_items w)
+added es fs k w name same e = ap slot_variables e ∙ variables-insert_entry es k w ∙ ap (λ n. assigned (slot_variables es) n (option_items w)) same
+
+pub added_slots : (es fs : List Slot) (k : Vec ℕ Global) (w : Option (Vec ℕ Global)) → fs ≡ insert_entry key_cmp es k w → (q : Bytes) → is_some (lookup (is_name q) es) ≡ true → is_some (lookup (is_name q) fs) ≡ true
+added_slots es fs k w e q h = ap (λ l. is_some (lookup (is_name q) l)) e ∙ slots-insert_entry (is_name q) es k w h
+
+-- a name without a place has no value, and none comes back
+pub absent : (es : List Slot) (name : Bytes) (value : Option (Vec ℕ Global)) → None ≡ lookup (is_name name) es → (is_some value ≡ true → is_some (lookup (is_name name) es) ≡ true) → slot_variables es ≡ assigned (slot_variables es) name (option_items value)
+absent es name None gone there = sym (assigned-same (slot_variables es) name None (sym (found es name None gone)))
+absent es name (Some v) gone there = absurd (let h = ap is_some gone ∙ there refl in cc)
+
+pub clone_text : (v w : Vec ℕ Global) → AllZip (λ (x y : ℕ). y ≡ x) v.items w.items → w.items ≡ v.items
+clone_text v w h = same_from_all_zip (λ x y. y ≡ x) v.items w.items h (λ x y e. e)
+
+pub clone_option : (D : Option (Vec ℕ Global) → Option (Vec ℕ Global) → Type 0) → ((v w : Vec ℕ Global) → D (Some v) (Some w) → w.items ≡ v.items) → ((v : Vec ℕ Global) → D None (Some v) → ⊥) → ((v : Vec ℕ Global) → D (Some v) None → ⊥) → (o p : Option (Vec ℕ Global)) → D o p → option_items p ≡ option_items o
+clone_option D both more less None None h = refl
+clone_option D both more less None (Some w) h = absurd (more w h)
+clone_option D both more less (Some v) None h = absurd (less v h)
+clone_option D both more less (Some v) (Some w) h = ap Some (both v w h)
+
+-- slots that are clones make the same variables
+pub clone_slots : (C : Vec ℕ Global → Vec ℕ Global → Type 0) (D : Option (Vec ℕ Global) → Option (Vec ℕ Global) → Type 0) → ((v w : Vec ℕ Global) → C v w → w.items ≡ v.items) → ((o p : Option (Vec ℕ Global)) → D o p → option_items p ≡ option_items o)
+    → (es fs : List Slot) → AllZip (λ p q. C p.0 q.0 × D p.1 q.1) es fs → slot_variables fs ≡ slot_variables es
+clone_slots C D names values [] [] h = refl
+clone_slots C D names values [] (f ∷ fs) h = absurd h
+clone_slots C D names values (e ∷ es) [] h = absurd h
+clone_slots C D names values (e ∷ es) (f ∷ fs) h =
+    ap (λ m. assigned m f.0.items (option_items f.1)) (clone_slots C D names values es fs h.1)
+    ∙ ap (λ n. assigned (slot_variables es) n (option_items f.1)) (names e.0 f.0 h.0.0)
+    ∙ ap (assigned (slot_variables es) e.0.items) (values e.1 f.1 h.0.1)
+
+pub clone_words : (C : Vec ℕ Global → Vec ℕ Global → Type 0) → ((v w : Vec ℕ Global) → C v w → w.items ≡ v.items) → (vs ws : List (Vec ℕ Global)) → AllZip C vs ws → bytes_of_words ws ≡ bytes_of_words vs
+clone_words C same [] [] h = refl
+clone_words C same [] (w ∷ ws) h = absurd h
+clone_words C same (v ∷ vs) [] h = absurd h
+clone_words C same (v ∷ vs) (w ∷ ws) h = let e = same v w h.0 in let f = clone_words C same vs ws h.1 in λ i. e i ∷ f i
+
+none_left : {A : Type 0} (xs : List A) → length xs ≡ 0 → xs ≡ []
+none_left [] h = refl
+none_left (x ∷ xs) h = absurd (omega arith)
+
+-- each key of the slots comes after k
+abbrev After : Vec ℕ Global → List Slot → Type 0
+After k es = AllByRecursion (λ y. key_cmp k y ≡ Less) (keys_of es)
+
+absent_before : (k : Vec ℕ Global) (es : List Slot) → After k es → None ≡ lookup (is_name k.items) es
+absent_before k [] h = refl
+absent_before k (e ∷ es) h = absent_before k es h.1 ∙ sym (ap (λ r. cond (is_eq r) (Some e.1) (lookup (is_name k.items) es)) h.0)
+
+put_before : (k : Vec ℕ Global) (v : Bytes) (es : List Slot) → After k es → put by_bytes k.items v (live es) ≡ (k.items, v) ∷ live es
+put_before k v [] h = refl
+put_before k v ((n, None) ∷ es) h = put_before k v es h.1
+put_before k v ((n, Some w) ∷ es) h = let less = h.0 in rw less refl
+
+-- the variables in order are the slots that have a value
+pub entries_live : (es : List Slot) → IsStrictlySortedBy key_cmp (keys_of es) → entries (slot_variables es) ≡ live es
+unfolding IsStrictlySortedBy
+entries_live [] h = none_left _ (sym (len-entries (slot_variables [])) ∙ len-empty by_bytes Bytes)
+entries_live ((k, None) ∷ es) h =
+    ap entries (assigned-same (slot_variables es) k.items None (get-slot_variables es k.items ∙ ap slot_value (sym (absent_before k es h.0)))) ∙ entries_live es h.1
+entries_live ((k, Some v) ∷ es) h =
+    entries-insert nat_list_cmp_total (slot_variables es) k.items v.items ∙ ap (put by_bytes k.items v.items) (entries_live es h.1) ∙ put_before k v.items es h.0
+
+-- one more of the pairs is set
+pub set_next : (before after all : Variables) (pairs : List (Bytes × Bytes)) (i : ℕ) (name value : Bytes) → slice_get pairs i ≡ Some (name, value) → after ≡ assigned before name (Some value) → set_in_turn before (drop i pairs) ≡ all → set_in_turn after (drop (i + 1) pairs) ≡ all
+set_next before after all pairs i name value there set left =
+    let inside = slice_get_within pairs i (name, value) there in
+    let first : drop i pairs ≡ (name, value) ∷ drop (i + 1) pairs =
+    drop-cons pairs i (name, value) inside ∙ ap (λ pair. pair ∷ drop (suc i) pairs) (get_or_from_slice_get pairs i (name, value) (name, value) there) ∙ rw add-one refl in
+    ap (λ variables. set_in_turn variables (drop (i + 1) pairs)) set ∙ sym (ap (set_in_turn before) first) ∙ left

@@ -1,0 +1,9 @@
+pub mod ScriptCode
+pub mod Moment
+pub mod Record
+pub mod Slots
+pub mod Table
+pub mod Present
+pub mod Plain
+pub mod Inverse
+pub mod Trail

@@ -1,0 +1,20 @@
+//! The state of a run of a boot script, which can be marked and gone back to.
+#![tactic(auto)]
+
+mod frame;
+mod inverse;
+mod log;
+mod plain;
+mod present;
+mod store;
+mod table;
+#[cfg(test)]
+mod tests;
+mod trail;
+
+pub use frame::{At, Frame, FrameKind};
+pub use log::LogEntry;
+pub use plain::Plain;
+pub use store::{Store, StoreError};
+pub use table::Variables;
+pub use trail::Trail;

@@ -1,0 +1,98 @@
+//! The present state of a run.
+ghost use Rattle.std.specs.Prelude.{◌≡◌, IfOk, Option, Some, None, option_map, slice_get, vec_len, vec_capacity};
+
+use crate::frame::{At, Frame};
+use crate::log::LogEntry;
+use crate::table::Table;
+use envtools::Env;
+use std::alloc::{AllocError, Global};
+
+/// The state of a script, and its frames, the innermost last.
+#[derive(Drop)]
+pub struct Present {
+    pub environment: Table,
+    pub locals: Table,
+    pub status: u8,
+    pub text: Vec<u8>,
+    pub log: Vec<LogEntry>,
+    pub steps: u32,
+    pub frames: Vec<Frame>,
+}
+
+impl Present {
+    ghost use Rattle.std.specs.FinMap.{empty};
+    ghost use Rattle.bootstore.specs.Record.{beginning, with_place};
+    ghost use Rattle.bootstore.specs.Present.{moment_of};
+    ghost use Rattle.bootstore.specs.Moment.{environment_of};
+
+    /// Everything is empty or 0.
+    pub fn new(alloc: Global) -> Self
+        ensures { moment_of result ≡ beginning empty }
+    {
+        Present {
+            environment: Table::new(alloc),
+            locals: Table::new(alloc),
+            status: 0,
+            text: Vec::new(alloc),
+            log: Vec::new(alloc),
+            steps: 0,
+            frames: Vec::new(alloc),
+        }
+    }
+
+    /// The state at the start of a run in an environment.
+    pub fn at_start(alloc: Global, env: &Env) -> Result<Present, AllocError>
+        ensures { IfOk result (λ present. moment_of present ≡ beginning (environment_of env.now)) }
+    {
+        let mut present = Present::new(alloc);
+        for place in 0..env.len() {
+            let (name, value) = env.pair(place).unwrap();
+            present.environment.put(alloc, name, Some(value))?;
+        }
+        Ok(present)
+    }
+
+    /// A copy of the state. The frames of the copy share their scripts with these.
+    pub fn copy(&self, alloc: Global) -> Result<Present, AllocError>
+        ensures { IfOk result (λ present. moment_of present ≡ moment_of self.now) }
+    {
+        let mut log = Vec::new(alloc);
+        for entry in &self.log {
+            log.push(entry.copy()?)?;
+        }
+        let mut frames = Vec::new(alloc);
+        for frame in &self.frames {
+            frames.push(frame.copy()?)?;
+        }
+        Ok(Present {
+            environment: self.environment.copy()?,
+            locals: self.locals.copy()?,
+            status: self.status,
+            text: self.text.clone()?,
+            log,
+            steps: self.steps,
+            frames,
+        })
+    }
+
+    /// The innermost frame.
+    pub fn top(&self) -> Option<&Frame>
+        ensures { option_map (λ frame. frame.now) result ≡ slice_get (moment_of self.now).frames 0 }
+    {
+        self.frames.last()
+    }
+
+    /// Without a frame nothing changes.
+    pub fn advance(&mut self, place: At)
+        ensures moved { moment_of self.new ≡ with_place place (moment_of self.old) }
+        ensures environment { self.new.environment ≡ self.old.environment }
+        ensures locals { self.new.locals ≡ self.old.locals }
+        ensures frames { vec_len self.new.frames ≡ vec_len self.old.frames }
+        ensures capacity { vec_capacity self.new.frames ≡ vec_capacity self.old.frames }
+    {
+        let count = self.frames.len();
+        if count > 0 {
+            self.frames[count - 1].move_to(place);
+        }
+    }
+}

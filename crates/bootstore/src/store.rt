@@ -1,0 +1,141 @@
+//! What a store of states can do.
+ghost use Rattle.std.specs.Prelude.{◌≡◌, ◌+◌, ◌<◌, ◌^◌, OnOk, OnErr, Option, None, Some, option_map, slice_get, Bool};
+ghost use Rattle.std.specs.FinMap.{get, entries};
+ghost use Rattle.bootstore.specs.Moment.{Moment, environment_of, option_bytes};
+ghost use Rattle.bootstore.specs.Record.{Record, fresh, started, stepped, with_mark, gone_back, changed, with_environment, with_local, with_echo, with_device, with_status, with_frame, with_place, without_frame};
+
+use crate::frame::{At, Frame};
+use crate::log::LogEntry;
+use crate::table::Variables;
+use envtools::Env;
+use std::alloc::{AllocError, AllocFailed, Global};
+use thiserror::Error;
+
+/// Why a change was refused.
+#[derive(Clone, Copy, Debug, PartialEq, Eq, Error)]
+pub enum StoreError {
+    /// There is no memory for it.
+    #[error("out of memory")]
+    Memory,
+}
+
+impl From<AllocError> for StoreError {
+    fn from(_: AllocError) -> Self {
+        StoreError::Memory
+    }
+}
+
+impl<T: Drop> From<AllocFailed<T>> for StoreError {
+    fn from(_: AllocFailed<T>) -> Self {
+        StoreError::Memory
+    }
+}
+
+/// The present state of a run, and the marked states that it can go back to. A change answers Memory only where a
+/// growth was refused, and has then changed nothing. The readers take no memory.
+pub trait Store: Drop {
+    /// The present state, the marked ones, and the steps begun in all.
+    ghost record_of: { Self → Record };
+
+    /// A store with everything empty or 0. It takes no memory.
+    fn new(alloc: Global) -> Self
+        ensures { record_of result ≡ fresh };
+
+    /// The state at the start of a run in an environment: no frame and no mark. `begun` stays.
+    fn start(&mut self, env: &Env) -> Result<(), StoreError>
+        ensures ok { OnOk result (record_of self.new ≡ started (environment_of env.now) (record_of self.old)) }
+        ensures err { OnErr result (record_of self.new ≡ record_of self.old) };
+
+    /// Sets an environment variable to a value, or deletes it where there is none.
+    fn set_env(&mut self, name: &[u8], value: Option<&[u8]>) -> Result<(), StoreError>
+        ensures ok { OnOk result (record_of self.new ≡ changed (with_environment name.now (option_bytes value.entry)) (record_of self.old)) }
+        ensures err { OnErr result (record_of self.new ≡ record_of self.old) };
+
+    /// Sets a shell variable.
+    fn set_local(&mut self, name: &[u8], value: &[u8]) -> Result<(), StoreError>
+        ensures ok { OnOk result (record_of self.new ≡ changed (with_local name.now value.now) (record_of self.old)) }
+        ensures err { OnErr result (record_of self.new ≡ record_of self.old) };
+
+    /// Writes bytes behind the text.
+    fn echo(&mut self, written: &[u8]) -> Result<(), StoreError>
+        ensures ok { OnOk result (record_of self.new ≡ changed (with_echo written.now) (record_of self.old)) }
+        ensures err { OnErr result (record_of self.new ≡ record_of self.old) };
+
+    /// Puts a device command behind the log.
+    fn device(&mut self, entry: LogEntry) -> Result<(), StoreError>
+        ensures ok { OnOk result (record_of self.new ≡ changed (with_device entry) (record_of self.old)) }
+        ensures err { OnErr result (record_of self.new ≡ record_of self.old) };
+
+    /// Sets the status of the last command.
+    fn set_status(&mut self, status: u8) -> Result<(), StoreError>
+        ensures ok { OnOk result (record_of self.new ≡ changed (with_status status) (record_of self.old)) }
+        ensures err { OnErr result (record_of self.new ≡ record_of self.old) };
+
+    /// A step begins: `steps` and `begun` grow by one. No other call changes `begun`.
+    fn count_step(&mut self) -> Result<(), StoreError>
+        requires steps { (record_of self.old).present.steps < 1000000 }
+        requires begun { (record_of self.old).begun + 1 < 2 ^ 64 }
+        ensures ok { OnOk result (record_of self.new ≡ stepped (record_of self.old)) }
+        ensures err { OnErr result (record_of self.new ≡ record_of self.old) };
+
+    /// Puts a frame on top of the others.
+    fn push(&mut self, frame: Frame) -> Result<(), StoreError>
+        ensures ok { OnOk result (record_of self.new ≡ changed (with_frame frame) (record_of self.old)) }
+        ensures err { OnErr result (record_of self.new ≡ record_of self.old) };
+
+    /// Gives the innermost frame this place. Without a frame nothing changes.
+    fn advance(&mut self, place: At) -> Result<(), StoreError>
+        ensures ok { OnOk result (record_of self.new ≡ changed (with_place place) (record_of self.old)) }
+        ensures err { OnErr result (record_of self.new ≡ record_of self.old) };
+
+    /// Takes the innermost frame off. Without a frame nothing changes.
+    fn pop(&mut self) -> Result<(), StoreError>
+        ensures ok { OnOk result (record_of self.new ≡ changed without_frame (record_of self.old)) }
+        ensures err { OnErr result (record_of self.new ≡ record_of self.old) };
+
+    /// Marks the present state.
+    fn mark(&mut self) -> Result<(), StoreError>
+        ensures ok { OnOk result (record_of self.new ≡ with_mark (record_of self.old)) }
+        ensures err { OnErr result (record_of self.new ≡ record_of self.old) };
+
+    /// Makes the last marked state the present one, frames included, and takes its mark off. It takes no memory.
+    /// Without a mark nothing changes.
+    fn back(&mut self)
+        ensures { record_of self.new ≡ gone_back (record_of self.old) };
+
+    /// The value of an environment variable.
+    fn get_env(&self, name: &[u8]) -> Option<&[u8]>
+        ensures { option_bytes result ≡ get (record_of self.now).present.environment name.now };
+
+    /// The value of a shell variable.
+    fn get_local(&self, name: &[u8]) -> Option<&[u8]>
+        ensures { option_bytes result ≡ get (record_of self.now).present.locals name.now };
+
+    /// The status of the last command.
+    fn get_status(&self) -> u8
+        ensures { result ≡ (record_of self.now).present.status };
+
+    /// How many steps the run has begun.
+    fn steps(&self) -> u32
+        ensures { result ≡ (record_of self.now).present.steps };
+
+    /// How many steps were begun in all, in whatever run.
+    fn begun(&self) -> u64
+        ensures { result ≡ (record_of self.now).begun };
+
+    /// The bytes that the run has written.
+    fn text(&self) -> &[u8]
+        ensures { result.now ≡ (record_of self.now).present.text };
+
+    /// The device commands that were run, in order.
+    fn log(&self) -> &[LogEntry]
+        ensures { result.now ≡ (record_of self.now).present.log };
+
+    /// The variables of the environment, in byte order of their names.
+    fn variables(&self) -> Variables<'_>
+        ensures { result ≡ entries (record_of self.now).present.environment };
+
+    /// The innermost frame.
+    fn top(&self) -> Option<&Frame>
+        ensures { option_map (λ frame. frame.now) result ≡ slice_get (record_of self.now).present.frames 0 };
+}

@@ -1,0 +1,45 @@
+//! Makes one row of changes on a store of each kind and prints the state after each. Where a change is refused it
+//! prints the state that is left, and makes the change again. Run under tools/growths.sh, which refuses one growth
+//! of memory after another.
+#![tactic(auto)]
+
+mod change;
+mod print;
+
+use bootstore::{Plain, Store, Trail};
+use change::{ROW, Setting, make};
+use print::print_state;
+use std::io;
+
+/// Makes the row of changes on a store.
+fn run_row<S: Store>(rt: &impl Print, setting: &Setting, mut store: S) -> io::Result<()> {
+    print!(rt; "New:")?;
+    print_state(rt, &store)?;
+    for change in ROW {
+        let mut made = make(setting, &mut store, change);
+        for _ in 0..2 {
+            if made.is_ok() {
+                break;
+            }
+            print!(rt; "refused {change:?}:")?;
+            print_state(rt, &store)?;
+            made = make(setting, &mut store, change);
+        }
+        if made.is_err() {
+            return println!(rt; "given up");
+        }
+        print!(rt; "{change:?}:")?;
+        print_state(rt, &store)?;
+    }
+    Ok(())
+}
+
+fn main(rt: HostRuntime) -> io::Result<()> {
+    let Ok(setting) = Setting::new(rt.alloc()) else {
+        return println!(rt; "no memory to begin with");
+    };
+    println!(rt; "plain")?;
+    run_row(&rt, &setting, Plain::new(rt.alloc()))?;
+    println!(rt; "trail")?;
+    run_row(&rt, &setting, Trail::new(rt.alloc()))
+}

@@ -1,0 +1,141 @@
+-- What is read of a word so far, and what is left.
+use Rattle.std.proofs.Common.{◌≡◌, ℕ, suc, ◌+◌, length, ◌<◌, get_or, arith, Bool, true, false, if◌then◌else◌, ◌&&◌, List, [], ◌∷◌, ◌++◌, ◌==◌, Option, Some, None, option_map, refl, ap, sym, subst, ◌∙◌, append-nil, append_assoc}
+use Rattle.std.specs.List.{prefix_len, list_all}
+use Rattle.std.proofs.Math.Dec.{eqb-suc-suc, eqb-zero-suc}
+use Rattle.hushlang.specs.Bytes.{begins_name, is_name_byte}
+use Rattle.hushlang.specs.Token.{Part, Plain, Kept, Mark, Var, Status}
+use Rattle.hushlang.specs.Words.{plain_bytes, plain_byte}
+use Rattle.hushlang.specs.Reading.{Seen, Takes, Refuses, in_front, row}
+use Rattle.hushlang.specs.Cutting.{IsTaken}
+use Rattle.hushlang.specs.Lexing.{IsCut, parts_in}
+use Rattle.hushlang.specs.Grammar.{up_to_equals, with_front, is_name, name_of, name_at, assignment, named}
+use Rattle.hushlang.specs.declared.token.Token as code
+use Rattle.hushlang.specs.declared.parts.Mode.TheVariants.{Bare}
+
+prefix_if : (b : Bool) (n size : ℕ) (all : Bool) → (n == size) ≡ all → ((if b then 1 + n else 0) == suc size) ≡ (b && all)
+prefix_if true n size all e = let k : 1 + n ≡ suc n = omega arith in ap (λ k. k == suc size) k ∙ eqb-suc-suc n size ∙ e
+prefix_if false n size all e = eqb-zero-suc size
+
+-- all pass a test where those at the front that do are all
+prefix_all : (test : ℕ → Bool) (xs : List ℕ) → (prefix_len test xs == length xs) ≡ list_all test xs
+prefix_all test [] = refl
+prefix_all test (x ∷ xs) = prefix_if (test x) (prefix_len test xs) (length xs) (list_all test xs) (prefix_all test xs)
+
+-- what begins a name is a byte of one
+pub name_all : (s : List ℕ) (d : ℕ) → 0 < length s → begins_name (get_or s 0 d) ≡ true → (prefix_len is_name_byte s == length s) ≡ is_name s
+name_all [] d h e = absurd (omega arith)
+name_all (b ∷ s) d h e = prefix_all is_name_byte (b ∷ s) ∙ rw e
+
+-- ---- parts that are not refused
+
+pub cut_taken : (t : code.Token) → IsCut t → IsTaken (row Bare 0 0 0 t.text.now)
+cut_taken t cut = subst IsTaken (sym cut.1) tt
+
+pub part_taken : (part : Part) (old new : Seen) → IsTaken old → old ≡ in_front (part ∷ []) new → IsTaken new × (parts_in old ≡ part ∷ parts_in new)
+part_taken part old (Takes stop parts) h e = (tt, ap parts_in e)
+part_taken part old (Refuses error) h e = absurd (subst IsTaken e h)
+
+-- ---- bytes in front of what is found
+
+unfoldable pub behind : List ℕ → Option (List ℕ) → Option (List ℕ)
+behind front None = None
+behind front (Some bytes) = Some (front ++ bytes)
+
+pub behind_nothing : (o : Option (List ℕ)) → behind [] o ≡ o
+unfolding behind
+behind_nothing None = refl
+behind_nothing (Some bytes) = refl
+
+behind_one : (front : List ℕ) (b : ℕ) (o : Option (List ℕ)) → behind front (option_map (λ bytes. b ∷ bytes) o) ≡ behind (front ++ b ∷ []) o
+unfolding behind
+behind_one front b None = refl
+behind_one front b (Some bytes) = ap Some (sym (append_assoc front (b ∷ []) bytes))
+
+behind_end : (front : List ℕ) → behind front (plain_bytes []) ≡ Some front
+unfolding behind
+behind_end front = ap Some (append-nil front)
+
+unfoldable pub found_behind : List ℕ → Option (List ℕ × List Part) → Option (List ℕ × List Part)
+found_behind front None = None
+found_behind front (Some found) = Some (front ++ found.0, found.1)
+
+pub found_behind_nothing : (o : Option (List ℕ × List Part)) → found_behind [] o ≡ o
+unfolding found_behind
+found_behind_nothing None = refl
+found_behind_nothing (Some found) = refl
+
+found_one : (front : List ℕ) (b : ℕ) (o : Option (List ℕ × List Part)) → found_behind front (with_front b o) ≡ found_behind (front ++ b ∷ []) o
+unfolding found_behind
+found_one front b None = refl
+found_one front b (Some found) = ap (λ bytes. Some (bytes, found.1)) (sym (append_assoc front (b ∷ []) found.0))
+
+found_byte : (front : List ℕ) (b : ℕ) (parts : List Part) → (b == 61) ≡ false → found_behind front (up_to_equals (Plain b ∷ parts)) ≡ found_behind (front ++ b ∷ []) (up_to_equals parts)
+found_byte front b parts e = rw e (found_one front b (up_to_equals parts))
+
+found_equals : (front : List ℕ) (b : ℕ) (parts : List Part) → (b == 61) ≡ true → found_behind front (up_to_equals (Plain b ∷ parts)) ≡ Some (front, parts)
+unfolding found_behind
+found_equals front b parts e = rw e (ap (λ bytes. Some (bytes, parts)) (append-nil front))
+
+same_some : (a b : ℕ) → Some a ≡ Some b → a ≡ b
+same_some a b e = cc
+
+plain_is : (part : Part) (b : ℕ) → Some b ≡ plain_byte part → part ≡ Plain b
+plain_is (Plain c) b e = ap Plain (sym (same_some b c e))
+plain_is (Kept c) b e = absurd (cc)
+plain_is Mark b e = absurd (cc)
+plain_is (Var name split) b e = absurd (cc)
+plain_is Status b e = absurd (cc)
+
+-- ---- a name: whole are all its parts, old and new those to come before and behind one more
+
+pub name_step : (whole : Option (List ℕ)) (front : List ℕ) (part : Part) (b : ℕ) (old new : Seen) → IsTaken old → old ≡ in_front (part ∷ []) new → Some b ≡ plain_byte part → whole ≡ behind front (plain_bytes (parts_in old)) → whole ≡ behind (front ++ b ∷ []) (plain_bytes (parts_in new))
+name_step whole front part b old new h e is inv =
+    let all = (part_taken part old new h e).1 ∙ ap (λ p. p ∷ parts_in new) (plain_is part b is) in
+    inv ∙ ap (λ x. behind front (plain_bytes x)) all ∙ behind_one front b (plain_bytes (parts_in new))
+
+plain_none : (part : Part) (parts : List Part) → None ≡ plain_byte part → plain_bytes (part ∷ parts) ≡ None
+plain_none (Plain c) parts e = absurd (cc)
+plain_none (Kept c) parts e = refl
+plain_none Mark parts e = refl
+plain_none (Var name split) parts e = refl
+plain_none Status parts e = refl
+
+pub no_name : (parts : List Part) (front : List ℕ) (part : Part) (old new : Seen) → IsTaken old → old ≡ in_front (part ∷ []) new → None ≡ plain_byte part → plain_bytes parts ≡ behind front (plain_bytes (parts_in old)) → None ≡ name_of parts
+unfolding name_of behind
+no_name parts front part old new h e is inv =
+    sym (ap name_at (inv ∙ ap (λ x. behind front (plain_bytes x)) (part_taken part old new h e).1 ∙ ap (behind front) (plain_none part (parts_in new) is)))
+
+pub some_name : (parts : List Part) (front : List ℕ) (stop : ℕ) (is : Bool) (old : Seen) → old ≡ Takes stop [] → is ≡ is_name front → plain_bytes parts ≡ behind front (plain_bytes (parts_in old)) → (if is then Some front else None) ≡ name_of parts
+unfolding name_of
+some_name parts front stop is old end h inv =
+    ap (λ b. if b then Some front else None) h ∙ sym (ap name_at (inv ∙ ap (λ x. behind front (plain_bytes (parts_in x))) end ∙ behind_end front))
+
+-- ---- an assignment
+
+pub found_step : (whole : Option (List ℕ × List Part)) (front : List ℕ) (part : Part) (b : ℕ) (old new : Seen) → IsTaken old → old ≡ in_front (part ∷ []) new → Some b ≡ plain_byte part → (b == 61) ≡ false → whole ≡ found_behind front (up_to_equals (parts_in old)) → whole ≡ found_behind (front ++ b ∷ []) (up_to_equals (parts_in new))
+found_step whole front part b old new h e is other inv =
+    let all = (part_taken part old new h e).1 ∙ ap (λ p. p ∷ parts_in new) (plain_is part b is) in
+    inv ∙ ap (λ x. found_behind front (up_to_equals x)) all ∙ found_byte front b (parts_in new) other
+
+pub found_done : (parts : List Part) (front : List ℕ) (part : Part) (b : ℕ) (is_one : Bool) (old new : Seen) → IsTaken old → old ≡ in_front (part ∷ []) new → Some b ≡ plain_byte part → (b == 61) ≡ true → is_one ≡ is_name front → up_to_equals parts ≡ found_behind front (up_to_equals (parts_in old)) → (if is_one then Some (front, parts_in new) else None) ≡ assignment parts
+unfolding assignment
+found_done parts front part b is_one old new h e is equals name inv =
+    let all = (part_taken part old new h e).1 ∙ ap (λ p. p ∷ parts_in new) (plain_is part b is) in
+    ap (λ b. if b then Some (front, parts_in new) else None) name
+    ∙ sym (ap named (inv ∙ ap (λ x. found_behind front (up_to_equals x)) all ∙ found_equals front b (parts_in new) equals))
+
+equals_none : (part : Part) (parts : List Part) → None ≡ plain_byte part → up_to_equals (part ∷ parts) ≡ None
+equals_none (Plain c) parts e = absurd (cc)
+equals_none (Kept c) parts e = refl
+equals_none Mark parts e = refl
+equals_none (Var name split) parts e = refl
+equals_none Status parts e = refl
+
+pub no_assignment : (parts : List Part) (front : List ℕ) (part : Part) (old new : Seen) → IsTaken old → old ≡ in_front (part ∷ []) new → None ≡ plain_byte part → up_to_equals parts ≡ found_behind front (up_to_equals (parts_in old)) → None ≡ assignment parts
+unfolding assignment found_behind
+no_assignment parts front part old new h e is inv =
+    sym (ap named (inv ∙ ap (λ x. found_behind front (up_to_equals x)) (part_taken part old new h e).1 ∙ ap (found_behind front) (equals_none part (parts_in new) is)))
+
+pub assignment_end : (parts : List Part) (front : List ℕ) (stop : ℕ) (old : Seen) → old ≡ Takes stop [] → up_to_equals parts ≡ found_behind front (up_to_equals (parts_in old)) → None ≡ assignment parts
+unfolding assignment found_behind
+assignment_end parts front stop old end inv = sym (ap named (inv ∙ ap (λ x. found_behind front (up_to_equals (parts_in x))) end))

@@ -1,0 +1,9 @@
+use Rattle.hushlang.proofs.Closed.{blocks_are_closed}
+use Rattle.hushlang.proofs.Full.{blocks_hold_commands}
+use Rattle.hushlang.proofs.laws.blocks.Goals as goal
+
+pub returns-clause-hold_commands : goal.returns-clause-hold_commands
+returns-clause-hold_commands c = blocks_hold_commands
+
+pub returns-clause-are_closed : goal.returns-clause-are_closed
+returns-clause-are_closed c = blocks_are_closed

@@ -1,0 +1,5 @@
+use Rattle.hushlang.proofs.Blocked.{few_tokens_complete}
+use Rattle.hushlang.proofs.laws.few_tokens_complete.Goals as goal
+
+pub returns : goal.returns
+returns c = few_tokens_complete

@@ -1,0 +1,16 @@
+use Rattle.std.proofs.Common.{◌≡◌, ◌-◌, length}
+use Rattle.hushlang.specs.Cutting.{to_come, IsTaken}
+use Rattle.hushlang.specs.Lexing.{parts_in, parts_of}
+use Rattle.hushlang.specs.Grammar.{up_to_equals}
+use Rattle.hushlang.proofs.Names.{found_behind}
+use Rattle.hushlang.proofs.words.assignment.Given as goal
+
+abbrev pub invariant-parts : goal.invariant-parts
+invariant-parts l = record {
+  same : up_to_equals (parts_of l.fn.token) ≡ found_behind l.name.items (up_to_equals (parts_in (to_come l.parts)));
+  taken : IsTaken (to_come l.parts);
+  source : l.parts.source ≡ l.fn.token.text.now;
+}
+
+abbrev pub decreases-parts : goal.decreases-parts
+decreases-parts l = length l.parts.source - l.parts.at

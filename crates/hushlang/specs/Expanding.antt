@@ -1,0 +1,55 @@
+-- Fields on the way: atoms are read from the left, into one output.
+use Rattle.std.specs.Prelude.{◌≡◌, ℕ, ◌+◌, Bool, true, false, List, [], ◌∷◌, ◌++◌, length, map}
+use Rattle.hushlang.specs.Tree.{Word}
+use Rattle.hushlang.specs.Expansion.{Atom, Kept, Separator, Mark, Setting, atoms, size, most_bytes}
+use Rattle.hushlang.specs.declared.expand.Gathering.{Gathering}
+
+-- the fields that are whole, the one on the way, and whether it has begun
+pub record Gathered : Type 0 where
+  pub whole : List (List ℕ)
+  pub field : List ℕ
+  pub begun : Bool
+
+abbrev pub gathered : Gathering → Gathered
+gathered g = record { whole = map (λ field. field.items) g.whole.items; field = g.field.items; begun = g.begun }
+
+abbrev pub nothing_gathered : Gathered
+nothing_gathered = record { whole = []; field = []; begun = false }
+
+-- the field on the way, if it has begun
+abbrev pub begun_field : Bool → List ℕ → List (List ℕ)
+begun_field true field = field ∷ []
+begun_field false field = []
+
+-- what stays on the way where it ends
+abbrev pub left_field : Bool → List ℕ → List ℕ
+left_field true field = []
+left_field false field = field
+
+-- the field on the way ends here
+abbrev pub closed : Gathered → Gathered
+closed g = record { whole = g.whole ++ begun_field g.begun g.field; field = left_field g.begun g.field; begun = false }
+
+abbrev pub with_atom : Gathered → Atom → Gathered
+with_atom g (Kept byte) = record { whole = g.whole; field = g.field ++ byte ∷ []; begun = true }
+with_atom g (Separator byte) = closed g
+with_atom g Mark = record { whole = g.whole; field = g.field; begun = true }
+
+abbrev pub with_atoms : Gathered → List Atom → Gathered
+with_atoms g [] = g
+with_atoms g (atom ∷ rest) = with_atoms (with_atom g atom) rest
+
+abbrev pub with_word : Setting → Gathered → Word → Gathered
+with_word setting g word = closed (with_atoms g (atoms setting word))
+
+abbrev pub with_words : Setting → Gathered → List Word → Gathered
+with_words setting g [] = g
+with_words setting g (word ∷ rest) = with_words setting (with_word setting g word) rest
+
+-- how many bytes are gathered
+abbrev pub gathered_size : Gathered → ℕ
+gathered_size g = size g.whole + length g.field
+
+-- the room left is what the limit leaves
+abbrev pub IsCounted : Gathering → Type 0
+IsCounted g = gathered_size (gathered g) + g.room ≡ most_bytes

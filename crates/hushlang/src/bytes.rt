@@ -1,0 +1,96 @@
+//! The bytes that the language tells apart.
+
+ghost use Rattle.std.specs.Prelude.{◌≡◌, ◌<◌, ◌≤◌, length, not, IsTrue, ◌==◌};
+ghost use Rattle.std.specs.List.{prefix_len};
+ghost use Rattle.hushlang.specs.Bytes as spec;
+
+/// Whether a byte is a space or a tab.
+pub fn is_blank(b: u8) -> bool
+    ensures { result ≡ spec.is_blank b }
+{
+    b == b' ' || b == b'\t'
+}
+
+/// Whether a byte ends a word where it stands bare.
+pub fn is_separator(b: u8) -> bool
+    ensures { result ≡ spec.is_separator b }
+{
+    is_blank(b) || b == b';' || b == b'&' || b == b'|' || b == b'\n'
+}
+
+/// Whether a name may begin with a byte.
+pub fn begins_name(b: u8) -> bool
+    ensures { result ≡ spec.begins_name b }
+{
+    (b'a' <= b && b <= b'z') || (b'A' <= b && b <= b'Z') || b == b'_'
+}
+
+/// Whether a name may go on with a byte.
+pub fn is_name_byte(b: u8) -> bool
+    ensures { result ≡ spec.is_name_byte b }
+{
+    begins_name(b) || (b'0' <= b && b <= b'9')
+}
+
+/// Whether a byte may stand in the name between `${` and `}`.
+pub fn is_brace_byte(b: u8) -> bool
+    ensures { result ≡ spec.is_brace_byte b }
+{
+    33 <= b && b <= 126 && !is_brace_exception(b)
+}
+
+fn is_brace_exception(b: u8) -> bool
+    ensures { result ≡ spec.is_brace_exception b }
+{
+    b == b'$'
+        || b == b'{'
+        || b == b'}'
+        || b == b':'
+        || b == b'='
+        || b == b'"'
+        || b == b'\''
+        || b == b'\\'
+        || b == b'`'
+}
+
+/// Whether a backslash keeps a byte inside double quotes.
+pub fn is_escapable(b: u8) -> bool
+    ensures { result ≡ spec.is_escapable b }
+{
+    b == b'$' || b == b'"' || b == b'\\'
+}
+
+/// Whether a text begins with a byte.
+pub fn begins(text: &[u8], wanted: u8) -> bool
+    ensures value { result ≡ spec.begins (λ b. b == wanted) text.now }
+    ensures some { IsTrue result → 0 < length text.now }
+{
+    match text {
+        [b, ..] => *b == wanted,
+        [] => false,
+    }
+}
+
+/// How many name bytes stand at the front of a text.
+pub fn name_len(text: &[u8]) -> usize
+    ensures value { result ≡ prefix_len spec.is_name_byte text.now }
+    ensures within { result ≤ length text.now }
+{
+    text.iter().take_while(|b| is_name_byte(**b)).count()
+}
+
+/// How many bytes at the front of a text may stand in a name in braces.
+pub fn brace_len(text: &[u8]) -> usize
+    ensures value { result ≡ prefix_len spec.is_brace_byte text.now }
+    ensures within { result ≤ length text.now }
+{
+    text.iter().take_while(|b| is_brace_byte(**b)).count()
+}
+
+/// How many bytes stand before the end of the line.
+pub fn line_len(text: &[u8]) -> usize
+    ensures value { result ≡ prefix_len (λ b. not (b == spec.newline)) text.now }
+    ensures within { result ≤ length text.now }
+{
+    text.iter().take_while(|b| **b != b'\n').count()
+}

@@ -1,0 +1,300 @@
+//! What words expand to: the fields of a command, or the one value of an assignment.
+
+ghost use Rattle.std.specs.Prelude.{◌≡◌, ◌<◌, ◌≤◌, ◌+◌, ◌++◌, ℕ, List, length, map, OnOk, IfOk, IfErr};
+ghost use Rattle.std.specs.Option.{option_copied};
+ghost use Rattle.std.specs.FinMap as finite;
+ghost use Rattle.std.specs.Ordering.{nat_cmp};
+ghost use Rattle.std.specs.Cmp.Lexicographic.{slice_cmp};
+ghost use Rattle.hushlang.specs.Expansion as spec;
+ghost use Rattle.hushlang.specs.Expanding as way;
+ghost use Rattle.hushlang.specs.View as view;
+
+use crate::tree::{Piece, Word};
+use itoa::Buffer;
+use std::alloc::{AllocError, AllocFailed, Global};
+use std::mem;
+use thiserror::Error;
+
+#[cfg(test)]
+mod tests;
+
+/// The most bytes that one expansion may hold.
+const MOST_BYTES: usize = 65_536;
+
+/// Why words are not expanded.
+#[derive(Clone, Copy, Debug, PartialEq, Eq, Error)]
+pub enum ExpandError {
+    /// The result would hold more than 65,536 bytes.
+    #[error("the words expand to more than 65536 bytes")]
+    TooLong,
+    /// There is no memory for the result.
+    #[error("out of memory")]
+    Memory,
+}
+
+impl From<AllocError> for ExpandError {
+    ghost use Rattle.std.specs.Prelude.{◌≡◌};
+    ghost use Rattle.hushlang.specs.declared.expand.ExpandError.TheVariants.{Memory};
+
+    ghost from_gives = { λ _ e. e ≡ Memory };
+
+    fn from(_: AllocError) -> ExpandError {
+        ExpandError::Memory
+    }
+}
+
+impl<T: Drop> From<AllocFailed<T>> for ExpandError {
+    ghost use Rattle.std.specs.Prelude.{◌≡◌};
+    ghost use Rattle.hushlang.specs.declared.expand.ExpandError.TheVariants.{Memory};
+
+    ghost from_gives = { λ _ e. e ≡ Memory };
+
+    fn from(_: AllocFailed<T>) -> ExpandError {
+        ExpandError::Memory
+    }
+}
+
+/// The variables that are set, and the status of the last command.
+pub trait Vars {
+    /// The variables that are set, with their values.
+    ghost variables: { Self → finite.FinMap (slice_cmp nat_cmp) (List ℕ) };
+
+    /// The status of the last command.
+    ghost last_status: { Self → ℕ };
+
+    /// The value of a variable, or None where it is not set.
+    fn get(&self, name: &[u8]) -> Option<&[u8]>
+        ensures { option_copied result ≡ finite.get (variables self.now) name.now };
+
+    /// The status of the last command.
+    fn status(&self) -> u8
+        ensures { result ≡ last_status self.now };
+}
+
+/// The fields of all words, in order. The answer is TooLong exactly where they hold more than 65,536 bytes
+/// in all, and Memory only where a growth was refused.
+pub fn expand<V: Vars>(alloc: Global, words: &[Word], vars: &V) -> Result<Vec<Vec<u8>>, ExpandError>
+    ensures fields { let setting = spec.setting_of (V.variables vars.now) (V.last_status vars.now) in
+        IfOk result (λ found. map (λ field. field.items) found.items ≡ spec.fields setting (map view.word words.now)) }
+    ensures within_limit { let setting = spec.setting_of (V.variables vars.now) (V.last_status vars.now) in
+        OnOk result (spec.size (spec.fields setting (map view.word words.now)) ≤ spec.most_bytes) }
+    ensures too_long { let setting = spec.setting_of (V.variables vars.now) (V.last_status vars.now) in
+        IfErr result (λ error. error ≡ ExpandError.TooLong → spec.most_bytes < spec.size (spec.fields setting (map view.word words.now))) }
+{
+    let mut fields = Gathering::new(alloc);
+    for word in words {
+        fields.add_word(word, vars)?;
+    }
+    Ok(fields.into_fields())
+}
+
+/// All bytes of a word, without cutting it at separators. The answer is TooLong exactly where there are more
+/// than 65,536 of them, and Memory only where a growth was refused.
+pub fn expand_one<V: Vars>(alloc: Global, word: &Word, vars: &V) -> Result<Vec<u8>, ExpandError>
+    ensures bytes { let setting = spec.setting_of (V.variables vars.now) (V.last_status vars.now) in
+        IfOk result (λ value. value.items ≡ spec.joined setting (view.word word.now)) }
+    ensures within_limit { let setting = spec.setting_of (V.variables vars.now) (V.last_status vars.now) in
+        OnOk result (length (spec.joined setting (view.word word.now)) ≤ spec.most_bytes) }
+    ensures too_long { let setting = spec.setting_of (V.variables vars.now) (V.last_status vars.now) in
+        IfErr result (λ error. error ≡ ExpandError.TooLong → spec.most_bytes < length (spec.joined setting (view.word word.now))) }
+{
+    let mut value = Vec::new(alloc);
+    for piece in &word.pieces {
+        append_piece(&mut value, piece, vars)?;
+    }
+    Ok(value)
+}
+
+/// The value of a variable, empty where it is not set.
+fn value_of<'v, V: Vars>(vars: &'v V, name: &[u8]) -> &'v [u8]
+    ensures { result.now ≡ spec.value_of (spec.setting_of (V.variables vars.now) (V.last_status vars.now)) name.now }
+{
+    match vars.get(name) {
+        Some(value) => value,
+        None => &[],
+    }
+}
+
+/// Whether a split value is cut at this byte.
+fn separates(byte: u8) -> bool
+    ensures { result ≡ spec.separates byte }
+{
+    byte == b' ' || byte == b'\t' || byte == b'\n'
+}
+
+/// Puts bytes at the end of a value, where they fit the limit.
+fn append(value: &mut Vec<u8>, bytes: &[u8]) -> Result<(), ExpandError>
+    requires { length value.old.items ≤ spec.most_bytes }
+    ensures appended { OnOk result (value.new.items ≡ value.old.items ++ bytes.now) }
+    ensures within_limit { OnOk result (length value.new.items ≤ spec.most_bytes) }
+    ensures too_long { IfErr result (λ error. error ≡ ExpandError.TooLong → spec.most_bytes < length (value.old.items ++ bytes.now)) }
+{
+    if bytes.len() > MOST_BYTES - value.len() {
+        return Err(ExpandError::TooLong);
+    }
+    value.extend_from_slice(bytes)?;
+    Ok(())
+}
+
+/// Puts all bytes of a piece at the end of a value.
+#[tactic(auto, using(crate::proofs::ExpandLemmas::uncut))]
+fn append_piece<V: Vars>(value: &mut Vec<u8>, piece: &Piece, vars: &V) -> Result<(), ExpandError>
+    requires { length value.old.items ≤ spec.most_bytes }
+    ensures appended { let setting = spec.setting_of (V.variables vars.now) (V.last_status vars.now) in
+        OnOk result (value.new.items ≡ value.old.items ++ spec.all_bytes (spec.atoms_of_piece setting (view.piece piece.now))) }
+    ensures within_limit { OnOk result (length value.new.items ≤ spec.most_bytes) }
+    ensures too_long { let setting = spec.setting_of (V.variables vars.now) (V.last_status vars.now) in
+        IfErr result (λ error. error ≡ ExpandError.TooLong → spec.most_bytes < length (value.old.items ++ spec.all_bytes (spec.atoms_of_piece setting (view.piece piece.now)))) }
+{
+    match piece {
+        Piece::Bytes(bytes) => append(value, bytes),
+        Piece::Mark => Ok(()),
+        Piece::Var { name, split: _ } => append(value, value_of(vars, name)),
+        Piece::Status => append(value, Buffer::new().format(vars.status()).as_bytes()),
+    }
+}
+
+/// Fields on the way: those that are whole, the one that bytes are added to, whether that one has begun (it
+/// may be empty), and how many more bytes fit the limit.
+#[derive(Drop)]
+struct Gathering {
+    alloc: Global,
+    whole: Vec<Vec<u8>>,
+    field: Vec<u8>,
+    begun: bool,
+    room: usize,
+}
+
+impl Gathering {
+    fn new(alloc: Global) -> Gathering
+        ensures nothing { way.gathered result ≡ way.nothing_gathered }
+        ensures counted { way.IsCounted result }
+    {
+        Gathering {
+            alloc,
+            whole: Vec::new(alloc),
+            field: Vec::new(alloc),
+            begun: false,
+            room: MOST_BYTES,
+        }
+    }
+
+    /// The fields that are whole.
+    fn into_fields(self) -> Vec<Vec<u8>>
+        ensures { map (λ field. field.items) result.items ≡ (way.gathered self).whole }
+    {
+        let Gathering {
+            alloc: _,
+            whole,
+            field: _,
+            begun: _,
+            room: _,
+        } = self;
+        whole
+    }
+
+    /// Adds a byte to the field on the way.
+    fn keep(&mut self, byte: u8) -> Result<(), ExpandError>
+        requires { way.IsCounted self.old }
+        ensures added { OnOk result (way.gathered self.new ≡ way.with_atom (way.gathered self.old) (spec.Kept byte)) }
+        ensures counted { OnOk result (way.IsCounted self.new) }
+        ensures too_long { IfErr result (λ error. error ≡ ExpandError.TooLong →
+            spec.most_bytes < way.gathered_size (way.with_atom (way.gathered self.old) (spec.Kept byte))) }
+    {
+        if self.room == 0 {
+            return Err(ExpandError::TooLong);
+        }
+        self.field.push(byte)?;
+        self.begun = true;
+        self.room -= 1;
+        Ok(())
+    }
+
+    /// Ends the field on the way, if it has begun.
+    fn close(&mut self) -> Result<(), ExpandError>
+        requires { way.IsCounted self.old }
+        ensures closed { OnOk result (way.gathered self.new ≡ way.closed (way.gathered self.old)) }
+        ensures counted { OnOk result (way.IsCounted self.new) }
+        ensures memory { IfErr result (λ error. error ≡ ExpandError.Memory) }
+    {
+        if self.begun {
+            let field = mem::replace(&mut self.field, Vec::new(self.alloc));
+            self.whole.push(field)?;
+            self.begun = false;
+        }
+        Ok(())
+    }
+
+    /// Adds bytes to the field on the way, where they fit the limit.
+    #[tactic(auto, using(crate::proofs::ExpandLemmas::kept_at_once))]
+    fn keep_all(&mut self, bytes: &[u8]) -> Result<(), ExpandError>
+        requires { way.IsCounted self.old }
+        ensures added { OnOk result (way.gathered self.new ≡ way.with_atoms (way.gathered self.old) (map spec.Kept bytes.now)) }
+        ensures counted { OnOk result (way.IsCounted self.new) }
+        ensures too_long { IfErr result (λ error. error ≡ ExpandError.TooLong →
+            spec.most_bytes < way.gathered_size (way.with_atoms (way.gathered self.old) (map spec.Kept bytes.now))) }
+    {
+        if bytes.len() > self.room {
+            return Err(ExpandError::TooLong);
+        }
+        self.field.extend_from_slice(bytes)?;
+        self.begun = self.begun || !bytes.is_empty();
+        self.room -= bytes.len();
+        Ok(())
+    }
+
+    /// Adds the bytes of a value that is cut at its separators.
+    fn split(&mut self, value: &[u8]) -> Result<(), ExpandError>
+        requires { way.IsCounted self.old }
+        ensures added { OnOk result (way.gathered self.new ≡ way.with_atoms (way.gathered self.old) (map spec.split_atom value.now)) }
+        ensures counted { OnOk result (way.IsCounted self.new) }
+        ensures too_long { IfErr result (λ error. error ≡ ExpandError.TooLong →
+            spec.most_bytes < way.gathered_size (way.with_atoms (way.gathered self.old) (map spec.split_atom value.now))) }
+    {
+        for byte in value {
+            if separates(*byte) {
+                self.close()?;
+            } else {
+                self.keep(*byte)?;
+            }
+        }
+        Ok(())
+    }
+
+    fn add_piece<V: Vars>(&mut self, piece: &Piece, vars: &V) -> Result<(), ExpandError>
+        requires { way.IsCounted self.old }
+        ensures added { let setting = spec.setting_of (V.variables vars.now) (V.last_status vars.now) in
+            OnOk result (way.gathered self.new ≡ way.with_atoms (way.gathered self.old) (spec.atoms_of_piece setting (view.piece piece.now))) }
+        ensures counted { OnOk result (way.IsCounted self.new) }
+        ensures too_long { let setting = spec.setting_of (V.variables vars.now) (V.last_status vars.now) in
+            IfErr result (λ error. error ≡ ExpandError.TooLong →
+            spec.most_bytes < way.gathered_size (way.with_atoms (way.gathered self.old) (spec.atoms_of_piece setting (view.piece piece.now)))) }
+    {
+        match piece {
+            Piece::Bytes(bytes) => self.keep_all(bytes),
+            Piece::Mark => {
+                self.begun = true;
+                Ok(())
+            }
+            Piece::Var { name, split: true } => self.split(value_of(vars, name)),
+            Piece::Var { name, split: false } => self.keep_all(value_of(vars, name)),
+            Piece::Status => self.keep_all(Buffer::new().format(vars.status()).as_bytes()),
+        }
+    }
+
+    /// Adds the fields of a word.
+    fn add_word<V: Vars>(&mut self, word: &Word, vars: &V) -> Result<(), ExpandError>
+        requires { way.IsCounted self.old }
+        ensures added { let setting = spec.setting_of (V.variables vars.now) (V.last_status vars.now) in
+            OnOk result (way.gathered self.new ≡ way.with_word setting (way.gathered self.old) (view.word word.now)) }
+        ensures counted { OnOk result (way.IsCounted self.new) }
+        ensures too_long { let setting = spec.setting_of (V.variables vars.now) (V.last_status vars.now) in
+            IfErr result (λ error. error ≡ ExpandError.TooLong →
+            spec.most_bytes < way.gathered_size (way.with_word setting (way.gathered self.old) (view.word word.now))) }
+    {
+        for piece in &word.pieces {
+            self.add_piece(piece, vars)?;
+        }
+        self.close()
+    }
+}

@@ -1,0 +1,234 @@
+//! Tokens, cut from a text one at a time.
+
+ghost use Rattle.std.specs.Prelude.{◌≡◌, ◌+◌, ◌<◌, ◌≤◌, ◌^◌, suc, length, drop, IsTrue, slice_index};
+ghost use Rattle.hushlang.specs.Bytes as bytes;
+ghost use Rattle.hushlang.specs.Reading as spec;
+ghost use Rattle.hushlang.specs.Cutting.{stop_of};
+ghost use Rattle.hushlang.specs.Lexing.{shown, Gives, SpellsNext, GoesOn, BeginsWord};
+ghost use Rattle.hushlang.specs.declared.parts.Mode.TheVariants as modes;
+
+use crate::bytes::{begins, is_blank, is_separator, line_len};
+use crate::parts::Parts;
+use crate::token::{Kind, SyntaxError, Token};
+use std::marker::Model;
+
+/// The tokens of a text, one at a time. It takes no memory.
+#[derive(Drop)]
+pub struct Lexer<'a> {
+    text: &'a [u8],
+    at: usize,
+    fault: Option<SyntaxError>,
+}
+
+impl<'a> Model for Lexer<'a> {
+    ghost use Rattle.hushlang.specs.Lexing.{Coming, IsKnown};
+    ghost use Rattle.std.specs.Prelude.{◌≤◌, length};
+
+    ghost Value = { Coming };
+
+    ghost view = { λ l. record { source = l.text.now; at = l.at } };
+
+    ghost invariant = { λ l. (l.at ≤ length l.text.now) × IsKnown l.fault record { source = l.text.now; at = l.at } };
+}
+
+/// What stands at a place of a text, and where it stops.
+#[derive(Clone, Copy, Debug)]
+enum Front {
+    Gap(usize),
+    Token(Kind, usize),
+}
+
+/// Where the word at a place stops, or what refuses it.
+fn word_end(text: &[u8], at: usize) -> Result<usize, SyntaxError>
+    requires { at ≤ length text.now }
+    ensures { result ≡ stop_of (spec.row modes.Bare at 0 at (drop at text.now)) }
+{
+    let mut parts = Parts::new(text, at);
+    'parts: while let Some(_) = parts.next()? {}
+    Ok(parts.stop())
+}
+
+/// The word at a place.
+fn word(text: &[u8], at: usize) -> Result<Front, SyntaxError>
+    requires inside { at < length text.now }
+    requires begins { BeginsWord (slice_index text.now at) (drop (at + 1) text.now) }
+    ensures value { result ≡ shown at (spec.word_front at (slice_index text.now at) (drop (at + 1) text.now)) }
+    ensures within { GoesOn at (length text.now) result }
+{
+    let stop = word_end(text, at)?;
+    Ok(Front::Token(Kind::Word, stop))
+}
+
+/// What separates words, in front of a text.
+fn separator(at: usize, b: u8, behind: &[u8]) -> Result<Front, SyntaxError>
+    requires separates { IsTrue (bytes.is_separator b) }
+    requires room { at + suc (length behind.now) < 2 ^ 64 }
+    ensures value { result ≡ shown at (spec.separator_front at b behind.now) }
+    ensures within { GoesOn at (at + suc (length behind.now)) result }
+{
+    if is_blank(b) {
+        return Ok(Front::Gap(at + 1));
+    }
+    match b {
+        b';' => Ok(Front::Token(Kind::Semi, at + 1)),
+        b'&' if begins(behind, b'&') => Ok(Front::Token(Kind::AndAnd, at + 2)),
+        b'&' => Err(SyntaxError::SingleAmp(at)),
+        b'|' if begins(behind, b'|') => Ok(Front::Token(Kind::OrOr, at + 2)),
+        b'|' => Err(SyntaxError::SinglePipe(at)),
+        _ => Ok(Front::Token(Kind::Newline, at + 1)),
+    }
+}
+
+/// What stands at a place.
+#[tactic(auto, using(crate::proofs::Steps::rest_is), unfolding(crate::specs::Reading::front))]
+fn front_at(text: &[u8], at: usize) -> Result<Front, SyntaxError>
+    requires { at < length text.now }
+    ensures value { result ≡ shown at (spec.front at (slice_index text.now at) (drop (at + 1) text.now)) }
+    ensures within { GoesOn at (length text.now) result }
+{
+    let b = text[at];
+    let behind = &text[at + 1..];
+    if is_separator(b) {
+        return separator(at, b, behind);
+    }
+    if b == b'#' {
+        return Ok(Front::Gap(at + (1 + line_len(behind))));
+    }
+    if b == b'\\' && begins(behind, b'\n') {
+        return Ok(Front::Gap(at + 2));
+    }
+    word(text, at)
+}
+
+impl<'a> Lexer<'a> {
+    /// Starts at the front of a text.
+    pub fn new(text: &'a [u8]) -> Lexer<'a>
+        ensures { result ≡ record { source = text.now; at = 0 } }
+    {
+        Lexer {
+            text,
+            at: 0,
+            fault: None,
+        }
+    }
+
+    /// The next token, or None at the end. Behind the end and behind a refusal the same comes again.
+    ///
+    /// The refusals are those of the tokens, from `OpenQuote` to `SinglePipe`, with their places.
+    pub fn next(&mut self) -> Result<Option<Token<'a>>, SyntaxError>
+        ensures spells { SpellsNext self.old result self.new }
+        ensures gives { Gives self.old result self.new }
+        ensures source { self.new.source ≡ self.old.source }
+    {
+        self.cut_token()
+    }
+
+    fn cut_token(&mut self) -> Result<Option<Token<'a>>, SyntaxError>
+        ensures gives { Gives self.old result self.new }
+        ensures source { self.new.source ≡ self.old.source }
+    {
+        if let Some(fault) = self.fault {
+            return Err(fault);
+        }
+        'fronts: while self.at < self.text.len() {
+            let start = self.at;
+            match front_at(self.text, start) {
+                Ok(Front::Gap(stop)) => self.at = stop,
+                Ok(Front::Token(kind, stop)) => {
+                    self.at = stop;
+                    return Ok(Some(Token {
+                        kind,
+                        start,
+                        stop,
+                        text: &self.text[start..stop],
+                    }));
+                }
+                Err(fault) => {
+                    self.fault = Some(fault);
+                    return Err(fault);
+                }
+            }
+        }
+        Ok(None)
+    }
+}
+
+#[cfg(test)]
+mod tests {
+    use super::*;
+    use std::test::Fail;
+
+    #[test]
+    fn cuts_signs(rt: HostRuntime) -> Result<(), Fail> {
+        let mut lexer = Lexer::new(b"a;b&&c\n");
+        for (kind, start, stop) in [
+            (Kind::Word, 0, 1),
+            (Kind::Semi, 1, 2),
+            (Kind::Word, 2, 3),
+            (Kind::AndAnd, 3, 5),
+            (Kind::Word, 5, 6),
+            (Kind::Newline, 6, 7),
+        ] {
+            let token = lexer.next()?.unwrap_or(Token {
+                kind: Kind::OrOr,
+                start: 9,
+                stop: 9,
+                text: b"",
+            });
+            assert_eq!(rt; token.kind, kind, "at {start}");
+            assert_eq!(rt; token.start, start);
+            assert_eq!(rt; token.stop, stop);
+            assert_eq!(rt; token.text.len(), stop - start);
+        }
+        assert!(rt; lexer.next()?.is_none());
+        assert!(rt; lexer.next()?.is_none());
+        Ok(())
+    }
+
+    #[test]
+    fn cuts_first_words(rt: HostRuntime) -> Result<(), Fail> {
+        for (text, start, stop) in [
+            ("a'b'\"c$d\"\\e #x", 0, 11),
+            ("f\\\ni", 0, 4),
+            ("\\\n a\\\n;", 3, 4),
+            (" a#b#", 1, 5),
+            ("''", 0, 2),
+            ("${?}$1", 0, 6),
+        ] {
+            let token = Lexer::new(text.as_bytes()).next()?;
+            assert!(rt; token.is_some(), "{text}");
+            if let Some(token) = token {
+                assert_eq!(rt; token.kind, Kind::Word, "{text}");
+                assert_eq!(rt; token.start, start, "{text}");
+                assert_eq!(rt; token.stop, stop, "{text}");
+            }
+        }
+        Ok(())
+    }
+
+    #[test]
+    fn refuses(rt: HostRuntime) -> Result<(), Fail> {
+        for (text, words, fault) in [
+            ("echo \"a", 1, SyntaxError::OpenQuote(5)),
+            ("echo 'a", 1, SyntaxError::OpenQuote(5)),
+            ("echo a\\", 1, SyntaxError::LoneBackslash(6)),
+            ("echo ${a", 1, SyntaxError::OpenBrace(5)),
+            ("echo ${", 1, SyntaxError::OpenBrace(5)),
+            ("echo ${a:-b}", 1, SyntaxError::BadVariable(5)),
+            ("${}", 0, SyntaxError::BadVariable(0)),
+            ("a & b", 1, SyntaxError::SingleAmp(2)),
+            ("a | b", 1, SyntaxError::SinglePipe(2)),
+            ("&\\\n&", 0, SyntaxError::SingleAmp(0)),
+            ("echo \"a${b", 1, SyntaxError::OpenBrace(7)),
+        ] {
+            let mut lexer = Lexer::new(text.as_bytes());
+            for _ in 0..words {
+                assert!(rt; lexer.next()?.is_some(), "{text}");
+            }
+            for _ in 0..3 {
+                assert_eq!(rt; lexer.next().err(), Some(fault), "{text}");
+            }
+        }
+        Ok(())
+    }
+}

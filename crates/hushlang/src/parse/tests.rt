@@ -1,0 +1,182 @@
+//! Texts and what they are read as.
+
+use super::*;
+use crate::tree::Piece;
+use std::test::Fail;
+
+#[test]
+fn refuses_at_places(rt: HostRuntime) -> Result<(), Fail> {
+    for (text, wanted) in [
+        ("echo \"a", SyntaxError::OpenQuote(5)),
+        ("echo a\\", SyntaxError::LoneBackslash(6)),
+        ("echo ${a", SyntaxError::OpenBrace(5)),
+        ("echo ${a:-b}", SyntaxError::BadVariable(5)),
+        ("a & b", SyntaxError::SingleAmp(2)),
+        ("a | b", SyntaxError::SinglePipe(2)),
+        ("if true; then", SyntaxError::Unexpected(13)),
+        ("fi", SyntaxError::Unexpected(0)),
+        ("f\\\ni", SyntaxError::Unexpected(0)),
+        ("a &&", SyntaxError::Unexpected(4)),
+        ("for 1 in a; do b; done", SyntaxError::MissingWord(4)),
+        ("for x a", SyntaxError::MissingWord(6)),
+        ("for x in a do b; done", SyntaxError::Unexpected(17)),
+        ("x=1 load", SyntaxError::AssignmentBeforeCommand(4)),
+        ("&\\\n&", SyntaxError::SingleAmp(0)),
+        (
+            "if a; then b; else c; elif d; then e; fi",
+            SyntaxError::Unexpected(22),
+        ),
+        ("; then \"a", SyntaxError::Unexpected(2)),
+        ("while a; do b; fi", SyntaxError::Unexpected(15)),
+        ("if then a; fi", SyntaxError::Unexpected(3)),
+    ] {
+        assert_eq!(rt;
+            parse(rt.alloc(), text.as_bytes()).err(),
+            Some(wanted),
+            "{text}"
+        );
+    }
+    Ok(())
+}
+
+#[test]
+fn refuses_each_cut(rt: HostRuntime) -> Result<(), Fail> {
+    let text = b"if true; then echo x; fi";
+    for size in 0..=text.len() {
+        let wanted = match size {
+            0 | 1 | 24 => None,
+            _ => Some(SyntaxError::Unexpected(size)),
+        };
+        assert_eq!(rt; parse(rt.alloc(), &text[..size]).err(), wanted, "{size}");
+    }
+    Ok(())
+}
+
+/// So many openings, and as many closings as are asked for.
+fn nested(alloc: Global, opened: usize, closed: usize) -> Result<String, Fail> {
+    let mut text = String::new(alloc);
+    for _ in 0..opened {
+        text.push_str("if true; then ")?;
+    }
+    text.push_str("a; ")?;
+    for _ in 0..closed {
+        text.push_str("fi; ")?;
+    }
+    Ok(text)
+}
+
+#[test]
+fn nests_sixty_four_levels(rt: HostRuntime) -> Result<(), Fail> {
+    let alloc = rt.alloc();
+    for (opened, closed, wanted) in [
+        (64, 64, None),
+        (65, 65, Some(SyntaxError::TooDeep(896))),
+        (65, 0, Some(SyntaxError::TooDeep(896))),
+        (64, 0, Some(SyntaxError::Unexpected(899))),
+    ] {
+        let text = nested(alloc, opened, closed)?;
+        assert_eq!(rt;
+            parse(alloc, text.as_bytes()).err(),
+            wanted,
+            "{opened} and {closed}"
+        );
+    }
+    Ok(())
+}
+
+#[test]
+fn joins_from_the_left(rt: HostRuntime) -> Result<(), Fail> {
+    let script = parse(rt.alloc(), b"a && b || c")?;
+    let printed = format!(in rt.alloc(); "{script:?}")?;
+    assert_eq!(rt;
+        printed.as_str(),
+        "Script { lists: [AndOr { first: Simple([Word { pieces: [Bytes([97])] }]), rest: [(And, Simple([Word { pieces: [Bytes([98])] }])), (Or, Simple([Word { pieces: [Bytes([99])] }]))] }] }"
+    );
+    Ok(())
+}
+
+/// What the commands of a text are, a letter for each.
+fn kinds(alloc: Global, text: &[u8]) -> Result<String, Fail> {
+    let script = parse(alloc, text)?;
+    let mut kinds = String::new(alloc);
+    for list in &script.lists {
+        let (kind, size) = match &list.first {
+            Command::Simple(words) => ("simple", words.len()),
+            Command::Assign(values) => ("assign", values.len()),
+            Command::If { arms, other } => (
+                "if",
+                2 * arms.len().min(9) + usize::from(other.is_some()),
+            ),
+            Command::Loop {
+                until,
+                cond,
+                body: _,
+            } => ("loop", 2 * cond.lists.len().min(9) + usize::from(*until)),
+            Command::For {
+                name,
+                words,
+                body: _,
+            } => ("for", 10 * name.len().min(9) + words.len().min(9)),
+        };
+        let one = format!(in alloc; "{kind} {size};")?;
+        kinds.push_str(one.as_str())?;
+    }
+    Ok(kinds)
+}
+
+#[test]
+fn tells_commands_apart(rt: HostRuntime) -> Result<(), Fail> {
+    for (text, wanted) in [
+        ("", ""),
+        ("# a", ""),
+        (";;\n", ""),
+        ("echo a b", "simple 3;"),
+        ("x\\=1", "simple 1;"),
+        ("'x'=1 y", "simple 2;"),
+        ("x=1 y='2 3'", "assign 2;"),
+        ("echo if fi x=1", "simple 4;"),
+        ("if a; then b; fi", "if 2;"),
+        ("if a; then b; elif c; then d; else e; fi", "if 5;"),
+        ("if if a; then b; fi then c; fi; d", "if 2;simple 1;"),
+        ("while a; b; do c; done", "loop 4;"),
+        ("until a\ndo b\ndone", "loop 3;"),
+        ("for xy in; do b; done", "for 20;"),
+        ("for x in a 'b c' $d; do e; done", "for 13;"),
+    ] {
+        let found = kinds(rt.alloc(), text.as_bytes())?;
+        assert_eq!(rt; found.as_str(), wanted, "{text}");
+    }
+    Ok(())
+}
+
+/// The pieces of the values of a text's first assignments, printed.
+fn values(alloc: Global, text: &[u8]) -> Result<String, Fail> {
+    let script = parse(alloc, text)?;
+    let mut printed = String::new(alloc);
+    for list in &script.lists {
+        if let Command::Assign(values) = &list.first {
+            for (name, value) in values {
+                let pieces: &Vec<Piece> = &value.pieces;
+                let one = format!(in alloc; "{name:?} {pieces:?};")?;
+                printed.push_str(one.as_str())?;
+            }
+        }
+    }
+    Ok(printed)
+}
+
+#[test]
+fn splits_assignments(rt: HostRuntime) -> Result<(), Fail> {
+    for (text, wanted) in [
+        ("x=", "[120] [];"),
+        ("x=a=b", "[120] [Bytes([97, 61, 98])];"),
+        (
+            "x=$y'z'",
+            "[120] [Var { name: [121], split: true }, Mark, Bytes([122])];",
+        ),
+    ] {
+        let found = values(rt.alloc(), text.as_bytes())?;
+        assert_eq!(rt; found.as_str(), wanted, "{text}");
+    }
+    Ok(())
+}

@@ -1,0 +1,118 @@
+//! The pieces of a word.
+
+ghost use Rattle.std.specs.Prelude.{◌≡◌, ◌≢◌, ℕ, List, [], ◌∷◌, ◌++◌, map, length, OnOk, IfOk};
+ghost use Rattle.hushlang.specs.Reading as reading;
+ghost use Rattle.hushlang.specs.Cutting as cutting;
+ghost use Rattle.hushlang.specs.View as view;
+ghost use Rattle.hushlang.specs.Pieces as spec;
+ghost use Rattle.hushlang.specs.Pieces.{GivesPieces};
+ghost use Rattle.hushlang.specs.declared.parts.Mode.TheVariants as modes;
+
+use crate::parts::{Part, Parts};
+use crate::token::{SyntaxError, Token};
+use crate::tree::Piece;
+use std::alloc::{AllocError, Global};
+use std::mem;
+
+/// Pieces on the way: those that are whole, and the bytes of one that may still grow.
+#[derive(Drop)]
+struct Gathering {
+    pieces: Vec<Piece>,
+    bytes: Vec<u8>,
+}
+
+impl Gathering {
+    /// Makes a piece of the bytes.
+    fn close(&mut self, alloc: Global) -> Result<(), AllocError>
+        ensures { OnOk result (spec.gathered self.new ≡ spec.closed (spec.gathered self.old)) }
+    {
+        if !self.bytes.is_empty() {
+            let bytes = mem::replace(&mut self.bytes, Vec::new(alloc));
+            self.pieces.push(Piece::Bytes(bytes))?;
+        }
+        Ok(())
+    }
+
+    fn push(&mut self, alloc: Global, piece: Piece) -> Result<(), AllocError>
+        ensures { OnOk result (spec.gathered self.new ≡ spec.with_piece (spec.gathered self.old) (view.piece piece)) }
+    {
+        self.close(alloc)?;
+        self.pieces.push(piece)?;
+        Ok(())
+    }
+
+    fn add(&mut self, alloc: Global, part: Part<'_>) -> Result<(), AllocError>
+        ensures { OnOk result (spec.gathered self.new ≡ spec.with_part (spec.gathered self.old) (cutting.part part.entry)) }
+    {
+        match part {
+            Part::Plain(b) | Part::Kept(b) => {
+                self.bytes.push(b)?;
+                Ok(())
+            }
+            Part::Mark => self.push(alloc, Piece::Mark),
+            Part::Var { name, split } => {
+                let name = name.to_vec(alloc)?;
+                self.push(alloc, Piece::Var { name, split })
+            }
+            Part::Status => self.push(alloc, Piece::Status),
+        }
+    }
+}
+
+/// The pieces of the parts to come: their kept bytes with no two pieces of them side by side, a mark in
+/// front of what quotes hold, variables and the status.
+#[tactic(auto, using(crate::proofs::Gathers::gathers))]
+pub fn read_pieces(alloc: Global, mut parts: Parts<'_>) -> Result<Vec<Piece>, SyntaxError>
+    ensures { GivesPieces (spec.pieces_in (cutting.to_come parts.entry)) result }
+{
+    let mut gathering = Gathering {
+        pieces: Vec::new(alloc),
+        bytes: Vec::new(alloc),
+    };
+    'parts: while let Some(part) = parts.next()? {
+        gathering.add(alloc, part)?;
+    }
+    gathering.close(alloc)?;
+    let Gathering { pieces, bytes: _ } = gathering;
+    Ok(pieces)
+}
+
+/// The pieces of a word.
+pub fn pieces_of(alloc: Global, token: Token<'_>) -> Result<Vec<Piece>, SyntaxError>
+    ensures { GivesPieces (spec.pieces_in (reading.row modes.Bare 0 0 0 token.entry.text.now)) result }
+{
+    read_pieces(alloc, Parts::new(token.text, 0))
+}
+
+#[cfg(test)]
+mod tests {
+    use super::*;
+    use crate::lexer::Lexer;
+    use std::test::Fail;
+
+    #[test]
+    fn gathers_pieces(rt: HostRuntime) -> Result<(), Fail> {
+        for (text, wanted) in [
+            (
+                "a'b'\"c$d\"\\e #x",
+                "[Bytes([97]), Mark, Bytes([98]), Mark, Bytes([99]), Var { name: [100], split: false }, Bytes([101])]",
+            ),
+            ("''", "[Mark]"),
+            ("$1", "[Bytes([36, 49])]"),
+            ("$ab$?", "[Var { name: [97, 98], split: true }, Status]"),
+            (
+                "${?}${a.b}",
+                "[Status, Var { name: [97, 46, 98], split: true }]",
+            ),
+        ] {
+            let token = Lexer::new(text.as_bytes()).next()?;
+            assert!(rt; token.is_some(), "{text}");
+            if let Some(token) = token {
+                let pieces = pieces_of(rt.alloc(), token)?;
+                let printed = format!(in rt.alloc(); "{pieces:?}")?;
+                assert_eq!(rt; printed.as_str(), wanted, "{text}");
+            }
+        }
+        Ok(())
+    }
+}

@@ -1,0 +1,225 @@
+//! What the grammar asks of a word.
+
+ghost use Rattle.std.specs.Prelude.{◌≡◌, ◌<◌, length, option_map, IfOk, IfErr, IfSome};
+ghost use Rattle.std.specs.List.{list_all};
+ghost use Rattle.hushlang.specs.Bytes as bytes;
+ghost use Rattle.hushlang.specs.Reading as reading;
+ghost use Rattle.hushlang.specs.Lexing.{parts_of, token_of, IsCut};
+ghost use Rattle.hushlang.specs.Words as spec;
+ghost use Rattle.hushlang.specs.Grammar as grammar;
+ghost use Rattle.hushlang.specs.Cursor.{name_and_value};
+ghost use Rattle.hushlang.specs.Cutting as cutting;
+ghost use Rattle.hushlang.specs.Cutting.{to_come, IsTaken};
+ghost use Rattle.hushlang.specs.declared.parts.Mode.TheVariants as modes;
+ghost use Rattle.hushlang.specs.declared.token.SyntaxError.TheVariants.{Memory};
+
+use crate::bytes::{begins_name, name_len};
+use crate::parts::{Part, Parts};
+use crate::token::{Kind, SyntaxError, Token};
+use std::alloc::Global;
+
+/// The words that the grammar reserves where a command may begin.
+#[derive(Clone, Copy, Debug, PartialEq, Eq)]
+pub enum Reserved {
+    /// `if`
+    If,
+    /// `then`
+    Then,
+    /// `elif`
+    Elif,
+    /// `else`
+    Else,
+    /// `fi`
+    Fi,
+    /// `for`
+    For,
+    /// `while`
+    While,
+    /// `until`
+    Until,
+    /// `do`
+    Do,
+    /// `done`
+    Done,
+}
+
+/// The byte that an ordinary part is.
+fn plain(part: Part<'_>) -> Option<u8>
+    ensures { result ≡ spec.plain_byte (cutting.part part.entry) }
+{
+    match part {
+        Part::Plain(b) => Some(b),
+        _ => None,
+    }
+}
+
+/// Whether a text is a word of ordinary bytes only, and these.
+#[tactic(auto, using(crate::proofs::Plain::spelled))]
+fn spells(text: &[u8], word: &[u8]) -> bool
+    ensures { result ≡ spec.spells word.now (reading.row modes.Bare 0 0 0 text.now) }
+{
+    let mut parts = Parts::new(text, 0);
+    let mut left = word;
+    'parts: loop {
+        match parts.next() {
+            Ok(Some(part)) => {
+                let Some(b) = plain(part) else { return false };
+                match left {
+                    [first, rest @ ..] if b == *first => left = rest,
+                    _ => return false,
+                }
+            }
+            Ok(None) => return left.is_empty(),
+            Err(_) => return false,
+        }
+    }
+}
+
+/// The same of a token, for a word that is not empty.
+#[tactic(auto, using(crate::proofs::Plain::spells_parts), unfolding(crate::specs::Lexing::parts_of))]
+fn spells_word(token: Token<'_>, word: &[u8]) -> bool
+    requires { 0 < length word.now }
+    ensures { result ≡ spec.is_plain word.now (parts_of token.entry) }
+{
+    spells(token.text, word)
+}
+
+/// The reserved word that a word is.
+#[tactic(auto, unfolding(crate::specs::Words::reserved))]
+fn reserved_word(token: Token<'_>) -> Option<Reserved>
+    ensures { result ≡ spec.reserved (parts_of token.entry) }
+{
+    if spells_word(token, b"if") {
+        return Some(Reserved::If);
+    }
+    if spells_word(token, b"then") {
+        return Some(Reserved::Then);
+    }
+    if spells_word(token, b"elif") {
+        return Some(Reserved::Elif);
+    }
+    if spells_word(token, b"else") {
+        return Some(Reserved::Else);
+    }
+    if spells_word(token, b"fi") {
+        return Some(Reserved::Fi);
+    }
+    if spells_word(token, b"for") {
+        return Some(Reserved::For);
+    }
+    if spells_word(token, b"while") {
+        return Some(Reserved::While);
+    }
+    if spells_word(token, b"until") {
+        return Some(Reserved::Until);
+    }
+    if spells_word(token, b"do") {
+        return Some(Reserved::Do);
+    }
+    if spells_word(token, b"done") {
+        return Some(Reserved::Done);
+    }
+    None
+}
+
+/// Whether a token is a word.
+pub fn is_word(kind: Kind) -> bool
+    ensures { result ≡ grammar.word_token kind }
+{
+    match kind {
+        Kind::Word => true,
+        _ => false,
+    }
+}
+
+/// The reserved word that a token is.
+#[tactic(auto, unfolding(crate::specs::Grammar::reserved_of))]
+pub fn reserved_at(token: Token<'_>) -> Option<Reserved>
+    ensures { result ≡ grammar.reserved_of (token_of token.entry) }
+{
+    match token.kind {
+        Kind::Word => reserved_word(token),
+        _ => None,
+    }
+}
+
+/// Whether a token is the word `in`.
+#[tactic(auto, unfolding(crate::specs::Grammar::is_in_word))]
+pub fn is_in(token: Token<'_>) -> bool
+    ensures { result ≡ grammar.is_in_word (token_of token.entry) }
+{
+    is_word(token.kind) && spells_word(token, b"in")
+}
+
+/// A letter or `_`, then letters, digits and `_`.
+fn is_name(bytes: &[u8]) -> bool
+    ensures { result ≡ grammar.is_name bytes.now }
+{
+    match bytes {
+        [] => false,
+        [b, ..] => begins_name(*b) && name_len(bytes) == bytes.len(),
+    }
+}
+
+/// The name that a word of ordinary bytes spells.
+#[tactic(auto, unfolding(crate::specs::Grammar::name_of))]
+fn name(alloc: Global, token: Token<'_>) -> Result<Option<Vec<u8>>, SyntaxError>
+    requires { IsCut token }
+    ensures value { IfOk result (λ n. option_map (λ v. v.items) n ≡ grammar.name_of (parts_of token.entry)) }
+    ensures err { IfErr result (λ e. e ≡ Memory) }
+{
+    let mut parts = Parts::new(token.text, 0);
+    let mut name = Vec::new(alloc);
+    'parts: while let Some(part) = parts.next()? {
+        match plain(part) {
+            Some(b) => name.push(b)?,
+            None => return Ok(None),
+        }
+    }
+    if is_name(name.as_slice()) {
+        return Ok(Some(name));
+    }
+    Ok(None)
+}
+
+/// The name that a token spells.
+#[tactic(auto, unfolding(crate::specs::Grammar::name_in))]
+pub fn name_in(alloc: Global, token: Token<'_>) -> Result<Option<Vec<u8>>, SyntaxError>
+    requires { IsCut token }
+    ensures value { IfOk result (λ n. option_map (λ v. v.items) n ≡ grammar.name_in (token_of token.entry)) }
+    ensures err { IfErr result (λ e. e ≡ Memory) }
+{
+    if is_word(token.kind) {
+        name(alloc, token)
+    } else {
+        Ok(None)
+    }
+}
+
+/// The name and the parts of the value, if a word is an assignment.
+#[tactic(auto, unfolding(crate::specs::Grammar::assignment))]
+pub fn assignment<'a>(
+    alloc: Global,
+    token: Token<'a>,
+) -> Result<Option<(Vec<u8>, Parts<'a>)>, SyntaxError>
+    requires { IsCut token }
+    ensures value { IfOk result (λ found. option_map name_and_value found ≡ grammar.assignment (parts_of token.entry)) }
+    ensures taken { IfOk result (λ found. IfSome found (λ f. IsTaken (to_come f.1))) }
+    ensures err { IfErr result (λ e. e ≡ Memory) }
+{
+    let mut parts = Parts::new(token.text, 0);
+    let mut name = Vec::new(alloc);
+    'parts: while let Some(part) = parts.next()? {
+        let Some(b) = plain(part) else {
+            return Ok(None);
+        };
+        if b == b'=' {
+            if is_name(name.as_slice()) {
+                return Ok(Some((name, parts)));
+            }
+            return Ok(None);
+        }
+        name.push(b)?;
+    }
+    Ok(None)
+}

@@ -1,0 +1,76 @@
+//! Changes one variable of an image in a file, or of a pair in two files, as `set_bytes` does, for
+//! the comparisons with other tools. Not installed.
+//!
+//! `set_image little|big FIRST SECOND NAME WORD..`, where SECOND is `-` for a single image.
+#![tactic(auto)]
+
+use envimage::{ByteOrder, SIZE_MAX, Which};
+use std::alloc::AllocError;
+use std::process::ExitCode;
+use std::{env, fs, io};
+use ubtool_core::{Edit, read_up_to, set_bytes};
+
+fn read(rt: &HostRuntime, path: &str) -> Option<Vec<u8>> {
+    let mut file = fs::open(rt, path).ok()?;
+    read_up_to(rt.alloc(), &mut file, SIZE_MAX).ok()
+}
+
+fn bytes_of<'a>(rt: &HostRuntime, words: &'a [String]) -> Result<Vec<&'a [u8]>, AllocError> {
+    let mut list = Vec::new(rt.alloc());
+    for word in words {
+        list.push(word.as_bytes())?;
+    }
+    Ok(list)
+}
+
+/// Changes the image at the paths, and says whether it was done.
+fn set(
+    rt: &HostRuntime,
+    order: ByteOrder,
+    paths: (&str, &str),
+    name: &str,
+    words: &[String],
+) -> Option<()> {
+    let first = read(rt, paths.0)?;
+    let second = if paths.1 == "-" {
+        None
+    } else {
+        Some(read(rt, paths.1)?)
+    };
+    let words = bytes_of(rt, words).ok()?;
+    let edit = Edit::One {
+        name: name.as_bytes(),
+        words: &words,
+    };
+    let second = second.as_ref().map(|bytes| bytes.as_slice());
+    let (which, image) = set_bytes(rt.alloc(), &first, second, order, edit).ok()?;
+    let path = match which {
+        Which::First => paths.0,
+        Which::Second => paths.1,
+    };
+    fs::write(rt, path, image.as_slice()).ok()
+}
+
+fn run(rt: &HostRuntime) -> Option<()> {
+    let words: io::Result<Vec<String>> = match env::args(rt) {
+        Ok(args) => args.skip(1).collect(rt.alloc()).map_err(|error| error.into()),
+        Err(error) => Err(error),
+    };
+    let words = words.ok()?;
+    let [order, first, second, name, values @ ..] = words.as_slice() else {
+        return None;
+    };
+    let order = if order.as_str() == "big" {
+        ByteOrder::Big
+    } else {
+        ByteOrder::Little
+    };
+    set(rt, order, (first.as_str(), second.as_str()), name.as_str(), values)
+}
+
+fn main(rt: HostRuntime) -> ExitCode {
+    match run(&rt) {
+        Some(()) => ExitCode::from(0),
+        None => ExitCode::from(1),
+    }
+}
