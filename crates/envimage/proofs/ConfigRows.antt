@@ -7,12 +7,16 @@ use Rattle.envimage.specs.declared.config.ConfigError.TheVariants.{BadLine, BadN
 
 text_a : is_text (codes "a") ≡ true
 text_a = is_text-ascii (codes "a") refl
+
 text_b : is_text (codes "b") ≡ true
 text_b = is_text-ascii (codes "b") refl
+
 text_e : is_text (codes "e") ≡ true
 text_e = is_text-ascii (codes "e") refl
+
 text_mmc : is_text (codes "/dev/mmcblk0") ≡ true
 text_mmc = is_text-ascii (codes "/dev/mmcblk0") refl
+
 text_bin : is_text (codes "env.bin") ≡ true
 text_bin = is_text-ascii (codes "env.bin") refl
 

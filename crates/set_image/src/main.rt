@@ -53,7 +53,10 @@ fn set(
 
 fn run(rt: &HostRuntime) -> Option<()> {
     let words: io::Result<Vec<String>> = match env::args(rt) {
-        Ok(args) => args.skip(1).collect(rt.alloc()).map_err(|error| error.into()),
+        Ok(args) => args
+            .skip(1)
+            .collect(rt.alloc())
+            .map_err(|error| error.into()),
         Err(error) => Err(error),
     };
     let words = words.ok()?;
@@ -65,7 +68,13 @@ fn run(rt: &HostRuntime) -> Option<()> {
     } else {
         ByteOrder::Little
     };
-    set(rt, order, (first.as_str(), second.as_str()), name.as_str(), values)
+    set(
+        rt,
+        order,
+        (first.as_str(), second.as_str()),
+        name.as_str(),
+        values,
+    )
 }
 
 fn main(rt: HostRuntime) -> ExitCode {

@@ -7,4 +7,8 @@ mod images;
 mod outputs;
 #[cfg(test)]
 mod printing;
+#[cfg(test)]
+mod reading;
 pub mod writers;
+#[cfg(test)]
+mod writing;

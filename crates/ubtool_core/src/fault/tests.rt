@@ -24,10 +24,19 @@ fn text(rt: &HostRuntime, text: &str) -> Result<String, AllocError> {
 fn tells_of_configurations(rt: HostRuntime) {
     let table = [
         (ConfigError::BadLine(1), "ubtool: config line 1: bad line\n"),
-        (ConfigError::NotText(20), "ubtool: config line 20: not text\n"),
-        (ConfigError::BadNumber(3), "ubtool: config line 3: bad number\n"),
+        (
+            ConfigError::NotText(20),
+            "ubtool: config line 20: not text\n",
+        ),
+        (
+            ConfigError::BadNumber(3),
+            "ubtool: config line 3: bad number\n",
+        ),
         (ConfigError::NoPlace, "ubtool: config names no place\n"),
-        (ConfigError::SizeOutOfRange(5), "ubtool: config line 5: size out of range\n"),
+        (
+            ConfigError::SizeOutOfRange(5),
+            "ubtool: config line 5: size out of range\n",
+        ),
         (ConfigError::UnequalSizes, "ubtool: config sizes differ\n"),
         (ConfigError::Memory, "ubtool: out of memory\n"),
     ];
@@ -42,15 +51,36 @@ fn tells_of_images(rt: HostRuntime) {
     let image = ToolError::Image;
     let table = [
         (image(ImageError::WrongSize), "ubtool: wrong image size\n"),
-        (image(ImageError::BadCrc), "ubtool: no image with a right CRC\n"),
-        (image(ImageError::TooLarge), "ubtool: environment is too large\n"),
-        (image(ImageError::Content(DataError::NotTerminated)), "ubtool: image is not terminated\n"),
-        (image(ImageError::Content(DataError::NoEquals(0))), "ubtool: image entry at 0 has no =\n"),
-        (image(ImageError::Content(DataError::EmptyName(3))), "ubtool: image entry at 3 has no name\n"),
+        (
+            image(ImageError::BadCrc),
+            "ubtool: no image with a right CRC\n",
+        ),
+        (
+            image(ImageError::TooLarge),
+            "ubtool: environment is too large\n",
+        ),
+        (
+            image(ImageError::Content(DataError::NotTerminated)),
+            "ubtool: image is not terminated\n",
+        ),
+        (
+            image(ImageError::Content(DataError::NoEquals(0))),
+            "ubtool: image entry at 0 has no =\n",
+        ),
+        (
+            image(ImageError::Content(DataError::EmptyName(3))),
+            "ubtool: image entry at 3 has no name\n",
+        ),
         (ToolError::Env(EnvError::BadName), "ubtool: bad name\n"),
         (ToolError::Env(EnvError::BadValue), "ubtool: bad value\n"),
-        (ToolError::Script(ScriptError::BadName(5)), "ubtool: script line 5: bad name\n"),
-        (ToolError::Script(ScriptError::BadValue(6)), "ubtool: script line 6: bad value\n"),
+        (
+            ToolError::Script(ScriptError::BadName(5)),
+            "ubtool: script line 5: bad name\n",
+        ),
+        (
+            ToolError::Script(ScriptError::BadValue(6)),
+            "ubtool: script line 6: bad value\n",
+        ),
         (ToolError::Write, "ubtool: output failed\n"),
         (ToolError::Memory, "ubtool: out of memory\n"),
     ];
@@ -59,6 +89,7 @@ fn tells_of_images(rt: HostRuntime) {
         assert_eq!(rt; line.as_slice(), wanted.as_bytes());
     }
 }
+
 #[test]
 fn tells_of_words(rt: HostRuntime) -> Result<(), Fail> {
     let config = Fault::of_read(text(&rt, "/etc/fw_env.config")?, FileFault::Failed);

@@ -1,0 +1,124 @@
+use envimage::{ByteOrder, ImageError, Which};
+use envtools::{Env, EnvError, ScriptError, apply_script};
+use std::test::Fail;
+use ubtool_core::{Edit, ToolError, set_bytes};
+
+const ONE: [u8; 9] = [0x3B, 0x06, 0x98, 0x45, 0x61, 0x3D, 0x31, 0x00, 0x00];
+
+/// The variables of an environment, a line each.
+fn lines_of(rt: &HostRuntime, env: &Env) -> Result<Vec<u8>, Fail> {
+    let mut lines = Vec::new(rt.alloc());
+    for at in 0..env.len() {
+        if let Some((name, value)) = env.pair(at) {
+            lines.extend_from_slice(name)?;
+            lines.push(b'=')?;
+            lines.extend_from_slice(value)?;
+            lines.push(b'\n')?;
+        }
+    }
+    Ok(lines)
+}
+
+#[test]
+fn a_script_changes_an_environment(rt: HostRuntime) -> Result<(), Fail> {
+    let mut env = Env::new(rt.alloc());
+    env.set(b"a", b"0")?;
+    apply_script(&mut env, b"# c\na\nb  x  y\nc=1\n")?;
+    assert_eq!(rt;
+        lines_of(&rt, &env)?.as_slice(),
+        b"b=x  y\nc=1\n".as_slice()
+    );
+    let error = apply_script(&mut env, b"d 4\n\r\n=x").err();
+    assert_eq!(rt; error, Some(ScriptError::BadName(3)));
+    assert_eq!(rt;
+        lines_of(&rt, &env)?.as_slice(),
+        b"b=x  y\nc=1\nd=4\n".as_slice()
+    );
+    let copy = env.copy()?;
+    assert_eq!(rt;
+        lines_of(&rt, &copy)?.as_slice(),
+        b"b=x  y\nc=1\nd=4\n".as_slice()
+    );
+    Ok(())
+}
+
+#[test]
+fn an_environment_is_changed(rt: HostRuntime) -> Result<(), Fail> {
+    let mut env = Env::from_data(rt.alloc(), b"a=1\0b=2\0a=3\0\0")?;
+    assert_eq!(rt; lines_of(&rt, &env)?.as_slice(), b"a=3\nb=2\n".as_slice());
+    env.change(b"a", &[b"3"])?;
+    assert_eq!(rt; lines_of(&rt, &env)?.as_slice(), b"a=3\nb=2\n".as_slice());
+    env.set(b"a", b"3")?;
+    assert_eq!(rt; lines_of(&rt, &env)?.as_slice(), b"b=2\na=3\n".as_slice());
+    env.change(b"b", &[b"x", b"", b"y"])?;
+    assert_eq!(rt; env.get(b"b"), Some(b"x  y".as_slice()));
+    assert_eq!(rt; env.remove(b"a"), true);
+    assert_eq!(rt; env.remove(b"a"), false);
+    assert_eq!(rt; env.set(b"a=b", b"1").err(), Some(EnvError::BadName));
+    assert_eq!(rt; env.change(b"a", &[b"x\0"]).err(), Some(EnvError::BadValue));
+    Ok(())
+}
+
+#[test]
+fn a_single_image_is_written(rt: HostRuntime) -> Result<(), Fail> {
+    let rows: [(&[&[u8]], [u8; 9]); 3] = [
+        (
+            &[b"2"],
+            [0x62, 0xB8, 0xDE, 0x47, 0x61, 0x3D, 0x32, 0x00, 0x00],
+        ),
+        (&[b"1"], ONE),
+        (&[], [0x1D, 0xF7, 0x22, 0xC6, 0x00, 0x00, 0x00, 0x00, 0x00]),
+    ];
+    for (words, want) in rows {
+        let edit = Edit::One { name: b"a", words };
+        let (which, image) = set_bytes(rt.alloc(), &ONE, None, ByteOrder::Little, edit)?;
+        assert_eq!(rt; which, Which::First);
+        assert_eq!(rt; image.as_slice(), want.as_slice());
+    }
+    Ok(())
+}
+
+#[test]
+fn changes_of_an_image_are_refused(rt: HostRuntime) {
+    let long = Edit::One {
+        name: b"a",
+        words: &[b"44"],
+    };
+    let bad = Edit::One {
+        name: b"a=b",
+        words: &[b"1"],
+    };
+    let rows = [
+        (long, ToolError::Image(ImageError::TooLarge)),
+        (bad, ToolError::Env(EnvError::BadName)),
+        (
+            Edit::Script(b"\n\n=x"),
+            ToolError::Script(ScriptError::BadName(3)),
+        ),
+    ];
+    for (edit, want) in rows {
+        let error = set_bytes(rt.alloc(), &ONE, None, ByteOrder::Little, edit).err();
+        assert_eq!(rt; error, Some(want));
+    }
+}
+
+#[test]
+fn the_spare_copy_of_a_pair_is_written(rt: HostRuntime) -> Result<(), Fail> {
+    let first: [u8; 10] = [0x3B, 0x06, 0x98, 0x45, 0xFF, 0x61, 0x3D, 0x31, 0x00, 0x00];
+    let second: [u8; 10] = [0x62, 0xB8, 0xDE, 0x47, 0x00, 0x61, 0x3D, 0x32, 0x00, 0x00];
+    let want: [u8; 10] = [0x55, 0xD2, 0x1C, 0x46, 0x01, 0x61, 0x3D, 0x33, 0x00, 0x00];
+    let edit = Edit::One {
+        name: b"a",
+        words: &[b"3"],
+    };
+    let (which, image) = set_bytes(rt.alloc(), &first, Some(&second), ByteOrder::Little, edit)?;
+    assert_eq!(rt; which, Which::First);
+    assert_eq!(rt; image.as_slice(), want.as_slice());
+    let first: [u8; 10] = [0x45, 0x98, 0x06, 0x3B, 0xFF, 0x61, 0x3D, 0x31, 0x00, 0x00];
+    let second: [u8; 10] = [0x47, 0xDE, 0xB8, 0x62, 0x00, 0x61, 0x3D, 0x32, 0x00, 0x00];
+    let want: [u8; 10] = [0x46, 0x1C, 0xD2, 0x55, 0x01, 0x61, 0x3D, 0x33, 0x00, 0x00];
+    let (which, image) = set_bytes(rt.alloc(), &first, Some(&second), ByteOrder::Big, edit)?;
+    assert_eq!(rt; which, Which::First);
+    assert_eq!(rt; image.as_slice(), want.as_slice());
+    Ok(())
+}
