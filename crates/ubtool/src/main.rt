@@ -1,23 +1,35 @@
-//! The program `ubtool`: without words it prints the variables of the image on standard input.
+//! The program `ubtool`: variables of a U-Boot environment, printed and changed.
 #![tactic(auto)]
 
 use envimage::{Over, write_all};
 use std::process::ExitCode;
 use std::{env, io};
-use ubtool_core::run_input;
+use ubtool_core::Machine;
+use ubtool_run::run_tool;
 
 fn main(rt: HostRuntime) -> ExitCode {
     let mut out = Over::new(io::writer(&rt));
     let stderr = rt.stderr();
     let mut err = Over::new(io::writer(&stderr));
-    let words = match env::args(&rt) {
-        Ok(args) => args.skip(1).count(),
-        Err(_) => 1,
-    };
-    if words > 0 {
-        let _ = write_all(&mut err, b"ubtool: words are not read yet\n");
+    let Ok(words) = env::args(&rt) else {
+        let _ = write_all(&mut err, b"ubtool: the words are no text\n");
         return ExitCode::from(2);
-    }
+    };
+    let words: Vec<String> = match words.skip(1).collect(rt.alloc()) {
+        Ok(words) => words,
+        Err(_) => {
+            let _ = write_all(&mut err, b"ubtool: out of memory\n");
+            return ExitCode::from(2);
+        }
+    };
+    let mut files = Machine::new(&rt);
     let mut input = rt.reader();
-    ExitCode::from(run_input(rt.alloc(), &mut input, &mut out, &mut err))
+    ExitCode::from(run_tool(
+        rt.alloc(),
+        &words,
+        &mut input,
+        &mut files,
+        &mut out,
+        &mut err,
+    ))
 }

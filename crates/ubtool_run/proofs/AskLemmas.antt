@@ -1,0 +1,67 @@
+-- What the words ask for.
+use Rattle.std.proofs.Common.{◌≡◌, ◌==◌, ℕ, Bool, true, false, not, refl, sym, subst, ◌∙◌, List, length, Option, Some, None, Ok}
+use Rattle.std.proofs.lemmas.Bool.{eqb-true}
+use Rattle.std.proofs.lemmas.List.{length-map}
+use Rattle.std.specs.Prelude.{Result, option_and_then, option_map, if◌then◌else◌, ◌&&◌, codes, string_bytes, map}
+use Rattle.std.specs.Str.{bytes_eq}
+use Rattle.clap.specs.Words.{Row, Text, first_of, subcommand_of}
+use Rattle.ubtool_cli.specs.Answers.{Answers, asked, meaning_of}
+use Rattle.ubtool_cli.specs.Asked.{Asked, Bounds, asked_of, bounds_asked, change_asked, config_of, is_big_endian, header_needs_one, is_set, number_within, print_asked, printing, rehearsal_with, rehearse_asked, set_asked, values_of}
+use Rattle.ubtool_cli.specs.CommandLine.{ubtool}
+use Rattle.ubtool_cli.specs.declared.ask.Ask.{Ask}
+use Rattle.ubtool_cli.specs.declared.ask.Ask.TheVariants.{Help, Print, Rehearse, Setenv}
+use Rattle.ubtool_cli.specs.declared.ask.UseError.{UseError}
+use Rattle.ubtool_run.specs.Asking.{IsComplete}
+
+-- a value without its name is asked for of one name
+abbrev IsFit : Option Asked → Type 0
+IsFit (Some (printing config header names big_endian)) = header ≡ false → length names ≡ 1
+IsFit asked = Unit {0}
+
+either : (b : Bool) (x y : Option Asked) → IsFit x → IsFit y → IsFit (if b then x else y)
+either true x y first second = first
+either false x y first second = second
+
+print-fit : (no_header one : Bool) (config : Text) (names : List Text) (big_endian : Bool) → (length names == 1) ≡ one
+    → IsFit (Some (if no_header && not one then header_needs_one else printing config (not no_header) names big_endian))
+print-fit true true config names big_endian e = λ h. eqb-true (length names) 1 e
+print-fit true false config names big_endian e = tt
+print-fit false one config names big_endian e = λ h. let none : ⊥ = cc in absurd none
+
+set-fit : (script name : Option Text) (rows : List Row) → IsFit (Some (change_asked script name rows))
+set-fit (Some script) None rows = tt
+set-fit (Some script) (Some name) rows = tt
+set-fit None (Some name) rows = tt
+set-fit None None rows = tt
+
+rehearse-fit : (list : Option Text) (bounds : Option Bounds) (limit : Option (Option ℕ)) (rows : List Row) → IsFit (rehearsal_with list bounds limit rows)
+rehearse-fit (Some list) (Some bounds) (Some limit) rows = tt
+rehearse-fit None bounds limit rows = tt
+rehearse-fit (Some list) None limit rows = tt
+rehearse-fit (Some list) (Some bounds) None rows = tt
+
+asked-fit : (words : List Text) → IsFit (asked words)
+asked-fit words = by (subcommand_of ubtool words)
+  where
+    of : (name : Text) (rows : List Row) → IsFit (asked_of name rows)
+    of name rows =
+        let names = values_of (codes "names") rows in
+        let printed = print-fit (is_set (codes "no-header") rows) (length names == 1) (config_of rows) names (is_big_endian rows) refl in
+        let set = set-fit (first_of (codes "script") rows) (first_of (codes "name") rows) rows in
+        let rehearsed = rehearse-fit (first_of (codes "device-list") rows) (bounds_asked rows) (number_within 1 4294967295 (codes "limit") rows) rows in
+        let last = either (bytes_eq name (codes "rehearse")) (rehearse_asked rows) None rehearsed tt in
+        let two = either (bytes_eq name (codes "setenv")) (Some (set_asked rows)) (if bytes_eq name (codes "rehearse") then rehearse_asked rows else None) set last in
+        either (bytes_eq name (codes "printenv")) (Some (print_asked rows))
+        (if bytes_eq name (codes "setenv") then Some (set_asked rows) else (if bytes_eq name (codes "rehearse") then rehearse_asked rows else None)) printed two
+    by : (found : Option (Text × List Row)) → IsFit (option_and_then (λ s. asked_of s.0 s.1) found)
+    by None = tt
+    by (Some s) = of s.0 s.1
+
+-- what was asked for is complete
+pub answer-complete : (words : List Text) (ask : Ask) → Answers words (Ok ask) → IsComplete ask
+answer-complete words (Print config header names big_endian) h =
+    let fit : IsFit (meaning_of (Print config header names big_endian)) = subst IsFit (sym h.1) (asked-fit words) in
+    λ none. sym (length-map names.items string_bytes) ∙ fit none
+answer-complete words (Setenv config change big_endian) h = tt
+answer-complete words (Rehearse config list what big_endian) h = tt
+answer-complete words (Help text) h = tt

@@ -1,0 +1,6 @@
+pub mod PlaceLemmas
+pub mod ReadingLemmas
+pub mod PrintLemmas
+pub mod SetLemmas
+pub mod AskLemmas
+pub mod RunLemmas

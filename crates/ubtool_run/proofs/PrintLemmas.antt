@@ -1,0 +1,60 @@
+-- Printing what was read.
+use Rattle.std.proofs.Common.{◌≡◌, ℕ, Bool, List, ◌∷◌, [], Option, Some, None, Ok, Err, refl, sym, subst, ap}
+use Rattle.std.specs.Prelude.{Result, option_map}
+use Rattle.envimage.specs.declared.image.ByteOrder.{ByteOrder}
+use Rattle.ubtool_core.specs.Order.{OnlyReads}
+use Rattle.ubtool_core.specs.Printing.{Outputs, Prints, environment_in}
+use Rattle.ubtool_core.specs.Told.{Told}
+use Rattle.ubtool_core.specs.declared.error.ToolError.{ToolError}
+use Rattle.ubtool_core.specs.declared.error.ToolError.TheVariants.{Image, Env, Script, Write, Memory}
+use Rattle.ubtool_core.specs.declared.fault.Fault.{Fault}
+use Rattle.ubtool_core.specs.declared.fault.Fault.TheVariants as fault
+use Rattle.ubtool_run.proofs.ReadingLemmas.{found-reads}
+use Rattle.ubtool_run.specs.Faults.{IsReadFault}
+use Rattle.ubtool_run.specs.Images.{Copy, HasRead, copies}
+use Rattle.ubtool_run.specs.Printing.{PrintsCopies, PrintsFrom, environment, first_bytes, second_bytes}
+use Rattle.ubtool_run.specs.declared.images.Images.{Images}
+use Rattle.ubtool_run.specs.declared.read.StoredCopy.{StoredCopy}
+
+-- a fault of reading
+pub prints-unread : (order : ByteOrder) (config : List ℕ) (names : List (List ℕ)) (header : Bool) (outputs : Outputs) (old new : Told) (f : Fault) → IsReadFault f
+    → OnlyReads old new → PrintsFrom order config names header outputs old new (Err f)
+prints-unread order config names header outputs old new (fault.Config error) is h = h
+prints-unread order config names header outputs old new (fault.Tool error) is h = absurd is
+prints-unread order config names header outputs old new (fault.CannotRead path) is h = h
+prints-unread order config names header outputs old new (fault.CannotWrite path) is h = h
+prints-unread order config names header outputs old new (fault.FileShort path) is h = h
+prints-unread order config names header outputs old new (fault.FileTooLong path) is h = h
+prints-unread order config names header outputs old new fault.CannotReadInput is h = h
+prints-unread order config names header outputs old new (fault.NoSuchVariable name) is h = h
+prints-unread order config names header outputs old new (fault.NotARun word) is h = h
+prints-unread order config names header outputs old new fault.NotBuilt is h = h
+prints-unread order config names header outputs old new fault.Memory is h = h
+
+-- what reading and then printing did
+pub prints-read : (order : ByteOrder) (config : List ℕ) (names : List (List ℕ)) (header : Bool) (outputs : Outputs) (old new : Told) (found : List Copy) (r : Result Bool Fault)
+    → HasRead config old new found → PrintsCopies order found names header outputs r → PrintsFrom order config names header outputs old new r
+prints-read order config names header outputs old new found (Ok all) read h = record { found = found; read = read; so = h }
+prints-read order config names header outputs old new found (Err (fault.Tool (Image error))) read h = record { found = found; read = read; so = h.0 }
+prints-read order config names header outputs old new found (Err (fault.Tool Write)) read h = record { found = found; read = read; so = h }
+prints-read order config names header outputs old new found (Err (fault.Tool Memory)) read h = found-reads config old new found read
+prints-read order config names header outputs old new found (Err (fault.Tool (Env error))) read h = absurd h
+prints-read order config names header outputs old new found (Err (fault.Tool (Script error))) read h = absurd h
+prints-read order config names header outputs old new found (Err (fault.Config error)) read h = absurd h
+prints-read order config names header outputs old new found (Err (fault.CannotRead path)) read h = absurd h
+prints-read order config names header outputs old new found (Err (fault.CannotWrite path)) read h = absurd h
+prints-read order config names header outputs old new found (Err (fault.FileShort path)) read h = absurd h
+prints-read order config names header outputs old new found (Err (fault.FileTooLong path)) read h = absurd h
+prints-read order config names header outputs old new found (Err fault.CannotReadInput) read h = absurd h
+prints-read order config names header outputs old new found (Err (fault.NoSuchVariable name)) read h = absurd h
+prints-read order config names header outputs old new found (Err (fault.NotARun word)) read h = absurd h
+prints-read order config names header outputs old new found (Err fault.NotBuilt) read h = absurd h
+prints-read order config names header outputs old new found (Err fault.Memory) read h = absurd h
+
+-- the bytes of the images that were read
+pub image-bytes : (images : Images) → second_bytes (copies images) ≡ option_map (λ copy. copy.bytes.items) images.second
+image-bytes images = by images.first images.second
+  where
+    by : (x : StoredCopy) (y : Option StoredCopy) → second_bytes (copies (record { first = x; second = y })) ≡ option_map (λ copy. copy.bytes.items) y
+    by x None = refl
+    by x (Some y) = refl

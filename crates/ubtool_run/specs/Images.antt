@@ -1,0 +1,62 @@
+-- The images that a configuration names, read from files that tell what stands in them.
+-- The configuration is fw_env.config (U-Boot, tools/env README); the order of the reads is ours.
+use Rattle.std.specs.Prelude.{◌≡◌, ℕ, List, [], ◌∷◌, ◌++◌, map, Option, Some, None, Result, Ok, Err}
+use Rattle.envimage.specs.Config.{PlaceShown, places}
+use Rattle.envimage.specs.Place.{place_shown, AnswersPlaces}
+use Rattle.envimage.specs.declared.config.ConfigError.{ConfigError}
+use Rattle.envimage.specs.declared.config.Place.{Place}
+use Rattle.ubtool_core.specs.Order.{OnlyReads}
+use Rattle.ubtool_core.specs.Told.{Told, file_at}
+use Rattle.ubtool_core.specs.declared.fault.Fault.{Fault}
+use Rattle.ubtool_core.specs.declared.fault.Fault.TheVariants.{Config}
+use Rattle.ubtool_core.specs.declared.files.Action.TheVariants.{ReadAll}
+use Rattle.ubtool_run.specs.Reading.{ReadsCopy, bytes_at, read_of}
+use Rattle.ubtool_run.specs.declared.images.Images.{Images}
+use Rattle.ubtool_run.specs.declared.read.StoredCopy.{StoredCopy}
+
+-- the second place, where there is one
+abbrev pub second_place : Option Place → List PlaceShown
+second_place None = []
+second_place (Some place) = place_shown place ∷ []
+
+-- the places that a text names, or its refusal
+abbrev pub Names : Result (List PlaceShown) ConfigError → Result (Place × Option Place) Fault → Type 0
+Names answer (Ok named) = answer ≡ Ok (place_shown named.0 ∷ second_place named.1)
+Names answer (Err (Config error)) = AnswersPlaces answer (Err error)
+Names answer (Err _) = ⊥
+
+-- the copy at the second place was read, where there is one, or reading it was tried
+abbrev pub ReadsSecond : Option Place → Told → Told → Result (Option StoredCopy) Fault → Type 0
+ReadsSecond None old new (Ok None) = new ≡ old
+ReadsSecond (Some place) old new (Ok (Some copy)) = (copy.place ≡ place) × ReadsCopy place old new (Ok copy)
+ReadsSecond place old new (Ok _) = ⊥
+ReadsSecond place old new (Err fault) = OnlyReads old new
+
+-- a copy: where it stands, and its bytes
+abbrev pub Copy : Type 0
+Copy = PlaceShown × List ℕ
+
+abbrev pub copy_of : StoredCopy → Copy
+copy_of copy = (place_shown copy.place, copy.bytes.items)
+
+-- the copies, the first one before the second
+abbrev pub copies : Images → List Copy
+copies images = by images.second
+  where
+    by : Option StoredCopy → List Copy
+    by None = copy_of images.first ∷ []
+    by (Some second) = copy_of images.first ∷ copy_of second ∷ []
+
+-- The configuration was read and names the places of these copies, and then each copy was read, the
+-- first one first.
+pub record HasRead (config : List ℕ) (old new : Told) (found : List Copy) : Type 0 where
+  pub text : List ℕ
+  pub there : file_at config old.stored ≡ Some text
+  pub named : places text ≡ Ok (map (λ c. c.0) found)
+  pub bytes : map (λ c. bytes_at c.0 old.stored) found ≡ map (λ c. Some c.1) found
+  pub calls : new.calls ≡ old.calls ++ (config, ReadAll) ∷ map (λ c. read_of c.0) found
+  pub stored : new.stored ≡ old.stored
+
+abbrev pub ReadsImages : List ℕ → Told → Told → Result Images Fault → Type 0
+ReadsImages config old new (Ok images) = HasRead config old new (copies images)
+ReadsImages config old new (Err fault) = OnlyReads old new

@@ -1,0 +1,47 @@
+-- What the whole program has done when it ends with a status. The statuses are ours.
+use Rattle.std.specs.Prelude.{◌≡◌, ◌⊎◌, ℕ, Bool, true, false, List, Option, Result, Ok, Err, string_bytes}
+use Rattle.clap.specs.Words.{Text}
+use Rattle.envimage.specs.Sink.{BrokeOff, Sink, Wrote}
+use Rattle.ubtool_cli.specs.Answers.{Answers}
+use Rattle.ubtool_cli.specs.declared.ask.Ask.{Ask}
+use Rattle.ubtool_cli.specs.declared.ask.UseError.{UseError}
+use Rattle.ubtool_cli.specs.declared.ask.UseError.TheVariants.{Line}
+use Rattle.ubtool_core.specs.Printing.{Outputs}
+use Rattle.ubtool_core.specs.Told.{Told}
+use Rattle.ubtool_core.specs.declared.fault.Fault.{Fault}
+use Rattle.ubtool_run.specs.Asking.{Does}
+
+-- Status 0: the words ask for something, and it was done.
+pub record HasDone (words : List Text) (before after : Option Told) (outputs : Outputs) : Type 0 where
+  pub ask : Ask
+  pub asked : Answers words (Ok ask)
+  pub does : Does ask before after outputs (Ok true)
+
+-- Status 1: the words ask for something; a variable was missing or it was refused, which is told on
+-- the error output last.
+pub record HasRefused (words : List Text) (before after : Option Told) (outputs : Outputs) : Type 0 where
+  pub ask : Ask
+  pub asked : Answers words (Ok ask)
+  pub answer : Result Bool Fault
+  pub is_refusal : (answer ≡ Ok true) → ⊥
+  pub told_from : Sink
+  pub does : Does ask before after (record { out = outputs.out; out' = outputs.out'; err = outputs.err; err' = told_from }) answer
+
+-- what is told where words are refused: what `clap` says, as it is, or its front where the output failed
+abbrev pub Tells : UseError → Sink → Sink → Type 0
+Tells (Line text) old new = Wrote old new (string_bytes text) ⊎ BrokeOff old new (string_bytes text)
+Tells error old new = Unit {0}
+
+-- Status 2: the words were refused; no file was touched and nothing printed.
+pub record IsMisused (words : List Text) (before after : Option Told) (outputs : Outputs) : Type 0 where
+  pub error : UseError
+  pub refused : Answers words (Err error)
+  pub files : after ≡ before
+  pub output : outputs.out' ≡ outputs.out
+  pub tells : Tells error outputs.err outputs.err'
+
+-- the status of an answer, which leaves the error output as it is where there is no fault
+abbrev pub Ends : Result Bool Fault → Sink → Sink → ℕ → Type 0
+Ends (Ok true) old new status = (status ≡ 0) × (new ≡ old)
+Ends (Ok false) old new status = (status ≡ 1) × (new ≡ old)
+Ends (Err fault) old new status = status ≡ 1

@@ -1,0 +1,95 @@
+-- What changing the environment in the images of a configuration does, on files that tell what stands
+-- in them. It follows fw_setenv (U-Boot, tools/env README); the order of work is ours.
+use Rattle.std.specs.Prelude.{◌≡◌, ℕ, List, [], ◌∷◌, ◌++◌, map, Option, Some, None, Result, Ok, Err, Vec, string_bytes}
+use Rattle.std.specs.declared.alloc.Global.{Global}
+use Rattle.envimage.specs.Config.{PlaceShown}
+use Rattle.envimage.specs.declared.image.ByteOrder.{ByteOrder}
+use Rattle.envimage.specs.declared.image.Which.{Which}
+use Rattle.envimage.specs.declared.image.Which.TheVariants.{First, Second}
+use Rattle.ubtool_cli.specs.declared.ask.Change.{Change}
+use Rattle.ubtool_cli.specs.declared.ask.Change.TheVariants.{One, Script}
+use Rattle.ubtool_core.specs.Order.{OnlyReads}
+use Rattle.ubtool_core.specs.Setting.{set_of}
+use Rattle.ubtool_core.specs.Told.{Stored, Told, WritesAt, file_at}
+use Rattle.ubtool_core.specs.declared.change.Edit.{Edit}
+use Rattle.ubtool_core.specs.declared.change.Edit.TheVariants as edit
+use Rattle.ubtool_core.specs.declared.error.ToolError.{ToolError}
+use Rattle.ubtool_core.specs.declared.error.ToolError.TheVariants.{Write}
+use Rattle.ubtool_core.specs.declared.fault.Fault.{Fault}
+use Rattle.ubtool_core.specs.declared.fault.Fault.TheVariants.{CannotWrite, Memory, Tool}
+use Rattle.ubtool_core.specs.declared.files.Action.{Action}
+use Rattle.ubtool_core.specs.declared.files.Action.TheVariants.{ReadAll}
+use Rattle.ubtool_core.specs.declared.files.FileFault.{FileFault}
+use Rattle.ubtool_core.specs.declared.files.FileFault.TheVariants.{Failed}
+use Rattle.ubtool_run.specs.Images.{Copy, HasRead}
+use Rattle.ubtool_run.specs.Printing.{first_bytes, second_bytes}
+
+-- which copy is written after an edit, and its bytes, or the refusal
+abbrev pub edited : ByteOrder → List Copy → Edit → Result (Which × List ℕ) ToolError
+edited order found change = set_of order (first_bytes found) (second_bytes found) change
+
+abbrev pub IsEdited : ByteOrder → List Copy → Edit → Result (Which × Vec ℕ Global) Fault → Type 0
+IsEdited order found change (Ok w) = edited order found change ≡ Ok (w.0, w.1.items)
+IsEdited order found change (Err (CannotWrite path)) = ⊥
+IsEdited order found change (Err (Tool error)) = Unit {0}
+IsEdited order found change (Err fault) = ⊥
+
+-- what a change says: a variable and its words, or the text of the script in the files
+abbrev pub IsEdit : Change → Stored → Edit → Type 0
+IsEdit (One name words) stored (edit.One n ws) =
+    (n.now ≡ string_bytes name) × (map (λ w. w.now) ws.now ≡ map string_bytes words.items)
+IsEdit (Script path) stored (edit.Script text) = file_at (string_bytes path) stored ≡ Some text.now
+IsEdit change stored _ = ⊥
+
+-- the reads that a change asks for
+abbrev pub reads_of : Change → List (List ℕ × Action)
+reads_of (One name words) = []
+reads_of (Script path) = (string_bytes path, ReadAll) ∷ []
+
+-- The change was made, in memory, of copies that were found.
+pub record HasEdited (order : ByteOrder) (change : Change) (found : List Copy) (old new : Told) (which : Which) (bytes : List ℕ) : Type 0 where
+  pub edit : Edit
+  pub says : IsEdit change old.stored edit
+  pub made : edited order found edit ≡ Ok (which, bytes)
+  pub calls : new.calls ≡ old.calls ++ reads_of change
+  pub stored : new.stored ≡ old.stored
+
+abbrev pub Edits : ByteOrder → Change → List Copy → Told → Told → Result (Which × Vec ℕ Global) Fault → Type 0
+Edits order change found old new (Ok w) = HasEdited order change found old new w.0 w.1.items
+Edits order change found old new (Err (CannotWrite path)) = ⊥
+Edits order change found old new (Err fault) = OnlyReads old new
+
+-- the place of a copy; a single image has one
+abbrev pub IsPlaceOf : Which → List Copy → PlaceShown → Type 0
+IsPlaceOf which [] place = ⊥
+IsPlaceOf which (copy ∷ []) place = place ≡ copy.0
+IsPlaceOf First (copy ∷ second ∷ more) place = place ≡ copy.0
+IsPlaceOf Second (copy ∷ second ∷ more) place = place ≡ second.0
+
+-- The bytes were written in the place of the copy, or that write was tried.
+pub record WritesIn (which : Which) (found : List Copy) (bytes : List ℕ) (old new : Told) (answer : Result (Unit {0}) FileFault) : Type 0 where
+  pub place : PlaceShown
+  pub there : IsPlaceOf which found place
+  pub writes : WritesAt place.device place.offset bytes old new answer
+
+abbrev pub WritesCopy : Which → List Copy → List ℕ → Told → Told → Result (Unit {0}) Fault → Type 0
+WritesCopy which found bytes old new (Ok done) = WritesIn which found bytes old new (Ok done)
+WritesCopy which found bytes old new (Err (CannotWrite path)) = WritesIn which found bytes old new (Err Failed)
+WritesCopy which found bytes old new (Err Memory) = OnlyReads old new
+WritesCopy which found bytes old new (Err fault) = ⊥
+
+-- The images were read, the change was made, and then one copy was written, or that write was tried.
+pub record HasSet (order : ByteOrder) (config : List ℕ) (change : Change) (old new : Told) (answer : Result (Unit {0}) FileFault) : Type 0 where
+  pub found : List Copy
+  pub which : Which
+  pub bytes : List ℕ
+  pub after_images : Told
+  pub read : HasRead config old after_images found
+  pub after_change : Told
+  pub edited : HasEdited order change found after_images after_change which bytes
+  pub written : WritesIn which found bytes after_change new answer
+
+abbrev pub Sets : ByteOrder → List ℕ → Change → Told → Told → Result (Unit {0}) Fault → Type 0
+Sets order config change old new (Ok done) = HasSet order config change old new (Ok done)
+Sets order config change old new (Err (CannotWrite path)) = HasSet order config change old new (Err Failed)
+Sets order config change old new (Err fault) = OnlyReads old new

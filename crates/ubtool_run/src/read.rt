@@ -1,0 +1,49 @@
+//! Reading what a call needs: texts, and the copies that a configuration names.
+ghost use Rattle.std.specs.Prelude.{◌≡◌, IfErr, IfOk, string_bytes};
+ghost use Rattle.ubtool_core.specs.Told.{IfTold};
+ghost use Rattle.ubtool_run.specs.Faults.{CountsTold, IsReadFault};
+ghost use Rattle.ubtool_run.specs.Reading.{ReadsCopy, ReadsText};
+
+use envimage::Place;
+use std::alloc::Global;
+use ubtool_core::{Fault, Files};
+
+/// A copy of an image, and where it stands.
+#[derive(Debug, Drop)]
+pub struct StoredCopy {
+    /// Where the copy stands.
+    pub place: Place,
+    /// Its bytes.
+    pub bytes: Vec<u8>,
+}
+
+/// The whole file at the path.
+pub fn read_text<F: Files>(alloc: Global, files: &mut F, path: String) -> Result<Vec<u8>, Fault>
+    ensures count { CountsTold (F.faults files.old) (F.faults files.new) result }
+    ensures fault { IfErr result IsReadFault }
+    ensures told { IfTold (F.told files.old) (F.told files.new)
+        (λ old new. ReadsText (string_bytes path) old new result) }
+{
+    match files.read_all(alloc, &path) {
+        Ok(text) => Ok(text),
+        Err(fault) => Err(Fault::of_read(path, fault)),
+    }
+}
+
+/// The copy at a place.
+pub fn read_copy<F: Files>(
+    alloc: Global,
+    files: &mut F,
+    place: Place,
+) -> Result<StoredCopy, Fault>
+    ensures count { CountsTold (F.faults files.old) (F.faults files.new) result }
+    ensures place { IfOk result (λ copy. copy.place ≡ place) }
+    ensures fault { IfErr result IsReadFault }
+    ensures told { IfTold (F.told files.old) (F.told files.new)
+        (λ old new. ReadsCopy place old new result) }
+{
+    match files.read_at(alloc, &place.device, place.offset, place.size) {
+        Ok(bytes) => Ok(StoredCopy { place, bytes }),
+        Err(fault) => Err(Fault::of_read(place.device, fault)),
+    }
+}

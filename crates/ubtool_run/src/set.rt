@@ -1,0 +1,107 @@
+//! `setenv`, from files to one write.
+ghost use Rattle.std.specs.Prelude.{string_bytes};
+ghost use Rattle.envimage.specs.Place.{place_shown};
+ghost use Rattle.ubtool_core.specs.Told.{IfTold};
+ghost use Rattle.ubtool_run.specs.Faults.{CountsTold};
+ghost use Rattle.ubtool_run.specs.Images.{copies};
+ghost use Rattle.ubtool_run.specs.Setting.{Edits, IsEdited, IsPlaceOf, Sets, WritesCopy};
+
+use crate::images::{Images, read_images};
+use crate::print::slices_of;
+use crate::read::read_text;
+use envimage::{ByteOrder, Place, Which};
+use std::alloc::Global;
+use ubtool_cli::Change;
+use ubtool_core::{Edit, Fault, Files, set_bytes};
+
+/// Which copy of the images is to be written after an edit, and its bytes.
+fn edited_copy(
+    alloc: Global,
+    images: &Images,
+    order: ByteOrder,
+    edit: Edit<'_>,
+) -> Result<(Which, Vec<u8>), Fault>
+    ensures { IsEdited order (copies images.now) edit.entry result }
+{
+    let second = images.second_bytes();
+    match set_bytes(alloc, &images.first.bytes, second, order, edit) {
+        Ok(written) => Ok(written),
+        Err(error) => Err(Fault::Tool(error)),
+    }
+}
+
+/// Which copy of the images is to be written after a change, and its bytes. The text of a script is
+/// read from its file.
+fn changed_copy<F: Files>(
+    alloc: Global,
+    files: &mut F,
+    images: &Images,
+    order: ByteOrder,
+    change: Change,
+) -> Result<(Which, Vec<u8>), Fault>
+    ensures count { CountsTold (F.faults files.old) (F.faults files.new) result }
+    ensures told { IfTold (F.told files.old) (F.told files.new)
+        (λ old new. Edits order change (copies images.now) old new result) }
+{
+    match change {
+        Change::One { name, words } => {
+            let words = slices_of(alloc, &words)?;
+            let edit = Edit::One {
+                name: name.as_bytes(),
+                words: &words,
+            };
+            edited_copy(alloc, images, order, edit)
+        }
+        Change::Script(path) => {
+            let text = read_text(alloc, files, path)?;
+            edited_copy(alloc, images, order, Edit::Script(&text))
+        }
+    }
+}
+
+/// Where a copy of the images stands. A single image has one place.
+fn place_of(images: Images, which: Which) -> Place
+    ensures { IsPlaceOf which (copies images) (place_shown result) }
+{
+    let Images { first, second } = images;
+    match (which, second) {
+        (Which::Second, Some(second)) => second.place,
+        _ => first.place,
+    }
+}
+
+/// Writes the bytes of a copy in its place, by one call.
+fn write_copy<F: Files>(
+    files: &mut F,
+    images: Images,
+    which: Which,
+    bytes: &[u8],
+) -> Result<(), Fault>
+    ensures count { CountsTold (F.faults files.old) (F.faults files.new) result }
+    ensures told { IfTold (F.told files.old) (F.told files.new)
+        (λ old new. WritesCopy which (copies images) bytes.now old new result) }
+{
+    let place = place_of(images, which);
+    match files.write_at(&place.device, place.offset, bytes) {
+        Ok(()) => Ok(()),
+        Err(fault) => Err(Fault::of_write(place.device, fault)),
+    }
+}
+
+/// Changes the environment in the images that a configuration names: they are read, then the
+/// script, if there is one, and at last one copy is written. Of a pair that is not the current one.
+pub fn set<F: Files>(
+    alloc: Global,
+    files: &mut F,
+    config: String,
+    change: Change,
+    order: ByteOrder,
+) -> Result<(), Fault>
+    ensures count { CountsTold (F.faults files.old) (F.faults files.new) result }
+    ensures told { IfTold (F.told files.old) (F.told files.new)
+        (λ old new. Sets order (string_bytes config) change old new result) }
+{
+    let images = read_images(alloc, files, config)?;
+    let (which, bytes) = changed_copy(alloc, files, &images, order, change)?;
+    write_copy(files, images, which, &bytes)
+}

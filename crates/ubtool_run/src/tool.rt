@@ -1,0 +1,94 @@
+//! The whole program.
+ghost use Rattle.std.specs.Prelude.{◌≡◌, ◌<◌, ◌≤◌, length, map};
+ghost use Rattle.ubtool_core.specs.Input.{PrintsInput};
+ghost use Rattle.ubtool_run.specs.Running.{Ends, HasDone, HasRefused, IsMisused, Tells};
+
+use crate::perform::perform;
+use envimage::{Out, write_all};
+use std::alloc::Global;
+use std::convert::AsStr;
+use std::io::Read;
+use ubtool_cli::{UseError, read_command};
+use ubtool_core::{Fault, Files, run_input, write_fault};
+
+/// Tells why the words are refused. What `clap` says of them is written as it is.
+fn refuse<E: Out>(err: &mut E, error: &UseError)
+    ensures { Tells error.now (E.sink err.old) (E.sink err.new) }
+{
+    match error {
+        UseError::Line(text) => {
+            let _ = write_all(err, text.as_bytes());
+        }
+        error => write_fault(err, error),
+    }
+}
+
+/// The status of an answer. A fault is told by one line.
+fn status_of<E: Out>(err: &mut E, answer: Result<bool, Fault>) -> u8
+    ensures { Ends answer (E.sink err.old) (E.sink err.new) result }
+{
+    match answer {
+        Ok(true) => 0,
+        Ok(false) => 1,
+        Err(fault) => {
+            write_fault(err, &fault);
+            1
+        }
+    }
+}
+
+/// Reads the words and does what they ask for.
+fn run_words<S: AsStr, F: Files, O: Out, E: Out>(
+    alloc: Global,
+    words: &[S],
+    files: &mut F,
+    out: &mut O,
+    err: &mut E,
+) -> u8
+    ensures status { result ≤ 2 }
+    ensures done { result ≡ 0 → HasDone (map S.text words.now) (F.told files.old) (F.told files.new)
+        record { out = O.sink out.old; out' = O.sink out.new; err = E.sink err.old; err' = E.sink err.new } }
+    ensures refused { result ≡ 1 → HasRefused (map S.text words.now) (F.told files.old) (F.told files.new)
+        record { out = O.sink out.old; out' = O.sink out.new; err = E.sink err.old; err' = E.sink err.new } }
+    ensures misused { result ≡ 2 → IsMisused (map S.text words.now) (F.told files.old) (F.told files.new)
+        record { out = O.sink out.old; out' = O.sink out.new; err = E.sink err.old; err' = E.sink err.new } }
+{
+    match read_command(alloc, words) {
+        Ok(ask) => {
+            let answer = perform(alloc, ask, files, out, err);
+            status_of(err, answer)
+        }
+        Err(error) => {
+            refuse(err, &error);
+            2
+        }
+    }
+}
+
+/// The whole program, from its words to its status. Without words the single image on `input` is
+/// printed, its checksum little-endian. The status is 0 where all was done, 1 where something was
+/// refused or a variable to be printed is missing, and 2 where the words were not understood. A fault
+/// is told on `err` by one line; where `err` fails, nothing more is written there.
+pub fn run_tool<S: AsStr, R: Read, F: Files, O: Out, E: Out>(
+    alloc: Global,
+    words: &[S],
+    input: &mut R,
+    files: &mut F,
+    out: &mut O,
+    err: &mut E,
+) -> u8
+    ensures status { result ≤ 2 }
+    ensures printed { length words.now ≡ 0 → result ≡ 0 → PrintsInput (R.remaining input.old) (O.sink out.old) (O.sink out.new) }
+    ensures done { 0 < length words.now → result ≡ 0 → HasDone (map S.text words.now) (F.told files.old) (F.told files.new)
+        record { out = O.sink out.old; out' = O.sink out.new; err = E.sink err.old; err' = E.sink err.new } }
+    ensures refused { 0 < length words.now → result ≡ 1 → HasRefused (map S.text words.now) (F.told files.old) (F.told files.new)
+        record { out = O.sink out.old; out' = O.sink out.new; err = E.sink err.old; err' = E.sink err.new } }
+    ensures misused { result ≡ 2 → IsMisused (map S.text words.now) (F.told files.old) (F.told files.new)
+        record { out = O.sink out.old; out' = O.sink out.new; err = E.sink err.old; err' = E.sink err.new } }
+{
+    if words.is_empty() {
+        run_input(alloc, input, out, err)
+    } else {
+        run_words(alloc, words, files, out, err)
+    }
+}
