@@ -2,7 +2,7 @@
 use Rattle.std.proofs.Common.{◌≡◌, ◌==◌, ℕ, Bool, true, false, not, refl, sym, subst, ◌∙◌, List, length, Option, Some, None, Ok}
 use Rattle.std.proofs.lemmas.Bool.{eqb-true}
 use Rattle.std.proofs.lemmas.List.{length-map}
-use Rattle.std.specs.Prelude.{Result, option_and_then, option_map, if◌then◌else◌, ◌&&◌, codes, string_bytes, map}
+use Rattle.std.specs.Prelude.{option_and_then, if◌then◌else◌, ◌&&◌, codes, string_bytes}
 use Rattle.std.specs.Str.{bytes_eq}
 use Rattle.clap.specs.Words.{Row, Text, first_of, subcommand_of}
 use Rattle.ubtool_cli.specs.Answers.{Answers, asked, meaning_of}
@@ -10,7 +10,6 @@ use Rattle.ubtool_cli.specs.Asked.{Asked, Bounds, asked_of, bounds_asked, change
 use Rattle.ubtool_cli.specs.CommandLine.{ubtool}
 use Rattle.ubtool_cli.specs.declared.ask.Ask.{Ask}
 use Rattle.ubtool_cli.specs.declared.ask.Ask.TheVariants.{Help, Print, Rehearse, Setenv}
-use Rattle.ubtool_cli.specs.declared.ask.UseError.{UseError}
 use Rattle.ubtool_run.specs.Asking.{IsComplete}
 
 -- a value without its name is asked for of one name
@@ -53,6 +52,7 @@ asked-fit words = by (subcommand_of ubtool words)
         let two = either (bytes_eq name (codes "setenv")) (Some (set_asked rows)) (if bytes_eq name (codes "rehearse") then rehearse_asked rows else None) set last in
         either (bytes_eq name (codes "printenv")) (Some (print_asked rows))
         (if bytes_eq name (codes "setenv") then Some (set_asked rows) else (if bytes_eq name (codes "rehearse") then rehearse_asked rows else None)) printed two
+
     by : (found : Option (Text × List Row)) → IsFit (option_and_then (λ s. asked_of s.0 s.1) found)
     by None = tt
     by (Some s) = of s.0 s.1

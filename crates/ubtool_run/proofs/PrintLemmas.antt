@@ -1,18 +1,17 @@
 -- Printing what was read.
-use Rattle.std.proofs.Common.{◌≡◌, ℕ, Bool, List, ◌∷◌, [], Option, Some, None, Ok, Err, refl, sym, subst, ap}
+use Rattle.std.proofs.Common.{◌≡◌, ℕ, Bool, List, Option, Some, None, Ok, Err, refl}
 use Rattle.std.specs.Prelude.{Result, option_map}
 use Rattle.envimage.specs.declared.image.ByteOrder.{ByteOrder}
 use Rattle.ubtool_core.specs.Order.{OnlyReads}
-use Rattle.ubtool_core.specs.Printing.{Outputs, Prints, environment_in}
+use Rattle.ubtool_core.specs.Printing.{Outputs}
 use Rattle.ubtool_core.specs.Told.{Told}
-use Rattle.ubtool_core.specs.declared.error.ToolError.{ToolError}
 use Rattle.ubtool_core.specs.declared.error.ToolError.TheVariants.{Image, Env, Script, Write, Memory}
 use Rattle.ubtool_core.specs.declared.fault.Fault.{Fault}
 use Rattle.ubtool_core.specs.declared.fault.Fault.TheVariants as fault
 use Rattle.ubtool_run.proofs.ReadingLemmas.{found-reads}
 use Rattle.ubtool_run.specs.Faults.{IsReadFault}
 use Rattle.ubtool_run.specs.Images.{Copy, HasRead, copies}
-use Rattle.ubtool_run.specs.Printing.{PrintsCopies, PrintsFrom, environment, first_bytes, second_bytes}
+use Rattle.ubtool_run.specs.Printing.{PrintsCopies, PrintsFrom, second_bytes}
 use Rattle.ubtool_run.specs.declared.images.Images.{Images}
 use Rattle.ubtool_run.specs.declared.read.StoredCopy.{StoredCopy}
 

@@ -2,18 +2,17 @@
 use Rattle.std.proofs.Common.{◌≡◌, ◌∙◌, ℕ, true, refl, sym, ap, subst, List, [], ◌∷◌, ◌++◌, map, append_assoc, Option, Some, None, Ok, Err}
 use Rattle.std.specs.Prelude.{Result, Vec}
 use Rattle.std.specs.declared.alloc.Global.{Global}
-use Rattle.envimage.specs.Config.{PlaceShown, places}
+use Rattle.envimage.specs.Config.{places}
 use Rattle.envimage.specs.Place.{place_shown}
 use Rattle.envimage.specs.declared.config.Place.{Place}
-use Rattle.ubtool_core.proofs.OrderLemmas.{OnlyReads-one, OnlyReads-then, OnlyReads-none}
+use Rattle.ubtool_core.proofs.OrderLemmas.{OnlyReads-one}
 use Rattle.ubtool_core.specs.Order.{OnlyReads, are_reads}
 use Rattle.ubtool_core.specs.Told.{IfTold, Told, Stored, file_at}
 use Rattle.ubtool_core.specs.declared.fault.Fault.{Fault}
 use Rattle.ubtool_core.specs.declared.files.Action.{Action}
 use Rattle.ubtool_core.specs.declared.files.Action.TheVariants.{ReadAll}
-use Rattle.ubtool_run.specs.Images.{Copy, HasRead, ReadsImages, ReadsSecond, copies, copy_of, second_place}
+use Rattle.ubtool_run.specs.Images.{Copy, HasRead, ReadsSecond, copies, copy_of, second_place}
 use Rattle.ubtool_run.specs.Reading.{Reads, ReadsCopy, ReadsText, bytes_at, read_of}
-use Rattle.ubtool_run.specs.declared.images.Images.{Images}
 use Rattle.ubtool_run.specs.declared.read.StoredCopy.{StoredCopy}
 
 -- ---- each of them only reads

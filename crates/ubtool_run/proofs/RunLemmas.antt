@@ -1,5 +1,5 @@
 -- What a status says of what was done.
-use Rattle.std.proofs.Common.{arith, ◌≡◌, ℕ, Bool, true, false, refl, sym, subst, List, Option, Ok, Err}
+use Rattle.std.proofs.Common.{arith, ◌≡◌, ℕ, Bool, true, false, sym, subst, List, Option, Ok, Err}
 use Rattle.std.specs.Prelude.{Result}
 use Rattle.envimage.specs.Sink.{Sink}
 use Rattle.ubtool_cli.specs.Answers.{Answers}

@@ -1,6 +1,6 @@
 -- Reading, changing and writing one after another.
-use Rattle.std.proofs.Common.{◌≡◌, ◌∙◌, ℕ, true, refl, sym, ap, List, [], ◌∷◌, ◌++◌, append_assoc, append-nil, Ok, Err}
-use Rattle.std.specs.Prelude.{Result, Vec, string_bytes}
+use Rattle.std.proofs.Common.{◌≡◌, ℕ, true, refl, List, Ok, Err}
+use Rattle.std.specs.Prelude.{Result, Vec}
 use Rattle.std.specs.declared.alloc.Global.{Global}
 use Rattle.envimage.specs.declared.image.ByteOrder.{ByteOrder}
 use Rattle.envimage.specs.declared.image.Which.{Which}

@@ -40,7 +40,7 @@ SetsOf order config change old new (Err fault) = Sets order config change old ne
 abbrev pub Does : Ask → Option Told → Option Told → Outputs → Result Bool Fault → Type 0
 Does (Print config header names big_endian) before after outputs result =
     IfTold before after (λ old new.
-        PrintsFrom (order_of big_endian) (string_bytes config) (map string_bytes names.items) header outputs old new result)
+    PrintsFrom (order_of big_endian) (string_bytes config) (map string_bytes names.items) header outputs old new result)
     × LeavesOutputs result outputs
 Does (Setenv config change big_endian) before after outputs result =
     IfTold before after (λ old new. SetsOf (order_of big_endian) (string_bytes config) change old new result)

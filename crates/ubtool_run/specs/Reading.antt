@@ -1,8 +1,8 @@
 -- What is read before an image is printed or changed, from files that tell what stands in them.
 -- The order of work is ours; the configuration is fw_env.config (U-Boot, tools/env README).
-use Rattle.std.specs.Prelude.{◌≡◌, ◌+◌, ℕ, List, [], ◌∷◌, ◌++◌, map, take, drop, length, nat_le, Option, Some, None, Result, Ok, Err, Vec, if◌then◌else◌, option_and_then, option_map, string_bytes}
+use Rattle.std.specs.Prelude.{◌≡◌, ◌+◌, ℕ, List, [], ◌∷◌, ◌++◌, take, drop, length, nat_le, Option, Some, None, Result, Ok, Err, Vec, if◌then◌else◌, option_and_then}
 use Rattle.std.specs.declared.alloc.Global.{Global}
-use Rattle.envimage.specs.Config.{PlaceShown, places}
+use Rattle.envimage.specs.Config.{PlaceShown}
 use Rattle.envimage.specs.Place.{place_shown}
 use Rattle.envimage.specs.declared.config.Place.{Place}
 use Rattle.ubtool_core.specs.Order.{OnlyReads}

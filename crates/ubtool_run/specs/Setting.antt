@@ -1,6 +1,6 @@
 -- What changing the environment in the images of a configuration does, on files that tell what stands
 -- in them. It follows fw_setenv (U-Boot, tools/env README); the order of work is ours.
-use Rattle.std.specs.Prelude.{◌≡◌, ℕ, List, [], ◌∷◌, ◌++◌, map, Option, Some, None, Result, Ok, Err, Vec, string_bytes}
+use Rattle.std.specs.Prelude.{◌≡◌, ℕ, List, [], ◌∷◌, ◌++◌, map, Some, Result, Ok, Err, Vec, string_bytes}
 use Rattle.std.specs.declared.alloc.Global.{Global}
 use Rattle.envimage.specs.Config.{PlaceShown}
 use Rattle.envimage.specs.declared.image.ByteOrder.{ByteOrder}
@@ -14,7 +14,6 @@ use Rattle.ubtool_core.specs.Told.{Stored, Told, WritesAt, file_at}
 use Rattle.ubtool_core.specs.declared.change.Edit.{Edit}
 use Rattle.ubtool_core.specs.declared.change.Edit.TheVariants as edit
 use Rattle.ubtool_core.specs.declared.error.ToolError.{ToolError}
-use Rattle.ubtool_core.specs.declared.error.ToolError.TheVariants.{Write}
 use Rattle.ubtool_core.specs.declared.fault.Fault.{Fault}
 use Rattle.ubtool_core.specs.declared.fault.Fault.TheVariants.{CannotWrite, Memory, Tool}
 use Rattle.ubtool_core.specs.declared.files.Action.{Action}

@@ -70,11 +70,7 @@ fn read_second<F: Files>(
 }
 
 /// The images that a configuration names: its text is read first, then the first copy, then the second.
-pub fn read_images<F: Files>(
-    alloc: Global,
-    files: &mut F,
-    config: String,
-) -> Result<Images, Fault>
+pub fn read_images<F: Files>(alloc: Global, files: &mut F, config: String) -> Result<Images, Fault>
     ensures count { CountsTold (F.faults files.old) (F.faults files.new) result }
     ensures fault { IfErr result IsReadFault }
     ensures told { IfTold (F.told files.old) (F.told files.new)

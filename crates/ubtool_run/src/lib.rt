@@ -9,5 +9,3 @@ mod set;
 mod tool;
 
 pub use tool::run_tool;
-
-

@@ -40,7 +40,16 @@ fn print_images<O: Out, E: Out>(
         record { out = O.sink out.old; out' = O.sink out.new; err = E.sink err.old; err' = E.sink err.new } result }
 {
     let second = images.second_bytes();
-    match print_bytes(alloc, &images.first.bytes, second, order, names, header, out, err) {
+    match print_bytes(
+        alloc,
+        &images.first.bytes,
+        second,
+        order,
+        names,
+        header,
+        out,
+        err,
+    ) {
         Ok(found) => Ok(found),
         Err(error) => Err(Fault::Tool(error)),
     }

@@ -31,11 +31,7 @@ pub fn read_text<F: Files>(alloc: Global, files: &mut F, path: String) -> Result
 }
 
 /// The copy at a place.
-pub fn read_copy<F: Files>(
-    alloc: Global,
-    files: &mut F,
-    place: Place,
-) -> Result<StoredCopy, Fault>
+pub fn read_copy<F: Files>(alloc: Global, files: &mut F, place: Place) -> Result<StoredCopy, Fault>
     ensures count { CountsTold (F.faults files.old) (F.faults files.new) result }
     ensures place { IfOk result (λ copy. copy.place ≡ place) }
     ensures fault { IfErr result IsReadFault }

@@ -9,6 +9,8 @@ mod outputs;
 mod printing;
 #[cfg(test)]
 mod reading;
+#[cfg(test)]
+mod running;
 pub mod writers;
 #[cfg(test)]
 mod writing;

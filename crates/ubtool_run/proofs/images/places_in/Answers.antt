@@ -1,4 +1,4 @@
-use Rattle.std.proofs.Common.{arith, ◌+◌, ◌∙◌, ◌≡◌, ap, length, sym, None}
+use Rattle.std.proofs.Common.{arith, ◌+◌, ◌∙◌, ◌≡◌, length, sym}
 use Rattle.ubtool_run.proofs.PlaceLemmas.{places-named}
 use Rattle.ubtool_run.proofs.images.places_in.Goals as goal
 

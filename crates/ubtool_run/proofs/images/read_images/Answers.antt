@@ -4,8 +4,7 @@ use Rattle.envimage.specs.Config.{places}
 use Rattle.envimage.specs.Place.{place_shown}
 use Rattle.ubtool_core.proofs.OrderLemmas.{OnlyReads-then}
 use Rattle.ubtool_core.proofs.ToldLemmas.{IfTold-then}
-use Rattle.ubtool_core.specs.Order.{OnlyReads}
-use Rattle.ubtool_core.specs.Told.{IfTold, Told}
+use Rattle.ubtool_core.specs.Told.{IfTold}
 use Rattle.ubtool_core.specs.declared.fault.Fault.{Fault}
 use Rattle.ubtool_run.specs.Images.{ReadsImages, second_place}
 use Rattle.ubtool_run.specs.declared.images.Images.{Images}

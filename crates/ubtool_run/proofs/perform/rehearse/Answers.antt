@@ -1,4 +1,3 @@
-use Rattle.std.proofs.Common.{Ok, Err}
 use Rattle.ubtool_core.proofs.OrderLemmas.{OnlyReads-then}
 use Rattle.ubtool_core.proofs.ToldLemmas.{IfTold-then}
 use Rattle.std.specs.Prelude.{string_bytes}
