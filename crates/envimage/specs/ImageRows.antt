@@ -1,5 +1,5 @@
 -- Worked examples of loading, computed.
-use Rattle.std.specs.Prelude.{◌≡◌, List, [], ◌∷◌, None, Some, Ok, Err, refl}
+use Rattle.std.specs.Prelude.{◌≡◌, [], ◌∷◌, None, Some, Ok, Err, refl}
 use Rattle.envimage.specs.Encoding.{needed}
 use Rattle.envimage.specs.Image.{load_of}
 use Rattle.envimage.specs.declared.content.DataError.TheVariants.{NotTerminated}
