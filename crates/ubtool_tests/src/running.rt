@@ -15,6 +15,9 @@ const WRONG: &[u8] = b"\x3B\x06\x98\x45a=1\0\x01";
 /// A pair: `a=1` with flag 255, then `a=2` with flag 0, which is current.
 const PAIR: &[u8] = b"\x3B\x06\x98\x45\xFFa=1\0\0\x62\xB8\xDE\x47\x00a=2\0\0";
 
+/// The second copy of that pair.
+const SECOND_COPY: &[u8] = b"\x62\xB8\xDE\x47\x00a=2\0\0";
+
 /// The pair once `a` is 3: the first copy is written, with flag 1.
 const SET_PAIR: &[u8] = b"\x55\xD2\x1C\x46\x01a=3\0\0\x62\xB8\xDE\x47\x00a=2\0\0";
 
@@ -54,7 +57,6 @@ fn files_of(
     Ok(files)
 }
 
-/// The ends of calls on a single image of `a=1`, one a line.
 #[test]
 fn a_single_image_is_printed(rt: HostRuntime) -> Result<(), Fail> {
     let rows: [(&[&str], u8, &[u8], &[u8]); 7] = [
@@ -172,7 +174,6 @@ fn a_script_is_read_from_its_file(rt: HostRuntime) -> Result<(), Fail> {
     Ok(())
 }
 
-/// The ends of `printenv` on a configuration and an image that are refused.
 #[test]
 fn faults_of_files_are_told(rt: HostRuntime) -> Result<(), Fail> {
     let long = vec![in rt.alloc(); b'#'; LIMIT + 1]?;
@@ -244,7 +245,8 @@ fn each_failing_call_of_setenv_is_told(rt: HostRuntime) -> Result<(), Fail> {
         assert_eq!(rt; files.calls().len(), failing + 1);
         assert_eq!(rt; has_written(&files), failing == 4);
         let image = files.bytes("e").unwrap_or(b"");
-        assert_eq!(rt; &image[10..], &PAIR[10..]);
+        assert_eq!(rt; image.len(), PAIR.len());
+        assert!(rt; image.ends_with(SECOND_COPY));
         if failing < 4 {
             assert_eq!(rt; image, PAIR);
         }
