@@ -1,0 +1,166 @@
+-- What follows a run in the list of all runs.
+use Rattle.std.proofs.Common.{ℕ, zero, suc, Bool, true, false, cond, List, [], ◌∷◌, ◌++◌, map, filter, length, Option, Some, None, option_map, refl, sym, ap, subst, ◌∙◌, ◌≡◌, ◌≢◌, inl, inr, ◌≤◌, append_assoc, arith}
+use Rattle.std.specs.Prelude.{⊤}
+use Rattle.rehearse.specs.Outcomes.{Word, Outcome, Success, Failure, Run, Long, is_run_kind, words, word_eq, after, common_prefix, Short, turned, has_success, beyond, runs_within, first_run, first_from, IsChoice}
+use Rattle.rehearse.proofs.Choice.{Kinds, next_run, IsFollowed, followed_by, begins_with_first}
+
+-- u is none of the words
+abbrev pub Absent : Word → List Word → Type 0
+Absent u [] = ⊤
+Absent u (v ∷ vs) = (word_eq u v ≡ false) × Absent u vs
+
+abbrev pub AreDistinct : List Word → Type 0
+AreDistinct [] = ⊤
+AreDistinct (w ∷ ws) = Absent w ws × AreDistinct ws
+
+pub word_eq-same : (w : Word) → word_eq w w ≡ true
+word_eq-same [] = refl
+word_eq-same (Success ∷ w) = word_eq-same w
+word_eq-same (Failure ∷ w) = word_eq-same w
+
+word_eq-cons : (d : Outcome) (v w : Word) → word_eq (d ∷ v) (d ∷ w) ≡ word_eq v w
+word_eq-cons Success v w = refl
+word_eq-cons Failure v w = refl
+
+Absent-map : (d : Outcome) (w : Word) (ws : List Word) → Absent w ws → Absent (d ∷ w) (map (λ v. d ∷ v) ws)
+Absent-map d w [] h = tt
+Absent-map d w (v ∷ ws) h = (word_eq-cons d w v ∙ h.0, Absent-map d w ws h.1)
+
+Absent_failures : (w : Word) (ws : List Word) → Absent (Success ∷ w) (map (λ v. Failure ∷ v) ws)
+Absent_failures w [] = tt
+Absent_failures w (v ∷ ws) = (refl, Absent_failures w ws)
+
+Absent-append : (w : Word) (a b : List Word) → Absent w a → Absent w b → Absent w (a ++ b)
+Absent-append w [] b h k = k
+Absent-append w (v ∷ a) b h k = (h.0, Absent-append w a b h.1 k)
+
+empty_absent : (d : Outcome) (ws : List Word) → Absent [] (map (λ v. d ∷ v) ws)
+empty_absent d [] = tt
+empty_absent d (v ∷ ws) = (refl, empty_absent d ws)
+
+distinct-map : (d : Outcome) (ws : List Word) → AreDistinct ws → AreDistinct (map (λ v. d ∷ v) ws)
+distinct-map d [] h = tt
+distinct-map d (w ∷ ws) h = (Absent-map d w ws h.0, distinct-map d ws h.1)
+
+distinct_both : (a b : List Word) → AreDistinct a → AreDistinct b → AreDistinct (map (λ v. Success ∷ v) a ++ map (λ v. Failure ∷ v) b)
+distinct_both [] b h k = distinct-map Failure b k
+distinct_both (w ∷ a) b h k = (Absent-append (Success ∷ w) (map (λ v. Success ∷ v) a) (map (λ v. Failure ∷ v) b) (Absent-map Success w a h.0) (Absent_failures w b), distinct_both a b h.1 k)
+
+words_distinct : (n : ℕ) → AreDistinct (words n)
+words_distinct zero = (tt, tt)
+words_distinct (suc n) = (Absent-append [] (map (λ v. Success ∷ v) (words n)) (map (λ v. Failure ∷ v) (words n)) (empty_absent Success (words n)) (empty_absent Failure (words n)), distinct_both (words n) (words n) (words_distinct n) (words_distinct n))
+
+Absent-cond : (w v : Word) (b : Bool) (ws : List Word) → word_eq w v ≡ false → Absent w ws → Absent w (cond b (v ∷ ws) ws)
+Absent-cond w v true ws h k = (h, k)
+Absent-cond w v false ws h k = k
+
+Absent-filter : (p : Word → Bool) (w : Word) (ws : List Word) → Absent w ws → Absent w (filter p ws)
+Absent-filter p w [] h = tt
+Absent-filter p w (v ∷ ws) h = Absent-cond w v (p v) (filter p ws) h.0 (Absent-filter p w ws h.1)
+
+distinct-cond : (w : Word) (b : Bool) (ws : List Word) → Absent w ws → AreDistinct ws → AreDistinct (cond b (w ∷ ws) ws)
+distinct-cond w true ws h k = (h, k)
+distinct-cond w false ws h k = k
+
+distinct-filter : (p : Word → Bool) (ws : List Word) → AreDistinct ws → AreDistinct (filter p ws)
+distinct-filter p [] h = tt
+distinct-filter p (w ∷ ws) h = distinct-cond w (p w) (filter p ws) (Absent-filter p w ws h.0) (distinct-filter p ws h.1)
+
+-- no run stands twice
+pub runs_distinct : (kind : Kinds) (n : ℕ) → AreDistinct (runs_within kind n)
+runs_distinct kind n = distinct-filter (λ w. is_run_kind (kind w)) (words n) (words_distinct n)
+
+pub Absent_at : (w u : Word) (a b : List Word) → Absent w (a ++ u ∷ b) → word_eq w u ≡ false
+Absent_at w u [] b h = h.0
+Absent_at w u (v ∷ a) b h = Absent_at w u a b h.1
+
+pub after_at : (u : Word) (a b : List Word) → AreDistinct (a ++ u ∷ b) → after u (a ++ u ∷ b) ≡ b
+after_at u [] b h = let e = word_eq-same u in rw e refl
+after_at u (v ∷ a) b h = let e = Absent_at v u a b h.0 in rw e (after_at u a b h.1)
+
+-- the same, where the list is known by an equation
+pub after_in : (u : Word) (ws a b : List Word) → ws ≡ a ++ u ∷ b → AreDistinct ws → after u ws ≡ b
+after_in u ws a b e h = subst (λ (vs : List Word). after u vs ≡ b) (sym e) (after_at u a b (subst AreDistinct e h))
+
+-- the first run stands first
+pub runs_begin : (kind : Kinds) (n : ℕ) → IsChoice n kind → runs_within kind n ≡ first_run kind n ∷ after (first_run kind n) (runs_within kind n)
+runs_begin kind n c =
+    let t = begins_with_first kind n c in
+    let e = after_in (first_run kind n) (runs_within kind n) [] t.0 t.1 (runs_distinct kind n) in
+    t.1 ∙ ap (λ (ws : List Word). first_run kind n ∷ ws) (sym e)
+
+-- a run without a success is the last
+pub none_follows : (kind : Kinds) (n : ℕ) → IsChoice n kind → (u : Word) → kind u ≡ Run → turned u ≡ None → after u (runs_within kind n) ≡ []
+none_follows kind n c u r e =
+    let f = subst (λ (t : Option Word). IsFollowed u (option_map (first_from kind n) t) (runs_within kind n)) e (followed_by kind n c u r) in
+    after_in u (runs_within kind n) f.0 [] f.1 (runs_distinct kind n)
+
+-- the run after u is the first that begins with u cut after its last success, which became a failure
+pub follows : (kind : Kinds) (n : ℕ) → IsChoice n kind → (u p : Word) → kind u ≡ Run → turned u ≡ Some p → after u (runs_within kind n) ≡ first_from kind n p ∷ after (first_from kind n p) (runs_within kind n)
+follows kind n c u p r e =
+    let v = first_from kind n p in
+    let f = subst (λ (t : Option Word). IsFollowed u (option_map (first_from kind n) t) (runs_within kind n)) e (followed_by kind n c u r) in
+    let one = after_in u (runs_within kind n) f.0 (v ∷ f.1) f.2 (runs_distinct kind n) in
+    let two = after_in v (runs_within kind n) (f.0 ++ u ∷ []) f.1 (f.2 ∙ sym (append_assoc f.0 (u ∷ []) (v ∷ f.1))) (runs_distinct kind n) in
+    one ∙ ap (λ (ws : List Word). v ∷ ws) (sym two)
+
+-- a run is followed by another exactly where it holds a success
+turned-success : (u : Word) → has_success u ≡ false → turned u ≡ None
+turned-success [] h = refl
+turned-success (Success ∷ u) h = absurd (let e = h in cc)
+turned-success (Failure ∷ u) h = let e = turned-success u h in rw e refl
+
+success_turned : (t : Option Word) → (p : Word) × (elim t [ Some v ↦ Some (Success ∷ v) | None ↦ Some (Failure ∷ []) ] ≡ Some p)
+success_turned (Some v) = (Success ∷ v, refl)
+success_turned None = (Failure ∷ [], refl)
+
+has-turned : (u : Word) → has_success u ≡ true → (p : Word) × (turned u ≡ Some p)
+has-turned [] h = absurd (let e = h in cc)
+has-turned (Success ∷ u) h = success_turned (turned u)
+has-turned (Failure ∷ u) h = let ih = has-turned u h in (Failure ∷ ih.0, ap (option_map (λ v. Failure ∷ v)) ih.1)
+
+pub none_without_success : (kind : Kinds) (n : ℕ) → IsChoice n kind → (u : Word) → kind u ≡ Run → has_success u ≡ false → after u (runs_within kind n) ≡ []
+none_without_success kind n c u r h = none_follows kind n c u r (turned-success u h)
+
+pub one_with_success : (kind : Kinds) (n : ℕ) → IsChoice n kind → (u : Word) → kind u ≡ Run → has_success u ≡ true → after u (runs_within kind n) ≢ []
+one_with_success kind n c u r h e = let t = has-turned u h in let f = follows kind n c u t.0 r t.1 in (let k = sym e ∙ f in cc)
+
+-- no run is a prefix of another, and none is longer than the bound
+pub no_prefix : (kind : Kinds) (n : ℕ) → IsChoice n kind → (u : Word) (d : Outcome) (v : Word) → kind u ≡ Run → kind (u ++ d ∷ v) ≡ Long
+no_prefix kind zero c [] d v r = c.1 d v
+no_prefix kind zero c (e ∷ u) d v r = c.1 e (u ++ d ∷ v)
+no_prefix kind (suc n) (inl c) [] d v r = c.1 d v
+no_prefix kind (suc n) (inl c) (e ∷ u) d v r = c.1 e (u ++ d ∷ v)
+no_prefix kind (suc n) (inr c) [] d v r = absurd (let e = c.0 in cc)
+no_prefix kind (suc n) (inr c) (e ∷ u) d v r = no_prefix (beyond e kind) n (c.1 e) u d v r
+
+pub no_longer : (kind : Kinds) (n : ℕ) → IsChoice n kind → (u : Word) → kind u ≡ Run → length u ≤ n
+no_longer kind zero c [] r = omega arith
+no_longer kind zero c (e ∷ u) r = absurd (let x = c.1 e u in cc)
+no_longer kind (suc n) (inl c) [] r = omega arith
+no_longer kind (suc n) (inl c) (e ∷ u) r = absurd (let x = c.1 e u in cc)
+no_longer kind (suc n) (inr c) [] r = omega arith
+no_longer kind (suc n) (inr c) (e ∷ u) r = let ih = no_longer (beyond e kind) n (c.1 e) u r in omega arith
+
+stands_of : (u : Word) (t : Option Word) (ws : List Word) → IsFollowed u t ws → AreDistinct ws → (front : List Word) × (ws ≡ front ++ u ∷ after u ws)
+stands_of u None ws f d = (f.0, f.1 ∙ ap (λ (b : List Word). f.0 ++ u ∷ b) (sym (after_in u ws f.0 [] f.1 d)))
+stands_of u (Some v) ws f d = (f.0, f.2 ∙ ap (λ (b : List Word). f.0 ++ u ∷ b) (sym (after_in u ws f.0 (v ∷ f.1) f.2 d)))
+
+-- each run stands in the list, before what follows it
+pub run_stands : (kind : Kinds) (n : ℕ) → IsChoice n kind → (u : Word) → kind u ≡ Run → (front : List Word) × (runs_within kind n ≡ front ++ u ∷ after u (runs_within kind n))
+run_stands kind n c u r = stands_of u (next_run kind n u) (runs_within kind n) (followed_by kind n c u r) (runs_distinct kind n)
+
+-- two runs part where an outcome is asked for
+pub part_where_asked : (kind : Kinds) (n : ℕ) → IsChoice n kind → (u v : Word) → kind u ≡ Run → kind v ≡ Run → u ≢ v → kind (common_prefix u v) ≡ Short
+part_where_asked kind zero c [] [] r q ne = absurd (ne refl)
+part_where_asked kind zero c [] (d ∷ v) r q ne = absurd (let e = c.1 d v in cc)
+part_where_asked kind zero c (d ∷ u) v r q ne = absurd (let e = c.1 d u in cc)
+part_where_asked kind (suc n) (inl c) [] [] r q ne = absurd (ne refl)
+part_where_asked kind (suc n) (inl c) [] (d ∷ v) r q ne = absurd (let e = c.1 d v in cc)
+part_where_asked kind (suc n) (inl c) (d ∷ u) v r q ne = absurd (let e = c.1 d u in cc)
+part_where_asked kind (suc n) (inr c) [] v r q ne = absurd (let e = c.0 in cc)
+part_where_asked kind (suc n) (inr c) (d ∷ u) [] r q ne = absurd (let e = c.0 in cc)
+part_where_asked kind (suc n) (inr c) (Success ∷ u) (Success ∷ v) r q ne = part_where_asked (beyond Success kind) n (c.1 Success) u v r q (λ e. ne (ap (λ (w : Word). Success ∷ w) e))
+part_where_asked kind (suc n) (inr c) (Failure ∷ u) (Failure ∷ v) r q ne = part_where_asked (beyond Failure kind) n (c.1 Failure) u v r q (λ e. ne (ap (λ (w : Word). Failure ∷ w) e))
+part_where_asked kind (suc n) (inr c) (Success ∷ u) (Failure ∷ v) r q ne = c.0
+part_where_asked kind (suc n) (inr c) (Failure ∷ u) (Success ∷ v) r q ne = c.0

@@ -1,0 +1,294 @@
+-- Worked examples, computed: each from the very text of `bootcmd` to the whole listing. Where an example does not ask for
+-- another bound, two device commands are enough for it.
+use Rattle.std.proofs.Common.{ℕ, zero, suc, [], ◌∷◌, ◌++◌, Some, None, option_map, codes, refl, ◌≡◌, map, take, length}
+use Rattle.std.specs.Fmt.{digits}
+use Rattle.hushlang.specs.Expansion.{fields, joined, atoms}
+use Rattle.rehearse.specs.Outcomes.{Success, Failure, Run, Short, Long}
+use Rattle.rehearse.specs.Trees.{tree_of}
+use Rattle.rehearse.specs.State.{Text, get}
+use Rattle.rehearse.specs.Execution.{Setting}
+use Rattle.rehearse.specs.Runs.{Task, task_of, run_on, state_of, kind, runs, work}
+use Rattle.rehearse.proofs.Rehearsed.{only_load, setting, bootcmd, bootcmd_among, z, listed, listed_after}
+
+-- `load` alone is listed, and the step bound is the usual one
+abbrev usual : Setting
+usual = setting only_load 2 10000
+
+-- ---- two attempts to load, and the status of the last: every variable is listed
+
+abbrev two_attempts : ℕ → Task
+two_attempts devices = bootcmd (setting only_load devices 10000) (codes "load a || load b; echo $?")
+
+abbrev first_record : Text
+first_record = codes "run 0\ndev 0 load a\ntext 0\\n\nvar bootcmd=load a || load b; echo $?\nend 0\n"
+
+abbrev second_record : Text
+second_record = codes "run 10\ndev 1 load a\ndev 0 load b\ntext 0\\n\nvar bootcmd=load a || load b; echo $?\nend 0\n"
+
+abbrev third_record : Text
+third_record = codes "run 11\ndev 1 load a\ndev 1 load b\ntext 1\\n\nvar bootcmd=load a || load b; echo $?\nend 0\n"
+
+two_attempts_listed : listed (two_attempts 2) [] None ≡ first_record ++ (second_record ++ (third_record ++ codes "done\n"))
+unfolding listed
+two_attempts_listed = refl
+
+-- the same with more room for device commands
+two_attempts_of_five : listed (two_attempts 5) [] None ≡ first_record ++ (second_record ++ (third_record ++ codes "done\n"))
+unfolding listed
+two_attempts_of_five = refl
+
+-- a word that is too short, a run, and one that is too long, where 16 device commands may be asked
+two_attempts_kinds : map (kind (two_attempts 16)) ((Failure ∷ []) ∷ (Failure ∷ Success ∷ []) ∷ (Failure ∷ Success ∷ Success ∷ []) ∷ []) ≡ Short ∷ Run ∷ Long ∷ []
+unfolding tree_of fields joined atoms digits
+two_attempts_kinds = refl
+
+-- the work of the first run, of two, of all three
+two_attempts_work : map (λ n. work (two_attempts 2) (take n (runs (two_attempts 2)))) (0 ∷ 1 ∷ 2 ∷ 3 ∷ []) ≡ 0 ∷ 2 ∷ 4 ∷ 5 ∷ []
+unfolding tree_of fields joined atoms digits
+two_attempts_work = refl
+
+-- and of those behind the second
+two_attempts_work_after : work (two_attempts 2) ((Failure ∷ Success ∷ []) ∷ []) ∷ work (two_attempts 2) ((Failure ∷ Success ∷ []) ∷ (Failure ∷ Failure ∷ []) ∷ []) ∷ [] ≡ 3 ∷ 4 ∷ []
+unfolding tree_of fields joined atoms digits
+two_attempts_work_after = refl
+
+-- the runs behind the second, and behind the last
+behind_the_second : listed_after (two_attempts 2) (Failure ∷ Success ∷ []) [] None ≡ third_record ++ codes "done\n"
+unfolding listed_after
+behind_the_second = refl
+
+behind_the_last : listed_after (two_attempts 2) (Failure ∷ Failure ∷ []) [] None ≡ codes "done\n"
+unfolding listed_after
+behind_the_last = refl
+
+-- a limit that leaves runs out, and one that does not
+limit_of_one : listed (two_attempts 2) [] (Some 1) ≡ first_record ++ codes "more 0\n"
+unfolding listed
+limit_of_one = refl
+
+limit_of_three : listed (two_attempts 2) [] (Some 3) ≡ first_record ++ (second_record ++ (third_record ++ codes "done\n"))
+unfolding listed
+limit_of_three = refl
+
+-- page by page
+second_page : listed_after (two_attempts 2) (Success ∷ []) [] (Some 1) ≡ second_record ++ codes "more 10\n"
+unfolding listed_after
+second_page = refl
+
+third_page : listed_after (two_attempts 2) (Failure ∷ Success ∷ []) [] (Some 1) ≡ third_record ++ codes "done\n"
+unfolding listed_after
+third_page = refl
+
+-- words that are no runs: too short, and the empty one
+no_runs : map (kind (two_attempts 2)) ((Failure ∷ []) ∷ [] ∷ []) ≡ Short ∷ Short ∷ []
+unfolding tree_of fields joined atoms digits
+no_runs = refl
+
+-- ---- bounds
+
+abbrev loop_of_loads : Task
+loop_of_loads = bootcmd usual (codes "while load; do true; done")
+
+loop_of_loads_listed : listed loop_of_loads z None ≡ codes "run 00\ndev 0 load\ndev 0 load\nunset z\ncut devices\nrun 01\ndev 0 load\ndev 1 load\nunset z\nend 0\nrun 1\ndev 1 load\nunset z\nend 0\ndone\n"
+unfolding listed
+loop_of_loads_listed = refl
+
+loop_of_loads_kinds : map (kind loop_of_loads) ((Success ∷ []) ∷ (Success ∷ Success ∷ []) ∷ (Success ∷ Success ∷ Success ∷ []) ∷ []) ≡ Short ∷ Run ∷ Long ∷ []
+unfolding tree_of fields joined atoms digits
+loop_of_loads_kinds = refl
+
+loop_of_loads_work : map (λ n. work loop_of_loads (take n (runs loop_of_loads))) (1 ∷ 2 ∷ 3 ∷ []) ≡ 5 ∷ 5 ∷ 5 ∷ []
+unfolding tree_of fields joined atoms digits
+loop_of_loads_work = refl
+
+-- the listing of a run that is cut before it asks a device command
+abbrev cut_listing : Text
+cut_listing = codes "run .\nunset z\ncut steps\ndone\n"
+
+abbrev endless : ℕ → Task
+endless steps = bootcmd (setting only_load 2 steps) (codes "while true; do true; done")
+
+endless_loop : listed (endless 5) z None ≡ cut_listing
+unfolding listed
+endless_loop = refl
+
+behind_the_empty_word : listed_after (endless 5) [] z None ≡ codes "done\n"
+unfolding listed_after
+behind_the_empty_word = refl
+
+endless_for : listed (bootcmd (setting only_load 2 4) (codes "while for x in; do true; done; do for y in; do true; done; done")) z None ≡ cut_listing
+unfolding listed
+endless_for = refl
+
+abbrev runs_itself : ℕ → Task
+runs_itself steps = bootcmd (setting only_load 2 steps) (codes "run bootcmd")
+
+itself_run : listed (runs_itself 3) z None ≡ cut_listing
+unfolding listed
+itself_run = refl
+
+abbrev run_in_turns : ℕ → Task
+run_in_turns steps = bootcmd_among (setting only_load 2 steps) ((codes "a", codes "run b") ∷ (codes "b", codes "run a") ∷ (codes "bootcmd", codes "run a") ∷ []) (codes "run a")
+
+run_in_turns_listed : listed (run_in_turns 9) z None ≡ cut_listing
+unfolding listed
+run_in_turns_listed = refl
+
+-- the usual step bound is reached too
+usual_bound_reached : map (λ task. listed task z None) (bootcmd (setting only_load 0 10000) (codes "while true; do true; done") ∷ bootcmd (setting only_load 0 10000) (codes "run bootcmd") ∷ []) ≡ cut_listing ∷ cut_listing ∷ []
+unfolding listed
+usual_bound_reached = refl
+
+empty_text : listed (bootcmd (setting only_load 2 0) []) z None ≡ codes "run .\nunset z\nend 0\ndone\n"
+unfolding listed
+empty_text = refl
+
+abbrev one_load : ℕ → Task
+one_load devices = bootcmd (setting only_load devices 10000) (codes "load")
+
+no_device_allowed : listed (one_load 0) z None ≡ codes "run .\nunset z\ncut devices\ndone\n"
+unfolding listed
+no_device_allowed = refl
+
+one_device_allowed : listed (one_load 1) z None ≡ codes "run 0\ndev 0 load\nunset z\nend 0\nrun 1\ndev 1 load\nunset z\nend 1\ndone\n"
+unfolding listed
+one_device_allowed = refl
+
+no_device_kinds : map (kind (one_load 0)) ([] ∷ (Success ∷ []) ∷ []) ≡ Run ∷ Long ∷ []
+unfolding tree_of fields joined atoms digits
+no_device_kinds = refl
+
+no_device_work : work (one_load 0) (runs (one_load 0)) ≡ 1
+unfolding tree_of fields joined atoms digits
+no_device_work = refl
+
+abbrev two_steps : ℕ → Task
+two_steps steps = bootcmd (setting only_load 2 steps) (codes "true; true")
+
+second_step_cut : listed (two_steps 1) z None ≡ cut_listing
+unfolding listed
+second_step_cut = refl
+
+steps_used_up : listed (two_steps 2) z None ≡ codes "run .\nunset z\nend 0\ndone\n"
+unfolding listed
+steps_used_up = refl
+
+-- ---- variables and texts
+
+-- `a` is asked for
+shell_variable : listed (bootcmd usual (codes "x=1; load && setenv a $x; echo \"$a\"")) (codes "a" ∷ []) None ≡ codes "run 0\ndev 0 load\ntext 1\\n\nvar a=1\nend 0\nrun 1\ndev 1 load\ntext \\n\nunset a\nend 0\ndone\n"
+unfolding listed
+shell_variable = refl
+
+-- an `exit` ends the text of its variable alone
+abbrev run_with_exit : Task
+run_with_exit = bootcmd_among usual ((codes "bootcmd", codes "run t; echo $?") ∷ (codes "t", codes "load; exit 3; load") ∷ []) (codes "run t; echo $?")
+
+exit_in_run : listed run_with_exit z None ≡ codes "run 0\ndev 0 load\ntext 3\\n\nunset z\nend 0\nrun 1\ndev 1 load\ntext 3\\n\nunset z\nend 0\ndone\n"
+unfolding listed
+exit_in_run = refl
+
+abbrev exit_then_load : Task
+exit_then_load = bootcmd_among usual ((codes "bootcmd", codes "run t; load") ∷ (codes "t", codes "exit 3; load") ∷ []) (codes "run t; load")
+
+exit_then_load_kinds : map (kind exit_then_load) ([] ∷ (Success ∷ []) ∷ []) ≡ Short ∷ Run ∷ []
+unfolding tree_of fields joined atoms digits
+exit_then_load_kinds = refl
+
+-- `x` is `a  b`
+fields_of_echo : listed (bootcmd_among usual ((codes "bootcmd", codes "echo $x \"$x\" ''") ∷ (codes "x", codes "a  b") ∷ []) (codes "echo $x \"$x\" ''")) z None ≡ codes "run .\ntext a b a  b \\n\nunset z\nend 0\ndone\n"
+unfolding listed
+fields_of_echo = refl
+
+-- `a` is `load`, and `b` is `echo b`
+texts_in_turn : listed (bootcmd_among usual ((codes "a", codes "load") ∷ (codes "b", codes "echo b") ∷ (codes "bootcmd", codes "run a b; echo $?") ∷ []) (codes "run a b; echo $?")) z None ≡ codes "run 0\ndev 0 load\ntext b\\n0\\n\nunset z\nend 0\nrun 1\ndev 1 load\ntext 1\\n\nunset z\nend 0\ndone\n"
+unfolding listed
+texts_in_turn = refl
+
+words_of_device : listed (bootcmd usual (codes "load 'a b' '' \\\\")) z None ≡ codes "run 0\ndev 0 load a\\x20b \\e \\\\\nunset z\nend 0\nrun 1\ndev 1 load a\\x20b \\e \\\\\nunset z\nend 1\ndone\n"
+unfolding listed
+words_of_device = refl
+
+-- `t` is the letter a, a newline, a backslash and the byte 128; it is asked for twice
+escaped_bytes : listed (bootcmd_among usual ((codes "bootcmd", codes "echo -n \"$t\"") ∷ (codes "t", 97 ∷ 10 ∷ 92 ∷ 128 ∷ []) ∷ []) (codes "echo -n \"$t\"")) (codes "t" ∷ codes "t" ∷ []) None ≡ codes "run .\ntext a\\n\\\\\\x80\nvar t=a\\n\\\\\\x80\nvar t=a\\n\\\\\\x80\nend 0\ndone\n"
+unfolding listed
+escaped_bytes = refl
+
+not_set : task_of usual [] (codes "q") ≡ None
+not_set = refl
+
+-- ---- conditions and loops
+
+chained_test : listed (bootcmd usual (codes "test -n \"$x\" -a $x = 1; echo $?")) z None ≡ codes "run .\ntext 1\\n\nunset z\nend 0\ndone\n"
+unfolding listed
+chained_test = refl
+
+equal_rank : listed (bootcmd usual (codes "test a = a -o a = b -a a = b; echo $?")) z None ≡ codes "run .\ntext 1\\n\nunset z\nend 0\ndone\n"
+unfolding listed
+equal_rank = refl
+
+numbers : listed (bootcmd usual (codes "test 0x10 -eq 16 -a 010 -eq 8 -a -3 -lt 2z; echo $?")) z None ≡ codes "run .\ntext 0\\n\nunset z\nend 0\ndone\n"
+unfolding listed
+numbers = refl
+
+arms : listed (bootcmd usual (codes "if test -e mmc 0:1 /a; then echo y; elif load x; then echo l; else exit 7; fi")) z None ≡ codes "run 0\ndev 0 test -e mmc 0:1 /a\ntext y\\n\nunset z\nend 0\nrun 10\ndev 1 test -e mmc 0:1 /a\ndev 0 load x\ntext l\\n\nunset z\nend 0\nrun 11\ndev 1 test -e mmc 0:1 /a\ndev 1 load x\nunset z\nend 7\ndone\n"
+unfolding listed
+arms = refl
+
+until_loaded : listed (bootcmd usual (codes "until load; do echo n; done")) z None ≡ codes "run 0\ndev 0 load\nunset z\nend 0\nrun 10\ndev 1 load\ndev 0 load\ntext n\\n\nunset z\nend 0\nrun 11\ndev 1 load\ndev 1 load\ntext n\\nn\\n\nunset z\ncut devices\ndone\n"
+unfolding listed
+until_loaded = refl
+
+-- ---- runs that are stopped
+
+unknown_command : listed (bootcmd usual (codes "foo; load")) z None ≡ codes "run .\nunset z\nstop unknown foo\ndone\n"
+unfolding listed
+unknown_command = refl
+
+no_script : listed (bootcmd usual (codes "if true; then")) z None ≡ codes "run .\nunset z\nstop syntax bootcmd\ndone\n"
+unfolding listed
+no_script = refl
+
+-- a value that is doubled until a command's words are too many bytes; no device command is needed
+abbrev short_of_devices : Setting
+short_of_devices = setting only_load 0 10000
+
+doubled_until_too_large : listed (bootcmd short_of_devices (codes "setenv a 0123456789abcdef; while true; do setenv a $a$a; done")) z None ≡ codes "run .\nunset z\nstop size\ndone\n"
+unfolding listed
+doubled_until_too_large = refl
+
+-- and how long it then is
+doubled_length : option_map length (get (state_of (run_on (bootcmd short_of_devices (codes "setenv a 0123456789abcdef; while true; do setenv a $a$a; done")) [])).memory.environment (codes "a")) ≡ Some 32768
+unfolding tree_of fields joined atoms digits
+doubled_length = refl
+
+doubled_in_assignment : listed (bootcmd short_of_devices (codes "x=0123456789abcdef; while true; do x=$x$x; done")) z None ≡ codes "run .\nunset z\nstop size\ndone\n"
+unfolding listed
+doubled_in_assignment = refl
+
+-- ---- many runs
+
+abbrev times : ℕ → Text → Text
+times zero text = []
+times (suc n) text = text ++ times n text
+
+-- what stands before the first device command is begun once, however many runs there are
+abbrev seven_loads : Task
+seven_loads = bootcmd (setting only_load 7 10000) (times 10 (codes "true; ") ++ codes "load; load; load; load; load; load; load")
+
+many_runs : length (runs seven_loads) ∷ work seven_loads (runs seven_loads) ∷ [] ≡ 128 ∷ 137 ∷ []
+unfolding tree_of fields joined atoms digits
+many_runs = refl
+
+-- ---- nesting
+
+abbrev nested : ℕ → Task
+nested levels = bootcmd (setting only_load 0 100) (times levels (codes "if true; then ") ++ (codes "echo x; " ++ times levels (codes "fi; ")))
+
+deepest : listed (nested 64) z None ≡ codes "run .\ntext x\\n\nunset z\nend 0\ndone\n"
+unfolding listed
+deepest = refl
+
+too_deep : listed (nested 65) z None ≡ codes "run .\nunset z\nstop syntax bootcmd\ndone\n"
+unfolding listed
+too_deep = refl

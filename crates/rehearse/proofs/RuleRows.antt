@@ -1,0 +1,131 @@
+-- Each rule of execution on its own, computed: what the text of `bootcmd` writes, and how its run ends.
+use Rattle.std.proofs.Common.{◌≡◌, ℕ, zero, suc, List, [], ◌∷◌, None, codes, refl, map}
+use Rattle.std.specs.Fmt.{digits}
+use Rattle.hushlang.specs.Expansion.{fields, joined, atoms}
+use Rattle.rehearse.specs.Trees.{tree_of}
+use Rattle.rehearse.specs.State.{Text, Variables}
+use Rattle.rehearse.specs.Execution.{Ending, End, CutSteps, Unknown, Syntax, Size}
+use Rattle.rehearse.specs.Runs.{Task, run_on, state_of, ending_of}
+use Rattle.rehearse.proofs.Rehearsed.{only_load, setting, bootcmd, bootcmd_among, listed}
+
+abbrev Told : Type 0
+Told = Text × Ending
+
+-- of a text that asks no device command
+unfoldable told_of : Task → Told
+unfolding tree_of fields joined atoms digits
+told_of task = ((state_of (run_on task [])).memory.text, ending_of (run_on task []))
+
+abbrev told : Text → Told
+told text = told_of (bootcmd (setting only_load 2 10000) text)
+
+abbrev told_with : Variables → Text → Told
+told_with variables text = told_of (bootcmd_among (setting only_load 2 10000) variables text)
+
+abbrev told_within : ℕ → Text → Told
+told_within steps text = told_of (bootcmd (setting only_load 2 steps) text)
+
+-- the texts write this and end with status 0
+abbrev write : List Text → List Told
+write texts = map (λ text. (text, End 0)) texts
+
+-- `&&` and `||` have one rank, and what is skipped leaves the status
+joined_commands : map told (codes "true || echo a && echo b" ∷ codes "false && echo a || echo b" ∷ codes "false && echo a; echo $?" ∷ codes "false || false || echo a" ∷ []) ≡ write (codes "b\n" ∷ codes "b\n" ∷ codes "1\n" ∷ codes "a\n" ∷ [])
+unfolding told_of
+joined_commands = refl
+
+-- the first condition that holds decides; where no block is run, the status is 0
+conditions : map told (codes "if false; then echo a; fi; echo $?" ∷ codes "if false; then echo a; elif false; then echo b; fi; echo $?" ∷ codes "if true; then echo a; elif true; then echo b; else echo c; fi" ∷ codes "if false; then echo a; else echo c; fi" ∷ codes "if true; then false; fi; echo $?" ∷ codes "if false; true; then echo a; fi" ∷ []) ≡ write (codes "0\n" ∷ codes "0\n" ∷ codes "a\n" ∷ codes "c\n" ∷ codes "1\n" ∷ codes "a\n" ∷ [])
+unfolding told_of
+conditions = refl
+
+-- a loop has the status of its last body, or 0
+loops : map told (codes "while false; do echo a; done; echo $?" ∷ codes "until true; do echo a; done; echo $?" ∷ codes "until test $x = 2; do x=2; false; done; echo $?" ∷ codes "x=1; while test $x = 1; do x=2; echo a; done; echo $?" ∷ []) ≡ write (codes "0\n" ∷ codes "0\n" ∷ codes "1\n" ∷ codes "a\n0\n" ∷ [])
+unfolding told_of
+loops = refl
+
+-- a `for` sets its variable to each field, and has the status of the last body, or 0
+for_loops : map told (codes "for i in a b; do echo $i; done; echo $i" ∷ codes "for i in a; do false; done; echo $?" ∷ codes "false; for i in; do false; done; echo $?" ∷ codes "false; for i in $u; do echo a; done; echo $?" ∷ codes "for i in 'a b' c; do echo \"$i\"; done" ∷ []) ≡ write (codes "a\nb\nb\n" ∷ codes "1\n" ∷ codes "0\n" ∷ codes "0\n" ∷ codes "a b\nc\n" ∷ [])
+unfolding told_of
+for_loops = refl
+
+-- its variable is one of the shell, and so is that of an assignment: neither is listed
+shell_variables : listed (bootcmd (setting only_load 0 10000) (codes "for i in a; do echo $i; done; x=1")) (codes "i" ∷ codes "x" ∷ []) None ≡ codes "run .\ntext a\\n\nunset i\nunset x\nend 0\ndone\n"
+unfolding listed
+shell_variables = refl
+
+-- a `for` and each of its commands is a step, and so is each assignment
+steps_of_for : map (λ n. told_within n (codes "for i in a b; do echo $i; done; x=1")) (0 ∷ 1 ∷ 2 ∷ 3 ∷ 4 ∷ []) ≡ ([], CutSteps) ∷ ([], CutSteps) ∷ (codes "a\n", CutSteps) ∷ (codes "a\nb\n", CutSteps) ∷ (codes "a\nb\n", End 0) ∷ []
+unfolding told_of
+steps_of_for = refl
+
+-- assignments go from the left, and a step is begun before its words are expanded
+assignments : map told (codes "x=1 y=$x$x; echo $y" ∷ codes "false; x=$?; echo $x$?" ∷ codes "x='a  b'; echo $x \"$x\"" ∷ codes "x=; echo a$x" ∷ codes "v=s; setenv v e; echo $v" ∷ codes "v=s; setenv v e; setenv v; echo $v" ∷ []) ≡ write (codes "11\n" ∷ codes "10\n" ∷ codes "a b a  b\n" ∷ codes "a\n" ∷ codes "e\n" ∷ codes "s\n" ∷ [])
+unfolding told_of
+assignments = refl
+
+-- an assignment to a name of the environment changes only the shell variable, which is not seen
+hidden_variable : told_with ((codes "a", codes "1") ∷ []) (codes "a=2; echo $a") ≡ (codes "1\n", End 0)
+unfolding told_of
+hidden_variable = refl
+
+-- words that expand to nothing
+no_field : map told (codes "false; $u; echo $?" ∷ codes "false; $u $u; echo $?" ∷ []) ≡ write (codes "0\n" ∷ codes "0\n" ∷ [])
+unfolding told_of
+no_field = refl
+
+-- `setenv`: bad names, deletion, the empty value, words joined by one space
+setenv_names : map told (codes "setenv; echo $?" ∷ codes "setenv '' a; echo $?" ∷ codes "setenv -a b; echo $?" ∷ codes "setenv a=b c; echo $?" ∷ codes "setenv a=; echo $?" ∷ codes "false; setenv u; echo $?" ∷ codes "setenv a b '' 'c  d' e; echo \"$a\"" ∷ []) ≡ write (codes "1\n" ∷ codes "1\n" ∷ codes "1\n" ∷ codes "1\n" ∷ codes "1\n" ∷ codes "0\n" ∷ codes "b  c  d e\n" ∷ [])
+unfolding told_of
+setenv_names = refl
+
+-- every variable is listed in byte order of the names, an empty one too, and a deleted one is not
+variables_in_order : listed (bootcmd_among (setting only_load 0 10000) ((codes "b", codes "0") ∷ []) (codes "setenv c 1; setenv a 2; setenv B ''; setenv b; setenv aa 3")) [] None ≡ codes "run .\nvar B=\nvar a=2\nvar aa=3\nvar c=1\nend 0\ndone\n"
+unfolding listed
+variables_in_order = refl
+
+-- `run`: no name, one that is not set, texts that end with another status, and texts without a command
+abbrev texts : Variables
+texts = (codes "c", codes "# a comment") ∷ (codes "e", []) ∷ (codes "f", codes "echo f; false") ∷ (codes "s", codes "setenv s echo b; echo a; run s") ∷ (codes "t", codes "echo t") ∷ (codes "x", codes "exit; echo x") ∷ []
+
+run_texts : map (told_with texts) (codes "run; echo $?" ∷ codes "run u t; echo $?" ∷ codes "run t u; echo $?" ∷ codes "run f t; echo $?" ∷ codes "run t f; echo $?" ∷ codes "run x t; echo $?" ∷ codes "false; run e; echo $?" ∷ codes "false; run c; echo $?" ∷ codes "run s; echo $?" ∷ codes "run $n t" ∷ []) ≡ write (codes "1\n" ∷ codes "1\n" ∷ codes "t\n1\n" ∷ codes "f\n1\n" ∷ codes "t\nf\n1\n" ∷ codes "t\n0\n" ∷ codes "0\n" ∷ codes "0\n" ∷ codes "a\nb\n0\n" ∷ codes "t\n" ∷ [])
+unfolding told_of
+run_texts = refl
+
+-- a text that is no script is read, and stops the run, only when its turn comes
+stopped_in_run : map (told_with ((codes "a b", codes "fi") ∷ (codes "f", codes "false") ∷ (codes "t", codes "echo t") ∷ [])) (codes "run t 'a b' t" ∷ codes "run f 'a b'" ∷ []) ≡ (codes "t\n", Syntax (codes "a b")) ∷ ([], End 1) ∷ []
+unfolding told_of
+stopped_in_run = refl
+
+-- `echo`
+echoes : map told (codes "echo" ∷ codes "echo -n" ∷ codes "echo -n a  b; echo c" ∷ codes "echo a -n" ∷ codes "echo '' a" ∷ []) ≡ write (codes "\n" ∷ [] ∷ codes "a bc\n" ∷ codes "a -n\n" ∷ codes " a\n" ∷ [])
+unfolding told_of
+echoes = refl
+
+-- `exit`: numbers up to 255, negative ones as 0, and what ends nothing
+exits : map told (codes "exit; echo a" ∷ codes "exit 7; echo a" ∷ codes "exit 255" ∷ codes "exit 007" ∷ codes "exit -5; echo a" ∷ codes "exit 256; echo $?" ∷ codes "exit 1 2; echo $?" ∷ codes "exit a; echo $?" ∷ codes "exit ''; echo $?" ∷ codes "exit -; echo $?" ∷ codes "exit -a; echo $?" ∷ codes "false; exit" ∷ []) ≡ ([], End 0) ∷ ([], End 7) ∷ ([], End 255) ∷ ([], End 7) ∷ ([], End 0) ∷ (codes "1\n", End 0) ∷ (codes "1\n", End 0) ∷ (codes "1\n", End 0) ∷ (codes "1\n", End 0) ∷ (codes "1\n", End 0) ∷ (codes "1\n", End 0) ∷ ([], End 0) ∷ []
+unfolding told_of
+exits = refl
+
+-- `true` and `false` do not look at further words; `test -e` asks only with exactly four words
+other_commands : map told (codes "true a; echo $?" ∷ codes "false a; echo $?" ∷ codes "test; echo $?" ∷ codes "test -e a; echo $?" ∷ codes "test -e a b c d; echo $?" ∷ codes "test a = b c; echo $?" ∷ []) ≡ write (codes "0\n" ∷ codes "1\n" ∷ codes "1\n" ∷ codes "1\n" ∷ codes "1\n" ∷ codes "1\n" ∷ [])
+unfolding told_of
+other_commands = refl
+
+-- a name that is neither built in nor listed ends the run, whatever its words, before or behind other commands
+unknown_names : map told (codes "echo a; 'a b' c; echo d" ∷ codes "''" ∷ codes "loads" ∷ []) ≡ (codes "a\n", Unknown (codes "a b")) ∷ ([], Unknown []) ∷ ([], Unknown (codes "loads")) ∷ []
+unfolding told_of
+unknown_names = refl
+
+-- 65,536 bytes of words are not too many, and one byte more is: of a command with its name, of a `for` the words behind
+-- `in`, of an assignment the value
+abbrev letters : ℕ → Text
+letters zero = []
+letters (suc n) = 97 ∷ letters n
+
+abbrev with_letters : ℕ → Text → Told
+with_letters n text = told_with ((codes "l", letters n) ∷ []) text
+
+size_limit : with_letters 65532 (codes "true $l") ∷ with_letters 65533 (codes "true $l") ∷ with_letters 65536 (codes "x=$l") ∷ with_letters 65536 (codes "x=a$l") ∷ with_letters 65536 (codes "for i in $l; do true; done") ∷ with_letters 65536 (codes "for i in a $l; do true; done") ∷ [] ≡ ([], End 0) ∷ ([], Size) ∷ ([], End 0) ∷ ([], Size) ∷ ([], End 0) ∷ ([], Size) ∷ []
+unfolding told_of
+size_limit = refl

@@ -1,0 +1,12 @@
+use Rattle.rehearse.proofs.Whole.{whole_is_greatest}
+use Rattle.rehearse.proofs.ResumedLemmas as resumed
+use Rattle.rehearse.proofs.laws.whole_records.Goals as goal
+
+pub returns-clause-greatest : goal.returns-clause-greatest
+returns-clause-greatest c = whole_is_greatest
+
+pub returns-clause-split : goal.returns-clause-split
+returns-clause-split c = resumed.whole_records
+
+pub returns-clause-resumed : goal.returns-clause-resumed
+returns-clause-resumed c = resumed.resuming

@@ -1,0 +1,14 @@
+-- The bounds of a rehearsal (ours).
+use Rattle.std.specs.Prelude.{ℕ, nat_le, Bool, ◌&&◌, Option, Some, None, if◌then◌else◌}
+
+-- how many device commands a run may ask, and how many steps it may begin
+pub record BoundsShown : Type 0 where
+  pub devices : ℕ
+  pub steps : ℕ
+
+-- at most 32 device commands and 1,000,000 steps
+abbrev pub are_bounds : ℕ → ℕ → Bool
+are_bounds devices steps = nat_le devices 32 && nat_le steps 1000000
+
+abbrev pub bounds_of : ℕ → ℕ → Option BoundsShown
+bounds_of devices steps = if are_bounds devices steps then Some (record { devices = devices; steps = steps }) else None

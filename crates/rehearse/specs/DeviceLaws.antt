@@ -1,0 +1,38 @@
+-- What the lines of one name come to. Ours.
+use Rattle.std.specs.Prelude.{◌≡◌, ℕ, List, [], ◌∷◌, filter, Option, Some, None, Ok, if◌then◌else◌}
+use Rattle.std.specs.Str.{bytes_eq}
+use Rattle.std.specs.List.{list_any, flat_map}
+use Rattle.std.specs.Result.{result_ok}
+use Rattle.envimage.specs.Text.{numbered_lines}
+use Rattle.rehearse.specs.Verdict.{Text}
+use Rattle.rehearse.specs.DeviceList.{Effect, Devices, Listing, effect_of, device_words, begins_comment, heading_of, listing_of, listed}
+
+-- the command that a line names, if it names one, in a list without a faulty line
+abbrev pub line_listing : ℕ → List Text → Option Listing
+line_listing number [] = None
+line_listing number (first ∷ words) = if begins_comment first then None else result_ok (listing_of number (heading_of first words))
+
+abbrev pub with_line : Option Listing → List Listing → List Listing
+with_line None more = more
+with_line (Some one) more = one ∷ more
+
+-- the lines that name a command, in order
+abbrev pub listings : List (ℕ × Text) → List Listing
+listings [] = []
+listings (l ∷ lines) = with_line (line_listing l.0 (device_words l.1)) (listings lines)
+
+abbrev pub lines_of : Text → List Listing → List Listing
+lines_of name = filter (λ one. bytes_eq name one.0)
+
+-- some lines of one name together: final where one of them is, with all settings in their order
+abbrev pub whole_effect : List Listing → Option Effect
+whole_effect [] = None
+whole_effect (one ∷ more) = Some (record {
+  ends = list_any (λ l. l.1.ends) (one ∷ more);
+  sets = flat_map (λ l. l.1.sets) (one ∷ more);
+})
+
+-- A name is listed where a line names it, and does what all lines of that name say.
+abbrev pub LinesAreJoined : Type 0
+LinesAreJoined = (text : Text) (devices : Devices) → listed text ≡ Ok devices
+    → (name : Text) → effect_of devices name ≡ whole_effect (lines_of name (listings (numbered_lines text)))

@@ -1,0 +1,143 @@
+-- The device list: which commands are device commands, and what each does on success. Ours.
+use Rattle.std.specs.Prelude.{ℕ, ◌+◌, ◌==◌, ◌||◌, ◌&&◌, ◌++◌, not, Bool, true, false, List, [], ◌∷◌, length, take, drop, filter, Option, Some, None, option_map, Result, Ok, Err, codes, if◌then◌else◌}
+use Rattle.std.specs.Str.{bytes_eq}
+use Rattle.std.specs.List.{list_any, slice_split, position}
+use Rattle.std.specs.Map.{lookup}
+use Rattle.envimage.specs.Text.{numbered_lines}
+use Rattle.envimage.specs.Words.{is_blank, skipped}
+use Rattle.rehearse.specs.Verdict.{Text}
+use Rattle.rehearse.specs.declared.devices_error.DevicesError.{DevicesError}
+use Rattle.rehearse.specs.declared.devices_error.DevicesError.TheVariants.{BadLine, BuiltIn}
+
+-- what a device command does on success: the environment variables that it sets, in order, and whether the run ends
+pub record Effect : Type 0 where
+  pub ends : Bool
+  pub sets : List (Text × Text)
+
+abbrev pub Devices : Type 0
+Devices = List (Text × Effect)
+
+-- the effect of the command of a name, where it is listed
+abbrev pub effect_of : Devices → Text → Option Effect
+effect_of devices name = lookup (bytes_eq name) devices
+
+-- ---- the words of a line
+
+-- a line without the spaces, tabs and carriage returns behind it
+abbrev pub onto_line : ℕ → Text → Text
+onto_line b [] = if is_blank b then [] else b ∷ []
+onto_line b (c ∷ cs) = b ∷ c ∷ cs
+
+abbrev pub cut_behind : Text → Text
+cut_behind [] = []
+cut_behind (b ∷ bytes) = onto_line b (cut_behind bytes)
+
+-- and without those in front of it
+abbrev pub trimmed : Text → Text
+trimmed line = cut_behind (skipped is_blank line)
+
+abbrev pub is_space : ℕ → Bool
+is_space b = (b == 32) || (b == 9)
+
+-- Spaces and tabs separate words; a carriage return inside the line is a byte of its word.
+abbrev pub device_words : Text → List Text
+device_words line = filter (λ word. not (length word == 0)) (slice_split is_space (trimmed line))
+
+-- ---- what a line says
+
+abbrev pub is_equals : ℕ → Bool
+is_equals b = b == 61
+
+-- a variable's name is not empty and does not begin with `-`
+abbrev pub is_variable : Text → Bool
+is_variable [] = false
+is_variable (b ∷ bytes) = not (b == 45)
+
+-- A setting is a variable's name, the first `=`, and a value that may be empty.
+abbrev pub setting : Text → Option (Text × Text)
+setting word =
+    elim (position is_equals word) [
+      | None ↦ None
+      | Some at ↦ if is_variable (take at word) then Some (take at word, drop (at + 1) word) else None
+    ]
+
+-- the settings, where each of the words is one
+abbrev pub settings : List Text → Option (List (Text × Text))
+settings [] = Some []
+settings (word ∷ words) =
+    elim (setting word) [
+      | None ↦ None
+      | Some first ↦ option_map (λ more. first ∷ more) (settings words)
+    ]
+
+-- the name of a command, whether it is final, and the words behind that
+pub record Heading : Type 0 where
+  pub name : Text
+  pub ends : Bool
+  pub words : List Text
+
+-- The first word is the name, unless it is `final` and a word without `=` follows, which is then the name.
+abbrev pub heading_of : Text → List Text → Heading
+heading_of first [] = record { name = first; ends = false; words = [] }
+heading_of first (second ∷ words) =
+    if bytes_eq first (codes "final") && not (list_any is_equals second)
+    then record { name = second; ends = true; words = words }
+    else record { name = first; ends = false; words = second ∷ words }
+
+abbrev pub built_ins : List Text
+built_ins = codes "setenv" ∷ codes "run" ∷ codes "test" ∷ codes "echo" ∷ codes "true" ∷ codes "false" ∷ codes "exit" ∷ []
+
+abbrev pub is_built_in : Text → Bool
+is_built_in name = list_any (bytes_eq name) built_ins
+
+-- one line of a command
+abbrev pub Listing : Type 0
+Listing = Text × Effect
+
+abbrev pub listing_with : ℕ → Heading → Option (List (Text × Text)) → Result Listing DevicesError
+listing_with number h None = Err (BadLine number)
+listing_with number h (Some sets) = if is_built_in h.name then Err (BuiltIn number) else Ok (h.name, record { ends = h.ends; sets = sets })
+
+abbrev pub listing_of : ℕ → Heading → Result Listing DevicesError
+listing_of number h = listing_with number h (settings h.words)
+
+abbrev pub begins_comment : Text → Bool
+begins_comment [] = false
+begins_comment (b ∷ bytes) = b == 35
+
+-- ---- the list
+
+-- one line more for its command: final where one of them is, settings in their order
+abbrev pub joint : Effect → Effect → Effect
+joint before more = record { ends = before.ends || more.ends; sets = before.sets ++ more.sets }
+
+abbrev pub joined : Devices → Listing → Devices
+joined [] more = more ∷ []
+joined (d ∷ devices) more = if bytes_eq more.0 d.0 then (d.0, joint d.1 more.1) ∷ devices else d ∷ joined devices more
+
+abbrev pub with_listing : Devices → Result Listing DevicesError → Result Devices DevicesError
+with_listing devices (Ok more) = Ok (joined devices more)
+with_listing devices (Err fault) = Err fault
+
+-- The list after the words of one more line, or the line's fault. A line without a word, and one that begins with `#`, says nothing.
+abbrev pub after_words : Devices → ℕ → Text → List Text → Result Devices DevicesError
+after_words devices number line [] = Ok devices
+after_words devices number line (first ∷ words) =
+    if begins_comment first then Ok devices
+    else (if list_any (λ b. b == 0) line then Err (BadLine number) else with_listing devices (listing_of number (heading_of first words)))
+
+abbrev pub after_line : Devices → ℕ → Text → Result Devices DevicesError
+after_line devices number line = after_words devices number line (device_words line)
+
+-- the lines one after another, up to the first faulty one
+abbrev pub listed_lines : Devices → List (ℕ × Text) → Result Devices DevicesError
+listed_lines devices [] = Ok devices
+listed_lines devices (l ∷ lines) =
+    elim (after_line devices l.0 l.1) [
+      | Ok next ↦ listed_lines next lines
+      | Err fault ↦ Err fault
+    ]
+
+-- the commands that a device list names, or its first fault
+abbrev pub listed : Text → Result Devices DevicesError
+listed text = listed_lines [] (numbered_lines text)

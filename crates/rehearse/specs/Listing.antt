@@ -1,0 +1,104 @@
+-- The text that a rehearsal writes. Ours.
+use Rattle.std.specs.Prelude.{ℕ, ◌+◌, ◌/◌, ◌%◌, nat_lt, nat_le, nat_eq, Bool, true, false, cond, ◌&&◌, List, [], ◌∷◌, ◌++◌, map, flat_map, length, take, Option, Some, None, codes, decimal}
+use Rattle.std.specs.List.{join_with_byte}
+use Rattle.bootstore.specs.Moment.{LoggedCommand}
+use Rattle.rehearse.specs.Outcomes.{Outcome, Word}
+use Rattle.rehearse.specs.State.{Text, Variables, get, State}
+use Rattle.rehearse.specs.Execution.{Ending, End, CutDevices, CutSteps, Unknown, Syntax, Size, Booted, succeeds}
+use Rattle.rehearse.specs.Runs.{Task, run_on, state_of, ending_of}
+
+-- ---- bytes, texts and words
+
+abbrev pub hex_digit : ℕ → ℕ
+hex_digit d = cond (nat_lt d 10) (48 + d) (87 + d)
+
+-- a newline is `\n`, a backslash `\\`; other bytes from 32 to 126 are themselves, and any other is `\x` and two digits
+abbrev pub escaped : ℕ → Text
+escaped b = cond (nat_eq b 10) (codes "\\n") (cond (nat_eq b 92) (codes "\\\\") (cond (nat_le 32 b && nat_le b 126) (b ∷ []) (codes "\\x" ++ hex_digit (b / 16) ∷ hex_digit (b % 16) ∷ [])))
+
+abbrev pub text_form : Text → Text
+text_form bytes = flat_map escaped bytes
+
+-- as a text, with `\x20` for a space and `\e` for the empty word
+abbrev pub word_form : Text → Text
+word_form [] = codes "\\e"
+word_form (b ∷ bytes) = flat_map (λ c. cond (nat_eq c 32) (codes "\\x20") (escaped c)) (b ∷ bytes)
+
+abbrev pub digit_when : (success : Bool) → ℕ
+digit_when true = 48
+digit_when false = 49
+
+abbrev pub digit_of : Outcome → ℕ
+digit_of outcome = digit_when (succeeds outcome)
+
+-- a word is printed by its digits, the empty one as a dot
+abbrev pub spelled : Word → Text
+spelled [] = codes "."
+spelled (d ∷ w) = map digit_of (d ∷ w)
+
+-- ---- the record of a run
+
+abbrev pub line : Text → Text
+line bytes = bytes ++ 10 ∷ []
+
+abbrev pub device_line : LoggedCommand → Text
+device_line e = codes "dev " ++ digit_when e.success ∷ 32 ∷ join_with_byte 32 (map word_form e.words)
+
+-- an empty text has no line
+abbrev pub text_lines : Text → List Text
+text_lines [] = []
+text_lines (b ∷ bytes) = (codes "text " ++ text_form (b ∷ bytes)) ∷ []
+
+abbrev pub variable_line : Text × Text → Text
+variable_line e = codes "var " ++ word_form e.0 ++ codes "=" ++ text_form e.1
+
+abbrev pub asked_line : Variables → Text → Text
+asked_line environment name = elim (get environment name) [ Some value ↦ variable_line (name, value) | None ↦ codes "unset " ++ word_form name ]
+
+-- every environment variable, or those that are asked for, in the order asked
+abbrev pub variable_lines : Variables → (names : List Text) → List Text
+variable_lines environment [] = map variable_line environment
+variable_lines environment (name ∷ names) = map (asked_line environment) (name ∷ names)
+
+abbrev pub last_line : Ending → Text
+last_line (End status) = codes "end " ++ decimal status
+last_line CutDevices = codes "cut devices"
+last_line CutSteps = codes "cut steps"
+last_line (Unknown name) = codes "stop unknown " ++ word_form name
+last_line (Syntax name) = codes "stop syntax " ++ word_form name
+last_line Size = codes "stop size"
+last_line (Booted name) = codes "booted " ++ word_form name
+
+-- the lines between the first and the last of a record
+abbrev pub inner_lines : State → (names : List Text) → List Text
+inner_lines s names = map device_line s.log ++ text_lines s.memory.text ++ variable_lines s.memory.environment names
+
+abbrev pub record_lines : Word → State → Ending → (names : List Text) → List Text
+record_lines w s ending names = (codes "run " ++ spelled w) ∷ inner_lines s names ++ last_line ending ∷ []
+
+abbrev pub record_text : Word → State → Ending → (names : List Text) → Text
+record_text w s ending names = flat_map line (record_lines w s ending names)
+
+-- the record of the run on a word
+abbrev pub record_of : Task → (names : List Text) → Word → Text
+record_of task names w = record_text w (state_of (run_on task w)) (ending_of (run_on task w)) names
+
+-- ---- the listing
+
+abbrev pub last_of : Word → List Word → Word
+last_of w [] = w
+last_of w (v ∷ vs) = last_of v vs
+
+-- the words whose records stand in a listing
+abbrev pub shown : List Word → (limit : Option ℕ) → List Word
+shown ws None = ws
+shown ws (Some limit) = take limit ws
+
+-- the line behind the records: `more` with the last one's word where words are left out, else `done`
+abbrev pub closing : List Word → (limit : Option ℕ) → Text
+closing ws None = codes "done"
+closing ws (Some limit) = elim (nat_le (length ws) limit) [ true ↦ codes "done" | false ↦ codes "more " ++ spelled (last_of [] (take limit ws)) ]
+
+-- the records of words, each written as it is told, and the closing line
+abbrev pub listing : (written : Word → Text) → List Word → (limit : Option ℕ) → Text
+listing written ws limit = flat_map written (shown ws limit) ++ line (closing ws limit)

@@ -1,0 +1,92 @@
+-- Outcome words: what the device commands of a run answered, in their order. Ours.
+use Rattle.std.specs.Prelude.{ℕ, zero, suc, pred, Bool, true, false, cond, ◌&&◌, List, [], ◌∷◌, ◌++◌, map, filter, Option, Some, None, option_map, ◌≡◌, ◌⊎◌}
+
+-- what a device command answers, printed as `0` and `1`
+pub data Outcome : Type 0 where
+  Success Failure : Outcome
+
+abbrev pub Word : Type 0
+Word = List Outcome
+
+-- the words of at most n outcomes in dictionary order, success before failure
+abbrev pub words : ℕ → List Word
+words zero = [] ∷ []
+words (suc n) = [] ∷ map (λ w. Success ∷ w) (words n) ++ map (λ w. Failure ∷ w) (words n)
+
+-- a run takes the word exactly; or a device command finds no outcome left; or outcomes are left over
+pub data WordKind : Type 0 where
+  Run Short Long : WordKind
+
+abbrev pub is_run_kind : WordKind → Bool
+is_run_kind Run = true
+is_run_kind Short = false
+is_run_kind Long = false
+
+-- the words of at most n outcomes that are runs, in dictionary order
+abbrev pub runs_within : (Word → WordKind) → ℕ → List Word
+runs_within kind n = filter (λ w. is_run_kind (kind w)) (words n)
+
+abbrev pub outcome_eq : Outcome → Outcome → Bool
+outcome_eq Success Success = true
+outcome_eq Failure Failure = true
+outcome_eq Success Failure = false
+outcome_eq Failure Success = false
+
+abbrev pub word_eq : Word → Word → Bool
+word_eq [] [] = true
+word_eq [] (d ∷ w) = false
+word_eq (c ∷ v) [] = false
+word_eq (c ∷ v) (d ∷ w) = outcome_eq c d && word_eq v w
+
+-- what stands behind w in a list
+abbrev pub after : Word → List Word → List Word
+after w [] = []
+after w (v ∷ vs) = cond (word_eq v w) vs (after w vs)
+
+-- what two words begin with alike
+abbrev pub common_prefix : Word → Word → Word
+common_prefix [] w = []
+common_prefix (c ∷ v) [] = []
+common_prefix (c ∷ v) (d ∷ w) = cond (outcome_eq c d) (c ∷ common_prefix v w) []
+
+abbrev pub has_success : Word → Bool
+has_success [] = false
+has_success (Success ∷ w) = true
+has_success (Failure ∷ w) = has_success w
+
+-- dictionary order, success before failure
+abbrev pub comes_before : Word → Word → Bool
+comes_before [] [] = false
+comes_before [] (d ∷ w) = true
+comes_before (c ∷ v) [] = false
+comes_before (Success ∷ v) (Success ∷ w) = comes_before v w
+comes_before (Success ∷ v) (Failure ∷ w) = true
+comes_before (Failure ∷ v) (Success ∷ w) = false
+comes_before (Failure ∷ v) (Failure ∷ w) = comes_before v w
+
+-- ---- in which words the laws say what follows a run
+
+-- the word cut behind its last success, which becomes a failure; none without a success
+abbrev pub turned : Word → Option Word
+turned [] = None
+turned (Success ∷ w) = elim (turned w) [ Some v ↦ Some (Success ∷ v) | None ↦ Some (Failure ∷ []) ]
+turned (Failure ∷ w) = option_map (λ v. Failure ∷ v) (turned w)
+
+-- the kinds of words, past one outcome
+abbrev pub beyond : Outcome → (Word → WordKind) → Word → WordKind
+beyond outcome kind w = kind (outcome ∷ w)
+
+-- success at each device command
+abbrev pub first_run : (Word → WordKind) → ℕ → Word
+first_run kind zero = []
+first_run kind (suc n) = elim (kind []) [ Run ↦ [] | Long ↦ [] | Short ↦ Success ∷ first_run (beyond Success kind) n ]
+
+-- p, and success at each further device command
+abbrev pub first_from : (Word → WordKind) → ℕ → Word → Word
+first_from kind n [] = first_run kind n
+first_from kind n (d ∷ p) = d ∷ first_from (beyond d kind) (pred n) p
+
+-- kinds of words that come from choices, at most n of them one behind another: here the run ends, or each outcome leads on
+abbrev pub IsChoice : ℕ → (Word → WordKind) → Type 0
+IsChoice zero kind = (kind [] ≡ Run) × ((d : Outcome) (w : Word) → kind (d ∷ w) ≡ Long)
+IsChoice (suc n) kind = ((kind [] ≡ Run) × ((d : Outcome) (w : Word) → kind (d ∷ w) ≡ Long)) ⊎ ((kind [] ≡ Short) × ((d : Outcome) → IsChoice n (beyond d kind)))

@@ -1,0 +1,55 @@
+-- What a run has at a moment: the state of the script (U-Boot documentation, doc/usage/cmdline and
+-- doc/usage/environment, on variables and `$?`), and the rest of its outcome word (ours).
+use Rattle.std.specs.Prelude.{ℕ, List, [], not, Option, Some, None, filter}
+use Rattle.std.specs.FinMap.{find, put, entries}
+use Rattle.std.specs.Cmp.Lexicographic.{slice_cmp}
+use Rattle.std.specs.Ordering.{nat_cmp, eq_by_cmp}
+use Rattle.hushlang.specs.Expansion as expansion
+use Rattle.bootstore.specs.Moment.{LoggedCommand, Moment}
+use Rattle.rehearse.specs.Outcomes.{Word}
+
+abbrev pub Text : Type 0
+Text = List ℕ
+
+-- names with their values, in byte order of the names: the entries of a store's map
+abbrev pub Variables : Type 0
+Variables = List (Text × Text)
+
+abbrev pub get : Variables → Text → Option Text
+get variables name = find (slice_cmp nat_cmp) name variables
+
+abbrev pub with_value : Variables → Text → Text → Variables
+with_value variables name value = put (slice_cmp nat_cmp) name value variables
+
+abbrev pub without : Variables → Text → Variables
+without variables name = filter (λ e. not (eq_by_cmp (slice_cmp nat_cmp) name e.0)) variables
+
+-- what a script reads and writes
+pub record Memory : Type 0 where
+  pub environment : Variables
+  pub locals : Variables
+  pub status : ℕ
+  pub text : Text
+
+-- with the log of device commands, how many steps are begun, and the rest of the word
+pub record State : Type 0 where
+  pub memory : Memory
+  pub log : List LoggedCommand
+  pub steps : ℕ
+  pub word : Word
+
+-- the state at the start of a run
+abbrev pub start : Variables → Word → State
+start environment word = record { memory = record { environment = environment; locals = []; status = 0; text = [] }; log = []; steps = 0; word = word }
+
+-- a variable's value: that of the environment, else of the shell variable
+abbrev pub value_in : Memory → Text → Option Text
+value_in m name = elim (get m.environment name) [ Some value ↦ Some value | None ↦ get m.locals name ]
+
+-- what words expand by
+abbrev pub setting_in : Memory → expansion.Setting
+setting_in m = record { value = value_in m; status = m.status }
+
+-- the state that a store's moment is, with the rest of a word
+abbrev pub state_at : Moment → Word → State
+state_at m word = record { memory = record { environment = entries m.environment; locals = entries m.locals; status = m.status; text = m.text }; log = m.log; steps = m.steps; word = word }

@@ -1,0 +1,10 @@
+//! Laws of device lists, each the contract of a function that does nothing.
+
+ghost use Rattle.rehearse.specs.DeviceLaws.{LinesAreJoined};
+
+/// A name is listed where a line names it, and does what all lines of that name say: it is final where
+/// one of them is, and sets what they set, in their order.
+#[tactic(auto, using(crate::proofs::JoinedLines::lines_are_joined))]
+pub fn lines_are_joined()
+    ensures { LinesAreJoined }
+{}

@@ -1,0 +1,181 @@
+//! What one line of a device list says.
+ghost use Rattle.std.specs.Prelude.{◌≡◌, ◌==◌, map, option_map, IfOk};
+ghost use Rattle.std.specs.List.{list_any, position};
+ghost use Rattle.envimage.specs.Words.{is_blank, skipped};
+ghost use Rattle.rehearse.specs.DeviceList.{cut_behind, trimmed, is_space, device_words, is_equals, is_variable, setting, settings, heading_of, is_built_in, begins_comment};
+ghost use Rattle.rehearse.specs.DevicesShown.{settings_shown, heading_shown, lent_setting};
+
+use std::alloc::{AllocError, Global};
+
+/// A variable that a device command sets, and its value.
+pub(crate) type Setting = (Vec<u8>, Vec<u8>);
+
+/// The name of a command, whether it is final, and the words behind that.
+#[derive(Clone, Copy)]
+pub(crate) struct Heading<'a> {
+    pub(crate) name: &'a [u8],
+    pub(crate) ends: bool,
+    pub(crate) words: &'a [&'a [u8]],
+}
+
+/// Whether a byte is dropped round a line: a space, a tab or a carriage return.
+fn is_blank(byte: u8) -> bool
+    ensures { result ≡ is_blank byte }
+{
+    is_space(byte) || byte == b'\r'
+}
+
+/// Whether a byte separates words: a space or a tab.
+fn is_space(byte: u8) -> bool
+    ensures { result ≡ is_space byte }
+{
+    byte == b' ' || byte == b'\t'
+}
+
+/// What follows the blanks at the front.
+fn cut_front(line: &[u8]) -> &[u8]
+    ensures { result.now ≡ skipped is_blank line.now }
+{
+    let mut rest = line;
+    while let [first, more @ ..] = rest {
+        if !is_blank(*first) {
+            break;
+        }
+        rest = more;
+    }
+    rest
+}
+
+/// A line without the blanks at its end.
+#[tactic(auto, using(crate::proofs::DeviceLemmas::ends))]
+fn cut_behind(line: &[u8]) -> &[u8]
+    ensures { result.now ≡ cut_behind line.now }
+{
+    let mut len = line.len();
+    while len > 0 {
+        if !is_blank(line[len - 1]) {
+            return &line[..len];
+        }
+        len -= 1;
+    }
+    &[]
+}
+
+/// A line without the blanks round it.
+fn trimmed(line: &[u8]) -> &[u8]
+    ensures { result.now ≡ trimmed line.now }
+{
+    cut_behind(cut_front(line))
+}
+
+/// The words of a line.
+pub(crate) fn device_words(alloc: Global, line: &[u8]) -> Result<Vec<&[u8]>, AllocError>
+    ensures { IfOk result (λ v. map (λ w. w.now) v.items ≡ device_words line.now) }
+{
+    trimmed(line)
+        .split(|byte| is_space(*byte))
+        .filter(|word| !word.is_empty())
+        .collect(alloc)
+}
+
+/// Whether a word begins a comment.
+pub(crate) fn begins_comment(word: &[u8]) -> bool
+    ensures { result ≡ begins_comment word.now }
+{
+    match word {
+        [first, ..] => *first == b'#',
+        [] => false,
+    }
+}
+
+/// Whether a line holds NUL.
+pub(crate) fn has_nul(line: &[u8]) -> bool
+    ensures { result ≡ list_any (λ b. b == 0) line.now }
+{
+    line.iter().any(|byte| *byte == 0)
+}
+
+/// The place of the first `=`.
+fn equals_at(word: &[u8]) -> Option<usize>
+    ensures { result ≡ position is_equals word.now }
+{
+    word.iter().position(|byte| *byte == b'=')
+}
+
+/// Whether a word holds `=`.
+fn has_equals(word: &[u8]) -> bool
+    ensures { result ≡ list_any is_equals word.now }
+{
+    word.iter().any(|byte| *byte == b'=')
+}
+
+/// Whether the name of a command is that of a built-in one.
+pub(crate) fn is_built_in(name: &[u8]) -> bool
+    ensures { result ≡ is_built_in name.now }
+{
+    name == b"setenv".as_slice()
+        || name == b"run".as_slice()
+        || name == b"test".as_slice()
+        || name == b"echo".as_slice()
+        || name == b"true".as_slice()
+        || name == b"false".as_slice()
+        || name == b"exit".as_slice()
+}
+
+/// The first word of a line is the name, unless it is `final` and a word without `=` follows, which is
+/// then the name.
+pub(crate) fn heading_of<'a>(first: &'a [u8], behind: &'a [&'a [u8]]) -> Heading<'a>
+    ensures { heading_shown result ≡ heading_of first.now (map (λ w. w.now) behind.now) }
+{
+    match behind {
+        [second, words @ ..] if first == b"final".as_slice() && !has_equals(second) => Heading {
+            name: second,
+            ends: true,
+            words,
+        },
+        _ => Heading {
+            name: first,
+            ends: false,
+            words: behind,
+        },
+    }
+}
+
+/// Whether a variable may have this name: it is not empty and does not begin with `-`.
+fn is_variable(name: &[u8]) -> bool
+    ensures { result ≡ is_variable name.now }
+{
+    match name {
+        [] => false,
+        [first, ..] => *first != b'-',
+    }
+}
+
+/// The variable and the value of a setting.
+#[tactic(auto, using(crate::proofs::DeviceLemmas::cuts))]
+fn setting(word: &[u8]) -> Option<(&[u8], &[u8])>
+    ensures { option_map lent_setting result ≡ setting word.now }
+{
+    let at = equals_at(word)?;
+    let name = &word[..at];
+    if !is_variable(name) {
+        return None;
+    }
+    Some((name, &word[at + 1..]))
+}
+
+/// The settings, where each of the words is one.
+pub(crate) fn settings(alloc: Global, words: &[&[u8]]) -> Result<Option<Vec<Setting>>, AllocError>
+    ensures { IfOk result (λ s. option_map settings_shown s ≡ settings (map (λ w. w.now) words.now)) }
+{
+    let mut list = Vec::new(alloc);
+    for word in words {
+        let Some((name, value)) = setting(word) else {
+            return Ok(None);
+        };
+        let name = Vec::from_slice(alloc, name)?;
+        let value = Vec::from_slice(alloc, value)?;
+        list.push((name, value))?;
+    }
+    Ok(Some(list))
+}

@@ -1,0 +1,27 @@
+use std::alloc::AllocError;
+use thiserror::Error;
+
+/// Why a device list was refused. Lines count from 1, skipped ones included.
+#[derive(Clone, Copy, Debug, Drop, PartialEq, Eq, Error)]
+pub enum DevicesError {
+    /// A word behind the command's name is no setting, or the line holds NUL.
+    #[error("device list line {0}: bad line")]
+    BadLine(usize),
+    /// The line names a built-in command.
+    #[error("device list line {0}: built-in command")]
+    BuiltIn(usize),
+    /// A growth was refused.
+    #[error("out of memory")]
+    Memory,
+}
+
+impl From<AllocError> for DevicesError {
+    ghost use Rattle.std.specs.Prelude.{◌≡◌};
+    ghost use Rattle.rehearse.specs.declared.devices_error.DevicesError.TheVariants.{Memory};
+
+    ghost from_gives = { λ _ e. e ≡ Memory };
+
+    fn from(_error: AllocError) -> DevicesError {
+        DevicesError::Memory
+    }
+}

@@ -1,0 +1,82 @@
+//! Laws of rehearsals. A call of one does nothing: its contract is the law.
+
+ghost use Rattle.rehearse.specs.Laws.{TreesAreRead, RefusedTexts, TreesAreProper};
+ghost use Rattle.rehearse.specs.Laws.{StoredValues, StoredChanges, StoredDeletions, StoredStarts};
+ghost use Rattle.rehearse.specs.Laws.{NoRunTwice, NoRunBeginsAnother, NoRunIsLonger, RunsAreThere, AnotherFollows};
+ghost use Rattle.rehearse.specs.Laws.{RunsPartWhereAsked, LogIsWord};
+ghost use Rattle.rehearse.specs.Laws.{StepsAreBounded, CutAtStepBound, CutAtDeviceBound, AskedBelowBound};
+ghost use Rattle.rehearse.specs.Laws.{RunsBegin, RunsFollow, RunsStand, RunsAreRuns, RunsAreOrdered};
+ghost use Rattle.rehearse.specs.Laws.{MoreIsLeft, PagesOfRuns, PagesOfRest};
+ghost use Rattle.rehearse.specs.Laws.{WholeIsGreatest, WholeRecords, Resuming};
+ghost use Rattle.rehearse.specs.Laws.{ResumePoint, ResumedAtPoint, ResumedRest};
+
+/// The tree by which a text is executed is the one that the language gives it.
+pub fn trees_are_read()
+    ensures read { TreesAreRead }
+    ensures refused { RefusedTexts }
+    ensures proper { TreesAreProper }
+{}
+
+/// The variables of a run are the entries of a store's map, and its changes are the map's.
+pub fn states_are_stored()
+    ensures values { StoredValues }
+    ensures changes { StoredChanges }
+    ensures deletions { StoredDeletions }
+    ensures starts { StoredStarts }
+{}
+
+/// There is a run; none stands twice, none begins another, and none is longer than the device bound. Another
+/// follows exactly where a success stands.
+pub fn words_of_runs()
+    ensures distinct { NoRunTwice }
+    ensures no_prefix { NoRunBeginsAnother }
+    ensures bounded { NoRunIsLonger }
+    ensures some { RunsAreThere }
+    ensures another { AnotherFollows }
+{}
+
+/// The outcomes in a run's log are its word, and two runs part where a device command asks for an outcome.
+pub fn outcomes_of_runs()
+    ensures logged { LogIsWord }
+    ensures parted { RunsPartWhereAsked }
+{}
+
+/// No run goes past a bound, and none is cut before it.
+pub fn bounds_of_runs()
+    ensures steps { StepsAreBounded }
+    ensures cut_steps { CutAtStepBound }
+    ensures cut_devices { CutAtDeviceBound }
+    ensures asked { AskedBelowBound }
+{}
+
+/// The runs are exactly the words that are runs, in dictionary order; and which comes first, and which behind
+/// another.
+pub fn order_of_runs()
+    ensures begin { RunsBegin }
+    ensures follow { RunsFollow }
+    ensures stand { RunsStand }
+    ensures alone { RunsAreRuns }
+    ensures ordered { RunsAreOrdered }
+{}
+
+/// Pages made by a limit, less their lines `more`, are the listing without limit. A page ends in `more` exactly
+/// where words are left out.
+pub fn pages()
+    ensures more { MoreIsLeft }
+    ensures of_runs { PagesOfRuns }
+    ensures of_rest { PagesOfRest }
+{}
+
+/// A listing that was broken off goes on from its whole records.
+pub fn whole_records()
+    ensures greatest { WholeIsGreatest }
+    ensures split { WholeRecords }
+    ensures resumed { Resuming }
+{}
+
+/// The point to resume at is found in what stands written, for every front of a listing.
+pub fn resume_point()
+    ensures point { ResumePoint }
+    ensures all { ResumedAtPoint }
+    ensures rest { ResumedRest }
+{}

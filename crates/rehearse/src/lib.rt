@@ -1,0 +1,16 @@
+//! The rehearsal of boot scripts: its commands, its runs and its listing.
+#![tactic(auto)]
+
+mod bounds;
+pub mod device_laws;
+mod device_line;
+mod devices;
+mod devices_error;
+pub mod laws;
+mod number;
+mod truth;
+
+pub use bounds::{Bounds, DEVICES_MAX, STEPS_MAX};
+pub use devices::{Devices, Effect};
+pub use devices_error::DevicesError;
+pub use truth::verdict;

@@ -1,0 +1,127 @@
+//! The numbers that words of `test` spell.
+ghost use Rattle.std.specs.Prelude.{◌≡◌, ◌-◌, ◌^◌, ◌≤◌, nat_lt, length, min, pos};
+ghost use Rattle.std.specs.List.{prefix_len};
+ghost use Rattle.std.specs.Option.{option_copied};
+ghost use Rattle.envimage.specs.Config.{digit_of, value_in};
+ghost use Rattle.rehearse.specs.Verdict.{digits_in, read_in, begins_hexadecimal, magnitude, negated, behind_minus, number};
+
+/// The value of a digit of any base up to 16, and 16 where the byte is no digit.
+fn digit_of(byte: u8) -> u64
+    ensures { result ≡ digit_of byte }
+{
+    match byte {
+        b'0'..=b'9' => u64::from(byte - b'0'),
+        b'A'..=b'F' => u64::from(byte - b'A') + 10,
+        b'a'..=b'f' => u64::from(byte - b'a') + 10,
+        _ => 16,
+    }
+}
+
+/// How many bytes in front are digits of a base.
+fn digits_len(base: u64, word: &[u8]) -> usize
+    ensures value { result ≡ prefix_len (λ b. nat_lt (digit_of b) base) word.now }
+    ensures within { result ≤ length word.now }
+{
+    word.iter()
+        .take_while(|byte| digit_of(**byte) < base)
+        .count()
+}
+
+/// The bytes in front that are digits of a base.
+fn digits_in(base: u64, word: &[u8]) -> &[u8]
+    ensures { result.now ≡ digits_in base word.now }
+{
+    &word[..digits_len(base, word)]
+}
+
+/// The number of some digits, as far as 64 bits can hold it.
+fn value_in(base: u64, digits: &[u8]) -> u64
+    requires { 1 ≤ base }
+    ensures { result ≡ min (value_in base digits.now) (2 ^ 64 - 1) }
+{
+    let mut number: u64 = 0;
+    for digit in digits {
+        number = number.saturating_mul(base).saturating_add(digit_of(*digit));
+    }
+    number
+}
+
+/// The number that the digits in front spell, and 0 where there is none.
+fn read_in(base: u64, word: &[u8]) -> u64
+    requires { 1 ≤ base }
+    ensures { result ≡ min (read_in base word.now) (2 ^ 64 - 1) }
+{
+    value_in(base, digits_in(base, word))
+}
+
+/// Whether an x of either case stands here, and a hexadecimal digit behind it.
+fn begins_hexadecimal(word: &[u8]) -> bool
+    ensures { result ≡ begins_hexadecimal word.now }
+{
+    match word {
+        [x, digit, ..] => (*x == b'x' || *x == b'X') && digit_of(*digit) < 16,
+        _ => false,
+    }
+}
+
+/// A number without a sign: hexadecimal behind `0x`, octal behind a leading 0, else decimal. The
+/// reading ends at the first byte that does not fit.
+fn magnitude(word: &[u8]) -> u64
+    ensures { result ≡ min (magnitude word.now) (2 ^ 64 - 1) }
+{
+    match word {
+        [] => 0,
+        [b'0', digits @ ..] => {
+            if begins_hexadecimal(digits) {
+                read_in(16, &digits[1..])
+            } else {
+                read_in(8, digits)
+            }
+        }
+        _ => read_in(10, word),
+    }
+}
+
+/// The number itself, or the greatest of 64 bits.
+fn positive(magnitude: u64) -> i64
+    ensures { result ≡ pos (min magnitude 9223372036854775807) }
+{
+    if magnitude <= 9_223_372_036_854_775_807 {
+        magnitude as i64
+    } else {
+        i64::MAX
+    }
+}
+
+/// The number below 0, or the least of 64 bits.
+fn negative(magnitude: u64) -> i64
+    ensures { result ≡ negated (min magnitude 9223372036854775808) }
+{
+    if magnitude <= 9_223_372_036_854_775_807 {
+        -(magnitude as i64)
+    } else {
+        i64::MIN
+    }
+}
+
+/// What follows a minus sign.
+fn behind_minus(word: &[u8]) -> Option<&[u8]>
+    ensures { option_copied result ≡ behind_minus word.now }
+{
+    match word {
+        [b'-', digits @ ..] => Some(digits),
+        _ => None,
+    }
+}
+
+/// The number that a word spells, behind an optional `-`; one that 64 bits cannot hold is the least or
+/// the greatest that they can.
+#[tactic(auto, using(crate::proofs::VerdictLemmas::cut_numbers))]
+pub(crate) fn number(word: &[u8]) -> i64
+    ensures { result ≡ number word.now }
+{
+    match behind_minus(word) {
+        Some(digits) => negative(magnitude(digits)),
+        None => positive(magnitude(word)),
+    }
+}

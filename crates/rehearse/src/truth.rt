@@ -1,0 +1,144 @@
+//! The truth of the words after `test`.
+ghost use Rattle.std.specs.Prelude.{◌≡◌, ◌==◌, length, IfSome};
+ghost use Rattle.rehearse.specs.Verdict.{text_comparisons, number_comparisons, answer_in, comparison, compared, measured, term, combined, verdict};
+ghost use Rattle.rehearse.specs.Words.{texts, term_seen};
+
+use crate::number::number;
+
+/// The answer of a comparison of texts, byte by byte, where the operator is one.
+fn compare_texts(operator: &[u8], left: &[u8], right: &[u8]) -> Option<bool>
+    ensures { result ≡ answer_in text_comparisons operator.now left.now right.now }
+{
+    if operator == b"=".as_slice() {
+        Some(left == right)
+    } else if operator == b"!=".as_slice() {
+        Some(left != right)
+    } else if operator == b"<".as_slice() {
+        Some(left.cmp(&right).is_lt())
+    } else if operator == b">".as_slice() {
+        Some(left.cmp(&right).is_gt())
+    } else {
+        None
+    }
+}
+
+/// The answer of a comparison of numbers, where the operator is one.
+fn compare_numbers(operator: &[u8], left: &[u8], right: &[u8]) -> Option<bool>
+    ensures { result ≡ answer_in number_comparisons operator.now left.now right.now }
+{
+    if operator == b"-eq".as_slice() {
+        Some(number(left) == number(right))
+    } else if operator == b"-ne".as_slice() {
+        Some(number(left) != number(right))
+    } else if operator == b"-lt".as_slice() {
+        Some(number(left) < number(right))
+    } else if operator == b"-le".as_slice() {
+        Some(number(left) <= number(right))
+    } else if operator == b"-gt".as_slice() {
+        Some(number(left) > number(right))
+    } else if operator == b"-ge".as_slice() {
+        Some(number(left) >= number(right))
+    } else {
+        None
+    }
+}
+
+/// The answer of the comparison that the operator names.
+fn compare(operator: &[u8], left: &[u8], right: &[u8]) -> Option<bool>
+    ensures { result ≡ comparison operator.now left.now right.now }
+{
+    match compare_texts(operator, left, right) {
+        Some(truth) => Some(truth),
+        None => compare_numbers(operator, left, right),
+    }
+}
+
+/// A comparison of three words, and the words behind it.
+#[tactic(auto, using(crate::proofs::VerdictLemmas::terms))]
+fn compared(words: &[Vec<u8>]) -> Option<(bool, &[Vec<u8>])>
+    ensures { term_seen result ≡ compared (texts words.now) }
+{
+    match words {
+        [left, operator, right, rest @ ..] => {
+            let truth = compare(operator, left, right)?;
+            Some((truth, rest))
+        }
+        _ => None,
+    }
+}
+
+/// A test of whether one word is empty, and the words behind it.
+fn measured(words: &[Vec<u8>]) -> Option<(bool, &[Vec<u8>])>
+    ensures { term_seen result ≡ measured (texts words.now) }
+{
+    let [test, word, rest @ ..] = words else {
+        return None;
+    };
+    if test.as_slice() == b"-n".as_slice() {
+        Some((!word.is_empty(), rest))
+    } else if test.as_slice() == b"-z".as_slice() {
+        Some((word.is_empty(), rest))
+    } else {
+        None
+    }
+}
+
+/// The truth of the term that the words begin with, and the words behind it.
+#[tactic(auto, using(crate::proofs::VerdictLemmas::terms))]
+fn term(words: &[Vec<u8>]) -> Option<(bool, &[Vec<u8>])>
+    ensures { term_seen result ≡ term (texts words.now) }
+{
+    let mut is_opposite = false;
+    let mut rest = words;
+    while let Some((first, more)) = rest.split_first() {
+        if let Some((truth, behind)) = compared(rest) {
+            return Some((truth != is_opposite, behind));
+        }
+        if first.as_slice() != b"!".as_slice() {
+            let (truth, behind) = measured(rest)?;
+            return Some((truth != is_opposite, behind));
+        }
+        is_opposite = !is_opposite;
+        rest = more;
+    }
+    None
+}
+
+/// Two truths as an operator combines them.
+fn combined(operator: &[u8], left: bool, right: bool) -> Option<bool>
+    ensures { result ≡ combined operator.now left right }
+{
+    if operator == b"-a".as_slice() {
+        Some(left && right)
+    } else if operator == b"-o".as_slice() {
+        Some(left || right)
+    } else {
+        None
+    }
+}
+
+/// The truth of the words after `test`: terms, combined by `-a` and `-o` from the left, both of one
+/// rank. A term is a comparison of three words (`= != < >` compare bytes, `-eq -ne -lt -le -gt -ge`
+/// numbers), or `!` and a term, or `-n` or `-z` and a word. Any other list of words is false as a
+/// whole. It takes no memory.
+pub fn verdict(words: &[Vec<u8>]) -> bool
+    ensures { result ≡ verdict (texts words.now) }
+{
+    let Some((mut truth, mut rest)) = term(words) else {
+        return false;
+    };
+    while let Some((operator, more)) = rest.split_first() {
+        let Some((next, behind)) = term(more) else {
+            return false;
+        };
+        let Some(both) = combined(operator, truth, next) else {
+            return false;
+        };
+        truth = both;
+        rest = behind;
+    }
+    truth
+}
+
+#[cfg(test)]
+mod tests;
