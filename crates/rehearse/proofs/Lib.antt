@@ -20,6 +20,7 @@ pub mod DeviceLemmas
 pub mod DeviceListRows
 pub mod JoinedLines
 pub mod MapLemmas
+pub mod QuietNames
 pub mod VerdictLemmas
 pub mod VerdictRows
 mod ListedRows

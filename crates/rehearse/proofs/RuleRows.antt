@@ -79,8 +79,8 @@ setenv_names : map told (codes "setenv; echo $?" ∷ codes "setenv '' a; echo $?
 unfolding told_of
 setenv_names = refl
 
--- every variable is listed in byte order of the names, an empty one too, and a deleted one is not
-variables_in_order : listed (bootcmd_among (setting only_load 0 10000) ((codes "b", codes "0") ∷ []) (codes "setenv c 1; setenv a 2; setenv B ''; setenv b; setenv aa 3")) [] None ≡ codes "run .\nvar B=\nvar a=2\nvar aa=3\nvar c=1\nend 0\ndone\n"
+-- every variable is listed in byte order of the names, an empty one too and one set twice once, and a deleted one is not
+variables_in_order : listed (bootcmd_among (setting only_load 0 10000) ((codes "b", codes "0") ∷ []) (codes "setenv c 1; setenv a 1; setenv B ''; setenv b; setenv aa 3; setenv a 2")) [] None ≡ codes "run .\nvar B=\nvar a=2\nvar aa=3\nvar c=1\nend 0\ndone\n"
 unfolding listed
 variables_in_order = refl
 

@@ -1,7 +1,7 @@
 -- What the lines of one name come to. Ours.
-use Rattle.std.specs.Prelude.{◌≡◌, ℕ, List, [], ◌∷◌, filter, Option, Some, None, Ok, if◌then◌else◌}
+use Rattle.std.specs.Prelude.{◌≡◌, ℕ, nat_le, Bool, true, false, length, List, [], ◌∷◌, filter, Option, Some, None, Ok, if◌then◌else◌}
 use Rattle.std.specs.Str.{bytes_eq}
-use Rattle.std.specs.List.{list_any, flat_map}
+use Rattle.std.specs.List.{list_any, list_all, flat_map}
 use Rattle.std.specs.Result.{result_ok}
 use Rattle.envimage.specs.Text.{numbered_lines}
 use Rattle.rehearse.specs.Verdict.{Text}
@@ -36,3 +36,17 @@ whole_effect (one ∷ more) = Some (record {
 abbrev pub LinesAreJoined : Type 0
 LinesAreJoined = (text : Text) (devices : Devices) → listed text ≡ Ok devices
     → (name : Text) → effect_of devices name ≡ whole_effect (lines_of name (listings (numbered_lines text)))
+
+-- ---- lists of names alone
+
+-- a command that only succeeds or fails
+abbrev pub quiet : Effect
+quiet = record { ends = false; sets = [] }
+
+abbrev pub is_name_alone : Text → Bool
+is_name_alone line = nat_le (length (device_words line)) 1
+
+-- A list without a second word in any line says nothing but names.
+abbrev pub NamesAreQuiet : Type 0
+NamesAreQuiet = (text : Text) (devices : Devices) → listed text ≡ Ok devices → list_all (λ l. is_name_alone l.1) (numbered_lines text) ≡ true
+    → (name : Text) (effect : Effect) → effect_of devices name ≡ Some effect → effect ≡ quiet

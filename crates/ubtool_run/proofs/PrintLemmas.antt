@@ -2,33 +2,31 @@
 use Rattle.std.proofs.Common.{◌≡◌, ℕ, Bool, List, Option, Some, None, Ok, Err, refl}
 use Rattle.std.specs.Prelude.{Result, option_map}
 use Rattle.envimage.specs.declared.image.ByteOrder.{ByteOrder}
-use Rattle.ubtool_core.specs.Order.{OnlyReads}
 use Rattle.ubtool_core.specs.Printing.{Outputs}
 use Rattle.ubtool_core.specs.Told.{Told}
 use Rattle.ubtool_core.specs.declared.error.ToolError.TheVariants.{Image, Env, Script, Write, Memory}
 use Rattle.ubtool_core.specs.declared.fault.Fault.{Fault}
 use Rattle.ubtool_core.specs.declared.fault.Fault.TheVariants as fault
 use Rattle.ubtool_run.proofs.ReadingLemmas.{found-reads}
-use Rattle.ubtool_run.specs.Faults.{IsReadFault}
-use Rattle.ubtool_run.specs.Images.{Copy, HasRead, copies}
+use Rattle.ubtool_run.specs.Images.{Copy, HasRead, ReadsImages, copies}
 use Rattle.ubtool_run.specs.Printing.{PrintsCopies, PrintsFrom, second_bytes}
 use Rattle.ubtool_run.specs.declared.images.Images.{Images}
 use Rattle.ubtool_run.specs.declared.read.StoredCopy.{StoredCopy}
 
--- a fault of reading
-pub prints-unread : (order : ByteOrder) (config : List ℕ) (names : List (List ℕ)) (header : Bool) (outputs : Outputs) (old new : Told) (f : Fault) → IsReadFault f
-    → OnlyReads old new → PrintsFrom order config names header outputs old new (Err f)
-prints-unread order config names header outputs old new (fault.Config error) is h = h
-prints-unread order config names header outputs old new (fault.Tool error) is h = absurd is
-prints-unread order config names header outputs old new (fault.CannotRead path) is h = h
-prints-unread order config names header outputs old new (fault.CannotWrite path) is h = h
-prints-unread order config names header outputs old new (fault.FileShort path) is h = h
-prints-unread order config names header outputs old new (fault.FileTooLong path) is h = h
-prints-unread order config names header outputs old new fault.CannotReadInput is h = h
-prints-unread order config names header outputs old new (fault.NoSuchVariable name) is h = h
-prints-unread order config names header outputs old new (fault.NotARun word) is h = h
-prints-unread order config names header outputs old new fault.NotBuilt is h = h
-prints-unread order config names header outputs old new fault.Memory is h = h
+-- images that were refused
+pub prints-unread : (order : ByteOrder) (config : List ℕ) (names : List (List ℕ)) (header : Bool) (outputs : Outputs) (old new : Told) (f : Fault) → ReadsImages config old new (Err f)
+    → PrintsFrom order config names header outputs old new (Err f)
+prints-unread order config names header outputs old new (fault.Config error) h = h
+prints-unread order config names header outputs old new (fault.Tool error) h = absurd h.1
+prints-unread order config names header outputs old new (fault.CannotRead path) h = h
+prints-unread order config names header outputs old new (fault.CannotWrite path) h = h
+prints-unread order config names header outputs old new (fault.FileShort path) h = h
+prints-unread order config names header outputs old new (fault.FileTooLong path) h = h
+prints-unread order config names header outputs old new fault.CannotReadInput h = h
+prints-unread order config names header outputs old new (fault.NoSuchVariable name) h = h
+prints-unread order config names header outputs old new (fault.NotARun word) h = h
+prints-unread order config names header outputs old new fault.NotBuilt h = h
+prints-unread order config names header outputs old new fault.Memory h = h
 
 -- what reading and then printing did
 pub prints-read : (order : ByteOrder) (config : List ℕ) (names : List (List ℕ)) (header : Bool) (outputs : Outputs) (old new : Told) (found : List Copy) (r : Result Bool Fault)

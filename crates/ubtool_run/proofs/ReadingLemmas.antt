@@ -1,29 +1,34 @@
 -- Reads one after another, from files that tell.
-use Rattle.std.proofs.Common.{◌≡◌, ◌∙◌, ℕ, true, refl, sym, ap, subst, List, [], ◌∷◌, ◌++◌, map, append_assoc, Option, Some, None, Ok, Err}
+use Rattle.std.proofs.Common.{◌≡◌, ◌∙◌, ℕ, true, refl, sym, ap, subst, List, [], ◌∷◌, ◌++◌, map, append_assoc, Option, Some, None, Ok, Err, inl, inr}
 use Rattle.std.specs.Prelude.{Result, Vec}
 use Rattle.std.specs.declared.alloc.Global.{Global}
-use Rattle.envimage.specs.Config.{places}
+use Rattle.envimage.specs.Config.{PlaceShown, places}
 use Rattle.envimage.specs.Place.{place_shown}
 use Rattle.envimage.specs.declared.config.Place.{Place}
-use Rattle.ubtool_core.proofs.OrderLemmas.{OnlyReads-one}
+use Rattle.ubtool_core.proofs.OrderLemmas.{OnlyReads-one, OnlyReads-part, OnlyReads-then, OnlyReads-whole}
 use Rattle.ubtool_core.specs.Order.{OnlyReads, are_reads}
-use Rattle.ubtool_core.specs.Told.{IfTold, Told, Stored, file_at}
+use Rattle.ubtool_core.specs.Told.{IfTold, ReadsAll, ReadsAt, Told, Stored, file_at}
+use Rattle.ubtool_core.specs.FileFaults.{read_fault}
 use Rattle.ubtool_core.specs.declared.fault.Fault.{Fault}
+use Rattle.ubtool_core.specs.declared.fault.Fault.TheVariants as fault
+use Rattle.ubtool_core.specs.declared.files.FileFault.{FileFault}
+use Rattle.ubtool_core.specs.declared.files.FileFault.TheVariants.{Failed, Short, TooLong, Memory}
+use Rattle.ubtool_core.specs.declared.word_form.WordForm.{WordForm}
 use Rattle.ubtool_core.specs.declared.files.Action.{Action}
 use Rattle.ubtool_core.specs.declared.files.Action.TheVariants.{ReadAll}
-use Rattle.ubtool_run.specs.Images.{Copy, HasRead, ReadsSecond, copies, copy_of, second_place}
-use Rattle.ubtool_run.specs.Reading.{Reads, ReadsCopy, ReadsText, bytes_at, read_of}
+use Rattle.ubtool_run.specs.Images.{Copy, HasRead, Names, ReadsImages, ReadsSecond, SomeIsShort, copies, copy_of, second_place}
+use Rattle.ubtool_run.specs.Reading.{IsShort, Reads, ReadsCopy, ReadsText, bytes_at, read_of}
 use Rattle.ubtool_run.specs.declared.read.StoredCopy.{StoredCopy}
 
 -- ---- each of them only reads
 
 pub text-reads : (path : List ℕ) (old new : Told) (r : Result (Vec ℕ Global) Fault) → ReadsText path old new r → OnlyReads old new
 text-reads path old new (Ok text) h = OnlyReads-one path ReadAll old new refl h.calls h.stored
-text-reads path old new (Err fault) h = h
+text-reads path old new (Err fault) h = h.0
 
 pub copy-reads : (place : Place) (old new : Told) (r : Result StoredCopy Fault) → ReadsCopy place old new r → OnlyReads old new
 copy-reads place old new (Ok copy) h = OnlyReads-one (place_shown place).device (read_of (place_shown place)).1 old new refl h.calls h.stored
-copy-reads place old new (Err fault) h = h
+copy-reads place old new (Err fault) h = h.0
 
 -- so do the configuration's and those of the copies that it names
 pub found-reads : (config : List ℕ) (old new : Told) (found : List Copy) → HasRead config old new found → OnlyReads old new
@@ -88,3 +93,77 @@ images-read config text p (Some q) x (Some y) a b c d first named place second t
     pair-read config text (copy_of x) (copy_of y) a b c d first (rw (place, third.0) named) (rw place second) (rw third.0 third.1)
 images-read config text p None x (Some y) a b c d first named place second third = absurd third
 images-read config text p (Some q) x None a b c d first named place second third = absurd third
+
+-- ---- refusals
+
+-- of a whole file, and of a place, as the files tell it
+pub text-refused : (path : List ℕ) (form : WordForm) (old new : Told) (k : FileFault) → ReadsAll path old new (Err k) → ReadsText path old new (Err (read_fault form k))
+text-refused path form old new Failed h = (OnlyReads-whole path old new (Err Failed) h, tt)
+text-refused path form old new Short h = absurd h.whole
+text-refused path form old new TooLong h = (OnlyReads-whole path old new (Err TooLong) h, h.whole)
+text-refused path form old new Memory h = (OnlyReads-whole path old new (Err Memory) h, tt)
+
+pub copy-refused : (place : Place) (form : WordForm) (old new : Told) (k : FileFault) → ReadsAt (place_shown place).device (place_shown place).offset (place_shown place).size old new (Err k)
+    → ReadsCopy place old new (Err (read_fault form k))
+copy-refused place form old new Failed h = (OnlyReads-part (place_shown place).device (place_shown place).offset (place_shown place).size old new (Err Failed) h, tt)
+copy-refused place form old new Short h = (OnlyReads-part (place_shown place).device (place_shown place).offset (place_shown place).size old new (Err Short) h, h.part)
+copy-refused place form old new TooLong h = absurd h.part
+copy-refused place form old new Memory h = (OnlyReads-part (place_shown place).device (place_shown place).offset (place_shown place).size old new (Err Memory) h, tt)
+
+-- of the configuration's file
+pub images-unread : (config : List ℕ) (old new : Told) (f : Fault) → ReadsText config old new (Err f) → ReadsImages config old new (Err f)
+images-unread config old new (fault.Config error) h = absurd h.1
+images-unread config old new (fault.Tool error) h = absurd h.1
+images-unread config old new (fault.CannotRead path) h = h
+images-unread config old new (fault.CannotWrite path) h = absurd h.1
+images-unread config old new (fault.FileShort path) h = absurd h.1
+images-unread config old new (fault.FileTooLong path) h = h
+images-unread config old new fault.CannotReadInput h = absurd h.1
+images-unread config old new (fault.NoSuchVariable name) h = absurd h.1
+images-unread config old new (fault.NotARun word) h = absurd h.1
+images-unread config old new fault.NotBuilt h = absurd h.1
+images-unread config old new fault.Memory h = h
+
+-- of what the configuration says
+pub images-unnamed : (config text : List ℕ) (old new : Told) (f : Fault) → Reads (config, ReadAll) (file_at config old.stored) old new text → Names (places text) (Err f)
+    → ReadsImages config old new (Err f)
+images-unnamed config text old new (fault.Config error) read h = (OnlyReads-one config ReadAll old new refl read.calls read.stored, record { text = text; there = read.found; says = h })
+images-unnamed config text old new (fault.Tool error) read h = absurd h
+images-unnamed config text old new (fault.CannotRead path) read h = absurd h
+images-unnamed config text old new (fault.CannotWrite path) read h = absurd h
+images-unnamed config text old new (fault.FileShort path) read h = absurd h
+images-unnamed config text old new (fault.FileTooLong path) read h = absurd h
+images-unnamed config text old new fault.CannotReadInput read h = absurd h
+images-unnamed config text old new (fault.NoSuchVariable name) read h = absurd h
+images-unnamed config text old new (fault.NotARun word) read h = absurd h
+images-unnamed config text old new fault.NotBuilt read h = absurd h
+images-unnamed config text old new fault.Memory read h = absurd h
+
+-- of a copy, behind other reads; `named` are the places, of which this is one
+copy-unread : (config text : List ℕ) (place : Place) (named : List PlaceShown) (a b c : Told) (f : Fault) → OnlyReads a b → file_at config a.stored ≡ Some text → places text ≡ Ok named
+    → (IsShort a.stored (place_shown place) → SomeIsShort a.stored named) → ReadsCopy place b c (Err f) → ReadsImages config a c (Err f)
+copy-unread config text place named a b c (fault.Config error) reads there is among h = absurd h.1
+copy-unread config text place named a b c (fault.Tool error) reads there is among h = absurd h.1
+copy-unread config text place named a b c (fault.CannotRead path) reads there is among h = (OnlyReads-then a b c reads h.0, tt)
+copy-unread config text place named a b c (fault.CannotWrite path) reads there is among h = absurd h.1
+copy-unread config text place named a b c (fault.FileShort path) reads there is among h =
+    let short : IsShort a.stored (place_shown place) = subst (λ (s : Stored). IsShort s (place_shown place)) reads.stored h.1 in
+    (OnlyReads-then a b c reads h.0, record { text = text; there = there; says = (named, is, among short) })
+copy-unread config text place named a b c (fault.FileTooLong path) reads there is among h = absurd h.1
+copy-unread config text place named a b c fault.CannotReadInput reads there is among h = absurd h.1
+copy-unread config text place named a b c (fault.NoSuchVariable name) reads there is among h = absurd h.1
+copy-unread config text place named a b c (fault.NotARun word) reads there is among h = absurd h.1
+copy-unread config text place named a b c fault.NotBuilt reads there is among h = absurd h.1
+copy-unread config text place named a b c fault.Memory reads there is among h = (OnlyReads-then a b c reads h.0, tt)
+
+pub first-unread : (config text : List ℕ) (p : Place) (q : Option Place) (a b c : Told) (f : Fault) → Reads (config, ReadAll) (file_at config a.stored) a b text
+    → places text ≡ Ok (place_shown p ∷ second_place q) → ReadsCopy p b c (Err f) → ReadsImages config a c (Err f)
+first-unread config text p q a b c f read is h =
+    copy-unread config text p (place_shown p ∷ second_place q) a b c f (OnlyReads-one config ReadAll a b refl read.calls read.stored) read.found is (λ short. inl short) h
+
+pub second-unread : (config text : List ℕ) (p : Place) (q : Option Place) (x : StoredCopy) (a b c d : Told) (f : Fault) → Reads (config, ReadAll) (file_at config a.stored) a b text
+    → places text ≡ Ok (place_shown p ∷ second_place q) → ReadsCopy p b c (Ok x) → ReadsSecond q c d (Err f) → ReadsImages config a d (Err f)
+second-unread config text p None x a b c d f read is first h = absurd h
+second-unread config text p (Some q) x a b c d f read is first h =
+    let reads = OnlyReads-then a b c (OnlyReads-one config ReadAll a b refl read.calls read.stored) (copy-reads p b c (Ok x) first) in
+    copy-unread config text q (place_shown p ∷ place_shown q ∷ []) a c d f reads read.found is (λ short. inr (inl short)) h

@@ -1,5 +1,5 @@
 -- Reading, changing and writing one after another.
-use Rattle.std.proofs.Common.{◌≡◌, ℕ, true, refl, List, Ok, Err}
+use Rattle.std.proofs.Common.{◌≡◌, ℕ, true, refl, subst, List, Ok, Err, inl, inr}
 use Rattle.std.specs.Prelude.{Result, Vec}
 use Rattle.std.specs.declared.alloc.Global.{Global}
 use Rattle.envimage.specs.declared.image.ByteOrder.{ByteOrder}
@@ -8,12 +8,13 @@ use Rattle.ubtool_cli.specs.declared.ask.Change.{Change}
 use Rattle.ubtool_cli.specs.declared.ask.Change.TheVariants.{One, Script}
 use Rattle.ubtool_core.proofs.OrderLemmas.{OnlyReads-then}
 use Rattle.ubtool_core.specs.Order.{OnlyReads, are_reads}
-use Rattle.ubtool_core.specs.Told.{Told}
+use Rattle.ubtool_core.specs.Told.{Stored, Told}
 use Rattle.ubtool_core.specs.declared.fault.Fault.{Fault}
 use Rattle.ubtool_core.specs.declared.fault.Fault.TheVariants as fault
+use Rattle.ubtool_core.specs.declared.word_form.WordForm.{WordForm}
 use Rattle.ubtool_run.proofs.ReadingLemmas.{found-reads}
-use Rattle.ubtool_run.specs.Images.{Copy, HasRead}
-use Rattle.ubtool_run.specs.Setting.{Edits, HasEdited, Sets, WritesCopy, reads_of}
+use Rattle.ubtool_run.specs.Images.{Copy, HasRead, ReadsImages}
+use Rattle.ubtool_run.specs.Setting.{Edits, HasEdited, IsChangeFault, IsRefusedChange, Sets, WritesCopy, reads_of}
 
 -- a change that was made only reads
 pub edit-reads : (order : ByteOrder) (change : Change) (found : List Copy) (old new : Told) (which : Which) (bytes : List ℕ) → HasEdited order change found old new which bytes
@@ -24,20 +25,47 @@ edit-reads order change found old new which bytes h = record { reads = reads_of 
     each (One name words) = refl
     each (Script path) = refl
 
+-- a change is not refused for a write
+no-write : (order : ByteOrder) (change : Change) (found : List Copy) (stored : Stored) (path : WordForm) → IsChangeFault order change found stored (fault.CannotWrite path) → ⊥
+no-write order (One name words) found stored path h = let e : ⊥ = cc in e
+no-write order (Script file) found stored path h = h
+
+-- the refusal of a change, seen from before the images were read
+refused-change : (order : ByteOrder) (config : List ℕ) (change : Change) (found : List Copy) (x y z : Told) (f : Fault) → HasRead config x y found
+    → Edits order change found y z (Err f) → OnlyReads x z × IsRefusedChange order config change x f
+refused-change order config change found x y z f read h = (
+  OnlyReads-then x y z (found-reads config x y found read) h.0,
+  record { found = found; after_images = y; read = read; refused = subst (λ (s : Stored). IsChangeFault order change found s f) read.stored h.1 },
+)
+
+-- images that were refused
+pub sets-unread : (order : ByteOrder) (config : List ℕ) (change : Change) (old new : Told) (f : Fault) → ReadsImages config old new (Err f) → Sets order config change old new (Err f)
+sets-unread order config change old new (fault.Config error) h = (h.0, inl h.1)
+sets-unread order config change old new (fault.Tool error) h = (h.0, inl h.1)
+sets-unread order config change old new (fault.CannotRead path) h = (h.0, inl h.1)
+sets-unread order config change old new (fault.CannotWrite path) h = absurd h.1
+sets-unread order config change old new (fault.FileShort path) h = (h.0, inl h.1)
+sets-unread order config change old new (fault.FileTooLong path) h = (h.0, inl h.1)
+sets-unread order config change old new fault.CannotReadInput h = (h.0, inl h.1)
+sets-unread order config change old new (fault.NoSuchVariable name) h = (h.0, inl h.1)
+sets-unread order config change old new (fault.NotARun word) h = (h.0, inl h.1)
+sets-unread order config change old new fault.NotBuilt h = (h.0, inl h.1)
+sets-unread order config change old new fault.Memory h = (h.0, tt)
+
 -- a change that was refused
 pub sets-refused : (order : ByteOrder) (config : List ℕ) (change : Change) (found : List Copy) (x y z : Told) (f : Fault) → HasRead config x y found
     → Edits order change found y z (Err f) → Sets order config change x z (Err f)
-sets-refused order config change found x y z (fault.CannotWrite path) read h = absurd h
-sets-refused order config change found x y z (fault.Config error) read h = OnlyReads-then x y z (found-reads config x y found read) h
-sets-refused order config change found x y z (fault.Tool error) read h = OnlyReads-then x y z (found-reads config x y found read) h
-sets-refused order config change found x y z (fault.CannotRead path) read h = OnlyReads-then x y z (found-reads config x y found read) h
-sets-refused order config change found x y z (fault.FileShort path) read h = OnlyReads-then x y z (found-reads config x y found read) h
-sets-refused order config change found x y z (fault.FileTooLong path) read h = OnlyReads-then x y z (found-reads config x y found read) h
-sets-refused order config change found x y z fault.CannotReadInput read h = OnlyReads-then x y z (found-reads config x y found read) h
-sets-refused order config change found x y z (fault.NoSuchVariable name) read h = OnlyReads-then x y z (found-reads config x y found read) h
-sets-refused order config change found x y z (fault.NotARun word) read h = OnlyReads-then x y z (found-reads config x y found read) h
-sets-refused order config change found x y z fault.NotBuilt read h = OnlyReads-then x y z (found-reads config x y found read) h
-sets-refused order config change found x y z fault.Memory read h = OnlyReads-then x y z (found-reads config x y found read) h
+sets-refused order config change found x y z (fault.Config error) read h = let c = refused-change order config change found x y z (fault.Config error) read h in (c.0, inr c.1)
+sets-refused order config change found x y z (fault.Tool error) read h = let c = refused-change order config change found x y z (fault.Tool error) read h in (c.0, inr c.1)
+sets-refused order config change found x y z (fault.CannotRead path) read h = let c = refused-change order config change found x y z (fault.CannotRead path) read h in (c.0, inr c.1)
+sets-refused order config change found x y z (fault.CannotWrite path) read h = absurd (no-write order change found y.stored path h.1)
+sets-refused order config change found x y z (fault.FileShort path) read h = let c = refused-change order config change found x y z (fault.FileShort path) read h in (c.0, inr c.1)
+sets-refused order config change found x y z (fault.FileTooLong path) read h = let c = refused-change order config change found x y z (fault.FileTooLong path) read h in (c.0, inr c.1)
+sets-refused order config change found x y z fault.CannotReadInput read h = let c = refused-change order config change found x y z fault.CannotReadInput read h in (c.0, inr c.1)
+sets-refused order config change found x y z (fault.NoSuchVariable name) read h = let c = refused-change order config change found x y z (fault.NoSuchVariable name) read h in (c.0, inr c.1)
+sets-refused order config change found x y z (fault.NotARun word) read h = let c = refused-change order config change found x y z (fault.NotARun word) read h in (c.0, inr c.1)
+sets-refused order config change found x y z fault.NotBuilt read h = let c = refused-change order config change found x y z fault.NotBuilt read h in (c.0, inr c.1)
+sets-refused order config change found x y z fault.Memory read h = (OnlyReads-then x y z (found-reads config x y found read) h.0, tt)
 
 -- a change that was made, and the write of the copy
 pub sets-written : (order : ByteOrder) (config : List ℕ) (change : Change) (found : List Copy) (which : Which) (bytes : Vec ℕ Global) (x y z w : Told) (r : Result (Unit {0}) Fault)
@@ -47,7 +75,7 @@ sets-written order config change found which bytes x y z w (Ok done) read made h
 sets-written order config change found which bytes x y z w (Err (fault.CannotWrite path)) read made h =
     record { found = found; which = which; bytes = bytes.items; after_images = y; read = read; after_change = z; edited = made; written = h }
 sets-written order config change found which bytes x y z w (Err fault.Memory) read made h =
-    OnlyReads-then x z w (OnlyReads-then x y z (found-reads config x y found read) (edit-reads order change found y z which bytes.items made)) h
+    (OnlyReads-then x z w (OnlyReads-then x y z (found-reads config x y found read) (edit-reads order change found y z which bytes.items made)) h, tt)
 sets-written order config change found which bytes x y z w (Err (fault.Config error)) read made h = absurd h
 sets-written order config change found which bytes x y z w (Err (fault.Tool error)) read made h = absurd h
 sets-written order config change found which bytes x y z w (Err (fault.CannotRead path)) read made h = absurd h

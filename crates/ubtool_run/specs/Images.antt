@@ -1,16 +1,16 @@
 -- The images that a configuration names, read from files that tell what stands in them.
 -- The configuration is fw_env.config (U-Boot, tools/env README); the order of the reads is ours.
-use Rattle.std.specs.Prelude.{◌≡◌, ℕ, List, [], ◌∷◌, ◌++◌, map, Option, Some, None, Result, Ok, Err}
+use Rattle.std.specs.Prelude.{◌≡◌, ◌<◌, ◌⊎◌, IsSomeAnd, length, ℕ, List, [], ◌∷◌, ◌++◌, map, Option, Some, None, Result, Ok, Err}
 use Rattle.envimage.specs.Config.{PlaceShown, places}
 use Rattle.envimage.specs.Place.{place_shown, AnswersPlaces}
 use Rattle.envimage.specs.declared.config.ConfigError.{ConfigError}
 use Rattle.envimage.specs.declared.config.Place.{Place}
 use Rattle.ubtool_core.specs.Order.{OnlyReads}
-use Rattle.ubtool_core.specs.Told.{Told, file_at}
+use Rattle.ubtool_core.specs.Told.{Stored, Told, file_at}
 use Rattle.ubtool_core.specs.declared.fault.Fault.{Fault}
-use Rattle.ubtool_core.specs.declared.fault.Fault.TheVariants.{Config}
+use Rattle.ubtool_core.specs.declared.fault.Fault.TheVariants.{CannotRead, Config, FileShort, FileTooLong, Memory}
 use Rattle.ubtool_core.specs.declared.files.Action.TheVariants.{ReadAll}
-use Rattle.ubtool_run.specs.Reading.{ReadsCopy, bytes_at, read_of}
+use Rattle.ubtool_run.specs.Reading.{IsShort, ReadsCopy, bytes_at, read_of}
 use Rattle.ubtool_run.specs.declared.images.Images.{Images}
 use Rattle.ubtool_run.specs.declared.read.StoredCopy.{StoredCopy}
 
@@ -25,12 +25,12 @@ Names answer (Ok named) = answer ≡ Ok (place_shown named.0 ∷ second_place na
 Names answer (Err (Config error)) = AnswersPlaces answer (Err error)
 Names answer (Err _) = ⊥
 
--- the copy at the second place was read, where there is one, or reading it was tried
+-- the copy at the second place was read, where there is one, or refused
 abbrev pub ReadsSecond : Option Place → Told → Told → Result (Option StoredCopy) Fault → Type 0
 ReadsSecond None old new (Ok None) = new ≡ old
 ReadsSecond (Some place) old new (Ok (Some copy)) = (copy.place ≡ place) × ReadsCopy place old new (Ok copy)
-ReadsSecond place old new (Ok _) = ⊥
-ReadsSecond place old new (Err fault) = OnlyReads old new
+ReadsSecond (Some place) old new (Err fault) = ReadsCopy place old new (Err fault)
+ReadsSecond place old new _ = ⊥
 
 -- a copy: where it stands, and its bytes
 abbrev pub Copy : Type 0
@@ -57,6 +57,28 @@ pub record HasRead (config : List ℕ) (old new : Told) (found : List Copy) : Ty
   pub calls : new.calls ≡ old.calls ++ (config, ReadAll) ∷ map (λ c. read_of c.0) found
   pub stored : new.stored ≡ old.stored
 
+-- the file of one of these places is too short
+abbrev pub SomeIsShort : Stored → List PlaceShown → Type 0
+SomeIsShort stored [] = ⊥
+SomeIsShort stored (place ∷ more) = IsShort stored place ⊎ SomeIsShort stored more
+
+-- The configuration's text is there, and says this.
+pub record FromConfig (config : List ℕ) (stored : Stored) (Says : Result (List PlaceShown) ConfigError → Type 0) : Type 0 where
+  pub text : List ℕ
+  pub there : file_at config stored ≡ Some text
+  pub says : Says (places text)
+
+-- why images may be refused: a file fails, or memory; the configuration is too long or refused; or the
+-- file of a place is too short
+abbrev pub IsImagesFault : List ℕ → Stored → Fault → Type 0
+IsImagesFault config stored (CannotRead path) = Unit {0}
+IsImagesFault config stored Memory = Unit {0}
+IsImagesFault config stored (FileTooLong path) = IsSomeAnd (file_at config stored) (λ all. 1048576 < length all)
+IsImagesFault config stored (Config error) = FromConfig config stored (λ answer. AnswersPlaces answer (Err error))
+IsImagesFault config stored (FileShort path) =
+    FromConfig config stored (λ answer. (named : List PlaceShown) × (answer ≡ Ok named) × SomeIsShort stored named)
+IsImagesFault config stored _ = ⊥
+
 abbrev pub ReadsImages : List ℕ → Told → Told → Result Images Fault → Type 0
 ReadsImages config old new (Ok images) = HasRead config old new (copies images)
-ReadsImages config old new (Err fault) = OnlyReads old new
+ReadsImages config old new (Err fault) = OnlyReads old new × IsImagesFault config old.stored fault

@@ -10,7 +10,7 @@ use Rattle.ubtool_core.specs.Told.{Told}
 use Rattle.ubtool_core.specs.declared.error.ToolError.TheVariants.{Image, Memory, Write}
 use Rattle.ubtool_core.specs.declared.fault.Fault.{Fault}
 use Rattle.ubtool_core.specs.declared.fault.Fault.TheVariants.{Tool}
-use Rattle.ubtool_run.specs.Images.{Copy, HasRead}
+use Rattle.ubtool_run.specs.Images.{Copy, HasRead, IsImagesFault}
 
 abbrev pub first_bytes : List Copy → List ℕ
 first_bytes [] = []
@@ -46,7 +46,8 @@ PrintsFrom order config names header outputs old new (Err (Tool (Image error))) 
     FromImages config old new (λ found. environment order found ≡ Err error)
 PrintsFrom order config names header outputs old new (Err (Tool Write)) =
     FromImages config old new (λ found. BreaksOff (environment order found) names header outputs)
-PrintsFrom order config names header outputs old new (Err fault) = OnlyReads old new
+PrintsFrom order config names header outputs old new (Err (Tool Memory)) = OnlyReads old new
+PrintsFrom order config names header outputs old new (Err fault) = OnlyReads old new × IsImagesFault config old.stored fault
 
 -- a refusal other than that of an output leaves both as they were
 abbrev pub LeavesOutputs : Result Bool Fault → Outputs → Type 0

@@ -1,6 +1,6 @@
 -- What is read before an image is printed or changed, from files that tell what stands in them.
 -- The order of work is ours; the configuration is fw_env.config (U-Boot, tools/env README).
-use Rattle.std.specs.Prelude.{◌≡◌, ◌+◌, ℕ, List, [], ◌∷◌, ◌++◌, take, drop, length, nat_le, Option, Some, None, Result, Ok, Err, Vec, if◌then◌else◌, option_and_then}
+use Rattle.std.specs.Prelude.{◌≡◌, ◌<◌, ◌+◌, IsSomeAnd, ℕ, List, [], ◌∷◌, ◌++◌, take, drop, length, nat_le, Option, Some, None, Result, Ok, Err, Vec, if◌then◌else◌, option_and_then}
 use Rattle.std.specs.declared.alloc.Global.{Global}
 use Rattle.envimage.specs.Config.{PlaceShown}
 use Rattle.envimage.specs.Place.{place_shown}
@@ -8,6 +8,7 @@ use Rattle.envimage.specs.declared.config.Place.{Place}
 use Rattle.ubtool_core.specs.Order.{OnlyReads}
 use Rattle.ubtool_core.specs.Told.{Stored, Told, file_at}
 use Rattle.ubtool_core.specs.declared.fault.Fault.{Fault}
+use Rattle.ubtool_core.specs.declared.fault.Fault.TheVariants.{CannotRead, FileShort, FileTooLong, Memory}
 use Rattle.ubtool_core.specs.declared.files.Action.{Action}
 use Rattle.ubtool_core.specs.declared.files.Action.TheVariants.{ReadAll, ReadAt}
 use Rattle.ubtool_run.specs.declared.read.StoredCopy.{StoredCopy}
@@ -29,13 +30,31 @@ pub record Reads (call : List ℕ × Action) (there : Option (List ℕ)) (old ne
   pub calls : new.calls ≡ old.calls ++ call ∷ []
   pub stored : new.stored ≡ old.stored
 
--- a whole file was read, or reading it was tried
+-- why a whole file may be refused, from what stands in it
+abbrev pub IsTextFault : Option (List ℕ) → Fault → Type 0
+IsTextFault file (CannotRead path) = Unit {0}
+IsTextFault file (FileTooLong path) = IsSomeAnd file (λ all. 1048576 < length all)
+IsTextFault file Memory = Unit {0}
+IsTextFault file _ = ⊥
+
+-- the file of a place ends before the place does
+abbrev pub IsShort : Stored → PlaceShown → Type 0
+IsShort stored place = IsSomeAnd (file_at place.device stored) (λ all. length all < place.offset + place.size)
+
+-- why a copy may be refused
+abbrev pub IsCopyFault : Stored → PlaceShown → Fault → Type 0
+IsCopyFault stored place (CannotRead path) = Unit {0}
+IsCopyFault stored place (FileShort path) = IsShort stored place
+IsCopyFault stored place Memory = Unit {0}
+IsCopyFault stored place _ = ⊥
+
+-- a whole file was read, or refused
 abbrev pub ReadsText : List ℕ → Told → Told → Result (Vec ℕ Global) Fault → Type 0
 ReadsText path old new (Ok text) = Reads (path, ReadAll) (file_at path old.stored) old new text.items
-ReadsText path old new (Err fault) = OnlyReads old new
+ReadsText path old new (Err fault) = OnlyReads old new × IsTextFault (file_at path old.stored) fault
 
--- a copy was read, or reading it was tried
+-- a copy was read, or refused
 abbrev pub ReadsCopy : Place → Told → Told → Result StoredCopy Fault → Type 0
 ReadsCopy place old new (Ok copy) =
     Reads (read_of (place_shown place)) (bytes_at (place_shown place) old.stored) old new copy.bytes.items
-ReadsCopy place old new (Err fault) = OnlyReads old new
+ReadsCopy place old new (Err fault) = OnlyReads old new × IsCopyFault old.stored (place_shown place) fault

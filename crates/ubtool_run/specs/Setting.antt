@@ -1,6 +1,6 @@
 -- What changing the environment in the images of a configuration does, on files that tell what stands
 -- in them. It follows fw_setenv (U-Boot, tools/env README); the order of work is ours.
-use Rattle.std.specs.Prelude.{◌≡◌, ℕ, List, [], ◌∷◌, ◌++◌, map, Some, Result, Ok, Err, Vec, string_bytes}
+use Rattle.std.specs.Prelude.{◌≡◌, ◌⊎◌, ℕ, List, [], ◌∷◌, ◌++◌, map, Some, Result, Ok, Err, Vec, string_bytes}
 use Rattle.std.specs.declared.alloc.Global.{Global}
 use Rattle.envimage.specs.Config.{PlaceShown}
 use Rattle.envimage.specs.declared.image.ByteOrder.{ByteOrder}
@@ -14,23 +14,31 @@ use Rattle.ubtool_core.specs.Told.{Stored, Told, WritesAt, file_at}
 use Rattle.ubtool_core.specs.declared.change.Edit.{Edit}
 use Rattle.ubtool_core.specs.declared.change.Edit.TheVariants as edit
 use Rattle.ubtool_core.specs.declared.error.ToolError.{ToolError}
+use Rattle.ubtool_core.specs.declared.error.ToolError.TheVariants.{Memory, Write}
 use Rattle.ubtool_core.specs.declared.fault.Fault.{Fault}
-use Rattle.ubtool_core.specs.declared.fault.Fault.TheVariants.{CannotWrite, Memory, Tool}
+use Rattle.ubtool_core.specs.declared.fault.Fault.TheVariants.{CannotWrite, Tool}
+use Rattle.ubtool_core.specs.declared.fault.Fault.TheVariants as faults
 use Rattle.ubtool_core.specs.declared.files.Action.{Action}
 use Rattle.ubtool_core.specs.declared.files.Action.TheVariants.{ReadAll}
 use Rattle.ubtool_core.specs.declared.files.FileFault.{FileFault}
 use Rattle.ubtool_core.specs.declared.files.FileFault.TheVariants.{Failed}
-use Rattle.ubtool_run.specs.Images.{Copy, HasRead}
+use Rattle.ubtool_run.specs.Images.{Copy, HasRead, IsImagesFault}
 use Rattle.ubtool_run.specs.Printing.{first_bytes, second_bytes}
+use Rattle.ubtool_run.specs.Reading.{IsTextFault}
 
 -- which copy is written after an edit, and its bytes, or the refusal
 abbrev pub edited : ByteOrder → List Copy → Edit → Result (Which × List ℕ) ToolError
 edited order found change = set_of order (first_bytes found) (second_bytes found) change
 
+-- the answer is this refusal; memory may be refused in place of any answer
+abbrev pub IsRefusal : ToolError → Result (Which × List ℕ) ToolError → Type 0
+IsRefusal Memory answer = Unit {0}
+IsRefusal Write answer = ⊥
+IsRefusal error answer = answer ≡ Err error
+
 abbrev pub IsEdited : ByteOrder → List Copy → Edit → Result (Which × Vec ℕ Global) Fault → Type 0
 IsEdited order found change (Ok w) = edited order found change ≡ Ok (w.0, w.1.items)
-IsEdited order found change (Err (CannotWrite path)) = ⊥
-IsEdited order found change (Err (Tool error)) = Unit {0}
+IsEdited order found change (Err (Tool error)) = IsRefusal error (edited order found change)
 IsEdited order found change (Err fault) = ⊥
 
 -- what a change says: a variable and its words, or the text of the script in the files
@@ -53,10 +61,21 @@ pub record HasEdited (order : ByteOrder) (change : Change) (found : List Copy) (
   pub calls : new.calls ≡ old.calls ++ reads_of change
   pub stored : new.stored ≡ old.stored
 
+-- The change is refused, for what it says.
+pub record IsUnmade (order : ByteOrder) (change : Change) (found : List Copy) (stored : Stored) (error : ToolError) : Type 0 where
+  pub edit : Edit
+  pub says : IsEdit change stored edit
+  pub refusal : IsRefusal error (edited order found edit)
+
+-- why a change may be refused: by what it says of these copies, or as the file of its script
+abbrev pub IsChangeFault : ByteOrder → Change → List Copy → Stored → Fault → Type 0
+IsChangeFault order change found stored (Tool error) = IsUnmade order change found stored error
+IsChangeFault order (One name words) found stored fault = fault ≡ faults.Memory
+IsChangeFault order (Script path) found stored fault = IsTextFault (file_at (string_bytes path) stored) fault
+
 abbrev pub Edits : ByteOrder → Change → List Copy → Told → Told → Result (Which × Vec ℕ Global) Fault → Type 0
 Edits order change found old new (Ok w) = HasEdited order change found old new w.0 w.1.items
-Edits order change found old new (Err (CannotWrite path)) = ⊥
-Edits order change found old new (Err fault) = OnlyReads old new
+Edits order change found old new (Err fault) = OnlyReads old new × IsChangeFault order change found old.stored fault
 
 -- the place of a copy; a single image has one
 abbrev pub IsPlaceOf : Which → List Copy → PlaceShown → Type 0
@@ -74,7 +93,7 @@ pub record WritesIn (which : Which) (found : List Copy) (bytes : List ℕ) (old 
 abbrev pub WritesCopy : Which → List Copy → List ℕ → Told → Told → Result (Unit {0}) Fault → Type 0
 WritesCopy which found bytes old new (Ok done) = WritesIn which found bytes old new (Ok done)
 WritesCopy which found bytes old new (Err (CannotWrite path)) = WritesIn which found bytes old new (Err Failed)
-WritesCopy which found bytes old new (Err Memory) = OnlyReads old new
+WritesCopy which found bytes old new (Err faults.Memory) = OnlyReads old new
 WritesCopy which found bytes old new (Err fault) = ⊥
 
 -- The images were read, the change was made, and then one copy was written, or that write was tried.
@@ -88,7 +107,19 @@ pub record HasSet (order : ByteOrder) (config : List ℕ) (change : Change) (old
   pub edited : HasEdited order change found after_images after_change which bytes
   pub written : WritesIn which found bytes after_change new answer
 
+-- The images were read, and the change of them is refused for this.
+pub record IsRefusedChange (order : ByteOrder) (config : List ℕ) (change : Change) (old : Told) (fault : Fault) : Type 0 where
+  pub found : List Copy
+  pub after_images : Told
+  pub read : HasRead config old after_images found
+  pub refused : IsChangeFault order change found old.stored fault
+
+-- why nothing may be written: memory; or the images are refused, or the change of them
+abbrev pub IsSetFault : ByteOrder → List ℕ → Change → Told → Fault → Type 0
+IsSetFault order config change old faults.Memory = Unit {0}
+IsSetFault order config change old fault = IsImagesFault config old.stored fault ⊎ IsRefusedChange order config change old fault
+
 abbrev pub Sets : ByteOrder → List ℕ → Change → Told → Told → Result (Unit {0}) Fault → Type 0
 Sets order config change old new (Ok done) = HasSet order config change old new (Ok done)
 Sets order config change old new (Err (CannotWrite path)) = HasSet order config change old new (Err Failed)
-Sets order config change old new (Err fault) = OnlyReads old new
+Sets order config change old new (Err fault) = OnlyReads old new × IsSetFault order config change old fault

@@ -1,0 +1,65 @@
+-- Lists of names alone.
+use Rattle.std.proofs.Common.{◌≡◌, ℕ, ◌≤◌, ◌&&◌, Bool, true, false, cond, eqb, nat_le, List, [], ◌∷◌, length, Some, Result, Ok, Err, refl, sym, ap, subst, ◌∙◌, arith}
+use Rattle.std.specs.List.{list_any, list_all, AllByRecursion}
+use Rattle.std.specs.Str.{bytes_eq}
+use Rattle.std.proofs.lemmas.Bool.{false≢true}
+use Rattle.std.proofs.lemmas.Bool.Decides.{nat_tests}
+use Rattle.envimage.specs.Text.{numbered_lines}
+use Rattle.rehearse.specs.Verdict.{Text}
+use Rattle.rehearse.specs.DeviceList.{Effect, Devices, effect_of, joint, joined, device_words, begins_comment, is_built_in, with_listing, after_words, after_line, listed_lines}
+use Rattle.rehearse.specs.DeviceLaws.{quiet, is_name_alone, NamesAreQuiet}
+use Rattle.rehearse.specs.declared.devices_error.DevicesError.{DevicesError}
+use Rattle.rehearse.specs.declared.devices_error.DevicesError.TheVariants.{BadLine, BuiltIn}
+
+abbrev AreQuiet : Devices → Type 0
+AreQuiet = AllByRecursion (λ d. d.1 ≡ quiet)
+
+ok-same : {x y : Devices} → (let r : Result Devices DevicesError = Ok x in r) ≡ Ok y → x ≡ y
+ok-same e = cc
+
+joined-quiet : (devices : Devices) (name : Text) → AreQuiet devices → AreQuiet (joined devices (name, quiet))
+joined-quiet [] name all = (refl, tt)
+joined-quiet (d ∷ devices) name all = by (bytes_eq name d.0) (joined-quiet devices name all.1)
+  where
+    by : (b : Bool) → AreQuiet (joined devices (name, quiet)) → AreQuiet (cond b ((d.0, joint d.1 quiet) ∷ devices) (d ∷ joined devices (name, quiet)))
+    by true rest = (ap (λ e. joint e quiet) all.0, all.1)
+    by false rest = (all.0, rest)
+
+found-quiet : (devices : Devices) (name : Text) (effect : Effect) → AreQuiet devices → effect_of devices name ≡ Some effect → effect ≡ quiet
+found-quiet [] name effect all e = cc
+found-quiet (d ∷ devices) name effect all e = by (bytes_eq name d.0) e (found-quiet devices name effect all.1)
+  where
+    by : (b : Bool) → cond b (Some d.1) (effect_of devices name) ≡ Some effect → (effect_of devices name ≡ Some effect → effect ≡ quiet) → effect ≡ quiet
+    by true f rest = let same : d.1 ≡ effect = cc in sym same ∙ all.0
+    by false f rest = rest f
+
+words-quiet : (devices next : Devices) (number : ℕ) (line : Text) (words : List Text) → nat_le (length words) 1 ≡ true → after_words devices number line words ≡ Ok next → AreQuiet devices → AreQuiet next
+words-quiet devices next number line [] short e all = subst AreQuiet (ok-same e) all
+words-quiet devices next number line (first ∷ []) short e all =
+    by (begins_comment first) (list_any (λ b. eqb b 0) line) (is_built_in first) e
+  where
+    by : (comment nul built_in : Bool) → cond comment (Ok devices) (cond nul (Err (BadLine number)) (with_listing devices (cond built_in (Err (BuiltIn number)) (Ok (first, quiet))))) ≡ Ok next → AreQuiet next
+    by true nul built_in e = subst AreQuiet (ok-same e) all
+    by false true built_in e = cc
+    by false false true e = cc
+    by false false false e = subst AreQuiet (ok-same e) (joined-quiet devices first all)
+words-quiet devices next number line (first ∷ second ∷ words) short e all =
+    let few : length (first ∷ second ∷ words) ≤ 1 = grind (arith, nat_tests) in absurd (omega (arith, few))
+
+first-true : (a b : Bool) → (a && b) ≡ true → (a ≡ true) × (b ≡ true)
+first-true true b e = (refl, e)
+first-true false b e = absurd (false≢true e)
+
+lines-quiet : (lines : List (ℕ × Text)) (devices done : Devices) → list_all (λ l. is_name_alone l.1) lines ≡ true → listed_lines devices lines ≡ Ok done → AreQuiet devices → AreQuiet done
+lines-quiet [] devices done short e all = subst AreQuiet (ok-same e) all
+lines-quiet (l ∷ lines) devices done short e all =
+    let both = first-true (is_name_alone l.1) (list_all (λ l. is_name_alone l.1) lines) short in
+    by (after_line devices l.0 l.1) refl e (λ next. lines-quiet lines next done both.1) both.0
+  where
+    by : (r : Result Devices DevicesError) → after_line devices l.0 l.1 ≡ r → ◌≡◌ {A = Result Devices DevicesError} (elim r [ Ok next ↦ listed_lines next lines | Err fault ↦ Err fault ]) (Ok done)
+        → ((next : Devices) → listed_lines next lines ≡ Ok done → AreQuiet next → AreQuiet done) → is_name_alone l.1 ≡ true → AreQuiet done
+    by (Err fault) is f later alone = cc
+    by (Ok next) is f later alone = later next f (words-quiet devices next l.0 l.1 (device_words l.1) alone is all)
+
+pub names_are_quiet : NamesAreQuiet
+names_are_quiet text devices e short name effect found = found-quiet devices name effect (lines-quiet (numbered_lines text) [] devices short e tt) found
