@@ -85,7 +85,7 @@ fold-assigned pairs = fold-more [] pairs
 
 -- ---- an environment that is copied
 
-all-at : (P : Pair → Type 0) (ps : List Pair) (at : ℕ) (p : Pair) → AllByRecursion P ps → slice_get ps at ≡ Some p → P p
+pub all-at : (P : Pair → Type 0) (ps : List Pair) (at : ℕ) (p : Pair) → AllByRecursion P ps → slice_get ps at ≡ Some p → P p
 all-at P [] at p all e = absurd (none≢some e)
   where
     none≢some : {X : Type 0} {x : X} → None ≡ Some x → ⊥

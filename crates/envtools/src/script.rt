@@ -4,9 +4,10 @@ ghost use Rattle.std.specs.Option.{option_map};
 ghost use Rattle.envimage.specs.Words.{skipped};
 ghost use Rattle.envtools.specs.Scripting.{is_space, ends_name, without_returns, name_and_value, change_of, line_change, AppliesLine, AppliesScript};
 
-use crate::env::Env;
-use crate::env_error::EnvError;
+use crate::draft::Draft;
+use crate::env::{Env, is_name, is_value};
 use envimage::Lines;
+use std::alloc::AllocError;
 use thiserror::Error;
 
 /// Why a script was refused. Lines count from 1, skipped ones included.
@@ -21,6 +22,17 @@ pub enum ScriptError {
     /// A growth was refused.
     #[error("out of memory")]
     Memory,
+}
+
+impl From<AllocError> for ScriptError {
+    ghost use Rattle.std.specs.Prelude.{◌≡◌};
+    ghost use Rattle.envtools.specs.declared.script.ScriptError.TheVariants.{Memory};
+
+    ghost from_gives = { λ _ e. e ≡ Memory };
+
+    fn from(_error: AllocError) -> ScriptError {
+        ScriptError::Memory
+    }
 }
 
 /// Whether a byte is a space or a tab.
@@ -102,19 +114,30 @@ fn line_change(line: &[u8]) -> Option<(&[u8], &[u8])>
 }
 
 /// Makes the change of one line. An error changes nothing.
-fn apply_line(env: &mut Env, number: usize, line: &[u8]) -> Result<(), ScriptError>
-    ensures { AppliesLine env.old number (line_change line.now) env.new result }
+fn apply_line(draft: &mut Draft, number: usize, line: &[u8]) -> Result<(), ScriptError>
+    ensures { AppliesLine draft.old number (line_change line.now) draft.new result }
 {
     let Some((name, value)) = line_change(line) else {
         return Ok(());
     };
-    match env.change(name, &[value]) {
-        Ok(()) => Ok(()),
-        Err(EnvError::BadName) => Err(ScriptError::BadName(number)),
-        Err(EnvError::BadValue) => Err(ScriptError::BadValue(number)),
-        Err(EnvError::Content(_)) => Err(ScriptError::Memory),
-        Err(EnvError::Memory) => Err(ScriptError::Memory),
+    if !is_name(name) {
+        return Err(ScriptError::BadName(number));
     }
+    if !is_value(value) {
+        return Err(ScriptError::BadValue(number));
+    }
+    draft.change(name, value)?;
+    Ok(())
+}
+
+/// Makes the changes of a script's lines, up to the first that is refused.
+fn apply_lines(draft: &mut Draft, text: &[u8]) -> Result<(), ScriptError>
+    ensures { AppliesScript draft.old text.now draft.new result }
+{
+    for (number, line) in Lines::new(text) {
+        apply_line(draft, number, line)?;
+    }
+    Ok(())
 }
 
 /// Makes the changes of a script, one a line. Carriage returns at a line's end are dropped. A line
@@ -123,12 +146,17 @@ fn apply_line(env: &mut Env, number: usize, line: &[u8]) -> Result<(), ScriptErr
 /// and the rest is the value, as it is. No value, or an empty one, deletes. A later line acts on what
 /// earlier ones left.
 ///
-/// After a refusal, for memory too, the environment is the one after the lines before it.
+/// After a refused line the environment is the one after the lines before it. Where memory is
+/// refused, it is as it was. The time grows with the script and the environment, not with their
+/// product.
 pub fn apply_script(env: &mut Env, text: &[u8]) -> Result<(), ScriptError>
     ensures { AppliesScript env.old text.now env.new result }
 {
-    for (number, line) in Lines::new(text) {
-        apply_line(env, number, line)?;
+    let mut draft = Draft::of(env)?;
+    let applied = apply_lines(&mut draft, text);
+    if let Err(ScriptError::Memory) = applied {
+        return applied;
     }
-    Ok(())
+    *env = draft.to_env()?;
+    applied
 }

@@ -1,12 +1,12 @@
 use Rattle.std.proofs.Common.{◌≡◌, ◌++◌, ℕ, List, None}
 use Rattle.envimage.specs.Text.{numbered_lines, lines_left}
 use Rattle.envtools.specs.Scripting.{scripted_lines}
-use Rattle.envtools.proofs.script.apply_script.Given as goal
+use Rattle.envtools.proofs.script.apply_lines.Given as goal
 
 -- the lines so far were applied, and none of them is faulty
 abbrev pub invariant-loop-number : goal.invariant-loop-number
 invariant-loop-number l = record {
   before : List (ℕ × List ℕ);
   whole : numbered_lines l.text ≡ before ++ lines_left l.number-iterator;
-  reached : scripted_lines l.initial.env before ≡ record { env = l.env; fault = None };
+  reached : scripted_lines l.initial.draft before ≡ record { env = l.draft; fault = None };
 }

@@ -4,7 +4,7 @@ use Rattle.envimage.specs.Text.{lines_left}
 use Rattle.envtools.specs.Scripting.{AppliesScript}
 use Rattle.envtools.specs.declared.script.ScriptError.{ScriptError}
 use Rattle.envtools.proofs.ScriptLemmas.{scripted-next, script-refused}
-use Rattle.envtools.proofs.script.apply_script.Goals as goal
+use Rattle.envtools.proofs.script.apply_lines.Goals as goal
 
 pub loop-number-preserved : goal.loop-number-preserved
 loop-number-preserved c =
@@ -14,7 +14,7 @@ loop-number-preserved c =
     record {
       before = before ++ line ∷ [];
       whole = c.loop-number.invariant.whole ∙ (ap (λ left. before ++ left) step ∙ sym (append_assoc before (line ∷ []) (lines_left c.next.new.self)));
-      reached = scripted-next c.args.env.now c.loop-number.env c.apply_line.new.env before c.in-Some.number c.in-Some.line.now c.loop-number.invariant.reached c.in_ok-apply_line.ensures;
+      reached = scripted-next c.args.draft.now c.loop-number.draft c.apply_line.new.draft before c.in-Some.number c.in-Some.line.now c.loop-number.invariant.reached c.in_ok-apply_line.ensures;
     }
 
 pub returns-in_err-apply_line : goal.returns-in_err-apply_line
@@ -24,6 +24,6 @@ returns-in_err-apply_line c =
     let step : lines_left c.loop-number.number-iterator ≡ line ∷ lines_left c.next.new.self = c.in-Some.ensures.steps in
     let p = err_from_is_err_and c.from_residual.result c.from_residual.ensures.1 in
     let answer : c.from_residual.result ≡ Err c.in_err-apply_line.field-0.0 = p.1 ∙ ap Err p.2 in
-    let P : Result (Unit {0}) ScriptError → Type 0 = λ r. AppliesScript c.args.env.now c.args.text.now c.apply_line.new.env r in
-    subst P (sym answer) (script-refused c.args.env.now c.loop-number.env c.apply_line.new.env c.args.text.now before (lines_left c.next.new.self) c.in-Some.number c.in-Some.line.now
+    let P : Result (Unit {0}) ScriptError → Type 0 = λ r. AppliesScript c.args.draft.now c.args.text.now c.apply_line.new.draft r in
+    subst P (sym answer) (script-refused c.args.draft.now c.loop-number.draft c.apply_line.new.draft c.args.text.now before (lines_left c.next.new.self) c.in-Some.number c.in-Some.line.now
     (c.loop-number.invariant.whole ∙ ap (λ left. before ++ left) step) c.loop-number.invariant.reached c.in_err-apply_line.field-0.0 c.in_err-apply_line.ensures)

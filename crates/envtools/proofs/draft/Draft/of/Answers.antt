@@ -1,0 +1,23 @@
+use Rattle.std.proofs.Common.{◌≡◌, ◌∙◌, ap, sym, Some}
+use Rattle.std.specs.Prelude.{slice_get}
+use Rattle.std.specs.Option.{option_map}
+use Rattle.envimage.specs.Data.{Pair}
+use Rattle.envtools.specs.Environment.{put}
+use Rattle.envtools.proofs.DraftLemmas.{put-next, IsVariable-at}
+use Rattle.envtools.proofs.draft.Draft.of.Goals as goal
+
+pub put-requires : goal.put-requires
+put-requires c =
+    let p : Pair = (c.unwrap.result.0.now, c.unwrap.result.1.now) in
+    let there : slice_get c.args.env.now c.loop-at.at ≡ Some p =
+    sym c.pair.ensures ∙ ap (option_map (λ p. (p.0.now, p.1.now))) c.unwrap.ensures in
+    IsVariable-at c.args.env.now c.loop-at.at p c.allocator.ensures.each there
+
+pub loop-at-preserved : goal.loop-at-preserved
+loop-at-preserved c =
+    let p : Pair = (c.unwrap.result.0.now, c.unwrap.result.1.now) in
+    let there : slice_get c.args.env.now c.loop-at.at ≡ Some p =
+    sym c.pair.ensures ∙ ap (option_map (λ p. (p.0.now, p.1.now))) c.unwrap.ensures in
+    c.in_ok-put.ensures.ok
+    ∙ (ap (λ ps. put ps p.0 p.1) c.loop-at.invariant
+    ∙ put-next c.args.env.now c.loop-at.at p c.allocator.ensures.distinct there)
