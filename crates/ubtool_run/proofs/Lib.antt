@@ -4,3 +4,4 @@ pub mod PrintLemmas
 pub mod SetLemmas
 pub mod AskLemmas
 pub mod RunLemmas
+pub mod RehearseLemmas

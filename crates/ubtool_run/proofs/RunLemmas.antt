@@ -8,25 +8,30 @@ use Rattle.ubtool_core.specs.Printing.{Outputs}
 use Rattle.ubtool_core.specs.Told.{Told}
 use Rattle.ubtool_core.specs.declared.fault.Fault.{Fault}
 use Rattle.ubtool_run.specs.Asking.{Does}
-use Rattle.ubtool_run.specs.Running.{Ends, HasDone, HasRefused}
+use Rattle.ubtool_run.specs.Faults.{CountsTold}
+use Rattle.ubtool_run.specs.Running.{Ends, FilesSeen, HasDone, HasRefused}
+
+-- the files at a moment
+abbrev files : ℕ → Option Told → FilesSeen
+files faults told = record { faults = faults; told = told }
 
 -- the outputs of a call
 abbrev outputs : Sink → Sink → Sink → Sink → Outputs
 outputs out out' err err' = record { out = out; out' = out'; err = err; err' = err' }
 
-pub status-done : (words : List (List ℕ)) (ask : Ask) (before after : Option Told) (out out' err told err' : Sink) (answer : Result Bool Fault) (status : ℕ)
-    → Answers words (Ok ask) → Does ask before after (outputs out out' err told) answer → Ends answer told err' status → status ≡ 0
-    → HasDone words before after (outputs out out' err err')
-status-done words ask before after out out' err told err' (Ok true) status asked does ends is =
-    record { ask = ask; asked = asked; does = subst (λ (e : Sink). Does ask before after (outputs out out' err e) (Ok true)) (sym ends.1) does }
-status-done words ask before after out out' err told err' (Ok false) status asked does ends is = let e : ⊥ = omega (arith, ends.0, is) in absurd e
-status-done words ask before after out out' err told err' (Err fault) status asked does ends is = let e : ⊥ = omega (arith, ends, is) in absurd e
+pub status-done : (words : List (List ℕ)) (ask : Ask) (faults faults' : ℕ) (before after : Option Told) (out out' err told err' : Sink) (answer : Result Bool Fault) (status : ℕ)
+    → Answers words (Ok ask) → CountsTold faults faults' answer → Does ask before after (outputs out out' err told) answer → Ends answer told err' status → status ≡ 0
+    → HasDone words (files faults before) (files faults' after) (outputs out out' err err')
+status-done words ask faults faults' before after out out' err told err' (Ok true) status asked counts does ends is =
+    record { ask = ask; asked = asked; sound = counts; does = subst (λ (e : Sink). Does ask before after (outputs out out' err e) (Ok true)) (sym ends.1) does }
+status-done words ask faults faults' before after out out' err told err' (Ok false) status asked counts does ends is = let e : ⊥ = omega (arith, ends.0, is) in absurd e
+status-done words ask faults faults' before after out out' err told err' (Err fault) status asked counts does ends is = let e : ⊥ = omega (arith, ends, is) in absurd e
 
-pub status-refused : (words : List (List ℕ)) (ask : Ask) (before after : Option Told) (out out' err told err' : Sink) (answer : Result Bool Fault) (status : ℕ)
-    → Answers words (Ok ask) → Does ask before after (outputs out out' err told) answer → Ends answer told err' status → status ≡ 1
-    → HasRefused words before after (outputs out out' err err')
-status-refused words ask before after out out' err told err' (Ok true) status asked does ends is = let e : ⊥ = omega (arith, ends.0, is) in absurd e
-status-refused words ask before after out out' err told err' (Ok false) status asked does ends is =
-    record { ask = ask; asked = asked; answer = Ok false; is_refusal = λ e. cc; told_from = told; does = does }
-status-refused words ask before after out out' err told err' (Err fault) status asked does ends is =
-    record { ask = ask; asked = asked; answer = Err fault; is_refusal = λ e. cc; told_from = told; does = does }
+pub status-refused : (words : List (List ℕ)) (ask : Ask) (faults faults' : ℕ) (before after : Option Told) (out out' err told err' : Sink) (answer : Result Bool Fault) (status : ℕ)
+    → Answers words (Ok ask) → CountsTold faults faults' answer → Does ask before after (outputs out out' err told) answer → Ends answer told err' status → status ≡ 1
+    → HasRefused words (files faults before) (files faults' after) (outputs out out' err err')
+status-refused words ask faults faults' before after out out' err told err' (Ok true) status asked counts does ends is = let e : ⊥ = omega (arith, ends.0, is) in absurd e
+status-refused words ask faults faults' before after out out' err told err' (Ok false) status asked counts does ends is =
+    record { ask = ask; asked = asked; answer = Ok false; is_refusal = λ e. cc; counts = counts; told_from = told; told = ends.1; does = does }
+status-refused words ask faults faults' before after out out' err told err' (Err fault) status asked counts does ends is =
+    record { ask = ask; asked = asked; answer = Err fault; is_refusal = λ e. cc; counts = counts; told_from = told; told = tt; does = does }

@@ -79,6 +79,7 @@ IsImagesFault config stored (FileShort path) =
     FromConfig config stored (λ answer. (named : List PlaceShown) × (answer ≡ Ok named) × SomeIsShort stored named)
 IsImagesFault config stored _ = ⊥
 
+-- the images were read, or refused, and files were only read
 abbrev pub ReadsImages : List ℕ → Told → Told → Result Images Fault → Type 0
 ReadsImages config old new (Ok images) = HasRead config old new (copies images)
 ReadsImages config old new (Err fault) = OnlyReads old new × IsImagesFault config old.stored fault

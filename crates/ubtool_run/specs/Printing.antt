@@ -12,6 +12,7 @@ use Rattle.ubtool_core.specs.declared.fault.Fault.{Fault}
 use Rattle.ubtool_core.specs.declared.fault.Fault.TheVariants.{Tool}
 use Rattle.ubtool_run.specs.Images.{Copy, HasRead, IsImagesFault}
 
+-- the bytes of the first copy, and of the second where there is one
 abbrev pub first_bytes : List Copy → List ℕ
 first_bytes [] = []
 first_bytes (copy ∷ more) = copy.1
@@ -39,6 +40,8 @@ pub record FromImages (config : List ℕ) (old new : Told) (IsSo : List Copy →
   pub read : HasRead config old new found
   pub so : IsSo found
 
+-- the images of the configuration were read and printed, or refused; a refusal for memory may come at
+-- any time
 abbrev pub PrintsFrom : ByteOrder → List ℕ → List (List ℕ) → Bool → Outputs → Told → Told → Result Bool Fault → Type 0
 PrintsFrom order config names header outputs old new (Ok all) =
     FromImages config old new (λ found. PrintsAll (environment order found) names header outputs all)

@@ -10,22 +10,38 @@ use Rattle.ubtool_core.specs.Printing.{Outputs}
 use Rattle.ubtool_core.specs.Told.{Told}
 use Rattle.ubtool_core.specs.declared.fault.Fault.{Fault}
 use Rattle.ubtool_run.specs.Asking.{Does}
+use Rattle.ubtool_run.specs.Faults.{CountsTold}
 
--- Status 0: the words ask for something, and it was done.
-pub record HasDone (words : List Text) (before after : Option Told) (outputs : Outputs) : Type 0 where
+-- What the files show at a moment: how often the device has failed, and, where they tell it, what
+-- stands in them.
+pub record FilesSeen : Type 0 where
+  pub faults : ℕ
+  pub told : Option Told
+
+-- Status 0: the words ask for something, and it was done; no call on files failed.
+pub record HasDone (words : List Text) (before after : FilesSeen) (outputs : Outputs) : Type 0 where
   pub ask : Ask
   pub asked : Answers words (Ok ask)
-  pub does : Does ask before after outputs (Ok true)
+  pub sound : after.faults ≡ before.faults
+  pub does : Does ask before.told after.told outputs (Ok true)
 
--- Status 1: the words ask for something; a variable was missing or it was refused, which is told on
--- the error output last.
-pub record HasRefused (words : List Text) (before after : Option Told) (outputs : Outputs) : Type 0 where
+-- a missing variable is told already, and a fault is told last
+abbrev pub TellsLast : Result Bool Fault → Sink → Sink → Type 0
+TellsLast (Ok all) old new = new ≡ old
+TellsLast (Err fault) old new = Unit {0}
+
+-- Status 1: the words ask for something; a variable was missing, or it was refused, which is told on
+-- the error output last. A failing file is told where one call failed, and no other answer is given
+-- where one did.
+pub record HasRefused (words : List Text) (before after : FilesSeen) (outputs : Outputs) : Type 0 where
   pub ask : Ask
   pub asked : Answers words (Ok ask)
   pub answer : Result Bool Fault
   pub is_refusal : (answer ≡ Ok true) → ⊥
+  pub counts : CountsTold before.faults after.faults answer
   pub told_from : Sink
-  pub does : Does ask before after (record { out = outputs.out; out' = outputs.out'; err = outputs.err; err' = told_from }) answer
+  pub told : TellsLast answer told_from outputs.err'
+  pub does : Does ask before.told after.told (record { out = outputs.out; out' = outputs.out'; err = outputs.err; err' = told_from }) answer
 
 -- what is told where words are refused: what `clap` says, as it is, or its front where the output failed
 abbrev pub Tells : UseError → Sink → Sink → Type 0
@@ -33,10 +49,11 @@ Tells (Line text) old new = Wrote old new (string_bytes text) ⊎ BrokeOff old n
 Tells error old new = Unit {0}
 
 -- Status 2: the words were refused; no file was touched and nothing printed.
-pub record IsMisused (words : List Text) (before after : Option Told) (outputs : Outputs) : Type 0 where
+pub record IsMisused (words : List Text) (before after : FilesSeen) (outputs : Outputs) : Type 0 where
   pub error : UseError
   pub refused : Answers words (Err error)
-  pub files : after ≡ before
+  pub sound : after.faults ≡ before.faults
+  pub files : after.told ≡ before.told
   pub output : outputs.out' ≡ outputs.out
   pub tells : Tells error outputs.err outputs.err'
 

@@ -36,6 +36,7 @@ IsRefusal Memory answer = Unit {0}
 IsRefusal Write answer = ⊥
 IsRefusal error answer = answer ≡ Err error
 
+-- the copy and its bytes, or the refusal
 abbrev pub IsEdited : ByteOrder → List Copy → Edit → Result (Which × Vec ℕ Global) Fault → Type 0
 IsEdited order found change (Ok w) = edited order found change ≡ Ok (w.0, w.1.items)
 IsEdited order found change (Err (Tool error)) = IsRefusal error (edited order found change)
@@ -73,6 +74,7 @@ IsChangeFault order change found stored (Tool error) = IsUnmade order change fou
 IsChangeFault order (One name words) found stored fault = fault ≡ faults.Memory
 IsChangeFault order (Script path) found stored fault = IsTextFault (file_at (string_bytes path) stored) fault
 
+-- the change was made, or refused, and files were only read
 abbrev pub Edits : ByteOrder → Change → List Copy → Told → Told → Result (Which × Vec ℕ Global) Fault → Type 0
 Edits order change found old new (Ok w) = HasEdited order change found old new w.0 w.1.items
 Edits order change found old new (Err fault) = OnlyReads old new × IsChangeFault order change found old.stored fault
@@ -90,6 +92,7 @@ pub record WritesIn (which : Which) (found : List Copy) (bytes : List ℕ) (old 
   pub there : IsPlaceOf which found place
   pub writes : WritesAt place.device place.offset bytes old new answer
 
+-- one write in the place of the copy, done or failed; or none, for want of memory
 abbrev pub WritesCopy : Which → List Copy → List ℕ → Told → Told → Result (Unit {0}) Fault → Type 0
 WritesCopy which found bytes old new (Ok done) = WritesIn which found bytes old new (Ok done)
 WritesCopy which found bytes old new (Err (CannotWrite path)) = WritesIn which found bytes old new (Err Failed)
@@ -119,6 +122,7 @@ abbrev pub IsSetFault : ByteOrder → List ℕ → Change → Told → Fault →
 IsSetFault order config change old faults.Memory = Unit {0}
 IsSetFault order config change old fault = IsImagesFault config old.stored fault ⊎ IsRefusedChange order config change old fault
 
+-- the change was written; or its write failed; or it was refused, and files were only read
 abbrev pub Sets : ByteOrder → List ℕ → Change → Told → Told → Result (Unit {0}) Fault → Type 0
 Sets order config change old new (Ok done) = HasSet order config change old new (Ok done)
 Sets order config change old new (Err (CannotWrite path)) = HasSet order config change old new (Err Failed)

@@ -1,8 +1,7 @@
 //! What is asked for, done.
-ghost use Rattle.std.specs.Prelude.{◌≡◌, IsErr};
-ghost use Rattle.ubtool_core.specs.Order.{OnlyReads};
+ghost use Rattle.std.specs.Prelude.{◌≡◌, IfErr, IsErr, string_bytes};
 ghost use Rattle.ubtool_core.specs.Told.{IfTold};
-ghost use Rattle.ubtool_run.specs.Asking.{Does, Helps, IsComplete, order_of};
+ghost use Rattle.ubtool_run.specs.Asking.{Does, Helps, IsComplete, Rehearses, order_of};
 ghost use Rattle.ubtool_run.specs.Faults.{CountsTold};
 
 use crate::images::read_images;
@@ -34,8 +33,9 @@ fn rehearse<F: Files>(
     device_list: String,
 ) -> Result<bool, Fault>
     ensures count { CountsTold (F.faults files.old) (F.faults files.new) result }
-    ensures told { IfTold (F.told files.old) (F.told files.new) OnlyReads }
     ensures refused { IsErr result }
+    ensures told { IfErr result (λ fault. IfTold (F.told files.old) (F.told files.new)
+        (λ old new. Rehearses (string_bytes config) (string_bytes device_list) old new fault)) }
 {
     let _images = read_images(alloc, files, config)?;
     let _device_list = read_text(alloc, files, device_list)?;

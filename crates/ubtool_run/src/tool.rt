@@ -46,11 +46,11 @@ fn run_words<S: AsStr, F: Files, O: Out, E: Out>(
     err: &mut E,
 ) -> u8
     ensures status { result ≤ 2 }
-    ensures done { result ≡ 0 → HasDone (map S.text words.now) (F.told files.old) (F.told files.new)
+    ensures done { result ≡ 0 → HasDone (map S.text words.now) record { faults = F.faults files.old; told = F.told files.old } record { faults = F.faults files.new; told = F.told files.new }
         record { out = O.sink out.old; out' = O.sink out.new; err = E.sink err.old; err' = E.sink err.new } }
-    ensures refused { result ≡ 1 → HasRefused (map S.text words.now) (F.told files.old) (F.told files.new)
+    ensures refused { result ≡ 1 → HasRefused (map S.text words.now) record { faults = F.faults files.old; told = F.told files.old } record { faults = F.faults files.new; told = F.told files.new }
         record { out = O.sink out.old; out' = O.sink out.new; err = E.sink err.old; err' = E.sink err.new } }
-    ensures misused { result ≡ 2 → IsMisused (map S.text words.now) (F.told files.old) (F.told files.new)
+    ensures misused { result ≡ 2 → IsMisused (map S.text words.now) record { faults = F.faults files.old; told = F.told files.old } record { faults = F.faults files.new; told = F.told files.new }
         record { out = O.sink out.old; out' = O.sink out.new; err = E.sink err.old; err' = E.sink err.new } }
 {
     match read_command(alloc, words) {
@@ -79,11 +79,11 @@ pub fn run_tool<S: AsStr, R: Read, F: Files, O: Out, E: Out>(
 ) -> u8
     ensures status { result ≤ 2 }
     ensures printed { length words.now ≡ 0 → result ≡ 0 → PrintsInput (R.remaining input.old) (O.sink out.old) (O.sink out.new) }
-    ensures done { 0 < length words.now → result ≡ 0 → HasDone (map S.text words.now) (F.told files.old) (F.told files.new)
+    ensures done { 0 < length words.now → result ≡ 0 → HasDone (map S.text words.now) record { faults = F.faults files.old; told = F.told files.old } record { faults = F.faults files.new; told = F.told files.new }
         record { out = O.sink out.old; out' = O.sink out.new; err = E.sink err.old; err' = E.sink err.new } }
-    ensures refused { 0 < length words.now → result ≡ 1 → HasRefused (map S.text words.now) (F.told files.old) (F.told files.new)
+    ensures refused { 0 < length words.now → result ≡ 1 → HasRefused (map S.text words.now) record { faults = F.faults files.old; told = F.told files.old } record { faults = F.faults files.new; told = F.told files.new }
         record { out = O.sink out.old; out' = O.sink out.new; err = E.sink err.old; err' = E.sink err.new } }
-    ensures misused { result ≡ 2 → IsMisused (map S.text words.now) (F.told files.old) (F.told files.new)
+    ensures misused { result ≡ 2 → IsMisused (map S.text words.now) record { faults = F.faults files.old; told = F.told files.old } record { faults = F.faults files.new; told = F.told files.new }
         record { out = O.sink out.old; out' = O.sink out.new; err = E.sink err.old; err' = E.sink err.new } }
 {
     if words.is_empty() {
