@@ -27,4 +27,6 @@ pub mod Told
 pub mod ScriptRows
 pub mod NextToken
 pub mod ExpandLemmas
+pub mod Shortening
+pub mod ShortValues
 mod ExpansionRows

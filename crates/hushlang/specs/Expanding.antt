@@ -1,7 +1,9 @@
 -- Fields on the way: atoms are read from the left, into one output.
-use Rattle.std.specs.Prelude.{◌≡◌, ℕ, ◌+◌, Bool, true, false, List, [], ◌∷◌, ◌++◌, length, map}
+use Rattle.std.specs.Prelude.{◌≡◌, ◌≤◌, ℕ, ◌+◌, ◌*◌, Bool, true, false, List, [], ◌∷◌, ◌++◌, length, map}
+use Rattle.std.specs.declared.alloc.Global.{Global}
+use Rattle.std.specs.declared.vec.Vec.{Vec}
 use Rattle.hushlang.specs.Tree.{Word}
-use Rattle.hushlang.specs.Expansion.{Atom, Kept, Separator, Mark, Setting, atoms, size, most_bytes}
+use Rattle.hushlang.specs.Expansion.{Atom, Kept, Separator, Mark, Setting, value_of, split_atom, kept_bytes, atoms, size, most_bytes}
 use Rattle.hushlang.specs.declared.expand.Gathering.{Gathering}
 
 -- the fields that are whole, the one on the way, and whether it has begun
@@ -53,3 +55,18 @@ gathered_size g = size g.whole + length g.field
 -- the room left is what the limit leaves
 abbrev pub IsCounted : Gathering → Type 0
 IsCounted g = gathered_size (gathered g) + g.room ≡ most_bytes
+
+-- ---- values with fewer separators
+
+-- split values that leave the same on the way, whatever stands before them
+abbrev pub AreCutAlike : (value other : List ℕ) → Type 0
+AreCutAlike value other = (g : Gathered) → with_atoms g (map split_atom value) ≡ with_atoms g (map split_atom other)
+
+-- a split value with at most one separator more than bytes that are kept
+abbrev pub IsBrief : List ℕ → Type 0
+IsBrief value = length value ≤ 2 * length (kept_bytes (map split_atom value)) + 1
+
+-- each name has a brief value that is cut as its variable's is
+abbrev pub AreShort : Setting → List (Vec ℕ Global × Vec ℕ Global) → Type 0
+AreShort setting [] = Unit
+AreShort setting (entry ∷ entries) = AreCutAlike (value_of setting entry.0.items) entry.1.items × IsBrief entry.1.items × AreShort setting entries

@@ -12,6 +12,7 @@ ghost use Rattle.hushlang.specs.View as view;
 use crate::tree::{Piece, Word};
 use itoa::Buffer;
 use std::alloc::{AllocError, AllocFailed, Global};
+use std::collections::BTreeMap;
 use std::mem;
 use thiserror::Error;
 
@@ -82,8 +83,9 @@ pub fn expand<V: Vars>(alloc: Global, words: &[Word], vars: &V) -> Result<Vec<Ve
         IfErr result (λ error. error ≡ ExpandError.TooLong → spec.most_bytes < spec.size (spec.fields setting (map view.word words.now))) }
 {
     let mut fields = Gathering::new(alloc);
+    let mut values = ShortValues::new(alloc);
     for word in words {
-        fields.add_word(word, vars)?;
+        fields.add_word(word, vars, &mut values)?;
     }
     Ok(fields.into_fields())
 }
@@ -120,6 +122,28 @@ fn separates(byte: u8) -> bool
     ensures { result ≡ spec.separates byte }
 {
     byte == b' ' || byte == b'\t' || byte == b'\n'
+}
+
+/// The values of the names that were split so far, each shortened.
+type ShortValues = BTreeMap<Vec<u8>, Vec<u8>>;
+
+/// A value that is cut alike, without separators side by side: it has at most one byte more than twice the
+/// bytes that fields keep of it.
+fn shortened(alloc: Global, value: &[u8]) -> Result<Vec<u8>, AllocError>
+    ensures alike { IfOk result (λ short. way.AreCutAlike value.now short.items) }
+    ensures brief { IfOk result (λ short. way.IsBrief short.items) }
+{
+    let mut short = Vec::new(alloc);
+    let mut cut = false;
+    for byte in value {
+        let separator = separates(*byte);
+        if separator && cut {
+            continue;
+        }
+        short.push(*byte)?;
+        cut = separator;
+    }
+    Ok(short)
 }
 
 /// Puts bytes at the end of a value, where they fit the limit.
@@ -261,11 +285,46 @@ impl Gathering {
         Ok(())
     }
 
-    fn add_piece<V: Vars>(&mut self, piece: &Piece, vars: &V) -> Result<(), ExpandError>
-        requires { way.IsCounted self.old }
+    /// Adds the bytes of a variable that is cut at its separators. Its whole value is read where the name first
+    /// stands; from then on each use takes the time of the bytes that it adds.
+    fn add_split<V: Vars>(
+        &mut self,
+        name: &[u8],
+        vars: &V,
+        values: &mut ShortValues,
+    ) -> Result<(), ExpandError>
+        requires counted { way.IsCounted self.old }
+        requires short { way.AreShort (spec.setting_of (V.variables vars.now) (V.last_status vars.now)) values.old.entries }
+        ensures added { let setting = spec.setting_of (V.variables vars.now) (V.last_status vars.now) in
+            OnOk result (way.gathered self.new ≡ way.with_atoms (way.gathered self.old) (map spec.split_atom (spec.value_of setting name.now))) }
+        ensures counted { OnOk result (way.IsCounted self.new) }
+        ensures short { OnOk result (way.AreShort (spec.setting_of (V.variables vars.now) (V.last_status vars.now)) values.new.entries) }
+        ensures too_long { let setting = spec.setting_of (V.variables vars.now) (V.last_status vars.now) in
+            IfErr result (λ error. error ≡ ExpandError.TooLong →
+            spec.most_bytes < way.gathered_size (way.with_atoms (way.gathered self.old) (map spec.split_atom (spec.value_of setting name.now)))) }
+    {
+        if let Some(short) = values.get(name) {
+            return self.split(short);
+        }
+        let value = value_of(vars, name);
+        self.split(value)?;
+        let short = shortened(self.alloc, value)?;
+        values.insert(Vec::from_slice(self.alloc, name)?, short)?;
+        Ok(())
+    }
+
+    fn add_piece<V: Vars>(
+        &mut self,
+        piece: &Piece,
+        vars: &V,
+        values: &mut ShortValues,
+    ) -> Result<(), ExpandError>
+        requires counted { way.IsCounted self.old }
+        requires short { way.AreShort (spec.setting_of (V.variables vars.now) (V.last_status vars.now)) values.old.entries }
         ensures added { let setting = spec.setting_of (V.variables vars.now) (V.last_status vars.now) in
             OnOk result (way.gathered self.new ≡ way.with_atoms (way.gathered self.old) (spec.atoms_of_piece setting (view.piece piece.now))) }
         ensures counted { OnOk result (way.IsCounted self.new) }
+        ensures short { OnOk result (way.AreShort (spec.setting_of (V.variables vars.now) (V.last_status vars.now)) values.new.entries) }
         ensures too_long { let setting = spec.setting_of (V.variables vars.now) (V.last_status vars.now) in
             IfErr result (λ error. error ≡ ExpandError.TooLong →
             spec.most_bytes < way.gathered_size (way.with_atoms (way.gathered self.old) (spec.atoms_of_piece setting (view.piece piece.now)))) }
@@ -276,24 +335,31 @@ impl Gathering {
                 self.begun = true;
                 Ok(())
             }
-            Piece::Var { name, split: true } => self.split(value_of(vars, name)),
+            Piece::Var { name, split: true } => self.add_split(name, vars, values),
             Piece::Var { name, split: false } => self.keep_all(value_of(vars, name)),
             Piece::Status => self.keep_all(Buffer::new().format(vars.status()).as_bytes()),
         }
     }
 
     /// Adds the fields of a word.
-    fn add_word<V: Vars>(&mut self, word: &Word, vars: &V) -> Result<(), ExpandError>
-        requires { way.IsCounted self.old }
+    fn add_word<V: Vars>(
+        &mut self,
+        word: &Word,
+        vars: &V,
+        values: &mut ShortValues,
+    ) -> Result<(), ExpandError>
+        requires counted { way.IsCounted self.old }
+        requires short { way.AreShort (spec.setting_of (V.variables vars.now) (V.last_status vars.now)) values.old.entries }
         ensures added { let setting = spec.setting_of (V.variables vars.now) (V.last_status vars.now) in
             OnOk result (way.gathered self.new ≡ way.with_word setting (way.gathered self.old) (view.word word.now)) }
         ensures counted { OnOk result (way.IsCounted self.new) }
+        ensures short { OnOk result (way.AreShort (spec.setting_of (V.variables vars.now) (V.last_status vars.now)) values.new.entries) }
         ensures too_long { let setting = spec.setting_of (V.variables vars.now) (V.last_status vars.now) in
             IfErr result (λ error. error ≡ ExpandError.TooLong →
             spec.most_bytes < way.gathered_size (way.with_word setting (way.gathered self.old) (view.word word.now))) }
     {
         for piece in &word.pieces {
-            self.add_piece(piece, vars)?;
+            self.add_piece(piece, vars, values)?;
         }
         self.close()
     }

@@ -96,6 +96,32 @@ fn cuts_values_at_blanks(rt: HostRuntime) -> Result<(), Fail> {
 }
 
 #[test]
+fn cuts_a_value_alike_each_time(rt: HostRuntime) -> Result<(), Fail> {
+    let a = rt.alloc();
+    for (value, wanted) in [
+        (b"".as_slice(), b"--|--|".as_slice()),
+        (b"  ", b"-|-|-|-|"),
+        (b"b", b"-b-b|-b-b|"),
+        (b"b \t\n", b"-b|-b|-b|-b|"),
+        (b"\n\nb", b"-|b-|b|-|b-|b|"),
+        (b" b  c", b"-|b|c-|b|c|-|b|c-|b|c|"),
+    ] {
+        let twice = [
+            word(
+                a,
+                [bytes(a, b"-")?, x(a, true)?, bytes(a, b"-")?, x(a, true)?],
+            )?,
+            word(
+                a,
+                [bytes(a, b"-")?, x(a, true)?, bytes(a, b"-")?, x(a, true)?],
+            )?,
+        ];
+        assert_eq!(rt; fields_of(a, &twice, value)?.as_slice(), wanted);
+    }
+    Ok(())
+}
+
+#[test]
 fn expands_whole_commands(rt: HostRuntime) -> Result<(), Fail> {
     let a = rt.alloc();
     let echo = [

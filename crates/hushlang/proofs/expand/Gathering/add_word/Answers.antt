@@ -16,6 +16,7 @@ loop-piece-preserved g c =
     record {
       same = next_piece setting _ _ _ (view.piece c.piece-item.result) _ _ first c.loop-piece.invariant.same c.in_ok-add_piece.ensures.added;
       counted = c.in_ok-add_piece.ensures.counted;
+      short = c.in_ok-add_piece.ensures.short;
     }
 
 pub returns-in_err-add_piece-clause-too_long : goal.returns-in_err-add_piece-clause-too_long

@@ -1,7 +1,7 @@
 use Rattle.std.proofs.Common.{◌≡◌, map, drop}
 use Rattle.std.specs.List.{flat_map}
 use Rattle.hushlang.specs.Expansion.{atoms_of_piece, setting_of}
-use Rattle.hushlang.specs.Expanding.{gathered, with_atoms, IsCounted}
+use Rattle.hushlang.specs.Expanding.{gathered, with_atoms, IsCounted, AreShort}
 use Rattle.hushlang.specs.View as view
 use Rattle.hushlang.proofs.expand.Gathering.add_word.Given as goal
 
@@ -12,4 +12,5 @@ invariant-loop-piece g l =
       same : with_atoms (gathered l.self) (flat_map (atoms_of_piece setting) (map view.piece (drop l.piece-index l.word.pieces.items)))
           ≡ with_atoms (gathered l.fn.self) (flat_map (atoms_of_piece setting) (map view.piece l.word.pieces.items));
       counted : IsCounted l.self;
+      short : AreShort setting l.values.entries;
     }
