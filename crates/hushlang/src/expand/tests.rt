@@ -1,7 +1,8 @@
 //! Worked examples of expansion, and the limit.
 
 use crate::expand::{ExpandError, Vars, expand, expand_one};
-use crate::tree::{Piece, Word};
+use crate::parse::parse;
+use crate::tree::{Command, Piece, Word};
 use std::alloc::{AllocError, Global};
 use std::test::Fail;
 
@@ -30,6 +31,34 @@ impl Vars for Only<'_> {
 
     fn status(&self) -> u8 {
         self.status
+    }
+}
+
+/// One variable more.
+#[derive(Drop)]
+struct With<'a, V: Vars + Drop> {
+    name: &'a [u8],
+    value: &'a [u8],
+    others: V,
+}
+
+impl<V: Vars + Drop> Vars for With<'_, V> {
+    ghost use Rattle.std.specs.FinMap.{insert};
+
+    ghost variables = { λ with. insert (V.variables with.others) with.name.now with.value.now };
+
+    ghost last_status = { λ with. V.last_status with.others };
+
+    fn get(&self, name: &[u8]) -> Option<&[u8]> {
+        if name.cmp(&self.name).is_eq() {
+            Some(self.value)
+        } else {
+            self.others.get(name)
+        }
+    }
+
+    fn status(&self) -> u8 {
+        self.others.status()
     }
 }
 
@@ -146,6 +175,57 @@ fn expands_whole_commands(rt: HostRuntime) -> Result<(), Fail> {
     );
     let status = [word(a, [Piece::Status])?];
     assert_eq!(rt; fields_of(a, &status, b"")?.as_slice(), b"255|".as_slice());
+    Ok(())
+}
+
+/// The fields of the simple commands of a text, a line for each command.
+fn fields_of_text<V: Vars>(alloc: Global, text: &[u8], vars: &V) -> Result<Vec<u8>, Fail> {
+    let script = parse(alloc, text)?;
+    let mut lines = Vec::new(alloc);
+    for list in &script.lists {
+        if let Command::Simple(words) = &list.first {
+            let fields = expand(alloc, words, vars)?;
+            lines.extend_from_slice(&shown(alloc, &fields)?)?;
+            lines.push(b'\n')?;
+        }
+    }
+    Ok(lines)
+}
+
+#[test]
+fn expands_texts(rt: HostRuntime) -> Result<(), Fail> {
+    let a = rt.alloc();
+    let vars = With {
+        name: b"boot.dev",
+        value: b"mmc 0:1",
+        others: With {
+            name: b"y",
+            value: b"2",
+            others: Only {
+                name: b"x",
+                value: b" a  b ",
+                status: 7,
+            },
+        },
+    };
+    for (text, wanted) in [
+        ("echo $x", "echo|a|b|\n"),
+        ("echo \"$x\" '$x' \\$x", "echo| a  b |$x|$x|\n"),
+        (
+            "load ${boot.dev} ${boot.dev}p$y",
+            "load|mmc|0:1|mmc|0:1p2|\n",
+        ),
+        ("echo $yx $y'x' $1 $", "echo|2x|$1|$|\n"),
+        ("echo $? \"${?}\" '' $none ''$none", "echo|7|7|||\n"),
+        (
+            "echo $x$y \"$x\"$y\necho -$x-;",
+            "echo|a|b|2| a  b 2|\necho|-|a|b|-|\n",
+        ),
+        ("echo $\\\ny a\\\nb $y\\\nx # $x", "echo|$y|ab|2x|\n"),
+    ] {
+        let found = fields_of_text(a, text.as_bytes(), &vars)?;
+        assert_eq!(rt; found.as_slice(), wanted.as_bytes(), "{text}");
+    }
     Ok(())
 }
 

@@ -19,8 +19,15 @@ fn refuses_at_places(rt: HostRuntime) -> Result<(), Fail> {
         ("a &&", SyntaxError::Unexpected(4)),
         ("for 1 in a; do b; done", SyntaxError::MissingWord(4)),
         ("for x a", SyntaxError::MissingWord(6)),
+        ("for", SyntaxError::MissingWord(3)),
+        ("for x ", SyntaxError::MissingWord(6)),
+        ("for\nx in a; do b; done", SyntaxError::MissingWord(3)),
+        ("for x\nin a; do b; done", SyntaxError::MissingWord(5)),
+        ("for 'x' in a; do b; done", SyntaxError::MissingWord(4)),
+        ("for x 'in' a; do b; done", SyntaxError::MissingWord(6)),
         ("for x in a do b; done", SyntaxError::Unexpected(17)),
         ("x=1 load", SyntaxError::AssignmentBeforeCommand(4)),
+        ("x=1 then", SyntaxError::AssignmentBeforeCommand(4)),
         ("&\\\n&", SyntaxError::SingleAmp(0)),
         (
             "if a; then b; else c; elif d; then e; fi",
@@ -52,15 +59,21 @@ fn refuses_each_cut(rt: HostRuntime) -> Result<(), Fail> {
     Ok(())
 }
 
-/// So many openings, and as many closings as are asked for.
-fn nested(alloc: Global, opened: usize, closed: usize) -> Result<String, Fail> {
+/// A command inside so many openings, and as many closings as are asked for.
+fn nested(
+    alloc: Global,
+    opening: &str,
+    opened: usize,
+    closing: &str,
+    closed: usize,
+) -> Result<String, Fail> {
     let mut text = String::new(alloc);
     for _ in 0..opened {
-        text.push_str("if true; then ")?;
+        text.push_str(opening)?;
     }
     text.push_str("a; ")?;
     for _ in 0..closed {
-        text.push_str("fi; ")?;
+        text.push_str(closing)?;
     }
     Ok(text)
 }
@@ -74,12 +87,34 @@ fn nests_sixty_four_levels(rt: HostRuntime) -> Result<(), Fail> {
         (65, 0, Some(SyntaxError::TooDeep(896))),
         (64, 0, Some(SyntaxError::Unexpected(899))),
     ] {
-        let text = nested(alloc, opened, closed)?;
+        let text = nested(alloc, "if true; then ", opened, "fi; ", closed)?;
         assert_eq!(rt;
             parse(alloc, text.as_bytes()).err(),
             wanted,
             "{opened} and {closed}"
         );
+    }
+    Ok(())
+}
+
+#[test]
+fn nests_each_opening_word_as_deep(rt: HostRuntime) -> Result<(), Fail> {
+    let alloc = rt.alloc();
+    for (opening, closing, wanted) in [
+        ("if b; then ", "fi; ", 704),
+        ("while b; do ", "done; ", 768),
+        ("until b; do ", "done; ", 768),
+        ("for x in; do ", "done; ", 832),
+    ] {
+        let deepest = nested(alloc, opening, 64, closing, 64)?;
+        assert_eq!(rt; parse(alloc, deepest.as_bytes()).err(), None, "{opening}");
+        let deeper = nested(alloc, opening, 65, closing, 65)?;
+        let error = Some(SyntaxError::TooDeep(wanted));
+        assert_eq!(rt; parse(alloc, deeper.as_bytes()).err(), error, "{opening}");
+        let mut mixed = nested(alloc, "if b; then ", 64, "", 0)?;
+        mixed.push_str(opening)?;
+        let error = Some(SyntaxError::TooDeep(707));
+        assert_eq!(rt; parse(alloc, mixed.as_bytes()).err(), error, "{opening}");
     }
     Ok(())
 }
