@@ -22,6 +22,7 @@ pub mod Completion
 pub mod Simulation
 pub mod Blocked
 pub mod Closed
+pub mod Productions
 pub mod Faults
 pub mod Told
 pub mod ScriptRows

@@ -9,7 +9,8 @@ use Rattle.hushlang.specs.Pieces.{pieces}
 use Rattle.hushlang.specs.Spelling.{Spells}
 use Rattle.hushlang.specs.Reading.{lexed}
 use Rattle.hushlang.specs.Words.{is_plain}
-use Rattle.hushlang.specs.Grammar.{IsScript, IsAndOr, closes_at, reserved_of, is_separator, is_word, is_in_word}
+use Rattle.hushlang.specs.Grammar.{IsScript, IsBlock, IsAndOr, closes_at, reserved_of, is_separator, is_word, is_in_word}
+use Rattle.hushlang.specs.Productions.{IsProduced}
 use Rattle.hushlang.specs.Places.{IsRefusal, IsViable}
 use Rattle.hushlang.specs.Texts.{IsTreeOf, IsBlocked}
 use Rattle.hushlang.specs.Parsing.{whole}
@@ -79,6 +80,14 @@ BlocksHoldCommands = (depth : ℕ) (tokens : List Token) (s : Script) → IsScri
 -- where a closing word stands right behind an and-or list, without a separator, its last command is compound
 abbrev pub BlocksAreClosed : Type 0
 BlocksAreClosed = (depth : ℕ) (tokens more : List Token) (t : Token) (list : AndOr) → IsAndOr depth tokens list (t ∷ more) → closes_at (reserved_of t) ≡ true → ends_compound list ≡ true
+
+-- each block by the productions, with a closing word behind it, is derived
+abbrev pub EachProducedBlockIsDerived : Type 0
+EachProducedBlockIsDerived = (depth : ℕ) (tokens more : List Token) (t : Token) (block : Script) → closes_at (reserved_of t) ≡ true → IsProduced depth tokens block (t ∷ more) → IsBlock depth tokens block (t ∷ more)
+
+-- and each derived block, with a token behind it, is one by the productions
+abbrev pub EachDerivedBlockIsProduced : Type 0
+EachDerivedBlockIsProduced = (depth : ℕ) (tokens more : List Token) (t : Token) (block : Script) → IsBlock depth tokens block (t ∷ more) → IsProduced depth tokens block (t ∷ more)
 
 -- ---- places
 

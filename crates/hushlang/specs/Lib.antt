@@ -10,6 +10,7 @@ pub mod Cutting
 pub mod Laws
 pub mod Lexing
 pub mod Grammar
+pub mod Productions
 pub mod Parsing
 pub mod Places
 pub mod Texts

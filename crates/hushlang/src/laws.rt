@@ -2,7 +2,8 @@
 
 ghost use Rattle.hushlang.specs.Laws.{SpelledOnce, EachSpelled, PiecesJoined, TokensInOrder};
 ghost use Rattle.hushlang.specs.Laws.{EachTreeIsRead, WhatIsReadIsATree, OneTree, OneTreeOfText};
-ghost use Rattle.hushlang.specs.Laws.{BlocksHoldCommands, BlocksAreClosed, RefusalsArePlaced, FaultsAreAnswered};
+ghost use Rattle.hushlang.specs.Laws.{BlocksHoldCommands, BlocksAreClosed, EachProducedBlockIsDerived, EachDerivedBlockIsProduced};
+ghost use Rattle.hushlang.specs.Laws.{RefusalsArePlaced, FaultsAreAnswered};
 ghost use Rattle.hushlang.specs.Laws.{PrefixIsViable, FewTokensComplete, EachTextIsBlocked, OneBlockedPlace};
 
 /// A text spells one row of tokens at most: the one that is computed.
@@ -37,10 +38,13 @@ pub fn one_tree_of_text()
     ensures { OneTreeOfText }
 {}
 
-/// Each condition and each body holds a command, and ends with a separator or a compound command.
+/// Each condition and each body holds a command, and ends with a separator or a compound command: they are those
+/// that the two productions of a block give.
 pub fn blocks()
     ensures hold_commands { BlocksHoldCommands }
     ensures are_closed { BlocksAreClosed }
+    ensures are_derived { EachProducedBlockIsDerived }
+    ensures are_produced { EachDerivedBlockIsProduced }
 {}
 
 /// A refusal stands at the first token with which no script can go on.
