@@ -1,12 +1,12 @@
--- The blocks of the grammar are those of the productions.
-use Rattle.std.proofs.Common.{◌≡◌, ℕ, Bool, true, false, ◌&&◌, List, [], ◌∷◌, ◌++◌, Some, refl, ap, sym, ◌∙◌, subst}
+-- The blocks and the scripts of the grammar are those of the productions.
+use Rattle.std.proofs.Common.{◌≡◌, ℕ, Bool, true, false, ◌&&◌, List, [], ◌∷◌, ◌++◌, Some, refl, ap, sym, ◌∙◌, subst, append-nil}
 use Rattle.std.specs.List.{list_all}
 use Rattle.hushlang.specs.Token.{Token, Part}
 use Rattle.hushlang.specs.Tree.{Script, AndOr, Command, ends_compound}
 use Rattle.hushlang.specs.Grammar as g
-use Rattle.hushlang.specs.Grammar.{IsCommand, simple, assign, «if», «while», until, for_in, IsBlock, block, IsLists, last, more, IsAndOr, starts, past, past_if, is_word, is_separator, reserved_of, ends_block, closes_at}
-use Rattle.hushlang.specs.Productions.{AreSeparators, IsRow, one, another, IsProduced, separated, compound}
-use Rattle.hushlang.specs.Laws.{EachProducedBlockIsDerived, EachDerivedBlockIsProduced}
+use Rattle.hushlang.specs.Grammar.{IsCommand, simple, assign, «if», «while», until, for_in, IsBlock, block, IsLists, last, more, IsAndOr, starts, IsScript, no_command, commands, past, past_if, is_word, is_separator, reserved_of, ends_block, closes_at}
+use Rattle.hushlang.specs.Productions.{AreSeparators, IsRow, one, another, IsProduced, separated, compound, IsProducedScript, separators_alone, and_or_lists}
+use Rattle.hushlang.specs.Laws.{EachProducedBlockIsDerived, EachDerivedBlockIsProduced, EachProducedScriptIsDerived, EachDerivedScriptIsProduced}
 use Rattle.hushlang.specs.declared.token.Kind.{Kind}
 use Rattle.hushlang.specs.declared.token.Kind.TheVariants as kinds
 use Rattle.hushlang.specs.declared.words.Reserved.{Reserved}
@@ -117,29 +117,61 @@ front_separates : (tokens : List Token) → AreSeparators (front_of tokens)
 front_separates [] = refl
 front_separates (t ∷ tokens) = separators_if (is_separator t) t (front_of tokens) refl (front_separates tokens)
 
--- a row, and separators or a compound command at its end
+-- a row, and separators or a compound command where a token follows
 data IsEnded (d : ℕ) (tokens : List Token) (lists : Script) (rest : List Token) : Type 0 where
-  ended : {final : AndOr} (separators : List Token) → AreSeparators separators → IsRow d tokens lists final (separators ++ rest) → (separators ≡ [] → ends_compound final ≡ true) → IsEnded d tokens lists rest
+  ended : {final : AndOr} (separators : List Token) → AreSeparators separators → IsRow d tokens lists final (separators ++ rest) → ((t : Token) (behind : List Token) → rest ≡ t ∷ behind → separators ≡ [] → ends_compound final ≡ true) → IsEnded d tokens lists rest
 
-lists_ended : {d : ℕ} {tokens rest : List Token} {lists : Script} (t : Token) (behind : List Token) → rest ≡ t ∷ behind → IsLists d tokens lists rest → IsEnded d tokens lists rest
-lists_ended {d} {tokens} t behind is (last after {list = list} a ends) =
+lists_ended : {d : ℕ} {tokens rest : List Token} {lists : Script} → IsLists d tokens lists rest → IsEnded d tokens lists rest
+lists_ended {d} {tokens} (last after {list = list} a ends) =
     let split = front_split after in
-    let closes : closes_at (reserved_of t) ≡ true = sym (ap ends_block is) ∙ ends in
     ended (front_of after) (front_separates after) (one (subst (λ rest. IsAndOr d tokens list rest) split a))
-    (λ none. let here : after ≡ t ∷ behind = split ∙ ap (λ front. front ++ past is_separator after) none ∙ is in
+    (λ t behind is none.
+    let closes : closes_at (reserved_of t) ≡ true = sym (ap ends_block is) ∙ ends in
+    let here : after ≡ t ∷ behind = split ∙ ap (λ front. front ++ past is_separator after) none ∙ is in
     blocks_are_closed d tokens behind t list (subst (λ rest. IsAndOr d tokens list rest) here a) closes)
-lists_ended {d} {tokens} t behind is (more {sep = sep} {after = after} {list = list} a s l) =
-    elim (lists_ended t behind is l) [
+lists_ended {d} {tokens} (more {sep = sep} {after = after} {list = list} a s l) =
+    elim (lists_ended l) [
       | ended separators all row closed ↦ ended separators all (another sep (front_of after) (with_first sep (front_of after) s (front_separates after)) (subst (λ after. IsAndOr d tokens list (sep ∷ after)) (front_split after) a) row) closed
     ]
 
-ended_produced : {d : ℕ} {tokens rest : List Token} {lists : Script} (front : List Token) → AreSeparators front → IsEnded d tokens lists rest → IsProduced d (front ++ tokens) lists rest
-ended_produced front f (ended [] all row closed) = compound front f row (closed refl)
-ended_produced front f (ended (sep ∷ separators) all row closed) = separated front sep separators f all row
+ended_produced : {d : ℕ} {tokens rest : List Token} {lists : Script} (front : List Token) (t : Token) (behind : List Token) → rest ≡ t ∷ behind → AreSeparators front → IsEnded d tokens lists rest → IsProduced d (front ++ tokens) lists rest
+ended_produced front t behind is f (ended [] all row closed) = compound front f row (closed t behind is refl)
+ended_produced front t behind is f (ended (sep ∷ separators) all row closed) = separated front sep separators f all row
 
 block_produced : {d : ℕ} {tokens rest : List Token} {lists : Script} (t : Token) (behind : List Token) → rest ≡ t ∷ behind → IsBlock d tokens lists rest → IsProduced d tokens lists rest
 block_produced {d} {rest = rest} {lists = lists} t behind is (block tokens l) =
-    subst (λ tokens. IsProduced d tokens lists rest) (sym (front_split tokens)) (ended_produced (front_of tokens) (front_separates tokens) (lists_ended t behind is l))
+    subst (λ tokens. IsProduced d tokens lists rest) (sym (front_split tokens)) (ended_produced (front_of tokens) t behind is (front_separates tokens) (lists_ended l))
 
 pub each_derived_block_is_produced : EachDerivedBlockIsProduced
 each_derived_block_is_produced depth tokens behind t lists b = block_produced t behind refl b
+
+-- ---- scripts
+
+past-all : (tokens : List Token) → AreSeparators tokens → past is_separator tokens ≡ []
+past-all [] all = refl
+past-all (t ∷ tokens) all =
+    let both = both_true (is_separator t) (list_all is_separator tokens) all in
+    past-first t tokens true both.0 ∙ past-all tokens both.1
+
+all_front : (tokens : List Token) → past is_separator tokens ≡ [] → AreSeparators tokens
+all_front tokens none =
+    let same : tokens ≡ front_of tokens = front_split tokens ∙ ap (λ rest. front_of tokens ++ rest) none ∙ append-nil (front_of tokens) in
+    subst AreSeparators (sym same) (front_separates tokens)
+
+pub each_produced_script_is_derived : EachProducedScriptIsDerived
+each_produced_script_is_derived depth tokens script (separators_alone all) = no_command (past-all tokens all)
+each_produced_script_is_derived depth all script (and_or_lists {tokens = tokens} {behind = behind} front f r b) =
+    let same : past is_separator (front ++ tokens) ≡ tokens = past-separators front tokens f ∙ row_stays r in
+    let none : past is_separator behind ≡ [] = past-all behind b in
+    let derived : IsLists depth tokens script [] = subst (λ rest. IsLists depth tokens script rest) none (row_derived r (ap ends_block none)) in
+    commands (front ++ tokens) (subst (λ tokens. IsLists depth tokens script []) (sym same) derived)
+
+script_produced : {d : ℕ} {tokens rest : List Token} {script : Script} (front : List Token) → AreSeparators front → rest ≡ [] → IsEnded d tokens script rest → IsProducedScript d (front ++ tokens) script
+script_produced {d} {tokens} {rest} {script} front f none (ended {final = final} separators all row closed) =
+    let behind : separators ++ rest ≡ separators = ap (λ rest. separators ++ rest) none ∙ append-nil separators in
+    and_or_lists front f (subst (λ rest. IsRow d tokens script final rest) behind row) all
+
+pub each_derived_script_is_produced : EachDerivedScriptIsProduced
+each_derived_script_is_produced depth tokens script (no_command none) = separators_alone (all_front tokens none)
+each_derived_script_is_produced depth all script (commands tokens l) =
+    subst (λ tokens. IsProducedScript depth tokens script) (sym (front_split tokens)) (script_produced (front_of tokens) (front_separates tokens) refl (lists_ended l))

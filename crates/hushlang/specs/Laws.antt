@@ -10,7 +10,7 @@ use Rattle.hushlang.specs.Spelling.{Spells}
 use Rattle.hushlang.specs.Reading.{lexed}
 use Rattle.hushlang.specs.Words.{is_plain}
 use Rattle.hushlang.specs.Grammar.{IsScript, IsBlock, IsAndOr, closes_at, reserved_of, is_separator, is_word, is_in_word}
-use Rattle.hushlang.specs.Productions.{IsProduced}
+use Rattle.hushlang.specs.Productions.{IsProduced, IsProducedScript}
 use Rattle.hushlang.specs.Places.{IsRefusal, IsViable}
 use Rattle.hushlang.specs.Texts.{IsTreeOf, IsBlocked}
 use Rattle.hushlang.specs.Parsing.{whole}
@@ -88,6 +88,13 @@ EachProducedBlockIsDerived = (depth : ℕ) (tokens more : List Token) (t : Token
 -- and each derived block, with a token behind it, is one by the productions
 abbrev pub EachDerivedBlockIsProduced : Type 0
 EachDerivedBlockIsProduced = (depth : ℕ) (tokens more : List Token) (t : Token) (block : Script) → IsBlock depth tokens block (t ∷ more) → IsProduced depth tokens block (t ∷ more)
+
+-- the scripts by the productions are those that are derived
+abbrev pub EachProducedScriptIsDerived : Type 0
+EachProducedScriptIsDerived = (depth : ℕ) (tokens : List Token) (s : Script) → IsProducedScript depth tokens s → IsScript depth tokens s
+
+abbrev pub EachDerivedScriptIsProduced : Type 0
+EachDerivedScriptIsProduced = (depth : ℕ) (tokens : List Token) (s : Script) → IsScript depth tokens s → IsProducedScript depth tokens s
 
 -- ---- places
 

@@ -3,6 +3,7 @@
 ghost use Rattle.hushlang.specs.Laws.{SpelledOnce, EachSpelled, PiecesJoined, TokensInOrder};
 ghost use Rattle.hushlang.specs.Laws.{EachTreeIsRead, WhatIsReadIsATree, OneTree, OneTreeOfText};
 ghost use Rattle.hushlang.specs.Laws.{BlocksHoldCommands, BlocksAreClosed, EachProducedBlockIsDerived, EachDerivedBlockIsProduced};
+ghost use Rattle.hushlang.specs.Laws.{EachProducedScriptIsDerived, EachDerivedScriptIsProduced};
 ghost use Rattle.hushlang.specs.Laws.{RefusalsArePlaced, FaultsAreAnswered};
 ghost use Rattle.hushlang.specs.Laws.{PrefixIsViable, FewTokensComplete, EachTextIsBlocked, OneBlockedPlace};
 
@@ -45,6 +46,12 @@ pub fn blocks()
     ensures are_closed { BlocksAreClosed }
     ensures are_derived { EachProducedBlockIsDerived }
     ensures are_produced { EachDerivedBlockIsProduced }
+{}
+
+/// Scripts are those that the production of a script gives.
+pub fn scripts()
+    ensures are_derived { EachProducedScriptIsDerived }
+    ensures are_produced { EachDerivedScriptIsProduced }
 {}
 
 /// A refusal stands at the first token with which no script can go on.
