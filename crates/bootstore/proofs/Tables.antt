@@ -7,7 +7,7 @@ use Rattle.std.specs.Ordering.{nat_cmp, is_eq, eq_by_cmp, match_ordering}
 use Rattle.std.specs.Cmp.{eq_by_cmp_equiv}
 use Rattle.std.proofs.lemmas.Cmp.{nat_list_cmp_total}
 use Rattle.std.specs.Cmp.Lexicographic.{slice_cmp}
-use Rattle.std.specs.Map.{lookup, set_value, keys_of}
+use Rattle.std.specs.Map.{lookup, set_value, remove_entry, keys_of}
 use Rattle.std.specs.List.{AllZip, AllByRecursion}
 use Rattle.std.specs.List.Sorted.{IsStrictlySortedBy}
 use Rattle.std.proofs.lemmas.List.Elements.{same_from_all_zip}
@@ -34,7 +34,7 @@ equal_of Equal e = refl
 equal_of Greater e = cc
 
 -- names that compare alike are one
-same_name : (p q : Bytes) → eq_by_cmp by_bytes p q ≡ true → p ≡ q
+pub same_name : (p q : Bytes) → eq_by_cmp by_bytes p q ≡ true → p ≡ q
 same_name p q e = exact p q (equal_of _ e)
 
 compares_equal : (p q : Bytes) → p ≡ q → is_eq (by_bytes p q) ≡ true
@@ -169,10 +169,31 @@ added es fs k w name same e = ap slot_variables e ∙ variables-insert_entry es 
 pub added_slots : (es fs : List Slot) (k : Vec ℕ Global) (w : Option (Vec ℕ Global)) → fs ≡ insert_entry key_cmp es k w → (q : Bytes) → is_some (lookup (is_name q) es) ≡ true → is_some (lookup (is_name q) fs) ≡ true
 added_slots es fs k w e q h = ap (λ l. is_some (lookup (is_name q) l)) e ∙ slots-insert_entry (is_name q) es k w h
 
--- a name without a place has no value, and none comes back
-pub absent : (es : List Slot) (name : Bytes) (value : Option (Vec ℕ Global)) → None ≡ lookup (is_name name) es → (is_some value ≡ true → is_some (lookup (is_name name) es) ≡ true) → slot_variables es ≡ assigned (slot_variables es) name (option_items value)
-absent es name None gone there = sym (assigned-same (slot_variables es) name None (sym (found es name None gone)))
-absent es name (Some v) gone there = absurd (let h = ap is_some gone ∙ there refl in cc)
+-- what stands at other names stays where a name is taken off
+lookup-remove_entry : (name q : Bytes) (es : List Slot) → is_eq (by_bytes q name) ≡ false → lookup (is_name q) (remove_entry (is_name name) es) ≡ lookup (is_name q) es
+lookup-remove_entry name q [] apart = refl
+lookup-remove_entry name q (e ∷ es) apart = at (lookup-remove_entry name q es apart) (is_name name e.0) refl
+  where
+    at : lookup (is_name q) (remove_entry (is_name name) es) ≡ lookup (is_name q) es → (b : Bool) → is_name name e.0 ≡ b → lookup (is_name q) (cond b es (e ∷ remove_entry (is_name name) es)) ≡ lookup (is_name q) (e ∷ es)
+    at rest true t =
+        let other : is_name q e.0 ≡ false = subst (λ n. is_eq (by_bytes q n) ≡ false) (same_name name e.0.items t) apart in
+        sym (ap (λ b. cond b (Some e.1) (lookup (is_name q) es)) other)
+    at rest false t = ap (cond (is_name q e.0) (Some e.1)) rest
+
+-- a name that is taken off has no value
+pub removed : (es fs : List Slot) (name : Bytes) → fs ≡ remove_entry (is_name name) es → lookup (is_name name) fs ≡ None → slot_variables fs ≡ assigned (slot_variables es) name None
+removed es fs name e gone = alike _ _ (λ q. get-slot_variables fs q ∙ at q (is_eq (by_bytes q name)) refl ∙ sym (get-assigned (slot_variables es) name None q))
+  where
+    at : (q : Bytes) (b : Bool) → is_eq (by_bytes q name) ≡ b → slot_value (lookup (is_name q) fs) ≡ cond b None (get (slot_variables es) q)
+    at q true t = subst (λ n. slot_value (lookup (is_name n) fs) ≡ None) (sym (same_name q name t)) (ap slot_value gone)
+    at q false t = ap (λ xs. slot_value (lookup (is_name q) xs)) e ∙ ap slot_value (lookup-remove_entry name q es t) ∙ sym (get-slot_variables es q)
+
+pub removed_slots : (es fs : List Slot) (name : Bytes) → fs ≡ remove_entry (is_name name) es → (q : Bytes) → cond (is_eq (by_bytes q name)) false (is_some (lookup (is_name q) es)) ≡ true → is_some (lookup (is_name q) fs) ≡ true
+removed_slots es fs name e q = at (is_eq (by_bytes q name)) refl
+  where
+    at : (b : Bool) → is_eq (by_bytes q name) ≡ b → cond b false (is_some (lookup (is_name q) es)) ≡ true → is_some (lookup (is_name q) fs) ≡ true
+    at true t h = cc
+    at false t h = ap (λ xs. is_some (lookup (is_name q) xs)) e ∙ ap is_some (lookup-remove_entry name q es t) ∙ h
 
 pub clone_text : (v w : Vec ℕ Global) → AllZip (λ (x y : ℕ). y ≡ x) v.items w.items → w.items ≡ v.items
 clone_text v w h = same_from_all_zip (λ x y. y ≡ x) v.items w.items h (λ x y e. e)

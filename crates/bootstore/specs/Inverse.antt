@@ -1,80 +1,126 @@
--- What takes a change of the present state back (ours).
-use Rattle.std.specs.Prelude.{◌≡◌, ℕ, ◌+◌, ◌-◌, ◌≤◌, max, List, [], ◌∷◌, take, Bool, true, false, cond, ◌&&◌, Option, Some, None, vec_len, vec_capacity}
+-- What takes a run back to its marks (ours).
+use Rattle.std.specs.Prelude.{◌≡◌, ℕ, ◌+◌, ◌≤◌, max, List, [], ◌∷◌, length, take, reverse, Bool, true, false, ◌&&◌, nat_le, nat_eq, vec_capacity}
+use Rattle.bootstore.specs.declared.inverse.Marked.{Marked}
 use Rattle.bootstore.specs.declared.inverse.Inverse.{Inverse}
-use Rattle.bootstore.specs.declared.inverse.Inverse.TheVariants.{Mark, Environment, Local, Status, Step, Text, Log, Pushed, Popped, Moved}
+use Rattle.bootstore.specs.declared.inverse.Inverse.TheVariants.{Environment, Local, Touched}
+use Rattle.bootstore.specs.declared.inverse.Kept.{Kept}
+use Rattle.bootstore.specs.declared.inverse.Kept.TheVariants.{Mark, Change}
 use Rattle.bootstore.specs.declared.present.Present.{Present}
-use Rattle.bootstore.specs.declared.table.Table.{Table}
-use Rattle.bootstore.specs.Moment.{Bytes, Moment, option_items}
-use Rattle.bootstore.specs.Record.{Record, assigned, with_frame, without_frame, with_place}
+use Rattle.bootstore.specs.Moment.{Moment, RunningFrame}
+use Rattle.bootstore.specs.Record.{Record, assigned}
 use Rattle.bootstore.specs.Present.{moment_of}
-use Rattle.bootstore.specs.Table.{has_slot}
+use Rattle.bootstore.specs.Table.{Names, has_slot, names_before, place_value, stands_among}
+
+-- so many of the frames, the outermost ones
+abbrev pub outermost : ℕ → List RunningFrame → List RunningFrame
+outermost count frames = reverse (take count (reverse frames))
 
 -- the moment before the change that the inverse takes back
 abbrev pub undone : Inverse → Moment → Moment
-undone Mark m = m
-undone (Environment name before) m = record m { environment = assigned m.environment name.items (option_items before) }
-undone (Local name before) m = record m { locals = assigned m.locals name.items (option_items before) }
-undone (Status before) m = record m { status = before }
-undone (Step before) m = record m { steps = before }
-undone (Text before) m = record m { text = take before m.text }
-undone (Log before) m = record m { log = take before m.log }
-undone Pushed m = without_frame m
-undone (Popped frame) m = with_frame frame m
-undone (Moved place) m = with_place place m
+undone (Environment name before) m = record m { environment = assigned m.environment name.items (place_value before) }
+undone (Local name before) m = record m { locals = assigned m.locals name.items (place_value before) }
+undone (Touched below frame) m = record m { frames = frame ∷ outermost below m.frames }
 
-abbrev pub is_mark : Inverse → Bool
-is_mark Mark = true
-is_mark _ = false
+-- the moment with what a mark keeps itself
+abbrev pub at_mark : Marked → Moment → Moment
+at_mark mark m = record { environment = m.environment; locals = m.locals; status = mark.status; text = take mark.text m.text; log = take mark.log m.log; steps = mark.steps; frames = outermost mark.frames m.frames }
 
--- the moments at the marks; the inverses are given from the last one on
-abbrev pub marked_before : Moment → List Inverse → List Moment
+-- the moments at the marks; what is kept is given from the last on
+abbrev pub marked_before : Moment → List Kept → List Moment
 marked_before m [] = []
-marked_before m (inverse ∷ inverses) = cond (is_mark inverse) (m ∷ marked_before m inverses) (marked_before (undone inverse m) inverses)
+marked_before m (Mark mark ∷ kept) = at_mark mark m ∷ marked_before (at_mark mark m) kept
+marked_before m (Change inverse ∷ kept) = marked_before (undone inverse m) kept
 
--- how many frames there are once the inverse was taken
-abbrev pub frames_after : Inverse → ℕ → ℕ
-frames_after Pushed frames = frames - 1
-frames_after (Popped frame) frames = frames + 1
-frames_after _ frames = frames
+-- the names that have a place in the environment once the inverse was taken, and those of shell variables
+abbrev pub names_left : Inverse → Names → Names
+names_left (Environment name before) names = names_before name.items before names
+names_left (Local name before) names = names
+names_left (Touched below frame) names = names
 
--- the most frames that there are on the way back
-abbrev pub most_frames : ℕ → List Inverse → ℕ
-most_frames frames [] = frames
-most_frames frames (inverse ∷ inverses) = max frames (most_frames (frames_after inverse frames) inverses)
+abbrev pub local_names_left : Inverse → Names → Names
+local_names_left (Environment name before) names = names
+local_names_left (Local name before) names = names_before name.items before names
+local_names_left (Touched below frame) names = names
 
--- a value that comes back finds its name in the table
-abbrev pub value_has_slot : Table → Bytes → Option Bytes → Bool
-value_has_slot table name None = true
-value_has_slot table name (Some value) = has_slot table name
+-- a value that comes back finds the place of its name
+abbrev pub finds_its_place : Names → Names → Inverse → Bool
+finds_its_place environment locals (Environment name before) = stands_among environment name.items before
+finds_its_place environment locals (Local name before) = stands_among locals name.items before
+finds_its_place environment locals (Touched below frame) = true
 
-abbrev pub has_its_slot : Present → Inverse → Bool
-has_its_slot p (Environment name before) = value_has_slot p.environment name.items (option_items before)
-has_its_slot p (Local name before) = value_has_slot p.locals name.items (option_items before)
-has_its_slot p _ = true
+-- each value finds its place when it comes back
+abbrev pub find_places : Names → Names → List Kept → Bool
+find_places environment locals [] = true
+find_places environment locals (Mark mark ∷ kept) = find_places environment locals kept
+find_places environment locals (Change inverse ∷ kept) = finds_its_place environment locals inverse && find_places (names_left inverse environment) (local_names_left inverse locals) kept
 
-abbrev pub have_slots : Present → List Inverse → Bool
-have_slots p [] = true
-have_slots p (inverse ∷ inverses) = has_its_slot p inverse && have_slots p inverses
+-- the room that the frames need to come back
+abbrev pub room_for : Inverse → ℕ
+room_for (Environment name before) = 0
+room_for (Local name before) = 0
+room_for (Touched below frame) = below + 1
 
--- the first inverse of all is a mark, if there is one
-abbrev pub begins_with_mark : List Inverse → Bool
+abbrev pub HasRoom : ℕ → Inverse → Type 0
+HasRoom capacity inverse = room_for inverse ≤ capacity
+
+abbrev pub most_room : List Kept → ℕ
+most_room [] = 0
+most_room (Mark mark ∷ kept) = most_room kept
+most_room (Change inverse ∷ kept) = max (room_for inverse) (most_room kept)
+
+-- how much of the text, of the log and of the frames the way back needs; what stands behind it is dropped
+abbrev pub text_reach : List Kept → ℕ
+text_reach [] = 0
+text_reach (Mark mark ∷ kept) = mark.text
+text_reach (Change inverse ∷ kept) = text_reach kept
+
+abbrev pub log_reach : List Kept → ℕ
+log_reach [] = 0
+log_reach (Mark mark ∷ kept) = mark.log
+log_reach (Change inverse ∷ kept) = log_reach kept
+
+abbrev pub reach_of : Inverse → ℕ → ℕ
+reach_of (Environment name before) rest = rest
+reach_of (Local name before) rest = rest
+reach_of (Touched below frame) rest = below
+
+abbrev pub frame_reach : List Kept → ℕ
+frame_reach [] = 0
+frame_reach (Mark mark ∷ kept) = mark.frames
+frame_reach (Change inverse ∷ kept) = reach_of inverse (frame_reach kept)
+
+-- what comes back leaves what the rest of the way needs
+abbrev pub leaves : Inverse → ℕ → Bool
+leaves (Environment name before) rest = true
+leaves (Local name before) rest = true
+leaves (Touched below frame) rest = nat_le rest (below + 1)
+
+abbrev pub nested : List Kept → Bool
+nested [] = true
+nested (Mark mark ∷ kept) = nat_le (text_reach kept) mark.text && nat_le (log_reach kept) mark.log && nat_eq (frame_reach kept) mark.untouched && nat_le mark.untouched mark.frames && nested kept
+nested (Change inverse ∷ kept) = leaves inverse (frame_reach kept) && nested kept
+
+-- what was kept first is a mark, if anything is kept
+abbrev pub begins_with_mark : List Kept → Bool
 begins_with_mark [] = true
-begins_with_mark (inverse ∷ []) = is_mark inverse
-begins_with_mark (inverse ∷ next ∷ inverses) = begins_with_mark (next ∷ inverses)
+begins_with_mark (Mark mark ∷ []) = true
+begins_with_mark (Change inverse ∷ []) = false
+begins_with_mark (one ∷ next ∷ kept) = begins_with_mark (next ∷ kept)
 
--- each inverse finds the room that it needs, so that it takes no memory
-pub record CanGoBack (p : Present) (inverses : List Inverse) : Type 0 where
-  pub slots : have_slots p inverses ≡ true
-  pub room : most_frames (vec_len p.frames) inverses ≤ vec_capacity p.frames
-  pub rooted : begins_with_mark inverses ≡ true
+-- the way back goes through this moment, whose first frames are untouched since the last mark
+pub record LeadsBack (m : Moment) (untouched : ℕ) (kept : List Kept) : Type 0 where
+  pub text : text_reach kept ≤ length m.text
+  pub log : log_reach kept ≤ length m.log
+  pub frames : frame_reach kept ≡ untouched
+  pub untouched_frames : untouched ≤ length m.frames
+  pub nested : nested kept ≡ true
+  pub rooted : begins_with_mark kept ≡ true
 
-abbrev pub record_with : Present → List Inverse → ℕ → Record
-record_with p inverses begun = record { present = moment_of p; marked = marked_before (moment_of p) inverses; begun = begun }
+-- the way back needs no memory: each value finds its place, and each frame finds room
+pub record CanGoBack (p : Present) (untouched : ℕ) (kept : List Kept) : Type 0 where
+  pub leads : LeadsBack (moment_of p) untouched kept
+  pub places : find_places (has_slot p.environment) (has_slot p.locals) kept ≡ true
+  pub room : most_room kept ≤ vec_capacity p.frames
 
--- the change that was just made can be taken back, and those before it after that
-pub record CanUndo (p : Present) (inverse : Inverse) (inverses : List Inverse) : Type 0 where
-  pub change : is_mark inverse ≡ false
-  pub slot : has_its_slot p inverse ≡ true
-  pub slots : have_slots p inverses ≡ true
-  pub room : most_frames (vec_len p.frames) (inverse ∷ inverses) ≤ vec_capacity p.frames
-  pub rooted : begins_with_mark inverses ≡ true
+abbrev pub record_with : Present → List Kept → ℕ → Record
+record_with p kept begun = record { present = moment_of p; marked = marked_before (moment_of p) kept; begun = begun }

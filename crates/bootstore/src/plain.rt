@@ -37,12 +37,12 @@ impl Store for Plain {
     }
 
     fn set_env(&mut self, name: &[u8], value: Option<&[u8]>) -> Result<(), StoreError> {
-        self.present.environment.put(self.alloc, name, value)?;
+        self.present.environment.set(self.alloc, name, value)?;
         Ok(())
     }
 
     fn set_local(&mut self, name: &[u8], value: &[u8]) -> Result<(), StoreError> {
-        self.present.locals.put(self.alloc, name, Some(value))?;
+        self.present.locals.set(self.alloc, name, Some(value))?;
         Ok(())
     }
 

@@ -47,7 +47,7 @@ impl Present {
         let mut present = Present::new(alloc);
         for place in 0..env.len() {
             let (name, value) = env.pair(place).unwrap();
-            present.environment.put(alloc, name, Some(value))?;
+            present.environment.set(alloc, name, Some(value))?;
         }
         Ok(present)
     }

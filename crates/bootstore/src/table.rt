@@ -1,5 +1,5 @@
-//! Variables by name. A name that was deleted keeps its place, so that its value can come back without memory.
-ghost use Rattle.std.specs.Prelude.{◌≡◌, IfOk, OnOk, OnErr, Option, None, Some, option_map, IsSome, true};
+//! Variables by name. The place of a name can be kept empty, so that its value can come back without memory.
+ghost use Rattle.std.specs.Prelude.{◌≡◌, IfOk, OnOk, OnErr, Option, None, Some, option_map, is_some, true};
 ghost use Rattle.bootstore.specs.Moment.{option_bytes, option_items};
 
 use std::alloc::{AllocError, Global};
@@ -18,7 +18,7 @@ impl Table {
     ghost use Rattle.std.specs.FinMap.{get, empty, entries};
     ghost use Rattle.bootstore.specs.Moment.{option_bytes, option_items};
     ghost use Rattle.bootstore.specs.Record.{assigned};
-    ghost use Rattle.bootstore.specs.Table.{variables_of, has_slot, KeepsSlots};
+    ghost use Rattle.bootstore.specs.Table.{variables_of, has_slot, KeepsSlots, AreWithin, without, names_before, place_value, stands_among};
 
     /// A table without a place.
     pub fn new(alloc: Global) -> Self
@@ -58,34 +58,64 @@ impl Table {
         })
     }
 
-    /// Gives a name a value, or none. It answers the value that the name had.
+    /// Gives a name a value, or takes its place off.
+    pub fn set(
+        &mut self,
+        alloc: Global,
+        name: &[u8],
+        value: Option<&[u8]>,
+    ) -> Result<(), AllocError>
+        ensures ok { OnOk result (variables_of self.new ≡ assigned (variables_of self.old) name.now (option_bytes value.entry)) }
+        ensures err { OnErr result (variables_of self.new ≡ variables_of self.old) }
+    {
+        if value.is_some() {
+            self.put(alloc, name, value)?;
+        } else {
+            self.remove(name);
+        }
+        Ok(())
+    }
+
+    /// Gives a name a value, or none and a place for one. It answers what stood at its place, if it had a place.
     pub fn put(
         &mut self,
         alloc: Global,
         name: &[u8],
         value: Option<&[u8]>,
-    ) -> Result<Option<Vec<u8>>, AllocError>
+    ) -> Result<Option<Option<Vec<u8>>>, AllocError>
         ensures ok { OnOk result (variables_of self.new ≡ assigned (variables_of self.old) name.now (option_bytes value.entry)) }
-        ensures before { IfOk result (λ before. option_items before ≡ get (variables_of self.old) name.now) }
-        ensures slot { IfOk result (λ before. IsSome before → has_slot self.new name.now ≡ true) }
+        ensures before { IfOk result (λ before. place_value before ≡ get (variables_of self.old) name.now) }
+        ensures place { IfOk result (λ before. has_slot self.old name.now ≡ is_some before) }
         ensures slots { KeepsSlots self.old self.new }
         ensures err { OnErr result (variables_of self.new ≡ variables_of self.old) }
     {
         let value = copied(alloc, value)?;
         if let Some(slot) = self.slots.get_mut(name) {
-            return Ok(mem::replace(slot, value));
+            return Ok(Some(mem::replace(slot, value)));
         }
         let name = Vec::from_slice(alloc, name)?;
         self.slots.insert(name, value)?;
         Ok(None)
     }
 
-    /// Gives a name a value again, or none. It takes no memory, since a name that had a value has a place.
-    pub fn restore(&mut self, name: &[u8], value: Option<Vec<u8>>)
-        requires { IsSome value → has_slot self.old name.now ≡ true }
-        ensures restored { variables_of self.new ≡ assigned (variables_of self.old) name.now (option_items value) }
-        ensures slots { KeepsSlots self.old self.new }
+    /// Takes the place of a name off, if it has one.
+    pub fn remove(&mut self, name: &[u8])
+        ensures removed { variables_of self.new ≡ assigned (variables_of self.old) name.now None }
+        ensures places { AreWithin (without name.now (has_slot self.old)) (has_slot self.new) }
     {
+        self.slots.remove(name);
+    }
+
+    /// Gives the place of a name what stood there before, or takes it off where there was none. It takes no memory.
+    pub fn restore(&mut self, name: &[u8], before: Option<Option<Vec<u8>>>)
+        requires { stands_among (has_slot self.old) name.now before ≡ true }
+        ensures restored { variables_of self.new ≡ assigned (variables_of self.old) name.now (place_value before) }
+        ensures places { AreWithin (names_before name.now before (has_slot self.old)) (has_slot self.new) }
+    {
+        let Some(value) = before else {
+            self.remove(name);
+            return;
+        };
         if let Some(slot) = self.slots.get_mut(name) {
             *slot = value;
         }

@@ -1,9 +1,9 @@
-//! A store that keeps the inverses of its changes.
-ghost use Rattle.std.specs.Prelude.{◌≡◌, ◌+◌, ◌<◌, ◌≤◌, ◌^◌, true, OnOk, OnErr, Option, None, Some, option_map, slice_get, reverse, vec_len, vec_capacity, ◌∷◌};
+//! A store that keeps its marks, and the inverses of its changes behind them.
+ghost use Rattle.std.specs.Prelude.{reverse};
 ghost use Rattle.bootstore.specs.Inverse.{CanGoBack};
 
 use crate::frame::{At, Frame};
-use crate::inverse::{Inverse, record, undo, undo_to_mark};
+use crate::inverse::{Inverse, Kept, Marked, undo_to_mark};
 use crate::log::LogEntry;
 use crate::present::Present;
 use crate::store::{Store, StoreError};
@@ -11,18 +11,41 @@ use crate::table::Variables;
 use envtools::Env;
 use std::alloc::Global;
 
-/// The present state, and what takes the changes since the first mark back.
+/// The present state, and what takes the changes since the first mark back. While nothing is marked nothing is kept.
 #[derive(Drop)]
 pub struct Trail {
     alloc: Global,
     present: Present,
-    inverses: Vec<Inverse>,
+    kept: Vec<Kept>,
+    /// How many frames, from the outermost on, have stayed as they were since the last mark.
+    untouched: usize,
     begun: u64,
-    ghost can: { CanGoBack present (reverse inverses.items) },
+    ghost can: { CanGoBack present untouched (reverse kept.items) },
+}
+
+impl Trail {
+    ghost use Rattle.std.specs.Prelude.{◌≡◌, ◌<◌, ◌⊎◌, OnOk, length};
+    ghost use Rattle.bootstore.specs.Trail.{record_of_trail};
+
+    /// Keeps the innermost frame as it is, where it has stayed so since the last mark.
+    fn keep_top(&mut self) -> Result<(), StoreError>
+        ensures record { record_of_trail self.new ≡ record_of_trail self.old }
+        ensures touched { OnOk result ((self.new.untouched < length self.new.present.frames.items) ⊎ (length self.new.present.frames.items ≡ 0)) }
+    {
+        let count = self.present.frames.len();
+        if self.untouched < count || count == 0 {
+            return Ok(());
+        }
+        self.kept.reserve(1)?;
+        let frame = self.present.frames[count - 1].copy()?;
+        let touched = Inverse::Touched(count - 1, frame);
+        self.kept.push_reserved(Kept::Change(touched));
+        self.untouched = count - 1;
+        Ok(())
+    }
 }
 
 impl Store for Trail {
-    ghost use Rattle.std.specs.Prelude.{◌≡◌, ◌+◌, ◌<◌, ◌≤◌, ◌^◌, true, OnOk, OnErr, Option, None, Some, option_map, slice_get, reverse, vec_len, vec_capacity, ◌∷◌};
     ghost use Rattle.bootstore.specs.Trail.{record_of_trail};
 
     ghost record_of = { record_of_trail };
@@ -31,106 +54,103 @@ impl Store for Trail {
         Trail {
             alloc,
             present: Present::new(alloc),
-            inverses: Vec::new(alloc),
+            kept: Vec::new(alloc),
+            untouched: 0,
             begun: 0,
         }
     }
 
     fn start(&mut self, env: &Env) -> Result<(), StoreError> {
         let present = Present::at_start(self.alloc, env)?;
-        self.inverses.clear();
+        self.kept.clear();
+        self.untouched = 0;
         self.present = present;
         Ok(())
     }
 
     fn set_env(&mut self, name: &[u8], value: Option<&[u8]>) -> Result<(), StoreError> {
-        let inverse_name = Vec::from_slice(self.alloc, name)?;
+        if self.kept.is_empty() {
+            self.present.environment.set(self.alloc, name, value)?;
+            return Ok(());
+        }
+        if value.is_none() && self.present.environment.get(name).is_none() {
+            return Ok(());
+        }
+        self.kept.reserve(1)?;
+        let key = Vec::from_slice(self.alloc, name)?;
         let before = self.present.environment.put(self.alloc, name, value)?;
-        let inverse = Inverse::Environment(inverse_name, before);
-        record(&mut self.present, &mut self.inverses, inverse)?;
+        let inverse = Inverse::Environment(key, before);
+        self.kept.push_reserved(Kept::Change(inverse));
         Ok(())
     }
 
     fn set_local(&mut self, name: &[u8], value: &[u8]) -> Result<(), StoreError> {
-        let inverse_name = Vec::from_slice(self.alloc, name)?;
+        if self.kept.is_empty() {
+            self.present.locals.set(self.alloc, name, Some(value))?;
+            return Ok(());
+        }
+        self.kept.reserve(1)?;
+        let key = Vec::from_slice(self.alloc, name)?;
         let before = self.present.locals.put(self.alloc, name, Some(value))?;
-        let inverse = Inverse::Local(inverse_name, before);
-        record(&mut self.present, &mut self.inverses, inverse)?;
+        let inverse = Inverse::Local(key, before);
+        self.kept.push_reserved(Kept::Change(inverse));
         Ok(())
     }
 
     fn echo(&mut self, written: &[u8]) -> Result<(), StoreError> {
-        let before = self.present.text.len();
         self.present.text.extend_from_slice(written)?;
-        record(&mut self.present, &mut self.inverses, Inverse::Text(before))?;
         Ok(())
     }
 
     fn device(&mut self, entry: LogEntry) -> Result<(), StoreError> {
-        let before = self.present.log.len();
         self.present.log.push(entry)?;
-        record(&mut self.present, &mut self.inverses, Inverse::Log(before))?;
         Ok(())
     }
 
     fn set_status(&mut self, status: u8) -> Result<(), StoreError> {
-        let before = self.present.status;
         self.present.status = status;
-        record(
-            &mut self.present,
-            &mut self.inverses,
-            Inverse::Status(before),
-        )?;
         Ok(())
     }
 
     fn count_step(&mut self) -> Result<(), StoreError> {
-        let before = self.present.steps;
-        self.present.steps = before + 1;
-        record(&mut self.present, &mut self.inverses, Inverse::Step(before))?;
+        self.present.steps += 1;
         self.begun += 1;
         Ok(())
     }
 
     fn push(&mut self, frame: Frame) -> Result<(), StoreError> {
         self.present.frames.push(frame)?;
-        record(&mut self.present, &mut self.inverses, Inverse::Pushed)?;
         Ok(())
     }
 
     fn advance(&mut self, place: At) -> Result<(), StoreError> {
-        let Some(frame) = self.present.top() else {
-            return Ok(());
-        };
-        let before = frame.at();
+        self.keep_top()?;
         self.present.advance(place);
-        record(
-            &mut self.present,
-            &mut self.inverses,
-            Inverse::Moved(before),
-        )?;
         Ok(())
     }
 
     fn pop(&mut self) -> Result<(), StoreError> {
-        let Some(frame) = self.present.frames.pop() else {
-            return Ok(());
-        };
-        record(
-            &mut self.present,
-            &mut self.inverses,
-            Inverse::Popped(frame),
-        )?;
+        self.keep_top()?;
+        self.present.frames.pop();
         Ok(())
     }
 
     fn mark(&mut self) -> Result<(), StoreError> {
-        self.inverses.push(Inverse::Mark)?;
+        let marked = Marked {
+            status: self.present.status,
+            steps: self.present.steps,
+            text: self.present.text.len(),
+            log: self.present.log.len(),
+            frames: self.present.frames.len(),
+            untouched: self.untouched,
+        };
+        self.kept.push(Kept::Mark(marked))?;
+        self.untouched = marked.frames;
         Ok(())
     }
 
     fn back(&mut self) {
-        undo_to_mark(&mut self.present, &mut self.inverses);
+        self.untouched = undo_to_mark(&mut self.present, &mut self.kept);
     }
 
     fn get_env(&self, name: &[u8]) -> Option<&[u8]> {

@@ -10,6 +10,6 @@ loop-place-preserved c =
     let pair = c.unwrap.result in
     let there : slice_get c.args.env.now c.loop-place.place ≡ Some (pair.0.now, pair.1.now) = let e = c.pair.ensures in rw c.unwrap.ensures at (sym e) in
     record {
-      environment = set_next _ _ _ c.args.env.now c.loop-place.place pair.0.now pair.1.now there c.in_ok-put.ensures.ok c.loop-place.invariant.environment;
-      others = ap (λ (m : Moment). record m { environment = variables_of c.put.new.self }) c.loop-place.invariant.others;
+      environment = set_next _ _ _ c.args.env.now c.loop-place.place pair.0.now pair.1.now there c.in_ok-set.ensures.ok c.loop-place.invariant.environment;
+      others = ap (λ (m : Moment). record m { environment = variables_of c.set.new.self }) c.loop-place.invariant.others;
     }
