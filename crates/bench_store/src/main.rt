@@ -1,9 +1,13 @@
 //! Prints on the error output how long 32 marks over an environment of 1,000 variables take, and how much memory,
-//! for each store. The output is the same each time.
+//! for each store; and the same of rows of changes behind marks, at three sizes each. The output is the same each
+//! time.
 #![tactic(auto)]
+
+mod shapes;
 
 use bootstore::{Plain, Store, StoreError, Trail};
 use envtools::{Env, EnvError};
+use shapes::{Shape, run_turns};
 use std::alloc::Global;
 use std::time::Instant;
 use std::{fs, io};
@@ -65,8 +69,55 @@ fn measure<S: Store>(rt: &HostRuntime, name: &str, mut store: S) -> io::Result<(
     )
 }
 
+fn count_variables<S: Store>(store: &S) -> u64 {
+    let mut count: u64 = 0;
+    for _ in store.variables() {
+        count = count.saturating_add(1);
+    }
+    count
+}
+
+/// Makes a row of changes, goes back and lists the variables, with the time of each and the memory before the way back.
+fn measure_row<S: Store>(
+    rt: &HostRuntime,
+    name: &str,
+    mut store: S,
+    shape: Shape,
+    turns: u32,
+) -> io::Result<()> {
+    let pages_before = held_pages(rt)?;
+    let start = Instant::now(rt)?;
+    let made = run_turns(rt.alloc(), &mut store, shape, turns);
+    let time = start.elapsed(rt)?.as_micros();
+    let pages = held_pages(rt)?.saturating_sub(pages_before);
+    let start_of_return = Instant::now(rt)?;
+    store.back();
+    let time_back = start_of_return.elapsed(rt)?.as_micros();
+    let start_of_list = Instant::now(rt)?;
+    let left = count_variables(&store);
+    let time_list = start_of_list.elapsed(rt)?.as_micros();
+    if made.is_err() {
+        return eprintln!(rt; "{name}: no memory");
+    }
+    eprintln!(rt;
+        "{name}: {turns} {shape:?} in {time} us and {pages} pages of memory, back in {time_back} us, {left} variables in {time_list} us"
+    )
+}
+
+/// Makes rows of changes of three sizes on a store of each kind.
+fn measure_rows(rt: &HostRuntime, shape: Shape, sizes: [u32; 3]) -> io::Result<()> {
+    for turns in sizes {
+        measure_row(rt, "Plain", Plain::new(rt.alloc()), shape, turns)?;
+        measure_row(rt, "Trail", Trail::new(rt.alloc()), shape, turns)?;
+    }
+    Ok(())
+}
+
 fn main(rt: HostRuntime) -> io::Result<()> {
     measure(&rt, "Plain", Plain::new(rt.alloc()))?;
     measure(&rt, "Trail", Trail::new(rt.alloc()))?;
+    measure_rows(&rt, Shape::NewNames, [1_000, 4_000, 16_000])?;
+    measure_rows(&rt, Shape::Turns, [10_000, 100_000, 1_000_000])?;
+    measure_rows(&rt, Shape::SameNames, [10_000, 100_000, 1_000_000])?;
     println!(rt; "measured")
 }
