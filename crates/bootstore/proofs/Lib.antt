@@ -1,3 +1,4 @@
 mod Rows
 pub mod Tables
 pub mod Trails
+pub mod Onces

@@ -9,6 +9,7 @@ use Rattle.std.proofs.lemmas.Bool.{leb-true, le-leb, eqb-true, eq-eqb}
 use Rattle.std.specs.Borrow.{Bor}
 use Rattle.std.specs.FinMap.{get}
 use Rattle.bootstore.specs.declared.table.Table.{Table}
+use Rattle.bootstore.specs.declared.table.Place.{Place}
 use Rattle.bootstore.specs.declared.inverse.Marked.{Marked}
 use Rattle.bootstore.specs.declared.inverse.Inverse.{Inverse}
 use Rattle.bootstore.specs.declared.inverse.Inverse.TheVariants.{Environment, Local, Touched}
@@ -19,7 +20,7 @@ use Rattle.bootstore.specs.declared.frame.At.{At}
 use Rattle.bootstore.specs.Moment.{Bytes, Variables, Moment, RunningFrame, LoggedCommand, option_bytes}
 use Rattle.bootstore.specs.Record.{Record, assigned, moved, without_first, with_place, without_frame, with_frame, with_echo, with_device}
 use Rattle.bootstore.specs.Present.{moment_of}
-use Rattle.bootstore.specs.Table.{Names, AreWithin, PlaceBefore, has_slot, names_before, stands_among, place_value}
+use Rattle.bootstore.specs.Table.{Names, AreWithin, has_slot, names_before, stands_among, place_value}
 use Rattle.bootstore.specs.Inverse.{outermost, undone, at_mark, marked_before, names_left, local_names_left, finds_its_place, find_places, room_for, text_reach, log_reach, frame_reach, leaves, nested, begins_with_mark, LeadsBack, CanGoBack}
 use Rattle.bootstore.proofs.Tables.{assigned-again, assigned-same, same_name}
 
@@ -130,7 +131,7 @@ module _ (m : Moment) (u : ℕ) (kept : List Kept) (leads : LeadsBack m u kept) 
   leads_through n text log frames = record { text = omega (arith, leads.text); log = omega (arith, leads.log); frames = leads.frames; untouched_frames = frames; nested = leads.nested; rooted = leads.rooted }
 
 -- Names: more places do no harm.
-before_more : (few more : Names) → AreWithin few more → (name : Bytes) (before : PlaceBefore) → AreWithin (names_before name before few) (names_before name before more)
+before_more : (few more : Names) → AreWithin few more → (name : Bytes) (before : Option Place) → AreWithin (names_before name before few) (names_before name before more)
 before_more few more h name None = λ other. at (is_eq (slice_cmp nat_cmp other name)) other
   where
     at : (b : Bool) (other : Bytes) → cond b false (few other) ≡ true → cond b false (more other) ≡ true
@@ -138,7 +139,7 @@ before_more few more h name None = λ other. at (is_eq (slice_cmp nat_cmp other 
     at false other k = h other k
 before_more few more h name (Some value) = h
 
-stands_more : (few more : Names) → AreWithin few more → (name : Bytes) (before : PlaceBefore) → stands_among few name before ≡ true → stands_among more name before ≡ true
+stands_more : (few more : Names) → AreWithin few more → (name : Bytes) (before : Option Place) → stands_among few name before ≡ true → stands_among more name before ≡ true
 stands_more few more h name None k = refl
 stands_more few more h name (Some value) k = h name k
 
@@ -175,11 +176,11 @@ can_after p q u i kept can e environment locals capacity = record {
   room = omega (arith, can.room);
 }
 
-leads_at_mark : (m : Moment) (u : ℕ) (mark : Marked) (kept : List Kept) → LeadsBack m u (Mark mark ∷ kept) → LeadsBack (at_mark mark m) mark.untouched kept
+leads_at_mark : (m : Moment) (u : ℕ) (mark : Marked) (kept : List Kept) → LeadsBack m u (Mark mark ∷ kept) → LeadsBack (at_mark mark m) mark.before.untouched kept
 leads_at_mark m u mark kept h =
     let last = both _ (nested kept) h.nested in
-    let frames = both _ (leb mark.untouched mark.frames) last.0 in
-    let untouched = both _ (eqb (frame_reach kept) mark.untouched) frames.0 in
+    let frames = both _ (leb mark.before.untouched mark.frames) last.0 in
+    let untouched = both _ (eqb (frame_reach kept) mark.before.untouched) frames.0 in
     let lengths = both (leb (text_reach kept) mark.text) (leb (log_reach kept) mark.log) untouched.0 in
     record {
       text = omega (arith, leb-true _ _ lengths.0, length-take-le mark.text m.text h.text);
@@ -190,9 +191,9 @@ leads_at_mark m u mark kept h =
       rooted = rooted_rest (Mark mark) kept h.rooted;
     }
 
-pub can_at_mark : (p q : Present) (u : ℕ) (mark : Marked) (kept : List Kept) → CanGoBack p u (Mark mark ∷ kept) → moment_of q ≡ at_mark mark (moment_of p) → q.environment ≡ p.environment → q.locals ≡ p.locals → vec_capacity q.frames ≡ vec_capacity p.frames → CanGoBack q mark.untouched kept
+pub can_at_mark : (p q : Present) (u : ℕ) (mark : Marked) (kept : List Kept) → CanGoBack p u (Mark mark ∷ kept) → moment_of q ≡ at_mark mark (moment_of p) → q.environment ≡ p.environment → q.locals ≡ p.locals → vec_capacity q.frames ≡ vec_capacity p.frames → CanGoBack q mark.before.untouched kept
 can_at_mark p q u mark kept can e environment locals capacity = record {
-  leads = subst (λ n. LeadsBack n mark.untouched kept) (sym e) (leads_at_mark (moment_of p) u mark kept can.leads);
+  leads = subst (λ n. LeadsBack n mark.before.untouched kept) (sym e) (leads_at_mark (moment_of p) u mark kept can.leads);
   places = ap (λ t. find_places (has_slot t) (has_slot q.locals) kept) environment ∙ ap (λ t. find_places (has_slot p.environment) (has_slot t) kept) locals ∙ can.places;
   room = omega (arith, can.room);
 }
@@ -205,14 +206,14 @@ at_mark-now m mark status steps text log frames =
     let same_frames = outermost-all mark.frames m.frames frames in
     λ i. record { environment = m.environment; locals = m.locals; status = status i; text = same_text i; log = same_log i; steps = steps i; frames = same_frames i }
 
-pub leads_from_mark : (m : Moment) (mark : Marked) (kept : List Kept) → LeadsBack m mark.untouched kept → mark.text ≡ length m.text → mark.log ≡ length m.log → mark.frames ≡ length m.frames → LeadsBack m mark.frames (Mark mark ∷ kept)
+pub leads_from_mark : (m : Moment) (mark : Marked) (kept : List Kept) → LeadsBack m mark.before.untouched kept → mark.text ≡ length m.text → mark.log ≡ length m.log → mark.frames ≡ length m.frames → LeadsBack m mark.frames (Mark mark ∷ kept)
 leads_from_mark m mark kept h text log frames =
     let a = leb (text_reach kept) mark.text in
     let b = leb (log_reach kept) mark.log in
-    let c = eqb (frame_reach kept) mark.untouched in
-    let d = leb mark.untouched mark.frames in
+    let c = eqb (frame_reach kept) mark.before.untouched in
+    let d = leb mark.before.untouched mark.frames in
     let lengths = and_true a b (le-leb (text_reach kept) mark.text (omega (arith, h.text))) (le-leb (log_reach kept) mark.log (omega (arith, h.log))) in
-    let untouched = and_true (a && b && c) d (and_true (a && b) c lengths (eq-eqb (frame_reach kept) mark.untouched h.frames)) (le-leb mark.untouched mark.frames (omega (arith, h.untouched_frames))) in
+    let untouched = and_true (a && b && c) d (and_true (a && b) c lengths (eq-eqb (frame_reach kept) mark.before.untouched h.frames)) (le-leb mark.before.untouched mark.frames (omega (arith, h.untouched_frames))) in
     record {
       text = omega arith;
       log = omega arith;
@@ -259,7 +260,7 @@ popped xs ys n count e = ap reverse (e ∙ ap (take (n - 1)) (sym (reverse-rever
     at (f ∷ fs) k = outermost-cons (n - 1) f fs (omega arith) ∙ outermost-all (n - 1) fs (omega arith)
 
 -- Variables: what is kept of a change finds the place, and the changes before it do too.
-within_put : (old new : Names) (name key : Bytes) (before : PlaceBefore) → AreWithin old new → old name ≡ is_some before → key ≡ name → AreWithin old (names_before key before new)
+within_put : (old new : Names) (name key : Bytes) (before : Option Place) → AreWithin old new → old name ≡ is_some before → key ≡ name → AreWithin old (names_before key before new)
 within_put old new name key (Some value) more there same = more
 within_put old new name key None more there same = λ other h. at other h (is_eq (slice_cmp nat_cmp other key)) refl
   where
@@ -267,7 +268,7 @@ within_put old new name key None more there same = λ other h. at other h (is_eq
     at other h true t = absurd (let one = ap old (same_name other key t ∙ same) in cc)
     at other h false t = more other h
 
-stands_put : (old new : Names) (name key : Bytes) (before : PlaceBefore) → AreWithin old new → old name ≡ is_some before → key ≡ name → stands_among new key before ≡ true
+stands_put : (old new : Names) (name key : Bytes) (before : Option Place) → AreWithin old new → old name ≡ is_some before → key ≡ name → stands_among new key before ≡ true
 stands_put old new name key (Some value) more there same = ap new same ∙ more name there
 stands_put old new name key None more there same = refl
 
@@ -286,7 +287,7 @@ module _ (p : Present) (t : Table) (u : ℕ) (kept : List Kept) (can : CanGoBack
     room = can.room;
   }
 
-  module _ (name : Bytes) (key : Vec ℕ Global) (before : PlaceBefore) (some : kept ≡ [] → ⊥) (same : key.items ≡ name) where
+  module _ (name : Bytes) (key : Vec ℕ Global) (before : Option Place) (some : kept ≡ [] → ⊥) (same : key.items ≡ name) where
     pub can_kept_environment : AreWithin (has_slot p.environment) (has_slot t) → has_slot p.environment name ≡ is_some before → CanGoBack (record p { environment = t }) u (Change (Environment key before) ∷ kept)
     can_kept_environment more there = record {
       leads = record { text = can.leads.text; log = can.leads.log; frames = can.leads.frames; untouched_frames = can.leads.untouched_frames; nested = can.leads.nested; rooted = rooted_more (Change (Environment key before)) kept some can.leads.rooted };

@@ -1,15 +1,15 @@
 -- What takes a run back to its marks (ours).
-use Rattle.std.specs.Prelude.{◌≡◌, ℕ, ◌+◌, ◌≤◌, max, List, [], ◌∷◌, length, take, reverse, Bool, true, false, ◌&&◌, nat_le, nat_eq, vec_capacity}
+use Rattle.std.specs.Prelude.{◌≡◌, ℕ, ◌+◌, ◌≤◌, max, List, [], ◌∷◌, length, take, reverse, Bool, true, false, cond, ◌&&◌, ◌||◌, nat_le, nat_eq, vec_capacity}
 use Rattle.bootstore.specs.declared.inverse.Marked.{Marked}
 use Rattle.bootstore.specs.declared.inverse.Inverse.{Inverse}
 use Rattle.bootstore.specs.declared.inverse.Inverse.TheVariants.{Environment, Local, Touched}
 use Rattle.bootstore.specs.declared.inverse.Kept.{Kept}
 use Rattle.bootstore.specs.declared.inverse.Kept.TheVariants.{Mark, Change}
 use Rattle.bootstore.specs.declared.present.Present.{Present}
-use Rattle.bootstore.specs.Moment.{Moment, RunningFrame}
+use Rattle.bootstore.specs.Moment.{Bytes, Moment, RunningFrame}
 use Rattle.bootstore.specs.Record.{Record, assigned}
 use Rattle.bootstore.specs.Present.{moment_of}
-use Rattle.bootstore.specs.Table.{Names, has_slot, names_before, place_value, stands_among}
+use Rattle.bootstore.specs.Table.{Names, has_slot, names_before, place_value, stands_among, last_kept, kept_of, is_name}
 
 -- so many of the frames, the outermost ones
 abbrev pub outermost : ℕ → List RunningFrame → List RunningFrame
@@ -97,7 +97,7 @@ leaves (Touched below frame) rest = nat_le rest (below + 1)
 
 abbrev pub nested : List Kept → Bool
 nested [] = true
-nested (Mark mark ∷ kept) = nat_le (text_reach kept) mark.text && nat_le (log_reach kept) mark.log && nat_eq (frame_reach kept) mark.untouched && nat_le mark.untouched mark.frames && nested kept
+nested (Mark mark ∷ kept) = nat_le (text_reach kept) mark.text && nat_le (log_reach kept) mark.log && nat_eq (frame_reach kept) mark.before.untouched && nat_le mark.before.untouched mark.frames && nested kept
 nested (Change inverse ∷ kept) = leaves inverse (frame_reach kept) && nested kept
 
 -- what was kept first is a mark, if anything is kept
@@ -124,3 +124,68 @@ pub record CanGoBack (p : Present) (untouched : ℕ) (kept : List Kept) : Type 0
 
 abbrev pub record_with : Present → List Kept → ℕ → Record
 record_with p kept begun = record { present = moment_of p; marked = marked_before (moment_of p) kept; begun = begun }
+
+-- how many things were kept of each name once the inverse was taken, and of each shell variable
+abbrev pub last_left : Inverse → (Bytes → ℕ) → Bytes → ℕ
+last_left (Environment name before) last other = cond (is_name other name) (kept_of before) (last other)
+last_left (Local name before) last other = last other
+last_left (Touched below frame) last other = last other
+
+abbrev pub local_last_left : Inverse → (Bytes → ℕ) → Bytes → ℕ
+local_last_left (Environment name before) last other = last other
+local_last_left (Local name before) last other = cond (is_name other name) (kept_of before) (last other)
+local_last_left (Touched below frame) last other = last other
+
+-- whether the inverse is one of this environment variable, or of this shell variable
+abbrev pub is_of_environment : Bytes → Inverse → Bool
+is_of_environment name (Environment key before) = is_name name key
+is_of_environment name (Local key before) = false
+is_of_environment name (Touched below frame) = false
+
+abbrev pub is_of_local : Bytes → Inverse → Bool
+is_of_local name (Environment key before) = false
+is_of_local name (Local key before) = is_name name key
+is_of_local name (Touched below frame) = false
+
+-- whether the thing that was kept as the count-th, counted from the first on, is such an inverse
+abbrev pub stands_as : (Inverse → Bool) → ℕ → List Kept → Bool
+stands_as test count [] = false
+stands_as test count (Mark mark ∷ kept) = stands_as test count kept
+stands_as test count (Change inverse ∷ kept) = cond (nat_eq count (length kept + 1)) (test inverse) (stands_as test count kept)
+
+-- 0 says that none is
+abbrev pub is_kept : (Inverse → Bool) → ℕ → List Kept → Bool
+is_kept test count kept = nat_eq count 0 || stands_as test count kept
+
+abbrev pub EachIsKept : (Bytes → Inverse → Bool) → (Bytes → ℕ) → List Kept → Type 0
+EachIsKept test last kept = (name : Bytes) → is_kept (test name) (last name) kept ≡ true
+
+-- what comes back tells rightly what is kept of it
+abbrev pub tells_kept : Inverse → List Kept → Bool
+tells_kept (Environment key before) kept = is_kept (is_of_environment key.items) (kept_of before) kept
+tells_kept (Local key before) kept = is_kept (is_of_local key.items) (kept_of before) kept
+tells_kept (Touched below frame) kept = true
+
+abbrev pub all_tell_kept : List Kept → Bool
+all_tell_kept [] = true
+all_tell_kept (Mark mark ∷ kept) = all_tell_kept kept
+all_tell_kept (Change inverse ∷ kept) = tells_kept inverse kept && all_tell_kept kept
+
+-- how many things were kept up to the last mark, with it
+abbrev pub up_to_mark : List Kept → ℕ
+up_to_mark [] = 0
+up_to_mark (Mark mark ∷ kept) = length kept + 1
+up_to_mark (Change inverse ∷ kept) = up_to_mark kept
+
+abbrev pub marks_tell : List Kept → Bool
+marks_tell [] = true
+marks_tell (Mark mark ∷ kept) = nat_eq (up_to_mark kept) mark.before.kept && marks_tell kept
+marks_tell (Change inverse ∷ kept) = marks_tell kept
+
+-- a place that tells of an inverse since the last mark has one, so that another change of it needs none
+pub record KeepsOnce (p : Present) (up_to : ℕ) (kept : List Kept) : Type 0 where
+  pub environment : EachIsKept is_of_environment (last_kept p.environment) kept
+  pub locals : EachIsKept is_of_local (last_kept p.locals) kept
+  pub before : all_tell_kept kept ≡ true
+  pub last_mark : up_to_mark kept ≡ up_to
+  pub marks : marks_tell kept ≡ true

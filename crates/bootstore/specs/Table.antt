@@ -7,6 +7,7 @@ use Rattle.std.specs.Map.{lookup}
 use Rattle.std.specs.declared.alloc.Global.{Global}
 use Rattle.std.specs.declared.vec.Vec.{Vec}
 use Rattle.bootstore.specs.declared.table.Table.{Table}
+use Rattle.bootstore.specs.declared.table.Place.{Place}
 use Rattle.bootstore.specs.Moment.{Bytes, Variables, option_items}
 use Rattle.bootstore.specs.Record.{assigned}
 use Rattle.bootstore.specs.Slots.{Slot}
@@ -14,7 +15,7 @@ use Rattle.bootstore.specs.Slots.{Slot}
 -- the variables that have a value
 abbrev pub slot_variables : List Slot → Variables
 slot_variables [] = empty
-slot_variables (slot ∷ slots) = assigned (slot_variables slots) slot.0.items (option_items slot.1)
+slot_variables (slot ∷ slots) = assigned (slot_variables slots) slot.0.items (option_items slot.1.value)
 
 abbrev pub variables_of : Table → Variables
 variables_of table = slot_variables table.slots.entries
@@ -23,9 +24,30 @@ variables_of table = slot_variables table.slots.entries
 abbrev pub is_name : Bytes → Vec ℕ Global → Bool
 is_name name key = is_eq (slice_cmp nat_cmp name key.items)
 
+-- what stands at the place of a name, if it has one
+abbrev pub place_at : Table → Bytes → Option Place
+place_at table name = lookup (is_name name) table.slots.entries
+
 -- whether the name has a place, with a value or empty
 abbrev pub has_slot : Table → Bytes → Bool
-has_slot table name = is_some (lookup (is_name name) table.slots.entries)
+has_slot table name = is_some (place_at table name)
+
+-- the value of a name that has this place, or none
+abbrev pub place_value : Option Place → Option Bytes
+place_value None = None
+place_value (Some place) = option_items place.value
+
+-- how many things were kept when the last change of this place was, or 0
+abbrev pub kept_of : Option Place → ℕ
+kept_of None = 0
+kept_of (Some place) = place.kept_at
+
+abbrev pub last_kept : Table → Bytes → ℕ
+last_kept table name = kept_of (place_at table name)
+
+-- nothing is kept of any name
+abbrev pub KeepsNothing : Table → Type 0
+KeepsNothing table = (name : Bytes) → last_kept table name ≡ 0
 
 -- some of all names
 abbrev pub Names : Type 0
@@ -34,6 +56,13 @@ Names = Bytes → Bool
 abbrev pub AreWithin : Names → Names → Type 0
 AreWithin few more = (name : Bytes) → few name ≡ true → more name ≡ true
 
+abbrev pub AreEqual : {A : Type 0} → (Bytes → A) → (Bytes → A) → Type 0
+AreEqual old new = (name : Bytes) → new name ≡ old name
+
+-- as before but at the name
+abbrev pub IsWith : {A : Type 0} → (Bytes → A) → Bytes → A → (Bytes → A) → Type 0
+IsWith old name here new = (other : Bytes) → new other ≡ cond (is_eq (slice_cmp nat_cmp other name)) here (old other)
+
 -- each name that had a place has one
 abbrev pub KeepsSlots : Table → Table → Type 0
 KeepsSlots old new = AreWithin (has_slot old) (has_slot new)
@@ -41,21 +70,12 @@ KeepsSlots old new = AreWithin (has_slot old) (has_slot new)
 abbrev pub without : Bytes → Names → Names
 without name names other = cond (is_eq (slice_cmp nat_cmp other name)) false (names other)
 
--- what stood at a place, if the name had one
-abbrev pub PlaceBefore : Type 0
-PlaceBefore = Option (Option (Vec ℕ Global))
-
--- the value of a name that had this place, or none
-abbrev pub place_value : PlaceBefore → Option Bytes
-place_value None = None
-place_value (Some value) = option_items value
-
 -- the names that have a place once the name has the place that it had, or none
-abbrev pub names_before : Bytes → PlaceBefore → Names → Names
+abbrev pub names_before : Bytes → Option Place → Names → Names
 names_before name None names = without name names
-names_before name (Some value) names = names
+names_before name (Some place) names = names
 
 -- a name that had a place has one
-abbrev pub stands_among : Names → Bytes → PlaceBefore → Bool
+abbrev pub stands_among : Names → Bytes → Option Place → Bool
 stands_among names name None = true
-stands_among names name (Some value) = names name
+stands_among names name (Some place) = names name

@@ -1,12 +1,22 @@
 //! What takes a run back to its marked states.
 ghost use Rattle.std.specs.Prelude.{◌≡◌, ◌<◌, ◌≤◌, true, reverse, length, vec_capacity};
-ghost use Rattle.bootstore.specs.Inverse.{undone, at_mark, finds_its_place, HasRoom, names_left, local_names_left, CanGoBack, frame_reach, record_with};
+ghost use Rattle.bootstore.specs.Inverse.{undone, at_mark, finds_its_place, HasRoom, names_left, local_names_left, CanGoBack, KeepsOnce, frame_reach, up_to_mark, last_left, local_last_left, record_with};
 ghost use Rattle.bootstore.specs.Record.{gone_back};
 ghost use Rattle.bootstore.specs.Present.{moment_of};
-ghost use Rattle.bootstore.specs.Table.{has_slot, AreWithin};
+ghost use Rattle.bootstore.specs.Table.{has_slot, AreWithin, AreEqual, last_kept};
 
 use crate::frame::Frame;
 use crate::present::Present;
+use crate::table::Place;
+
+/// What is known of the time since the last mark.
+#[derive(Clone, Copy)]
+pub struct Since {
+    /// How many frames, from the outermost on, have stayed as they were.
+    pub untouched: usize,
+    /// How many things were kept up to the mark, with it.
+    pub kept: usize,
+}
 
 /// What a mark keeps itself of the state that it marks, so that no change of it needs an inverse.
 #[derive(Clone, Copy)]
@@ -21,17 +31,17 @@ pub struct Marked {
     pub log: usize,
     /// The count of frames.
     pub frames: usize,
-    /// How many frames, from the outermost on, had stayed as they were since the mark before.
-    pub untouched: usize,
+    /// What was known of the time since the mark before.
+    pub before: Since,
 }
 
 /// What takes a change back.
 #[derive(Drop)]
 pub enum Inverse {
     /// What stood at the place of an environment variable before the change, if it had a place.
-    Environment(Vec<u8>, Option<Option<Vec<u8>>>),
+    Environment(Vec<u8>, Option<Place>),
     /// What stood at the place of a shell variable before the change, if it had a place.
-    Local(Vec<u8>, Option<Option<Vec<u8>>>),
+    Local(Vec<u8>, Option<Place>),
     /// A frame as it was, and how many frames were below it.
     Touched(usize, Frame),
 }
@@ -50,6 +60,8 @@ pub fn undo(present: &mut Present, inverse: Inverse)
     requires place { finds_its_place (has_slot present.old.environment) (has_slot present.old.locals) inverse ≡ true }
     requires room { HasRoom (vec_capacity present.old.frames) inverse }
     ensures undone { moment_of present.new ≡ undone inverse (moment_of present.old) }
+    ensures kept { AreEqual (last_left inverse (last_kept present.old.environment)) (last_kept present.new.environment) }
+    ensures kept_locals { AreEqual (local_last_left inverse (last_kept present.old.locals)) (last_kept present.new.locals) }
     ensures environment { AreWithin (names_left inverse (has_slot present.old.environment)) (has_slot present.new.environment) }
     ensures locals { AreWithin (local_names_left inverse (has_slot present.old.locals)) (has_slot present.new.locals) }
     ensures capacity { vec_capacity present.old.frames ≤ vec_capacity present.new.frames }
@@ -78,21 +90,26 @@ pub fn return_to(present: &mut Present, marked: Marked)
     present.frames.truncate(marked.frames);
 }
 
-/// Takes the changes since the last mark back, and the mark. It answers how many frames have stayed as they were
-/// since the mark before.
-pub fn undo_to_mark(present: &mut Present, kept: &mut Vec<Kept>) -> usize
-    requires { CanGoBack present.old (frame_reach (reverse kept.old.items)) (reverse kept.old.items) }
+/// Takes the changes since the last mark back, and the mark. It answers what is known of the time since the mark
+/// before.
+pub fn undo_to_mark(present: &mut Present, kept: &mut Vec<Kept>) -> Since
+    requires can { CanGoBack present.old (frame_reach (reverse kept.old.items)) (reverse kept.old.items) }
+    requires once { KeepsOnce present.old (up_to_mark (reverse kept.old.items)) (reverse kept.old.items) }
     ensures back { record_with present.new (reverse kept.new.items) 0 ≡ gone_back (record_with present.old (reverse kept.old.items) 0) }
-    ensures can { CanGoBack present.new result (reverse kept.new.items) }
+    ensures can { CanGoBack present.new result.untouched (reverse kept.new.items) }
+    ensures once { KeepsOnce present.new result.kept (reverse kept.new.items) }
 {
     while let Some(last) = kept.pop() {
         match last {
             Kept::Mark(marked) => {
                 return_to(present, marked);
-                return marked.untouched;
+                return marked.before;
             }
             Kept::Change(inverse) => undo(present, inverse),
         }
     }
-    0
+    Since {
+        untouched: 0,
+        kept: 0,
+    }
 }

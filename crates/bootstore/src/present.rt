@@ -24,10 +24,12 @@ impl Present {
     ghost use Rattle.bootstore.specs.Record.{beginning, with_place};
     ghost use Rattle.bootstore.specs.Present.{moment_of};
     ghost use Rattle.bootstore.specs.Moment.{environment_of};
+    ghost use Rattle.bootstore.specs.Table.{KeepsNothing};
 
     /// Everything is empty or 0.
     pub fn new(alloc: Global) -> Self
-        ensures { moment_of result ≡ beginning empty }
+        ensures beginning { moment_of result ≡ beginning empty }
+        ensures kept { KeepsNothing result.environment × KeepsNothing result.locals }
     {
         Present {
             environment: Table::new(alloc),
@@ -42,7 +44,8 @@ impl Present {
 
     /// The state at the start of a run in an environment.
     pub fn at_start(alloc: Global, env: &Env) -> Result<Present, AllocError>
-        ensures { IfOk result (λ present. moment_of present ≡ beginning (environment_of env.now)) }
+        ensures beginning { IfOk result (λ present. moment_of present ≡ beginning (environment_of env.now)) }
+        ensures kept { IfOk result (λ present. KeepsNothing present.environment × KeepsNothing present.locals) }
     {
         let mut present = Present::new(alloc);
         for place in 0..env.len() {

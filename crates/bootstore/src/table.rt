@@ -1,5 +1,5 @@
 //! Variables by name. The place of a name can be kept empty, so that its value can come back without memory.
-ghost use Rattle.std.specs.Prelude.{◌≡◌, IfOk, OnOk, OnErr, Option, None, Some, option_map, is_some, true};
+ghost use Rattle.std.specs.Prelude.{◌≡◌, IfOk, OnOk, OnErr, Option, None, Some, option_map, true};
 ghost use Rattle.bootstore.specs.Moment.{option_bytes, option_items};
 
 use std::alloc::{AllocError, Global};
@@ -8,21 +8,45 @@ use std::collections::btree_map::Iter;
 use std::marker::Model;
 use std::mem;
 
+/// What stands at the place of a name.
+#[derive(Drop)]
+pub struct Place {
+    /// The value, or none where the name was deleted.
+    pub value: Option<Vec<u8>>,
+    /// How many things were kept when what takes a change of this place back was the last of them, or 0.
+    pub kept_at: usize,
+}
+
+impl Clone for Place {
+    ghost use Rattle.std.specs.Prelude.{◌≡◌};
+    ghost use Rattle.bootstore.specs.Moment.{option_items};
+
+    ghost is_clone = { λ place copy. option_items copy.value ≡ option_items place.value };
+
+    fn clone(&self) -> Result<Place, AllocError> {
+        Ok(Place {
+            value: copy_value(&self.value)?,
+            kept_at: self.kept_at,
+        })
+    }
+}
+
 /// Values by name, in byte order of the names.
 #[derive(Drop)]
 pub struct Table {
-    slots: BTreeMap<Vec<u8>, Option<Vec<u8>>>,
+    slots: BTreeMap<Vec<u8>, Place>,
 }
 
 impl Table {
     ghost use Rattle.std.specs.FinMap.{get, empty, entries};
     ghost use Rattle.bootstore.specs.Moment.{option_bytes, option_items};
     ghost use Rattle.bootstore.specs.Record.{assigned};
-    ghost use Rattle.bootstore.specs.Table.{variables_of, has_slot, KeepsSlots, AreWithin, without, names_before, place_value, stands_among};
+    ghost use Rattle.bootstore.specs.Table.{variables_of, has_slot, KeepsSlots, AreEqual, IsWith, without, names_before, stands_among, place_at, place_value, last_kept, kept_of, KeepsNothing};
 
     /// A table without a place.
     pub fn new(alloc: Global) -> Self
-        ensures { variables_of result ≡ empty }
+        ensures empty { variables_of result ≡ empty }
+        ensures kept { KeepsNothing result }
     {
         Table {
             slots: BTreeMap::new(alloc),
@@ -35,8 +59,20 @@ impl Table {
     {
         match self.slots.get(name) {
             None => None,
-            Some(None) => None,
-            Some(Some(value)) => Some(value.as_slice()),
+            Some(place) => match &place.value {
+                None => None,
+                Some(value) => Some(value.as_slice()),
+            },
+        }
+    }
+
+    /// How many things were kept when the last change of the place of a name was, or 0.
+    pub fn kept_at(&self, name: &[u8]) -> usize
+        ensures { result ≡ last_kept self.now name.now }
+    {
+        match self.slots.get(name) {
+            None => 0,
+            Some(place) => place.kept_at,
         }
     }
 
@@ -67,9 +103,11 @@ impl Table {
     ) -> Result<(), AllocError>
         ensures ok { OnOk result (variables_of self.new ≡ assigned (variables_of self.old) name.now (option_bytes value.entry)) }
         ensures err { OnErr result (variables_of self.new ≡ variables_of self.old) }
+        ensures kept { OnOk result (IsWith (last_kept self.old) name.now 0 (last_kept self.new)) }
+        ensures kept_err { OnErr result (AreEqual (last_kept self.old) (last_kept self.new)) }
     {
         if value.is_some() {
-            self.put(alloc, name, value)?;
+            self.put(alloc, name, value, 0)?;
         } else {
             self.remove(name);
         }
@@ -82,43 +120,58 @@ impl Table {
         alloc: Global,
         name: &[u8],
         value: Option<&[u8]>,
-    ) -> Result<Option<Option<Vec<u8>>>, AllocError>
+        kept_at: usize,
+    ) -> Result<Option<Place>, AllocError>
         ensures ok { OnOk result (variables_of self.new ≡ assigned (variables_of self.old) name.now (option_bytes value.entry)) }
-        ensures before { IfOk result (λ before. place_value before ≡ get (variables_of self.old) name.now) }
-        ensures place { IfOk result (λ before. has_slot self.old name.now ≡ is_some before) }
+        ensures before { IfOk result (λ before. before ≡ place_at self.old name.now) }
         ensures slots { KeepsSlots self.old self.new }
         ensures err { OnErr result (variables_of self.new ≡ variables_of self.old) }
+        ensures kept { OnOk result (IsWith (last_kept self.old) name.now kept_at (last_kept self.new)) }
+        ensures kept_err { OnErr result (AreEqual (last_kept self.old) (last_kept self.new)) }
     {
         let value = copied(alloc, value)?;
+        let place = Place { value, kept_at };
         if let Some(slot) = self.slots.get_mut(name) {
-            return Ok(Some(mem::replace(slot, value)));
+            return Ok(Some(mem::replace(slot, place)));
         }
         let name = Vec::from_slice(alloc, name)?;
-        self.slots.insert(name, value)?;
+        self.slots.insert(name, place)?;
         Ok(None)
     }
 
     /// Takes the place of a name off, if it has one.
     pub fn remove(&mut self, name: &[u8])
         ensures removed { variables_of self.new ≡ assigned (variables_of self.old) name.now None }
-        ensures places { AreWithin (without name.now (has_slot self.old)) (has_slot self.new) }
+        ensures places { AreEqual (without name.now (has_slot self.old)) (has_slot self.new) }
+        ensures kept { IsWith (last_kept self.old) name.now 0 (last_kept self.new) }
     {
         self.slots.remove(name);
     }
 
     /// Gives the place of a name what stood there before, or takes it off where there was none. It takes no memory.
-    pub fn restore(&mut self, name: &[u8], before: Option<Option<Vec<u8>>>)
+    pub fn restore(&mut self, name: &[u8], before: Option<Place>)
         requires { stands_among (has_slot self.old) name.now before ≡ true }
         ensures restored { variables_of self.new ≡ assigned (variables_of self.old) name.now (place_value before) }
-        ensures places { AreWithin (names_before name.now before (has_slot self.old)) (has_slot self.new) }
+        ensures places { AreEqual (names_before name.now before (has_slot self.old)) (has_slot self.new) }
+        ensures kept { IsWith (last_kept self.old) name.now (kept_of before) (last_kept self.new) }
     {
-        let Some(value) = before else {
+        let Some(place) = before else {
             self.remove(name);
             return;
         };
         if let Some(slot) = self.slots.get_mut(name) {
-            *slot = value;
+            *slot = place;
         }
+    }
+}
+
+/// A copy of a value, if there is one.
+fn copy_value(value: &Option<Vec<u8>>) -> Result<Option<Vec<u8>>, AllocError>
+    ensures { IfOk result (λ copy. option_items copy ≡ option_items value.now) }
+{
+    match value {
+        Some(bytes) => Ok(Some(bytes.clone()?)),
+        None => Ok(None),
     }
 }
 
@@ -135,7 +188,7 @@ fn copied(alloc: Global, bytes: Option<&[u8]>) -> Result<Option<Vec<u8>>, AllocE
 /// The variables of a table, in byte order of their names.
 #[derive(Drop)]
 pub struct Variables<'a> {
-    slots: Iter<'a, Vec<u8>, Option<Vec<u8>>>,
+    slots: Iter<'a, Vec<u8>, Place>,
 }
 
 impl<'a> Model for Variables<'a> {
@@ -156,8 +209,8 @@ impl<'a> Iterator for Variables<'a> {
     ghost remaining = { item_count (λ v. v) };
 
     fn next(&mut self) -> Option<(&'a [u8], &'a [u8])> {
-        while let Some((name, value)) = self.slots.next() {
-            if let Some(value) = value {
+        while let Some((name, place)) = self.slots.next() {
+            if let Some(value) = &place.value {
                 return Some((name.as_slice(), value.as_slice()));
             }
         }

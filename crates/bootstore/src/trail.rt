@@ -1,9 +1,9 @@
 //! A store that keeps its marks, and the inverses of its changes behind them.
 ghost use Rattle.std.specs.Prelude.{reverse};
-ghost use Rattle.bootstore.specs.Inverse.{CanGoBack};
+ghost use Rattle.bootstore.specs.Inverse.{CanGoBack, KeepsOnce};
 
 use crate::frame::{At, Frame};
-use crate::inverse::{Inverse, Kept, Marked, undo_to_mark};
+use crate::inverse::{Inverse, Kept, Marked, Since, undo_to_mark};
 use crate::log::LogEntry;
 use crate::present::Present;
 use crate::store::{Store, StoreError};
@@ -17,10 +17,10 @@ pub struct Trail {
     alloc: Global,
     present: Present,
     kept: Vec<Kept>,
-    /// How many frames, from the outermost on, have stayed as they were since the last mark.
-    untouched: usize,
+    since: Since,
     begun: u64,
-    ghost can: { CanGoBack present untouched (reverse kept.items) },
+    ghost can: { CanGoBack present since.untouched (reverse kept.items) },
+    ghost once: { KeepsOnce present since.kept (reverse kept.items) },
 }
 
 impl Trail {
@@ -30,17 +30,17 @@ impl Trail {
     /// Keeps the innermost frame as it is, where it has stayed so since the last mark.
     fn keep_top(&mut self) -> Result<(), StoreError>
         ensures record { record_of_trail self.new ≡ record_of_trail self.old }
-        ensures touched { OnOk result ((self.new.untouched < length self.new.present.frames.items) ⊎ (length self.new.present.frames.items ≡ 0)) }
+        ensures touched { OnOk result ((self.new.since.untouched < length self.new.present.frames.items) ⊎ (length self.new.present.frames.items ≡ 0)) }
     {
         let count = self.present.frames.len();
-        if self.untouched < count || count == 0 {
+        if self.since.untouched < count || count == 0 {
             return Ok(());
         }
         self.kept.reserve(1)?;
         let frame = self.present.frames[count - 1].copy()?;
         let touched = Inverse::Touched(count - 1, frame);
         self.kept.push_reserved(Kept::Change(touched));
-        self.untouched = count - 1;
+        self.since.untouched = count - 1;
         Ok(())
     }
 }
@@ -55,7 +55,10 @@ impl Store for Trail {
             alloc,
             present: Present::new(alloc),
             kept: Vec::new(alloc),
-            untouched: 0,
+            since: Since {
+                untouched: 0,
+                kept: 0,
+            },
             begun: 0,
         }
     }
@@ -63,7 +66,10 @@ impl Store for Trail {
     fn start(&mut self, env: &Env) -> Result<(), StoreError> {
         let present = Present::at_start(self.alloc, env)?;
         self.kept.clear();
-        self.untouched = 0;
+        self.since = Since {
+            untouched: 0,
+            kept: 0,
+        };
         self.present = present;
         Ok(())
     }
@@ -76,9 +82,20 @@ impl Store for Trail {
         if value.is_none() && self.present.environment.get(name).is_none() {
             return Ok(());
         }
+        let kept_at = self.present.environment.kept_at(name);
+        if kept_at > self.since.kept {
+            self.present
+                .environment
+                .put(self.alloc, name, value, kept_at)?;
+            return Ok(());
+        }
         self.kept.reserve(1)?;
         let key = Vec::from_slice(self.alloc, name)?;
-        let before = self.present.environment.put(self.alloc, name, value)?;
+        let kept_at = self.kept.len() + 1;
+        let before = self
+            .present
+            .environment
+            .put(self.alloc, name, value, kept_at)?;
         let inverse = Inverse::Environment(key, before);
         self.kept.push_reserved(Kept::Change(inverse));
         Ok(())
@@ -89,9 +106,20 @@ impl Store for Trail {
             self.present.locals.set(self.alloc, name, Some(value))?;
             return Ok(());
         }
+        let kept_at = self.present.locals.kept_at(name);
+        if kept_at > self.since.kept {
+            self.present
+                .locals
+                .put(self.alloc, name, Some(value), kept_at)?;
+            return Ok(());
+        }
         self.kept.reserve(1)?;
         let key = Vec::from_slice(self.alloc, name)?;
-        let before = self.present.locals.put(self.alloc, name, Some(value))?;
+        let kept_at = self.kept.len() + 1;
+        let before = self
+            .present
+            .locals
+            .put(self.alloc, name, Some(value), kept_at)?;
         let inverse = Inverse::Local(key, before);
         self.kept.push_reserved(Kept::Change(inverse));
         Ok(())
@@ -142,15 +170,18 @@ impl Store for Trail {
             text: self.present.text.len(),
             log: self.present.log.len(),
             frames: self.present.frames.len(),
-            untouched: self.untouched,
+            before: self.since,
         };
         self.kept.push(Kept::Mark(marked))?;
-        self.untouched = marked.frames;
+        self.since = Since {
+            untouched: marked.frames,
+            kept: self.kept.len(),
+        };
         Ok(())
     }
 
     fn back(&mut self) {
-        self.untouched = undo_to_mark(&mut self.present, &mut self.kept);
+        self.since = undo_to_mark(&mut self.present, &mut self.kept);
     }
 
     fn get_env(&self, name: &[u8]) -> Option<&[u8]> {

@@ -1,5 +1,5 @@
 use Rattle.std.proofs.Common.{◌≡◌, ◌≤◌, reverse, vec_len}
-use Rattle.bootstore.specs.Inverse.{CanGoBack, frame_reach, marked_before}
+use Rattle.bootstore.specs.Inverse.{CanGoBack, KeepsOnce, frame_reach, up_to_mark, marked_before}
 use Rattle.bootstore.specs.Present.{moment_of}
 use Rattle.bootstore.proofs.inverse.undo_to_mark.Given as goal
 
@@ -7,6 +7,7 @@ use Rattle.bootstore.proofs.inverse.undo_to_mark.Given as goal
 abbrev pub invariant-loop-last : goal.invariant-loop-last
 invariant-loop-last l = record {
   can : CanGoBack l.present (frame_reach (reverse l.kept.items)) (reverse l.kept.items);
+  once : KeepsOnce l.present (up_to_mark (reverse l.kept.items)) (reverse l.kept.items);
   marked : marked_before (moment_of l.present) (reverse l.kept.items) ≡ marked_before (moment_of l.fn.present) (reverse l.fn.kept.items);
   fewer : vec_len l.kept ≤ vec_len l.fn.kept;
   untouched : vec_len l.fn.kept ≡ 0 → moment_of l.present ≡ moment_of l.fn.present;

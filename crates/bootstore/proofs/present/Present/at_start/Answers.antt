@@ -3,6 +3,7 @@ use Rattle.std.specs.List.{slice_get}
 use Rattle.bootstore.specs.Moment.{Moment}
 use Rattle.bootstore.specs.Table.{variables_of}
 use Rattle.bootstore.proofs.Tables.{set_next}
+use Rattle.bootstore.proofs.Onces.{nothing_with}
 use Rattle.bootstore.proofs.present.Present.at_start.Goals as goal
 
 pub loop-place-preserved : goal.loop-place-preserved
@@ -12,4 +13,6 @@ loop-place-preserved c =
     record {
       environment = set_next _ _ _ c.args.env.now c.loop-place.place pair.0.now pair.1.now there c.in_ok-set.ensures.ok c.loop-place.invariant.environment;
       others = ap (λ (m : Moment). record m { environment = variables_of c.set.new.self }) c.loop-place.invariant.others;
+      kept = nothing_with c.loop-place.present.environment c.set.new.self pair.0.now c.loop-place.invariant.kept c.in_ok-set.ensures.kept;
+      kept_locals = c.loop-place.invariant.kept_locals;
     }

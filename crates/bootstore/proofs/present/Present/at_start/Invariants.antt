@@ -1,7 +1,7 @@
 use Rattle.std.proofs.Common.{◌≡◌, drop}
 use Rattle.bootstore.specs.Moment.{set_in_turn, environment_of}
 use Rattle.bootstore.specs.Record.{beginning}
-use Rattle.bootstore.specs.Table.{variables_of}
+use Rattle.bootstore.specs.Table.{variables_of, KeepsNothing}
 use Rattle.bootstore.specs.Present.{moment_of}
 use Rattle.bootstore.proofs.present.Present.at_start.Given as goal
 
@@ -10,4 +10,6 @@ abbrev pub invariant-loop-place : goal.invariant-loop-place
 invariant-loop-place l = record {
   environment : set_in_turn (variables_of l.present.environment) (drop l.place l.env) ≡ environment_of l.env;
   others : moment_of l.present ≡ beginning (variables_of l.present.environment);
+  kept : KeepsNothing l.present.environment;
+  kept_locals : KeepsNothing l.present.locals;
 }

@@ -5,13 +5,13 @@ use Rattle.bootstore.proofs.table.VariablesIterator.next.Goals as goal
 pub loop-name-preserved : goal.loop-name-preserved
 loop-name-preserved c =
     let rest = live c.next.new.self in
-    sym (ap live c.in-Some.ensures.steps ∙ ap (λ o. live_before (c.in-Some.name.now, o) rest) c.in_default-value.is) ∙ c.loop-name.invariant
+    sym (ap live c.in-Some.ensures.steps ∙ ap (λ o. live_before c.in-Some.name.now o rest) c.in_default-value.is) ∙ c.loop-name.invariant
 
 pub returns-in-Some-value-clause-steps : goal.returns-in-Some-value-clause-steps
 returns-in-Some-value-clause-steps c =
     let rest = live c.next.new.self in
     sym c.loop-name.invariant ∙ ap live c.in-Some.ensures.steps
-    ∙ ap (λ o. live_before (c.in-Some.name.now, o) rest) c.in-Some-value.is
+    ∙ ap (λ o. live_before c.in-Some.name.now o rest) c.in-Some-value.is
     ∙ (λ i. (sym c.as_slice.ensures.value i, sym c.as_slice-in-Some-value.ensures.value i) ∷ rest)
 
 pub returns-in-Some-value-clause-goes : goal.returns-in-Some-value-clause-goes

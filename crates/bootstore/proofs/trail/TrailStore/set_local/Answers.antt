@@ -1,27 +1,62 @@
-use Rattle.std.proofs.Common.{ap, ◌∙◌, reverse, sym, subst, Some}
+use Rattle.std.proofs.Common.{ap, ◌+◌, ◌∙◌, reverse, sym, subst, Some, is_some}
+use Rattle.std.proofs.lemmas.List.{length-reverse}
 use Rattle.bootstore.specs.declared.inverse.Inverse.TheVariants.{Local}
 use Rattle.bootstore.specs.declared.inverse.Kept.TheVariants.{Change}
-use Rattle.bootstore.specs.Table.{variables_of, place_value}
-use Rattle.bootstore.specs.Inverse.{CanGoBack, marked_before}
+use Rattle.bootstore.specs.Table.{variables_of, place_value, IsWith, AreEqual, last_kept}
+use Rattle.bootstore.specs.Inverse.{CanGoBack, KeepsOnce, marked_before}
 use Rattle.bootstore.specs.Present.{moment_of}
+use Rattle.bootstore.proofs.Tables.{found}
 use Rattle.bootstore.proofs.Trails.{can_local, can_kept_local, some_kept, kept_last, restored, same_record}
+use Rattle.bootstore.proofs.Onces.{once_equal_local, once_kept_local, marked_once_local, on_either, with_same}
 use Rattle.bootstore.proofs.trail.TrailStore.set_local.Goals as goal
 
-pub invariant_of-self-in-Break-branch-4 : goal.invariant_of-self-in-Break-branch-4
-invariant_of-self-in-Break-branch-4 c =
+pub invariant_of-self-then-kept_at-self : goal.invariant_of-self-then-kept_at-self
+invariant_of-self-then-kept_at-self c =
     let old = c.args.self.now in
-    let now = record old.present { locals = c.put.new.self } in
-    record { can = subst (λ ks. CanGoBack now old.untouched (reverse ks)) (sym c.reserve.ensures.items) (can_local old.present c.put.new.self old.untouched _ old.can c.put.ensures.slots) }
+    let name = c.args.name.now in
+    let last = last_kept old.present.locals in
+    let now = last_kept c.put.new.self in
+    record {
+      can = can_local old.present c.put.new.self old.since.untouched _ old.can c.put.ensures.slots;
+      once = once_equal_local old.present c.put.new.self old.since.kept _ old.once
+          (on_either c.put.result (IsWith last name c.kept_at-kept_at.result now) (AreEqual last now) (AreEqual last now) c.put.ensures.kept c.put.ensures.kept_err
+          (λ e. with_same last now name c.kept_at-kept_at.result e c.kept_at-kept_at.ensures) (λ e. e));
+    }
+
+pub returns-then-kept_at-self-clause-ok : goal.returns-then-kept_at-self-clause-ok
+returns-then-kept_at-self-clause-ok c =
+    let old = c.args.self.now in
+    let m = moment_of old.present in
+    let set = c.in_ok-put.ensures.ok in
+    same_record _ _ _ _ old.begun (ap (λ v. record m { locals = v }) set)
+    (ap (λ v. marked_before (record m { locals = v }) (reverse old.kept.items)) set
+    ∙ marked_once_local old.present old.since.kept _ old.once m c.args.name.now (Some c.args.value.now) c.kept_at-kept_at.result c.if-kept_at-self.true c.kept_at-kept_at.ensures)
+
+pub invariant_of-self-in-Break-branch-7 : goal.invariant_of-self-in-Break-branch-7
+invariant_of-self-in-Break-branch-7 c =
+    let old = c.args.self.now in
+    let now = record old.present { locals = c.put-2.new.self } in
+    record {
+      can = subst (λ ks. CanGoBack now old.since.untouched (reverse ks)) (sym c.reserve.ensures.items) (can_local old.present c.put-2.new.self old.since.untouched _ old.can c.put-2.ensures.slots);
+      once = subst (λ ks. KeepsOnce now old.since.kept (reverse ks)) (sym c.reserve.ensures.items) (once_equal_local old.present c.put-2.new.self old.since.kept _ old.once c.in_err-before.ensures.kept_err);
+    }
 
 pub invariant_of-self-2 : goal.invariant_of-self-2
 invariant_of-self-2 c =
     let old = c.args.self.now in
-    let now = record old.present { locals = c.put.new.self } in
+    let now = record old.present { locals = c.put-2.new.self } in
     let key = c.in_ok-key.key in
     let before = c.in_ok-before.before in
     let last = kept_last old.kept c.reserve.new.self c.push_reserved.new.self (Change (Local key before)) c.reserve.ensures.items c.push_reserved.ensures.items in
     let some = some_kept old.kept c.is_empty.result c.is_empty.ensures c.if-is_empty.false in
-    record { can = subst (CanGoBack now old.untouched) (sym last) (can_kept_local old.present c.put.new.self old.untouched _ old.can c.args.name.now key before some c.in_ok-key.ensures.items c.put.ensures.slots c.in_ok-before.ensures.place) }
+    let count = c.len-kept_at.ensures ∙ c.reserve.ensures.len ∙ old.kept.ok.0 ∙ sym (length-reverse old.kept.items) in
+    let told = subst (λ n. IsWith (last_kept old.present.locals) c.args.name.now (n + 1) (last_kept c.put-2.new.self)) count c.in_ok-before.ensures.kept in
+    let same = c.in_ok-key.ensures.items in
+    let was = c.in_ok-before.ensures.before in
+    record {
+      can = subst (CanGoBack now old.since.untouched) (sym last) (can_kept_local old.present c.put-2.new.self old.since.untouched _ old.can c.args.name.now key before some same c.put-2.ensures.slots (sym (ap is_some was)));
+      once = subst (KeepsOnce now old.since.kept) (sym last) (once_kept_local old.present c.put-2.new.self old.since.kept _ old.once c.args.name.now key before same was told);
+    }
 
 pub returns-clause-ok : goal.returns-clause-ok
 returns-clause-ok c =
@@ -31,6 +66,7 @@ returns-clause-ok c =
     let before = c.in_ok-before.before in
     let set = c.in_ok-before.ensures.ok in
     let last = kept_last old.kept c.reserve.new.self c.push_reserved.new.self (Change (Local key before)) c.reserve.ensures.items c.push_reserved.ensures.items in
-    let back = restored m.locals (variables_of c.put.new.self) c.args.name.now key.items (Some c.args.value.now) (place_value before) set c.in_ok-before.ensures.before c.in_ok-key.ensures.items in
+    let was = found old.present.locals.slots.entries c.args.name.now before c.in_ok-before.ensures.before in
+    let back = restored m.locals (variables_of c.put-2.new.self) c.args.name.now key.items (Some c.args.value.now) (place_value before) set was c.in_ok-key.ensures.items in
     same_record _ _ _ _ old.begun (ap (λ v. record m { locals = v }) set)
-    (ap (marked_before (record m { locals = variables_of c.put.new.self })) last ∙ ap (λ v. marked_before (record m { locals = v }) (reverse old.kept.items)) back)
+    (ap (marked_before (record m { locals = variables_of c.put-2.new.self })) last ∙ ap (λ v. marked_before (record m { locals = v }) (reverse old.kept.items)) back)
