@@ -1,5 +1,5 @@
 //! Variables by name. The place of a name can be kept empty, so that its value can come back without memory.
-ghost use Rattle.std.specs.Prelude.{◌≡◌, IfOk, OnOk, OnErr, Option, None, Some, option_map, true};
+ghost use Rattle.std.specs.Prelude.{◌≡◌, IfOk, OnOk, OnErr, Option, None, Some, option_map, true, false};
 ghost use Rattle.bootstore.specs.Moment.{option_bytes, option_items};
 
 use std::alloc::{AllocError, Global};
@@ -104,6 +104,7 @@ impl Table {
         ensures ok { OnOk result (variables_of self.new ≡ assigned (variables_of self.old) name.now (option_bytes value.entry)) }
         ensures err { OnErr result (variables_of self.new ≡ variables_of self.old) }
         ensures kept { OnOk result (IsWith (last_kept self.old) name.now 0 (last_kept self.new)) }
+        ensures gone { OnOk result (value.entry ≡ None → has_slot self.new name.now ≡ false) }
         ensures kept_err { OnErr result (AreEqual (last_kept self.old) (last_kept self.new)) }
     {
         if value.is_some() {
