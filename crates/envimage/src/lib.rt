@@ -5,6 +5,7 @@
 mod config;
 mod content;
 mod crc;
+mod crc_tables;
 mod encoding;
 mod image;
 pub mod laws;
