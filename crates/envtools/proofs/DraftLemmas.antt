@@ -1,5 +1,5 @@
 -- The variables that hold in a draft.
-use Rattle.std.proofs.Common.{◌≡◌, ◌≢◌, ◌<◌, ◌≤◌, ◌+◌, ℕ, zero, suc, eqb, get_or, length, take, arith, Bool, true, false, cond, inl, inr, ◌⊎◌, List, [], ◌∷◌, ◌++◌, Option, None, Some, refl, sym, ap, subst, ◌∙◌, add-one}
+use Rattle.std.proofs.Common.{◌≡◌, ◌≢◌, ◌<◌, ◌≤◌, ◌+◌, ℕ, zero, suc, eqb, get_or, length, take, drop, arith, Bool, true, false, cond, inl, inr, ◌⊎◌, List, [], ◌∷◌, ◌++◌, Option, None, Some, refl, sym, ap, subst, ◌∙◌, add-one}
 use Rattle.std.specs.Prelude.{slice_get}
 use Rattle.std.proofs.lemmas.Bool.{false≢true, cases_Bool}
 use Rattle.std.proofs.lemmas.List.{append-nil, take_all}
@@ -326,3 +326,25 @@ held-next f log at p e holds =
     let n = length-front at log p e in
     assigned-absent (held f 0 (take at log)) p.0 p.1 (held-absent f p.0 at holds 0 (take at log) (omega arith))
     ∙ sym (front ∙ ap (λ b. held f 0 (take at log) ++ cond b (p ∷ []) []) here)
+
+-- ---- the variables that are left
+
+pub drop-first : {X : Type 0} (xs : List X) (n : ℕ) (x : X) (left : List X) → drop n xs ≡ x ∷ left → slice_get xs n ≡ Some x
+drop-first [] zero x left e = cc
+drop-first [] (suc n) x left e = cc
+drop-first (y ∷ ys) zero x left e = let one : y ≡ x = cc in ap Some one
+drop-first (y ∷ ys) (suc n) x left e = drop-first ys n x left e
+
+drop-suc : {X : Type 0} (xs : List X) (n : ℕ) (x : X) (left : List X) → drop n xs ≡ x ∷ left → drop (suc n) xs ≡ left
+drop-suc [] zero x left e = cc
+drop-suc [] (suc n) x left e = cc
+drop-suc (y ∷ ys) zero x left e = cc
+drop-suc (y ∷ ys) (suc n) x left e = drop-suc ys n x left e
+
+pub drop-rest : {X : Type 0} (xs : List X) (n : ℕ) (x : X) (left : List X) → drop n xs ≡ x ∷ left → drop (n + 1) xs ≡ left
+drop-rest xs n x left e = ap (λ k. drop k xs) (add-one n) ∙ drop-suc xs n x left e
+
+pub drop-end : {X : Type 0} (xs : List X) (n : ℕ) → length (drop n xs) ≡ 0 → length xs ≤ n
+drop-end [] n e = omega arith
+drop-end (y ∷ ys) zero e = absurd (omega (arith, e))
+drop-end (y ∷ ys) (suc n) e = let less = drop-end ys n e in omega (arith, less)

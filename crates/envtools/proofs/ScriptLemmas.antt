@@ -1,13 +1,14 @@
 -- The parts of a script's line.
-use Rattle.std.proofs.Common.{◌≡◌, ◌≢◌, ℕ, ◌+◌, ◌-◌, ◌<◌, ◌≤◌, false, List, [], ◌∷◌, ◌++◌, length, get_or, take, drop, None, Some, Result, Ok, Err, refl, sym, ap, ◌∙◌, arith, eqb}
+use Rattle.std.proofs.Common.{◌≡◌, ◌≢◌, ℕ, ◌+◌, ◌-◌, ◌<◌, ◌≤◌, false, List, [], ◌∷◌, ◌++◌, length, get_or, take, drop, inl, inr, None, Some, Result, Ok, Err, refl, sym, ap, ◌∙◌, arith, eqb}
+use Rattle.std.proofs.lemmas.Bool.{cases_Bool}
 use Rattle.std.proofs.lemmas.Bool.Decides.{nat_tests}
 use Rattle.std.proofs.lemmas.List.{take_all, take_more, take_rest}
-use Rattle.std.specs.List.{position, position_or_len}
+use Rattle.std.specs.List.{position, position_or_len, slice_split, enumerate_from}
 use Rattle.std.specs.Prelude.{unwrap_or}
 use Rattle.std.proofs.Math.ListN.{drop_of_length-le}
 use Rattle.envimage.proofs.WordLemmas.{position-or}
 use Rattle.envimage.specs.Data.{Pair}
-use Rattle.envimage.specs.Text.{numbered_lines}
+use Rattle.envimage.specs.Text.{numbered_lines, is_newline}
 use Rattle.envimage.specs.Words.{skipped}
 use Rattle.envtools.specs.Scripting.{onto_line, without_returns, is_space, ends_name, name_and_value, Reached, go_on, after_line, line_change, scripted_lines, scripted, AppliesLine, AppliesScript}
 use Rattle.envtools.specs.declared.script.ScriptError.{ScriptError}
@@ -102,4 +103,21 @@ module _ (old env new : List Pair) (text : List ℕ) (before left : Lines) (numb
   pub script-refused : (fault : ScriptError) → AppliesLine env number (line_change line) new (Err fault) → AppliesScript old text new (Err fault)
   script-refused (BadName n) h = faulty (BadName n) h.0 h.1
   script-refused (BadValue n) h = faulty (BadValue n) h.0 h.1
-  script-refused Memory h = record { before = before; after = (number, line) ∷ left; whole = whole; reached = reached ∙ ap sound (sym h) }
+  script-refused Memory h = record { before = before; refused = (number, line); after = left; whole = whole; reached = reached ∙ ap sound (sym h) }
+
+-- ---- the first line
+
+split-some : (text : List ℕ) → (line : List ℕ) × (lines : List (List ℕ)) × (slice_split is_newline text ≡ line ∷ lines)
+split-some [] = ([], [], refl)
+split-some (b ∷ bs) =
+    let more = split-some bs in
+    elim (cases_Bool (is_newline b)) [
+      | inl ends ↦ ([], slice_split is_newline bs, rw ends refl)
+      | inr goes ↦ (b ∷ more.0, more.1, rw (goes, more.2) refl)
+    ]
+
+-- nothing is changed where the first line is refused
+pub untouched : (env : List Pair) (text : List ℕ) → AppliesScript env text env (Err Memory)
+untouched env text =
+    let first = split-some text in
+    record { before = []; refused = (1, first.0); after = enumerate_from 2 first.1; whole = ap (enumerate_from 1) first.2; reached = refl }

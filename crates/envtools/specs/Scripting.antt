@@ -75,11 +75,12 @@ AppliesLine old number change new (Err (BadName n)) = (after_line old number cha
 AppliesLine old number change new (Err (BadValue n)) = (after_line old number change ≡ Err (BadValue n)) × (new ≡ old)
 AppliesLine old number change new (Err Memory) = new ≡ old
 
--- the environment after some first lines, none of which is faulty
+-- the environment after the lines before a refused one, none of which is faulty
 pub record StoppedBehind (old : List Pair) (text : List ℕ) (new : List Pair) : Type 0 where
   pub before : List (ℕ × List ℕ)
+  pub refused : ℕ × List ℕ
   pub after : List (ℕ × List ℕ)
-  pub whole : numbered_lines text ≡ before ++ after
+  pub whole : numbered_lines text ≡ before ++ refused ∷ after
   pub reached : scripted_lines old before ≡ record { env = new; fault = None }
 
 abbrev pub AppliesScript : List Pair → List ℕ → List Pair → Result (Unit {0}) ScriptError → Type 0

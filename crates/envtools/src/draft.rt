@@ -1,7 +1,8 @@
-ghost use Rattle.std.specs.Prelude.{◌≡◌, [], map, true, OnOk, OnErr, IfOk};
+ghost use Rattle.std.specs.Prelude.{◌≡◌, ◌+◌, ◌<◌, ◌≤◌, [], map, length, true, OnOk, OnErr, IfOk};
 ghost use Rattle.std.specs.Option.{option_copied};
+ghost use Rattle.indexmap.specs.IndexMap.{spare};
 ghost use Rattle.envimage.specs.Data.{IsVariable};
-ghost use Rattle.envtools.specs.Environment.{value_of, dropped, put, has_value, changed_to, is_name, is_value};
+ghost use Rattle.envtools.specs.Environment.{value_of, dropped, put, assigned, has_value, changed_to, is_name, is_value};
 ghost use Rattle.envtools.specs.Drafting.{place_of, held, IsMoved, IsDraft};
 
 use crate::env::Env;
@@ -12,26 +13,33 @@ use std::marker::Model;
 /// The place of each name's variable among those written; a deleted name has none.
 type Places = IndexMap<Vec<u8>, Option<usize>>;
 
+/// The variables of an environment.
+type Variables = IndexMap<Vec<u8>, Vec<u8>>;
+
 /// The variables of an environment while many changes are made. Each change takes the time of its
 /// name and value alone: a variable that moves is written again behind the others, and `places` says
-/// which one holds.
+/// which one holds. `room` is empty and has room for all that is written, so that the environment is
+/// made of a draft without memory.
 #[derive(Drop)]
 pub struct Draft {
     alloc: Global,
     written: Vec<(Vec<u8>, Vec<u8>)>,
     places: Places,
+    room: Variables,
 }
 
 impl Model for Draft {
-    ghost use Rattle.std.specs.Prelude.{List, ℕ, map};
+    ghost use Rattle.std.specs.Prelude.{◌≡◌, ◌≤◌, List, [], ℕ, map, length};
 
     ghost Value = { List (List ℕ × List ℕ) };
 
+    ghost use Rattle.indexmap.specs.IndexMap.{spare};
     ghost use Rattle.envtools.specs.Drafting.{place_of, held, IsDraft};
 
     ghost view = { λ d. held (place_of d.places.entries) 0 (map (λ p. (p.0.items, p.1.items)) d.written.items) };
 
-    ghost invariant = { λ d. IsDraft (place_of d.places.entries) (map (λ p. (p.0.items, p.1.items)) d.written.items) };
+    ghost invariant = { λ d. IsDraft (place_of d.places.entries) (map (λ p. (p.0.items, p.1.items)) d.written.items)
+        × (d.room.entries ≡ []) × (length d.written.items ≤ spare d.room) };
 }
 
 impl Draft {
@@ -43,6 +51,7 @@ impl Draft {
             alloc,
             written: Vec::new(alloc),
             places: IndexMap::new(alloc),
+            room: IndexMap::new(alloc),
         }
     }
 
@@ -96,6 +105,7 @@ impl Draft {
         let kept = Vec::from_slice(self.alloc, value)?;
         self.written.reserve(1)?;
         let last = self.written.len();
+        self.room.reserve(last + 1)?;
         move_to(self.alloc, &mut self.places, name, Some(last))?;
         self.written.push((key, kept)).unwrap();
         Ok(())
@@ -118,11 +128,17 @@ impl Draft {
         self.put(name, value)
     }
 
-    /// The environment of the variables that hold, in order.
-    pub fn to_env(&self) -> Result<Env, AllocError>
-        ensures { IfOk result (λ env. env ≡ self.now) }
+    /// The environment of the variables that hold, in order. It takes no memory.
+    pub fn into_env(self) -> Env
+        ensures { result ≡ self }
     {
-        held(self.alloc, &self.written, &self.places)
+        let Draft {
+            alloc,
+            written,
+            places,
+            room,
+        } = self;
+        Env::with_variables(alloc, held(written, &places, room))
     }
 }
 
@@ -151,16 +167,29 @@ fn move_to(
     Ok(())
 }
 
-/// The environment of the written variables that stand at their name's place.
-fn held(alloc: Global, written: &[(Vec<u8>, Vec<u8>)], places: &Places) -> Result<Env, AllocError>
-    requires { IsDraft (place_of places.now.entries) (map (λ p. (p.0.items, p.1.items)) written.now) }
-    ensures { IfOk result (λ env. env ≡ held (place_of places.now.entries) 0 (map (λ p. (p.0.items, p.1.items)) written.now)) }
+/// Gives a name a value, in room that is there. It takes no memory.
+fn assign(variables: &mut Variables, name: Vec<u8>, value: Vec<u8>)
+    requires { 0 < spare variables.old }
+    ensures assigned { map (λ p. (p.0.items, p.1.items)) variables.new.entries
+        ≡ assigned (map (λ p. (p.0.items, p.1.items)) variables.old.entries) name.items value.items }
+    ensures room { spare variables.old ≤ spare variables.new + 1 }
 {
-    let mut env = Env::new(alloc);
-    for (at, (name, value)) in written.iter().enumerate() {
-        if place_of(places, name) == Some(at) {
-            env.assign(name, value)?;
+    variables.insert(name, value).unwrap();
+}
+
+/// The written variables that stand at their name's place, put into the room for them.
+fn held(written: Vec<(Vec<u8>, Vec<u8>)>, places: &Places, room: Variables) -> Variables
+    requires draft { IsDraft (place_of places.now.entries) (map (λ p. (p.0.items, p.1.items)) written.items) }
+    requires empty { room.entries ≡ [] }
+    requires room { length written.items ≤ spare room }
+    ensures { map (λ p. (p.0.items, p.1.items)) result.entries
+        ≡ held (place_of places.now.entries) 0 (map (λ p. (p.0.items, p.1.items)) written.items) }
+{
+    let mut variables = room;
+    for (at, (name, value)) in written.into_iter().enumerate() {
+        if place_of(places, &name) == Some(at) {
+            assign(&mut variables, name, value);
         }
     }
-    Ok(env)
+    variables
 }

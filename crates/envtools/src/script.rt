@@ -146,17 +146,15 @@ fn apply_lines(draft: &mut Draft, text: &[u8]) -> Result<(), ScriptError>
 /// and the rest is the value, as it is. No value, or an empty one, deletes. A later line acts on what
 /// earlier ones left.
 ///
-/// After a refused line the environment is the one after the lines before it. Where memory is
-/// refused, it is as it was. The time grows with the script and the environment, not with their
+/// After a refused line the environment is the one after the lines before it, also where it is memory
+/// that the line was refused for. The time grows with the script and the environment, not with their
 /// product.
+#[tactic(auto, using(crate::proofs::ScriptLemmas::untouched))]
 pub fn apply_script(env: &mut Env, text: &[u8]) -> Result<(), ScriptError>
     ensures { AppliesScript env.old text.now env.new result }
 {
     let mut draft = Draft::of(env)?;
     let applied = apply_lines(&mut draft, text);
-    if let Err(ScriptError::Memory) = applied {
-        return applied;
-    }
-    *env = draft.to_env()?;
+    *env = draft.into_env();
     applied
 }

@@ -18,7 +18,7 @@ pub returns-in_err-value : goal.returns-in_err-value
 returns-in_err-value c =
     let items = c.self.inside.written.items in
     let within : c.in_ok-place.place < length items =
-    place-there (place_of c.self.inside.places.entries) items c.args.name.now c.in_ok-place.place c.self.invariant (sym c.place_of.ensures ∙ c.in_ok-place.was) in
+    place-there (place_of c.self.inside.places.entries) items c.args.name.now c.in_ok-place.place c.self.invariant.0 (sym c.place_of.ensures ∙ c.in_ok-place.was) in
     let one : c.deref.result.now ≡ items = c.deref.ensures.value in
     let some : is_some c.get.result ≡ true = c.get.ensures.lookup.2 (rw one within) in
     absurd (false≢true (sym (ap is_some c.in_err-value.was) ∙ some))
@@ -28,11 +28,11 @@ returns c =
     let items = c.self.inside.written.items in
     let placed = sym c.place_of.ensures ∙ c.in_ok-place.was in
     let within : c.in_ok-place.place < length items =
-    place-there (place_of c.self.inside.places.entries) items c.args.name.now c.in_ok-place.place c.self.invariant placed in
+    place-there (place_of c.self.inside.places.entries) items c.args.name.now c.in_ok-place.place c.self.invariant.0 placed in
     let e = c.in_ok-value.field-0.now in
     let is : e ≡ get_or items c.in_ok-place.place e =
     c.in_ok-value.ensures.lookup.1 ∙ ap (λ xs. get_or xs c.in_ok-place.place e) c.deref.ensures.value in
     let there : slice_get (seen items) c.in_ok-place.place ≡ Some (e.0.items, e.1.items) = seen-read items c.in_ok-place.place e within is in
     ap Some c.as_slice.ensures.value
-    ∙ (sym (value-found (place_of c.self.inside.places.entries) (seen items) c.args.name.now c.in_ok-place.place (e.0.items, e.1.items) c.self.invariant placed there)
+    ∙ (sym (value-found (place_of c.self.inside.places.entries) (seen items) c.args.name.now c.in_ok-place.place (e.0.items, e.1.items) c.self.invariant.0 placed there)
     ∙ ap (λ ps. value_of ps c.args.name.now) c.self.view_is)

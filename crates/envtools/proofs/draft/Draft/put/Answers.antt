@@ -1,5 +1,6 @@
 use Rattle.std.proofs.Common.{◌≡◌, ◌++◌, ◌∷◌, [], length, ap, ◌∙◌, rules, cond, arith}
 use Rattle.std.specs.Prelude.{IsOk}
+use Rattle.std.proofs.lemmas.List.{length_push}
 use Rattle.envtools.specs.Environment.{put}
 use Rattle.envtools.specs.Drafting.{place_of}
 use Rattle.envtools.proofs.DraftLemmas.{put-written, IsDraft-written}
@@ -22,5 +23,12 @@ returns-clause-ok c =
 
 pub invariant_of-self-2 : goal.invariant_of-self-2
 invariant_of-self-2 c =
-    IsDraft-written (place_of c.self.inside.places.entries) (place_of c.move_to.new.places.entries) c.self.inside.written.items c.push.new.self.items c.in_ok-key.key c.in_ok-kept.kept
-    c.args.name.now c.args.value.now c.len-last.result (last c) (pushed c) c.in_ok-key.ensures.items c.in_ok-kept.ensures.items c.in_ok-move_to.ensures.ok c.requires c.self.invariant
+    let more = length_push c.self.inside.written.items (c.in_ok-key.key, c.in_ok-kept.kept) in
+    let room = c.in_ok-reserve-2.ensures.ok in
+    let count = ap length (pushed c) in
+    let at = last c in (
+      IsDraft-written (place_of c.self.inside.places.entries) (place_of c.move_to.new.places.entries) c.self.inside.written.items c.push.new.self.items c.in_ok-key.key c.in_ok-kept.kept
+          c.args.name.now c.args.value.now c.len-last.result (last c) (pushed c) c.in_ok-key.ensures.items c.in_ok-kept.ensures.items c.in_ok-move_to.ensures.ok c.requires c.self.invariant.0,
+      c.reserve-2.ensures.entries ∙ c.self.invariant.1,
+      omega (arith, more, room, count, at),
+    )

@@ -11,5 +11,8 @@ returns-clause-ok c =
     ∙ ap (λ ps. dropped ps c.args.name.now) c.self.view_is
 
 pub invariant_of-self-2 : goal.invariant_of-self-2
-invariant_of-self-2 c =
-    IsDraft-removed (place_of c.self.inside.places.entries) (place_of c.move_to.new.places.entries) (seen c.self.inside.written.items) c.args.name.now c.in_ok-move_to.ensures.ok c.self.invariant
+invariant_of-self-2 c = (
+  IsDraft-removed (place_of c.self.inside.places.entries) (place_of c.move_to.new.places.entries) (seen c.self.inside.written.items) c.args.name.now c.in_ok-move_to.ensures.ok c.self.invariant.0,
+  c.self.invariant.1,
+  c.self.invariant.2,
+)
