@@ -1,0 +1,203 @@
+-- A device command that asks is found again.
+use Rattle.std.proofs.Common.{ℕ, zero, suc, Bool, true, false, List, [], ◌∷◌, length, Option, Some, None, refl, sym, ap, subst, ◌∙◌, ◌≡◌, nat_lt, nat_le, nat_eq}
+use Rattle.hushlang.specs.Tree as tree
+use Rattle.hushlang.specs.Tree.{Script, AndOr, Joined, Command, Arms}
+use Rattle.hushlang.specs.Expansion.{fields, joined, size, most_bytes}
+use Rattle.hushlang.specs.declared.tree.Op.{Op}
+use Rattle.bootstore.specs.Moment.{RunningFrame}
+use Rattle.bootstore.specs.declared.frame.FrameKind.{FrameKind}
+use Rattle.bootstore.specs.declared.frame.FrameKind.TheVariants as kinds
+use Rattle.std.specs.Prelude.{slice_get}
+use Rattle.rehearse.specs.Trees.{tree_of}
+use Rattle.rehearse.specs.Verdict.{verdict}
+use Rattle.rehearse.specs.State.{Text, get, State, setting_in}
+use Rattle.rehearse.specs.Commands.{Builtin, SetEnv, Run, Test, Echo, True, False, Leave, NoCommand, Device, builtins, builtin_in, asks_device, exit_status}
+use Rattle.rehearse.specs.Execution.{Setting, CutDevices, CutSteps, Size, set_status, set_local, status_when, goes, holds, Request, no_effect}
+use Rattle.rehearse_machine.specs.Places.{PlaceNext, GoOn, AskOn, StopOn, list_at, joined_at, second, command_in, command_at, drop_arms, block_frame, behind, in_turn, left, to_run, place_exit, place_assign, place_tree, place_text, place_name, run_move, for_turn, for_move, for_begins, place_arms, condition_ends, loop_ends, phase_move, place_fitting, place_ask, place_builtin, place_fields, place_counted, place_command, place_joined, place_begins, place_turn, place_list, place_by, place_move}
+use Rattle.rehearse_machine.specs.Asking.{words_of, fields_again, found_again, AsksAgain}
+
+-- a command that asks does so with these frames, in this state
+abbrev AsksHere : List RunningFrame → State → PlaceNext → Type 0
+AsksHere ps s (GoOn qs t) = Unit {0}
+AsksHere ps s (AskOn request qs t) = (qs ≡ ps) × (t ≡ s)
+AsksHere ps s (StopOn ending t) = Unit {0}
+
+-- no command asks
+abbrev NeverAsks : PlaceNext → Type 0
+NeverAsks (GoOn qs t) = Unit {0}
+NeverAsks (AskOn request qs t) = ⊥
+NeverAsks (StopOn ending t) = Unit {0}
+
+module _ (setting : Setting) where
+  never_again : (next : PlaceNext) → NeverAsks next → AsksAgain setting next
+  never_again (GoOn qs t) h = tt
+  never_again (AskOn request qs t) h = absurd h
+  never_again (StopOn ending t) h = tt
+
+  found : (ps : List RunningFrame) (s : State) (next : PlaceNext) → found_again setting ps s ≡ next → AsksHere ps s next → AsksAgain setting next
+  found ps s (GoOn qs t) e h = tt
+  found ps s (AskOn request qs t) e h = ap (λ (rs : List RunningFrame). found_again setting rs t) h.0 ∙ ap (λ (u : State). found_again setting ps u) h.1 ∙ e
+  found ps s (StopOn ending t) e h = tt
+
+  either_here : (ps : List RunningFrame) (s : State) (b : Bool) (x y : PlaceNext) → AsksHere ps s x → AsksHere ps s y → AsksHere ps s (elim b [ true ↦ x | false ↦ y ])
+  either_here ps s true x y h k = h
+  either_here ps s false x y h k = k
+
+  either_never : (b : Bool) (x y : PlaceNext) → NeverAsks x → NeverAsks y → NeverAsks (elim b [ true ↦ x | false ↦ y ])
+  either_never true x y h k = h
+  either_never false x y h k = k
+
+  either_again : (b : Bool) (x y : PlaceNext) → AsksAgain setting x → AsksAgain setting y → AsksAgain setting (elim b [ true ↦ x | false ↦ y ])
+  either_again true x y h k = h
+  either_again false x y h k = k
+
+  -- ---- the fields of a command
+
+  left_here : (ps qs : List RunningFrame) (s t : State) → AsksHere ps s (left qs t)
+  left_here ps [] s t = tt
+  left_here ps (q ∷ qs) s t = tt
+
+  exit_here : (ps : List RunningFrame) (s : State) (o : Option ℕ) → AsksHere ps s (place_exit o ps s)
+  exit_here ps s None = tt
+  exit_here ps s (Some status) = left_here ps (to_run ps) s (set_status status s)
+
+  ask_here : (r : Request) (ps : List RunningFrame) (s : State) → AsksHere ps s (place_ask setting r ps s)
+  ask_here r ps s = either_here ps s (nat_lt (length s.log) setting.device_bound) (AskOn r ps s) (StopOn CutDevices s) (refl, refl) tt
+
+  builtin_here : (b : Builtin) (name : Text) (ws : List Text) (script : Script) (ps : List RunningFrame) (s : State) → AsksHere ps s (place_builtin setting b name ws script ps s)
+  builtin_here SetEnv name ws script ps s = tt
+  builtin_here Run name [] script ps s = tt
+  builtin_here Run name (w ∷ ws) script ps s = tt
+  builtin_here Test name ws script ps s =
+      let r : Request = record { name = name; words = ws; effect = no_effect } in
+      either_here ps s (asks_device ws) (place_ask setting r ps s) (GoOn ps (set_status (status_when (verdict ws)) s)) (ask_here r ps s) tt
+  builtin_here Echo name ws script ps s = tt
+  builtin_here True name ws script ps s = tt
+  builtin_here False name ws script ps s = tt
+  builtin_here Leave name ws script ps s = exit_here ps s (exit_status ws)
+  builtin_here (Device effect) name ws script ps s = ask_here (record { name = name; words = ws; effect = effect }) ps s
+  builtin_here NoCommand name ws script ps s = tt
+
+  fields_here : (fs : List Text) (script : Script) (ps : List RunningFrame) (s : State) → AsksHere ps s (place_fields setting fs script ps s)
+  fields_here [] script ps s = tt
+  fields_here (name ∷ ws) script ps s = builtin_here (builtin_in builtins setting.devices name) name ws script ps s
+
+  -- ---- what never asks
+
+  assign_never : (pairs : List (Text × tree.Word)) (ps : List RunningFrame) (s : State) → NeverAsks (place_assign pairs ps s)
+  assign_never [] ps s = tt
+  assign_never (pair ∷ pairs) ps s =
+      let value : Text = joined (setting_in s.memory) pair.1 in
+      either_never (nat_le (length value) most_bytes) (place_assign pairs ps (set_local pair.0 value s)) (StopOn Size s) (assign_never pairs ps (set_local pair.0 value s)) tt
+
+  for_never : (fs : List Text) (f : RunningFrame) (ps : List RunningFrame) (s : State) → NeverAsks (for_begins fs f ps s)
+  for_never [] f ps s = tt
+  for_never (v ∷ vs) f ps s = tt
+
+  fitting_never : (fs : List Text) (next : List Text → State → PlaceNext) (s : State) → NeverAsks (next fs s) → NeverAsks (place_fitting fs next s)
+  fitting_never fs next s h = either_never (nat_le (size fs) most_bytes) (next fs s) (StopOn Size s) h tt
+
+  counted_never : (next : State → PlaceNext) (s : State) → NeverAsks (next (record s { steps = suc s.steps })) → NeverAsks (place_counted setting next s)
+  counted_never next s h = either_never (nat_lt s.steps setting.step_bound) (next (record s { steps = suc s.steps })) (StopOn CutSteps s) h tt
+
+  arms_never : (arms : Arms) (a : ℕ) (f : RunningFrame) (ps : List RunningFrame) (s : State) → NeverAsks (place_arms arms a f ps s)
+  arms_never (tree.Arm c b more) a f ps s = tt
+  arms_never (tree.Else b) a f ps s = tt
+  arms_never tree.NoElse a f ps s = tt
+
+  condition_never : (arms : Arms) (a : ℕ) (f : RunningFrame) (ps : List RunningFrame) (s : State) → NeverAsks (condition_ends arms a f ps s)
+  condition_never (tree.Arm c b more) a f ps s = either_never (nat_eq s.memory.status 0) (GoOn (block_frame b ∷ behind f ∷ ps) s) (place_arms more (suc a) f ps s) tt (arms_never more (suc a) f ps s)
+  condition_never (tree.Else b) a f ps s = tt
+  condition_never tree.NoElse a f ps s = tt
+
+  phase_never : (o : Option Command) (a : ℕ) (f : RunningFrame) (ps : List RunningFrame) (s : State) → NeverAsks (phase_move o a f ps s)
+  phase_never None a f ps s = tt
+  phase_never (Some (tree.Simple words)) a f ps s = tt
+  phase_never (Some (tree.Assign pairs)) a f ps s = tt
+  phase_never (Some (tree.If arms)) a f ps s = condition_never (drop_arms a arms) a f ps s
+  phase_never (Some (tree.Loop until c b)) zero f ps s = either_never (holds until s.memory.status) (GoOn (block_frame b ∷ in_turn 2 0 f ∷ ps) s) (GoOn (behind f ∷ ps) (set_status f.place.last s)) tt tt
+  phase_never (Some (tree.Loop until c b)) (suc a) f ps s = tt
+  phase_never (Some (tree.For name words body)) a f ps s = tt
+
+  turn_never : (o : Option Text) (name : Text) (body : Script) (f : RunningFrame) (ps : List RunningFrame) (s : State) → NeverAsks (for_turn o name body f ps s)
+  turn_never None name body f ps s = tt
+  turn_never (Some value) name body f ps s = tt
+
+  values_never : (o : Option Command) (f : RunningFrame) (ps : List RunningFrame) (s : State) → NeverAsks (for_move o f ps s)
+  values_never None f ps s = tt
+  values_never (Some (tree.Simple words)) f ps s = tt
+  values_never (Some (tree.Assign pairs)) f ps s = tt
+  values_never (Some (tree.If arms)) f ps s = tt
+  values_never (Some (tree.Loop until c b)) f ps s = tt
+  values_never (Some (tree.For name words body)) f ps s = turn_never (slice_get f.words f.place.turn) name body f ps s
+
+  tree_never : (o : Option Script) (name : Text) (f : RunningFrame) (ps : List RunningFrame) (s : State) → NeverAsks (place_tree o name f ps s)
+  tree_never None name f ps s = tt
+  tree_never (Some t) name f ps s = tt
+
+  text_never : (o : Option Text) (name : Text) (f : RunningFrame) (ps : List RunningFrame) (s : State) → NeverAsks (place_text o name f ps s)
+  text_never None name f ps s = tt
+  text_never (Some text) name f ps s = tree_never (tree_of text) name f ps s
+
+  name_never : (o : Option Text) (f : RunningFrame) (ps : List RunningFrame) (s : State) → NeverAsks (place_name o f ps s)
+  name_never None f ps s = tt
+  name_never (Some name) f ps s = text_never (get s.memory.environment name) name f ps s
+
+  run_never : (f : RunningFrame) (ps : List RunningFrame) (s : State) → NeverAsks (run_move f ps s)
+  run_never f ps s =
+      let named : PlaceNext = place_name (slice_get f.words f.place.turn) f ps s in
+      let h : NeverAsks named = name_never (slice_get f.words f.place.turn) f ps s in
+      either_never (nat_eq f.place.turn 0) named (elim (nat_eq s.memory.status 0) [ true ↦ named | false ↦ GoOn ps s ]) h (either_never (nat_eq s.memory.status 0) named (GoOn ps s) h tt)
+
+  -- ---- a move
+
+  module _ (f : RunningFrame) (fs : List RunningFrame) where
+    simple_again : (words : List tree.Word) (s : State) → command_at (list_at f.script f.place.list) f.place.command ≡ Some (tree.Simple words) → AsksAgain setting (place_command setting (tree.Simple words) f fs s)
+    simple_again words s e =
+        let t : State = record s { steps = suc s.steps } in
+        let found_fields : List Text = fields (setting_in t.memory) words in
+        let ps : List RunningFrame = behind f ∷ fs in
+        let next : PlaceNext = place_fields setting found_fields f.script ps t in
+        let whole : PlaceNext = place_fitting found_fields (λ fs'. place_fields setting fs' f.script ps) t in
+        let same : found_again setting ps t ≡ whole = ap (λ (o : Option Command). fields_again setting (words_of o) (behind f) fs t) e in
+        let here : AsksHere ps t whole = either_here ps t (nat_le (size found_fields) most_bytes) next (StopOn Size t) (fields_here found_fields f.script ps t) tt in
+        either_again (nat_lt s.steps setting.step_bound) whole (StopOn CutSteps s) (found ps t whole same here) tt
+
+    command_again : (c : Command) (s : State) → command_at (list_at f.script f.place.list) f.place.command ≡ Some c → AsksAgain setting (place_command setting c f fs s)
+    command_again (tree.Simple words) s e = simple_again words s e
+    command_again (tree.Assign pairs) s e = never_again (place_command setting (tree.Assign pairs) f fs s) (counted_never (place_assign pairs (behind f ∷ fs)) s (assign_never pairs (behind f ∷ fs) (record s { steps = suc s.steps })))
+    command_again (tree.If arms) s e = never_again (place_arms arms 0 f fs s) (arms_never arms 0 f fs s)
+    command_again (tree.Loop until c b) s e = tt
+    command_again (tree.For name words body) s e =
+        let t : State = record s { steps = suc s.steps } in
+        let found_fields : List Text = fields (setting_in t.memory) words in
+        never_again (place_command setting (tree.For name words body) f fs s)
+        (counted_never (λ u. place_fitting (fields (setting_in u.memory) words) (λ fs'. for_begins fs' f fs) u) s (fitting_never found_fields (λ fs'. for_begins fs' f fs) t (for_never found_fields f fs t)))
+
+    joined_again : (o : Option (Op × Command)) (s : State) → ((pair : Op × Command) → o ≡ Some pair → command_at (list_at f.script f.place.list) f.place.command ≡ Some pair.1) → AsksAgain setting (place_joined setting o f fs s)
+    joined_again None s e = tt
+    joined_again (Some pair) s e = either_again (goes pair.0 s.memory.status) (place_command setting pair.1 f fs s) (GoOn (behind f ∷ fs) s) (command_again pair.1 s (e pair refl)) tt
+
+    begins_again : (list : AndOr) (n : ℕ) (s : State) → f.place.command ≡ n → list_at f.script f.place.list ≡ Some list → AsksAgain setting (place_begins setting list n f fs s)
+    begins_again (tree.Starts c joins) zero s n e = command_again c s (ap (λ (o : Option AndOr). command_at o f.place.command) e ∙ ap (command_in (tree.Starts c joins)) n)
+    begins_again (tree.Starts c joins) (suc j) s n e =
+        joined_again (joined_at joins j) s (λ pair k. ap (λ (o : Option AndOr). command_at o f.place.command) e ∙ ap (command_in (tree.Starts c joins)) n ∙ ap second k)
+
+    turn_again : (list : AndOr) (turn : ℕ) (s : State) → list_at f.script f.place.list ≡ Some list → AsksAgain setting (place_turn setting list turn f fs s)
+    turn_again list zero s e = begins_again list f.place.command s refl e
+    turn_again list (suc a) s e = never_again (phase_move (command_in list f.place.command) a f fs s) (phase_never (command_in list f.place.command) a f fs s)
+
+    list_again : (o : Option AndOr) (s : State) → list_at f.script f.place.list ≡ o → AsksAgain setting (place_list setting o f fs s)
+    list_again None s e = tt
+    list_again (Some list) s e = turn_again list f.place.turn s e
+
+    by_again : (kind : FrameKind) (s : State) → AsksAgain setting (place_by setting kind f fs s)
+    by_again kinds.Text s = list_again (list_at f.script f.place.list) s refl
+    by_again kinds.Block s = list_again (list_at f.script f.place.list) s refl
+    by_again kinds.For s = never_again (place_by setting kinds.For f fs s) (values_never (command_at (list_at f.script f.place.list) f.place.command) f fs s)
+    by_again kinds.Run s = never_again (run_move f fs s) (run_never f fs s)
+
+  -- a move to a command that asks leaves the frames where it is found again
+  pub asks_again : (ps : List RunningFrame) (s : State) → AsksAgain setting (place_move setting ps s)
+  asks_again [] s = tt
+  asks_again (f ∷ fs) s = by_again f fs f.kind s

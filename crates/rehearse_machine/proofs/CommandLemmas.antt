@@ -1,0 +1,57 @@
+-- Commands of the program's tree, by what they say.
+use Rattle.std.proofs.Common.{ℕ, zero, suc, Bool, List, ◌∷◌, map, Option, Some, refl, sym, ap, ◌∙◌, ◌≡◌}
+use Rattle.std.specs.declared.alloc.Global.{Global}
+use Rattle.std.specs.declared.rc.Rc.{Rc}
+use Rattle.std.specs.declared.vec.Vec.{Vec}
+use Rattle.hushlang.specs.declared.tree.Script.{Script as Code}
+use Rattle.hushlang.specs.declared.tree.Word.{Word}
+use Rattle.hushlang.specs.declared.tree.Command.{Command as CommandCode, Simple, Assign, If, Loop, For}
+use Rattle.hushlang.specs.Tree as tree
+use Rattle.hushlang.specs.Tree.{Script, Command, Arms}
+use Rattle.hushlang.specs.View as view
+use Rattle.hushlang.proofs.ViewLemmas.{command_simple, command_assign, command_loop, command_for, command_if}
+use Rattle.bootstore.specs.declared.frame.At.{At}
+use Rattle.bootstore.specs.Moment.{RunningFrame}
+use Rattle.rehearse.specs.State.{State}
+use Rattle.rehearse_machine.specs.Places.{GoOn, drop_arms, place, moved_to, in_turn, block_frame, condition_ends, loop_ends, phase_move}
+use Rattle.rehearse_machine.proofs.ArmLemmas.{Arm}
+
+abbrev pub says_if : (c : CommandCode) (arms : Vec Arm Global) (o : Option (Rc Code Global)) → c ≡ If arms o → view.command c ≡ tree.If (view.arms (map view.arm arms.items) (view.script_in o))
+says_if c arms o e = ap view.command e ∙ command_if arms o
+
+abbrev pub says_loop : (c : CommandCode) (until : Bool) (cond body : Rc Code Global) → c ≡ Loop until cond body → view.command c ≡ tree.Loop until (view.script cond.value) (view.script body.value)
+says_loop c until cond body e = ap view.command e ∙ command_loop until cond body
+
+abbrev pub says_simple : (c : CommandCode) (words : Vec Word Global) → c ≡ Simple words → view.command c ≡ tree.Simple (map view.word words.items)
+says_simple c words e = ap view.command e ∙ command_simple words
+
+abbrev pub says_assign : (c : CommandCode) (values : Vec (Vec ℕ Global × Word) Global) → c ≡ Assign values → view.command c ≡ tree.Assign (view.values_in values)
+says_assign c values e = ap view.command e ∙ command_assign values
+
+abbrev pub says_for : (c : CommandCode) (name : Vec ℕ Global) (words : Vec Word Global) (body : Rc Code Global) → c ≡ For name words body → view.command c ≡ tree.For name.items (map view.word words.items) (view.script body.value)
+says_for c name words body e = ap view.command e ∙ command_for name words body
+
+module _ (c : CommandCode) (turn : ℕ) (f : RunningFrame) (fs : List RunningFrame) (s : State) where
+  pub if_ends : (arms : Vec Arm Global) (o : Option (Rc Code Global)) (list : List Arm) → c ≡ If arms o → list ≡ arms.items → condition_ends (drop_arms turn (view.arms (map view.arm list) (view.script_in o))) turn f fs s ≡ phase_move (Some (view.command c)) turn f fs s
+  if_ends arms o list e l = ap (λ (x : List Arm). condition_ends (drop_arms turn (view.arms (map view.arm x) (view.script_in o))) turn f fs s) l ∙ sym (ap (λ (x : Command). phase_move (Some x) turn f fs s) (says_if c arms o e))
+
+  pub loop_checked : (until : Bool) (cond body : Rc Code Global) → c ≡ Loop until cond body → turn ≡ 0 → loop_ends until (view.script body.value) f fs s ≡ phase_move (Some (view.command c)) turn f fs s
+  loop_checked until cond body e t = sym (ap (λ (x : Command). phase_move (Some x) turn f fs s) (says_loop c until cond body e) ∙ ap (λ (n : ℕ). phase_move (Some (tree.Loop until (view.script cond.value) (view.script body.value))) n f fs s) t)
+
+  again : (n : ℕ) → (n ≡ 0 → ⊥) → (until : Bool) (x y : Script) → GoOn (block_frame x ∷ in_turn 1 s.memory.status f ∷ fs) s ≡ phase_move (Some (tree.Loop until x y)) n f fs s
+  again zero h until x y = absurd (h refl)
+  again (suc n) h until x y = refl
+
+  pub loop_again : (until : Bool) (cond body : Rc Code Global) (last : ℕ) → c ≡ Loop until cond body → (turn ≡ 0 → ⊥) → last ≡ s.memory.status → GoOn (block_frame (view.script cond.value) ∷ in_turn 1 last f ∷ fs) s ≡ phase_move (Some (view.command c)) turn f fs s
+  loop_again until cond body last e t l =
+      ap (λ (n : ℕ). GoOn (block_frame (view.script cond.value) ∷ in_turn 1 n f ∷ fs) s) l ∙ again turn t until (view.script cond.value) (view.script body.value)
+      ∙ sym (ap (λ (x : Command). phase_move (Some x) turn f fs s) (says_loop c until cond body e))
+
+  pub no_block_simple : (words : Vec Word Global) (at : At) → c ≡ Simple words → at ≡ place f.place.list (suc f.place.command) 0 0 → GoOn (moved_to at f ∷ fs) s ≡ phase_move (Some (view.command c)) turn f fs s
+  no_block_simple words at e k = ap (λ (x : At). GoOn (moved_to x f ∷ fs) s) k ∙ sym (ap (λ (x : Command). phase_move (Some x) turn f fs s) (says_simple c words e))
+
+  pub no_block_assign : (values : Vec (Vec ℕ Global × Word) Global) (at : At) → c ≡ Assign values → at ≡ place f.place.list (suc f.place.command) 0 0 → GoOn (moved_to at f ∷ fs) s ≡ phase_move (Some (view.command c)) turn f fs s
+  no_block_assign values at e k = ap (λ (x : At). GoOn (moved_to x f ∷ fs) s) k ∙ sym (ap (λ (x : Command). phase_move (Some x) turn f fs s) (says_assign c values e))
+
+  pub no_block_for : (name : Vec ℕ Global) (words : Vec Word Global) (body : Rc Code Global) (at : At) → c ≡ For name words body → at ≡ place f.place.list (suc f.place.command) 0 0 → GoOn (moved_to at f ∷ fs) s ≡ phase_move (Some (view.command c)) turn f fs s
+  no_block_for name words body at e k = ap (λ (x : At). GoOn (moved_to x f ∷ fs) s) k ∙ sym (ap (λ (x : Command). phase_move (Some x) turn f fs s) (says_for c name words body e))

@@ -1,0 +1,139 @@
+-- What the built-in commands do to a store.
+use Rattle.std.proofs.Common.{ℕ, zero, suc, ◌+◌, ◌-◌, ◌*◌, Bool, true, false, cond, List, [], ◌∷◌, take, drop, length, get_or, Option, Some, None, Result, Ok, Err, refl, sym, ap, subst, ◌∙◌, ◌≡◌, ◌<◌, ◌≤◌, arith, drop-cons}
+use Rattle.std.specs.Prelude.{Vec, OnOk}
+use Rattle.std.specs.List.{join_with_byte, slice_index_or, remove}
+use Rattle.std.proofs.lemmas.Bool.{lt-leb}
+use Rattle.std.proofs.Math.Dec.{eqb, eqb-suc-zero}
+use Rattle.std.specs.declared.alloc.Global.{Global}
+use Rattle.bootstore.specs.declared.store.StoreError.{StoreError}
+use Rattle.bootstore.specs.Moment.{Moment, RunningFrame, bytes_of_words}
+use Rattle.bootstore.specs.Record.{Record, changed, with_environment, with_status}
+use Rattle.hushlang.specs.Tree.{Script}
+use Rattle.rehearse.specs.Outcomes.{Word}
+use Rattle.rehearse.specs.State.{Text, Variables, State, state_at, with_value, without}
+use Rattle.rehearse.specs.Commands.{Builtin, SetEnv, Test, Echo, Device, builtins, builtin_in, asks_device, is_bad_name, setenv, echo, is_digit, decimal_from}
+use Rattle.rehearse.specs.Execution.{Setting, Request, no_effect, remember, set_status, status_when}
+use Rattle.rehearse.specs.Verdict.{verdict}
+use Rattle.rehearse.specs.DeviceList.{Effect}
+use Rattle.rehearse.proofs.StateLemmas.{stored_changes, stored_deletions}
+use Rattle.rehearse_machine.specs.declared.ask.Step.{Step}
+use Rattle.rehearse_machine.specs.declared.ask.Step.TheVariants as steps
+use Rattle.rehearse_machine.specs.Places.{PlaceNext, GoOn, place_ask, place_builtin, place_fields}
+use Rattle.rehearse_machine.specs.Seen.{next_seen, Does, Changes, Changed}
+
+-- ---- numbers
+
+no_number : (b : Bool) (o : Option ℕ) → o ≡ None → cond b o None ≡ None
+no_number true o e = e
+no_number false o e = refl
+
+grows : (n b : ℕ) → 255 < n → 255 < n * 10 + b
+grows n b h = omega arith
+
+too_large : (n : ℕ) (bs : List ℕ) → 255 < n → decimal_from n bs ≡ None
+too_large n [] h = ap (λ (b : Bool). cond b (Some n) None) (lt-leb n 255 h)
+too_large n (b ∷ bs) h = no_number (is_digit b) (decimal_from (n * 10 + (b - 48)) bs) (too_large (n * 10 + (b - 48)) bs (grows n (b - 48) h))
+
+pub too_much : (n : ℕ) (word : List ℕ) (i : ℕ) → i < length word → 255 < n * 10 + (get_or word i 0 - 48) → decimal_from n (drop i word) ≡ None
+too_much n word i l h = ap (decimal_from n) (drop-cons word i 0 l) ∙ no_number (is_digit (get_or word i 0)) (decimal_from (n * 10 + (get_or word i 0 - 48)) (drop (suc i) word)) (too_large (n * 10 + (get_or word i 0 - 48)) (drop (suc i) word) h)
+
+-- ---- lists of words
+
+take_all : {A : Type 0} (n : ℕ) (ys : List A) → n ≡ length ys → take n ys ≡ ys
+take_all zero [] e = refl
+take_all zero (y ∷ ys) e = absurd (omega arith)
+take_all (suc n) [] e = refl
+take_all (suc n) (y ∷ ys) e = ap (λ zs. y ∷ zs) (take_all n ys (omega arith))
+
+pub first_and_rest : (xs : List (Vec ℕ Global)) (x : Vec ℕ Global) → 1 ≤ length xs → x ≡ get_or xs 0 x → xs ≡ x ∷ take (length xs - 1) (drop 1 xs)
+first_and_rest [] x h e = absurd (omega arith)
+first_and_rest (y ∷ ys) x h e = ap (λ z. z ∷ ys) (sym e) ∙ ap (λ zs. x ∷ zs) (sym (take_all (suc (length ys) - 1) ys (omega arith)))
+
+pub removed_first : (xs : List (Vec ℕ Global)) (x : Vec ℕ Global) (rest : List (Vec ℕ Global)) → 0 < length xs → x ≡ slice_index_or xs 0 x → rest ≡ remove xs 0 → xs ≡ x ∷ rest
+removed_first [] x rest h e k = absurd (omega arith)
+removed_first (y ∷ ys) x rest h e k = ap (λ z. z ∷ ys) (sym e) ∙ ap (λ zs. x ∷ zs) (sym k)
+
+-- ---- `setenv`
+
+abbrev with_memory : State → Variables → State
+with_memory s variables = record s { memory = record { environment = variables; locals = s.memory.locals; status = 0; text = s.memory.text } }
+
+pub deleted : (old : Moment) (name : Text) (words : List Text) (w : Word) → words ≡ name ∷ [] → is_bad_name name ≡ false → state_at (with_status 0 (with_environment name None old)) w ≡ remember (setenv words) (state_at old w)
+deleted old name words w e b =
+    ap (with_memory (state_at old w)) (stored_deletions old.environment name)
+    ∙ ap (λ (x : Bool). remember (λ m. cond x (record m { status = 1 }) (record m { environment = without m.environment name; status = 0 })) (state_at old w)) (sym b)
+    ∙ ap (λ (x : List Text). remember (setenv x) (state_at old w)) (sym e)
+
+pub assigned : (old : Moment) (name value v : Text) (vs words : List Text) (w : Word) → words ≡ name ∷ v ∷ vs → value ≡ join_with_byte 32 (v ∷ vs) → is_bad_name name ≡ false → state_at (with_status 0 (with_environment name (Some value) old)) w ≡ remember (setenv words) (state_at old w)
+assigned old name value v vs words w e k b =
+    ap (with_memory (state_at old w)) (stored_changes old.environment name value)
+    ∙ ap (λ (x : Text). with_memory (state_at old w) (with_value (state_at old w).memory.environment name x)) k
+    ∙ ap (λ (x : Bool). remember (λ m. cond x (record m { status = 1 }) (record m { environment = with_value m.environment name (join_with_byte 32 (v ∷ vs)); status = 0 })) (state_at old w)) (sym b)
+    ∙ ap (λ (x : List Text). remember (setenv x) (state_at old w)) (sym e)
+
+set_changed : (r : Result (Unit {0}) StoreError) (old mid new : Record) (name : Text) (o : Option Text) (words : List Text) → ((w : Word) → state_at (with_status 0 (with_environment name o old.present)) w ≡ remember (setenv words) (state_at old.present w)) → mid ≡ changed (with_environment name o) old → OnOk r (new ≡ changed (with_status 0) mid) → Changed r old new (setenv words)
+set_changed (Ok done) old mid new name o words h e k =
+    subst (λ (x : Record). Changes old x (setenv words)) (sym (k ∙ ap (changed (with_status 0)) e)) (h, refl, record { marked = refl; begun = omega arith })
+set_changed (Err x) old mid new name o words h e k = tt
+
+pub deletes : (r : Result (Unit {0}) StoreError) (old mid new : Record) (name : Text) (words : List Text) → words ≡ name ∷ [] → is_bad_name name ≡ false → mid ≡ changed (with_environment name None) old → OnOk r (new ≡ changed (with_status 0) mid) → Changed r old new (setenv words)
+deletes r old mid new name words p b e k = set_changed r old mid new name None words (λ w. deleted old.present name words w p b) e k
+
+pub assigns : (r : Result (Unit {0}) StoreError) (old mid new : Record) (name value : Text) (values words : List Text) → words ≡ name ∷ values → 0 < length values → value ≡ join_with_byte 32 values → is_bad_name name ≡ false → mid ≡ changed (with_environment name (Some value)) old → OnOk r (new ≡ changed (with_status 0) mid) → Changed r old new (setenv words)
+assigns r old mid new name value [] words p l j b e k = absurd (omega arith)
+assigns r old mid new name value (v ∷ vs) words p l j b e k = set_changed r old mid new name (Some value) words (λ w. assigned old.present name value v vs words w p j b) e k
+
+-- ---- built-in commands
+
+module _ (setting : Setting) (old new : Record) (name : Text) (words : List Text) (script : Script) where
+  abbrev frames : List RunningFrame
+  frames = old.present.frames
+
+  pub setenv_does : (b : Builtin) (list : List Text) → b ≡ SetEnv → list ≡ words → Changes old new (setenv list) → Does steps.Going old new (place_builtin setting b name words script old.present.frames)
+  setenv_does b list e l h = (
+    λ w. ap (λ (x : List RunningFrame). GoOn x (state_at new.present w)) h.1 ∙ ap (GoOn frames) (h.0 w) ∙ ap (λ (x : List Text). GoOn frames (remember (setenv x) (state_at old.present w))) l
+        ∙ sym (ap (λ (x : Builtin). place_builtin setting x name words script frames (state_at old.present w)) e),
+    h.2,
+  )
+
+  pub echo_does : (b : Builtin) (list : List Text) → b ≡ Echo → list ≡ words → Changes old new (echo list) → Does steps.Going old new (place_builtin setting b name words script old.present.frames)
+  echo_does b list e l h = (
+    λ w. ap (λ (x : List RunningFrame). GoOn x (state_at new.present w)) h.1 ∙ ap (GoOn frames) (h.0 w) ∙ ap (λ (x : List Text). GoOn frames (remember (echo x) (state_at old.present w))) l
+        ∙ sym (ap (λ (x : Builtin). place_builtin setting x name words script frames (state_at old.present w)) e),
+    h.2,
+  )
+
+  abbrev request : Effect → Request
+  request effect = record { name = name; words = words; effect = effect }
+
+  abbrev Asked : Step → Effect → Type 0
+  Asked step effect = (w : Word) → next_seen step old.present w ≡ place_ask setting (request effect) old.present.frames (state_at old.present w)
+
+  taken : (b : Bool) (x y : PlaceNext) → b ≡ true → x ≡ elim b [ true ↦ x | false ↦ y ]
+  taken true x y e = refl
+  taken false x y e = absurd (let f = e in cc)
+
+  pub device_does : (step : Step) (b : Builtin) (effect : Effect) → b ≡ Device effect → Asked step effect → Does step old old (place_builtin setting b name words script old.present.frames)
+  device_does step b effect e h = (λ w. h w ∙ sym (ap (λ (x : Builtin). place_builtin setting x name words script frames (state_at old.present w)) e), record { marked = refl; begun = omega arith })
+
+  pub test_does : (step : Step) (b : Builtin) → b ≡ Test → asks_device words ≡ true → Asked step no_effect → Does step old old (place_builtin setting b name words script old.present.frames)
+  test_does step b e d h = (
+    λ w. h w ∙ taken (asks_device words) (place_ask setting (request no_effect) frames (state_at old.present w)) (GoOn frames (set_status (status_when (verdict words)) (state_at old.present w))) d
+        ∙ sym (ap (λ (x : Builtin). place_builtin setting x name words script frames (state_at old.present w)) e),
+    record { marked = refl; begun = omega arith },
+  )
+
+pub fields_named : (setting : Setting) (fields : List (Vec ℕ Global)) (name : Vec ℕ Global) (rest : List (Vec ℕ Global)) (script : Script) (ps : List RunningFrame) (s : State) → fields ≡ name ∷ rest → place_builtin setting (builtin_in builtins setting.devices name.items) name.items (bytes_of_words rest) script ps s ≡ place_fields setting (bytes_of_words fields) script ps s
+fields_named setting fields name rest script ps s e = sym (ap (λ (x : List (Vec ℕ Global)). place_fields setting (bytes_of_words x) script ps s) e)
+
+pub empty_rest : (ys : List (Vec ℕ Global)) → true ≡ eqb (length ys) 0 → ys ≡ []
+empty_rest [] e = refl
+empty_rest (y ∷ ys) e = absurd (let f = e ∙ eqb-suc-zero (length ys) in cc)
+
+pub some_rest : (ys : List (Vec ℕ Global)) → false ≡ eqb (length ys) 0 → 0 < length (bytes_of_words ys)
+some_rest [] e = absurd (let f = e in cc)
+some_rest (y ∷ ys) e = omega arith
+
+pub some_length : (n : ℕ) → false ≡ eqb n 0 → 0 < n
+some_length zero e = absurd (let f = e in cc)
+some_length (suc n) e = omega arith

@@ -1,0 +1,193 @@
+-- The machine ends: a move begins a step, of which there are as many as the bound allows, or comes closer to one.
+use Rattle.std.proofs.Common.{ℕ, suc, Bool, true, false, List, [], ◌∷◌, length, Option, Some, None, refl, ◌≡◌, ◌<◌, ◌≤◌, ◌⊎◌, inl, inr, arith, ◌+◌, nat_lt, nat_le, nat_eq, ltb-true}
+use Rattle.hushlang.specs.Tree as tree
+use Rattle.hushlang.specs.Tree.{Script, AndOr, Joined, Command, Arms}
+use Rattle.hushlang.specs.Expansion.{fields, joined, size, most_bytes}
+use Rattle.rehearse.specs.Trees.{tree_of}
+use Rattle.rehearse.specs.Verdict.{verdict}
+use Rattle.rehearse.specs.State.{Text, get, State, setting_in}
+use Rattle.rehearse.specs.Commands.{Builtin, SetEnv, Run, Test, Echo, True, False, Leave, NoCommand, Device, builtins, builtin_in, asks_device, exit_status}
+use Rattle.rehearse.specs.Proper.{IsProperCommand, AreProperArms, IsBlock}
+use Rattle.rehearse.specs.Execution.{Setting, CutDevices, CutSteps, Size, set_status, set_local, status_when, goes, holds, Request, no_effect}
+use Rattle.rehearse_machine.specs.Frames.{Frame, Lists, Linked, IfCondition, LoopCondition, LoopBody, ForBody, RunNames, RunText, Next, Go, Ask, Stop, leave, begin_assign, begin_for, begin_arms, begin_tree, begin_text, begin_names, begin_exit, fitting, ask, begin_builtin, begin_fields, begin_command, move}
+use Rattle.rehearse_machine.specs.Turns.{command_depth, arms_depth, script_depth, block_weight, links_weight, arms_weight, tree_weight, text_weight, names_weight, weight}
+use Rattle.rehearse_machine.specs.Meaning.{AreProperFrames}
+
+module _ (setting : Setting) where
+  -- no step was begun since t
+  abbrev pub IsQuiet : State → Next → Type 0
+  IsQuiet t (Go fs u) = u.steps ≡ t.steps
+  IsQuiet t (Ask r fs u) = u.steps ≡ t.steps
+  IsQuiet t (Stop ending u) = u.steps ≡ t.steps
+
+  -- where the environment is still that of s, it takes less than n
+  abbrev pub IsCloser : State → ℕ → Next → Type 0
+  IsCloser s n (Go fs t) = (t.steps ≡ s.steps) × (t.memory.environment ≡ s.memory.environment) × (weight s.memory.environment fs < n)
+  IsCloser s n (Ask r fs t) = ⊥
+  IsCloser s n (Stop ending u) = u.steps ≡ s.steps
+
+  -- a step was begun, or the end is reached
+  abbrev pub IsFurther : State → Next → Type 0
+  IsFurther s (Go fs t) = (s.steps < t.steps) × (t.steps ≤ setting.step_bound)
+  IsFurther s (Ask r fs t) = (s.steps < t.steps) × (t.steps ≤ setting.step_bound)
+  IsFurther s (Stop ending u) = (s.steps ≤ u.steps) × (s.steps ≤ setting.step_bound → u.steps ≤ setting.step_bound)
+
+  either-quiet : (t : State) (b : Bool) (x y : Next) → IsQuiet t x → IsQuiet t y → IsQuiet t (elim b [ true ↦ x | false ↦ y ])
+  either-quiet t true x y h k = h
+  either-quiet t false x y h k = k
+
+  leave-quiet : (fs : List Frame) (s : State) → IsQuiet s (leave fs s)
+  leave-quiet [] s = refl
+  leave-quiet (RunNames names ∷ fs) s = refl
+  leave-quiet (RunText names ∷ fs) s = refl
+  leave-quiet (Lists ls ∷ fs) s = leave-quiet fs s
+  leave-quiet (Linked ls ∷ fs) s = leave-quiet fs s
+  leave-quiet (IfCondition b arms ∷ fs) s = leave-quiet fs s
+  leave-quiet (LoopCondition until c b last ∷ fs) s = leave-quiet fs s
+  leave-quiet (LoopBody until c b ∷ fs) s = leave-quiet fs s
+  leave-quiet (ForBody name values body ∷ fs) s = leave-quiet fs s
+
+  assign-quiet : (pairs : List (Text × tree.Word)) (fs : List Frame) (t s : State) → s.steps ≡ t.steps → IsQuiet t (begin_assign pairs fs s)
+  assign-quiet [] fs t s e = e
+  assign-quiet (pair ∷ pairs) fs t s e = let value : Text = joined (setting_in s.memory) pair.1 in either-quiet t (nat_le (length value) most_bytes) (begin_assign pairs fs (set_local pair.0 value s)) (Stop Size s) (assign-quiet pairs fs t (set_local pair.0 value s) e) e
+
+  tree-quiet : (o : Option Script) (name : Text) (names : List Text) (fs : List Frame) (s : State) → IsQuiet s (begin_tree o name names fs s)
+  tree-quiet None name names fs s = refl
+  tree-quiet (Some tree.Empty) name names fs s = refl
+  tree-quiet (Some (tree.Runs l ls)) name names fs s = refl
+
+  text-quiet : (o : Option Text) (name : Text) (names : List Text) (fs : List Frame) (s : State) → IsQuiet s (begin_text o name names fs s)
+  text-quiet None name names fs s = refl
+  text-quiet (Some text) name names fs s = tree-quiet (tree_of text) name names fs s
+
+  names-quiet : (names : List Text) (fs : List Frame) (s : State) → IsQuiet s (begin_names names fs s)
+  names-quiet [] fs s = refl
+  names-quiet (name ∷ names) fs s = text-quiet (get s.memory.environment name) name names fs s
+
+  ask-quiet : (r : Request) (fs : List Frame) (s : State) → IsQuiet s (ask setting r fs s)
+  ask-quiet r fs s = either-quiet s (nat_lt (length s.log) setting.device_bound) (Ask r fs s) (Stop CutDevices s) refl refl
+
+  exit-quiet : (o : Option ℕ) (fs : List Frame) (s : State) → IsQuiet s (begin_exit o fs s)
+  exit-quiet (Some n) fs s = leave-quiet fs (set_status n s)
+  exit-quiet None fs s = refl
+
+  builtin-quiet : (b : Builtin) (name : Text) (ws : List Text) (fs : List Frame) (s : State) → IsQuiet s (begin_builtin setting b name ws fs s)
+  builtin-quiet SetEnv name ws fs s = refl
+  builtin-quiet Run name [] fs s = refl
+  builtin-quiet Run name (w ∷ ws) fs s = refl
+  builtin-quiet Test name ws fs s = either-quiet s (asks_device ws) (ask setting (record { name = name; words = ws; effect = no_effect }) fs s) (Go fs (set_status (status_when (verdict ws)) s)) (ask-quiet (record { name = name; words = ws; effect = no_effect }) fs s) refl
+  builtin-quiet Echo name ws fs s = refl
+  builtin-quiet True name ws fs s = refl
+  builtin-quiet False name ws fs s = refl
+  builtin-quiet Leave name ws fs s = exit-quiet (exit_status ws) fs s
+  builtin-quiet (Device effect) name ws fs s = ask-quiet (record { name = name; words = ws; effect = effect }) fs s
+  builtin-quiet NoCommand name ws fs s = refl
+
+  fields-quiet : (ws : List Text) (fs : List Frame) (s : State) → IsQuiet s (begin_fields setting ws fs s)
+  fields-quiet [] fs s = refl
+  fields-quiet (name ∷ ws) fs s = builtin-quiet (builtin_in builtins setting.devices name) name ws fs s
+
+  for-quiet : (name : Text) (values : List Text) (body : Script) (fs : List Frame) (s : State) → IsQuiet s (begin_for name values body fs s)
+  for-quiet name [] body fs s = refl
+  for-quiet name (f ∷ values) body fs s = refl
+
+  -- what a step that was begun leads to
+  counted_further : (s : State) (next : Next) → s.steps < setting.step_bound → IsQuiet (record s { steps = suc s.steps }) next → IsFurther s next
+  counted_further s (Go fs u) l q = (omega arith, omega arith)
+  counted_further s (Ask r fs u) l q = (omega arith, omega arith)
+  counted_further s (Stop ending u) l q = (omega arith, λ h. omega arith)
+
+  counted_at : (b : Bool) (s : State) (next : Next) → nat_lt s.steps setting.step_bound ≡ b → IsQuiet (record s { steps = suc s.steps }) next → IsFurther s (elim b [ true ↦ next | false ↦ Stop CutSteps s ])
+  counted_at true s next e q = counted_further s next (ltb-true s.steps setting.step_bound e) q
+  counted_at false s next e q = (omega arith, λ h. h)
+
+  -- a move begins a step, or comes closer to one
+  abbrev pub Progress : State → ℕ → Next → Type 0
+  Progress s n next = IsFurther s next ⊎ IsCloser s n next
+
+  -- less than n is less than m
+  closer_more : (s : State) (n m : ℕ) (next : Next) → n ≤ m → IsCloser s n next → IsCloser s m next
+  closer_more s n m (Go fs t) l h = let k = h.2 in (h.0, h.1, omega arith)
+  closer_more s n m (Ask r fs t) l h = h
+  closer_more s n m (Stop ending u) l h = h
+
+  pub progress_more : (s : State) (n m : ℕ) (next : Next) → n ≤ m → Progress s n next → Progress s m next
+  progress_more s n m next l (inl h) = inl h
+  progress_more s n m next l (inr h) = inr (closer_more s n m next l h)
+
+  either_progress : (s : State) (n : ℕ) (b : Bool) (x y : Next) → Progress s n x → Progress s n y → Progress s n (elim b [ true ↦ x | false ↦ y ])
+  either_progress s n true x y h k = h
+  either_progress s n false x y h k = k
+
+  arms_progress : (arms : Arms) (fs : List Frame) (s : State) → AreProperArms arms → Progress s (suc (arms_weight arms (weight s.memory.environment fs))) (begin_arms arms fs s)
+  arms_progress (tree.Arm tree.Empty b arms) fs s p = absurd p.0
+  arms_progress (tree.Arm (tree.Runs l ls) b arms) fs s p = inr (refl, refl, omega arith)
+  arms_progress (tree.Else b) fs s p = inr (refl, refl, omega arith)
+  arms_progress tree.NoElse fs s p = inr (refl, refl, omega arith)
+
+  if_progress : (arms : Arms) (fs : List Frame) (s : State) → IsProperCommand (tree.If arms) → Progress s (suc (arms_depth arms)) (begin_arms arms fs s)
+  if_progress (tree.Arm tree.Empty b arms) fs s p = absurd p.0
+  if_progress (tree.Arm (tree.Runs l ls) b arms) fs s p = inr (refl, refl, omega arith)
+  if_progress (tree.Else b) fs s p = absurd p
+  if_progress tree.NoElse fs s p = absurd p
+
+  loop_progress : (until : Bool) (c b : Script) (last : ℕ) (fs : List Frame) (s : State) → IsBlock c → Progress s (suc (script_depth c)) (Go (Lists c ∷ LoopCondition until c b last ∷ fs) s)
+  loop_progress until tree.Empty b last fs s p = absurd p
+  loop_progress until (tree.Runs l ls) b last fs s p = inr (refl, refl, omega arith)
+
+  command_progress : (c : Command) (fs : List Frame) (s : State) → IsProperCommand c → Progress s (suc (command_depth c)) (begin_command setting c fs s)
+  command_progress (tree.Simple words) fs s p = let t : State = record s { steps = suc s.steps } in inl (counted_at (nat_lt s.steps setting.step_bound) s (fitting (fields (setting_in t.memory) words) (λ f. begin_fields setting f fs) t) refl (either-quiet t (nat_le (size (fields (setting_in t.memory) words)) most_bytes) (begin_fields setting (fields (setting_in t.memory) words) fs t) (Stop Size t) (fields-quiet (fields (setting_in t.memory) words) fs t) refl))
+  command_progress (tree.Assign pairs) fs s p = let t : State = record s { steps = suc s.steps } in inl (counted_at (nat_lt s.steps setting.step_bound) s (begin_assign pairs fs t) refl (assign-quiet pairs fs t t refl))
+  command_progress (tree.If arms) fs s p = if_progress arms fs s p
+  command_progress (tree.Loop until c b) fs s p = loop_progress until c b 0 fs s p.0
+  command_progress (tree.For name words body) fs s p = let t : State = record s { steps = suc s.steps } in inl (counted_at (nat_lt s.steps setting.step_bound) s (fitting (fields (setting_in t.memory) words) (λ f. begin_for name f body fs) t) refl (either-quiet t (nat_le (size (fields (setting_in t.memory) words)) most_bytes) (begin_for name (fields (setting_in t.memory) words) body fs t) (Stop Size t) (for-quiet name (fields (setting_in t.memory) words) body fs t) refl))
+
+  tree_progress : (o : Option Script) (name : Text) (names : List Text) (fs : List Frame) (s : State) → Progress s (suc (tree_weight o (suc (names_weight s.memory.environment names (weight s.memory.environment fs) + weight s.memory.environment fs)))) (begin_tree o name names fs s)
+  tree_progress None name names fs s = inr refl
+  tree_progress (Some tree.Empty) name names fs s = inr (refl, refl, omega arith)
+  tree_progress (Some (tree.Runs l ls)) name names fs s = inr (refl, refl, omega arith)
+
+  text_progress : (o : Option Text) (name : Text) (names : List Text) (fs : List Frame) (s : State) → Progress s (suc (text_weight o (suc (names_weight s.memory.environment names (weight s.memory.environment fs) + weight s.memory.environment fs)) (weight s.memory.environment fs))) (begin_text o name names fs s)
+  text_progress None name names fs s = inr (refl, refl, omega arith)
+  text_progress (Some text) name names fs s = tree_progress (tree_of text) name names fs s
+
+  names_progress : (names : List Text) (fs : List Frame) (s : State) → Progress s (suc (names_weight s.memory.environment names (weight s.memory.environment fs))) (begin_names names fs s)
+  names_progress [] fs s = inr (refl, refl, omega arith)
+  names_progress (name ∷ names) fs s = text_progress (get s.memory.environment name) name names fs s
+
+  looped : (c : Script) (until : Bool) (b : Script) (fs : List Frame) (s : State) → IsBlock c → Progress s (suc (block_weight c (weight s.memory.environment fs))) (Go (Lists c ∷ LoopCondition until c b s.memory.status ∷ fs) s)
+  looped tree.Empty until b fs s p = absurd p
+  looped (tree.Runs l ls) until b fs s p = inr (refl, refl, omega arith)
+
+  -- THE MEASURE: each move begins a step, or leaves less to a step
+  pub move_progress : (fs : List Frame) (s : State) → AreProperFrames fs → Progress s (weight s.memory.environment fs) (move setting fs s)
+  move_progress [] s p = inl (omega arith, λ h. h)
+  move_progress (Lists tree.Empty ∷ fs) s p = inr (refl, refl, omega arith)
+  move_progress (Lists (tree.Runs (tree.Starts c links) lists) ∷ fs) s p = command_progress c (Linked links ∷ Lists lists ∷ fs) s p.0.0.0
+  move_progress (Linked tree.Alone ∷ fs) s p = inr (refl, refl, omega arith)
+  move_progress (Linked (tree.Joins op c links) ∷ fs) s p =
+      let m = weight s.memory.environment fs in
+      either_progress s (suc (command_depth c + links_weight links m)) (goes op s.memory.status) (begin_command setting c (Linked links ∷ fs) s) (Go (Linked links ∷ fs) s)
+      (progress_more s (suc (command_depth c)) (suc (command_depth c + links_weight links m)) (begin_command setting c (Linked links ∷ fs) s) (omega arith) (command_progress c (Linked links ∷ fs) s p.0.0))
+      (inr (refl, refl, omega arith))
+  move_progress (IfCondition b arms ∷ fs) s p =
+      let m = weight s.memory.environment fs in
+      either_progress s (suc (block_weight b m + arms_weight arms m)) (nat_eq s.memory.status 0) (Go (Lists b ∷ fs) s) (begin_arms arms fs s)
+      (progress_more s (suc (block_weight b m)) (suc (block_weight b m + arms_weight arms m)) (Go (Lists b ∷ fs) s) (omega arith) (inr (refl, refl, omega arith)))
+      (progress_more s (suc (arms_weight arms m)) (suc (block_weight b m + arms_weight arms m)) (begin_arms arms fs s) (omega arith) (arms_progress arms fs s p.0.1))
+  move_progress (LoopCondition until c b last ∷ fs) s p =
+      let m = weight s.memory.environment fs in
+      let x = block_weight b (suc (block_weight c m)) in
+      either_progress s (suc (x + m)) (holds until s.memory.status) (Go (Lists b ∷ LoopBody until c b ∷ fs) s) (Go fs (set_status last s))
+      (inr (refl, refl, omega arith))
+      (inr (refl, refl, omega arith))
+  move_progress (LoopBody until c b ∷ fs) s p = looped c until b fs s p.0.0
+  move_progress (ForBody name [] body ∷ fs) s p = inr (refl, refl, omega arith)
+  move_progress (ForBody name (f ∷ values) body ∷ fs) s p = inr (refl, refl, omega arith)
+  move_progress (RunNames names ∷ fs) s p = names_progress names fs s
+  move_progress (RunText names ∷ fs) s p =
+      let m = weight s.memory.environment fs in
+      let x = names_weight s.memory.environment names m in
+      either_progress s (suc (x + m)) (nat_eq s.memory.status 0) (begin_names names fs s) (Go fs s)
+      (progress_more s (suc x) (suc (x + m)) (begin_names names fs s) (omega arith) (names_progress names fs s))
+      (inr (refl, refl, omega arith))

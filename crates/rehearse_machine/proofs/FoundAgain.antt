@@ -1,0 +1,67 @@
+-- The words of a command that asks, expanded again.
+use Rattle.std.proofs.Common.{ℕ, zero, suc, ◌-◌, Bool, true, false, List, ◌∷◌, Option, Some, None, refl, sym, ap, ◌∙◌, ◌≡◌, nat_le}
+use Rattle.hushlang.specs.Tree as tree
+use Rattle.hushlang.specs.Tree.{AndOr, Command}
+use Rattle.hushlang.specs.View as view
+use Rattle.hushlang.specs.declared.tree.AndOr.{AndOr as ListCode}
+use Rattle.hushlang.specs.Expansion as expansion
+use Rattle.hushlang.specs.Expansion.{fields, size, most_bytes}
+use Rattle.bootstore.specs.declared.frame.At.{At}
+use Rattle.bootstore.specs.Moment.{RunningFrame}
+use Rattle.bootstore.specs.Record.{Record}
+use Rattle.rehearse.specs.Outcomes.{Word}
+use Rattle.rehearse.specs.State.{Text, State, state_at, setting_in}
+use Rattle.rehearse.specs.Execution.{Setting, End, Size}
+use Rattle.rehearse_machine.specs.declared.halt.Halt.TheVariants as halts
+use Rattle.rehearse_machine.specs.declared.ask.Step.TheVariants as steps
+use Rattle.rehearse_machine.specs.Places.{PlaceNext, StopOn, list_at, command_in, command_at, place_fields}
+use Rattle.rehearse_machine.specs.Asking.{command_in_front, words_of, words_in_front, fields_again}
+use Rattle.rehearse_machine.specs.Variables.{setting_at}
+use Rattle.rehearse_machine.specs.Seen.{Does}
+use Rattle.rehearse_machine.proofs.Settings.{same_setting}
+use Rattle.rehearse_machine.proofs.PartLemmas.{back}
+use Rattle.rehearse_machine.proofs.Beginnings.{chosen, passed}
+
+-- ---- the command in front of a place
+
+module _ (at : At) (f : RunningFrame) (here : at ≡ f.place) where
+  pub none_in_front : at.command ≡ 0 → None ≡ words_in_front f
+  none_in_front z = sym (ap (λ (n : ℕ). words_of (command_in_front n f)) (ap (λ (x : At). x.command) (sym here) ∙ z))
+
+  module _ (h : at.command ≡ 0 → ⊥) where
+    in_front : words_in_front f ≡ words_of (command_at (list_at f.script f.place.list) (at.command - 1))
+    in_front = ap (λ (n : ℕ). words_of (command_in_front n f)) (ap (λ (x : At). x.command) (sym here) ∙ back at.command h)
+
+    pub no_list_in_front : list_at f.script f.place.list ≡ None → None ≡ words_in_front f
+    no_list_in_front e = sym (in_front ∙ ap (λ (o : Option AndOr). words_of (command_at o (at.command - 1))) e)
+
+    pub command_there_in_front : (l : ListCode) (c : Option Command) → list_at f.script f.place.list ≡ Some (view.list l) → c ≡ command_in (view.list l) (at.command - 1) → words_of c ≡ words_in_front f
+    command_there_in_front l c e k = sym (in_front ∙ ap (λ (o : Option AndOr). words_of (command_at o (at.command - 1))) e ∙ ap words_of (sym k))
+
+-- ---- what its words come to
+
+module _ (setting : Setting) (old : Record) (f : RunningFrame) (fs : List RunningFrame) where
+  pub nothing_again : None ≡ words_in_front f → Does (steps.Ends (halts.End old.present.status)) old old (fields_again setting (words_in_front f) f fs)
+  nothing_again e = (λ w. ap (λ (o : Option (List tree.Word)). fields_again setting o f fs (state_at old.present w)) e, record { marked = refl; begun = refl })
+
+  module _ (words : List tree.Word) (in_front : Some words ≡ words_in_front f) where
+    again : (w : Word) → fields_again setting (Some words) f fs (state_at old.present w) ≡ fields_again setting (words_in_front f) f fs (state_at old.present w)
+    again w = ap (λ (o : Option (List tree.Word)). fields_again setting o f fs (state_at old.present w)) in_front
+
+    abbrev expanded : Word → List Text
+    expanded w = fields (setting_in (state_at old.present w).memory) words
+
+    same_fields : (w : Word) → fields (setting_at old.present) words ≡ expanded w
+    same_fields w = ap (λ (x : expansion.Setting). fields x words) (same_setting old.present w)
+
+    pub too_long_again : nat_le (size (fields (setting_at old.present) words)) most_bytes ≡ false → Does (steps.Ends halts.Size) old old (fields_again setting (words_in_front f) f fs)
+    too_long_again h = (
+      λ w. passed (nat_le (size (expanded w)) most_bytes) (place_fields setting (expanded w) f.script (f ∷ fs) (state_at old.present w)) (StopOn Size (state_at old.present w)) (ap (λ (x : List Text). nat_le (size x) most_bytes) (sym (same_fields w)) ∙ h) ∙ again w,
+      record { marked = refl; begun = refl },
+    )
+
+    pub fields_found : (found : List Text) → found ≡ fields (setting_at old.present) words → nat_le (size (fields (setting_at old.present) words)) most_bytes ≡ true → (w : Word) → place_fields setting found f.script (f ∷ fs) (state_at old.present w) ≡ fields_again setting (words_in_front f) f fs (state_at old.present w)
+    fields_found found e h w =
+        ap (λ (x : List Text). place_fields setting x f.script (f ∷ fs) (state_at old.present w)) (e ∙ same_fields w)
+        ∙ chosen (nat_le (size (expanded w)) most_bytes) (place_fields setting (expanded w) f.script (f ∷ fs) (state_at old.present w)) (StopOn Size (state_at old.present w)) (ap (λ (x : List Text). nat_le (size x) most_bytes) (sym (same_fields w)) ∙ h)
+        ∙ again w

@@ -1,0 +1,9 @@
+-- The limits that bounds keep.
+use Rattle.std.proofs.Common.{ℕ, true, ◌≡◌, ◌≤◌, rules}
+use Rattle.rehearse.specs.Bounds.{BoundsShown, are_bounds}
+
+within_limit : (devices steps : ℕ) → are_bounds devices steps ≡ true → steps ≤ 1000000
+within_limit devices steps h = search rules
+
+pub steps_within : (b : BoundsShown) → are_bounds b.devices b.steps ≡ true → b.steps ≤ 1000000
+steps_within b h = within_limit b.devices b.steps h

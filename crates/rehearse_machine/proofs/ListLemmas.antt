@@ -1,0 +1,70 @@
+-- Lists of the program's tree, by what they say.
+use Rattle.std.proofs.Common.{ℕ, zero, suc, ◌-◌, Bool, true, false, List, [], ◌∷◌, map, length, get_or, Option, Some, None, refl, sym, ap, ◌∙◌, ◌≡◌, ◌<◌, ◌≤◌, arith}
+use Rattle.std.specs.Prelude.{slice_get}
+use Rattle.std.proofs.lemmas.Option.{slice_get_read, slice_get_past}
+use Rattle.hushlang.specs.declared.tree.Op.{Op}
+use Rattle.hushlang.specs.declared.tree.AndOr.{AndOr as ListCode}
+use Rattle.hushlang.specs.declared.tree.Command.{Command as CommandCode}
+use Rattle.hushlang.specs.Tree as tree
+use Rattle.hushlang.specs.Tree.{AndOr, Joined, Command}
+use Rattle.hushlang.specs.View as view
+use Rattle.hushlang.proofs.ViewLemmas.{list_of}
+use Rattle.bootstore.specs.declared.frame.At.{At}
+use Rattle.bootstore.specs.Moment.{RunningFrame}
+use Rattle.rehearse.specs.State.{State}
+use Rattle.rehearse.specs.Execution.{Setting, goes}
+use Rattle.rehearse_machine.specs.Places.{PlaceNext, GoOn, joined_at, place, moved_to, behind, place_command, place_joined, place_begins}
+
+abbrev pub Join : Type 0
+Join = Op × CommandCode
+
+pub join_some : (items : List Join) (j : ℕ) (p : Join) → slice_get items j ≡ Some p → joined_at (view.joins (map view.joined items)) j ≡ Some (p.0, view.command p.1)
+join_some [] j p e = absurd (let f = e in cc)
+join_some (x ∷ xs) zero p e = let f : x ≡ p = (let g = e in cc) in ap (λ (y : Join). Some (y.0, view.command y.1)) f
+join_some (x ∷ xs) (suc j) p e = join_some xs j p e
+
+pub join_none : (items : List Join) (j : ℕ) → slice_get items j ≡ None → joined_at (view.joins (map view.joined items)) j ≡ None
+join_none [] j e = refl
+join_none (x ∷ xs) zero e = absurd (let f = e in cc)
+join_none (x ∷ xs) (suc j) e = join_none xs j e
+
+module _ (setting : Setting) (l : ListCode) (n : ℕ) (f : RunningFrame) (fs : List RunningFrame) (s : State) where
+  says : view.list l ≡ tree.Starts (view.command l.first) (view.joins (map view.joined l.rest.items))
+  says = list_of l.first l.rest
+
+  pub first_begins : n ≡ 0 → place_command setting (view.command l.first) f fs s ≡ place_begins setting (view.list l) n f fs s
+  first_begins e = sym (ap (λ (m : ℕ). place_begins setting (view.list l) m f fs s) e ∙ ap (λ (x : AndOr). place_begins setting x 0 f fs s) says)
+
+  later : (m j : ℕ) → m ≡ suc j → place_begins setting (view.list l) m f fs s ≡ place_joined setting (joined_at (view.joins (map view.joined l.rest.items)) j) f fs s
+  later m j e = ap (λ (k : ℕ). place_begins setting (view.list l) k f fs s) e ∙ ap (λ (x : AndOr). place_begins setting x (suc j) f fs s) says
+
+  back : (n ≡ 0 → ⊥) → n ≡ suc (n - 1)
+  back h = by n h
+    where
+      by : (m : ℕ) → (m ≡ 0 → ⊥) → m ≡ suc (m - 1)
+      by zero g = absurd (g refl)
+      by (suc m) g = omega arith
+
+  goes_on : (b : Bool) (x y : PlaceNext) → b ≡ true → x ≡ elim b [ true ↦ x | false ↦ y ]
+  goes_on true x y e = refl
+  goes_on false x y e = absurd (let g = e in cc)
+
+  stays : (b : Bool) (x y : PlaceNext) → b ≡ false → y ≡ elim b [ true ↦ x | false ↦ y ]
+  stays true x y e = absurd (let g = e in cc)
+  stays false x y e = refl
+
+  pub list_ends : (at : At) → (n ≡ 0 → ⊥) → length l.rest.items ≤ n - 1 → at ≡ place (suc f.place.list) 0 0 0 → GoOn (moved_to at f ∷ fs) s ≡ place_begins setting (view.list l) n f fs s
+  list_ends at h k e =
+      ap (λ (x : At). GoOn (moved_to x f ∷ fs) s) e
+      ∙ sym (later n (n - 1) (back h) ∙ ap (λ (o : Option (Op × Command)). place_joined setting o f fs s) (join_none l.rest.items (n - 1) (slice_get_past l.rest.items (n - 1) k)))
+
+  pub join_begins : (p : Join) → (n ≡ 0 → ⊥) → n - 1 < length l.rest.items → p ≡ get_or l.rest.items (n - 1) p → goes p.0 s.memory.status ≡ true → place_command setting (view.command p.1) f fs s ≡ place_begins setting (view.list l) n f fs s
+  join_begins p h k e t =
+      goes_on (goes p.0 s.memory.status) (place_command setting (view.command p.1) f fs s) (GoOn (behind f ∷ fs) s) t
+      ∙ sym (later n (n - 1) (back h) ∙ ap (λ (o : Option (Op × Command)). place_joined setting o f fs s) (join_some l.rest.items (n - 1) p (slice_get_read l.rest.items (length l.rest.items) (n - 1) p refl k e)))
+
+  pub join_skipped : (p : Join) (at : At) → (n ≡ 0 → ⊥) → n - 1 < length l.rest.items → p ≡ get_or l.rest.items (n - 1) p → goes p.0 s.memory.status ≡ false → at ≡ place f.place.list (suc f.place.command) 0 0 → GoOn (moved_to at f ∷ fs) s ≡ place_begins setting (view.list l) n f fs s
+  join_skipped p at h k e t q =
+      ap (λ (x : At). GoOn (moved_to x f ∷ fs) s) q
+      ∙ stays (goes p.0 s.memory.status) (place_command setting (view.command p.1) f fs s) (GoOn (behind f ∷ fs) s) t
+      ∙ sym (later n (n - 1) (back h) ∙ ap (λ (o : Option (Op × Command)). place_joined setting o f fs s) (join_some l.rest.items (n - 1) p (slice_get_read l.rest.items (length l.rest.items) (n - 1) p refl k e)))

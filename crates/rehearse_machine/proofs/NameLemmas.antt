@@ -1,0 +1,87 @@
+-- The names of a `run`, and the texts that they stand for.
+use Rattle.std.proofs.Common.{◌≡◌, suc, true, false, List, [], ◌∷◌, map, length, Option, Some, None, Result, refl, sym, ap, subst, ◌∙◌, arith}
+use Rattle.std.specs.Prelude.{slice_get}
+use Rattle.std.proofs.Math.Dec.{eqb, eqb-suc-zero}
+use Rattle.std.specs.FinMap as finite
+use Rattle.std.specs.FinMap.{entries}
+use Rattle.hushlang.specs.Tree.{Script}
+use Rattle.hushlang.specs.View as view
+use Rattle.hushlang.specs.declared.tree.AndOr.{AndOr as ListCode}
+use Rattle.hushlang.specs.declared.tree.Script.{Script as Code, out-Script}
+use Rattle.bootstore.specs.declared.store.StoreError.{StoreError}
+use Rattle.bootstore.specs.declared.frame.At.{At}
+use Rattle.bootstore.specs.Moment.{RunningFrame}
+use Rattle.bootstore.specs.Record.{Record, changed, with_status, without_frame}
+use Rattle.rehearse.specs.Outcomes.{Word}
+use Rattle.rehearse.specs.Trees.{tree_of}
+use Rattle.rehearse.specs.State.{Text, State, get, state_at}
+use Rattle.rehearse.specs.Execution.{set_status, Syntax}
+use Rattle.rehearse.proofs.StateLemmas.{stored_values}
+use Rattle.rehearse_machine.specs.Frames.{begun_text}
+use Rattle.rehearse_machine.specs.Places.{PlaceNext, GoOn, StopOn, place, moved_to, in_turn, text_frame, place_name, place_text, place_tree}
+use Rattle.rehearse_machine.specs.Seen.{under, Keeps, Does, Comes}
+use Rattle.rehearse_machine.specs.declared.ask.Step.{Step}
+use Rattle.rehearse_machine.specs.declared.ask.Step.TheVariants as steps
+use Rattle.rehearse_machine.proofs.Coming.{comes_at, comes_as, comes_after, keeps_change}
+use Rattle.rehearse_machine.proofs.PartLemmas.{script_out}
+
+no_lists : (items : List ListCode) (s : State) → true ≡ eqb (length items) 0 → set_status 0 s ≡ begun_text (view.runs (map view.list items)) s
+no_lists [] s e = refl
+no_lists (x ∷ xs) s e = absurd (let f = e ∙ eqb-suc-zero (length xs) in cc)
+
+some_lists : (items : List ListCode) (s : State) → false ≡ eqb (length items) 0 → s ≡ begun_text (view.runs (map view.list items)) s
+some_lists [] s e = absurd (let f = e in cc)
+some_lists (x ∷ xs) s e = refl
+
+module _ (r : Result Step StoreError) (old new : Record) (f child : RunningFrame) (at : At) (code value : Code) (same : value ≡ code) (child_is : child ≡ text_frame (view.script value)) (place_is : at ≡ place f.place.list f.place.command (suc f.place.turn) 0) where
+  abbrev framed : State → State → PlaceNext
+  framed t s = GoOn (text_frame (view.script code) ∷ in_turn (suc f.place.turn) 0 f ∷ under old.present) t
+
+  moves : (t : State) → GoOn (child ∷ moved_to at f ∷ under old.present) t ≡ framed t t
+  moves t =
+      ap (λ (x : RunningFrame). GoOn (x ∷ moved_to at f ∷ under old.present) t) (child_is ∙ ap (λ (x : Code). text_frame (view.script x)) same)
+      ∙ ap (λ (x : At). GoOn (text_frame (view.script code) ∷ moved_to x f ∷ under old.present) t) place_is
+
+  says : (s : State) → begun_text (view.runs (map view.list (out-Script code).lists.items)) s ≡ begun_text (view.script code) s
+  says s = sym (ap (λ (x : Script). begun_text x s) (script_out code))
+
+  pub text_goes : false ≡ eqb (length (out-Script code).lists.items) 0 → Comes r old new (GoOn (child ∷ moved_to at f ∷ under old.present)) → Comes r old new (λ s. framed (begun_text (view.script code) s) s)
+  text_goes e comes =
+      comes_as r old new (GoOn (child ∷ moved_to at f ∷ under old.present)) (λ s. framed (begun_text (view.script code) s) s)
+      (λ s. moves s ∙ ap (λ (x : State). framed x s) (some_lists (out-Script code).lists.items s e ∙ says s)) comes
+
+  pub text_empty : (mid : Record) → mid ≡ changed (with_status 0) old → true ≡ eqb (length (out-Script code).lists.items) 0 → Comes r mid new (GoOn (child ∷ moved_to at f ∷ under mid.present)) → Comes r old new (λ s. framed (begun_text (view.script code) s) s)
+  text_empty mid d e comes =
+      comes_at r old new (λ s. GoOn (child ∷ moved_to at f ∷ under mid.present) (set_status 0 s)) (λ s. framed (begun_text (view.script code) s) s)
+      (λ w. ap (λ (x : Record). GoOn (child ∷ moved_to at f ∷ under x.present) (set_status 0 (state_at old.present w))) d
+      ∙ moves (set_status 0 (state_at old.present w))
+      ∙ ap (λ (x : State). framed x (state_at old.present w)) (no_lists (out-Script code).lists.items (state_at old.present w) e ∙ says (state_at old.present w)))
+      (comes_after r old mid new (set_status 0) (GoOn (child ∷ moved_to at f ∷ under mid.present)) (λ w. ap (λ (x : Record). state_at x.present w) d) (subst (Keeps old) (sym d) (keeps_change (with_status 0) old refl)) comes)
+
+module _ (old : Record) (f : RunningFrame) (name bytes : Text) (found : slice_get f.words f.place.turn ≡ Some name) (bytes_are : bytes ≡ name) where
+  value_is : (o : Option Text) → o ≡ finite.get old.present.environment bytes → get (entries old.present.environment) name ≡ o
+  value_is o e = stored_values old.present.environment name ∙ ap (finite.get old.present.environment) (sym bytes_are) ∙ sym e
+
+  abbrev named : State → PlaceNext
+  named = place_name (slice_get f.words f.place.turn) f (under old.present)
+
+  with_text : (o : Option Text) (w : Word) → o ≡ finite.get old.present.environment bytes → place_text o name f (under old.present) (state_at old.present w) ≡ named (state_at old.present w)
+  with_text o w e =
+      sym (ap (λ (x : Option Text). place_name x f (under old.present) (state_at old.present w)) found
+      ∙ ap (λ (x : Option Text). place_text x name f (under old.present) (state_at old.present w)) (value_is o e))
+
+  pub unset : (mid new : Record) → mid ≡ changed without_frame old → new ≡ changed (with_status 1) mid → None ≡ finite.get old.present.environment bytes → Does steps.Going old new named
+  unset mid new e d none =
+      subst (λ (x : Record). Does steps.Going old x named) (sym (d ∙ ap (changed (with_status 1)) e))
+      (λ w. with_text None w none, record { marked = refl; begun = omega arith })
+
+  pub no_script : (copy text : Text) → copy ≡ name → Some text ≡ finite.get old.present.environment bytes → tree_of text ≡ None → (w : Word) → StopOn (Syntax copy) (state_at old.present w) ≡ named (state_at old.present w)
+  no_script copy text c e t w =
+      ap (λ (x : Text). StopOn (Syntax x) (state_at old.present w)) c
+      ∙ sym (ap (λ (x : Option Script). place_tree x name f (under old.present) (state_at old.present w)) t)
+      ∙ with_text (Some text) w e
+
+  pub text_comes : (r : Result Step StoreError) (new : Record) (text : Text) (script : Script) → Some text ≡ finite.get old.present.environment bytes → tree_of text ≡ Some script → Comes r old new (λ s. GoOn (text_frame script ∷ in_turn (suc f.place.turn) 0 f ∷ under old.present) (begun_text script s)) → Comes r old new named
+  text_comes r new text script e t comes =
+      comes_at r old new (λ s. GoOn (text_frame script ∷ in_turn (suc f.place.turn) 0 f ∷ under old.present) (begun_text script s)) named
+      (λ w. sym (ap (λ (x : Option Script). place_tree x name f (under old.present) (state_at old.present w)) t) ∙ with_text (Some text) w e) comes

@@ -1,0 +1,412 @@
+-- A move at places is the move of the frames that they stand for.
+use Rattle.std.proofs.Common.{ℕ, zero, suc, Bool, true, false, List, [], ◌∷◌, ◌++◌, length, drop, Option, Some, None, refl, sym, ap, ◌∙◌, ◌≡◌, ◌<◌, arith, nat_lt, nat_le, nat_eq}
+use Rattle.std.specs.Prelude.{slice_get}
+use Rattle.std.proofs.Math.Dec.{eqb-suc-zero}
+use Rattle.hushlang.specs.Tree as tree
+use Rattle.hushlang.specs.Tree.{Script, AndOr, Joined, Command, Arms}
+use Rattle.hushlang.specs.Expansion.{fields, joined, size, most_bytes}
+use Rattle.hushlang.specs.declared.tree.Op.{Op}
+use Rattle.bootstore.specs.declared.frame.At.{At}
+use Rattle.bootstore.specs.declared.frame.FrameKind.{FrameKind}
+use Rattle.bootstore.specs.declared.frame.FrameKind.TheVariants as kinds
+use Rattle.bootstore.specs.Moment.{RunningFrame}
+use Rattle.bootstore.specs.Record.{without_first}
+use Rattle.rehearse.specs.Outcomes.{Outcome, Success, Failure}
+use Rattle.rehearse.specs.Trees.{tree_of}
+use Rattle.rehearse.specs.State.{Text, get, State, setting_in}
+use Rattle.rehearse.specs.Verdict.{verdict}
+use Rattle.rehearse.specs.Commands.{Builtin, SetEnv, Run, Test, Echo, True, False, Leave, NoCommand, Device, builtins, builtin_in, asks_device, exit_status}
+use Rattle.rehearse.specs.Execution.{Setting, End, CutDevices, CutSteps, Size, set_status, set_local, status_when, goes, holds, Request, no_effect, logged, set_environment}
+use Rattle.rehearse_machine.specs.Frames.{Frame, Lists, Linked, IfCondition, LoopCondition, LoopBody, ForBody, Next, Go, Ask, Stop, leave, boot_next, answered, begin_assign, begin_for, begin_arms, begun_text, begin_tree, begin_text, begin_names, begin_exit, fitting, ask, begin_builtin, begin_fields, counted, begin_command, move}
+use Rattle.rehearse_machine.specs.Places.{list_at, drop_lists, joined_at, drop_joined, second, command_in, command_at, drop_arms, place, from_command, condition_frame, phase, from_turn, script_frames, for_frame, run_frame, frames_by, frames_of, PlaceNext, GoOn, AskOn, StopOn, next_of, moved_to, behind, in_turn, text_frame, block_frame, is_run, to_run, left, place_exit, place_boot, place_answered, place_assign, place_tree, place_text, place_name, run_move, for_turn, for_move, for_begins, place_arms, condition_ends, phase_move, place_fitting, place_ask, place_builtin, place_fields, place_counted, place_command, place_joined, place_begins, place_turn, place_list, place_by, place_move}
+
+-- ---- parts by their numbers
+
+drop_some : (script : Script) (i : ℕ) (l : AndOr) → list_at script i ≡ Some l → drop_lists i script ≡ tree.Runs l (drop_lists (suc i) script)
+drop_some tree.Empty i l e = absurd (let f = e in cc)
+drop_some (tree.Runs x ls) zero l e = let f : x ≡ l = (let g = e in cc) in ap (λ (y : AndOr). tree.Runs y ls) f
+drop_some (tree.Runs x ls) (suc i) l e = drop_some ls i l e
+
+drop_none : (script : Script) (i : ℕ) → list_at script i ≡ None → drop_lists i script ≡ tree.Empty
+drop_none tree.Empty zero e = refl
+drop_none tree.Empty (suc i) e = refl
+drop_none (tree.Runs x ls) zero e = absurd (let f = e in cc)
+drop_none (tree.Runs x ls) (suc i) e = drop_none ls i e
+
+joined_some : (joins : Joined) (j : ℕ) (p : Op × Command) → joined_at joins j ≡ Some p → drop_joined j joins ≡ tree.Joins p.0 p.1 (drop_joined (suc j) joins)
+joined_some tree.Alone j p e = absurd (let f = e in cc)
+joined_some (tree.Joins o d rest) zero p e = let f : (o, d) ≡ p = (let g = e in cc) in ap (λ (x : Op × Command). tree.Joins x.0 x.1 rest) f
+joined_some (tree.Joins o d rest) (suc j) p e = joined_some rest j p e
+
+joined_none : (joins : Joined) (j : ℕ) → joined_at joins j ≡ None → drop_joined j joins ≡ tree.Alone
+joined_none tree.Alone zero e = refl
+joined_none tree.Alone (suc j) e = refl
+joined_none (tree.Joins o d rest) zero e = absurd (let f = e in cc)
+joined_none (tree.Joins o d rest) (suc j) e = joined_none rest j e
+
+drop_more : (all : Arms) (a : ℕ) (c b : Script) (more : Arms) → drop_arms a all ≡ tree.Arm c b more → drop_arms (suc a) all ≡ more
+drop_more (tree.Arm x y arms) zero c b more e = (let g = e in cc)
+drop_more (tree.Arm x y arms) (suc a) c b more e = drop_more arms a c b more e
+drop_more (tree.Else x) zero c b more e = absurd (let f = e in cc)
+drop_more (tree.Else x) (suc a) c b more e = absurd (let f = e in cc)
+drop_more tree.NoElse zero c b more e = absurd (let f = e in cc)
+drop_more tree.NoElse (suc a) c b more e = absurd (let f = e in cc)
+
+text_some : (names : List Text) (k : ℕ) (name : Text) → slice_get names k ≡ Some name → drop k names ≡ name ∷ drop (suc k) names
+text_some [] k name e = absurd (let f = e in cc)
+text_some (n ∷ names) zero name e = let f : n ≡ name = (let g = e in cc) in ap (λ (x : Text). x ∷ names) f
+text_some (n ∷ names) (suc k) name e = text_some names k name e
+
+text_none : (names : List Text) (k : ℕ) → slice_get names k ≡ None → drop k names ≡ []
+text_none [] zero e = refl
+text_none [] (suc k) e = refl
+text_none (n ∷ names) zero e = absurd (let f = e in cc)
+text_none (n ∷ names) (suc k) e = text_none names k e
+
+-- ---- a script from its start, and one that ends
+
+start-is : (c : Script) → frames_by kinds.Block (block_frame c) ≡ Lists c ∷ []
+start-is tree.Empty = refl
+start-is (tree.Runs l ls) = refl
+
+text-start-is : (c : Script) → frames_by kinds.Text (text_frame c) ≡ Lists c ∷ []
+text-start-is tree.Empty = refl
+text-start-is (tree.Runs l ls) = refl
+
+blocked : (c : Script) (fs : List RunningFrame) → frames_of (block_frame c ∷ fs) ≡ Lists c ∷ frames_of fs
+blocked c fs = ap (λ (x : List Frame). x ++ frames_of fs) (start-is c)
+
+texted : (c : Script) (fs : List RunningFrame) → frames_of (text_frame c ∷ fs) ≡ Lists c ∷ frames_of fs
+texted c fs = ap (λ (x : List Frame). x ++ frames_of fs) (text-start-is c)
+
+-- a list from its first command, where the script goes on with `rest`
+from_start : (o : Option AndOr) (script : Script) (i : ℕ) → list_at script i ≡ o → script_frames o (place i 0 0 0) (drop_lists (suc i) script) ≡ Lists (drop_lists i script) ∷ []
+from_start None script i e = ap (λ (x : Script). Lists x ∷ []) (sym (drop_none script i e))
+from_start (Some l) script i e = ap (λ (x : Script). Lists x ∷ []) (sym (drop_some script i l e))
+
+if_next : (b : Bool) (x y : PlaceNext) (u v : Next) → next_of x ≡ u → next_of y ≡ v → next_of (elim b [ true ↦ x | false ↦ y ]) ≡ elim b [ true ↦ u | false ↦ v ]
+if_next true x y u v e f = e
+if_next false x y u v e f = f
+
+-- ---- `exit`
+
+leave_phase : (o : Option Command) (a last : ℕ) (rs : List Frame) (s : State) → leave (phase o a last ∷ rs) s ≡ leave rs s
+leave_phase None a last rs s = refl
+leave_phase (Some (tree.Simple words)) a last rs s = refl
+leave_phase (Some (tree.Assign pairs)) a last rs s = refl
+leave_phase (Some (tree.If arms)) a last rs s = by (drop_arms a arms)
+  where
+    by : (arms : Arms) → leave (condition_frame arms ∷ rs) s ≡ leave rs s
+    by (tree.Arm c b more) = refl
+    by (tree.Else b) = refl
+    by tree.NoElse = refl
+leave_phase (Some (tree.Loop until c b)) zero last rs s = refl
+leave_phase (Some (tree.Loop until c b)) (suc a) last rs s = refl
+leave_phase (Some (tree.For name words body)) a last rs s = refl
+
+leave_command : (list : AndOr) (j : ℕ) (rest : Script) (rs : List Frame) (s : State) → leave (from_command list j rest ++ rs) s ≡ leave rs s
+leave_command list zero rest rs s = refl
+leave_command (tree.Starts c joins) (suc j) rest rs s = refl
+
+leave_turn : (list : AndOr) (at : At) (turn : ℕ) (rest : Script) (rs : List Frame) (s : State) → leave (from_turn list at turn rest ++ rs) s ≡ leave rs s
+leave_turn list at zero rest rs s = leave_command list at.command rest rs s
+leave_turn list at (suc a) rest rs s = leave_phase (command_in list at.command) a at.last (from_command list (suc at.command) rest ++ rs) s ∙ leave_command list (suc at.command) rest rs s
+
+leave_script : (o : Option AndOr) (at : At) (rest : Script) (rs : List Frame) (s : State) → leave (script_frames o at rest ++ rs) s ≡ leave rs s
+leave_script None at rest rs s = refl
+leave_script (Some list) at rest rs s = leave_turn list at at.turn rest rs s
+
+leave_for : (o : Option Command) (turn : ℕ) (values : List Text) (rs : List Frame) (s : State) → leave (for_frame o turn values ∷ rs) s ≡ leave rs s
+leave_for None turn values rs s = refl
+leave_for (Some (tree.Simple words)) turn values rs s = refl
+leave_for (Some (tree.Assign pairs)) turn values rs s = refl
+leave_for (Some (tree.If arms)) turn values rs s = refl
+leave_for (Some (tree.Loop until c b)) turn values rs s = refl
+leave_for (Some (tree.For name words body)) turn values rs s = refl
+
+leave_run : (turn : ℕ) (names : List Text) (rs : List Frame) (s : State) → leave (run_frame turn names ∷ rs) s ≡ Go (run_frame turn names ∷ rs) s
+leave_run zero names rs s = refl
+leave_run (suc k) names rs s = refl
+
+leave_by : (k : FrameKind) (f : RunningFrame) (fs : List RunningFrame) (s : State) → f.kind ≡ k → next_of (left (to_run fs) s) ≡ leave (frames_of fs) s → next_of (left (elim (is_run k) [ true ↦ f ∷ fs | false ↦ to_run fs ]) s) ≡ leave (frames_by k f ++ frames_of fs) s
+leave_by kinds.Text f fs s e h = h ∙ sym (leave_script (list_at f.script f.place.list) f.place (drop_lists (suc f.place.list) f.script) (frames_of fs) s)
+leave_by kinds.Block f fs s e h = h ∙ sym (leave_script (list_at f.script f.place.list) f.place (drop_lists (suc f.place.list) f.script) (frames_of fs) s)
+leave_by kinds.For f fs s e h = h ∙ sym (leave_for (command_at (list_at f.script f.place.list) f.place.command) f.place.turn f.words (frames_of fs) s)
+leave_by kinds.Run f fs s e h = ap (λ (x : FrameKind). Go (frames_by x f ++ frames_of fs) s) e ∙ sym (leave_run f.place.turn f.words (frames_of fs) s)
+
+leave-is : (fs : List RunningFrame) (s : State) → next_of (left (to_run fs) s) ≡ leave (frames_of fs) s
+leave-is [] s = refl
+leave-is (f ∷ fs) s = leave_by f.kind f fs s refl (leave-is fs s)
+
+chosen : (b : Bool) (x y : PlaceNext) → b ≡ true → next_of (elim b [ true ↦ x | false ↦ y ]) ≡ next_of x
+chosen true x y e = refl
+chosen false x y e = absurd (let f = e in cc)
+
+passed : (b : Bool) (x y : PlaceNext) → b ≡ false → next_of (elim b [ true ↦ x | false ↦ y ]) ≡ next_of y
+passed true x y e = absurd (let f = e in cc)
+passed false x y e = refl
+
+exit-is : (o : Option ℕ) (ps : List RunningFrame) (s : State) → next_of (place_exit o ps s) ≡ begin_exit o (frames_of ps) s
+exit-is (Some status) ps s = leave-is ps (set_status status s)
+exit-is None ps s = refl
+
+-- ---- frames of a `run` and of a `for`
+
+module _ (f : RunningFrame) (fs : List RunningFrame) (s : State) (k : f.kind ≡ kinds.Run) where
+  ran : (turn last : ℕ) → frames_of (in_turn turn last f ∷ fs) ≡ run_frame turn f.words ∷ frames_of fs
+  ran turn last = ap (λ (x : FrameKind). frames_by x (in_turn turn last f) ++ frames_of fs) k
+
+  tree-is : (o : Option Script) (name : Text) → next_of (place_tree o name f fs s) ≡ begin_tree o name (drop (suc f.place.turn) f.words) (frames_of fs) s
+  tree-is None name = refl
+  tree-is (Some t) name = ap (λ (x : List Frame). Go x (begun_text t s)) (texted t (in_turn (suc f.place.turn) 0 f ∷ fs) ∙ ap (λ (x : List Frame). Lists t ∷ x) (ran (suc f.place.turn) 0))
+
+  text-is : (o : Option Text) (name : Text) → next_of (place_text o name f fs s) ≡ begin_text o name (drop (suc f.place.turn) f.words) (frames_of fs) s
+  text-is None name = refl
+  text-is (Some text) name = tree-is (tree_of text) name
+
+  name-is : (o : Option Text) → slice_get f.words f.place.turn ≡ o → next_of (place_name o f fs s) ≡ begin_names (drop f.place.turn f.words) (frames_of fs) s
+  name-is None e = ap (λ (x : List Text). begin_names x (frames_of fs) s) (sym (text_none f.words f.place.turn e))
+  name-is (Some name) e = text-is (get s.memory.environment name) name ∙ ap (λ (x : List Text). begin_names x (frames_of fs) s) (sym (text_some f.words f.place.turn name e))
+
+  abbrev named : PlaceNext
+  named = place_name (slice_get f.words f.place.turn) f fs s
+
+  abbrev ended : PlaceNext
+  ended = elim (nat_eq s.memory.status 0) [ true ↦ named | false ↦ GoOn fs s ]
+
+  run-turn-is : (setting : Setting) (turn : ℕ) → f.place.turn ≡ turn → next_of (run_move f fs s) ≡ move setting (run_frame turn f.words ∷ frames_of fs) s
+  run-turn-is setting zero e = chosen (nat_eq f.place.turn 0) named ended (ap (λ (x : ℕ). nat_eq x 0) e) ∙ (name-is (slice_get f.words f.place.turn) refl ∙ ap (λ (x : ℕ). begin_names (drop x f.words) (frames_of fs) s) e)
+  run-turn-is setting (suc j) e =
+      passed (nat_eq f.place.turn 0) named ended (ap (λ (x : ℕ). nat_eq x 0) e ∙ eqb-suc-zero j)
+      ∙ if_next (nat_eq s.memory.status 0) named (GoOn fs s) (begin_names (drop (suc j) f.words) (frames_of fs) s) (Go (frames_of fs) s)
+      (name-is (slice_get f.words f.place.turn) refl ∙ ap (λ (x : ℕ). begin_names (drop x f.words) (frames_of fs) s) e) refl
+
+module _ (f : RunningFrame) (fs : List RunningFrame) (s : State) (k : f.kind ≡ kinds.For) where
+  abbrev looped : ℕ → ℕ → RunningFrame
+  looped turn last = in_turn turn last f
+
+  went : (o : Option Command) → command_at (list_at f.script f.place.list) f.place.command ≡ o → (turn last : ℕ) → frames_of (in_turn turn last f ∷ fs) ≡ for_frame o turn f.words ∷ frames_of fs
+  went o e turn last = ap (λ (x : FrameKind). frames_by x (in_turn turn last f) ++ frames_of fs) k ∙ ap (λ (x : Option Command). for_frame x turn f.words ∷ frames_of fs) e
+
+  for-turn-is : (setting : Setting) (name : Text) (words : List tree.Word) (body : Script) (o : Option Text) → command_at (list_at f.script f.place.list) f.place.command ≡ Some (tree.For name words body) → slice_get f.words f.place.turn ≡ o → next_of (for_turn o name body f fs s) ≡ move setting (ForBody name (drop f.place.turn f.words) body ∷ frames_of fs) s
+  for-turn-is setting name words body None c e = ap (λ (x : List Text). move setting (ForBody name x body ∷ frames_of fs) s) (sym (text_none f.words f.place.turn e))
+  for-turn-is setting name words body (Some value) c e =
+      ap (λ (x : List Frame). Go x (set_local name value s)) (blocked body (in_turn (suc f.place.turn) 0 f ∷ fs) ∙ ap (λ (x : List Frame). Lists body ∷ x) (went (Some (tree.For name words body)) c (suc f.place.turn) 0))
+      ∙ ap (λ (x : List Text). move setting (ForBody name x body ∷ frames_of fs) s) (sym (text_some f.words f.place.turn value e))
+
+  for-is : (setting : Setting) (o : Option Command) → command_at (list_at f.script f.place.list) f.place.command ≡ o → next_of (for_move o f fs s) ≡ move setting (for_frame o f.place.turn f.words ∷ frames_of fs) s
+  for-is setting None e = refl
+  for-is setting (Some (tree.Simple words)) e = refl
+  for-is setting (Some (tree.Assign pairs)) e = refl
+  for-is setting (Some (tree.If arms)) e = refl
+  for-is setting (Some (tree.Loop until c b)) e = refl
+  for-is setting (Some (tree.For name words body)) e = for-turn-is setting name words body (slice_get f.words f.place.turn) e refl
+
+-- ---- commands, where the frame of their script stands for `below` behind them
+
+assign-is : (pairs : List (Text × tree.Word)) (ps : List RunningFrame) (s : State) → next_of (place_assign pairs ps s) ≡ begin_assign pairs (frames_of ps) s
+assign-is [] ps s = refl
+assign-is (pair ∷ pairs) ps s =
+    let value : Text = joined (setting_in s.memory) pair.1 in
+    if_next (nat_le (length value) most_bytes) (place_assign pairs ps (set_local pair.0 value s)) (StopOn Size s) (begin_assign pairs (frames_of ps) (set_local pair.0 value s)) (Stop Size s) (assign-is pairs ps (set_local pair.0 value s)) refl
+
+fitting-is : (ws : List Text) (n : List Text → State → PlaceNext) (m : List Text → State → Next) (s : State) → next_of (n ws s) ≡ m ws s → next_of (place_fitting ws n s) ≡ fitting ws m s
+fitting-is ws n m s e = if_next (nat_le (size ws) most_bytes) (n ws s) (StopOn Size s) (m ws s) (Stop Size s) e refl
+
+-- behind the last command there is nothing more
+past_joined : (joins : Joined) (j : ℕ) → joined_at joins j ≡ None → drop_joined j joins ≡ drop_joined (suc j) joins
+past_joined tree.Alone zero e = refl
+past_joined tree.Alone (suc j) e = refl
+past_joined (tree.Joins op c joins) zero e = absurd (let k = e in cc)
+past_joined (tree.Joins op c joins) (suc j) e = past_joined joins j e
+
+no_second : (o : Option (Op × Command)) → second o ≡ None → o ≡ None
+no_second None e = refl
+no_second (Some pair) e = absurd (let k = e in cc)
+
+past_command : (list : AndOr) (n : ℕ) (rest : Script) → command_in list n ≡ None → from_command list n rest ≡ from_command list (suc n) rest
+past_command (tree.Starts c joins) zero rest e = absurd (let k = e in cc)
+past_command (tree.Starts c joins) (suc j) rest e = ap (λ (x : Joined). Linked x ∷ Lists rest ∷ []) (past_joined joins j (no_second (joined_at joins j) e))
+
+module _ (setting : Setting) where
+  counted-is : (n : State → PlaceNext) (m : State → Next) (s : State) → ((t : State) → next_of (n t) ≡ m t) → next_of (place_counted setting n s) ≡ counted setting m s
+  counted-is n m s e = let t : State = record s { steps = suc s.steps } in if_next (nat_lt s.steps setting.step_bound) (n t) (StopOn CutSteps s) (m t) (Stop CutSteps s) (e t) refl
+
+  ask-is : (r : Request) (ps : List RunningFrame) (s : State) → next_of (place_ask setting r ps s) ≡ ask setting r (frames_of ps) s
+  ask-is r ps s = if_next (nat_lt (length s.log) setting.device_bound) (AskOn r ps s) (StopOn CutDevices s) (Ask r (frames_of ps) s) (Stop CutDevices s) refl refl
+
+  builtin-is : (b : Builtin) (name : Text) (ws : List Text) (script : Script) (ps : List RunningFrame) (s : State) → next_of (place_builtin setting b name ws script ps s) ≡ begin_builtin setting b name ws (frames_of ps) s
+  builtin-is SetEnv name ws script ps s = refl
+  builtin-is Run name [] script ps s = refl
+  builtin-is Run name (w ∷ ws) script ps s = refl
+  builtin-is Test name ws script ps s =
+      let r : Request = record { name = name; words = ws; effect = no_effect } in
+      let t : State = set_status (status_when (verdict ws)) s in
+      if_next (asks_device ws) (place_ask setting r ps s) (GoOn ps t) (ask setting r (frames_of ps) s) (Go (frames_of ps) t) (ask-is r ps s) refl
+  builtin-is Echo name ws script ps s = refl
+  builtin-is True name ws script ps s = refl
+  builtin-is False name ws script ps s = refl
+  builtin-is Leave name ws script ps s = exit-is (exit_status ws) ps s
+  builtin-is (Device effect) name ws script ps s = ask-is (record { name = name; words = ws; effect = effect }) ps s
+  builtin-is NoCommand name ws script ps s = refl
+
+  fields-is : (ws : List Text) (script : Script) (ps : List RunningFrame) (s : State) → next_of (place_fields setting ws script ps s) ≡ begin_fields setting ws (frames_of ps) s
+  fields-is [] script ps s = refl
+  fields-is (name ∷ ws) script ps s = builtin-is (builtin_in builtins setting.devices name) name ws script ps s
+
+  -- at a list of a script that is running
+  module _ (f : RunningFrame) (fs : List RunningFrame) (list : AndOr) (at_list : list_at f.script f.place.list ≡ Some list) (scripted : (p : At) → frames_by f.kind (moved_to p f) ≡ script_frames (list_at f.script p.list) p (drop_lists (suc p.list) f.script)) where
+    abbrev rest : Script
+    rest = drop_lists (suc f.place.list) f.script
+
+    turned : (command turn last : ℕ) → frames_of (moved_to (place f.place.list command turn last) f ∷ fs) ≡ from_turn list (place f.place.list command turn last) turn rest ++ frames_of fs
+    turned command turn last = ap (λ (x : List Frame). x ++ frames_of fs) (scripted (place f.place.list command turn last) ∙ ap (λ (x : Option AndOr). script_frames x (place f.place.list command turn last) rest) at_list)
+
+    abbrev below : List Frame
+    below = from_command list (suc f.place.command) rest ++ frames_of fs
+
+    behind-is : frames_of (behind f ∷ fs) ≡ below
+    behind-is = turned (suc f.place.command) 0 0
+
+    went_on : (s : State) → next_of (GoOn (behind f ∷ fs) s) ≡ Go below s
+    went_on s = ap (λ (x : List Frame). Go x s) behind-is
+
+    arms-is : (all arms : Arms) (a : ℕ) → command_in list f.place.command ≡ Some (tree.If all) → drop_arms a all ≡ arms → (s : State) → next_of (place_arms arms a f fs s) ≡ begin_arms arms below s
+    arms-is all (tree.Arm c b more) a e d s =
+        let one : frames_of (in_turn (suc a) 0 f ∷ fs) ≡ phase (command_in list f.place.command) a 0 ∷ below = turned f.place.command (suc a) 0 in
+        let two : phase (command_in list f.place.command) a 0 ≡ IfCondition b more = ap (λ (x : Option Command). phase x a 0) e ∙ ap condition_frame d in
+        ap (λ (x : List Frame). Go x s) (blocked c (in_turn (suc a) 0 f ∷ fs) ∙ ap (λ (x : List Frame). Lists c ∷ x) (one ∙ ap (λ (x : Frame). x ∷ below) two))
+    arms-is all (tree.Else b) a e d s = ap (λ (x : List Frame). Go x s) (blocked b (behind f ∷ fs) ∙ ap (λ (x : List Frame). Lists b ∷ x) behind-is)
+    arms-is all tree.NoElse a e d s = went_on (set_status 0 s)
+
+    begins-for-is : (name : Text) (words : List tree.Word) (body : Script) → command_in list f.place.command ≡ Some (tree.For name words body) → (values : List Text) (s : State) → next_of (for_begins values f fs s) ≡ begin_for name values body below s
+    begins-for-is name words body e [] s = went_on (set_status 0 s)
+    begins-for-is name words body e (v ∷ vs) s =
+        let found : command_at (list_at f.script f.place.list) f.place.command ≡ Some (tree.For name words body) = ap (λ (x : Option AndOr). command_at x f.place.command) at_list ∙ e in
+        ap (λ (x : Option Command). Go (for_frame x 0 (v ∷ vs) ∷ frames_of (behind f ∷ fs)) s) found ∙ ap (λ (x : List Frame). Go (ForBody name (v ∷ vs) body ∷ x) s) behind-is
+
+    looped-is : (until : Bool) (c b : Script) → command_in list f.place.command ≡ Some (tree.Loop until c b) → (last : ℕ) (s : State) → next_of (GoOn (block_frame c ∷ in_turn 1 last f ∷ fs) s) ≡ Go (Lists c ∷ LoopCondition until c b last ∷ below) s
+    looped-is until c b e last s = ap (λ (x : List Frame). Go x s) (blocked c (in_turn 1 last f ∷ fs) ∙ ap (λ (x : List Frame). Lists c ∷ x) (turned f.place.command 1 last ∙ ap (λ (x : Option Command). phase x 0 last ∷ below) e))
+
+    command-is : (c : Command) → command_in list f.place.command ≡ Some c → (s : State) → next_of (place_command setting c f fs s) ≡ begin_command setting c below s
+    command-is (tree.Simple words) e s = counted-is (λ t. place_fitting (fields (setting_in t.memory) words) (λ found. place_fields setting found f.script (behind f ∷ fs)) t) (λ t. fitting (fields (setting_in t.memory) words) (λ found. begin_fields setting found below) t) s
+        (λ t. fitting-is (fields (setting_in t.memory) words) (λ found. place_fields setting found f.script (behind f ∷ fs)) (λ found. begin_fields setting found below) t (fields-is (fields (setting_in t.memory) words) f.script (behind f ∷ fs) t ∙ ap (λ (x : List Frame). begin_fields setting (fields (setting_in t.memory) words) x t) behind-is))
+    command-is (tree.Assign pairs) e s = counted-is (place_assign pairs (behind f ∷ fs)) (begin_assign pairs below) s (λ t. assign-is pairs (behind f ∷ fs) t ∙ ap (λ (x : List Frame). begin_assign pairs x t) behind-is)
+    command-is (tree.If arms) e s = arms-is arms arms 0 e refl s
+    command-is (tree.Loop until c b) e s = looped-is until c b e 0 s
+    command-is (tree.For name words body) e s = counted-is (λ t. place_fitting (fields (setting_in t.memory) words) (λ found. for_begins found f fs) t) (λ t. fitting (fields (setting_in t.memory) words) (λ found. begin_for name found body below) t) s
+        (λ t. fitting-is (fields (setting_in t.memory) words) (λ found. for_begins found f fs) (λ found. begin_for name found body below) t (begins-for-is name words body e (fields (setting_in t.memory) words) t))
+
+    condition-is : (all arms : Arms) (a : ℕ) → command_in list f.place.command ≡ Some (tree.If all) → drop_arms a all ≡ arms → (s : State) → next_of (condition_ends arms a f fs s) ≡ move setting (condition_frame arms ∷ below) s
+    condition-is all (tree.Arm c b more) a e d s =
+        if_next (nat_eq s.memory.status 0) (GoOn (block_frame b ∷ behind f ∷ fs) s) (place_arms more (suc a) f fs s) (Go (Lists b ∷ below) s) (begin_arms more below s)
+        (ap (λ (x : List Frame). Go x s) (blocked b (behind f ∷ fs) ∙ ap (λ (x : List Frame). Lists b ∷ x) behind-is))
+        (arms-is all more (suc a) e (drop_more all a c b more d) s)
+    condition-is all (tree.Else b) a e d s = went_on s
+    condition-is all tree.NoElse a e d s = went_on s
+
+    phase-is : (o : Option Command) (a : ℕ) → command_in list f.place.command ≡ o → (s : State) → next_of (phase_move o a f fs s) ≡ move setting (phase o a f.place.last ∷ below) s
+    phase-is None a e s = ap (λ (x : List Frame). Go x s) (turned f.place.command 0 0 ∙ ap (λ (x : List Frame). x ++ frames_of fs) (past_command list f.place.command rest e))
+    phase-is (Some (tree.Simple words)) a e s = went_on s
+    phase-is (Some (tree.Assign pairs)) a e s = went_on s
+    phase-is (Some (tree.If arms)) a e s = condition-is arms (drop_arms a arms) a e refl s
+    phase-is (Some (tree.Loop until c b)) zero e s =
+        if_next (holds until s.memory.status) (GoOn (block_frame b ∷ in_turn 2 0 f ∷ fs) s) (GoOn (behind f ∷ fs) (set_status f.place.last s)) (Go (Lists b ∷ LoopBody until c b ∷ below) s) (Go below (set_status f.place.last s))
+        (ap (λ (x : List Frame). Go x s) (blocked b (in_turn 2 0 f ∷ fs) ∙ ap (λ (x : List Frame). Lists b ∷ x) (turned f.place.command 2 0 ∙ ap (λ (x : Option Command). phase x 1 0 ∷ below) e)))
+        (went_on (set_status f.place.last s))
+    phase-is (Some (tree.Loop until c b)) (suc a) e s = looped-is until c b e s.memory.status s
+    phase-is (Some (tree.For name words body)) a e s = went_on s
+
+    next_list-is : (s : State) → next_of (GoOn (moved_to (place (suc f.place.list) 0 0 0) f ∷ fs) s) ≡ Go (Lists rest ∷ frames_of fs) s
+    next_list-is s = ap (λ (x : List Frame). Go (x ++ frames_of fs) s) (scripted (place (suc f.place.list) 0 0 0) ∙ from_start (list_at f.script (suc f.place.list)) f.script (suc f.place.list) refl)
+
+    joined-is : (c : Command) (joins : Joined) (j : ℕ) (o : Option (Op × Command)) → list ≡ tree.Starts c joins → f.place.command ≡ suc j → joined_at joins j ≡ o → (s : State) → next_of (place_joined setting o f fs s) ≡ move setting (Linked (drop_joined j joins) ∷ Lists rest ∷ frames_of fs) s
+    joined-is c joins j None l p e s = next_list-is s ∙ ap (λ (x : Joined). move setting (Linked x ∷ Lists rest ∷ frames_of fs) s) (sym (joined_none joins j e))
+    joined-is c joins j (Some pair) l p e s =
+        let known : command_in list f.place.command ≡ Some pair.1 = ap (λ (x : AndOr). command_in x f.place.command) l ∙ ap (λ (x : ℕ). command_in (tree.Starts c joins) x) p ∙ ap second e in
+        let there : below ≡ Linked (drop_joined (suc j) joins) ∷ Lists rest ∷ frames_of fs = ap (λ (x : AndOr). from_command x (suc f.place.command) rest ++ frames_of fs) l ∙ ap (λ (x : ℕ). Linked (drop_joined x joins) ∷ Lists rest ∷ frames_of fs) p in
+        if_next (goes pair.0 s.memory.status) (place_command setting pair.1 f fs s) (GoOn (behind f ∷ fs) s) (begin_command setting pair.1 (Linked (drop_joined (suc j) joins) ∷ Lists rest ∷ frames_of fs) s) (Go (Linked (drop_joined (suc j) joins) ∷ Lists rest ∷ frames_of fs) s)
+        (command-is pair.1 known s ∙ ap (λ (x : List Frame). begin_command setting pair.1 x s) there)
+        (went_on s ∙ ap (λ (x : List Frame). Go x s) there)
+        ∙ ap (λ (x : Joined). move setting (Linked x ∷ Lists rest ∷ frames_of fs) s) (sym (joined_some joins j pair e))
+
+    begins-is : (c : Command) (joins : Joined) (n : ℕ) → list ≡ tree.Starts c joins → f.place.command ≡ n → (s : State) → next_of (place_begins setting (tree.Starts c joins) n f fs s) ≡ move setting (from_command (tree.Starts c joins) n rest ++ frames_of fs) s
+    begins-is c joins zero l p s =
+        let known : command_in list f.place.command ≡ Some c = ap (λ (x : AndOr). command_in x f.place.command) l ∙ ap (λ (x : ℕ). command_in (tree.Starts c joins) x) p in
+        let there : below ≡ Linked joins ∷ Lists rest ∷ frames_of fs = ap (λ (x : AndOr). from_command x (suc f.place.command) rest ++ frames_of fs) l ∙ ap (λ (x : ℕ). Linked (drop_joined x joins) ∷ Lists rest ∷ frames_of fs) p in
+        command-is c known s ∙ ap (λ (x : List Frame). begin_command setting c x s) there
+    begins-is c joins (suc j) l p s = joined-is c joins j (joined_at joins j) l p refl s
+
+    begins-any : (l : AndOr) → list ≡ l → (s : State) → next_of (place_begins setting l f.place.command f fs s) ≡ move setting (from_command l f.place.command rest ++ frames_of fs) s
+    begins-any (tree.Starts c joins) l s = begins-is c joins f.place.command l refl s
+
+    turn-is : (turn : ℕ) (s : State) → f.place.turn ≡ turn → next_of (place_turn setting list turn f fs s) ≡ move setting (from_turn list f.place turn rest ++ frames_of fs) s
+    turn-is zero s e = begins-any list refl s
+    turn-is (suc a) s e = phase-is (command_in list f.place.command) a refl s
+
+  script-is : (f : RunningFrame) (fs : List RunningFrame) (o : Option AndOr) → list_at f.script f.place.list ≡ o → ((p : At) → frames_by f.kind (moved_to p f) ≡ script_frames (list_at f.script p.list) p (drop_lists (suc p.list) f.script)) → (s : State) → next_of (place_list setting o f fs s) ≡ move setting (script_frames o f.place (drop_lists (suc f.place.list) f.script) ++ frames_of fs) s
+  script-is f fs None e h s = refl
+  script-is f fs (Some list) e h s = turn-is f fs list e h f.place.turn s refl
+
+  by-is : (k : FrameKind) (f : RunningFrame) (fs : List RunningFrame) (s : State) → f.kind ≡ k → next_of (place_by setting k f fs s) ≡ move setting (frames_by k f ++ frames_of fs) s
+  by-is kinds.Text f fs s e = script-is f fs (list_at f.script f.place.list) refl (λ p. ap (λ (x : FrameKind). frames_by x (moved_to p f)) e) s
+  by-is kinds.Block f fs s e = script-is f fs (list_at f.script f.place.list) refl (λ p. ap (λ (x : FrameKind). frames_by x (moved_to p f)) e) s
+  by-is kinds.For f fs s e = for-is f fs s e setting (command_at (list_at f.script f.place.list) f.place.command) refl
+  by-is kinds.Run f fs s e = run-turn-is f fs s e setting f.place.turn refl
+
+  -- each move at places is the move of their frames
+  pub place_move-is : (ps : List RunningFrame) (s : State) → next_of (place_move setting ps s) ≡ move setting (frames_of ps) s
+  place_move-is [] s = refl
+  place_move-is (f ∷ fs) s = by-is f.kind f fs s refl
+
+boots-is : (b : Bool) (name : Text) (ps : List RunningFrame) (s : State) → next_of (place_boot b name ps s) ≡ boot_next b name (frames_of ps) s
+boots-is true name ps s = refl
+boots-is false name ps s = refl
+
+-- and so is the outcome of the command that asks
+pub place_answered-is : (outcome : Outcome) (r : Request) (ps : List RunningFrame) (s : State) → next_of (place_answered outcome r ps s) ≡ answered outcome r (frames_of ps) s
+place_answered-is Success r ps s = boots-is r.effect.ends r.name ps (set_environment r.effect.sets (logged Success r s))
+place_answered-is Failure r ps s = refl
+
+-- where the text of a variable begins
+pub text_begins : (script : Script) → frames_of (text_frame script ∷ []) ≡ Lists script ∷ []
+text_begins script = texted script []
+
+-- ---- what `exit` takes off
+
+abbrev at_top : List RunningFrame → List RunningFrame → Type 0
+at_top frames all = to_run frames ≡ to_run all
+
+by_kind : (k : FrameKind) (f : RunningFrame) (fs : List RunningFrame) → f.kind ≡ k → to_run (f ∷ fs) ≡ elim (is_run k) [ true ↦ f ∷ fs | false ↦ to_run fs ]
+by_kind k f fs e = ap (λ (x : FrameKind). elim (is_run x) [ true ↦ f ∷ fs | false ↦ to_run fs ]) e
+
+not_run : (k : FrameKind) → (k ≡ kinds.Run → ⊥) → is_run k ≡ false
+not_run kinds.Text h = refl
+not_run kinds.Block h = refl
+not_run kinds.For h = refl
+not_run kinds.Run h = absurd (h refl)
+
+pub stops_at_run : (frames all : List RunningFrame) (f : RunningFrame) (s : State) → Some f ≡ slice_get frames 0 → f.kind ≡ kinds.Run → to_run frames ≡ to_run all → GoOn frames s ≡ left (to_run all) s
+stops_at_run [] all f s e k t = absurd (let g = e in cc)
+stops_at_run (x ∷ xs) all f s e k t =
+    let same : x ≡ f = (let g = e in cc) in
+    let run : x.kind ≡ kinds.Run = ap (λ (y : RunningFrame). y.kind) same ∙ k in
+    ap (λ (y : List RunningFrame). left y s) (sym (by_kind kinds.Run x xs run) ∙ t)
+
+skipped : (b : Bool) (x : RunningFrame) (xs : List RunningFrame) → b ≡ false → elim b [ true ↦ x ∷ xs | false ↦ to_run xs ] ≡ to_run xs
+skipped true x xs e = absurd (let g = e in cc)
+skipped false x xs e = refl
+
+pub goes_below : (frames all : List RunningFrame) (f : RunningFrame) → Some f ≡ slice_get frames 0 → (f.kind ≡ kinds.Run → ⊥) → to_run frames ≡ to_run all → to_run (without_first frames) ≡ to_run all
+goes_below [] all f e k t = t
+goes_below (x ∷ xs) all f e k t =
+    let same : x ≡ f = (let g = e in cc) in
+    sym (skipped (is_run x.kind) x xs (not_run x.kind (λ h. k (sym (ap (λ (y : RunningFrame). y.kind) same) ∙ h)))) ∙ t
+
+pub shorter_below : (frames : List RunningFrame) (f : RunningFrame) → Some f ≡ slice_get frames 0 → length (without_first frames) < length frames
+shorter_below [] f e = absurd (let g = e in cc)
+shorter_below (x ∷ xs) f e = omega arith
+
+pub ends_at_none : (frames all : List RunningFrame) (s : State) → None ≡ slice_get frames 0 → to_run frames ≡ to_run all → StopOn (End s.memory.status) s ≡ left (to_run all) s
+ends_at_none [] all s e t = ap (λ (y : List RunningFrame). left y s) t
+ends_at_none (x ∷ xs) all s e t = absurd (let g = e in cc)

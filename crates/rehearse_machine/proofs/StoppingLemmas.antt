@@ -1,0 +1,210 @@
+-- Where a text stops, and how an outcome takes it on.
+use Rattle.std.proofs.Common.{ℕ, ◌+◌, Bool, true, false, List, [], ◌∷◌, Result, Ok, Err, refl, sym, ap, subst, ◌∙◌, ◌≡◌, ◌≤◌, arith}
+use Rattle.std.specs.Prelude.{IfOk, OnOk}
+use Rattle.bootstore.specs.declared.store.StoreError.{StoreError}
+use Rattle.bootstore.specs.Moment.{RunningFrame, Moment}
+use Rattle.bootstore.specs.Record.{Record}
+use Rattle.rehearse.specs.Outcomes.{Word, Outcome, Success, Failure}
+use Rattle.rehearse.specs.State.{State, state_at}
+use Rattle.rehearse.specs.Execution.{Setting, Request, logged, set_environment, succeeds}
+use Rattle.rehearse.specs.Runs.{Task}
+use Rattle.rehearse_machine.specs.declared.ask.Ask.{Ask}
+use Rattle.rehearse_machine.specs.declared.halt.Halt.{Halt}
+use Rattle.rehearse_machine.specs.declared.ask.Step.{Step}
+use Rattle.rehearse_machine.specs.declared.ask.Step.TheVariants as steps
+use Rattle.rehearse_machine.specs.declared.rehearsal.Stop.{Stop}
+use Rattle.rehearse_machine.specs.declared.rehearsal.Stop.TheVariants.{Asks, Ends}
+use Rattle.rehearse_machine.specs.Frames.{answered}
+use Rattle.rehearse_machine.specs.Places.{PlaceNext, GoOn, AskOn, StopOn, next_of, frames_of, place_boot, place_answered}
+use Rattle.rehearse_machine.specs.Asking.{found_again, AsksAgain}
+use Rattle.rehearse_machine.specs.Came.{Came, Over, Wants}
+use Rattle.rehearse_machine.specs.Meaning.{comes_to, IsProperNext, AreProperFrames}
+use Rattle.rehearse_machine.specs.Seen.{next_seen, request_seen, Keeps, Does}
+use Rattle.rehearse_machine.specs.Turning.{to_come, step_comes, IsSound, IsSoundStep, IsWithin, Drives}
+use Rattle.rehearse_machine.specs.Machine.{Asking, IsAsking, asked_at, Stops, outcome_when}
+use Rattle.rehearse_machine.proofs.Moves.{continue-dry}
+use Rattle.rehearse_machine.proofs.PlaceMoves.{place_answered-is}
+use Rattle.rehearse_machine.proofs.Standing.{answered-is}
+
+-- ---- where the machine stops
+
+module _ (setting : Setting) (old new : Record) where
+  -- a device command asks
+  pub stops_asking : (ask : Ask) (step : Step) → step ≡ steps.Asks ask → Drives setting step old new → Stops setting Asks (to_come setting old.present) new.present
+  unfolding asked_at IsAsking
+  stops_asking ask step is drives =
+      let d : Drives setting (steps.Asks ask) old new = subst (λ (x : Step). Drives setting x old new) is drives in
+      let asking : Asking setting new.present = record { request = request_seen ask; again = d.again; sound = d.sound; within = d.within } in
+      (asking, λ w. sym (d.means w) ∙ ap (λ (x : PlaceNext). comes_to setting w (next_of x)) (sym (d.again w)), sym (d.means []) ∙ continue-dry setting (frames_of new.present.frames) (state_at new.present []))
+
+  -- the run has ended
+  pub stops_ended : (halt : Halt) (step : Step) → step ≡ steps.Ends halt → Drives setting step old new → Stops setting (Ends halt) (to_come setting old.present) new.present
+  stops_ended halt step is drives = λ w. sym (drives.means w) ∙ ap (λ (x : Step). step_comes setting x new.present w) is
+
+  -- no more steps were begun than the bound
+  pub stops_within : (step : Step) → (step ≡ steps.Going → ⊥) → Drives setting step old new → new.present.steps ≤ setting.step_bound
+  stops_within steps.Going other drives = absurd (other refl)
+  stops_within (steps.Asks ask) other drives = drives.within
+  stops_within (steps.Ends halt) other drives = drives.within
+
+-- what comes to the same stops there too
+pub stops_as : (setting : Setting) (stop : Stop) (f g : Word → Came) (m : Moment) → ((w : Word) → g w ≡ f w) → Stops setting stop f m → Stops setting stop g m
+stops_as setting Asks f g m e h = (h.0, λ w. e w ∙ h.1 w, e [] ∙ h.2)
+stops_as setting (Ends halt) f g m e h = λ w. e w ∙ h w
+
+-- ---- an outcome
+
+steps_of : PlaceNext → ℕ
+steps_of (GoOn ps s) = s.steps
+steps_of (AskOn r ps s) = s.steps
+steps_of (StopOn ending s) = s.steps
+
+asks : PlaceNext → Bool
+asks (GoOn ps s) = false
+asks (AskOn r ps s) = true
+asks (StopOn ending s) = false
+
+module _ (r : Request) (ps : List RunningFrame) where
+  boot_steps : (b : Bool) (s : State) → steps_of (place_boot b r.name ps s) ≡ s.steps
+  unfolding steps_of
+  boot_steps true s = refl
+  boot_steps false s = refl
+
+  answered_steps : (o : Outcome) (s : State) → steps_of (place_answered o r ps s) ≡ s.steps
+  unfolding steps_of
+  answered_steps Success s = boot_steps r.effect.ends (set_environment r.effect.sets (logged Success r s))
+  answered_steps Failure s = refl
+
+  boot_asks : (b : Bool) (s : State) → asks (place_boot b r.name ps s) ≡ false
+  unfolding asks
+  boot_asks true s = refl
+  boot_asks false s = refl
+
+  answered_asks : (o : Outcome) (s : State) → asks (place_answered o r ps s) ≡ false
+  unfolding asks
+  answered_asks Success s = boot_asks r.effect.ends (set_environment r.effect.sets (logged Success r s))
+  answered_asks Failure s = refl
+
+  boot_sound : (b : Bool) (s : State) → AreProperFrames (frames_of ps) → IsProperNext (next_of (place_boot b r.name ps s))
+  boot_sound true s h = tt
+  boot_sound false s h = h
+
+  answered_sound : (o : Outcome) (s : State) → AreProperFrames (frames_of ps) → IsProperNext (next_of (place_answered o r ps s))
+  answered_sound Success s h = boot_sound r.effect.ends (set_environment r.effect.sets (logged Success r s)) h
+  answered_sound Failure s h = h
+
+-- a command that asks is found again
+module _ (setting : Setting) (old mid : Record) (step : Step) (asking : IsAsking setting old.present) (finds : Does step old mid (found_again setting old.present.frames)) where
+  asking_at : Asking setting old.present
+  unfolding IsAsking
+  asking_at = asking
+
+  found : (w : Word) → next_seen step mid.present w ≡ AskOn asking_at.request old.present.frames (state_at old.present w)
+  found w = finds.0 w ∙ asking_at.again w
+
+  pub never_goes : step ≡ steps.Going → ⊥
+  never_goes e = let f : GoOn mid.present.frames (state_at mid.present []) ≡ AskOn asking_at.request old.present.frames (state_at old.present []) = sym (ap (λ (x : Step). next_seen x mid.present []) e) ∙ found [] in cc
+
+  pub never_ends : (halt : Halt) → step ≡ steps.Ends halt → ⊥
+  never_ends halt e = let f = sym (ap (λ (x : Step). next_seen x mid.present []) e) ∙ found [] in cc
+
+  never_other : (x : Step) → x ≡ step → ((ask : Ask) → step ≡ steps.Asks ask → ⊥) → ⊥
+  never_other steps.Going e other = never_goes (sym e)
+  never_other (steps.Asks ask) e other = other ask (sym e)
+  never_other (steps.Ends halt) e other = never_ends halt (sym e)
+
+  pub never_found : ((ask : Ask) → step ≡ steps.Asks ask → ⊥) → ⊥
+  never_found other = never_other step refl other
+
+  -- and takes an outcome
+  module _ (ask : Ask) (is : step ≡ steps.Asks ask) (outcome : Outcome) (new : Record) (next : Step) (does : Does next mid new (place_answered outcome (request_seen ask) mid.present.frames)) where
+    asks_so : (w : Word) → AskOn (request_seen ask) mid.present.frames (state_at mid.present w) ≡ AskOn asking_at.request old.present.frames (state_at old.present w)
+    asks_so w = sym (ap (λ (x : Step). next_seen x mid.present w) is) ∙ found w
+
+    same_request : request_seen ask ≡ asking_at.request
+    same_request = let e = asks_so [] in cc
+
+    same_frames : mid.present.frames ≡ old.present.frames
+    same_frames = let e = asks_so [] in cc
+
+    same_state : (w : Word) → state_at mid.present w ≡ state_at old.present w
+    same_state w = let e = asks_so w in cc
+
+    answers : (w : Word) → next_seen next new.present w ≡ place_answered outcome asking_at.request old.present.frames (state_at old.present w)
+    answers w =
+        does.0 w
+        ∙ ap (λ (r : Request). place_answered outcome r mid.present.frames (state_at mid.present w)) same_request
+        ∙ ap (λ (ps : List RunningFrame). place_answered outcome asking_at.request ps (state_at mid.present w)) same_frames
+        ∙ ap (place_answered outcome asking_at.request old.present.frames) (same_state w)
+
+    abbrev task : Task
+    task = record { setting = setting; environment = []; name = []; text = [] }
+
+    pub resumed : (w : Word) → asked_at setting old.present (outcome ∷ w) ≡ step_comes setting next new.present w
+    unfolding asked_at
+    resumed w =
+        ap (λ (x : PlaceNext). comes_to setting (outcome ∷ w) (next_of x)) (asking_at.again (outcome ∷ w))
+        ∙ answered-is task w outcome asking_at.request (frames_of old.present.frames) (state_at old.present w)
+        ∙ sym (ap (comes_to setting w) (ap next_of (answers w) ∙ place_answered-is outcome asking_at.request old.present.frames (state_at old.present w)))
+
+    pub never_asks : (more : Ask) → next ≡ steps.Asks more → ⊥
+    unfolding asks
+    never_asks more e =
+        let f : true ≡ false = ap (λ (x : Step). asks (next_seen x new.present [])) (sym e) ∙ ap asks (answers []) ∙ answered_asks asking_at.request old.present.frames outcome (state_at old.present []) in
+        absurd (let g = f in cc)
+
+    -- the run has ended
+    pub booted : (halt : Halt) → next ≡ steps.Ends halt → Stops setting (Ends halt) (λ w. asked_at setting old.present (outcome ∷ w)) new.present
+    booted halt e = λ w. resumed w ∙ ap (λ (x : Step). step_comes setting x new.present w) e
+
+    -- it goes on
+    pub goes_on : next ≡ steps.Going → (w : Word) → asked_at setting old.present (outcome ∷ w) ≡ to_come setting new.present w
+    goes_on e w = resumed w ∙ ap (λ (x : Step). step_comes setting x new.present w) e
+
+    pub goes_soundly : next ≡ steps.Going → IsSound new.present
+    goes_soundly e = subst (λ (x : Step). IsSoundStep x new.present) e (subst IsProperNext (sym (ap next_of (answers []))) (answered_sound asking_at.request old.present.frames outcome (state_at old.present []) asking_at.sound))
+
+    seen_steps : (x : Step) → steps_of (next_seen x new.present []) ≡ new.present.steps
+    unfolding steps_of
+    seen_steps steps.Going = refl
+    seen_steps (steps.Asks more) = refl
+    seen_steps (steps.Ends halt) = refl
+
+    pub same_steps : new.present.steps ≡ old.present.steps
+    same_steps = sym (seen_steps next) ∙ ap steps_of (answers []) ∙ answered_steps asking_at.request old.present.frames outcome (state_at old.present [])
+
+    pub still_within : new.present.steps ≤ setting.step_bound
+    still_within = subst (λ (n : ℕ). n ≤ setting.step_bound) (sym same_steps) asking_at.within
+
+    pub same_marks : new.marked ≡ old.marked
+    same_marks = does.1.marked ∙ finds.1.marked
+
+    pub same_begun : new.begun ≡ old.begun
+    same_begun =
+        let a = does.1.begun in
+        let b = finds.1.begun in
+        let c : mid.present.steps ≡ old.present.steps = ap (λ (s : State). s.steps) (same_state []) in
+        let d = same_steps in
+        omega arith
+
+pub outcome_succeeds : (b : Bool) → succeeds (outcome_when b) ≡ b
+outcome_succeeds true = refl
+outcome_succeeds false = refl
+
+-- ---- a text that went on
+
+pub all_stop_as : (r : Result Stop StoreError) (setting : Setting) (f g : Word → Came) (new : Record) → ((w : Word) → g w ≡ f w) → IfOk r (λ stop. Stops setting stop f new.present) → IfOk r (λ stop. Stops setting stop g new.present)
+all_stop_as (Ok stop) setting f g new e h = stops_as setting stop f g new.present e h
+all_stop_as (Err x) setting f g new e h = h
+
+pub marks_on : (r : Result Stop StoreError) (old mid new : Record) → mid.marked ≡ old.marked → OnOk r (Keeps mid new) → OnOk r (new.marked ≡ old.marked)
+marks_on (Ok stop) old mid new e h = h.marked ∙ e
+marks_on (Err x) old mid new e h = h
+
+pub begun_on : (r : Result Stop StoreError) (old mid new : Record) → mid.begun ≡ old.begun → mid.present.steps ≡ old.present.steps → OnOk r (Keeps mid new) → OnOk r (new.begun + old.present.steps ≡ old.begun + new.present.steps)
+begun_on (Ok stop) old mid new a b h = let k = h.begun in omega arith
+begun_on (Err x) old mid new a b h = h
+
+pub grows_on : (r : Result Stop StoreError) (old mid new : Record) → mid.present.steps ≡ old.present.steps → OnOk r (mid.present.steps ≤ new.present.steps) → OnOk r (old.present.steps ≤ new.present.steps)
+grows_on (Ok stop) old mid new e h = omega arith
+grows_on (Err x) old mid new e h = h

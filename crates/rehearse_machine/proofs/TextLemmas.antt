@@ -1,0 +1,66 @@
+-- The text of a variable at the start of a run.
+use Rattle.std.proofs.Common.{List, [], ◌∷◌, Option, Some, None, refl, sym, ap, subst, ◌∙◌, ◌≡◌}
+use Rattle.std.specs.Prelude.{unwrap_or}
+use Rattle.std.specs.FinMap as finite
+use Rattle.std.specs.FinMap.{entries}
+use Rattle.hushlang.specs.Tree as tree
+use Rattle.hushlang.specs.Tree.{Script}
+use Rattle.hushlang.specs.View as view
+use Rattle.hushlang.specs.declared.tree.Script.{Script as Code}
+use Rattle.bootstore.specs.Moment as stored
+use Rattle.bootstore.specs.Record.{Record, beginning, started, changed, with_frame}
+use Rattle.rehearse.specs.Outcomes.{Word}
+use Rattle.rehearse.specs.Trees.{tree_of}
+use Rattle.rehearse.specs.State.{Text, Variables, get, State, start}
+use Rattle.rehearse.specs.Execution.{Setting, Normal, Syntax}
+use Rattle.rehearse.specs.Runs.{Task, run_on}
+use Rattle.rehearse.proofs.StateLemmas.{stored_values, stored_starts}
+use Rattle.rehearse.proofs.ProperLemmas.{trees_are_proper}
+use Rattle.rehearse_machine.specs.Frames.{Frame, Lists, begun_text}
+use Rattle.rehearse_machine.specs.Places.{frames_of, text_frame}
+use Rattle.rehearse_machine.specs.Came.{Over, settled}
+use Rattle.rehearse_machine.specs.Meaning.{continue, with, AreProperFrames}
+use Rattle.rehearse_machine.specs.Turning.{IsSound, to_come}
+use Rattle.rehearse_machine.proofs.PlaceMoves.{text_begins}
+use Rattle.rehearse_machine.proofs.Standing.{begins}
+
+begun_start : (t : Script) (environment : Variables) (w : Word) → with w (begun_text t (start environment [])) ≡ start environment w
+begun_start tree.Empty environment w = refl
+begun_start (tree.Runs l ls) environment w = refl
+
+-- the frame of a text means the run on it
+pub text_runs : (task : Task) (t : Script) (w : Word) → tree_of task.text ≡ Some t → continue task.setting (frames_of (text_frame t ∷ [])) (Normal (start task.environment w)) ≡ settled (run_on task w)
+text_runs task t w e =
+    ap (λ (x : List Frame). continue task.setting x (Normal (start task.environment w))) (text_begins t)
+    ∙ ap (λ (x : State). continue task.setting (Lists t ∷ []) (Normal x)) (sym (begun_start t task.environment w))
+    ∙ sym (begins task (Some t) e w)
+
+pub text_sound : (text : Text) (t : Script) → tree_of text ≡ Some t → AreProperFrames (frames_of (text_frame t ∷ []))
+text_sound text t e = subst AreProperFrames (sym (text_begins t)) (trees_are_proper text t e, tt)
+
+-- the store at the start of a text
+abbrev text_moment : stored.Variables → Script → stored.Moment
+text_moment variables t = record (beginning variables) { frames = text_frame t ∷ [] }
+
+module _ (old mid new : Record) (variables : stored.Variables) (child : stored.RunningFrame) (value code : Code) (text : Text) (begun : mid ≡ started variables old) (pushed : new ≡ changed (with_frame child) mid) (child_is : child ≡ text_frame (view.script value)) (same : value ≡ code) (read : tree_of text ≡ Some (view.script code)) where
+  pub stands : new.present ≡ text_moment variables (view.script code)
+  stands =
+      ap (λ (r : Record). r.present) (pushed ∙ ap (changed (with_frame child)) begun)
+      ∙ ap (λ (x : stored.RunningFrame). record (beginning variables) { frames = x ∷ [] }) (child_is ∙ ap (λ (x : Code). text_frame (view.script x)) same)
+
+  pub stands_sound : IsSound new.present
+  stands_sound = subst IsSound (sym stands) (text_sound text (view.script code) read)
+
+  pub stands_runs : (setting : Setting) (name : Text) (w : Word) → to_come setting new.present w ≡ settled (run_on (record { setting = setting; environment = entries variables; name = name; text = text }) w)
+  stands_runs setting name w =
+      ap (λ (m : stored.Moment). to_come setting m w) stands
+      ∙ ap (λ (x : State). continue setting (frames_of (text_frame (view.script code) ∷ [])) (Normal x)) (stored_starts variables w)
+      ∙ text_runs (record { setting = setting; environment = entries variables; name = name; text = text }) (view.script code) w read
+
+-- a text that is no script
+pub refused_runs : (task : Task) (w : Word) → tree_of task.text ≡ None → settled (run_on task w) ≡ Over (Syntax task.name) (start task.environment w)
+refused_runs task w e = begins task None e w
+
+-- the text that a rehearsal reads
+pub same_text : (variables : stored.Variables) (name found : Text) (present : stored.Moment) → present.environment ≡ variables → found ≡ unwrap_or (finite.get present.environment name) [] → found ≡ unwrap_or (get (entries variables) name) []
+same_text variables name found present e h = h ∙ ap (λ (v : stored.Variables). unwrap_or (finite.get v name) []) e ∙ ap (λ (o : Option Text). unwrap_or o []) (sym (stored_values variables name))

@@ -1,0 +1,5 @@
+use Rattle.rehearse_machine.proofs.OutcomeLemmas.{AreSet}
+use Rattle.rehearse_machine.proofs.outcomes.set_all.Given as goal
+
+abbrev pub invariant-loop-set : goal.invariant-loop-set
+invariant-loop-set g l = AreSet l.sets l.set-index (g.S.Store.record_of l.initial.store) (g.S.Store.record_of l.store)

@@ -1,0 +1,50 @@
+use Rattle.std.proofs.Common.{◌≡◌, List, ℕ, [], ap, sym, ◌∙◌, Some, None}
+use Rattle.std.specs.Prelude.{option_map}
+use Rattle.hushlang.specs.View as view
+use Rattle.bootstore.specs.Moment.{environment_of}
+use Rattle.bootstore.specs.Record.{Record}
+use Rattle.rehearse.specs.Trees.{tree_of}
+use Rattle.rehearse.specs.Execution.{Syntax}
+use Rattle.rehearse.specs.State.{state_at}
+use Rattle.rehearse.specs.Runs.{run_on}
+use Rattle.rehearse.proofs.StateLemmas.{stored_starts}
+use Rattle.rehearse_machine.specs.Came.{Over, settled}
+use Rattle.rehearse_machine.specs.Tasks.{task_in}
+use Rattle.rehearse_machine.specs.Turning.{to_come}
+use Rattle.rehearse_machine.proofs.StoppingLemmas.{all_stop_as}
+use Rattle.rehearse_machine.proofs.TextLemmas.{refused_runs, same_text, stands_sound, stands_runs}
+use Rattle.rehearse_machine.proofs.rehearsal.begin.Goals as goal
+
+pub returns-in_default-clause-stops : goal.returns-in_default-clause-stops
+returns-in_default-clause-stops g c w =
+    let task = task_in c.args.rehearsal.now in
+    let variables = environment_of c.args.rehearsal.now.env.now in
+    let start = g.S.Store.record_of c.start.new.self in
+    let same = same_text variables task.name c.text_of-text_found.result.now start.present (ap (λ (r : Record). r.present.environment) c.in_ok-start.ensures.ok) c.text_of-text_found.ensures in
+    let read = ap tree_of (sym same) ∙ sym c.in_ok-script.ensures ∙ ap (option_map view.script) c.in_default.is in
+    refused_runs task w read ∙ ap (Over (Syntax task.name)) (sym (stored_starts variables w))
+    ∙ ap (λ (r : Record). Over (Syntax task.name) (state_at r.present w)) (sym c.in_ok-start.ensures.ok)
+    ∙ ap (λ (n : List ℕ). Over (Syntax n) (state_at start.present w)) (sym c.in_ok-name.ensures.items)
+
+pub go_on-requires-clause-sound : goal.go_on-requires-clause-sound
+go_on-requires-clause-sound g c =
+    let task = task_in c.args.rehearsal.now in
+    let variables = environment_of c.args.rehearsal.now.env.now in
+    let start = g.S.Store.record_of c.start.new.self in
+    let same = same_text variables task.name c.text_of-text_found.result.now start.present (ap (λ (r : Record). r.present.environment) c.in_ok-start.ensures.ok) c.text_of-text_found.ensures in
+    let read = ap tree_of (sym same) ∙ sym c.in_ok-script.ensures ∙ ap (option_map view.script) c.in-Some.is in
+    stands_sound (g.S.Store.record_of c.args.store.now) start (g.S.Store.record_of c.push.new.self) variables c.text.result c.in_ok-new.field-0.value c.in-Some.script task.text
+    c.in_ok-start.ensures.ok c.in_ok-push.ensures.ok c.text.ensures c.in_ok-new.ensures.ok read
+
+pub returns-clause-stops : goal.returns-clause-stops
+returns-clause-stops g c =
+    let task = task_in c.args.rehearsal.now in
+    let variables = environment_of c.args.rehearsal.now.env.now in
+    let old = g.S.Store.record_of c.args.store.now in
+    let start = g.S.Store.record_of c.start.new.self in
+    let new = g.S.Store.record_of c.push.new.self in
+    let same = same_text variables task.name c.text_of-text_found.result.now start.present (ap (λ (r : Record). r.present.environment) c.in_ok-start.ensures.ok) c.text_of-text_found.ensures in
+    let read = ap tree_of (sym same) ∙ sym c.in_ok-script.ensures ∙ ap (option_map view.script) c.in-Some.is in
+    all_stop_as c.go_on.result task.setting (to_come task.setting new.present) (λ w. settled (run_on task w)) (g.S.Store.record_of c.go_on.new.store)
+    (λ w. sym (stands_runs old start new variables c.text.result c.in_ok-new.field-0.value c.in-Some.script task.text c.in_ok-start.ensures.ok c.in_ok-push.ensures.ok c.text.ensures c.in_ok-new.ensures.ok read task.setting task.name w))
+    c.go_on.ensures.stops

@@ -1,0 +1,42 @@
+-- A device command that asks for its outcome: where it stands, and how it is found again. Ours.
+use Rattle.std.specs.Prelude.{◌≡◌, ℕ, zero, suc, List, [], ◌∷◌, Option, Some, None}
+use Rattle.hushlang.specs.Tree as tree
+use Rattle.hushlang.specs.Tree.{Command}
+use Rattle.hushlang.specs.Expansion.{fields}
+use Rattle.bootstore.specs.Moment.{RunningFrame}
+use Rattle.rehearse.specs.State.{State, setting_in}
+use Rattle.rehearse.specs.Execution.{Setting, End}
+use Rattle.rehearse_machine.specs.Places.{PlaceNext, GoOn, AskOn, StopOn, list_at, command_at, place_fitting, place_fields}
+
+-- the command in front of the place of a frame
+abbrev pub command_in_front : ℕ → RunningFrame → Option Command
+command_in_front zero f = None
+command_in_front (suc command) f = command_at (list_at f.script f.place.list) command
+
+-- the words of a simple command
+abbrev pub words_of : Option Command → Option (List tree.Word)
+words_of None = None
+words_of (Some (tree.Simple words)) = Some words
+words_of (Some (tree.Assign values)) = None
+words_of (Some (tree.If arms)) = None
+words_of (Some (tree.Loop until cond body)) = None
+words_of (Some (tree.For name words body)) = None
+
+abbrev pub words_in_front : RunningFrame → Option (List tree.Word)
+words_in_front f = words_of (command_in_front f.place.command f)
+
+-- what the words of a simple command that has begun come to
+abbrev pub fields_again : Setting → Option (List tree.Word) → RunningFrame → List RunningFrame → State → PlaceNext
+fields_again setting None f fs s = StopOn (End s.memory.status) s
+fields_again setting (Some words) f fs s = place_fitting (fields (setting_in s.memory) words) (λ found. place_fields setting found f.script (f ∷ fs)) s
+
+-- the command that the innermost frame stands behind, found again: a device command that asks, if it is one
+abbrev pub found_again : Setting → List RunningFrame → State → PlaceNext
+found_again setting [] s = StopOn (End s.memory.status) s
+found_again setting (f ∷ fs) s = fields_again setting (words_in_front f) f fs s
+
+-- where a command asks, it is found again
+abbrev pub AsksAgain : Setting → PlaceNext → Type 0
+AsksAgain setting (GoOn fs s) = Unit {0}
+AsksAgain setting (AskOn request fs s) = found_again setting fs s ≡ AskOn request fs s
+AsksAgain setting (StopOn ending s) = Unit {0}

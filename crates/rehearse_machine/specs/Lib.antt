@@ -1,0 +1,13 @@
+pub mod Frames
+pub mod Variables
+pub mod Places
+pub mod Came
+pub mod Meaning
+pub mod Turns
+pub mod Asking
+pub mod Halted
+pub mod Seen
+pub mod Builtins
+pub mod Turning
+pub mod Machine
+pub mod Tasks

@@ -1,0 +1,289 @@
+-- Frames that hold a script and a place in it, as a store keeps them, and one move of the machine over them. Ours.
+use Rattle.std.specs.Prelude.{ℕ, zero, suc, nat_lt, nat_le, nat_eq, Bool, true, false, List, [], ◌∷◌, ◌++◌, length, drop, slice_get, Option, Some, None}
+use Rattle.hushlang.specs.Tree as tree
+use Rattle.hushlang.specs.Tree.{Script, AndOr, Joined, Command, Arms}
+use Rattle.hushlang.specs.Expansion.{fields, joined, size, most_bytes}
+use Rattle.hushlang.specs.declared.tree.Op.{Op}
+use Rattle.bootstore.specs.declared.frame.At.{At}
+use Rattle.bootstore.specs.declared.frame.FrameKind.{FrameKind}
+use Rattle.bootstore.specs.declared.frame.FrameKind.TheVariants as kinds
+use Rattle.bootstore.specs.Moment.{RunningFrame}
+use Rattle.rehearse.specs.Outcomes.{Outcome, Success, Failure}
+use Rattle.rehearse.specs.Trees.{tree_of}
+use Rattle.rehearse.specs.State.{Text, get, State, setting_in}
+use Rattle.rehearse.specs.Verdict.{verdict}
+use Rattle.rehearse.specs.Commands.{Builtin, SetEnv, Run, Test, Echo, True, False, Leave, NoCommand, Device, builtins, builtin_in, asks_device, setenv, echo, exit_status}
+use Rattle.rehearse.specs.Execution.{Setting, Ending, End, CutDevices, CutSteps, Unknown, Syntax, Size, Booted, remember, set_status, set_local, status_when, goes, holds, Request, no_effect, logged, set_environment}
+use Rattle.rehearse_machine.specs.Frames.{Frame, Lists, Linked, IfCondition, LoopCondition, LoopBody, ForBody, RunNames, RunText, Next, Go, Ask, Stop, begun_text}
+
+-- ---- parts of a script by their numbers
+
+abbrev pub list_at : Script → ℕ → Option AndOr
+list_at tree.Empty i = None
+list_at (tree.Runs l ls) zero = Some l
+list_at (tree.Runs l ls) (suc i) = list_at ls i
+
+abbrev pub drop_lists : ℕ → Script → Script
+drop_lists zero script = script
+drop_lists (suc i) tree.Empty = tree.Empty
+drop_lists (suc i) (tree.Runs l ls) = drop_lists i ls
+
+abbrev pub joined_at : Joined → ℕ → Option (Op × Command)
+joined_at tree.Alone j = None
+joined_at (tree.Joins op c rest) zero = Some (op, c)
+joined_at (tree.Joins op c rest) (suc j) = joined_at rest j
+
+abbrev pub drop_joined : ℕ → Joined → Joined
+drop_joined zero rest = rest
+drop_joined (suc j) tree.Alone = tree.Alone
+drop_joined (suc j) (tree.Joins op c rest) = drop_joined j rest
+
+abbrev pub second : Option (Op × Command) → Option Command
+second None = None
+second (Some pair) = Some pair.1
+
+abbrev pub command_in : AndOr → ℕ → Option Command
+command_in (tree.Starts c rest) zero = Some c
+command_in (tree.Starts c rest) (suc j) = second (joined_at rest j)
+
+abbrev pub command_at : Option AndOr → ℕ → Option Command
+command_at None j = None
+command_at (Some list) j = command_in list j
+
+-- the arms from one on; behind them all the `else` block
+abbrev pub drop_arms : ℕ → Arms → Arms
+drop_arms zero arms = arms
+drop_arms (suc a) (tree.Arm c b arms) = drop_arms a arms
+drop_arms (suc a) (tree.Else b) = tree.Else b
+drop_arms (suc a) tree.NoElse = tree.NoElse
+
+-- ---- the frames that places stand for
+
+abbrev pub place : ℕ → ℕ → ℕ → ℕ → At
+place list command turn last = record { list = list; command = command; turn = turn; last = last }
+
+-- the frames of a list from its command on
+abbrev pub from_command : AndOr → ℕ → Script → List Frame
+from_command list zero rest = Lists (tree.Runs list rest) ∷ []
+from_command (tree.Starts c joins) (suc j) rest = Linked (drop_joined j joins) ∷ Lists rest ∷ []
+
+abbrev pub condition_frame : Arms → Frame
+condition_frame (tree.Arm c b more) = IfCondition b more
+condition_frame (tree.Else b) = Linked tree.Alone
+condition_frame tree.NoElse = Linked tree.Alone
+
+-- the frame of a command whose block has just ended
+abbrev pub phase : Option Command → ℕ → ℕ → Frame
+phase (Some (tree.If arms)) a last = condition_frame (drop_arms a arms)
+phase (Some (tree.Loop until c b)) zero last = LoopCondition until c b last
+phase (Some (tree.Loop until c b)) (suc a) last = LoopBody until c b
+phase o a last = Linked tree.Alone
+
+abbrev pub from_turn : AndOr → At → ℕ → Script → List Frame
+from_turn list at zero rest = from_command list at.command rest
+from_turn list at (suc a) rest = phase (command_in list at.command) a at.last ∷ from_command list (suc at.command) rest
+
+abbrev pub script_frames : Option AndOr → At → Script → List Frame
+script_frames None at rest = Lists tree.Empty ∷ []
+script_frames (Some list) at rest = from_turn list at at.turn rest
+
+abbrev pub for_frame : Option Command → ℕ → List Text → Frame
+for_frame (Some (tree.For name words body)) turn values = ForBody name (drop turn values) body
+for_frame o turn values = Linked tree.Alone
+
+abbrev pub run_frame : ℕ → List Text → Frame
+run_frame zero names = RunNames names
+run_frame (suc k) names = RunText (drop (suc k) names)
+
+abbrev pub frames_by : FrameKind → RunningFrame → List Frame
+frames_by kinds.Text f = script_frames (list_at f.script f.place.list) f.place (drop_lists (suc f.place.list) f.script)
+frames_by kinds.Block f = script_frames (list_at f.script f.place.list) f.place (drop_lists (suc f.place.list) f.script)
+frames_by kinds.For f = for_frame (command_at (list_at f.script f.place.list) f.place.command) f.place.turn f.words ∷ []
+frames_by kinds.Run f = run_frame f.place.turn f.words ∷ []
+
+-- the frames that the frames of a store stand for
+abbrev pub frames_of : List RunningFrame → List Frame
+frames_of [] = []
+frames_of (f ∷ fs) = frames_by f.kind f ++ frames_of fs
+
+-- ---- one move
+
+pub data PlaceNext : Type 0 where
+  GoOn : List RunningFrame → State → PlaceNext
+  AskOn : Request → List RunningFrame → State → PlaceNext
+  StopOn : Ending → State → PlaceNext
+
+abbrev pub next_of : PlaceNext → Next
+next_of (GoOn ps s) = Go (frames_of ps) s
+next_of (AskOn r ps s) = Ask r (frames_of ps) s
+next_of (StopOn ending s) = Stop ending s
+
+abbrev pub moved_to : At → RunningFrame → RunningFrame
+moved_to at f = record f { place = at }
+
+-- behind its command
+abbrev pub behind : RunningFrame → RunningFrame
+behind f = moved_to (place f.place.list (suc f.place.command) 0 0) f
+
+-- in a turn of its command
+abbrev pub in_turn : ℕ → ℕ → RunningFrame → RunningFrame
+in_turn turn last f = moved_to (place f.place.list f.place.command turn last) f
+
+abbrev pub text_frame : Script → RunningFrame
+text_frame script = record { kind = kinds.Text; script = script; words = []; place = place 0 0 0 0 }
+
+abbrev pub block_frame : Script → RunningFrame
+block_frame script = record { kind = kinds.Block; script = script; words = []; place = place 0 0 0 0 }
+
+-- the names of a `run` that stands in a script
+abbrev pub names_frame : Script → List Text → RunningFrame
+names_frame script names = record { kind = kinds.Run; script = script; words = names; place = place 0 0 0 0 }
+
+-- the `for` that a frame has come to, and its fields
+abbrev pub values_frame : RunningFrame → List Text → RunningFrame
+values_frame f values = record { kind = kinds.For; script = f.script; words = values; place = place f.place.list f.place.command 0 0 }
+
+abbrev pub is_run : FrameKind → Bool
+is_run kinds.Text = false
+is_run kinds.Block = false
+is_run kinds.For = false
+is_run kinds.Run = true
+
+-- the frames from the innermost `run` on
+abbrev pub to_run : List RunningFrame → List RunningFrame
+to_run [] = []
+to_run (f ∷ fs) = elim (is_run f.kind) [ true ↦ f ∷ fs | false ↦ to_run fs ]
+
+abbrev pub left : List RunningFrame → State → PlaceNext
+left [] s = StopOn (End s.memory.status) s
+left (f ∷ fs) s = GoOn (f ∷ fs) s
+
+abbrev pub place_exit : Option ℕ → List RunningFrame → State → PlaceNext
+place_exit (Some status) ps s = left (to_run ps) (set_status status s)
+place_exit None ps s = GoOn ps (set_status 1 s)
+
+abbrev pub place_boot : Bool → Text → List RunningFrame → State → PlaceNext
+place_boot true name ps s = StopOn (Booted name) s
+place_boot false name ps s = GoOn ps s
+
+abbrev pub place_answered : Outcome → Request → List RunningFrame → State → PlaceNext
+place_answered Success request ps s = place_boot request.effect.ends request.name ps (set_environment request.effect.sets (logged Success request s))
+place_answered Failure request ps s = GoOn ps (logged Failure request s)
+
+abbrev pub place_assign : List (Text × tree.Word) → List RunningFrame → State → PlaceNext
+place_assign [] ps s = GoOn ps (set_status 0 s)
+place_assign (pair ∷ pairs) ps s = let value = joined (setting_in s.memory) pair.1 in elim (nat_le (length value) most_bytes) [ true ↦ place_assign pairs ps (set_local pair.0 value s) | false ↦ StopOn Size s ]
+
+-- the text of a name of a `run`, which is f
+abbrev pub place_tree : Option Script → Text → RunningFrame → List RunningFrame → State → PlaceNext
+place_tree None name f fs s = StopOn (Syntax name) s
+place_tree (Some t) name f fs s = GoOn (text_frame t ∷ in_turn (suc f.place.turn) 0 f ∷ fs) (begun_text t s)
+
+abbrev pub place_text : Option Text → Text → RunningFrame → List RunningFrame → State → PlaceNext
+place_text None name f fs s = GoOn fs (set_status 1 s)
+place_text (Some text) name f fs s = place_tree (tree_of text) name f fs s
+
+abbrev pub place_name : Option Text → RunningFrame → List RunningFrame → State → PlaceNext
+place_name None f fs s = GoOn fs s
+place_name (Some name) f fs s = place_text (get s.memory.environment name) name f fs s
+
+abbrev pub run_move : RunningFrame → List RunningFrame → State → PlaceNext
+run_move f fs s = elim (nat_eq f.place.turn 0) [ true ↦ place_name (slice_get f.words f.place.turn) f fs s | false ↦ elim (nat_eq s.memory.status 0) [ true ↦ place_name (slice_get f.words f.place.turn) f fs s | false ↦ GoOn fs s ] ]
+
+abbrev pub for_turn : Option Text → Text → Script → RunningFrame → List RunningFrame → State → PlaceNext
+for_turn None name body f fs s = GoOn fs s
+for_turn (Some value) name body f fs s = GoOn (block_frame body ∷ in_turn (suc f.place.turn) 0 f ∷ fs) (set_local name value s)
+
+abbrev pub for_move : Option Command → RunningFrame → List RunningFrame → State → PlaceNext
+for_move (Some (tree.For name words body)) f fs s = for_turn (slice_get f.words f.place.turn) name body f fs s
+for_move o f fs s = GoOn fs s
+
+abbrev pub for_begins : List Text → RunningFrame → List RunningFrame → State → PlaceNext
+for_begins [] f fs s = GoOn (behind f ∷ fs) (set_status 0 s)
+for_begins (v ∷ vs) f fs s = GoOn (values_frame f (v ∷ vs) ∷ behind f ∷ fs) s
+
+-- the arms of an `if` from one on
+abbrev pub place_arms : Arms → ℕ → RunningFrame → List RunningFrame → State → PlaceNext
+place_arms (tree.Arm c b more) a f fs s = GoOn (block_frame c ∷ in_turn (suc a) 0 f ∷ fs) s
+place_arms (tree.Else b) a f fs s = GoOn (block_frame b ∷ behind f ∷ fs) s
+place_arms tree.NoElse a f fs s = GoOn (behind f ∷ fs) (set_status 0 s)
+
+-- an arm's condition has ended
+abbrev pub condition_ends : Arms → ℕ → RunningFrame → List RunningFrame → State → PlaceNext
+condition_ends (tree.Arm c b more) a f fs s = elim (nat_eq s.memory.status 0) [ true ↦ GoOn (block_frame b ∷ behind f ∷ fs) s | false ↦ place_arms more (suc a) f fs s ]
+condition_ends (tree.Else b) a f fs s = GoOn (behind f ∷ fs) s
+condition_ends tree.NoElse a f fs s = GoOn (behind f ∷ fs) s
+
+-- a loop's condition has ended
+abbrev pub loop_ends : (until : Bool) → (body : Script) → RunningFrame → List RunningFrame → State → PlaceNext
+loop_ends until b f fs s = elim (holds until s.memory.status) [ true ↦ GoOn (block_frame b ∷ in_turn 2 0 f ∷ fs) s | false ↦ GoOn (behind f ∷ fs) (set_status f.place.last s) ]
+
+-- a block of a command has ended
+abbrev pub phase_move : Option Command → ℕ → RunningFrame → List RunningFrame → State → PlaceNext
+phase_move None a f fs s = GoOn (moved_to (place f.place.list f.place.command 0 0) f ∷ fs) s
+phase_move (Some (tree.If arms)) a f fs s = condition_ends (drop_arms a arms) a f fs s
+phase_move (Some (tree.Loop until c b)) zero f fs s = loop_ends until b f fs s
+phase_move (Some (tree.Loop until c b)) (suc a) f fs s = GoOn (block_frame c ∷ in_turn 1 s.memory.status f ∷ fs) s
+phase_move o a f fs s = GoOn (behind f ∷ fs) s
+
+abbrev pub place_fitting : List Text → (List Text → State → PlaceNext) → State → PlaceNext
+place_fitting fs next s = elim (nat_le (size fs) most_bytes) [ true ↦ next fs s | false ↦ StopOn Size s ]
+
+module _ (setting : Setting) where
+  abbrev pub place_ask : Request → List RunningFrame → State → PlaceNext
+  place_ask request ps s = elim (nat_lt (length s.log) setting.device_bound) [ true ↦ AskOn request ps s | false ↦ StopOn CutDevices s ]
+
+  -- the frames stand behind the command, which stands in a script
+  abbrev pub place_builtin : Builtin → Text → List Text → Script → List RunningFrame → State → PlaceNext
+  place_builtin SetEnv name words script ps s = GoOn ps (remember (setenv words) s)
+  place_builtin Run name [] script ps s = GoOn ps (set_status 1 s)
+  place_builtin Run name (w ∷ ws) script ps s = GoOn (names_frame script (w ∷ ws) ∷ ps) s
+  place_builtin Test name words script ps s = elim (asks_device words) [ true ↦ place_ask (record { name = name; words = words; effect = no_effect }) ps s | false ↦ GoOn ps (set_status (status_when (verdict words)) s) ]
+  place_builtin Echo name words script ps s = GoOn ps (remember (echo words) s)
+  place_builtin True name words script ps s = GoOn ps (set_status 0 s)
+  place_builtin False name words script ps s = GoOn ps (set_status 1 s)
+  place_builtin Leave name words script ps s = place_exit (exit_status words) ps s
+  place_builtin (Device effect) name words script ps s = place_ask (record { name = name; words = words; effect = effect }) ps s
+  place_builtin NoCommand name words script ps s = StopOn (Unknown name) s
+
+  abbrev pub place_fields : List Text → Script → List RunningFrame → State → PlaceNext
+  place_fields [] script ps s = GoOn ps (set_status 0 s)
+  place_fields (name ∷ ws) script ps s = place_builtin (builtin_in builtins setting.devices name) name ws script ps s
+
+  abbrev pub place_counted : (State → PlaceNext) → State → PlaceNext
+  place_counted next s = elim (nat_lt s.steps setting.step_bound) [ true ↦ next (record s { steps = suc s.steps }) | false ↦ StopOn CutSteps s ]
+
+  abbrev pub place_command : Command → RunningFrame → List RunningFrame → State → PlaceNext
+  place_command (tree.Simple words) f fs s = place_counted (λ t. place_fitting (fields (setting_in t.memory) words) (λ found. place_fields found f.script (behind f ∷ fs)) t) s
+  place_command (tree.Assign pairs) f fs s = place_counted (place_assign pairs (behind f ∷ fs)) s
+  place_command (tree.If arms) f fs s = place_arms arms 0 f fs s
+  place_command (tree.Loop until c b) f fs s = GoOn (block_frame c ∷ in_turn 1 0 f ∷ fs) s
+  place_command (tree.For name words body) f fs s = place_counted (λ t. place_fitting (fields (setting_in t.memory) words) (λ found. for_begins found f fs) t) s
+
+  -- a command behind `&&` or `||`, or the end of the list
+  abbrev pub place_joined : Option (Op × Command) → RunningFrame → List RunningFrame → State → PlaceNext
+  place_joined None f fs s = GoOn (moved_to (place (suc f.place.list) 0 0 0) f ∷ fs) s
+  place_joined (Some pair) f fs s = elim (goes pair.0 s.memory.status) [ true ↦ place_command pair.1 f fs s | false ↦ GoOn (behind f ∷ fs) s ]
+
+  abbrev pub place_begins : AndOr → ℕ → RunningFrame → List RunningFrame → State → PlaceNext
+  place_begins (tree.Starts c joins) zero f fs s = place_command c f fs s
+  place_begins (tree.Starts c joins) (suc j) f fs s = place_joined (joined_at joins j) f fs s
+
+  abbrev pub place_turn : AndOr → ℕ → RunningFrame → List RunningFrame → State → PlaceNext
+  place_turn list zero f fs s = place_begins list f.place.command f fs s
+  place_turn list (suc a) f fs s = phase_move (command_in list f.place.command) a f fs s
+
+  abbrev pub place_list : Option AndOr → RunningFrame → List RunningFrame → State → PlaceNext
+  place_list None f fs s = GoOn fs s
+  place_list (Some list) f fs s = place_turn list f.place.turn f fs s
+
+  abbrev pub place_by : FrameKind → RunningFrame → List RunningFrame → State → PlaceNext
+  place_by kinds.Text f fs s = place_list (list_at f.script f.place.list) f fs s
+  place_by kinds.Block f fs s = place_list (list_at f.script f.place.list) f fs s
+  place_by kinds.For f fs s = for_move (command_at (list_at f.script f.place.list) f.place.command) f fs s
+  place_by kinds.Run f fs s = run_move f fs s
+
+  -- one move, at places
+  abbrev pub place_move : List RunningFrame → State → PlaceNext
+  place_move [] s = StopOn (End s.memory.status) s
+  place_move (f ∷ fs) s = place_by f.kind f fs s

@@ -1,0 +1,75 @@
+-- What the program's moves and endings say.
+use Rattle.std.specs.Prelude.{◌≡◌, ℕ, ◌+◌, List, ◌∷◌, length, nat_le, nat_lt, Bool, true, false, Option, Some, None, Vec, Result, Ok, Err}
+use Rattle.bootstore.specs.Moment.{Moment, RunningFrame, bytes_of_words}
+use Rattle.bootstore.specs.Record.{Record, without_first, stepped}
+use Rattle.std.specs.declared.alloc.Global.{Global}
+use Rattle.hushlang.specs.Expansion.{size, most_bytes}
+use Rattle.rehearse.specs.Outcomes.{Word}
+use Rattle.bootstore.specs.declared.store.StoreError.{StoreError}
+use Rattle.rehearse.specs.State.{Text, Memory, State, state_at}
+use Rattle.rehearse.specs.DeviceList.{Devices}
+use Rattle.rehearse.specs.CommandsShown.{lent_effect}
+use Rattle.rehearse.specs.Bounds.{BoundsShown}
+use Rattle.rehearse.specs.Execution as says
+use Rattle.rehearse.specs.Execution.{Setting, Request, remember}
+use Rattle.rehearse_machine.specs.Places.{PlaceNext, GoOn, AskOn, StopOn}
+use Rattle.rehearse_machine.specs.Halted.{halt_shown}
+use Rattle.rehearse_machine.specs.declared.ask.Ask.{Ask}
+use Rattle.rehearse_machine.specs.declared.ask.Step.{Step}
+use Rattle.rehearse_machine.specs.declared.ask.Step.TheVariants as steps
+
+abbrev pub request_seen : Ask → Request
+request_seen ask = record { name = ask.name.items; words = bytes_of_words ask.words.items; effect = lent_effect ask.effect }
+
+-- a move that has come to a moment
+abbrev pub next_seen : Step → Moment → Word → PlaceNext
+next_seen steps.Going m w = GoOn m.frames (state_at m w)
+next_seen (steps.Asks ask) m w = AskOn (request_seen ask) m.frames (state_at m w)
+next_seen (steps.Ends halt) m w = StopOn (halt_shown halt) (state_at m w)
+
+abbrev pub setting_of : Devices → BoundsShown → Setting
+setting_of devices bounds = record { devices = devices; device_bound = bounds.devices; step_bound = bounds.steps }
+
+-- the frames under the innermost
+abbrev pub under : Moment → List RunningFrame
+under m = without_first m.frames
+
+-- the innermost frame is f
+abbrev pub IsTop : RunningFrame → Moment → Type 0
+IsTop f m = m.frames ≡ f ∷ under m
+
+-- what a change of a record by a move keeps: the marks, and the steps that were begun before the run
+pub record Keeps (old new : Record) : Type 0 where
+  pub marked : new.marked ≡ old.marked
+  pub begun : new.begun + old.present.steps ≡ old.begun + new.present.steps
+
+-- a move from old to new that does this to the state
+abbrev pub Does : Step → Record → Record → (State → PlaceNext) → Type 0
+Does step old new next = ((w : Word) → next_seen step new.present w ≡ next (state_at old.present w)) × Keeps old new
+
+-- where there was memory
+abbrev pub Comes : Result Step StoreError → Record → Record → (State → PlaceNext) → Type 0
+Comes (Ok step) old new next = Does step old new next
+Comes (Err e) old new next = Unit {0}
+
+-- a change of what a script reads and writes
+abbrev pub Changes : Record → Record → (Memory → Memory) → Type 0
+Changes old new change = ((w : Word) → state_at new.present w ≡ remember change (state_at old.present w)) × (new.present.frames ≡ old.present.frames) × Keeps old new
+
+abbrev pub Changed : Result (Unit {0}) StoreError → Record → Record → (Memory → Memory) → Type 0
+Changed (Ok done) old new change = Changes old new change
+Changed (Err e) old new change = Unit {0}
+
+-- fields, where they hold no more bytes than may be
+abbrev pub IsExpanded : Option (Vec (Vec ℕ Global) Global) → List Text → Type 0
+IsExpanded (Some found) fields = (bytes_of_words found.items ≡ fields) × (nat_le (size fields) most_bytes ≡ true)
+IsExpanded None fields = nat_le (size fields) most_bytes ≡ false
+
+abbrev pub IsExpandedOne : Option (Vec ℕ Global) → Text → Type 0
+IsExpandedOne (Some found) value = (found.items ≡ value) × (nat_le (length value) most_bytes ≡ true)
+IsExpandedOne None value = nat_le (length value) most_bytes ≡ false
+
+-- whether a step was begun below the bound
+abbrev pub IsCounted : BoundsShown → Bool → Record → Record → Type 0
+IsCounted bounds true old new = (nat_lt old.present.steps bounds.steps ≡ true) × (new ≡ stepped old)
+IsCounted bounds false old new = (nat_lt old.present.steps bounds.steps ≡ false) × (new ≡ old)

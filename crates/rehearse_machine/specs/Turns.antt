@@ -1,0 +1,73 @@
+-- How many moves it takes at most to the next step or to the end. Ours.
+use Rattle.std.specs.Prelude.{ℕ, suc, ◌+◌, List, [], ◌∷◌, Option, Some, None}
+use Rattle.hushlang.specs.Tree as tree
+use Rattle.hushlang.specs.Tree.{Script, AndOr, Joined, Command, Arms}
+use Rattle.rehearse.specs.Trees.{tree_of}
+use Rattle.rehearse.specs.State.{Text, Variables, get}
+use Rattle.rehearse_machine.specs.Frames.{Frame, Lists, Linked, IfCondition, LoopCondition, LoopBody, ForBody, RunNames, RunText}
+
+-- how many moves it takes from a command to the first step in it
+abbrev mutual
+  pub command_depth : Command → ℕ
+  command_depth (tree.Simple words) = 0
+  command_depth (tree.Assign pairs) = 0
+  command_depth (tree.If arms) = arms_depth arms
+  command_depth (tree.Loop until c b) = script_depth c
+  command_depth (tree.For name words body) = 0
+
+  pub arms_depth : Arms → ℕ
+  arms_depth (tree.Arm c b arms) = script_depth c
+  arms_depth (tree.Else b) = 0
+  arms_depth tree.NoElse = 0
+
+  pub script_depth : Script → ℕ
+  script_depth tree.Empty = 0
+  script_depth (tree.Runs l ls) = suc (list_depth l)
+
+  pub list_depth : AndOr → ℕ
+  list_depth (tree.Starts c links) = command_depth c
+
+-- how many moves at most it takes to a step or to the end, where it takes m below
+abbrev pub block_weight : Script → ℕ → ℕ
+block_weight tree.Empty m = suc m
+block_weight (tree.Runs l ls) m = suc (list_depth l)
+
+abbrev pub links_weight : Joined → ℕ → ℕ
+links_weight tree.Alone m = suc m
+links_weight (tree.Joins op c links) m = suc (command_depth c + links_weight links m)
+
+abbrev pub arms_weight : Arms → ℕ → ℕ
+arms_weight (tree.Arm c b arms) m = block_weight c m
+arms_weight (tree.Else b) m = block_weight b m
+arms_weight tree.NoElse m = m
+
+abbrev pub for_weight : Script → List Text → ℕ → ℕ
+for_weight body [] m = suc m
+for_weight body (f ∷ values) m = suc (block_weight body (for_weight body values m))
+
+abbrev pub tree_weight : Option Script → ℕ → ℕ
+tree_weight None x = 0
+tree_weight (Some tree.Empty) x = suc x
+tree_weight (Some (tree.Runs l ls)) x = suc (list_depth l)
+
+abbrev pub text_weight : Option Text → ℕ → ℕ → ℕ
+text_weight None x m = m
+text_weight (Some text) x m = tree_weight (tree_of text) x
+
+abbrev pub names_weight : Variables → List Text → ℕ → ℕ
+names_weight environment [] m = m
+names_weight environment (name ∷ names) m = text_weight (get environment name) (suc (names_weight environment names m + m)) m
+
+abbrev pub frame_weight : Variables → Frame → ℕ → ℕ
+frame_weight environment (Lists lists) m = block_weight lists m
+frame_weight environment (Linked links) m = links_weight links m
+frame_weight environment (IfCondition b arms) m = suc (block_weight b m + arms_weight arms m)
+frame_weight environment (LoopCondition until c b last) m = suc (block_weight b (suc (block_weight c m)) + m)
+frame_weight environment (LoopBody until c b) m = suc (block_weight c m)
+frame_weight environment (ForBody name values body) m = for_weight body values m
+frame_weight environment (RunNames names) m = suc (names_weight environment names m)
+frame_weight environment (RunText names) m = suc (names_weight environment names m + m)
+
+abbrev pub weight : Variables → List Frame → ℕ
+weight environment [] = 0
+weight environment (f ∷ fs) = frame_weight environment f (weight environment fs)

@@ -1,0 +1,26 @@
+//! What one move of the machine comes to.
+
+use crate::halt::Halt;
+use rehearse::Effect;
+
+/// A device command that asks for its outcome.
+#[derive(Drop)]
+pub struct Ask<'a> {
+    /// Its name.
+    pub name: Vec<u8>,
+    /// The words behind its name.
+    pub words: Vec<Vec<u8>>,
+    /// What it does on success.
+    pub effect: Effect<'a>,
+}
+
+/// What a move comes to.
+#[derive(Drop)]
+pub enum Step<'a> {
+    /// There is more to do.
+    Going,
+    /// A device command asks.
+    Asks(Ask<'a>),
+    /// The run has ended.
+    Ends(Halt),
+}

@@ -1,0 +1,77 @@
+//! A device command that asks, found again.
+ghost use Rattle.std.specs.Prelude.{◌≡◌, map, option_map};
+ghost use Rattle.hushlang.specs.View as view;
+ghost use Rattle.rehearse_machine.specs.Asking as asking;
+ghost use Rattle.rehearse_machine.specs.Seen.{Comes, IsTop, setting_of, under};
+
+use crate::ask::Step;
+use crate::halt::Halt;
+use crate::parts::command_of;
+use crate::simple::run_fields;
+use crate::steps::expanded;
+use bootstore::{Frame, Store, StoreError};
+use hushlang::tree::{Command, Word};
+use rehearse::{Bounds, Devices};
+use std::alloc::Global;
+
+/// The words of the simple command that a frame stands behind.
+fn words_in_front(frame: &Frame) -> Option<&[Word]>
+    ensures { option_map (λ words. map view.word words.now) result ≡ asking.words_in_front frame.now }
+{
+    let at = frame.at();
+    if at.command == 0 {
+        return None;
+    }
+    let script = frame.script();
+    let Some(list) = script.lists.get(at.list) else {
+        return None;
+    };
+    let Some(command) = command_of(list, at.command - 1) else {
+        return None;
+    };
+    match command {
+        Command::Simple(words) => Some(words),
+        Command::Assign(_) => None,
+        Command::If { .. } => None,
+        Command::Loop { .. } => None,
+        Command::For { .. } => None,
+    }
+}
+
+/// The device command that a frame stands behind, the innermost one.
+fn find_behind<'d, S: Store>(
+    alloc: Global,
+    store: &mut S,
+    frame: &Frame,
+    devices: &'d Devices,
+    bounds: Bounds,
+) -> Result<Step<'d>, StoreError>
+    requires { IsTop frame.now (S.record_of store.old).present }
+    ensures { Comes result (S.record_of store.old) (S.record_of store.new)
+        (asking.fields_again (setting_of devices.now bounds) (asking.words_in_front frame.now) frame.now (under (S.record_of store.old).present)) }
+{
+    let Some(words) = words_in_front(frame) else {
+        return Ok(Step::Ends(Halt::End(store.get_status())));
+    };
+    let Some(fields) = expanded(alloc, store, words)? else {
+        return Ok(Step::Ends(Halt::Size));
+    };
+    run_fields(alloc, store, frame.script(), devices, bounds, fields)
+}
+
+/// The device command that has begun and asks: the one that the innermost frame stands behind. Its words are expanded
+/// again, in the state that it was begun in.
+pub(crate) fn find_again<'d, S: Store>(
+    alloc: Global,
+    store: &mut S,
+    devices: &'d Devices,
+    bounds: Bounds,
+) -> Result<Step<'d>, StoreError>
+    ensures { Comes result (S.record_of store.old) (S.record_of store.new) (asking.found_again (setting_of devices.now bounds) (S.record_of store.old).present.frames) }
+{
+    let Some(top) = store.top() else {
+        return Ok(Step::Ends(Halt::End(store.get_status())));
+    };
+    let frame = top.copy()?;
+    find_behind(alloc, store, &frame, devices, bounds)
+}

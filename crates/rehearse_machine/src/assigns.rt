@@ -1,0 +1,58 @@
+//! Assignments of shell variables.
+ghost use Rattle.std.specs.Prelude.{◌∷◌, ◌+◌, ◌<◌, ◌^◌, map};
+ghost use Rattle.hushlang.specs.View as view;
+ghost use Rattle.hushlang.specs.Tree as tree;
+ghost use Rattle.rehearse.specs.DeviceList.{Devices as ListedDevices};
+ghost use Rattle.rehearse_machine.specs.Places as places;
+ghost use Rattle.rehearse_machine.specs.Seen.{Comes, IsTop, under, setting_of};
+
+use crate::ask::Step;
+use crate::frames::{behind, finish};
+use crate::halt::Halt;
+use crate::steps::{count, expanded_one};
+use bootstore::{Frame, Store, StoreError};
+use hushlang::tree::Word;
+use rehearse::Bounds;
+use std::alloc::Global;
+
+/// Assignments begin a step.
+pub(crate) fn begin_assign<'d, S: Store>(
+    alloc: Global,
+    store: &mut S,
+    frame: &Frame,
+    bounds: Bounds,
+    values: &[(Vec<u8>, Word)],
+) -> Result<Step<'d>, StoreError>
+    requires top { IsTop frame.now (S.record_of store.old).present }
+    requires command { frame.now.place.command + 1 < 2 ^ 64 }
+    requires begun { (S.record_of store.old).begun + 1 < 2 ^ 64 }
+    ensures { (devices : ListedDevices) → Comes result (S.record_of store.old) (S.record_of store.new)
+        (places.place_command (setting_of devices bounds) (tree.Assign (map view.value values.now)) frame.now (under (S.record_of store.old).present)) }
+{
+    let counted = count(store, bounds)?;
+    if !counted {
+        return Ok(Step::Ends(Halt::CutSteps));
+    }
+    assign(alloc, store, frame, values)
+}
+
+/// Assigns the values in turn, each by what those before it left. Then the status is 0.
+fn assign<'d, S: Store>(
+    alloc: Global,
+    store: &mut S,
+    frame: &Frame,
+    values: &[(Vec<u8>, Word)],
+) -> Result<Step<'d>, StoreError>
+    requires top { IsTop frame.now (S.record_of store.old).present }
+    requires command { frame.now.place.command + 1 < 2 ^ 64 }
+    ensures { Comes result (S.record_of store.old) (S.record_of store.new)
+        (places.place_assign (map view.value values.now) (places.behind frame.now ∷ under (S.record_of store.old).present)) }
+{
+    for value in values {
+        let Some(found) = expanded_one(alloc, store, &value.1)? else {
+            return Ok(Step::Ends(Halt::Size));
+        };
+        store.set_local(&value.0, &found)?;
+    }
+    finish(store, frame, behind(frame.at()), 0)
+}

@@ -1,0 +1,207 @@
+//! The commands that are built in and change what a script reads.
+ghost use Rattle.std.specs.Prelude.{◌≡◌, ◌∷◌, [], IfOk};
+ghost use Rattle.std.specs.List.{join_with_byte, list_all};
+ghost use Rattle.bootstore.specs.Moment.{bytes_of_words};
+ghost use Rattle.rehearse.specs.Commands as says;
+ghost use Rattle.rehearse.specs.CommandsShown.{lent_effect};
+ghost use Rattle.rehearse.specs.State.{state_at};
+ghost use Rattle.rehearse.specs.Outcomes.{Word};
+ghost use Rattle.rehearse.specs.DeviceList.{Devices as ListedDevices};
+ghost use Rattle.rehearse_machine.specs.Places.{place_ask};
+ghost use Rattle.rehearse_machine.specs.Seen.{next_seen, Changed, Comes, setting_of};
+ghost use Rattle.rehearse_machine.specs.Builtins.{builtin_seen};
+
+use crate::ask::{Ask, Step};
+use crate::halt::Halt;
+use bootstore::{Store, StoreError};
+use rehearse::{Bounds, Devices, Effect};
+use std::alloc::{AllocError, Global};
+
+/// What the first field of a command names.
+#[derive(Clone, Copy)]
+pub(crate) enum Builtin<'a> {
+    SetEnv,
+    Run,
+    Test,
+    Echo,
+    True,
+    False,
+    Leave,
+    Device(Effect<'a>),
+    NoCommand,
+}
+
+/// What a name is the name of.
+pub(crate) fn named<'a>(devices: &'a Devices, name: &[u8]) -> Builtin<'a>
+    ensures { builtin_seen result ≡ says.builtin_in says.builtins devices.now name.now }
+{
+    if name == b"setenv".as_slice() {
+        return Builtin::SetEnv;
+    } else if name == b"run".as_slice() {
+        return Builtin::Run;
+    } else if name == b"test".as_slice() {
+        return Builtin::Test;
+    } else if name == b"echo".as_slice() {
+        return Builtin::Echo;
+    } else if name == b"true".as_slice() {
+        return Builtin::True;
+    } else if name == b"false".as_slice() {
+        return Builtin::False;
+    } else if name == b"exit".as_slice() {
+        return Builtin::Leave;
+    }
+    match devices.effect(name) {
+        Some(effect) => Builtin::Device(effect),
+        None => Builtin::NoCommand,
+    }
+}
+
+/// Asks for the outcome of a device command, where the bound allows one more.
+pub(crate) fn ask<'d, S: Store>(
+    store: &S,
+    bounds: Bounds,
+    name: Vec<u8>,
+    words: Vec<Vec<u8>>,
+    effect: Effect<'d>,
+) -> Step<'d>
+    ensures { (devices : ListedDevices) (w : Word) → next_seen result (S.record_of store.now).present w
+        ≡ place_ask (setting_of devices bounds) (record { name = name.items; words = bytes_of_words words.items; effect = lent_effect effect.entry }) (S.record_of store.now).present.frames (state_at (S.record_of store.now).present w) }
+{
+    let asked = store.log().len();
+    if asked < bounds.devices() as usize {
+        Step::Asks(Ask {
+            name,
+            words,
+            effect,
+        })
+    } else {
+        Step::Ends(Halt::CutDevices)
+    }
+}
+
+/// Words, with a space between two.
+pub(crate) fn joined(alloc: Global, words: &[Vec<u8>]) -> Result<Vec<u8>, AllocError>
+    ensures { IfOk result (λ v. v.items ≡ join_with_byte 32 (bytes_of_words words.now)) }
+{
+    let mut joined = Vec::new(alloc);
+    for (at, word) in words.iter().enumerate() {
+        if at > 0 {
+            joined.push(b' ')?;
+        }
+        joined.extend_from_slice(word)?;
+    }
+    Ok(joined)
+}
+
+/// Whether no variable has this name: it is empty, holds `=`, or begins with `-`.
+pub(crate) fn is_bad_name(name: &[u8]) -> bool
+    ensures { result ≡ says.is_bad_name name.now }
+{
+    match name {
+        [] => true,
+        [first, behind @ ..] => *first == b'-' || *first == b'=' || behind.contains(&b'='),
+    }
+}
+
+/// `setenv`: a name alone is deleted, else it gets the words behind it.
+pub(crate) fn setenv<S: Store>(
+    alloc: Global,
+    store: &mut S,
+    words: &[Vec<u8>],
+) -> Result<(), StoreError>
+    ensures { Changed result (S.record_of store.old) (S.record_of store.new) (says.setenv (bytes_of_words words.now)) }
+{
+    let [name, values @ ..] = words else {
+        return store.set_status(1);
+    };
+    if is_bad_name(name) {
+        return store.set_status(1);
+    }
+    if values.is_empty() {
+        store.set_env(name, None)?;
+        return store.set_status(0);
+    }
+    let value = joined(alloc, values)?;
+    store.set_env(name, Some(&value))?;
+    store.set_status(0)
+}
+
+/// Whether the words after `test` ask a device.
+pub(crate) fn asks_device(words: &[Vec<u8>]) -> bool
+    ensures { result ≡ says.asks_device (bytes_of_words words.now) }
+{
+    match words {
+        [first, _, _, _] => first.as_slice() == b"-e".as_slice(),
+        _ => false,
+    }
+}
+
+/// The number up to 255 that digits spell.
+fn decimal(word: &[u8]) -> Option<u8>
+    ensures { result ≡ says.decimal_from 0 word.now }
+{
+    let mut number: u32 = 0;
+    for byte in word {
+        if !byte.is_ascii_digit() {
+            return None;
+        }
+        number = number * 10 + u32::from(*byte - b'0');
+        if number > 255 {
+            return None;
+        }
+    }
+    Some(number as u8)
+}
+
+/// The status that the words after `exit` name, if they name one.
+pub(crate) fn exit_status(words: &[Vec<u8>]) -> Option<u8>
+    ensures { result ≡ says.exit_status (bytes_of_words words.now) }
+{
+    match words {
+        [] => Some(0),
+        [word] => status_of(word),
+        _ => None,
+    }
+}
+
+/// The status that one word names: 0 for a negative number, else the number.
+fn status_of(word: &[u8]) -> Option<u8>
+    ensures { result ≡ says.exit_status (word.now ∷ []) }
+{
+    match word {
+        [] => None,
+        [b'-', digits @ ..] if !digits.is_empty() && are_digits(digits) => Some(0),
+        _ => decimal(word),
+    }
+}
+
+/// Whether all bytes are digits.
+fn are_digits(bytes: &[u8]) -> bool
+    ensures { result ≡ list_all says.is_digit bytes.now }
+{
+    bytes.iter().all(|byte| b'0' <= *byte && *byte <= b'9')
+}
+
+/// `echo`: the words and a newline, which a first word `-n` leaves out.
+pub(crate) fn echo<S: Store>(
+    alloc: Global,
+    store: &mut S,
+    words: &[Vec<u8>],
+) -> Result<(), StoreError>
+    ensures { Changed result (S.record_of store.old) (S.record_of store.new) (says.echo (bytes_of_words words.now)) }
+{
+    let mut shown = words;
+    let mut ends_line = true;
+    if let [first, behind @ ..] = words {
+        if first.as_slice() == b"-n".as_slice() {
+            shown = behind;
+            ends_line = false;
+        }
+    }
+    let mut written = joined(alloc, shown)?;
+    if ends_line {
+        written.push(b'\n')?;
+    }
+    store.echo(&written)?;
+    store.set_status(0)
+}

@@ -1,0 +1,109 @@
+//! Places in scripts.
+ghost use Rattle.std.specs.Prelude.{◌≡◌, suc, ◌∷◌, ◌+◌, ◌<◌, ◌^◌};
+ghost use Rattle.hushlang.specs.View as view;
+ghost use Rattle.rehearse.specs.Execution.{set_status};
+ghost use Rattle.rehearse_machine.specs.Places.{place, block_frame, text_frame, moved_to, GoOn};
+ghost use Rattle.rehearse_machine.specs.Seen.{Comes, IsTop, under};
+
+use crate::ask::Step;
+use bootstore::{At, Frame, FrameKind, Store, StoreError};
+use hushlang::tree::Script;
+use std::rc::Rc;
+
+/// A place in a script, at a command that has not begun.
+pub(crate) fn place(list: usize, command: usize) -> At
+    ensures { result ≡ place list command 0 0 }
+{
+    At {
+        list,
+        command,
+        turn: 0,
+        last: 0,
+    }
+}
+
+/// Behind the command of a place.
+pub(crate) fn behind(at: At) -> At
+    requires { at.command + 1 < 2 ^ 64 }
+    ensures { result ≡ place at.list (suc at.command) 0 0 }
+{
+    place(at.list, at.command + 1)
+}
+
+/// The same command, in the turn behind this one.
+pub(crate) fn in_turn(at: At, turn: usize, last: u8) -> At
+    requires { turn + 1 < 2 ^ 64 }
+    ensures { result ≡ place at.list at.command (suc turn) last }
+{
+    At {
+        list: at.list,
+        command: at.command,
+        turn: turn + 1,
+        last,
+    }
+}
+
+/// A block from its start.
+pub(crate) fn block(script: Rc<Script>) -> Frame
+    ensures { result ≡ block_frame (view.script script.value) }
+{
+    Frame::new(FrameKind::Block, script, place(0, 0))
+}
+
+/// The text of a variable from its start.
+pub(crate) fn text(script: Rc<Script>) -> Frame
+    ensures { result ≡ text_frame (view.script script.value) }
+{
+    Frame::new(FrameKind::Text, script, place(0, 0))
+}
+
+/// The innermost frame goes on from a place, behind a frame of its own.
+pub(crate) fn enter<'d, S: Store>(
+    store: &mut S,
+    frame: &Frame,
+    at: At,
+    child: Frame,
+) -> Result<Step<'d>, StoreError>
+    requires { IsTop frame.now (S.record_of store.old).present }
+    ensures { Comes result (S.record_of store.old) (S.record_of store.new) (GoOn (child ∷ moved_to at frame.now ∷ under (S.record_of store.old).present)) }
+{
+    store.advance(at)?;
+    store.push(child)?;
+    Ok(Step::Going)
+}
+
+/// The innermost frame goes on from a place.
+pub(crate) fn go_on<'d, S: Store>(
+    store: &mut S,
+    frame: &Frame,
+    at: At,
+) -> Result<Step<'d>, StoreError>
+    requires { IsTop frame.now (S.record_of store.old).present }
+    ensures { Comes result (S.record_of store.old) (S.record_of store.new) (GoOn (moved_to at frame.now ∷ under (S.record_of store.old).present)) }
+{
+    store.advance(at)?;
+    Ok(Step::Going)
+}
+
+/// The innermost frame goes on from a place, with a status.
+pub(crate) fn finish<'d, S: Store>(
+    store: &mut S,
+    frame: &Frame,
+    at: At,
+    status: u8,
+) -> Result<Step<'d>, StoreError>
+    requires { IsTop frame.now (S.record_of store.old).present }
+    ensures { Comes result (S.record_of store.old) (S.record_of store.new) (λ s. GoOn (moved_to at frame.now ∷ under (S.record_of store.old).present) (set_status status s)) }
+{
+    store.advance(at)?;
+    store.set_status(status)?;
+    Ok(Step::Going)
+}
+
+/// The innermost frame is done.
+pub(crate) fn leave<'d, S: Store>(store: &mut S) -> Result<Step<'d>, StoreError>
+    ensures { Comes result (S.record_of store.old) (S.record_of store.new) (GoOn (under (S.record_of store.old).present)) }
+{
+    store.pop()?;
+    Ok(Step::Going)
+}

@@ -1,0 +1,26 @@
+//! One run of a boot script: a machine over a store of states, which stops where a device command asks.
+#![tactic(auto)]
+
+mod ask;
+mod asking;
+mod assigns;
+mod blocks;
+mod commands;
+mod frames;
+mod halt;
+mod lists;
+mod machine;
+mod memory;
+mod names;
+mod outcomes;
+mod parts;
+mod reading;
+mod rehearsal;
+mod running;
+mod scripts;
+mod simple;
+mod steps;
+mod texts;
+
+pub use halt::{Ending, Halt};
+pub use rehearsal::{Rehearsal, Stop, begin, resume};

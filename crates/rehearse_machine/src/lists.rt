@@ -1,0 +1,53 @@
+//! One move in a list of a script.
+ghost use Rattle.std.specs.Prelude.{◌≡◌, ◌+◌, ◌<◌, ◌^◌};
+ghost use Rattle.hushlang.specs.View as view;
+ghost use Rattle.rehearse_machine.specs.Places.{place_begins};
+ghost use Rattle.rehearse_machine.specs.Seen.{Comes, IsTop, under, setting_of};
+ghost use Rattle.rehearse.specs.Execution.{goes};
+
+use crate::ask::Step;
+use crate::frames::{behind, go_on, place};
+use crate::scripts::begin_command;
+use bootstore::{Frame, Store, StoreError};
+use hushlang::tree::{AndOr, Op};
+use rehearse::{Bounds, Devices};
+use std::alloc::Global;
+
+/// Whether what is joined by an operator runs where the status is this one.
+fn goes(op: Op, status: u8) -> bool
+    ensures { result ≡ goes op status }
+{
+    match op {
+        Op::And => status == 0,
+        Op::Or => status != 0,
+    }
+}
+
+/// The command of a list that its place names begins, or the list has ended.
+pub fn begin_in_list<'d, S: Store>(
+    alloc: Global,
+    store: &mut S,
+    frame: &Frame,
+    devices: &'d Devices,
+    bounds: Bounds,
+    list: &AndOr,
+) -> Result<Step<'d>, StoreError>
+    requires top { IsTop frame.now (S.record_of store.old).present }
+    requires list { frame.now.place.list + 1 < 2 ^ 64 }
+    requires begun { (S.record_of store.old).begun + 1 < 2 ^ 64 }
+    ensures { Comes result (S.record_of store.old) (S.record_of store.new)
+        (place_begins (setting_of devices.now bounds) (view.list list.now) frame.now.place.command frame.now (under (S.record_of store.old).present)) }
+{
+    let at = frame.at();
+    if at.command == 0 {
+        return begin_command(alloc, store, frame, devices, bounds, &list.first);
+    }
+    let Some((op, command)) = list.rest.get(at.command - 1) else {
+        return go_on(store, frame, place(at.list + 1, 0));
+    };
+    if goes(*op, store.get_status()) {
+        begin_command(alloc, store, frame, devices, bounds, command)
+    } else {
+        go_on(store, frame, behind(at))
+    }
+}

@@ -1,0 +1,31 @@
+//! The variables and the status of a run, as words expand by them.
+ghost use Rattle.std.specs.Prelude.{◌≡◌};
+
+use bootstore::Store;
+use hushlang::expand::Vars;
+
+/// What a store has.
+#[derive(Drop)]
+pub(crate) struct Memory<'a, S> {
+    /// The store.
+    pub(crate) store: &'a S,
+}
+
+impl<'a, S: Store> Vars for Memory<'a, S> {
+    ghost use Rattle.rehearse_machine.specs.Variables.{all_variables};
+
+    ghost variables = { λ m. all_variables (S.record_of m.store.now).present };
+
+    ghost last_status = { λ m. (S.record_of m.store.now).present.status };
+
+    fn get(&self, name: &[u8]) -> Option<&[u8]> {
+        match self.store.get_env(name) {
+            Some(value) => Some(value),
+            None => self.store.get_local(name),
+        }
+    }
+
+    fn status(&self) -> u8 {
+        self.store.get_status()
+    }
+}

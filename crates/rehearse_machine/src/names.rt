@@ -1,0 +1,30 @@
+//! One move of a frame of a `run` or of a `for`.
+ghost use Rattle.std.specs.Prelude.{slice_get};
+ghost use Rattle.hushlang.specs.View as view;
+ghost use Rattle.rehearse_machine.specs.Places.{for_turn};
+ghost use Rattle.rehearse_machine.specs.Seen.{Comes, IsTop, under};
+
+use crate::ask::Step;
+use crate::frames::{block, enter, in_turn, leave};
+use bootstore::{Frame, Store, StoreError};
+use hushlang::tree::Script;
+use std::rc::Rc;
+
+/// The next turn of a `for`, whose variable is the name: its body with the next field, or its end.
+pub fn next_turn<'d, S: Store>(
+    store: &mut S,
+    frame: &Frame,
+    name: &[u8],
+    body: &Rc<Script>,
+) -> Result<Step<'d>, StoreError>
+    requires { IsTop frame.now (S.record_of store.old).present }
+    ensures { Comes result (S.record_of store.old) (S.record_of store.new)
+        (for_turn (slice_get frame.now.words frame.now.place.turn) name.now (view.script body.now.value) frame.now (under (S.record_of store.old).present)) }
+{
+    let at = frame.at();
+    let Some(field) = frame.words().get(at.turn) else {
+        return leave(store);
+    };
+    store.set_local(name, field)?;
+    enter(store, frame, in_turn(at, at.turn, 0), block(body.clone()?))
+}

@@ -1,0 +1,119 @@
+//! The text of a rehearsal, from one outcome that is asked for to the next.
+ghost use Rattle.std.specs.Prelude.{◌≡◌, ◌+◌, ◌<◌, ◌≤◌, ◌^◌, ◌∷◌, [], OnOk, IfOk, unwrap_or};
+ghost use Rattle.std.specs.FinMap.{get};
+ghost use Rattle.rehearse.specs.Runs.{run_on};
+ghost use Rattle.rehearse_machine.specs.Came.{settled};
+ghost use Rattle.rehearse_machine.specs.Seen.{Keeps, setting_of};
+ghost use Rattle.rehearse_machine.specs.Turning.{IsSound, to_come};
+ghost use Rattle.rehearse_machine.specs.Machine.{Stops, IsAsking, asked_at, outcome_when};
+ghost use Rattle.rehearse_machine.specs.Tasks.{task_in};
+
+use crate::ask::Step;
+use crate::asking::find_again;
+use crate::frames::text;
+use crate::halt::Halt;
+use crate::machine::drive;
+use crate::outcomes::answer;
+use crate::reading::script_of;
+use bootstore::{Store, StoreError};
+use envtools::Env;
+use rehearse::{Bounds, Devices};
+use std::alloc::Global;
+use std::rc::Rc;
+
+/// Why a text has stopped.
+#[derive(Drop)]
+pub enum Stop {
+    /// A device command asks for an outcome.
+    Asks,
+    /// The run has ended.
+    Ends(Halt),
+}
+
+/// What a rehearsal is lent.
+#[derive(Clone, Copy)]
+pub struct Rehearsal<'a> {
+    /// The allocator.
+    pub alloc: Global,
+    /// The environment at the start of each run.
+    pub env: &'a Env,
+    /// The device commands.
+    pub devices: &'a Devices,
+    /// The variable whose text is run.
+    pub name: &'a [u8],
+    /// The bounds of a run.
+    pub bounds: Bounds,
+}
+
+/// Goes on until a device command asks, or the run ends.
+fn go_on<S: Store>(rehearsal: &Rehearsal<'_>, store: &mut S) -> Result<Stop, StoreError>
+    requires sound { IsSound (S.record_of store.old).present }
+    requires steps { (S.record_of store.old).present.steps ≤ rehearsal.now.bounds.steps }
+    requires begun { (S.record_of store.old).begun + rehearsal.now.bounds.steps + 1 < 2 ^ 64 }
+    ensures stops { IfOk result (λ stop. Stops (setting_of rehearsal.now.devices.now rehearsal.now.bounds) stop (to_come (setting_of rehearsal.now.devices.now rehearsal.now.bounds) (S.record_of store.old).present) (S.record_of store.new).present) }
+    ensures kept { OnOk result (Keeps (S.record_of store.old) (S.record_of store.new)) }
+    ensures within { OnOk result ((S.record_of store.new).present.steps ≤ rehearsal.now.bounds.steps) }
+    ensures grows { OnOk result ((S.record_of store.old).present.steps ≤ (S.record_of store.new).present.steps) }
+{
+    match drive(rehearsal.alloc, store, rehearsal.devices, rehearsal.bounds)? {
+        Step::Going => unreachable!(),
+        Step::Asks(_) => Ok(Stop::Asks),
+        Step::Ends(halt) => Ok(Stop::Ends(halt)),
+    }
+}
+
+/// The text of an environment variable; that of one that is not set is empty.
+fn text_of<'s, S: Store>(store: &'s S, name: &[u8]) -> &'s [u8]
+    ensures { result.now ≡ unwrap_or (get (S.record_of store.now).present.environment name.now) [] }
+{
+    match store.get_env(name) {
+        Some(value) => value,
+        None => &[],
+    }
+}
+
+/// Begins the text of the variable, and goes on until a device command asks, or the run ends. A variable that is not
+/// set is run as the empty text.
+pub fn begin<S: Store>(rehearsal: &Rehearsal<'_>, store: &mut S) -> Result<Stop, StoreError>
+    requires { (S.record_of store.old).begun + 1000001 < 2 ^ 64 }
+    ensures stops { IfOk result (λ stop. Stops (task_in rehearsal.now).setting stop (λ w. settled (run_on (task_in rehearsal.now) w)) (S.record_of store.new).present) }
+    ensures marks { OnOk result ((S.record_of store.new).marked ≡ []) }
+    ensures begun { OnOk result ((S.record_of store.new).begun ≡ (S.record_of store.old).begun + (S.record_of store.new).present.steps) }
+    ensures within { OnOk result ((S.record_of store.new).present.steps ≤ 1000000) }
+{
+    let _bound = rehearsal.bounds.steps();
+    store.start(rehearsal.env)?;
+    let text_found = text_of(store, rehearsal.name);
+    let Some(script) = script_of(rehearsal.alloc, text_found)? else {
+        let name = Vec::from_slice(rehearsal.alloc, rehearsal.name)?;
+        return Ok(Stop::Ends(Halt::Syntax(name)));
+    };
+    store.push(text(Rc::new(rehearsal.alloc, script)?))?;
+    go_on(rehearsal, store)
+}
+
+/// Gives the device command that asks an outcome, and goes on until the next one asks, or the run ends.
+pub fn resume<S: Store>(
+    rehearsal: &Rehearsal<'_>,
+    store: &mut S,
+    success: bool,
+) -> Result<Stop, StoreError>
+    requires asks { IsAsking (task_in rehearsal.now).setting (S.record_of store.old).present }
+    requires begun { (S.record_of store.old).begun + 1000001 < 2 ^ 64 }
+    ensures stops { IfOk result (λ stop. Stops (task_in rehearsal.now).setting stop (λ w. asked_at (task_in rehearsal.now).setting (S.record_of store.old).present (outcome_when success ∷ w)) (S.record_of store.new).present) }
+    ensures marks { OnOk result ((S.record_of store.new).marked ≡ (S.record_of store.old).marked) }
+    ensures begun { OnOk result ((S.record_of store.new).begun + (S.record_of store.old).present.steps ≡ (S.record_of store.old).begun + (S.record_of store.new).present.steps) }
+    ensures within { OnOk result ((S.record_of store.new).present.steps ≤ 1000000) }
+    ensures grows { OnOk result ((S.record_of store.old).present.steps ≤ (S.record_of store.new).present.steps) }
+{
+    let _bound = rehearsal.bounds.steps();
+    let found = find_again(rehearsal.alloc, store, rehearsal.devices, rehearsal.bounds)?;
+    let Step::Asks(ask) = found else {
+        unreachable!();
+    };
+    match answer(store, ask, success)? {
+        Step::Going => go_on(rehearsal, store),
+        Step::Asks(_) => unreachable!(),
+        Step::Ends(halt) => Ok(Stop::Ends(halt)),
+    }
+}

@@ -1,0 +1,139 @@
+//! One move of a frame of each kind.
+ghost use Rattle.std.specs.Prelude.{◌∷◌, ◌+◌, ◌<◌, ◌^◌, suc, slice_get};
+ghost use Rattle.hushlang.specs.View as view;
+ghost use Rattle.rehearse_machine.specs.Frames.{begun_text};
+ghost use Rattle.rehearse_machine.specs.Places as places;
+ghost use Rattle.rehearse_machine.specs.Seen.{Comes, IsTop, under, setting_of};
+
+use crate::ask::Step;
+use crate::frames::{enter, go_on, in_turn, leave, place, text};
+use crate::halt::Halt;
+use crate::lists::begin_in_list;
+use crate::names::next_turn;
+use crate::parts::command_of;
+use crate::reading::script_of;
+use crate::scripts::end_block;
+use bootstore::{Frame, Store, StoreError};
+use hushlang::tree::{Command, Script};
+use rehearse::{Bounds, Devices};
+use std::alloc::Global;
+use std::rc::Rc;
+
+/// A frame that runs a script: its list goes on, or the script has ended.
+pub(crate) fn move_in_script<'d, S: Store>(
+    alloc: Global,
+    store: &mut S,
+    frame: &Frame,
+    devices: &'d Devices,
+    bounds: Bounds,
+) -> Result<Step<'d>, StoreError>
+    requires top { IsTop frame.now (S.record_of store.old).present }
+    requires begun { (S.record_of store.old).begun + 1 < 2 ^ 64 }
+    ensures { Comes result (S.record_of store.old) (S.record_of store.new)
+        (places.place_list (setting_of devices.now bounds) (places.list_at frame.now.script frame.now.place.list) frame.now (under (S.record_of store.old).present)) }
+{
+    let at = frame.at();
+    let script = frame.script();
+    let Some(list) = script.lists.get(at.list) else {
+        return leave(store);
+    };
+    if at.turn == 0 {
+        return begin_in_list(alloc, store, frame, devices, bounds, list);
+    }
+    match command_of(list, at.command) {
+        Some(command) => end_block(store, frame, command, at.turn - 1),
+        None => go_on(store, frame, place(at.list, at.command)),
+    }
+}
+
+/// A frame of a `for`: its next turn.
+pub(crate) fn move_for<'d, S: Store>(store: &mut S, frame: &Frame) -> Result<Step<'d>, StoreError>
+    requires { IsTop frame.now (S.record_of store.old).present }
+    ensures { Comes result (S.record_of store.old) (S.record_of store.new)
+        (places.for_move (places.command_at (places.list_at frame.now.script frame.now.place.list) frame.now.place.command) frame.now (under (S.record_of store.old).present)) }
+{
+    let at = frame.at();
+    let script = frame.script();
+    let Some(list) = script.lists.get(at.list) else {
+        return leave(store);
+    };
+    let Some(command) = command_of(list, at.command) else {
+        return leave(store);
+    };
+    match command {
+        Command::For {
+            name,
+            words: _,
+            body,
+        } => next_turn(store, frame, name, body),
+        Command::Simple(_) => leave(store),
+        Command::Assign(_) => leave(store),
+        Command::If { .. } => leave(store),
+        Command::Loop { .. } => leave(store),
+    }
+}
+
+/// A frame of a `run`: the text of its next name, where it is the first or the last text came to status 0.
+pub(crate) fn move_run<'d, S: Store>(
+    alloc: Global,
+    store: &mut S,
+    frame: &Frame,
+) -> Result<Step<'d>, StoreError>
+    requires { IsTop frame.now (S.record_of store.old).present }
+    ensures { Comes result (S.record_of store.old) (S.record_of store.new) (places.run_move frame.now (under (S.record_of store.old).present)) }
+{
+    if frame.at().turn == 0 {
+        return next_name(alloc, store, frame);
+    }
+    if store.get_status() == 0 {
+        return next_name(alloc, store, frame);
+    }
+    leave(store)
+}
+
+/// The text of the name that a `run` has come to, or its end.
+fn next_name<'d, S: Store>(
+    alloc: Global,
+    store: &mut S,
+    frame: &Frame,
+) -> Result<Step<'d>, StoreError>
+    requires { IsTop frame.now (S.record_of store.old).present }
+    ensures { Comes result (S.record_of store.old) (S.record_of store.new)
+        (places.place_name (slice_get frame.now.words frame.now.place.turn) frame.now (under (S.record_of store.old).present)) }
+{
+    let at = frame.at();
+    let Some(name) = frame.words().get(at.turn) else {
+        return leave(store);
+    };
+    let Some(value) = store.get_env(name) else {
+        store.pop()?;
+        store.set_status(1)?;
+        return Ok(Step::Going);
+    };
+    let Some(script) = script_of(alloc, value)? else {
+        return Ok(Step::Ends(Halt::Syntax(name.clone()?)));
+    };
+    begin_text(alloc, store, frame, script)
+}
+
+/// The text of a name begins. One without a command gives the status 0.
+fn begin_text<'d, S: Store>(
+    alloc: Global,
+    store: &mut S,
+    frame: &Frame,
+    script: Script,
+) -> Result<Step<'d>, StoreError>
+    requires top { IsTop frame.now (S.record_of store.old).present }
+    requires turn { frame.now.place.turn + 1 < 2 ^ 64 }
+    ensures { Comes result (S.record_of store.old) (S.record_of store.new)
+        (λ s. places.GoOn (places.text_frame (view.script script) ∷ places.in_turn (suc frame.now.place.turn) 0 frame.now ∷ under (S.record_of store.old).present) (begun_text (view.script script) s)) }
+{
+    let at = frame.at();
+    let is_empty = script.lists.as_slice().is_empty();
+    let child = text(Rc::new(alloc, script)?);
+    if is_empty {
+        store.set_status(0)?;
+        return enter(store, frame, in_turn(at, at.turn, 0), child);
+    }
+    enter(store, frame, in_turn(at, at.turn, 0), child)
+}

@@ -1,0 +1,215 @@
+//! Simple commands.
+ghost use Rattle.std.specs.Prelude.{◌+◌, ◌<◌, ◌^◌, map};
+ghost use Rattle.hushlang.specs.View as view;
+ghost use Rattle.hushlang.specs.Tree as tree;
+ghost use Rattle.hushlang.specs.Expansion.{fields};
+ghost use Rattle.rehearse.specs.State.{Text, setting_in};
+ghost use Rattle.rehearse.specs.Execution.{Setting, set_status};
+ghost use Rattle.rehearse.specs.Commands as says;
+ghost use Rattle.bootstore.specs.Moment.{bytes_of_words};
+ghost use Rattle.rehearse.specs.DeviceList.{Devices as ListedDevices};
+ghost use Rattle.rehearse_machine.specs.Places.{place_fields, place_builtin, place_exit, place_command, place_counted, place_fitting, for_begins, GoOn};
+ghost use Rattle.rehearse_machine.specs.Seen.{Comes, IsTop, under, setting_of};
+ghost use Rattle.rehearse_machine.specs.Builtins.{builtin_seen};
+
+use crate::ask::Step;
+use crate::commands::{Builtin, ask, asks_device, echo, exit_status, named, setenv};
+use crate::frames::{behind, enter, finish, place};
+use crate::halt::Halt;
+use crate::steps::{count, expanded};
+use crate::texts::{begin_run, leave_text};
+use bootstore::{Frame, FrameKind, Store, StoreError};
+use hushlang::tree::{Script, Word};
+use rehearse::{Bounds, Devices, Effect, verdict};
+use std::alloc::Global;
+use std::rc::Rc;
+
+/// Goes on with a status.
+fn done<'d, S: Store>(store: &mut S, status: u8) -> Result<Step<'d>, StoreError>
+    ensures { Comes result (S.record_of store.old) (S.record_of store.new) (λ s. GoOn (S.record_of store.old).present.frames (set_status status s)) }
+{
+    store.set_status(status)?;
+    Ok(Step::Going)
+}
+
+/// `run`: the texts of these variables in turn. Without a name the status is 1.
+fn run_names<'d, S: Store>(
+    alloc: Global,
+    store: &mut S,
+    script: &Rc<Script>,
+    names: Vec<Vec<u8>>,
+) -> Result<Step<'d>, StoreError>
+    ensures { (setting : Setting) (name : Text) → Comes result (S.record_of store.old) (S.record_of store.new)
+        (place_builtin setting says.Run name (bytes_of_words names.items) (view.script script.now.value) (S.record_of store.old).present.frames) }
+{
+    if names.is_empty() {
+        done(store, 1)
+    } else {
+        begin_run(alloc, store, script, names)
+    }
+}
+
+/// `test`: whether its words hold; or a device command, where they are `-e` and three more.
+fn run_test<'d, S: Store>(
+    store: &mut S,
+    bounds: Bounds,
+    name: Vec<u8>,
+    words: Vec<Vec<u8>>,
+) -> Result<Step<'d>, StoreError>
+    ensures { (devices : ListedDevices) (script : tree.Script) → Comes result (S.record_of store.old) (S.record_of store.new)
+        (place_builtin (setting_of devices bounds) says.Test name.items (bytes_of_words words.items) script (S.record_of store.old).present.frames) }
+{
+    if asks_device(&words) {
+        let effect = Effect {
+            ends: false,
+            sets: &[],
+        };
+        Ok(ask(store, bounds, name, words, effect))
+    } else if verdict(&words) {
+        done(store, 0)
+    } else {
+        done(store, 1)
+    }
+}
+
+/// `exit`: the text that is running ends with the status that the words name; other words give the status 1.
+fn run_exit<'d, S: Store>(store: &mut S, words: &[Vec<u8>]) -> Result<Step<'d>, StoreError>
+    ensures { Comes result (S.record_of store.old) (S.record_of store.new)
+        (place_exit (says.exit_status (bytes_of_words words.now)) (S.record_of store.old).present.frames) }
+{
+    match exit_status(words) {
+        Some(status) => {
+            store.set_status(status)?;
+            leave_text(store)
+        }
+        None => done(store, 1),
+    }
+}
+
+/// A command that is built in, or a device command.
+fn run_builtin<'d, S: Store>(
+    alloc: Global,
+    store: &mut S,
+    script: &Rc<Script>,
+    bounds: Bounds,
+    builtin: Builtin<'d>,
+    name: Vec<u8>,
+    words: Vec<Vec<u8>>,
+) -> Result<Step<'d>, StoreError>
+    ensures { (devices : ListedDevices) → Comes result (S.record_of store.old) (S.record_of store.new)
+        (place_builtin (setting_of devices bounds) (builtin_seen builtin.entry) name.items (bytes_of_words words.items) (view.script script.now.value) (S.record_of store.old).present.frames) }
+{
+    match builtin {
+        Builtin::SetEnv => {
+            setenv(alloc, store, &words)?;
+            Ok(Step::Going)
+        }
+        Builtin::Run => run_names(alloc, store, script, words),
+        Builtin::Test => run_test(store, bounds, name, words),
+        Builtin::Echo => {
+            echo(alloc, store, &words)?;
+            Ok(Step::Going)
+        }
+        Builtin::True => done(store, 0),
+        Builtin::False => done(store, 1),
+        Builtin::Leave => run_exit(store, &words),
+        Builtin::Device(effect) => Ok(ask(store, bounds, name, words, effect)),
+        Builtin::NoCommand => Ok(Step::Ends(Halt::Unknown(name))),
+    }
+}
+
+/// The command that fields name.
+pub(crate) fn run_fields<'d, S: Store>(
+    alloc: Global,
+    store: &mut S,
+    script: &Rc<Script>,
+    devices: &'d Devices,
+    bounds: Bounds,
+    mut fields: Vec<Vec<u8>>,
+) -> Result<Step<'d>, StoreError>
+    ensures { Comes result (S.record_of store.old) (S.record_of store.new)
+        (place_fields (setting_of devices.now bounds) (bytes_of_words fields.items) (view.script script.now.value) (S.record_of store.old).present.frames) }
+{
+    if fields.as_slice().is_empty() {
+        return done(store, 0);
+    }
+    let name = fields.remove(0);
+    let builtin = named(devices, &name);
+    run_builtin(alloc, store, script, bounds, builtin, name, fields)
+}
+
+/// Simple commands begin a step, expand their words, and run the command that the fields name.
+pub(crate) fn begin_simple<'d, S: Store>(
+    alloc: Global,
+    store: &mut S,
+    frame: &Frame,
+    devices: &'d Devices,
+    bounds: Bounds,
+    words: &[Word],
+) -> Result<Step<'d>, StoreError>
+    requires top { IsTop frame.now (S.record_of store.old).present }
+    requires command { frame.now.place.command + 1 < 2 ^ 64 }
+    requires begun { (S.record_of store.old).begun + 1 < 2 ^ 64 }
+    ensures { Comes result (S.record_of store.old) (S.record_of store.new)
+        (place_command (setting_of devices.now bounds) (tree.Simple (map view.word words.now)) frame.now (under (S.record_of store.old).present)) }
+{
+    let counted = count(store, bounds)?;
+    if !counted {
+        return Ok(Step::Ends(Halt::CutSteps));
+    }
+    let Some(fields) = expanded(alloc, store, words)? else {
+        return Ok(Step::Ends(Halt::Size));
+    };
+    store.advance(behind(frame.at()))?;
+    run_fields(alloc, store, frame.script(), devices, bounds, fields)
+}
+
+/// A `for` begins a step and expands its words. Without a field its status is 0.
+pub(crate) fn begin_for<'d, S: Store>(
+    alloc: Global,
+    store: &mut S,
+    frame: &Frame,
+    bounds: Bounds,
+    words: &[Word],
+) -> Result<Step<'d>, StoreError>
+    requires top { IsTop frame.now (S.record_of store.old).present }
+    requires command { frame.now.place.command + 1 < 2 ^ 64 }
+    requires begun { (S.record_of store.old).begun + 1 < 2 ^ 64 }
+    ensures { (devices : ListedDevices) → Comes result (S.record_of store.old) (S.record_of store.new)
+        (place_counted (setting_of devices bounds) (λ t. place_fitting (fields (setting_in t.memory) (map view.word words.now)) (λ found. for_begins found frame.now (under (S.record_of store.old).present)) t)) }
+{
+    let counted = count(store, bounds)?;
+    if !counted {
+        return Ok(Step::Ends(Halt::CutSteps));
+    }
+    let Some(fields) = expanded(alloc, store, words)? else {
+        return Ok(Step::Ends(Halt::Size));
+    };
+    begin_turns(alloc, store, frame, fields)
+}
+
+/// The turns of a `for` with these fields.
+fn begin_turns<'d, S: Store>(
+    alloc: Global,
+    store: &mut S,
+    frame: &Frame,
+    fields: Vec<Vec<u8>>,
+) -> Result<Step<'d>, StoreError>
+    requires top { IsTop frame.now (S.record_of store.old).present }
+    requires command { frame.now.place.command + 1 < 2 ^ 64 }
+    ensures { Comes result (S.record_of store.old) (S.record_of store.new)
+        (for_begins (bytes_of_words fields.items) frame.now (under (S.record_of store.old).present)) }
+{
+    let at = frame.at();
+    if fields.as_slice().is_empty() {
+        return finish(store, frame, behind(at), 0);
+    }
+    let fields = Rc::new(alloc, fields)?;
+    let turns = Frame::with_words(
+        FrameKind::For,
+        frame.script().clone()?,
+        fields,
+        place(at.list, at.command),
+    );
+    enter(store, frame, behind(at), turns)
+}

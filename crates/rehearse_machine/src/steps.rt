@@ -1,0 +1,57 @@
+//! Steps that are begun, and words that are expanded.
+ghost use Rattle.std.specs.Prelude.{◌≡◌, ◌+◌, ◌<◌, ◌≤◌, ◌^◌, IfOk, map, nat_le, true, false, Option, Some, None};
+ghost use Rattle.hushlang.specs.View as view;
+ghost use Rattle.hushlang.specs.Expansion as expansion;
+ghost use Rattle.bootstore.specs.Record.{stepped};
+ghost use Rattle.rehearse.specs.Bounds.{are_bounds};
+ghost use Rattle.rehearse_machine.specs.Variables.{setting_at};
+ghost use Rattle.rehearse_machine.specs.Seen.{IsExpanded, IsExpandedOne, IsCounted};
+
+use crate::memory::Memory;
+use bootstore::{Store, StoreError};
+use hushlang::expand::{ExpandError, expand, expand_one};
+use hushlang::tree::Word;
+use rehearse::Bounds;
+use std::alloc::Global;
+
+/// Begins a step where the bound allows one more; else the answer is false.
+pub(crate) fn count<S: Store>(store: &mut S, bounds: Bounds) -> Result<bool, StoreError>
+    requires { (S.record_of store.old).begun + 1 < 2 ^ 64 }
+    ensures { IfOk result (λ counted. IsCounted bounds counted (S.record_of store.old) (S.record_of store.new)) }
+{
+    if store.steps() >= bounds.steps() {
+        return Ok(false);
+    }
+    store.count_step()?;
+    Ok(true)
+}
+
+/// The fields of words, unless they hold too many bytes.
+pub(crate) fn expanded<S: Store>(
+    alloc: Global,
+    store: &S,
+    words: &[Word],
+) -> Result<Option<Vec<Vec<u8>>>, StoreError>
+    ensures { IfOk result (λ found. IsExpanded found (expansion.fields (setting_at (S.record_of store.now).present) (map view.word words.now))) }
+{
+    match expand(alloc, words, &Memory { store }) {
+        Ok(fields) => Ok(Some(fields)),
+        Err(ExpandError::TooLong) => Ok(None),
+        Err(ExpandError::Memory) => Err(StoreError::Memory),
+    }
+}
+
+/// The bytes of a word, unless there are too many.
+pub(crate) fn expanded_one<S: Store>(
+    alloc: Global,
+    store: &S,
+    word: &Word,
+) -> Result<Option<Vec<u8>>, StoreError>
+    ensures { IfOk result (λ found. IsExpandedOne found (expansion.joined (setting_at (S.record_of store.now).present) (view.word word.now))) }
+{
+    match expand_one(alloc, word, &Memory { store }) {
+        Ok(value) => Ok(Some(value)),
+        Err(ExpandError::TooLong) => Ok(None),
+        Err(ExpandError::Memory) => Err(StoreError::Memory),
+    }
+}

@@ -1,0 +1,44 @@
+//! The frames of a `run`, of a `for`, and of texts.
+ghost use Rattle.std.specs.Prelude.{◌≡◌, ◌∷◌, ◌+◌, ◌<◌, ◌^◌, IfOk};
+ghost use Rattle.hushlang.specs.View as view;
+ghost use Rattle.bootstore.specs.Moment.{bytes_of_words};
+ghost use Rattle.rehearse.specs.State.{state_at};
+ghost use Rattle.rehearse.specs.Outcomes.{Word};
+ghost use Rattle.rehearse_machine.specs.Places.{left, to_run, GoOn, names_frame, values_frame};
+ghost use Rattle.rehearse_machine.specs.Seen.{Comes, next_seen};
+
+use crate::ask::Step;
+use crate::frames::place;
+use crate::halt::Halt;
+use bootstore::{Frame, FrameKind, Store, StoreError};
+use hushlang::tree::Script;
+use std::alloc::Global;
+use std::rc::Rc;
+
+/// Leaves the text that is running: the frames above the innermost `run` are taken off.
+pub(crate) fn leave_text<'d, S: Store>(store: &mut S) -> Result<Step<'d>, StoreError>
+    ensures { Comes result (S.record_of store.old) (S.record_of store.new) (left (to_run (S.record_of store.old).present.frames)) }
+{
+    'frames: while let Some(frame) = store.top() {
+        if let FrameKind::Run = frame.kind() {
+            return Ok(Step::Going);
+        }
+        store.pop()?;
+    }
+    Ok(Step::Ends(Halt::End(store.get_status())))
+}
+
+/// The names of a `run`, in front of the frames.
+pub(crate) fn begin_run<'d, S: Store>(
+    alloc: Global,
+    store: &mut S,
+    script: &Rc<Script>,
+    names: Vec<Vec<u8>>,
+) -> Result<Step<'d>, StoreError>
+    ensures { Comes result (S.record_of store.old) (S.record_of store.new)
+        (GoOn (names_frame (view.script script.now.value) (bytes_of_words names.items) ∷ (S.record_of store.old).present.frames)) }
+{
+    let names = Rc::new(alloc, names)?;
+    store.push(Frame::with_words(FrameKind::Run, script.clone()?, names, place(0, 0)))?;
+    Ok(Step::Going)
+}
