@@ -1,0 +1,63 @@
+-- How a rehearsal goes on from run to run.
+use Rattle.std.proofs.Common.{rules, ◌≡◌, ◌≢◌, ℕ, zero, suc, ◌+◌, ◌*◌, ◌^◌, ◌<◌, ◌≤◌, Bool, true, false, List, [], ◌∷◌, ◌++◌, length, map, Some, None, refl, sym, ap, subst, ◌∙◌, length-append, arith}
+use Rattle.std.specs.Prelude.{filter}
+use Rattle.std.proofs.lemmas.List.{length-map}
+use Rattle.std.proofs.lemmas.List.Sums.{length-filter}
+use Rattle.std.proofs.lemmas.Grind.{pow_more}
+use Rattle.std.proofs.Math.Pow.{pow_mono}
+use Rattle.bootstore.specs.Record.{Record, fresh}
+use Rattle.std.proofs.lemmas.List.Sums.{count_by-le-length}
+use Rattle.rehearse.specs.Bounds.{BoundsShown, are_bounds}
+use Rattle.rehearse.specs.Outcomes.{Word, Outcome, Success, Failure, WordKind, Run, words, is_run_kind}
+use Rattle.rehearse.specs.State.{Text, State, state_at}
+use Rattle.rehearse.specs.Runs.{Task, kind, run_on, runs, rest, steps, state_of}
+use Rattle.rehearse_runs.specs.RunsShown.{RunsShown, outcomes}
+use Rattle.rehearse_runs.specs.Phases.{AreDigits, HasBudget, StandsOn, StandsAt, IsRunIf, HasBegun, shown_at}
+use Rattle.rehearse_runs.proofs.WorkLemmas.{begun_first}
+use Rattle.rehearse_runs.specs.Searching.{FoundFirst, FoundBehind}
+use Rattle.rehearse_runs.specs.Giving.{GivesWord, GivesNone, LacksMemory, HasFailed}
+use Rattle.rehearse_machine.specs.declared.halt.Halt.{Halt}
+use Rattle.rehearse_runs.specs.declared.runs.Phase.{Phase}
+use Rattle.rehearse_runs.specs.declared.runs.Phase.TheVariants.{Fresh, At, Over, Failed}
+
+-- ---- there are few runs
+
+both_length : (ws : List Word) → length (map (λ w. Success ∷ w) ws ++ map (λ w. Failure ∷ w) ws) ≡ length ws + length ws
+both_length ws =
+    length-append (map (λ (w : Word). Success ∷ w) ws) (map (λ (w : Word). Failure ∷ w) ws)
+    ∙ ap (λ (k : ℕ). k + length (map (λ (w : Word). Failure ∷ w) ws)) (length-map ws (λ (w : Word). Success ∷ w))
+    ∙ ap (λ (k : ℕ). length ws + k) (length-map ws (λ (w : Word). Failure ∷ w))
+
+words_length : (n : ℕ) → length (words n) + 1 ≡ 2 ^ (n + 1)
+words_length zero = refl
+words_length (suc n) =
+    let l : length (words (suc n)) ≡ suc (length (words n) + length (words n)) = ap suc (both_length (words n)) in
+    let h = words_length n in
+    let e : suc n + 1 ≡ (n + 1) + 1 = omega arith in
+    let p : 2 ^ (suc n + 1) ≡ 2 ^ (n + 1) * 2 = ap (λ (k : ℕ). 2 ^ k) e ∙ pow_more 2 (n + 1) in
+    omega arith
+
+filter_less : (p : Word → Bool) (ws : List Word) → length (filter p ws) ≤ length ws
+filter_less p ws = rw (length-filter p ws) (count_by-le-length p ws)
+
+within_bound : (devices steps : ℕ) → are_bounds devices steps ≡ true → devices ≤ 32
+within_bound devices steps h = search rules
+
+pub are_within : (b : BoundsShown) → are_bounds b.devices b.steps ≡ true → b.devices ≤ 32
+are_within b h = within_bound b.devices b.steps h
+
+pub few_runs : (task : Task) → task.setting.device_bound ≤ 32 → length (runs task) ≤ 8589934591
+few_runs task h =
+    let f = filter_less (λ w. is_run_kind (kind task w)) (words task.setting.device_bound) in
+    let l = words_length task.setting.device_bound in
+    let k : task.setting.device_bound + 1 ≤ 33 = omega arith in
+    let m : 2 ^ (task.setting.device_bound + 1) ≤ 8589934592 = pow_mono {i = task.setting.device_bound + 1} {j = 33} k in
+    omega arith
+
+-- where no run was found yet
+pub stands_fresh : (task : Task) (digits : Text) (r : Record) → digits ≡ [] → r ≡ fresh → task.setting.device_bound ≤ 32
+    → AreDigits digits × Unit {0} × ((false ≡ false) × HasBudget r.begun (runs task)) × HasBegun task None None (runs task) r.begun × (task.setting.device_bound ≤ 32)
+stands_fresh task digits r d e h =
+    let k = few_runs task h in
+    let b = ap (λ (x : Record). x.begun) e in
+    (subst AreDigits (sym d) refl, tt, (refl, omega arith), begun_first task r.begun b, h)

@@ -1,0 +1,82 @@
+-- The runs behind a word, and the kinds of texts.
+use Rattle.std.proofs.Common.{◌≡◌, ℕ, ◌+◌, ◌*◌, ◌≤◌, true, List, [], ◌∷◌, ◌++◌, length, map, refl, sym, ap, subst, ◌∙◌, length-append, zero-add, Some, arith}
+use Rattle.bootstore.specs.Record.{Record, fresh}
+use Rattle.rehearse.specs.Outcomes.{Word, Outcome, Success, Failure, Run, Short, Long}
+use Rattle.rehearse.specs.State.{Text, State, state_at}
+use Rattle.rehearse.specs.Runs.{Task, kind, run_on, runs, rest, steps, state_of}
+use Rattle.rehearse.specs.Listing.{digit_of}
+use Rattle.rehearse_runs.specs.RunsShown.{RunsShown, outcomes}
+use Rattle.rehearse_runs.specs.Phases.{AreDigits, HasBudget, StandsOn, HasBegun, shown_at}
+use Rattle.rehearse_runs.proofs.WorkLemmas.{begun_behind, none_in_front}
+use Rattle.rehearse_runs.specs.Walking.{IsLongBehind, IsShortBehind, ReachedFirst, WalksTo}
+use Rattle.rehearse_runs.specs.Behind.{GoesOnBehind, IsNoRun, HasKind, runs_behind}
+use Rattle.rehearse_machine.specs.declared.halt.Halt.{Halt}
+use Rattle.rehearse_runs.specs.declared.runs.Phase.TheVariants.{At}
+use Rattle.rehearse_runs.specs.declared.walking.Walked.{Walked}
+use Rattle.rehearse_runs.specs.declared.walking.Walked.TheVariants as walked
+use Rattle.rehearse_runs.proofs.AdvanceLemmas.{few_runs}
+use Rattle.rehearse.proofs.TaskChoices.{task_stands}
+
+read_word : (w : Word) → outcomes (map digit_of w) ≡ w
+read_word [] = refl
+read_word (Success ∷ w) = ap (λ (v : Word). Success ∷ v) (read_word w)
+read_word (Failure ∷ w) = ap (λ (v : Word). Failure ∷ v) (read_word w)
+
+same_word : (text : Text) (v w : Word) → text ≡ map digit_of v → text ≡ map digit_of w → v ≡ w
+same_word text v w e f = sym (read_word v) ∙ ap outcomes (sym e ∙ f) ∙ read_word w
+
+-- ---- what the walk says of a text
+
+pub kind_short : (task : Task) (text : Text) → IsShortBehind task [] text → HasKind task text Short
+kind_short task text h = record { digits = λ w e. ap (kind task) (same_word text w h.0 e h.1) ∙ h.2; others = λ n. (h.0, h.1) }
+
+pub kind_run : (task : Task) (text all : Text) (halt : Halt) (old new : Record) → WalksTo task text all (outcomes all) (walked.Ends halt) old new → HasKind task text Run
+kind_run task text all halt old new h = record { digits = λ w e. ap (kind task) (same_word text w (outcomes all) e h.0) ∙ h.2.run; others = λ n. (outcomes all, h.0) }
+
+pub short_no_run : (task : Task) (text : Text) → IsShortBehind task [] text → IsNoRun task text
+short_no_run task text h w e r = let k = (kind_short task text h).digits w e in cc
+
+-- of where it comes to
+pub walked_at : (task : Task) (text all : Text) (w : Word) (reached : Walked) (at : Walked) (old new : Record) → reached ≡ at → WalksTo task text all w reached old new → WalksTo task text all w at old new
+walked_at task text all w reached at old new e h = subst (λ (x : Walked). WalksTo task text all w x old new) e h
+
+-- ---- the runs behind it
+
+rest_less : (task : Task) (w : Word) → kind task w ≡ Run → task.setting.device_bound ≤ 32 → length (rest task w) ≤ 8589934590
+rest_less task w r b =
+    let s = task_stands task w r in
+    let l = ap length s.1 ∙ length-append s.0 (w ∷ rest task w) in
+    let f = few_runs task b in
+    omega arith
+
+pub stands_behind : (task : Task) (text all : Text) (halt : Halt) (old new : Record) → old ≡ fresh → task.setting.device_bound ≤ 32 → WalksTo task text all (outcomes all) (walked.Ends halt) old new
+    → AreDigits all × (kind task (outcomes all) ≡ Run) × ((true ≡ true) × StandsOn task (outcomes all) halt new) × HasBegun task (Some (outcomes all)) (Some (outcomes all)) (rest task (outcomes all)) new.begun × (task.setting.device_bound ≤ 32)
+stands_behind task text all halt old new e b h =
+    let f = h.2 in
+    let n = f.begun in
+    let z : old.begun ≡ 0 = ap (λ (x : Record). x.begun) e in
+    let k = f.within in
+    let l = rest_less task (outcomes all) f.run b in
+    (sym h.0 ∙ sym h.1, f.run, (refl, record { moment = f.moment; ending = f.ending; marks = f.marks; budget = omega arith }), begun_behind task (outcomes all) new.begun (n ∙ ap (λ (k : ℕ). k + new.present.steps) z ∙ zero-add new.present.steps ∙ ap (λ (s : State). s.steps) f.moment), b)
+
+-- the same, where the start word is kept as a copy of its digits
+pub stands_from : (task : Task) (text all copy : Text) (halt : Halt) (old new : Record) → copy ≡ all → old ≡ fresh → task.setting.device_bound ≤ 32 → WalksTo task text all (outcomes all) (walked.Ends halt) old new
+    → AreDigits all × (kind task (outcomes all) ≡ Run) × ((true ≡ true) × StandsOn task (outcomes all) halt new) × HasBegun task (Some (outcomes copy)) (Some (outcomes all)) (rest task (outcomes all)) new.begun × (task.setting.device_bound ≤ 32)
+stands_from task text all copy halt old new c e b h =
+    let s = stands_behind task text all halt old new e b h in
+    (s.0, s.1, s.2, subst (λ (t : Text). HasBegun task (Some (outcomes t)) (Some (outcomes all)) (rest task (outcomes all)) new.begun) (sym c) s.3, s.4)
+
+steps_begun : (task : Task) (w : Word) (old new : Record) (halt : Halt) → old ≡ fresh → ReachedFirst task w halt old new → new.begun ≡ steps task w
+steps_begun task w old new halt e f =
+    let z : old.begun ≡ 0 = ap (λ (x : Record). x.begun) e in
+    f.begun ∙ ap (λ (k : ℕ). k + new.present.steps) z ∙ zero-add new.present.steps ∙ ap (λ (s : State). s.steps) f.moment
+
+pub goes_on_from : (task : Task) (text all copy : Text) (halt : Halt) (old new : Record) → copy ≡ all → old ≡ fresh → WalksTo task text all (outcomes all) (walked.Ends halt) old new
+    → GoesOnBehind task text (shown_at task (Some (outcomes copy)) true (outcomes all) new.begun (At halt))
+goes_on_from task text all copy halt old new c e h =
+    let w = outcomes all in
+    let same : shown_at task (Some (outcomes copy)) true w new.begun (At halt) ≡ runs_behind task w =
+    ap (λ (t : Text). shown_at task (Some (outcomes t)) true w new.begun (At halt)) c
+    ∙ ap (λ (n : ℕ). shown_at task (Some w) true w n (At halt)) (steps_begun task w old new halt e h.2)
+    ∙ ap (λ (ws : List Word). record (runs_behind task w) { answers = ws }) (none_in_front (rest task w)) in
+    record { word = w; digits = h.0; run = h.2.run; behind = same }

@@ -1,0 +1,13 @@
+pub mod HexLemmas
+pub mod PageLemmas
+pub mod RecordParts
+pub mod RunsLemmas
+pub mod ListingLemmas
+pub mod SearchLemmas
+pub mod WorkLemmas
+pub mod AdvanceLemmas
+pub mod GivingLemmas
+pub mod WalkLemmas
+pub mod BehindLemmas
+pub mod TaskSet
+pub mod HeadlineLemmas

@@ -1,0 +1,57 @@
+-- A variable is set in an environment exactly where it is set in a script's.
+use Rattle.std.proofs.Common.{◌≡◌, Bool, true, false, cond, ◌||◌, List, [], ◌∷◌, Option, Some, None, IsSome, unwrap_or, option_map, rules, refl, sym, ap, ◌∙◌}
+use Rattle.std.specs.Prelude.{if◌then◌else◌}
+use Rattle.std.specs.FinMap as finite
+use Rattle.std.specs.FinMap.{entries, get-insert, get-empty}
+use Rattle.std.specs.Ordering.{nat_cmp, eq_by_cmp}
+use Rattle.std.specs.Cmp.Lexicographic.{slice_cmp, texts_ties}
+use Rattle.std.proofs.lemmas.Cmp.{nat_list_cmp_total}
+use Rattle.bootstore.specs.Moment as stored
+use Rattle.bootstore.specs.Moment.{set_in_turn, environment_of}
+use Rattle.envtools.specs.Environment.{value_of, same}
+use Rattle.rehearse.specs.State.{Text, get}
+use Rattle.rehearse.specs.DeviceList.{Devices}
+use Rattle.rehearse.specs.Bounds.{BoundsShown}
+use Rattle.rehearse.specs.Runs.{Task}
+use Rattle.rehearse_machine.specs.Tasks.{task_shown, task_set}
+use Rattle.rehearse.proofs.StateLemmas.{stored_values}
+
+abbrev is_there : Option Text → Bool
+is_there None = false
+is_there (Some text) = true
+
+step : (b : Bool) (o m : Option Text) (v : Text) → (is_there o || is_there (cond b (Some v) m)) ≡ (is_there (if b then Some v else o) || is_there m)
+step true None m v = refl
+step true (Some text) m v = refl
+step false o m v = refl
+
+set_there : (m : stored.Variables) (pairs : List (Text × Text)) (name : Text) → is_there (finite.get (set_in_turn m pairs) name) ≡ (is_there (value_of pairs name) || is_there (finite.get m name))
+set_there m [] name = refl
+set_there m (p ∷ ps) name =
+    set_there (finite.insert m p.0 p.1) ps name
+    ∙ ap (λ (o : Option Text). is_there (value_of ps name) || is_there o) (get-insert nat_list_cmp_total m p.0 p.1 name)
+    ∙ ap (λ (b : Bool). is_there (value_of ps name) || is_there (cond b (Some p.1) (finite.get m name))) (sym (texts_ties name p.0))
+    ∙ step (same name p.0) (value_of ps name) (finite.get m name) p.1
+
+none_more : (b : Bool) → (b || false) ≡ b
+none_more true = refl
+none_more false = refl
+
+stays_there : (env : List (Text × Text)) (name : Text) → is_there (get (entries (environment_of env)) name) ≡ is_there (value_of env name)
+stays_there env name = ap is_there (stored_values (environment_of env) name) ∙ set_there finite.empty env name ∙ ap (λ (o : Option Text). is_there (value_of env name) || is_there o) (get-empty (slice_cmp nat_cmp) name) ∙ none_more (is_there (value_of env name))
+
+made : (f : Text → Task) (value o : Option Text) → is_there o ≡ is_there value → IsSome value → option_map f o ≡ Some (f (unwrap_or o []))
+made f (Some v) (Some text) e h = refl
+made f (Some v) None e h = absurd cc
+made f None o e h = search rules
+
+unmade : (f : Text → Task) (value o : Option Text) → is_there o ≡ is_there value → value ≡ None → option_map f o ≡ None
+unmade f value None e h = refl
+unmade f None (Some text) e h = absurd cc
+unmade f (Some v) (Some text) e h = absurd cc
+
+pub task_is_set : (env : List (Text × Text)) (devices : Devices) (name : Text) (bounds : BoundsShown) → IsSome (value_of env name) → task_set env devices name bounds ≡ Some (task_shown env devices name bounds)
+task_is_set env devices name bounds h = made (λ text. record (task_shown env devices name bounds) { text = text }) (value_of env name) (get (entries (environment_of env)) name) (stays_there env name) h
+
+pub task_is_unset : (env : List (Text × Text)) (devices : Devices) (name : Text) (bounds : BoundsShown) → value_of env name ≡ None → task_set env devices name bounds ≡ None
+task_is_unset env devices name bounds h = unmade (λ text. record (task_shown env devices name bounds) { text = text }) (value_of env name) (get (entries (environment_of env)) name) (stays_there env name) h

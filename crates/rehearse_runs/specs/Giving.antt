@@ -1,0 +1,77 @@
+-- What a call of `next` gives, and what it leaves once the run is no longer borrowed. Ours.
+use Rattle.std.specs.Prelude.{◌≡◌, ℕ, ◌+◌, ◌≤◌, length, ◌++◌, Bool, true, false, [], ◌∷◌, map, Option, Some, None, Result, Ok, Err}
+use Rattle.std.specs.Borrow.{Fml, MutBor, RattleType}
+use Rattle.std.specs.Io.BufRead.{Rests}
+use mir.Syntax.{named}
+use Rattle.bootstore.specs.declared.store.Store.{Ghosts}
+use Rattle.rehearse.specs.Outcomes.{Word}
+use Rattle.rehearse.specs.State.{state_at}
+use Rattle.rehearse.specs.Runs.{Task, run_on, state_of, ending_of, steps}
+use Rattle.rehearse.specs.Listing.{digit_of}
+use Rattle.rehearse_runs.specs.RunsShown.{RunsShown, last_given, steps_shared, successes}
+use Rattle.rehearse_runs.specs.Viewed.{seen_word, seen_moment, seen_ending, seen_marks}
+use Rattle.rehearse_runs.specs.declared.view.RunView.{RunView}
+use Rattle.rehearse_runs.specs.declared.run_error.RunError.{RunError}
+use Rattle.rehearse_runs.specs.declared.run_error.RunError.TheVariants.{NoSuchVariable, Memory, NotARun, Failed}
+use Rattle.rehearse_runs.specs.contracts.runs.Runs.{the_row}
+
+-- the next word was given, and the words behind it are still to come
+pub record GivesWord (old new : RunsShown) : Type 0 where
+  pub sound : old.failed ≡ false
+  pub first : old.to_come ≡ last_given new ∷ new.to_come
+  pub given : new.given ≡ Some (last_given new)
+  pub still : new.failed ≡ false
+  pub task : new.task ≡ old.task
+  pub start : new.start ≡ old.start
+  pub answers : new.answers ≡ old.answers ++ last_given new ∷ []
+  -- the steps begun are those behind the last command that the word shares with the one before it
+  pub work : new.work + steps_shared old.task old.given (last_given new) ≡ old.work + steps old.task (last_given new)
+
+-- there is no word any more
+pub record GivesNone (old new : RunsShown) : Type 0 where
+  pub sound : old.failed ≡ false
+  pub none : old.to_come ≡ []
+  pub same : new ≡ record old { shows = false }
+
+-- want of memory: nothing is given, and all later calls fail
+pub record LacksMemory (old new : RunsShown) : Type 0 where
+  pub sound : old.failed ≡ false
+  pub failed : new ≡ record old { failed = true; shows = false; work = new.work }
+
+-- want of memory had come before
+pub record HasFailed (old new : RunsShown) : Type 0 where
+  pub failed : old.failed ≡ true
+  pub same : new ≡ old
+
+abbrev pub Refuses : RunsShown → RunError → RunsShown → Type 0
+Refuses old NoSuchVariable new = ⊥
+Refuses old Memory new = LacksMemory old new
+Refuses old NotARun new = ⊥
+Refuses old Failed new = HasFailed old new
+
+abbrev pub Advances : RunsShown → Result Bool RunError → RunsShown → Type 0
+Advances old (Ok true) new = GivesWord old new × (new.shows ≡ true)
+Advances old (Ok false) new = GivesNone old new
+Advances old (Err e) new = Refuses old e new
+
+module _ {S : Type 0} (g : Ghosts S) where
+  -- the run on a word is shown
+  pub record ShowsRun (task : Task) (w : Word) (view : RunView S) : Type 0 where
+    pub word : seen_word view ≡ map digit_of w
+    pub moment : state_at (seen_moment g view) [] ≡ state_of (run_on task w)
+    pub ending : seen_ending view ≡ ending_of (run_on task w)
+    -- no more moments are marked than device commands succeeded, so never more than 32
+    pub marks : length (seen_marks g view) ≤ successes w
+    pub few : length (seen_marks g view) ≤ 32
+
+  abbrev pub IsView : RunsShown → Option (RunView S) → Type 0
+  IsView shown None = shown.shows ≡ false
+  IsView shown (Some view) = (shown.shows ≡ true) × ShowsRun shown.task (last_given shown) view
+
+  abbrev pub Gives : RunsShown → Result (Option (RunView S)) RunError → RunsShown → Type 0
+  Gives old (Ok None) new = GivesNone old new
+  Gives old (Ok (Some view)) new = GivesWord old new × ShowsRun new.task (last_given new) view
+  Gives old (Err e) new = Refuses old e new
+
+abbrev pub Lent : (S : RattleType) (g : Ghosts S.Denot) → MutBor RunsShown → Result (Option (RunView S.Denot)) RunError → Fml
+Lent S g runs result = Rests (the_row (record { mir = named 1; lft = [] }) S g) runs (Gives g runs.now result)

@@ -1,0 +1,14 @@
+pub mod Held
+pub mod Paging
+pub mod Pieces
+pub mod PointShown
+pub mod Viewed
+pub mod Recording
+pub mod RunsShown
+pub mod Phases
+pub mod Giving
+pub mod ListingRuns
+pub mod Searching
+pub mod Walking
+pub mod Behind
+pub mod Headline

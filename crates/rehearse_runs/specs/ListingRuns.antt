@@ -1,0 +1,99 @@
+-- What writing a listing of `Runs` does. Ours.
+use Rattle.std.specs.Prelude.{◌≡◌, ◌≢◌, ℕ, ◌+◌, ◌-◌, nat_le, nat_eq, Bool, true, false, List, [], ◌∷◌, ◌++◌, map, length, drop, Option, Some, None}
+use Rattle.std.specs.List.{flat_map}
+use Rattle.envimage.specs.Sink.{Sink, Wrote, BrokeOff}
+use Rattle.rehearse.specs.Outcomes.{Word}
+use Rattle.rehearse.specs.State.{Text}
+use Rattle.rehearse.specs.Listing.{digit_of, record_of, shown, closing, listing, last_of, line}
+use Rattle.rehearse_runs.specs.RunsShown.{RunsShown}
+use Rattle.rehearse_runs.specs.declared.run_error.RunError.{RunError}
+use Rattle.rehearse_runs.specs.declared.run_error.RunError.TheVariants as run
+use Rattle.rehearse_runs.specs.declared.listing.Finish.{Finish}
+use Rattle.rehearse_runs.specs.declared.listing.Finish.TheVariants.{Done, More}
+use Rattle.rehearse_runs.specs.declared.listing.ListError.{ListError}
+use Rattle.rehearse_runs.specs.declared.listing.ListError.TheVariants.{Memory, Write, Failed}
+
+abbrev pub list_error : RunError → ListError
+list_error run.NoSuchVariable = Memory
+list_error run.Memory = Memory
+list_error run.NotARun = Memory
+list_error run.Failed = Failed
+
+-- whether no more records are wanted
+abbrev pub reached : Option ℕ → Bool
+reached None = false
+reached (Some n) = nat_eq n 0
+
+-- a record less is wanted
+abbrev pub lowered : Option ℕ → Option ℕ
+lowered None = None
+lowered (Some n) = Some (n - 1)
+
+-- how many records are wanted, where so many words were taken and this is left
+abbrev pub IsLeft : (limit left : Option ℕ) → ℕ → Type 0
+IsLeft None None n = Unit {0}
+IsLeft None (Some k) n = ⊥
+IsLeft (Some l) None n = ⊥
+IsLeft (Some l) (Some k) n = l ≡ n + k
+
+-- the records of these words were written, one behind another
+pub record Recorded (start now : Sink) (old new : RunsShown) (names : List Text) (limit left : Option ℕ) (ws : List Word) : Type 0 where
+  pub words : old.to_come ≡ ws ++ new.to_come
+  pub wrote : Wrote start now (flat_map (record_of old.task names) ws)
+  pub count : IsLeft limit left (length ws)
+  pub last : ws ≢ [] → new.given ≡ Some (last_of [] ws)
+  pub task : new.task ≡ old.task
+  pub failed : new.failed ≡ old.failed
+
+-- all records that are wanted were written
+pub record WroteRecords (start now : Sink) (old new : RunsShown) (names : List Text) (limit : Option ℕ) : Type 0 where
+  pub left : Option ℕ
+  pub ws : List Word
+  pub recorded : Recorded start now old new names limit left ws
+  pub over : (reached left ≡ false) → new.to_come ≡ []
+
+-- the words that are left out
+abbrev pub left_out : List Word → Option ℕ → List Word
+left_out ws None = []
+left_out ws (Some limit) = drop limit ws
+
+-- how a listing finishes: as its last line says
+abbrev pub finish_of : List Word → Option ℕ → Finish
+finish_of ws None = Done
+finish_of ws (Some limit) = elim (nat_le (length ws) limit) [ true ↦ Done | false ↦ More ]
+
+-- the listing was written
+pub record Lists (start now : Sink) (old new : RunsShown) (names : List Text) (limit : Option ℕ) (finish : Finish) : Type 0 where
+  pub wrote : Wrote start now (listing (record_of old.task names) old.to_come limit)
+  pub finish_is : finish ≡ finish_of old.to_come limit
+  pub rest : new.to_come ≡ left_out old.to_come limit
+  pub task : new.task ≡ old.task
+  pub sound : new.failed ≡ false
+
+-- want of memory: whole records stand written, of the words that were taken off
+pub record LacksMemory (start now : Sink) (old new : RunsShown) (names : List Text) (limit : Option ℕ) : Type 0 where
+  pub ws : List Word
+  pub us : List Word
+  pub words : old.to_come ≡ ws ++ new.to_come
+  pub front : shown old.to_come limit ≡ ws ++ us
+  pub wrote : Wrote start now (flat_map (record_of old.task names) ws)
+  pub given : ws ≢ [] → new.given ≡ Some (last_of [] ws)
+  pub failed : new.failed ≡ true
+
+-- the output failed: a front of the listing stands written, and the words that were taken off are not given again
+pub record BreaksOff (start now : Sink) (old new : RunsShown) (names : List Text) (limit : Option ℕ) : Type 0 where
+  pub ws : List Word
+  pub words : old.to_come ≡ ws ++ new.to_come
+  pub wrote : BrokeOff start now (listing (record_of old.task names) old.to_come limit)
+  pub sound : new.failed ≡ false
+
+-- there was no memory before: nothing is written
+pub record HadFailed (start now : Sink) (old new : RunsShown) : Type 0 where
+  pub failed : old.failed ≡ true
+  pub same : new ≡ old
+  pub nothing : now ≡ start
+
+abbrev pub Breaks : (start now : Sink) (old new : RunsShown) (names : List Text) (limit : Option ℕ) → ListError → Type 0
+Breaks start now old new names limit Memory = LacksMemory start now old new names limit
+Breaks start now old new names limit Write = BreaksOff start now old new names limit
+Breaks start now old new names limit Failed = HadFailed start now old new

@@ -1,0 +1,75 @@
+-- What contracts see of `Runs`, of a run that it gives, and of a call of `next`. Ours.
+use Rattle.std.specs.Prelude.{◌≡◌, ℕ, suc, ◌+◌, ◌-◌, length, take, Bool, true, false, cond, nat_eq, List, [], ◌∷◌, map, Option, Some, None, unwrap_or, ⊤}
+use Rattle.std.specs.FinMap.{entries}
+use Rattle.bootstore.specs.Moment.{Moment, environment_of}
+use Rattle.rehearse.specs.Outcomes.{Word, Outcome, Success, Failure, common_prefix}
+use Rattle.rehearse.specs.State.{Text, get, State, state_at}
+use Rattle.rehearse.specs.DeviceList.{Devices}
+use Rattle.rehearse.specs.Bounds.{BoundsShown}
+use Rattle.rehearse.specs.Execution.{Setting, Ending}
+use Rattle.rehearse.specs.Runs.{Task, task_of, run_on, state_of, ending_of, runs, rest, steps, asked, work, work_from}
+use Rattle.rehearse.specs.Listing.{digit_of}
+
+-- the rehearsal, the word handed to `after`, the words given since, those still to come, the last word that was given or
+-- handed over, whether want of memory ended it, whether a run is shown, and the steps begun
+pub record RunsShown : Type 0 where
+  pub task : Task
+  pub start : Option Word
+  pub answers : List Word
+  pub to_come : List Word
+  pub given : Option Word
+  pub failed : Bool
+  pub shows : Bool
+  pub work : ℕ
+
+abbrev pub outcome_of : ℕ → Outcome
+outcome_of digit = elim (nat_eq digit 48) [ true ↦ Success | false ↦ Failure ]
+
+-- the word of digits
+abbrev pub outcomes : Text → Word
+outcomes digits = map outcome_of digits
+
+-- how many successes it has
+abbrev pub successes : Word → ℕ
+successes [] = 0
+successes (Success ∷ w) = suc (successes w)
+successes (Failure ∷ w) = successes w
+
+abbrev pub to_come_after : (has_given : Bool) → Task → Word → List Word
+to_come_after true task w = rest task w
+to_come_after false task w = runs task
+
+abbrev pub given_if : (has_given : Bool) → Word → Option Word
+given_if true w = Some w
+given_if false w = None
+
+-- the words of a rehearsal: all runs, or those behind the start word
+abbrev pub words_made : Task → (start : Option Word) → List Word
+words_made task None = runs task
+words_made task (Some w) = rest task w
+
+-- those in front of the words that are left
+abbrev pub in_front_of : (all left : List Word) → List Word
+in_front_of all left = take (length all - length left) all
+
+-- the steps begun for these words, each command of their tree of choices once; behind a start word its steps come first
+abbrev pub work_of : Task → (start : Option Word) → List Word → ℕ
+work_of task None ws = work task ws
+work_of task (Some w) ws = steps task w + work_from task w ws
+
+-- the last word
+abbrev pub last_given : RunsShown → Word
+last_given shown = unwrap_or shown.given []
+
+-- the steps that were begun before the last word and the next one part
+abbrev pub steps_shared : Task → Option Word → Word → ℕ
+steps_shared task None w = 0
+steps_shared task (Some u) w = asked task (common_prefix u w)
+
+abbrev pub has_words : List Word → Bool
+has_words [] = false
+has_words (w ∷ ws) = true
+
+-- where no word was given yet
+abbrev pub new_runs : Task → RunsShown
+new_runs task = record { task = task; start = None; answers = []; to_come = runs task; given = None; failed = false; shows = false; work = 0 }

@@ -1,0 +1,94 @@
+//! Some bytes in an array: a text of bounded length that takes no memory.
+ghost use Rattle.std.specs.Prelude.{◌≡◌, ◌+◌, ◌<◌, ◌≤◌, ◌++◌, ◌∷◌, [], ◌↔◌, length, option_to_list, IsSome, IsTrue, MatchBool};
+
+use std::marker::Model;
+
+/// At most `N` bytes.
+#[derive(Drop)]
+pub(crate) struct Bytes<const N: usize> {
+    bytes: [u8; N],
+    len: usize,
+}
+
+impl<const N: usize> Model for Bytes<N> {
+    ghost use Rattle.std.specs.Prelude.{◌≤◌, take};
+    ghost use Rattle.rehearse_runs.specs.Held.{Held};
+
+    ghost Value = { Held };
+
+    ghost view = { λ b. record { items = take b.len b.bytes } };
+
+    ghost invariant = { λ b. b.len ≤ N };
+}
+
+impl<const N: usize> Bytes<N> {
+    /// No bytes.
+    pub(crate) fn new() -> Self
+        ensures { result.items ≡ [] }
+    {
+        Bytes {
+            bytes: [0; N],
+            len: 0,
+        }
+    }
+
+    /// How many there are.
+    pub(crate) fn len(&self) -> usize
+        ensures count { result ≡ length self.now.items }
+        ensures within { result ≤ N }
+    {
+        self.len
+    }
+
+    /// All of them.
+    pub(crate) fn as_slice(&self) -> &[u8]
+        ensures { result.now ≡ self.now.items }
+    {
+        &self.bytes[..self.len]
+    }
+
+    /// Lets all go.
+    pub(crate) fn clear(&mut self)
+        ensures { self.new.items ≡ [] }
+    {
+        self.len = 0;
+    }
+
+    /// Puts a byte behind the others.
+    pub(crate) fn push(&mut self, byte: u8)
+        requires { length self.old.items < N }
+        ensures { self.new.items ≡ self.old.items ++ byte ∷ [] }
+    {
+        self.bytes[self.len] = byte;
+        self.len += 1;
+    }
+
+    /// Takes the last byte off.
+    pub(crate) fn pop(&mut self) -> Option<u8>
+        ensures items { self.old.items ≡ self.new.items ++ option_to_list result }
+        ensures variant { IsSome result ↔ (0 < length self.old.items) }
+        ensures room { IsSome result → length self.new.items < N }
+    {
+        if self.len == 0 {
+            return None;
+        }
+        self.len -= 1;
+        Some(self.bytes[self.len])
+    }
+
+    /// Puts bytes behind the others, where there is room for them; else the answer is false, and nothing changes.
+    pub(crate) fn extend(&mut self, bytes: &[u8]) -> bool
+        ensures room { IsTrue result ↔ (length self.old.items + length bytes.now ≤ N) }
+        ensures items { MatchBool result (self.new.items ≡ self.old.items ++ bytes.now) (self.new.items ≡ self.old.items) }
+    {
+        if bytes.len() > N - self.len {
+            return false;
+        }
+        let start = self.len;
+        let end = start + bytes.len();
+        let room: &mut [u8] = &mut self.bytes;
+        room[start..end].copy_from_slice(bytes);
+        self.len = end;
+        true
+    }
+}

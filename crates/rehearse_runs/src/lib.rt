@@ -1,0 +1,26 @@
+//! The runs of a boot script in their order, and their listing.
+#![tactic(auto)]
+
+mod bytes;
+mod listing;
+mod page;
+mod pieces;
+mod record;
+mod rehearsing;
+mod resuming;
+mod run_error;
+mod runs;
+mod searching;
+mod trying;
+mod view;
+mod walking;
+
+pub use listing::{Finish, ListError, write_listing};
+pub use record::write_record;
+pub use rehearse_machine::Ending;
+pub use rehearsing::{Ask, RehearseError, rehearse_env};
+pub use resuming::{Point, resume_point};
+pub use run_error::RunError;
+pub use runs::Runs;
+pub use trying::{WordKind, try_word};
+pub use view::RunView;

@@ -1,0 +1,43 @@
+//! Bytes on their way to an output, gathered so that it gets few writes. A page takes no memory.
+ghost use Rattle.std.specs.Prelude.{◌≡◌, [], OnOk};
+ghost use Rattle.envimage.specs.Sink.{Prints};
+ghost use Rattle.rehearse_runs.specs.Paging.{Puts};
+
+use crate::bytes::Bytes;
+use envimage::{Out, OutFault, write_all};
+
+/// The bytes that are not written yet.
+pub(crate) type Page = Bytes<1024>;
+
+/// Writes all bytes of the page.
+pub(crate) fn flush<O: Out>(out: &mut O, page: &mut Page) -> Result<(), OutFault>
+    ensures empty { OnOk result (page.new.items ≡ []) }
+    ensures written { Prints result (O.sink out.old) (O.sink out.new) page.old.items }
+{
+    write_all(out, page.as_slice())?;
+    page.clear();
+    Ok(())
+}
+
+/// Puts bytes behind those of the page, which are all written first.
+fn put_anew<O: Out>(out: &mut O, page: &mut Page, bytes: &[u8]) -> Result<(), OutFault>
+    ensures { Puts result (O.sink out.old) (O.sink out.new) page.old.items page.new.items bytes.now }
+{
+    flush(out, page)?;
+    if page.extend(bytes) {
+        Ok(())
+    } else {
+        write_all(out, bytes)
+    }
+}
+
+/// Puts bytes behind those of the page. Where there is no room, all are written.
+pub(crate) fn put<O: Out>(out: &mut O, page: &mut Page, bytes: &[u8]) -> Result<(), OutFault>
+    ensures { Puts result (O.sink out.old) (O.sink out.new) page.old.items page.new.items bytes.now }
+{
+    if page.extend(bytes) {
+        Ok(())
+    } else {
+        put_anew(out, page, bytes)
+    }
+}

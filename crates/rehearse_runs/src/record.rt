@@ -1,0 +1,305 @@
+//! The record of a run.
+ghost use Rattle.std.specs.Prelude.{◌≡◌, ◌++◌, [], map, codes};
+ghost use Rattle.std.specs.List.{flat_map, join_with_byte};
+ghost use Rattle.std.specs.FinMap.{entries};
+ghost use Rattle.envimage.specs.Sink.{Prints};
+ghost use Rattle.bootstore.specs.Moment.{bytes_of_words};
+ghost use Rattle.rehearse.specs.State.{state_at};
+ghost use Rattle.rehearse.specs.Listing.{line, digit_when, word_form, device_line, text_lines, variable_line, variable_lines, asked_line, last_line};
+ghost use Rattle.rehearse_runs.specs.Paging.{Puts};
+ghost use Rattle.rehearse_runs.specs.Recording.{printed, spaced, entry_line, set_line, named_line, recorded};
+ghost use Rattle.rehearse_runs.specs.Viewed.{seen_word, seen_moment, seen_ending};
+ghost use Rattle.rehearse_machine.specs.Halted.{ending_shown};
+
+use crate::page::{Page, flush, put};
+use crate::pieces::{Piece, put_pieces, put_word};
+use crate::view::RunView;
+use bootstore::{LogEntry, Store, Variables};
+use envimage::{Out, OutFault};
+use rehearse_machine::Ending;
+
+/// Puts the first line of a record, with the digits of its word.
+fn put_first<O: Out>(out: &mut O, page: &mut Page, word: &[u8]) -> Result<(), OutFault>
+    ensures { Puts result (O.sink out.old) (O.sink out.new) page.old.items page.new.items (line (codes "run " ++ printed word.now)) }
+{
+    if word.is_empty() {
+        return put(out, page, b"run .\n");
+    }
+    put_pieces(
+        out,
+        page,
+        &[
+            Piece::Plain(b"run "),
+            Piece::Plain(word),
+            Piece::Plain(b"\n"),
+        ],
+    )
+}
+
+/// Puts words in word form, a space before each.
+fn put_spaced<O: Out>(out: &mut O, page: &mut Page, words: &[Vec<u8>]) -> Result<(), OutFault>
+    ensures { Puts result (O.sink out.old) (O.sink out.new) page.old.items page.new.items (flat_map spaced words.now) }
+{
+    for word in words {
+        put_pieces(out, page, &[Piece::Plain(b" "), Piece::Word(word)])?;
+    }
+    Ok(())
+}
+
+/// Puts words in word form, separated by spaces.
+fn put_words<O: Out>(out: &mut O, page: &mut Page, words: &[Vec<u8>]) -> Result<(), OutFault>
+    ensures { Puts result (O.sink out.old) (O.sink out.new) page.old.items page.new.items (join_with_byte 32 (map word_form (bytes_of_words words.now))) }
+{
+    match words.split_first() {
+        None => Ok(()),
+        Some((first, rest)) => {
+            put_word(out, page, first)?;
+            put_spaced(out, page, rest)
+        }
+    }
+}
+
+/// The digit of a device command that succeeded, or failed.
+fn outcome_digit(success: bool) -> u8
+    ensures { result ≡ digit_when success }
+{
+    if success { b'0' } else { b'1' }
+}
+
+/// Puts the line of a device command.
+fn put_entry<O: Out>(out: &mut O, page: &mut Page, entry: &LogEntry) -> Result<(), OutFault>
+    ensures { Puts result (O.sink out.old) (O.sink out.new) page.old.items page.new.items (entry_line entry.now) }
+{
+    let outcome = outcome_digit(entry.success);
+    put(out, page, &[b'd', b'e', b'v', b' ', outcome, b' '])?;
+    put_words(out, page, &entry.words)?;
+    put(out, page, b"\n")
+}
+
+/// Puts the lines of device commands.
+fn put_log<O: Out>(out: &mut O, page: &mut Page, log: &[LogEntry]) -> Result<(), OutFault>
+    ensures { Puts result (O.sink out.old) (O.sink out.new) page.old.items page.new.items (flat_map entry_line log.now) }
+{
+    for entry in log {
+        put_entry(out, page, entry)?;
+    }
+    Ok(())
+}
+
+/// Puts the line of what was printed, if it is not empty.
+fn put_printed<O: Out>(out: &mut O, page: &mut Page, text: &[u8]) -> Result<(), OutFault>
+    ensures { Puts result (O.sink out.old) (O.sink out.new) page.old.items page.new.items (flat_map line (text_lines text.now)) }
+{
+    if text.is_empty() {
+        return Ok(());
+    }
+    put_pieces(
+        out,
+        page,
+        &[
+            Piece::Plain(b"text "),
+            Piece::Text(text),
+            Piece::Plain(b"\n"),
+        ],
+    )
+}
+
+/// Puts the line of a variable that is set.
+fn put_set<'x, O: Out>(
+    out: &mut O,
+    page: &mut Page,
+    name: &'x [u8],
+    value: &'x [u8],
+) -> Result<(), OutFault>
+    ensures { Puts result (O.sink out.old) (O.sink out.new) page.old.items page.new.items (set_line (name.now, value.now)) }
+{
+    put_pieces(
+        out,
+        page,
+        &[
+            Piece::Plain(b"var "),
+            Piece::Word(name),
+            Piece::Plain(b"="),
+            Piece::Text(value),
+            Piece::Plain(b"\n"),
+        ],
+    )
+}
+
+/// Puts a line that ends with a word in word form.
+fn put_word_line<'x, O: Out>(
+    out: &mut O,
+    page: &mut Page,
+    before: &'x [u8],
+    word: &'x [u8],
+) -> Result<(), OutFault>
+    ensures { Puts result (O.sink out.old) (O.sink out.new) page.old.items page.new.items (line (before.now ++ word_form word.now)) }
+{
+    put_pieces(
+        out,
+        page,
+        &[Piece::Plain(before), Piece::Word(word), Piece::Plain(b"\n")],
+    )
+}
+
+/// Puts the lines of all variables.
+fn put_all<O: Out>(out: &mut O, page: &mut Page, variables: Variables<'_>) -> Result<(), OutFault>
+    ensures { Puts result (O.sink out.old) (O.sink out.new) page.old.items page.new.items (flat_map set_line variables.entry) }
+{
+    let mut variables = variables;
+    while let Some((name, value)) = variables.next() {
+        put_set(out, page, name, value)?;
+    }
+    Ok(())
+}
+
+/// Puts the line of a variable that is asked for.
+fn put_asked<S: Store, O: Out>(
+    out: &mut O,
+    page: &mut Page,
+    view: &RunView<'_, S>,
+    name: &[u8],
+) -> Result<(), OutFault>
+    ensures { Puts result (O.sink out.old) (O.sink out.new) page.old.items page.new.items
+        (named_line (entries (seen_moment S.Store view.now).environment) name.now) }
+{
+    match view.variable(name) {
+        Some(value) => put_set(out, page, name, value),
+        None => put_word_line(out, page, b"unset ", name),
+    }
+}
+
+/// Puts the lines of the variables that are asked for.
+fn put_named<S: Store, O: Out>(
+    out: &mut O,
+    page: &mut Page,
+    view: &RunView<'_, S>,
+    names: &[&[u8]],
+) -> Result<(), OutFault>
+    ensures { Puts result (O.sink out.old) (O.sink out.new) page.old.items page.new.items
+        (flat_map (λ n. named_line (entries (seen_moment S.Store view.now).environment) n.now) names.now) }
+{
+    for name in names {
+        put_asked(out, page, view, name)?;
+    }
+    Ok(())
+}
+
+/// Puts the lines of all variables, or of those that are asked for.
+fn put_variables<S: Store, O: Out>(
+    out: &mut O,
+    page: &mut Page,
+    view: &RunView<'_, S>,
+    names: &[&[u8]],
+) -> Result<(), OutFault>
+    ensures { Puts result (O.sink out.old) (O.sink out.new) page.old.items page.new.items
+        (flat_map line (variable_lines (entries (seen_moment S.Store view.now).environment) (map (λ n. n.now) names.now))) }
+{
+    if names.is_empty() {
+        put_all(out, page, view.variables())
+    } else {
+        put_named(out, page, view, names)
+    }
+}
+
+/// Puts the last line of a record.
+fn put_last<O: Out>(out: &mut O, page: &mut Page, ending: Ending<'_>) -> Result<(), OutFault>
+    ensures { Puts result (O.sink out.old) (O.sink out.new) page.old.items page.new.items (line (last_line (ending_shown ending.entry))) }
+{
+    let mut digits = itoa::Buffer::new();
+    match ending {
+        Ending::End(status) => {
+            let status = digits.format(status).as_bytes();
+            put_pieces(
+                out,
+                page,
+                &[
+                    Piece::Plain(b"end "),
+                    Piece::Plain(status),
+                    Piece::Plain(b"\n"),
+                ],
+            )
+        }
+        Ending::CutDevices => put(out, page, b"cut devices\n"),
+        Ending::CutSteps => put(out, page, b"cut steps\n"),
+        Ending::Unknown(name) => put_word_line(out, page, b"stop unknown ", name),
+        Ending::Syntax(name) => put_word_line(out, page, b"stop syntax ", name),
+        Ending::Size => put(out, page, b"stop size\n"),
+        Ending::Booted(name) => put_word_line(out, page, b"booted ", name),
+    }
+}
+
+/// Puts the first line of the record of a run.
+fn put_word_of<S: Store, O: Out>(
+    out: &mut O,
+    page: &mut Page,
+    view: &RunView<'_, S>,
+) -> Result<(), OutFault>
+    ensures { Puts result (O.sink out.old) (O.sink out.new) page.old.items page.new.items (line (codes "run " ++ printed (seen_word view.now))) }
+{
+    put_first(out, page, view.word())
+}
+
+/// Puts the lines of its device commands.
+fn put_log_of<S: Store, O: Out>(
+    out: &mut O,
+    page: &mut Page,
+    view: &RunView<'_, S>,
+) -> Result<(), OutFault>
+    ensures { Puts result (O.sink out.old) (O.sink out.new) page.old.items page.new.items (flat_map entry_line (seen_moment S.Store view.now).log) }
+{
+    put_log(out, page, view.log())
+}
+
+/// Puts the line of what it printed.
+fn put_text_of<S: Store, O: Out>(
+    out: &mut O,
+    page: &mut Page,
+    view: &RunView<'_, S>,
+) -> Result<(), OutFault>
+    ensures { Puts result (O.sink out.old) (O.sink out.new) page.old.items page.new.items (flat_map line (text_lines (seen_moment S.Store view.now).text)) }
+{
+    put_printed(out, page, view.text())
+}
+
+/// Puts its last line.
+fn put_ending_of<S: Store, O: Out>(
+    out: &mut O,
+    page: &mut Page,
+    view: &RunView<'_, S>,
+) -> Result<(), OutFault>
+    ensures { Puts result (O.sink out.old) (O.sink out.new) page.old.items page.new.items (line (last_line (seen_ending view.now))) }
+{
+    put_last(out, page, view.ending())
+}
+
+/// Puts the record of a run.
+fn put_record<S: Store, O: Out>(
+    out: &mut O,
+    page: &mut Page,
+    view: &RunView<'_, S>,
+    names: &[&[u8]],
+) -> Result<(), OutFault>
+    ensures { Puts result (O.sink out.old) (O.sink out.new) page.old.items page.new.items
+        (recorded (seen_word view.now) (state_at (seen_moment S.Store view.now) []) (seen_ending view.now) (map (λ n. n.now) names.now)) }
+{
+    put_word_of(out, page, view)?;
+    put_log_of(out, page, view)?;
+    put_text_of(out, page, view)?;
+    put_variables(out, page, view, names)?;
+    put_ending_of(out, page, view)
+}
+
+/// Writes the record of a run. It takes no memory.
+pub fn write_record<S: Store, O: Out>(
+    view: &RunView<'_, S>,
+    names: &[&[u8]],
+    out: &mut O,
+) -> Result<(), OutFault>
+    ensures { Prints result (O.sink out.old) (O.sink out.new)
+        (recorded (seen_word view.now) (state_at (seen_moment S.Store view.now) []) (seen_ending view.now) (map (λ n. n.now) names.now)) }
+{
+    let mut page = Page::new();
+    put_record(out, &mut page, view, names)?;
+    flush(out, &mut page)
+}

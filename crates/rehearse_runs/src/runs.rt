@@ -1,0 +1,277 @@
+//! The runs of the text of a variable.
+ghost use Rattle.std.specs.Prelude.{◌≡◌, ◌↔◌, [], false, IsTrue, map, option_map};
+ghost use Rattle.bootstore.specs.Moment.{option_bytes};
+ghost use Rattle.rehearse.specs.Listing.{digit_of};
+ghost use Rattle.rehearse.specs.Outcomes.{has_success};
+ghost use Rattle.rehearse_runs.specs.RunsShown.{has_words, last_given, outcomes, work_of};
+ghost use Rattle.std.specs.Borrow.{sem};
+
+use crate::bytes::Bytes;
+use crate::run_error::RunError;
+use crate::searching::{Digits, first_run, next_run};
+use crate::view::RunView;
+use crate::walking::{Walked, walk_to};
+use bootstore::Store;
+use envtools::Env;
+use rehearse::{Bounds, Devices};
+use rehearse_machine::{Halt, Rehearsal};
+use std::alloc::Global;
+use std::marker::Model;
+
+/// Where a rehearsal stands.
+#[derive(Drop)]
+enum Phase {
+    /// No run was found yet.
+    Fresh,
+    /// A run stands in the store.
+    At(Halt),
+    /// There is no further run.
+    Over,
+    /// There was no memory.
+    Failed,
+}
+
+/// The same digits.
+fn copy_of(digits: &Digits) -> Digits
+    ensures { result.items ≡ digits.now.items }
+{
+    let _len = digits.len();
+    let mut copy = Bytes::new();
+    let _fits = copy.extend(digits.as_slice());
+    copy
+}
+
+/// Whether a device command succeeded.
+fn has_success(digits: &[u8]) -> bool
+    ensures { result ≡ has_success (outcomes digits.now) }
+{
+    for digit in digits {
+        if *digit == b'0' {
+            return true;
+        }
+    }
+    false
+}
+
+/// The runs of the text of a variable, in dictionary order of their words, success before failure.
+#[derive(Drop)]
+pub struct Runs<'a, S: Store> {
+    rehearsal: Rehearsal<'a>,
+    start: Option<Digits>,
+    store: S,
+    word: Digits,
+    has_given: bool,
+    phase: Phase,
+}
+
+impl<'a, S: Store> Model for Runs<'a, S> {
+    ghost use Rattle.std.specs.Prelude.{◌≤◌};
+    ghost use Rattle.rehearse_runs.specs.RunsShown.{RunsShown, outcomes, given_if, to_come_after};
+
+    ghost Value = { RunsShown };
+
+    ghost use Rattle.rehearse_machine.specs.Tasks.{task_in};
+    ghost use Rattle.rehearse_runs.specs.Phases.{shown_at, start_of, StandsAt, AreDigits, IsRunIf, HasBegunIf};
+
+    ghost view = { λ r. shown_at (task_in r.rehearsal) (start_of r.start) r.has_given (outcomes r.word.items) (S.record_of r.store).begun r.phase };
+
+    ghost invariant = { λ r.
+        AreDigits r.word.items
+        × IsRunIf r.has_given (task_in r.rehearsal) (outcomes r.word.items)
+        × StandsAt (task_in r.rehearsal) r.has_given (outcomes r.word.items) (S.record_of r.store) r.phase
+        × HasBegunIf r.phase (task_in r.rehearsal) (start_of r.start) (given_if r.has_given (outcomes r.word.items)) (to_come_after r.has_given (task_in r.rehearsal) (outcomes r.word.items)) (S.record_of r.store).begun
+        × (task_in r.rehearsal).setting.device_bound ≤ 32 };
+}
+
+impl<'a, S: Store> Runs<'a, S> {
+    ghost use Rattle.rehearse_runs.specs.RunsShown.{RunsShown, new_runs};
+    ghost use Rattle.rehearse_machine.specs.Tasks.{task_shown, task_set};
+    ghost use Rattle.std.specs.Prelude.{IfOk, OnOk, IfErr, OnErr, IsSome, Some, None};
+    ghost use Rattle.envtools.specs.Environment.{value_of};
+    ghost use Rattle.rehearse_runs.specs.declared.run_error.RunError.TheVariants.{NoSuchVariable};
+    ghost use Rattle.rehearse_runs.specs.Giving.{Advances, IsView, Lent};
+    ghost use Rattle.rehearse_runs.specs.Behind.{GoesOnBehind, RefusesWord};
+
+    /// The runs of the text of a variable. It takes no memory.
+    #[tactic(auto, using(crate::proofs::TaskSet::task_is_set, crate::proofs::TaskSet::task_is_unset))]
+    pub fn new(
+        alloc: Global,
+        env: &'a Env,
+        devices: &'a Devices,
+        name: &'a [u8],
+        bounds: Bounds,
+    ) -> Result<Self, RunError>
+        ensures ok { IfOk result (λ r. r ≡ new_runs (task_shown env.now devices.now name.now bounds)) }
+        ensures found { OnOk result (IsSome (value_of env.now name.now)) }
+        ensures set { OnOk result (task_set env.now devices.now name.now bounds ≡ Some (task_shown env.now devices.now name.now bounds)) }
+        ensures err { IfErr result (λ e. (e ≡ NoSuchVariable) × (value_of env.now name.now ≡ None)) }
+        ensures unset { OnErr result (task_set env.now devices.now name.now bounds ≡ None) }
+    {
+        if env.get(name).is_none() {
+            return Err(RunError::NoSuchVariable);
+        }
+        let _bound = bounds.devices();
+        Ok(Runs {
+            rehearsal: Rehearsal {
+                alloc,
+                env,
+                devices,
+                name,
+                bounds,
+            },
+            start: None,
+            store: S::new(alloc),
+            word: Bytes::new(),
+            has_given: false,
+            phase: Phase::Fresh,
+        })
+    }
+
+    /// The runs behind the run on a word, whose digits are handed over: it is run first.
+    #[tactic(auto, using(crate::proofs::TaskSet::task_is_set, crate::proofs::TaskSet::task_is_unset))]
+    pub fn after(
+        alloc: Global,
+        env: &'a Env,
+        devices: &'a Devices,
+        name: &'a [u8],
+        bounds: Bounds,
+        word: &[u8],
+    ) -> Result<Self, RunError>
+        ensures ok { IfOk result (λ r. GoesOnBehind (task_shown env.now devices.now name.now bounds) word.now r) }
+        ensures found { OnOk result (IsSome (value_of env.now name.now)) }
+        ensures set { OnOk result (task_set env.now devices.now name.now bounds ≡ Some (task_shown env.now devices.now name.now bounds)) }
+        ensures err { IfErr result (λ e. RefusesWord (task_shown env.now devices.now name.now bounds) (value_of env.now name.now) word.now e) }
+        ensures unset { IfErr result (λ e. e ≡ NoSuchVariable → task_set env.now devices.now name.now bounds ≡ None) }
+    {
+        if env.get(name).is_none() {
+            return Err(RunError::NoSuchVariable);
+        }
+        let _bound = bounds.devices();
+        let rehearsal = Rehearsal {
+            alloc,
+            env,
+            devices,
+            name,
+            bounds,
+        };
+        let mut store = S::new(alloc);
+        let mut digits = Bytes::new();
+        let Ok(walked) = walk_to(&rehearsal, &mut store, &mut digits, word) else {
+            return Err(RunError::Memory);
+        };
+        match walked {
+            Walked::Ends(halt) => Ok(Runs {
+                rehearsal,
+                start: Some(copy_of(&digits)),
+                store,
+                word: digits,
+                has_given: true,
+                phase: Phase::At(halt),
+            }),
+            Walked::Short => Err(RunError::NotARun),
+            Walked::Long => Err(RunError::NotARun),
+        }
+    }
+
+    /// Moves to the next run, if there is one.
+    fn advance(&mut self) -> Result<bool, RunError>
+        ensures { Advances self.old result self.new }
+    {
+        match self.phase {
+            Phase::Fresh => {
+                let mut word = Bytes::new();
+                let Ok(halt) = first_run(&self.rehearsal, &mut self.store, &mut word) else {
+                    self.phase = Phase::Failed;
+                    return Err(RunError::Memory);
+                };
+                self.word = word;
+                self.has_given = true;
+                self.phase = Phase::At(halt);
+                Ok(true)
+            }
+            Phase::At(_) => {
+                let mut word = copy_of(&self.word);
+                let Ok(found) = next_run(&self.rehearsal, &mut self.store, &mut word) else {
+                    self.phase = Phase::Failed;
+                    return Err(RunError::Memory);
+                };
+                let Some(halt) = found else {
+                    self.phase = Phase::Over;
+                    return Ok(false);
+                };
+                self.word = word;
+                self.phase = Phase::At(halt);
+                Ok(true)
+            }
+            Phase::Over => Ok(false),
+            Phase::Failed => Err(RunError::Failed),
+        }
+    }
+
+    /// The run that stands in the store.
+    fn get(&self) -> Option<RunView<'_, S>>
+        ensures { IsView S.Store self.now result }
+    {
+        match &self.phase {
+            Phase::At(halt) => Some(RunView::new(self.word.as_slice(), halt.ending(), &self.store)),
+            Phase::Fresh | Phase::Over | Phase::Failed => None,
+        }
+    }
+
+    /// The next run; none at the end, and ever after. After want of memory each later call answers `Failed`.
+    pub fn next(&mut self) -> Result<Option<RunView<'_, S>>, RunError>
+        ensures* { sem 𝓛 (Lent S.row S.Store self.entry result) }
+    {
+        self.advance()?;
+        Ok(self.get())
+    }
+
+    /// Whether want of memory has ended the rehearsal.
+    pub(crate) fn has_failed(&self) -> bool
+        ensures { result ≡ self.now.failed }
+    {
+        matches!(self.phase, Phase::Failed)
+    }
+
+    /// Whether words are still to come.
+    pub(crate) fn has_more(&self) -> bool
+        ensures { result ≡ has_words self.now.to_come }
+    {
+        if self.has_given {
+            has_success(self.word.as_slice())
+        } else {
+            true
+        }
+    }
+
+    /// The digits of the last word that was given, or handed to `after`.
+    pub fn given(&self) -> Option<&[u8]>
+        ensures { option_bytes result ≡ option_map (map digit_of) self.now.given }
+    {
+        if self.has_given {
+            Some(self.word.as_slice())
+        } else {
+            None
+        }
+    }
+
+    /// The digits of that word; none where there is none.
+    pub(crate) fn last_digits(&self) -> &[u8]
+        ensures { result.now ≡ map digit_of (last_given self.now) }
+    {
+        if self.has_given {
+            self.word.as_slice()
+        } else {
+            &[]
+        }
+    }
+
+    /// How many steps were begun in all: those of the start word, if any, and then, of each run that was given, those
+    /// behind the last command that it shares with the run before it.
+    pub fn work(&self) -> u64
+        ensures work { result ≡ self.now.work }
+        ensures whole { self.now.failed ≡ false → result ≡ work_of self.now.task self.now.start self.now.answers }
+    {
+        self.store.begun()
+    }
+}

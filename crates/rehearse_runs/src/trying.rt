@@ -1,0 +1,65 @@
+//! Whether a word is a run.
+ghost use Rattle.std.specs.Prelude.{◌≡◌, IfOk, OnOk, IfErr, IsSome, Some, None};
+ghost use Rattle.envtools.specs.Environment.{value_of};
+ghost use Rattle.rehearse_machine.specs.Tasks.{task_shown, task_set};
+ghost use Rattle.rehearse_runs.specs.declared.run_error.RunError.TheVariants.{NoSuchVariable};
+ghost use Rattle.rehearse_runs.specs.Behind.{kind_shown, HasKind, RefusesTry};
+
+use crate::bytes::Bytes;
+use crate::run_error::RunError;
+use crate::walking::{Walked, walk_to};
+use bootstore::Store;
+use envtools::Env;
+use rehearse::{Bounds, Devices};
+use rehearse_machine::Rehearsal;
+use std::alloc::Global;
+
+/// What kind of word a text is.
+#[derive(Clone, Copy, Debug, PartialEq, Eq)]
+pub enum WordKind {
+    /// A run takes its digits exactly.
+    Run,
+    /// A device command finds no digit left.
+    Short,
+    /// Digits are left over, or a byte is no digit.
+    Long,
+}
+
+/// What kind of word a text is for the text of a variable.
+#[tactic(auto, using(crate::proofs::TaskSet::task_is_set, crate::proofs::TaskSet::task_is_unset))]
+pub fn try_word<S: Store>(
+    alloc: Global,
+    env: &Env,
+    devices: &Devices,
+    name: &[u8],
+    bounds: Bounds,
+    word: &[u8],
+) -> Result<WordKind, RunError>
+    ensures ok { IfOk result (λ k. HasKind (task_shown env.now devices.now name.now bounds) word.now (kind_shown k)) }
+    ensures found { OnOk result (IsSome (value_of env.now name.now)) }
+    ensures set { OnOk result (task_set env.now devices.now name.now bounds ≡ Some (task_shown env.now devices.now name.now bounds)) }
+    ensures err { IfErr result (λ e. RefusesTry (value_of env.now name.now) e) }
+    ensures unset { IfErr result (λ e. e ≡ NoSuchVariable → task_set env.now devices.now name.now bounds ≡ None) }
+{
+    if env.get(name).is_none() {
+        return Err(RunError::NoSuchVariable);
+    }
+    let _bound = bounds.devices();
+    let rehearsal = Rehearsal {
+        alloc,
+        env,
+        devices,
+        name,
+        bounds,
+    };
+    let mut store = S::new(alloc);
+    let mut digits = Bytes::new();
+    let Ok(walked) = walk_to(&rehearsal, &mut store, &mut digits, word) else {
+        return Err(RunError::Memory);
+    };
+    match walked {
+        Walked::Ends(_) => Ok(WordKind::Run),
+        Walked::Short => Ok(WordKind::Short),
+        Walked::Long => Ok(WordKind::Long),
+    }
+}

@@ -1,0 +1,117 @@
+//! The walk along the digits of a word.
+ghost use Rattle.std.specs.Prelude.{◌≡◌, ◌+◌, ◌-◌, ◌<◌, ◌≤◌, ◌^◌, ◌∷◌, [], ◌++◌, IfOk, OnOk};
+ghost use Rattle.rehearse.specs.Listing.{digit_of};
+ghost use Rattle.rehearse_runs.specs.RunsShown.{outcomes};
+ghost use Rattle.rehearse_runs.specs.Phases.{AreDigits};
+ghost use Rattle.rehearse_machine.specs.Machine.{outcome_when};
+ghost use Rattle.rehearse_runs.specs.Searching.{StoppedAt, AreMarks};
+ghost use Rattle.rehearse_machine.specs.Tasks.{task_in};
+ghost use Rattle.rehearse_runs.specs.Walking.{BeginsWithDigit, Walks, WalksTo};
+ghost use Rattle.rehearse_machine.specs.declared.rehearsal.Stop.TheVariants.{Asks};
+
+use crate::searching::Digits;
+use bootstore::{Store, StoreError};
+use rehearse_machine::{Halt, Rehearsal, Stop, begin, resume};
+
+/// Where a walk comes to.
+#[derive(Drop)]
+pub(crate) enum Walked {
+    /// The text is the digits of a run, which stands in the store.
+    Ends(Halt),
+    /// A device command asks, and no digit is left.
+    Short,
+    /// The run ends before the text, or a byte is no digit.
+    Long,
+}
+
+/// Gives the device command that asks an outcome; a success is marked.
+fn choose<S: Store>(
+    rehearsal: &Rehearsal<'_>,
+    store: &mut S,
+    digits: &mut Digits,
+    success: bool,
+) -> Result<Stop, StoreError>
+    requires asks { StoppedAt (task_in rehearsal.now) (outcomes digits.old.items) Asks (S.record_of store.old).present }
+    requires marks { AreMarks (task_in rehearsal.now) (outcomes digits.old.items) (S.record_of store.old).marked }
+    requires begun { (S.record_of store.old).begun + 1000001 < 2 ^ 64 }
+    requires bound { (task_in rehearsal.now).setting.device_bound ≤ 32 }
+    ensures stopped { IfOk result (λ stop. StoppedAt (task_in rehearsal.now) (outcomes digits.new.items) stop (S.record_of store.new).present) }
+    ensures marks { OnOk result (AreMarks (task_in rehearsal.now) (outcomes digits.new.items) (S.record_of store.new).marked) }
+    ensures digits { OnOk result (digits.new.items ≡ digits.old.items ++ digit_of (outcome_when success) ∷ []) }
+    ensures begun { OnOk result ((S.record_of store.new).begun + (S.record_of store.old).present.steps ≡ (S.record_of store.old).begun + (S.record_of store.new).present.steps) }
+    ensures within { OnOk result ((S.record_of store.new).present.steps ≤ 1000000) }
+{
+    if success {
+        store.mark()?;
+        digits.push(b'0');
+        let next = resume(rehearsal, store, true)?;
+        Ok(next)
+    } else {
+        digits.push(b'1');
+        let next = resume(rehearsal, store, false)?;
+        Ok(next)
+    }
+}
+
+/// The outcome that a text begins with, and the digits behind it.
+fn next_outcome(text: &[u8]) -> Option<(bool, &[u8])>
+    ensures { BeginsWithDigit text.now result }
+{
+    match text.split_first() {
+        Some((b'0', behind)) => Some((true, behind)),
+        Some((b'1', behind)) => Some((false, behind)),
+        _ => None,
+    }
+}
+
+/// Goes on along the digits of a text.
+fn walk<S: Store>(
+    rehearsal: &Rehearsal<'_>,
+    store: &mut S,
+    digits: &mut Digits,
+    stop: Stop,
+    text: &[u8],
+) -> Result<Walked, StoreError>
+    requires stopped { StoppedAt (task_in rehearsal.now) (outcomes digits.old.items) stop (S.record_of store.old).present }
+    requires marks { AreMarks (task_in rehearsal.now) (outcomes digits.old.items) (S.record_of store.old).marked }
+    requires within { (S.record_of store.old).present.steps ≤ 1000000 }
+    requires begun { (S.record_of store.old).begun + (1000000 - (S.record_of store.old).present.steps) + 1000001 < 2 ^ 64 }
+    requires bound { (task_in rehearsal.now).setting.device_bound ≤ 32 }
+    ensures ok { IfOk result (λ found. Walks (task_in rehearsal.now) (outcomes digits.old.items) digits.old.items text.now digits.new.items (outcomes digits.new.items) found (S.record_of store.old) (S.record_of store.new)) }
+{
+    match stop {
+        Stop::Ends(halt) => {
+            if text.is_empty() {
+                Ok(Walked::Ends(halt))
+            } else {
+                Ok(Walked::Long)
+            }
+        }
+        Stop::Asks => {
+            if text.is_empty() {
+                return Ok(Walked::Short);
+            }
+            let Some((success, behind)) = next_outcome(text) else {
+                return Ok(Walked::Long);
+            };
+            let next = choose(rehearsal, store, digits, success)?;
+            walk(rehearsal, store, digits, next, behind)
+        }
+    }
+}
+
+/// Goes along the digits of a text from the beginning, and says whether they are those of a run.
+pub(crate) fn walk_to<S: Store>(
+    rehearsal: &Rehearsal<'_>,
+    store: &mut S,
+    digits: &mut Digits,
+    text: &[u8],
+) -> Result<Walked, StoreError>
+    requires begun { (S.record_of store.old).begun + 2000001 < 2 ^ 64 }
+    requires bound { (task_in rehearsal.now).setting.device_bound ≤ 32 }
+    ensures ok { IfOk result (λ found. WalksTo (task_in rehearsal.now) text.now digits.new.items (outcomes digits.new.items) found (S.record_of store.old) (S.record_of store.new)) }
+{
+    digits.clear();
+    let stop = begin(rehearsal, store)?;
+    walk(rehearsal, store, digits, stop, text)
+}
