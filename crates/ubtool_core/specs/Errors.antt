@@ -5,8 +5,10 @@ use Rattle.envtools.specs.declared.env_error.EnvError.{EnvError}
 use Rattle.envtools.specs.declared.env_error.EnvError.TheVariants as env
 use Rattle.envtools.specs.declared.script.ScriptError.{ScriptError}
 use Rattle.envtools.specs.declared.script.ScriptError.TheVariants as script
+use Rattle.rehearse_runs.specs.declared.rehearsing.RehearseError.{RehearseError}
+use Rattle.rehearse_runs.specs.declared.rehearsing.RehearseError.TheVariants as rehearsal
 use Rattle.ubtool_core.specs.declared.error.ToolError.{ToolError}
-use Rattle.ubtool_core.specs.declared.error.ToolError.TheVariants.{Image, Env, Script, Memory}
+use Rattle.ubtool_core.specs.declared.error.ToolError.TheVariants.{Image, Env, Script, Devices, NoSuchVariable, NotARun, Write, Memory}
 
 abbrev pub image_fault : ImageError → ToolError
 image_fault image.WrongSize = Image image.WrongSize
@@ -25,3 +27,10 @@ abbrev pub script_fault : ScriptError → ToolError
 script_fault (script.BadName line) = Script (script.BadName line)
 script_fault (script.BadValue line) = Script (script.BadValue line)
 script_fault script.Memory = Memory
+
+abbrev pub rehearse_fault : RehearseError → ToolError
+rehearse_fault (rehearsal.DeviceList fault) = Devices fault
+rehearse_fault rehearsal.NoSuchVariable = NoSuchVariable
+rehearse_fault rehearsal.NotARun = NotARun
+rehearse_fault rehearsal.Write = Write
+rehearse_fault rehearsal.Memory = Memory

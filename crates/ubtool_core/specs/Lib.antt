@@ -1,6 +1,10 @@
 pub mod Errors
 pub mod Input
 pub mod Printing
+pub mod StartWord
+pub mod Given
+pub mod Headline
+pub mod Refusing
 pub mod Setting
 pub mod Fault
 pub mod Told

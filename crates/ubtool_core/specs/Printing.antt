@@ -8,7 +8,7 @@ use Rattle.envimage.specs.declared.image.ImageError.{ImageError}
 use Rattle.envtools.specs.Environment.{env_of}
 use Rattle.envtools.specs.Printing.{printed_output, printed_errors, all_found, BreaksEither}
 use Rattle.ubtool_core.specs.declared.error.ToolError.{ToolError}
-use Rattle.ubtool_core.specs.declared.error.ToolError.TheVariants.{Image, Env, Script, Write, Memory}
+use Rattle.ubtool_core.specs.declared.error.ToolError.TheVariants.{Image, Write, Memory}
 
 -- the environment of the copy that counts, or the image's refusal
 abbrev pub environment_in : ByteOrder → List ℕ → Option (List ℕ) → Result (List Pair) ImageError
@@ -48,7 +48,6 @@ pub record BreaksOff (answer : Result (List Pair) ImageError) (names : List (Lis
 abbrev pub Prints : Result (List Pair) ImageError → List (List ℕ) → Bool → Outputs → Result Bool ToolError → Type 0
 Prints answer names header s (Ok found) = PrintsAll answer names header s found
 Prints answer names header s (Err (Image e)) = (answer ≡ Err e) × (AreUnchanged s)
-Prints answer names header s (Err (Env e)) = ⊥
-Prints answer names header s (Err (Script e)) = ⊥
 Prints answer names header s (Err Write) = BreaksOff answer names header s
 Prints answer names header s (Err Memory) = ((env : List Pair) × (answer ≡ Ok env)) × (AreUnchanged s)
+Prints answer names header s (Err _) = ⊥

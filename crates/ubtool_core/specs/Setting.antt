@@ -17,7 +17,7 @@ use Rattle.ubtool_core.specs.Errors.{script_fault}
 use Rattle.ubtool_core.specs.declared.change.Edit.{Edit}
 use Rattle.ubtool_core.specs.declared.change.Edit.TheVariants as edit
 use Rattle.ubtool_core.specs.declared.error.ToolError.{ToolError}
-use Rattle.ubtool_core.specs.declared.error.ToolError.TheVariants.{Image, Env, Script, Write, Memory}
+use Rattle.ubtool_core.specs.declared.error.ToolError.TheVariants.{Image, Env, Script, Memory}
 
 abbrev pub one_edited : List Pair → List ℕ → List (List ℕ) → Result (List Pair) ToolError
 one_edited env name words =
@@ -58,16 +58,15 @@ set_of order first second change = then_edited change (load_of order first secon
 
 abbrev pub Edits : List Pair → Edit → List Pair → Result (Unit {0}) ToolError → Type 0
 Edits old change new (Ok u) = edited old change ≡ Ok new
-Edits old change new (Err (Image e)) = ⊥
 Edits old change new (Err (Env e)) = edited old change ≡ Err (Env e)
 Edits old change new (Err (Script e)) = edited old change ≡ Err (Script e)
-Edits old change new (Err Write) = ⊥
 Edits old change new (Err Memory) = Unit {0}
+Edits old change new (Err _) = ⊥
 
 abbrev pub Answers : Result Shown ImageError → Result (Which × List ℕ) ToolError → Result (Which × Vec ℕ Global) ToolError → Type 0
 Answers loaded answer (Ok w) = answer ≡ Ok (w.0, w.1.items)
 Answers loaded answer (Err (Image e)) = answer ≡ Err (Image e)
 Answers loaded answer (Err (Env e)) = answer ≡ Err (Env e)
 Answers loaded answer (Err (Script e)) = answer ≡ Err (Script e)
-Answers loaded answer (Err Write) = ⊥
 Answers loaded answer (Err Memory) = (s : Shown) × (loaded ≡ Ok s)
+Answers loaded answer (Err _) = ⊥

@@ -1,5 +1,7 @@
 use envimage::ImageError;
 use envtools::{EnvError, PrintError, ScriptError};
+use rehearse::DevicesError;
+use rehearse_runs::RehearseError;
 use thiserror::Error;
 
 /// Why a call from bytes to bytes was refused.
@@ -14,6 +16,15 @@ pub enum ToolError {
     /// The script, for another cause than memory.
     #[error("{0}")]
     Script(ScriptError),
+    /// The device list, for another cause than memory.
+    #[error("{0}")]
+    Devices(DevicesError),
+    /// The variable to be rehearsed is not set.
+    #[error("the variable is not set")]
+    NoSuchVariable,
+    /// The start word spells no run.
+    #[error("the word is no run")]
+    NotARun,
     /// An output failed.
     #[error("output failed")]
     Write,
@@ -72,6 +83,23 @@ impl From<ScriptError> for ToolError {
         match error {
             ScriptError::Memory => ToolError::Memory,
             error => ToolError::Script(error),
+        }
+    }
+}
+
+impl From<RehearseError> for ToolError {
+    ghost use Rattle.std.specs.Prelude.{◌≡◌};
+    ghost use Rattle.ubtool_core.specs.Errors.{rehearse_fault};
+
+    ghost from_gives = { λ error e. e ≡ rehearse_fault error };
+
+    fn from(error: RehearseError) -> ToolError {
+        match error {
+            RehearseError::DeviceList(fault) => ToolError::Devices(fault),
+            RehearseError::NoSuchVariable => ToolError::NoSuchVariable,
+            RehearseError::NotARun => ToolError::NotARun,
+            RehearseError::Write => ToolError::Write,
+            RehearseError::Memory => ToolError::Memory,
         }
     }
 }

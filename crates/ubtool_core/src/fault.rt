@@ -38,9 +38,6 @@ pub enum Fault {
     /// The rehearsal has no run of this word, which is printed as it was given.
     #[error("no run has the word {0}")]
     NotARun(WordForm),
-    /// The rehearsal is still to come.
-    #[error("rehearse is not built yet")]
-    NotBuilt,
     /// A growth was refused.
     #[error("out of memory")]
     Memory,

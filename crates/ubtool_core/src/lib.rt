@@ -9,6 +9,7 @@ mod input;
 mod machine;
 mod memory_files;
 mod print;
+mod rehearsal;
 mod standard_input;
 #[cfg(test)]
 mod tests;
@@ -22,5 +23,8 @@ pub use input::{ReadFault, read_up_to};
 pub use machine::Machine;
 pub use memory_files::{Call, MemoryFiles};
 pub use print::print_bytes;
+pub use rehearsal::{RehearseAsk, rehearse_bytes};
+pub use rehearse::Bounds;
+pub use rehearse_runs::Finish;
 pub use standard_input::run_input;
 pub use word_form::WordForm;

@@ -5,6 +5,7 @@ use crate::files::FileFault;
 use crate::word_form::WordForm;
 use envimage::{ConfigError, DataError, ImageError, Over};
 use envtools::{EnvError, ScriptError};
+use rehearse::DevicesError;
 use std::alloc::AllocError;
 use std::fmt;
 use std::test::Fail;
@@ -80,6 +81,14 @@ fn tells_of_images(rt: HostRuntime) {
         (
             ToolError::Script(ScriptError::BadValue(6)),
             "ubtool: script line 6: bad value\n",
+        ),
+        (
+            ToolError::Devices(DevicesError::BadLine(7)),
+            "ubtool: device list line 7: bad line\n",
+        ),
+        (
+            ToolError::Devices(DevicesError::BuiltIn(8)),
+            "ubtool: device list line 8: built-in command\n",
         ),
         (ToolError::Write, "ubtool: output failed\n"),
         (ToolError::Memory, "ubtool: out of memory\n"),

@@ -1,0 +1,44 @@
+-- Why a rehearsal is refused, and what stands written then. The order of the refusals is ours: the image, the device list, the
+-- variable, the start word, each looked at where those before it are right; nothing is written before the listing.
+use Rattle.std.specs.Prelude.{◌≡◌, ◌≢◌, ◌⊎◌, List, Option, Some, None, Ok, Err}
+use Rattle.envimage.specs.Data.{Pair}
+use Rattle.envimage.specs.Sink.{Sink}
+use Rattle.rehearse.specs.DeviceList as list
+use Rattle.rehearse.specs.DeviceList.{listed}
+use Rattle.rehearse.specs.Listing.{spelled}
+use Rattle.rehearse.specs.Outcomes.{Word, Run}
+use Rattle.rehearse.specs.Runs.{Task, kind}
+use Rattle.rehearse.specs.State.{Text}
+use Rattle.rehearse_machine.specs.Tasks.{task_set}
+use Rattle.ubtool_core.specs.Given.{Given}
+use Rattle.ubtool_core.specs.Headline.{LacksMemory, BreaksOff}
+use Rattle.ubtool_core.specs.Printing.{environment_in}
+use Rattle.ubtool_core.specs.declared.error.ToolError.{ToolError}
+use Rattle.ubtool_core.specs.declared.error.ToolError.TheVariants.{Image, Devices, NoSuchVariable, NotARun, Write, Memory}
+
+-- the image is right
+pub record HasImage (g : Given) : Type 0 where
+  pub environment : List Pair
+  pub image : environment_in g.order g.first g.second ≡ Ok environment
+
+-- the image and the device list are right, and this holds of the rehearsal that they give, if the variable is set
+pub record HasDevices (g : Given) (IsSo : Option Task → Type 0) : Type 0 where
+  pub environment : List Pair
+  pub devices : list.Devices
+  pub image : environment_in g.order g.first g.second ≡ Ok environment
+  pub device_list : listed g.device_list ≡ Ok devices
+  pub so : IsSo (task_set environment devices g.variable g.bounds)
+
+-- there is a start word, and it spells no run
+abbrev pub SpellsNoRun : Task → (after : Option Text) → Type 0
+SpellsNoRun task None = ⊥
+SpellsNoRun task (Some text) = (w : Word) → text ≡ spelled w → kind task w ≢ Run
+
+abbrev pub Refuses : Given → (old new : Sink) → ToolError → Type 0
+Refuses g old new (Image fault) = (environment_in g.order g.first g.second ≡ Err fault) × (new ≡ old)
+Refuses g old new (Devices fault) = HasImage g × (listed g.device_list ≡ Err fault) × (new ≡ old)
+Refuses g old new NoSuchVariable = HasDevices g (λ found. found ≡ None) × (new ≡ old)
+Refuses g old new NotARun = HasDevices g (λ found. (task : Task) × (found ≡ Some task) × SpellsNoRun task g.after) × (new ≡ old)
+Refuses g old new Write = BreaksOff g old new
+Refuses g old new Memory = (HasImage g × (new ≡ old)) ⊎ LacksMemory g old new
+Refuses g old new _ = ⊥
