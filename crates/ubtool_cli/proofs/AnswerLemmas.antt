@@ -29,9 +29,9 @@ ubtool_free = refl
 -- where the words are accepted
 pub accepted_answer : (words : List Text) (a : Option Asked) (r : Result Ask UseError) → IsAccepted words → a ≡ asked words → Says a r → Answers words r
 accepted_answer words a (Ok (Help text)) fine is says = absurd says
-accepted_answer words a (Ok (Print config header names big_endian)) fine is says = (fine, says ∙ is)
-accepted_answer words a (Ok (Setenv config change big_endian)) fine is says = (fine, says ∙ is)
-accepted_answer words a (Ok (Rehearse config list what big_endian)) fine is says = (fine, says ∙ is)
+accepted_answer words a (Ok (Print config header names order)) fine is says = (fine, says ∙ is)
+accepted_answer words a (Ok (Setenv config change order)) fine is says = (fine, says ∙ is)
+accepted_answer words a (Ok (Rehearse config list what order)) fine is says = (fine, says ∙ is)
 accepted_answer words a (Err NeedName) fine is says = (fine, says ∙ is)
 accepted_answer words a (Err ScriptAndName) fine is says = (fine, says ∙ is)
 accepted_answer words a (Err HeaderNeedsOne) fine is says = (fine, says ∙ is)
@@ -46,9 +46,9 @@ refused_answer words k (Ok (Help text)) among is = elim among [
       cc
   | inr one ↦ subst (λ (x : ErrorKind). IsAmong x (fault_of ubtool words)) is one
 ]
-refused_answer words k (Ok (Print config header names big_endian)) among is = absurd is
-refused_answer words k (Ok (Setenv config change big_endian)) among is = absurd is
-refused_answer words k (Ok (Rehearse config list what big_endian)) among is = absurd is
+refused_answer words k (Ok (Print config header names order)) among is = absurd is
+refused_answer words k (Ok (Setenv config change order)) among is = absurd is
+refused_answer words k (Ok (Rehearse config list what order)) among is = absurd is
 refused_answer words k (Err NeedName) among is = absurd is
 refused_answer words k (Err ScriptAndName) among is = absurd is
 refused_answer words k (Err HeaderNeedsOne) among is = absurd is

@@ -1,8 +1,9 @@
 -- Worked calls, computed: what the words ask for, and that `clap` accepts them or not.
-use Rattle.std.proofs.Common.{◌≡◌, true, false, refl, List, [], ◌∷◌, length, Some, None, codes}
+use Rattle.std.proofs.Common.{◌≡◌, true, refl, List, [], ◌∷◌, length, Some, None, codes}
 use Rattle.std.specs.Prelude.{nat_lt}
 use Rattle.clap.specs.Words.{Text, fault_of}
 use Rattle.clap.proofs.OnLiterals.{clap_on_literals}
+use Rattle.envimage.specs.declared.image.ByteOrder.TheVariants.{Big, Little}
 use Rattle.ubtool_cli.specs.Answers.{IsAccepted, asked}
 use Rattle.ubtool_cli.specs.Asked.{Asked, header_needs_one, needs_name, printing, rehearsing, script_and_name, scripted, setting}
 use Rattle.ubtool_cli.specs.CommandLine.{ubtool}
@@ -24,7 +25,7 @@ rehearsal : AsksFor
       after = None;
       limit = Some 1;
       names = codes "z" ∷ [];
-    }) false)
+    }) Little)
 unfolding clap_on_literals
 rehearsal = (refl, refl)
 
@@ -40,7 +41,7 @@ two_names_printed = (refl, refl)
 
 -- printenv -- -x
 dashed_name : AsksFor (codes "printenv" ∷ codes "--" ∷ codes "-x" ∷ [])
-    (printing (codes "/etc/fw_env.config") true (codes "-x" ∷ []) false)
+    (printing (codes "/etc/fw_env.config") true (codes "-x" ∷ []) Little)
 unfolding clap_on_literals
 dashed_name = (refl, refl)
 
@@ -51,7 +52,7 @@ no_name_set = (refl, refl)
 
 -- setenv a 1 2
 words_set : AsksFor (codes "setenv" ∷ codes "a" ∷ codes "1" ∷ codes "2" ∷ [])
-    (setting (codes "/etc/fw_env.config") (codes "a") (codes "1" ∷ codes "2" ∷ []) false)
+    (setting (codes "/etc/fw_env.config") (codes "a") (codes "1" ∷ codes "2" ∷ []) Little)
 unfolding clap_on_literals
 words_set = (refl, refl)
 
@@ -62,7 +63,7 @@ script_beside_name = (refl, refl)
 
 -- setenv -s f --big-endian
 big_script : AsksFor (codes "setenv" ∷ codes "-s" ∷ codes "f" ∷ codes "--big-endian" ∷ [])
-    (scripted (codes "/etc/fw_env.config") (codes "f") true)
+    (scripted (codes "/etc/fw_env.config") (codes "f") Big)
 unfolding clap_on_literals
 big_script = (refl, refl)
 
@@ -75,7 +76,7 @@ bounded : AsksFor
       after = Some (codes ".");
       limit = None;
       names = [];
-    }) true)
+    }) Big)
 unfolding clap_on_literals
 bounded = (refl, refl)
 

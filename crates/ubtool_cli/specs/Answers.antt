@@ -1,49 +1,46 @@
 -- What an answer of the reader of words says, and in which case each refusal comes. The refusals are
 -- ours.
-use Rattle.std.specs.Prelude.{◌≡◌, ◌≢◌, ◌⊎◌, Bool, List, [], map, Option, Some, None}
+use Rattle.std.specs.Prelude.{◌≡◌, ◌≢◌, ◌⊎◌, List, [], map, Option, Some, None}
 use Rattle.std.specs.Prelude.{Result, Ok, Err, option_map, option_and_then, string_bytes}
 use Rattle.clap.specs.Words.{IsAmong, Text, fault_of, subcommand_of}
 use Rattle.clap.specs.declared.error.kind.ErrorKind.{ErrorKind}
 use Rattle.clap.specs.declared.error.kind.ErrorKind.TheVariants.{DisplayHelp, OutOfMemory}
+use Rattle.envimage.specs.declared.image.ByteOrder.{ByteOrder}
 use Rattle.ubtool_cli.specs.declared.ask.Ask.{Ask}
 use Rattle.ubtool_cli.specs.declared.ask.Ask.TheVariants.{Print, Setenv, Rehearse, Help}
-use Rattle.ubtool_cli.specs.declared.ask.BoundsAsk.{BoundsAsk}
 use Rattle.ubtool_cli.specs.declared.ask.Change.{Change}
 use Rattle.ubtool_cli.specs.declared.ask.Change.TheVariants.{One, Script}
 use Rattle.ubtool_cli.specs.declared.ask.RehearseAsk.{RehearseAsk}
 use Rattle.ubtool_cli.specs.declared.ask.UseError.{UseError}
 use Rattle.ubtool_cli.specs.declared.ask.UseError.TheVariants.{Line, NeedName, ScriptAndName}
 use Rattle.ubtool_cli.specs.declared.ask.UseError.TheVariants.{HeaderNeedsOne, Memory}
-use Rattle.ubtool_cli.specs.Asked.{Asked, Bounds, Rehearsal, asked_of, printing, setting}
+use Rattle.ubtool_cli.specs.Asked.{Asked, Rehearsal, asked_of, printing, setting}
 use Rattle.ubtool_cli.specs.Asked.{scripted, rehearsing, needs_name, script_and_name}
 use Rattle.ubtool_cli.specs.Asked.{header_needs_one}
 use Rattle.ubtool_cli.specs.CommandLine.{ubtool}
 
-abbrev pub bounds_of : BoundsAsk → Bounds
-bounds_of b = record { devices = b.devices; steps = b.steps }
-
 abbrev pub rehearsal_of : RehearseAsk → Rehearsal
 rehearsal_of r = record {
   variable = string_bytes r.name;
-  bounds = bounds_of r.bounds;
+  bounds = r.bounds;
   after = option_map string_bytes r.after;
   limit = r.limit;
   names = map string_bytes r.names.items;
 }
 
-abbrev pub change_of : Text → Change → Bool → Asked
-change_of config (One name words) big_endian =
-    setting config (string_bytes name) (map string_bytes words.items) big_endian
-change_of config (Script file) big_endian = scripted config (string_bytes file) big_endian
+abbrev pub change_of : Text → Change → ByteOrder → Asked
+change_of config (One name words) order =
+    setting config (string_bytes name) (map string_bytes words.items) order
+change_of config (Script file) order = scripted config (string_bytes file) order
 
 -- what the value asks for, where it is no help text
 abbrev pub meaning_of : Ask → Option Asked
-meaning_of (Print config header names big_endian) =
-    Some (printing (string_bytes config) header (map string_bytes names.items) big_endian)
-meaning_of (Setenv config change big_endian) =
-    Some (change_of (string_bytes config) change big_endian)
-meaning_of (Rehearse config list what big_endian) =
-    Some (rehearsing (string_bytes config) (string_bytes list) (rehearsal_of what) big_endian)
+meaning_of (Print config header names order) =
+    Some (printing (string_bytes config) header (map string_bytes names.items) order)
+meaning_of (Setenv config change order) =
+    Some (change_of (string_bytes config) change order)
+meaning_of (Rehearse config list what order) =
+    Some (rehearsing (string_bytes config) (string_bytes list) (rehearsal_of what) order)
 meaning_of (Help text) = None
 
 -- what the words ask for, by the subcommand that `clap` finds in them and its entries

@@ -9,26 +9,24 @@ use Rattle.std.specs.Option.{option_map_or}
 use Rattle.std.specs.Str.Parse.{digits_value, without_leading_plus}
 use Rattle.clap.specs.Words.{Row, Text, all_of, first_of, one_of}
 use Rattle.clap.specs.ValueTests.{is_numeral}
-
--- how far each run may go
-pub record Bounds : Type 0 where
-  pub devices : ℕ
-  pub steps : ℕ
+use Rattle.envimage.specs.declared.image.ByteOrder.{ByteOrder}
+use Rattle.envimage.specs.declared.image.ByteOrder.TheVariants.{Big, Little}
+use Rattle.rehearse.specs.Bounds.{BoundsShown, bounds_of}
 
 -- what a rehearsal is asked for
 pub record Rehearsal : Type 0 where
   pub variable : Text
-  pub bounds : Bounds
+  pub bounds : BoundsShown
   pub after : Option Text
   pub limit : Option ℕ
   pub names : List Text
 
 -- what a call asks for, or which of the product's own refusals it meets
 pub data Asked : Type 0 where
-  printing : (config : Text) (header : Bool) (names : List Text) (big_endian : Bool) → Asked
-  setting : (config : Text) (name : Text) (words : List Text) (big_endian : Bool) → Asked
-  scripted : (config : Text) (script : Text) (big_endian : Bool) → Asked
-  rehearsing : (config : Text) (device_list : Text) (what : Rehearsal) (big_endian : Bool) → Asked
+  printing : (config : Text) (header : Bool) (names : List Text) (order : ByteOrder) → Asked
+  setting : (config : Text) (name : Text) (words : List Text) (order : ByteOrder) → Asked
+  scripted : (config : Text) (script : Text) (order : ByteOrder) → Asked
+  rehearsing : (config : Text) (device_list : Text) (what : Rehearsal) (order : ByteOrder) → Asked
   needs_name : Asked
   script_and_name : Asked
   header_needs_one : Asked
@@ -69,9 +67,9 @@ number_within least most id rows =
 abbrev pub config_of : List Row → Text
 config_of rows = unwrap_or (first_of (codes "config") rows) (codes "/etc/fw_env.config")
 
--- the CRC of the image is stored big-endian
-abbrev pub is_big_endian : List Row → Bool
-is_big_endian rows = is_set (codes "big-endian") rows
+-- how the CRC of the image is stored
+abbrev pub order_of : List Row → ByteOrder
+order_of rows = if is_set (codes "big-endian") rows then Big else Little
 
 -- ---- the three subcommands
 
@@ -80,15 +78,15 @@ print_asked rows =
     let names = values_of (codes "names") rows in
     let no_header = is_set (codes "no-header") rows in
     if no_header && not (length names == 1) then header_needs_one
-    else printing (config_of rows) (not no_header) names (is_big_endian rows)
+    else printing (config_of rows) (not no_header) names (order_of rows)
 
 -- from the script and the name that were given
 abbrev pub change_asked : Option Text → Option Text → List Row → Asked
 change_asked (Some script) None rows =
-    scripted (config_of rows) script (is_big_endian rows)
+    scripted (config_of rows) script (order_of rows)
 change_asked (Some script) (Some name) rows = script_and_name
 change_asked None (Some name) rows = setting (config_of rows) name
-    (values_of (codes "values") rows) (is_big_endian rows)
+    (values_of (codes "values") rows) (order_of rows)
 change_asked None None rows = needs_name
 
 abbrev pub set_asked : List Row → Asked
@@ -99,15 +97,15 @@ abbrev pub variable_of : List Row → Text
 variable_of rows = unwrap_or (first_of (codes "variable") rows) (codes "bootcmd")
 
 -- 0 to 32 device commands and 0 to 1,000,000 steps; 16 and 10,000 where nothing is said
-abbrev pub bounds_asked : List Row → Option Bounds
+abbrev pub bounds_asked : List Row → Option BoundsShown
 bounds_asked rows =
-    option_and_then (λ devices. option_map (λ steps.
-    record { devices = unwrap_or devices 16; steps = unwrap_or steps 10000 })
+    option_and_then (λ devices. option_and_then (λ steps.
+    bounds_of (unwrap_or devices 16) (unwrap_or steps 10000))
     (number_within 0 1000000 (codes "steps") rows))
     (number_within 0 32 (codes "devices") rows)
 
 -- with a device list, bounds and a limit that can be read
-abbrev pub rehearsal_with : Option Text → Option Bounds → Option (Option ℕ) → List Row
+abbrev pub rehearsal_with : Option Text → Option BoundsShown → Option (Option ℕ) → List Row
     → Option Asked
 rehearsal_with (Some device_list) (Some bounds) (Some limit) rows =
     Some (rehearsing (config_of rows) device_list (record {
@@ -116,7 +114,7 @@ rehearsal_with (Some device_list) (Some bounds) (Some limit) rows =
       after = first_of (codes "after") rows;
       limit = limit;
       names = values_of (codes "names") rows;
-    }) (is_big_endian rows))
+    }) (order_of rows))
 rehearsal_with _ _ _ rows = None
 
 -- the limit is at least 1

@@ -1,7 +1,9 @@
 //! What a call asks for, and why its words are refused.
-ghost use Rattle.std.specs.Prelude.{◌≤◌, ◌<◌};
+ghost use Rattle.std.specs.Prelude.{◌<◌};
 ghost use Rattle.std.specs.Option.{ForSome};
 
+use envimage::ByteOrder;
+use rehearse::Bounds;
 use thiserror::Error;
 
 /// The configuration that is read where a call names none.
@@ -10,28 +12,11 @@ pub const DEFAULT_CONFIG: &str = "/etc/fw_env.config";
 /// The variable that is rehearsed where a call names none.
 pub const DEFAULT_VARIABLE: &str = "bootcmd";
 
-/// The most device commands that a rehearsal may allow in one run.
-pub const MOST_DEVICES: u32 = 32;
-
 /// The device commands that a run may have where a call sets no bound.
 pub const DEFAULT_DEVICES: u32 = 16;
 
-/// The most steps that a rehearsal may allow in one run.
-pub const MOST_STEPS: u32 = 1_000_000;
-
-/// The steps that a run may have where a call sets no bound.
+/// The steps that a run may begin where a call sets no bound.
 pub const DEFAULT_STEPS: u32 = 10_000;
-
-/// How far each run of a rehearsal may go, in device commands and in steps.
-#[derive(Clone, Copy, Debug, PartialEq, Eq)]
-pub struct BoundsAsk {
-    /// The most device commands of one run.
-    pub devices: u32,
-    /// The most steps of one run. A step is one simple command, assignment or `for` that is begun.
-    pub steps: u32,
-    pub ghost devices_within: { devices ≤ 32 },
-    pub ghost steps_within: { steps ≤ 1000000 },
-}
 
 /// What the words of a call ask for.
 #[derive(Debug, Drop)]
@@ -44,8 +29,8 @@ pub enum Ask {
         header: bool,
         /// The variables to print, in this order; none for all.
         names: Vec<String>,
-        /// Whether the image's CRC is stored big-endian.
-        big_endian: bool,
+        /// How the image's CRC is stored.
+        order: ByteOrder,
     },
     /// To set or delete variables.
     Setenv {
@@ -53,8 +38,8 @@ pub enum Ask {
         config: String,
         /// What to change.
         change: Change,
-        /// Whether the image's CRC is stored big-endian.
-        big_endian: bool,
+        /// How the image's CRC is stored.
+        order: ByteOrder,
     },
     /// To list the runs of a boot script.
     Rehearse {
@@ -64,8 +49,8 @@ pub enum Ask {
         devices_file: String,
         /// What to list.
         what: RehearseAsk,
-        /// Whether the image's CRC is stored big-endian.
-        big_endian: bool,
+        /// How the image's CRC is stored.
+        order: ByteOrder,
     },
     /// To read the help, which this text is.
     Help(String),
@@ -86,7 +71,7 @@ pub struct RehearseAsk {
     /// The variable whose text is run.
     pub name: String,
     /// How far each run may go.
-    pub bounds: BoundsAsk,
+    pub bounds: Bounds,
     /// The listing begins after the run of this word, as a listing prints it: `.` is the empty one.
     pub after: Option<String>,
     /// The most records to list.

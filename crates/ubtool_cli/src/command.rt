@@ -4,9 +4,9 @@ ghost use Rattle.clap.specs.Words.{rule_of};
 ghost use Rattle.ubtool_cli.specs.CommandLine.{device_list, long_flag, long_option, many, number_option, one, printenv, rehearse, rehearse_options, setenv, short_flag, short_option, subcommand, ubtool};
 ghost use Rattle.ubtool_cli.specs.Made.{IsMade};
 
-use crate::ask::{MOST_DEVICES, MOST_STEPS};
 use clap::builder::ValueParser;
 use clap::{Arg, ArgAction, Command};
+use rehearse::{DEVICES_MAX, STEPS_MAX};
 use std::alloc::{AllocError, Global};
 
 const UBTOOL_NOTES: &str = "\
@@ -199,10 +199,10 @@ fn rehearse_options<'a>(alloc: Global) -> Result<Command<'a>, AllocError>
     let variable = short_option(alloc, "variable", 'b', "NAME").help(
         "Variable whose text is run [default: bootcmd]",
     );
-    let devices = number_option(alloc, "devices", 0, MOST_DEVICES).help(
+    let devices = number_option(alloc, "devices", 0, DEVICES_MAX).help(
         "At most N device commands a run, 0 to 32 [default: 16]",
     );
-    let steps = number_option(alloc, "steps", 0, MOST_STEPS).help(
+    let steps = number_option(alloc, "steps", 0, STEPS_MAX).help(
         "At most N steps (commands begun) a run, 0 to 1000000 [default: 10000]",
     );
     subcommand(

@@ -6,8 +6,8 @@ mod command;
 mod read;
 
 pub use ask::{
-    Ask, BoundsAsk, Change, DEFAULT_CONFIG, DEFAULT_DEVICES, DEFAULT_STEPS, DEFAULT_VARIABLE,
-    MOST_DEVICES, MOST_STEPS, RehearseAsk, UseError,
+    Ask, Change, DEFAULT_CONFIG, DEFAULT_DEVICES, DEFAULT_STEPS, DEFAULT_VARIABLE, RehearseAsk,
+    UseError,
 };
 pub use read::read_command;
 

@@ -1,17 +1,19 @@
 //! Reading the words.
 ghost use Rattle.std.specs.Prelude.{◌≡◌, ◌≤◌, Some, None, IfOk, IfSome, map, option_map, option_and_then, string_bytes};
 ghost use Rattle.clap.specs.Words.{first_of, found_of, kind_of, rows_of, subcommand_rows_of};
-ghost use Rattle.ubtool_cli.specs.Asked.{asked_of, bounds_asked, config_of, is_big_endian, is_set, number_given, number_within, print_asked, rehearse_asked, set_asked, values_of, variable_of};
+ghost use Rattle.ubtool_cli.specs.Asked.{asked_of, bounds_asked, config_of, is_set, number_given, number_within, order_of, print_asked, rehearse_asked, set_asked, values_of, variable_of};
 ghost use Rattle.ubtool_cli.specs.declared.ask.UseError.TheVariants.{Memory};
-ghost use Rattle.ubtool_cli.specs.Answers.{Answers, bounds_of, IsUnread, Reports, Says};
+ghost use Rattle.ubtool_cli.specs.Answers.{Answers, IsUnread, Reports, Says};
 
 use crate::ask::{
-    Ask, BoundsAsk, Change, DEFAULT_CONFIG, DEFAULT_DEVICES, DEFAULT_STEPS, DEFAULT_VARIABLE,
-    MOST_DEVICES, MOST_STEPS, RehearseAsk, UseError,
+    Ask, Change, DEFAULT_CONFIG, DEFAULT_DEVICES, DEFAULT_STEPS, DEFAULT_VARIABLE, RehearseAsk,
+    UseError,
 };
 use crate::command::ubtool;
 use clap::ArgMatches;
 use clap::error::ErrorKind;
+use envimage::ByteOrder;
+use rehearse::{Bounds, DEVICES_MAX, STEPS_MAX};
 use std::alloc::{AllocError, Global};
 use std::convert::AsStr;
 
@@ -87,11 +89,15 @@ fn config_of(alloc: Global, matches: &ArgMatches<'_>) -> Result<String, AllocErr
     }
 }
 
-/// Whether the CRC of the image is stored big-endian.
-fn is_big_endian(matches: &ArgMatches<'_>) -> bool
-    ensures { result ≡ is_big_endian (rows_of (found_of matches.now)) }
+/// How the CRC of the image is stored.
+fn order_of(matches: &ArgMatches<'_>) -> ByteOrder
+    ensures { result ≡ order_of (rows_of (found_of matches.now)) }
 {
-    is_set(matches, "big-endian")
+    if is_set(matches, "big-endian") {
+        ByteOrder::Big
+    } else {
+        ByteOrder::Little
+    }
 }
 
 // ---- the three subcommands
@@ -108,7 +114,7 @@ fn print_ask(alloc: Global, matches: &ArgMatches<'_>) -> Result<Ask, UseError>
         config: config_of(alloc, matches)?,
         header: !no_header,
         names,
-        big_endian: is_big_endian(matches),
+        order: order_of(matches),
     })
 }
 
@@ -129,7 +135,7 @@ fn set_ask(alloc: Global, matches: &ArgMatches<'_>) -> Result<Ask, UseError>
     Ok(Ask::Setenv {
         config: config_of(alloc, matches)?,
         change,
-        big_endian: is_big_endian(matches),
+        order: order_of(matches),
     })
 }
 
@@ -154,15 +160,15 @@ fn variable_of(alloc: Global, matches: &ArgMatches<'_>) -> Result<String, AllocE
 }
 
 /// The two bounds; nothing where one is out of its range.
-fn bounds_of(matches: &ArgMatches<'_>) -> Option<BoundsAsk>
-    ensures { option_map bounds_of result ≡ bounds_asked (rows_of (found_of matches.now)) }
+fn bounds_of(matches: &ArgMatches<'_>) -> Option<Bounds>
+    ensures { result ≡ bounds_asked (rows_of (found_of matches.now)) }
 {
-    let devices = number_within(matches, "devices", 0, MOST_DEVICES)?;
-    let steps = number_within(matches, "steps", 0, MOST_STEPS)?;
-    Some(BoundsAsk {
-        devices: devices.unwrap_or(DEFAULT_DEVICES),
-        steps: steps.unwrap_or(DEFAULT_STEPS),
-    })
+    let devices = number_within(matches, "devices", 0, DEVICES_MAX)?;
+    let steps = number_within(matches, "steps", 0, STEPS_MAX)?;
+    Bounds::new(
+        devices.unwrap_or(DEFAULT_DEVICES),
+        steps.unwrap_or(DEFAULT_STEPS),
+    )
 }
 
 fn rehearse_ask(alloc: Global, matches: &ArgMatches<'_>) -> Result<Ask, UseError>
@@ -184,7 +190,7 @@ fn rehearse_ask(alloc: Global, matches: &ArgMatches<'_>) -> Result<Ask, UseError
             limit,
             names: texts_of(alloc, matches, "names")?,
         },
-        big_endian: is_big_endian(matches),
+        order: order_of(matches),
     })
 }
 

@@ -1,5 +1,6 @@
 //! What no clause says: that a call succeeds, and the texts.
 use crate::{Ask, read_command};
+use envimage::ByteOrder;
 use std::alloc::AllocError;
 use std::test::Fail;
 
@@ -24,7 +25,7 @@ fn reads_a_rehearsal(rt: HostRuntime) -> Result<(), Fail> {
         config,
         devices_file,
         what,
-        big_endian,
+        order,
     } = read_command(rt.alloc(), words.as_slice())?
     else {
         return Err(Fail::from("no rehearsal"));
@@ -32,13 +33,13 @@ fn reads_a_rehearsal(rt: HostRuntime) -> Result<(), Fail> {
     assert_eq!(rt; config.as_str(), "/etc/fw_env.config");
     assert_eq!(rt; devices_file.as_str(), "d.txt");
     assert_eq!(rt; what.name.as_str(), "bootcmd");
-    assert_eq!(rt; what.bounds.devices, 16);
-    assert_eq!(rt; what.bounds.steps, 10_000);
+    assert_eq!(rt; what.bounds.devices(), 16);
+    assert_eq!(rt; what.bounds.steps(), 10_000);
     assert!(rt; what.after.is_none());
     assert_eq!(rt; what.limit, Some(1));
     assert_eq!(rt; what.names.len(), 1);
     assert_eq!(rt; what.names[0].as_str(), "z");
-    assert!(rt; !big_endian);
+    assert_eq!(rt; order, ByteOrder::Little);
     Ok(())
 }
 
@@ -47,31 +48,31 @@ fn reads_each_subcommand(rt: HostRuntime) -> Result<(), Fail> {
     let table = [
         (
             "printenv",
-            "Print { config: \"/etc/fw_env.config\", header: true, names: [], big_endian: false }",
+            "Print { config: \"/etc/fw_env.config\", header: true, names: [], order: Little }",
         ),
         (
             "printenv -- -x",
-            "Print { config: \"/etc/fw_env.config\", header: true, names: [\"-x\"], big_endian: false }",
+            "Print { config: \"/etc/fw_env.config\", header: true, names: [\"-x\"], order: Little }",
         ),
         (
             "printenv -c - -n --big-endian b",
-            "Print { config: \"-\", header: false, names: [\"b\"], big_endian: true }",
+            "Print { config: \"-\", header: false, names: [\"b\"], order: Big }",
         ),
         (
             "setenv a 1 2",
-            "Setenv { config: \"/etc/fw_env.config\", change: One { name: \"a\", words: [\"1\", \"2\"] }, big_endian: false }",
+            "Setenv { config: \"/etc/fw_env.config\", change: One { name: \"a\", words: [\"1\", \"2\"] }, order: Little }",
         ),
         (
             "setenv a --big-endian -- -1",
-            "Setenv { config: \"/etc/fw_env.config\", change: One { name: \"a\", words: [\"-1\"] }, big_endian: true }",
+            "Setenv { config: \"/etc/fw_env.config\", change: One { name: \"a\", words: [\"-1\"] }, order: Big }",
         ),
         (
             "setenv -s f -c g",
-            "Setenv { config: \"g\", change: Script(\"f\"), big_endian: false }",
+            "Setenv { config: \"g\", change: Script(\"f\"), order: Little }",
         ),
         (
             "rehearse -d d -b q --devices 32 --steps 0 --after . --limit 4294967295 --big-endian",
-            "Rehearse { config: \"/etc/fw_env.config\", devices_file: \"d\", what: RehearseAsk { name: \"q\", bounds: BoundsAsk { devices: 32, steps: 0 }, after: Some(\".\"), limit: Some(4294967295), names: [] }, big_endian: true }",
+            "Rehearse { config: \"/etc/fw_env.config\", devices_file: \"d\", what: RehearseAsk { name: \"q\", bounds: Bounds { devices: 32, steps: 0 }, after: Some(\".\"), limit: Some(4294967295), names: [] }, order: Big }",
         ),
     ];
     for (line, wanted) in table {
