@@ -5,8 +5,10 @@ use Rattle.std.proofs.lemmas.List.{length-map}
 use Rattle.std.specs.Prelude.{option_and_then, if◌then◌else◌, ◌&&◌, codes, string_bytes}
 use Rattle.std.specs.Str.{bytes_eq}
 use Rattle.clap.specs.Words.{Row, Text, first_of, subcommand_of}
+use Rattle.envimage.specs.declared.image.ByteOrder.{ByteOrder}
+use Rattle.rehearse.specs.Bounds.{BoundsShown}
 use Rattle.ubtool_cli.specs.Answers.{Answers, asked, meaning_of}
-use Rattle.ubtool_cli.specs.Asked.{Asked, Bounds, asked_of, bounds_asked, change_asked, config_of, is_big_endian, header_needs_one, is_set, number_within, print_asked, printing, rehearsal_with, rehearse_asked, set_asked, values_of}
+use Rattle.ubtool_cli.specs.Asked.{Asked, asked_of, bounds_asked, change_asked, config_of, header_needs_one, is_set, number_within, order_of, print_asked, printing, rehearsal_with, rehearse_asked, set_asked, values_of}
 use Rattle.ubtool_cli.specs.CommandLine.{ubtool}
 use Rattle.ubtool_cli.specs.declared.ask.Ask.{Ask}
 use Rattle.ubtool_cli.specs.declared.ask.Ask.TheVariants.{Help, Print, Rehearse, Setenv}
@@ -14,18 +16,18 @@ use Rattle.ubtool_run.specs.Asking.{IsComplete}
 
 -- a value without its name is asked for of one name
 abbrev IsFit : Option Asked → Type 0
-IsFit (Some (printing config header names big_endian)) = header ≡ false → length names ≡ 1
+IsFit (Some (printing config header names order)) = header ≡ false → length names ≡ 1
 IsFit asked = Unit {0}
 
 either : (b : Bool) (x y : Option Asked) → IsFit x → IsFit y → IsFit (if b then x else y)
 either true x y first second = first
 either false x y first second = second
 
-print-fit : (no_header one : Bool) (config : Text) (names : List Text) (big_endian : Bool) → (length names == 1) ≡ one
-    → IsFit (Some (if no_header && not one then header_needs_one else printing config (not no_header) names big_endian))
-print-fit true true config names big_endian e = λ h. eqb-true (length names) 1 e
-print-fit true false config names big_endian e = tt
-print-fit false one config names big_endian e = λ h. let none : ⊥ = cc in absurd none
+print-fit : (no_header one : Bool) (config : Text) (names : List Text) (order : ByteOrder) → (length names == 1) ≡ one
+    → IsFit (Some (if no_header && not one then header_needs_one else printing config (not no_header) names order))
+print-fit true true config names order e = λ h. eqb-true (length names) 1 e
+print-fit true false config names order e = tt
+print-fit false one config names order e = λ h. let none : ⊥ = cc in absurd none
 
 set-fit : (script name : Option Text) (rows : List Row) → IsFit (Some (change_asked script name rows))
 set-fit (Some script) None rows = tt
@@ -33,7 +35,7 @@ set-fit (Some script) (Some name) rows = tt
 set-fit None (Some name) rows = tt
 set-fit None None rows = tt
 
-rehearse-fit : (list : Option Text) (bounds : Option Bounds) (limit : Option (Option ℕ)) (rows : List Row) → IsFit (rehearsal_with list bounds limit rows)
+rehearse-fit : (list : Option Text) (bounds : Option BoundsShown) (limit : Option (Option ℕ)) (rows : List Row) → IsFit (rehearsal_with list bounds limit rows)
 rehearse-fit (Some list) (Some bounds) (Some limit) rows = tt
 rehearse-fit None bounds limit rows = tt
 rehearse-fit (Some list) None limit rows = tt
@@ -45,7 +47,7 @@ asked-fit words = by (subcommand_of ubtool words)
     of : (name : Text) (rows : List Row) → IsFit (asked_of name rows)
     of name rows =
         let names = values_of (codes "names") rows in
-        let printed = print-fit (is_set (codes "no-header") rows) (length names == 1) (config_of rows) names (is_big_endian rows) refl in
+        let printed = print-fit (is_set (codes "no-header") rows) (length names == 1) (config_of rows) names (order_of rows) refl in
         let set = set-fit (first_of (codes "script") rows) (first_of (codes "name") rows) rows in
         let rehearsed = rehearse-fit (first_of (codes "device-list") rows) (bounds_asked rows) (number_within 1 4294967295 (codes "limit") rows) rows in
         let last = either (bytes_eq name (codes "rehearse")) (rehearse_asked rows) None rehearsed tt in
@@ -59,9 +61,9 @@ asked-fit words = by (subcommand_of ubtool words)
 
 -- what was asked for is complete
 pub answer-complete : (words : List Text) (ask : Ask) → Answers words (Ok ask) → IsComplete ask
-answer-complete words (Print config header names big_endian) h =
-    let fit : IsFit (meaning_of (Print config header names big_endian)) = subst IsFit (sym h.1) (asked-fit words) in
+answer-complete words (Print config header names order) h =
+    let fit : IsFit (meaning_of (Print config header names order)) = subst IsFit (sym h.1) (asked-fit words) in
     λ none. sym (length-map names.items string_bytes) ∙ fit none
-answer-complete words (Setenv config change big_endian) h = tt
-answer-complete words (Rehearse config list what big_endian) h = tt
+answer-complete words (Setenv config change order) h = tt
+answer-complete words (Rehearse config list what order) h = tt
 answer-complete words (Help text) h = tt

@@ -4,7 +4,7 @@ use Rattle.std.specs.Prelude.{Result, option_map}
 use Rattle.envimage.specs.declared.image.ByteOrder.{ByteOrder}
 use Rattle.ubtool_core.specs.Printing.{Outputs}
 use Rattle.ubtool_core.specs.Told.{Told}
-use Rattle.ubtool_core.specs.declared.error.ToolError.TheVariants.{Image, Env, Script, Write, Memory}
+use Rattle.ubtool_core.specs.declared.error.ToolError.TheVariants.{Image, Env, Script, Devices, NoSuchVariable, NotARun, Write, Memory}
 use Rattle.ubtool_core.specs.declared.fault.Fault.{Fault}
 use Rattle.ubtool_core.specs.declared.fault.Fault.TheVariants as fault
 use Rattle.ubtool_run.proofs.ReadingLemmas.{found-reads}
@@ -25,7 +25,6 @@ prints-unread order config names header outputs old new (fault.FileTooLong path)
 prints-unread order config names header outputs old new fault.CannotReadInput h = h
 prints-unread order config names header outputs old new (fault.NoSuchVariable name) h = h
 prints-unread order config names header outputs old new (fault.NotARun word) h = h
-prints-unread order config names header outputs old new fault.NotBuilt h = h
 prints-unread order config names header outputs old new fault.Memory h = h
 
 -- what reading and then printing did
@@ -37,6 +36,9 @@ prints-read order config names header outputs old new found (Err (fault.Tool Wri
 prints-read order config names header outputs old new found (Err (fault.Tool Memory)) read h = found-reads config old new found read
 prints-read order config names header outputs old new found (Err (fault.Tool (Env error))) read h = absurd h
 prints-read order config names header outputs old new found (Err (fault.Tool (Script error))) read h = absurd h
+prints-read order config names header outputs old new found (Err (fault.Tool (Devices error))) read h = absurd h
+prints-read order config names header outputs old new found (Err (fault.Tool NoSuchVariable)) read h = absurd h
+prints-read order config names header outputs old new found (Err (fault.Tool NotARun)) read h = absurd h
 prints-read order config names header outputs old new found (Err (fault.Config error)) read h = absurd h
 prints-read order config names header outputs old new found (Err (fault.CannotRead path)) read h = absurd h
 prints-read order config names header outputs old new found (Err (fault.CannotWrite path)) read h = absurd h
@@ -45,7 +47,6 @@ prints-read order config names header outputs old new found (Err (fault.FileTooL
 prints-read order config names header outputs old new found (Err fault.CannotReadInput) read h = absurd h
 prints-read order config names header outputs old new found (Err (fault.NoSuchVariable name)) read h = absurd h
 prints-read order config names header outputs old new found (Err (fault.NotARun word)) read h = absurd h
-prints-read order config names header outputs old new found (Err fault.NotBuilt) read h = absurd h
 prints-read order config names header outputs old new found (Err fault.Memory) read h = absurd h
 
 -- the bytes of the images that were read

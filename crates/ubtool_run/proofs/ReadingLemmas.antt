@@ -121,7 +121,6 @@ images-unread config old new (fault.FileTooLong path) h = h
 images-unread config old new fault.CannotReadInput h = absurd h.1
 images-unread config old new (fault.NoSuchVariable name) h = absurd h.1
 images-unread config old new (fault.NotARun word) h = absurd h.1
-images-unread config old new fault.NotBuilt h = absurd h.1
 images-unread config old new fault.Memory h = h
 
 -- of what the configuration says
@@ -136,7 +135,6 @@ images-unnamed config text old new (fault.FileTooLong path) read h = absurd h
 images-unnamed config text old new fault.CannotReadInput read h = absurd h
 images-unnamed config text old new (fault.NoSuchVariable name) read h = absurd h
 images-unnamed config text old new (fault.NotARun word) read h = absurd h
-images-unnamed config text old new fault.NotBuilt read h = absurd h
 images-unnamed config text old new fault.Memory read h = absurd h
 
 -- of a copy, behind other reads; `named` are the places, of which this is one
@@ -153,7 +151,6 @@ copy-unread config text place named a b c (fault.FileTooLong path) reads there i
 copy-unread config text place named a b c fault.CannotReadInput reads there is among h = absurd h.1
 copy-unread config text place named a b c (fault.NoSuchVariable name) reads there is among h = absurd h.1
 copy-unread config text place named a b c (fault.NotARun word) reads there is among h = absurd h.1
-copy-unread config text place named a b c fault.NotBuilt reads there is among h = absurd h.1
 copy-unread config text place named a b c fault.Memory reads there is among h = (OnlyReads-then a b c reads h.0, tt)
 
 pub first-unread : (config text : List ℕ) (p : Place) (q : Option Place) (a b c : Told) (f : Fault) → Reads (config, ReadAll) (file_at config a.stored) a b text

@@ -1,48 +1,146 @@
--- What a rehearsal reads.
-use Rattle.std.proofs.Common.{ℕ, List, Err, inl, inr, subst}
+-- Rehearsing what was read.
+use Rattle.std.proofs.Common.{◌≡◌, ◌∙◌, ℕ, true, refl, sym, ap, subst, List, map, IfOk, IfErr, Option, Some, None, Ok, Err, inl, inr, ◌⊎◌}
+use Rattle.std.specs.Prelude.{Result, Vec, option_map, string_bytes, String}
+use Rattle.std.specs.declared.alloc.Global.{Global}
+use Rattle.envimage.specs.Sink.{Sink}
+use Rattle.envimage.specs.declared.image.ByteOrder.{ByteOrder}
+use Rattle.rehearse.specs.Bounds.{BoundsShown}
+use Rattle.rehearse_runs.specs.declared.listing.Finish.{Finish}
+use Rattle.ubtool_cli.specs.declared.ask.RehearseAsk.{RehearseAsk}
 use Rattle.ubtool_core.proofs.OrderLemmas.{OnlyReads-then}
+use Rattle.ubtool_core.specs.FileFaults.{path_form}
+use Rattle.ubtool_core.specs.Given.{Given}
+use Rattle.ubtool_core.specs.Headline.{Rehearses}
+use Rattle.ubtool_core.specs.Order.{OnlyReads}
+use Rattle.ubtool_core.specs.Refusing.{Refuses}
 use Rattle.ubtool_core.specs.Told.{Stored, Told, file_at}
+use Rattle.ubtool_core.specs.declared.error.ToolError.{ToolError}
+use Rattle.ubtool_core.specs.declared.error.ToolError.TheVariants as tool
 use Rattle.ubtool_core.specs.declared.fault.Fault.{Fault}
 use Rattle.ubtool_core.specs.declared.fault.Fault.TheVariants as fault
 use Rattle.ubtool_run.proofs.ReadingLemmas.{found-reads}
-use Rattle.ubtool_run.specs.Asking.{Rehearses}
-use Rattle.ubtool_run.specs.Images.{Copy, HasRead, ReadsImages}
+use Rattle.ubtool_run.proofs.PrintLemmas.{image-bytes}
+use Rattle.ubtool_run.specs.Images.{Copy, HasRead, IsImagesFault, ReadsImages, copies}
+use Rattle.ubtool_run.specs.Printing.{first_bytes}
+use Rattle.ubtool_run.specs.declared.images.Images.{Images}
+use Rattle.ubtool_run.specs.declared.read.StoredCopy.{StoredCopy}
 use Rattle.ubtool_run.specs.Reading.{IsTextFault, ReadsText}
+use Rattle.ubtool_run.specs.Rehearsing.{FromFiles, IsUnlisted, LeavesOutput, RehearsesCopies, RehearsesFrom, no_run_of, refusal_of, rehearsal_of}
 
--- images that were refused
-pub rehearses-unread : (config list : List ℕ) (old new : Told) (f : Fault) → ReadsImages config old new (Err f) → Rehearses config list old new f
-rehearses-unread config list old new (fault.Config error) h = (h.0, inl h.1)
-rehearses-unread config list old new (fault.Tool error) h = (h.0, inl h.1)
-rehearses-unread config list old new (fault.CannotRead path) h = (h.0, inl h.1)
-rehearses-unread config list old new (fault.CannotWrite path) h = (h.0, inl h.1)
-rehearses-unread config list old new (fault.FileShort path) h = (h.0, inl h.1)
-rehearses-unread config list old new (fault.FileTooLong path) h = (h.0, inl h.1)
-rehearses-unread config list old new fault.CannotReadInput h = (h.0, inl h.1)
-rehearses-unread config list old new (fault.NoSuchVariable name) h = (h.0, inl h.1)
-rehearses-unread config list old new (fault.NotARun word) h = (h.0, inl h.1)
-rehearses-unread config list old new fault.NotBuilt h = absurd h.1
-rehearses-unread config list old new fault.Memory h = (h.0, inl h.1)
+abbrev pub given_by : ByteOrder → (first : List ℕ) → (second : Option (List ℕ)) → (list variable : List ℕ) → BoundsShown → (after : Option (List ℕ)) → (limit : Option ℕ) → (names : List (List ℕ)) → Given
+given_by order first second list variable bounds after limit names =
+    record { order = order; first = first; second = second; device_list = list; variable = variable; bounds = bounds; after = after; limit = limit; names = names }
 
--- a device list that was refused
-pub rehearses-unlisted : (config list : List ℕ) (found : List Copy) (x y z : Told) (f : Fault) → HasRead config x y found → ReadsText list y z (Err f) → Rehearses config list x z f
-rehearses-unlisted config list found x y z (fault.Config error) read h =
-    (OnlyReads-then x y z (found-reads config x y found read) h.0, inr (subst (λ (s : Stored). IsTextFault (file_at list s) (fault.Config error)) read.stored h.1))
-rehearses-unlisted config list found x y z (fault.Tool error) read h =
-    (OnlyReads-then x y z (found-reads config x y found read) h.0, inr (subst (λ (s : Stored). IsTextFault (file_at list s) (fault.Tool error)) read.stored h.1))
-rehearses-unlisted config list found x y z (fault.CannotRead path) read h =
-    (OnlyReads-then x y z (found-reads config x y found read) h.0, inr (subst (λ (s : Stored). IsTextFault (file_at list s) (fault.CannotRead path)) read.stored h.1))
-rehearses-unlisted config list found x y z (fault.CannotWrite path) read h =
-    (OnlyReads-then x y z (found-reads config x y found read) h.0, inr (subst (λ (s : Stored). IsTextFault (file_at list s) (fault.CannotWrite path)) read.stored h.1))
-rehearses-unlisted config list found x y z (fault.FileShort path) read h =
-    (OnlyReads-then x y z (found-reads config x y found read) h.0, inr (subst (λ (s : Stored). IsTextFault (file_at list s) (fault.FileShort path)) read.stored h.1))
-rehearses-unlisted config list found x y z (fault.FileTooLong path) read h =
-    (OnlyReads-then x y z (found-reads config x y found read) h.0, inr (subst (λ (s : Stored). IsTextFault (file_at list s) (fault.FileTooLong path)) read.stored h.1))
-rehearses-unlisted config list found x y z fault.CannotReadInput read h =
-    (OnlyReads-then x y z (found-reads config x y found read) h.0, inr (subst (λ (s : Stored). IsTextFault (file_at list s) fault.CannotReadInput) read.stored h.1))
-rehearses-unlisted config list found x y z (fault.NoSuchVariable name) read h =
-    (OnlyReads-then x y z (found-reads config x y found read) h.0, inr (subst (λ (s : Stored). IsTextFault (file_at list s) (fault.NoSuchVariable name)) read.stored h.1))
-rehearses-unlisted config list found x y z (fault.NotARun word) read h =
-    (OnlyReads-then x y z (found-reads config x y found read) h.0, inr (subst (λ (s : Stored). IsTextFault (file_at list s) (fault.NotARun word)) read.stored h.1))
-rehearses-unlisted config list found x y z fault.NotBuilt read h = absurd h.1
-rehearses-unlisted config list found x y z fault.Memory read h =
-    (OnlyReads-then x y z (found-reads config x y found read) h.0, inr (subst (λ (s : Stored). IsTextFault (file_at list s) fault.Memory) read.stored h.1))
+-- ---- reads that were refused
+
+-- why reading is refused
+abbrev IsRefusedRead : (config list : List ℕ) (old new : Told) → Fault → Type 0
+IsRefusedRead config list old new f = OnlyReads old new × (IsImagesFault config old.stored f ⊎ IsUnlisted config list old f)
+
+-- no such refusal comes of a rehearsal
+refused-read : (order : ByteOrder) (config list : List ℕ) (what : RehearseAsk) (out out' : Sink) (old new : Told) (f : Fault) → IsRefusedRead config list old new f
+    → RehearsesFrom order config list what out out' old new (Err f)
+refused-read order config list what out out' old new (fault.Config error) h = h
+refused-read order config list what out out' old new (fault.Tool error) (reads, inl h) = absurd h
+refused-read order config list what out out' old new (fault.Tool error) (reads, inr h) = absurd h.refused
+refused-read order config list what out out' old new (fault.CannotRead path) h = h
+refused-read order config list what out out' old new (fault.CannotWrite path) h = h
+refused-read order config list what out out' old new (fault.FileShort path) h = h
+refused-read order config list what out out' old new (fault.FileTooLong path) h = h
+refused-read order config list what out out' old new fault.CannotReadInput h = h
+refused-read order config list what out out' old new (fault.NoSuchVariable name) (reads, inl h) = absurd h
+refused-read order config list what out out' old new (fault.NoSuchVariable name) (reads, inr h) = absurd h.refused
+refused-read order config list what out out' old new (fault.NotARun word) (reads, inl h) = absurd h
+refused-read order config list what out out' old new (fault.NotARun word) (reads, inr h) = absurd h.refused
+refused-read order config list what out out' old new fault.Memory h = h
+
+-- of the images
+pub rehearses-unread : (order : ByteOrder) (config list : List ℕ) (what : RehearseAsk) (out out' : Sink) (old new : Told) (f : Fault) → ReadsImages config old new (Err f)
+    → RehearsesFrom order config list what out out' old new (Err f)
+rehearses-unread order config list what out out' old new f h = refused-read order config list what out out' old new f (h.0, inl h.1)
+
+-- of the device list
+pub rehearses-unlisted : (order : ByteOrder) (config list : List ℕ) (what : RehearseAsk) (out out' : Sink) (found : List Copy) (x y z : Told) (f : Fault) → HasRead config x y found
+    → ReadsText list y z (Err f) → RehearsesFrom order config list what out out' x z (Err f)
+rehearses-unlisted order config list what out out' found x y z f read h =
+    let refused : IsTextFault (file_at list x.stored) f = subst (λ (s : Stored). IsTextFault (file_at list s) f) read.stored h.1 in
+    refused-read order config list what out out' x z f (OnlyReads-then x y z (found-reads config x y found read) h.0, inr (record { found = found; after_images = y; read = read; refused = refused }))
+
+-- ---- the rehearsal of what was read
+
+from-files : (order : ByteOrder) (config list : List ℕ) (what : RehearseAsk) (found : List Copy) (text : Vec ℕ Global) (x y z : Told) (IsSo : Given → Type 0) → HasRead config x y found
+    → ReadsText list y z (Ok text) → IsSo (rehearsal_of order found text.items what) → FromFiles order config list what x z IsSo
+from-files order config list what found text x y z IsSo read listed so = record { found = found; after_images = y; read = read; text = text.items; listed = listed; so = so }
+
+pub rehearses-found : (order : ByteOrder) (config list : List ℕ) (what : RehearseAsk) (out out' : Sink) (found : List Copy) (text : Vec ℕ Global) (x y z : Told) (finish : Finish) → HasRead config x y found
+    → ReadsText list y z (Ok text) → RehearsesCopies (rehearsal_of order found text.items what) out out' (Ok finish) → RehearsesFrom order config list what out out' x z (Ok true)
+rehearses-found order config list what out out' found text x y z finish read listed h = (refl, from-files order config list what found text x y z _ read listed (finish, h))
+
+no-run : (order : ByteOrder) (config list : List ℕ) (what : RehearseAsk) (out out' : Sink) (x z : Told) (after : Option (String Global)) → what.after ≡ after
+    → FromFiles order config list what x z (λ g. Refuses g out out' tool.NotARun) → RehearsesFrom order config list what out out' x z (Err (no_run_of after))
+no-run order config list what out out' x z None is h = h
+no-run order config list what out out' x z (Some word) is h = (ap (option_map path_form) (sym is), h)
+
+pub rehearses-refused : (order : ByteOrder) (config list : List ℕ) (what : RehearseAsk) (out out' : Sink) (found : List Copy) (text : Vec ℕ Global) (x y z : Told) (error : ToolError) → HasRead config x y found
+    → ReadsText list y z (Ok text) → RehearsesCopies (rehearsal_of order found text.items what) out out' (Err error) → RehearsesFrom order config list what out out' x z (Err (refusal_of what error))
+rehearses-refused order config list what out out' found text x y z (tool.Image error) read listed h = from-files order config list what found text x y z _ read listed h
+rehearses-refused order config list what out out' found text x y z (tool.Env error) read listed h = absurd h
+rehearses-refused order config list what out out' found text x y z (tool.Script error) read listed h = absurd h
+rehearses-refused order config list what out out' found text x y z (tool.Devices error) read listed h = from-files order config list what found text x y z _ read listed h
+rehearses-refused order config list what out out' found text x y z tool.NoSuchVariable read listed h = (refl, from-files order config list what found text x y z _ read listed h)
+rehearses-refused order config list what out out' found text x y z tool.NotARun read listed h =
+    no-run order config list what out out' x z what.after refl (from-files order config list what found text x y z _ read listed h)
+rehearses-refused order config list what out out' found text x y z tool.Write read listed h = from-files order config list what found text x y z _ read listed h
+rehearses-refused order config list what out out' found text x y z tool.Memory read listed h = from-files order config list what found text x y z _ read listed h
+
+-- ---- what the rehearsal of copies is given
+
+made : (order : ByteOrder) (first first' : List ℕ) (second second' : Option (List ℕ)) (list variable variable' : List ℕ) (bounds : BoundsShown) (after after' : Option (List ℕ)) (limit : Option ℕ) (names names' : List (List ℕ))
+    → first ≡ first' → second ≡ second' → variable ≡ variable' → after ≡ after' → names ≡ names'
+    → given_by order first second list variable bounds after limit names ≡ given_by order first' second' list variable' bounds after' limit names'
+made order first first' second second' list variable variable' bounds after after' limit names names' e f v a n = rw (e, f, v, a, n) refl
+
+first-bytes : (images : Images) → images.first.bytes.items ≡ first_bytes (copies images)
+first-bytes images = by images.first images.second
+  where
+    by : (x : StoredCopy) (y : Option StoredCopy) → x.bytes.items ≡ first_bytes (copies (record { first = x; second = y }))
+    by x None = refl
+    by x (Some y) = refl
+
+pub given-copies : (order : ByteOrder) (images : Images) (list : List ℕ) (what : RehearseAsk) (first : List ℕ) (second : Option (List ℕ)) (variable : List ℕ) (after : Option (List ℕ)) (names : List (List ℕ))
+    → first ≡ images.first.bytes.items → second ≡ option_map (λ copy. copy.bytes.items) images.second → variable ≡ string_bytes what.name → after ≡ option_map string_bytes what.after
+    → names ≡ map string_bytes what.names.items → given_by order first second list variable what.bounds after what.limit names ≡ rehearsal_of order (copies images) list what
+given-copies order images list what first second variable after names e f v a n =
+    made order _ _ _ _ list _ _ what.bounds _ _ what.limit _ _ (e ∙ first-bytes images) (f ∙ sym (image-bytes images)) v a n
+
+pub copies-rehearsed : (g : Given) (out out' : Sink) (r : Result Finish ToolError) → IfOk r (λ finish. Rehearses g out out' finish) → IfErr r (λ e. Refuses g out out' e) → RehearsesCopies g out out' r
+copies-rehearsed g out out' (Ok finish) ok err = ok
+copies-rehearsed g out out' (Err (tool.Image error)) ok err = err
+copies-rehearsed g out out' (Err (tool.Env error)) ok err = err
+copies-rehearsed g out out' (Err (tool.Script error)) ok err = err
+copies-rehearsed g out out' (Err (tool.Devices error)) ok err = err
+copies-rehearsed g out out' (Err tool.NoSuchVariable) ok err = err
+copies-rehearsed g out out' (Err tool.NotARun) ok err = err
+copies-rehearsed g out out' (Err tool.Write) ok err = err
+copies-rehearsed g out out' (Err tool.Memory) ok (inl same) = inl same.1
+copies-rehearsed g out out' (Err tool.Memory) ok (inr h) = inr h
+
+-- ---- the output, over any files
+
+pub leaves-found : (g : Given) (out out' : Sink) (finish : Finish) → RehearsesCopies g out out' (Ok finish) → LeavesOutput (Ok true) out out'
+leaves-found g out out' finish h = h.wrote.sound
+
+leaves-no-run : (out out' : Sink) (after : Option (String Global)) → out' ≡ out → LeavesOutput (Err (no_run_of after)) out out'
+leaves-no-run out out' None same = same
+leaves-no-run out out' (Some word) same = same
+
+pub leaves-refused : (g : Given) (what : RehearseAsk) (out out' : Sink) (error : ToolError) → RehearsesCopies g out out' (Err error) → LeavesOutput (Err (refusal_of what error)) out out'
+leaves-refused g what out out' (tool.Image error) h = h.1
+leaves-refused g what out out' (tool.Env error) h = absurd h
+leaves-refused g what out out' (tool.Script error) h = absurd h
+leaves-refused g what out out' (tool.Devices error) h = h.2
+leaves-refused g what out out' tool.NoSuchVariable h = h.1
+leaves-refused g what out out' tool.NotARun h = leaves-no-run out out' what.after h.1
+leaves-refused g what out out' tool.Write h = h.broke.failed
+leaves-refused g what out out' tool.Memory (inl same) = ap (λ (s : Sink). s.failures) same
+leaves-refused g what out out' tool.Memory (inr h) = h.wrote.sound

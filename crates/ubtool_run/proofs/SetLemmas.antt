@@ -49,7 +49,6 @@ sets-unread order config change old new (fault.FileTooLong path) h = (h.0, inl h
 sets-unread order config change old new fault.CannotReadInput h = (h.0, inl h.1)
 sets-unread order config change old new (fault.NoSuchVariable name) h = (h.0, inl h.1)
 sets-unread order config change old new (fault.NotARun word) h = (h.0, inl h.1)
-sets-unread order config change old new fault.NotBuilt h = (h.0, inl h.1)
 sets-unread order config change old new fault.Memory h = (h.0, tt)
 
 -- a change that was refused
@@ -64,7 +63,6 @@ sets-refused order config change found x y z (fault.FileTooLong path) read h = l
 sets-refused order config change found x y z fault.CannotReadInput read h = let c = refused-change order config change found x y z fault.CannotReadInput read h in (c.0, inr c.1)
 sets-refused order config change found x y z (fault.NoSuchVariable name) read h = let c = refused-change order config change found x y z (fault.NoSuchVariable name) read h in (c.0, inr c.1)
 sets-refused order config change found x y z (fault.NotARun word) read h = let c = refused-change order config change found x y z (fault.NotARun word) read h in (c.0, inr c.1)
-sets-refused order config change found x y z fault.NotBuilt read h = let c = refused-change order config change found x y z fault.NotBuilt read h in (c.0, inr c.1)
 sets-refused order config change found x y z fault.Memory read h = (OnlyReads-then x y z (found-reads config x y found read) h.0, tt)
 
 -- a change that was made, and the write of the copy
@@ -84,4 +82,3 @@ sets-written order config change found which bytes x y z w (Err (fault.FileTooLo
 sets-written order config change found which bytes x y z w (Err fault.CannotReadInput) read made h = absurd h
 sets-written order config change found which bytes x y z w (Err (fault.NoSuchVariable name)) read made h = absurd h
 sets-written order config change found which bytes x y z w (Err (fault.NotARun word)) read made h = absurd h
-sets-written order config change found which bytes x y z w (Err fault.NotBuilt) read made h = absurd h

@@ -5,3 +5,4 @@ pub mod Printing
 pub mod Reading
 pub mod Running
 pub mod Setting
+pub mod Rehearsing

@@ -5,6 +5,7 @@ mod images;
 mod perform;
 mod print;
 mod read;
+mod rehearsing;
 mod set;
 mod tool;
 

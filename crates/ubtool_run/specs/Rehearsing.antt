@@ -1,0 +1,94 @@
+-- What rehearsing the images of a configuration does, from files that tell what stands in them. The order of work is ours.
+use Rattle.std.specs.Prelude.{◌≡◌, ◌⊎◌, ℕ, Bool, true, List, map, Option, Some, None, option_map, Result, Ok, Err, string_bytes, String}
+use Rattle.std.specs.declared.alloc.Global.{Global}
+use Rattle.envimage.specs.Sink.{Sink, counted}
+use Rattle.envimage.specs.declared.image.ByteOrder.{ByteOrder}
+use Rattle.rehearse_runs.specs.declared.listing.Finish.{Finish}
+use Rattle.ubtool_cli.specs.declared.ask.RehearseAsk.{RehearseAsk}
+use Rattle.ubtool_core.specs.FileFaults.{path_form}
+use Rattle.ubtool_core.specs.Given.{Given}
+use Rattle.ubtool_core.specs.Headline.{LacksMemory, Rehearses}
+use Rattle.ubtool_core.specs.Order.{OnlyReads}
+use Rattle.ubtool_core.specs.Refusing.{Refuses}
+use Rattle.ubtool_core.specs.Told.{Told, file_at}
+use Rattle.ubtool_core.specs.declared.error.ToolError.{ToolError}
+use Rattle.ubtool_core.specs.declared.error.ToolError.TheVariants as tool
+use Rattle.ubtool_core.specs.declared.fault.Fault.{Fault}
+use Rattle.ubtool_core.specs.declared.fault.Fault.TheVariants.{NoSuchVariable, NotARun, Tool}
+use Rattle.ubtool_core.specs.declared.files.Action.TheVariants.{ReadAll}
+use Rattle.ubtool_run.specs.Images.{Copy, HasRead, IsImagesFault}
+use Rattle.ubtool_run.specs.Printing.{first_bytes, second_bytes}
+use Rattle.ubtool_run.specs.Reading.{IsTextFault, Reads}
+
+-- what a rehearsal is given: the bytes of these copies, the text of the device list, and what the words ask for
+abbrev pub rehearsal_of : ByteOrder → List Copy → (device_list : List ℕ) → RehearseAsk → Given
+rehearsal_of order found device_list what = record {
+  order = order;
+  first = first_bytes found;
+  second = second_bytes found;
+  device_list = device_list;
+  variable = string_bytes what.name;
+  bounds = what.bounds;
+  after = option_map string_bytes what.after;
+  limit = what.limit;
+  names = map string_bytes what.names.items;
+}
+
+-- what a refusal is told as: a variable that is not set by its name, and a word that is no run as it was given
+abbrev pub no_run_of : Option (String Global) → Fault
+no_run_of None = Tool tool.NotARun
+no_run_of (Some word) = NotARun (path_form word)
+
+abbrev pub refusal_of : RehearseAsk → ToolError → Fault
+refusal_of what tool.NoSuchVariable = NoSuchVariable (path_form what.name)
+refusal_of what tool.NotARun = no_run_of what.after
+refusal_of what error = Tool error
+
+-- want of memory leaves the output as it was, or whole records of the listing
+abbrev pub RunsOut : Given → (old new : Sink) → Type 0
+RunsOut g old new = (new ≡ old) ⊎ LacksMemory g old new
+
+-- each answer to the rehearsal of copies
+abbrev pub RehearsesCopies : Given → (old new : Sink) → Result Finish ToolError → Type 0
+RehearsesCopies g old new (Ok finish) = Rehearses g old new finish
+RehearsesCopies g old new (Err tool.Memory) = RunsOut g old new
+RehearsesCopies g old new (Err error) = Refuses g old new error
+
+-- The images were read, and then the device list, and this holds of what they give.
+pub record FromFiles (order : ByteOrder) (config device_list : List ℕ) (what : RehearseAsk) (old new : Told) (IsSo : Given → Type 0) : Type 0 where
+  pub found : List Copy
+  pub after_images : Told
+  pub read : HasRead config old after_images found
+  pub text : List ℕ
+  pub listed : Reads (device_list, ReadAll) (file_at device_list after_images.stored) after_images new text
+  pub so : IsSo (rehearsal_of order found text what)
+
+-- The images were read, and the device list is refused for this.
+pub record IsUnlisted (config device_list : List ℕ) (old : Told) (fault : Fault) : Type 0 where
+  pub found : List Copy
+  pub after_images : Told
+  pub read : HasRead config old after_images found
+  pub refused : IsTextFault (file_at device_list old.stored) fault
+
+-- The images and the device list were read, and the whole listing was written; or the rehearsal is refused, the fault told by
+-- what the words said; or a read is refused, and files were only read.
+abbrev pub RehearsesFrom : ByteOrder → (config device_list : List ℕ) → RehearseAsk → (out out' : Sink) → (old new : Told) → Result Bool Fault → Type 0
+RehearsesFrom order config device_list what out out' old new (Ok all) =
+    (all ≡ true) × FromFiles order config device_list what old new (λ g. (finish : Finish) × Rehearses g out out' finish)
+RehearsesFrom order config device_list what out out' old new (Err (Tool tool.Memory)) =
+    FromFiles order config device_list what old new (λ g. RunsOut g out out')
+RehearsesFrom order config device_list what out out' old new (Err (Tool error)) =
+    FromFiles order config device_list what old new (λ g. Refuses g out out' error)
+RehearsesFrom order config device_list what out out' old new (Err (NoSuchVariable name)) =
+    (name ≡ path_form what.name) × FromFiles order config device_list what old new (λ g. Refuses g out out' tool.NoSuchVariable)
+RehearsesFrom order config device_list what out out' old new (Err (NotARun word)) =
+    (Some word ≡ option_map path_form what.after) × FromFiles order config device_list what old new (λ g. Refuses g out out' tool.NotARun)
+RehearsesFrom order config device_list what out out' old new (Err fault) =
+    OnlyReads old new × (IsImagesFault config old.stored fault ⊎ IsUnlisted config device_list old fault)
+
+-- over any files: the output's failure is counted where it is told, and any refusal but that and memory leaves it as it was
+abbrev pub LeavesOutput : Result Bool Fault → (old new : Sink) → Type 0
+LeavesOutput (Ok all) old new = new.failures ≡ old.failures
+LeavesOutput (Err (Tool tool.Write)) old new = new.failures ≡ counted old.failures
+LeavesOutput (Err (Tool tool.Memory)) old new = new.failures ≡ old.failures
+LeavesOutput (Err fault) old new = new ≡ old

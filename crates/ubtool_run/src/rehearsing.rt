@@ -1,0 +1,93 @@
+//! `rehearse`, from files to the listing.
+ghost use Rattle.std.specs.Prelude.{◌≡◌, IfErr, option_map, string_bytes};
+ghost use Rattle.bootstore.specs.Moment.{option_bytes};
+ghost use Rattle.ubtool_core.specs.Told.{IfTold};
+ghost use Rattle.ubtool_run.specs.Faults.{CountsTold};
+ghost use Rattle.ubtool_run.specs.Images.{copies};
+ghost use Rattle.ubtool_run.specs.Rehearsing.{LeavesOutput, RehearsesCopies, RehearsesFrom, refusal_of, rehearsal_of};
+
+use crate::images::{Images, read_images};
+use crate::print::slices_of;
+use crate::read::read_text;
+use envimage::{ByteOrder, Out};
+use std::alloc::Global;
+use ubtool_cli::RehearseAsk;
+use ubtool_core::{Fault, Files, Finish, ToolError, WordForm, rehearse_bytes};
+
+/// What a refusal of a rehearsal is told as.
+fn refusal_of(error: ToolError, what: RehearseAsk) -> Fault
+    ensures { result ≡ refusal_of what error }
+{
+    match (error, what.after) {
+        (ToolError::NoSuchVariable, _) => Fault::NoSuchVariable(WordForm(what.name)),
+        (ToolError::NotARun, Some(word)) => Fault::NotARun(WordForm(word)),
+        (error, _) => Fault::Tool(error),
+    }
+}
+
+/// The bytes of a text that may be there.
+fn bytes_if(text: &Option<String>) -> Option<&[u8]>
+    ensures { option_bytes result ≡ option_map string_bytes text.now }
+{
+    match text {
+        Some(text) => Some(text.as_bytes()),
+        None => None,
+    }
+}
+
+/// Rehearses a variable of images.
+fn rehearse_images<O: Out>(
+    alloc: Global,
+    images: &Images,
+    order: ByteOrder,
+    device_list: &[u8],
+    what: &RehearseAsk,
+    out: &mut O,
+) -> Result<Finish, ToolError>
+    ensures { RehearsesCopies (rehearsal_of order (copies images.now) device_list.now what.now) (O.sink out.old) (O.sink out.new) result }
+{
+    let Ok(names) = slices_of(alloc, &what.names) else {
+        return Err(ToolError::Memory);
+    };
+    let ask = ubtool_core::RehearseAsk {
+        name: what.name.as_bytes(),
+        bounds: what.bounds,
+        after: bytes_if(&what.after),
+        limit: what.limit,
+        names: &names,
+    };
+    let second = images.second_bytes();
+    rehearse_bytes(
+        alloc,
+        &images.first.bytes,
+        second,
+        order,
+        device_list,
+        &ask,
+        out,
+    )
+}
+
+/// Rehearses a variable of the images that a configuration names: they are read, then the device list,
+/// and then the listing is written.
+pub fn rehearse<F: Files, O: Out>(
+    alloc: Global,
+    files: &mut F,
+    config: String,
+    device_list: String,
+    what: RehearseAsk,
+    order: ByteOrder,
+    out: &mut O,
+) -> Result<bool, Fault>
+    ensures count { CountsTold (F.faults files.old) (F.faults files.new) result }
+    ensures told { IfTold (F.told files.old) (F.told files.new) (λ old new.
+        RehearsesFrom order (string_bytes config) (string_bytes device_list) what (O.sink out.old) (O.sink out.new) old new result) }
+    ensures output { LeavesOutput result (O.sink out.old) (O.sink out.new) }
+{
+    let images = read_images(alloc, files, config)?;
+    let device_list = read_text(alloc, files, device_list)?;
+    match rehearse_images(alloc, &images, order, &device_list, &what, out) {
+        Ok(_) => Ok(true),
+        Err(error) => Err(refusal_of(error, what)),
+    }
+}
