@@ -1,4 +1,4 @@
-//! The program `ubtool`: variables of a U-Boot environment, printed and changed.
+//! The program `ubtool`: variables of a U-Boot environment, printed and changed, and its boot script rehearsed.
 #![tactic(auto)]
 
 use envimage::{Over, write_all};
