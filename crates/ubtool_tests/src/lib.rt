@@ -10,6 +10,8 @@ mod printing;
 #[cfg(test)]
 mod reading;
 #[cfg(test)]
+mod rehearsing;
+#[cfg(test)]
 mod running;
 pub mod writers;
 #[cfg(test)]

@@ -1,5 +1,5 @@
 //! The whole program over files in memory: statuses, outputs, and which calls it makes.
-use envimage::Over;
+use envimage::{ByteOrder, Over, encode};
 use std::test::Fail;
 use ubtool_core::{Action, LIMIT, MemoryFiles};
 use ubtool_run::run_tool;
@@ -254,21 +254,116 @@ fn each_failing_call_of_setenv_is_told(rt: HostRuntime) -> Result<(), Fail> {
     Ok(())
 }
 
+/// A pair of which the second copy is current; in it `q` is `load`.
+fn script_pair(rt: &HostRuntime) -> Result<Vec<u8>, Fail> {
+    let mut image = encode(rt.alloc(), &[], 32, Some(0), ByteOrder::Little)?;
+    let script = encode(
+        rt.alloc(),
+        &[(b"q", b"load")],
+        32,
+        Some(1),
+        ByteOrder::Little,
+    )?;
+    image.extend_from_slice(&script)?;
+    Ok(image)
+}
+
+const SCRIPT_CONFIG: &[u8] = b"e 0 20\ne 0x20 20\n";
+
 #[test]
-fn a_rehearsal_reads_its_files(rt: HostRuntime) -> Result<(), Fail> {
-    let lines: [&[u8]; 4] = [
-        b"ubtool: cannot read /etc/fw_env.config\n",
-        b"ubtool: cannot read e\n",
-        b"ubtool: cannot read d\n",
-        b"ubtool: rehearse is not built yet\n",
+fn a_rehearsal_is_listed(rt: HostRuntime) -> Result<(), Fail> {
+    let rows: [(&[&str], &[u8]); 5] = [
+        (
+            &["rehearse", "-d", "d", "-b", "q"],
+            b"run 0\ndev 0 load\nvar q=load\nend 0\nrun 1\ndev 1 load\nvar q=load\nend 1\ndone\n",
+        ),
+        (
+            &["rehearse", "-d", "d", "-b", "q", "--limit", "1"],
+            b"run 0\ndev 0 load\nvar q=load\nend 0\nmore 0\n",
+        ),
+        (
+            &["rehearse", "-d", "d", "-b", "q", "--after", "0"],
+            b"run 1\ndev 1 load\nvar q=load\nend 1\ndone\n",
+        ),
+        (
+            &["rehearse", "-d", "d", "-b", "q", "--after", "1"],
+            b"done\n",
+        ),
+        (
+            &["rehearse", "-d", "d", "-b", "q", "--devices", "0", "z"],
+            b"run .\nunset z\ncut devices\ndone\n",
+        ),
     ];
-    for (failing, line) in lines.into_iter().enumerate() {
-        let mut files = files_of(&rt, b"e 0 9\n", ONE, Some(failing))?;
+    let image = script_pair(&rt)?;
+    for (words, listing) in rows {
+        let mut files = files_of(&rt, SCRIPT_CONFIG, &image, None)?;
         files.add("d", b"load\n")?;
-        let ended = run(&rt, &mut files, &["rehearse", "-d", "d"]);
+        let ended = run(&rt, &mut files, words);
+        assert_eq!(rt; ended.status, 0);
+        assert_eq!(rt; ended.err.len(), 0);
+        assert_eq!(rt; ended.out.as_slice(), listing);
+        assert_eq!(rt; files.calls().len(), 4);
+        assert!(rt; !has_written(&files));
+    }
+    Ok(())
+}
+
+#[test]
+fn a_refused_rehearsal_is_told(rt: HostRuntime) -> Result<(), Fail> {
+    let rows: [(&[&str], &[u8]); 6] = [
+        (&["rehearse", "-d", "d"], b"ubtool: no variable bootcmd\n"),
+        (
+            &["rehearse", "-d", "d", "-b", "a b"],
+            b"ubtool: no variable a\\x20b\n",
+        ),
+        (
+            &["rehearse", "-d", "d", "-b", "q", "--after", "."],
+            b"ubtool: no run has the word .\n",
+        ),
+        (
+            &["rehearse", "-d", "d", "-b", "q", "--after", ""],
+            b"ubtool: no run has the word \\e\n",
+        ),
+        (
+            &["rehearse", "-d", "w", "-b", "z"],
+            b"ubtool: device list line 2: built-in command\n",
+        ),
+        (
+            &["rehearse", "--big-endian", "-d", "w"],
+            b"ubtool: no image with a right CRC\n",
+        ),
+    ];
+    let image = script_pair(&rt)?;
+    for (words, line) in rows {
+        let mut files = files_of(&rt, SCRIPT_CONFIG, &image, None)?;
+        files.add("d", b"load\n")?;
+        files.add("w", b"\necho\n")?;
+        let ended = run(&rt, &mut files, words);
         assert_eq!(rt; ended.status, 1);
         assert_eq!(rt; ended.out.len(), 0);
         assert_eq!(rt; ended.err.as_slice(), line);
+        assert_eq!(rt; files.calls().len(), 4);
+    }
+    Ok(())
+}
+
+#[test]
+fn each_failing_call_of_a_rehearsal_is_told(rt: HostRuntime) -> Result<(), Fail> {
+    let lines: [&[u8]; 4] = [
+        b"ubtool: cannot read /etc/fw_env.config\n",
+        b"ubtool: cannot read e\n",
+        b"ubtool: cannot read e\n",
+        b"ubtool: cannot read d\n",
+    ];
+    let image = script_pair(&rt)?;
+    for (failing, line) in lines.into_iter().enumerate() {
+        let mut files = files_of(&rt, SCRIPT_CONFIG, &image, Some(failing))?;
+        files.add("d", b"load\n")?;
+        let ended = run(&rt, &mut files, &["rehearse", "-d", "d", "-b", "q"]);
+        assert_eq!(rt; ended.status, 1);
+        assert_eq!(rt; ended.out.len(), 0);
+        assert_eq!(rt; ended.err.as_slice(), line);
+        assert_eq!(rt; files.calls().len(), failing + 1);
         assert!(rt; !has_written(&files));
     }
     Ok(())
