@@ -1,4 +1,5 @@
-ghost use Rattle.std.specs.Prelude.{◌≡◌, ◌⊎◌, OnOk};
+ghost use Rattle.std.specs.Prelude.{◌≡◌, ◌⊎◌, OnOk, []};
+ghost use Rattle.envimage.specs.Sink.{Wrote};
 ghost use Rattle.ubtool_core.specs.Input.{PrintsInput};
 
 use crate::error::ToolError;
@@ -16,7 +17,8 @@ fn print_input<R: Read, O: Out, E: Out>(
     out: &mut O,
     err: &mut E,
 ) -> Result<(), Fault>
-    ensures { OnOk result (PrintsInput (R.remaining input.old) (O.sink out.old) (O.sink out.new)) }
+    ensures printed { OnOk result (PrintsInput (R.remaining input.old) (O.sink out.old) (O.sink out.new)) }
+    ensures quiet { OnOk result (Wrote (E.sink err.old) (E.sink err.new) []) }
 {
     let image = match read_up_to(alloc, input, SIZE_MAX + 1) {
         Ok(image) => image,
@@ -40,6 +42,7 @@ pub fn run_input<R: Read, O: Out, E: Out>(
 ) -> u8
     ensures status { (result ≡ 0) ⊎ (result ≡ 1) }
     ensures printed { result ≡ 0 → PrintsInput (R.remaining input.old) (O.sink out.old) (O.sink out.new) }
+    ensures quiet { result ≡ 0 → Wrote (E.sink err.old) (E.sink err.new) [] }
 {
     match print_input(alloc, input, out, err) {
         Ok(()) => 0,

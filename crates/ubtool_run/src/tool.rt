@@ -1,5 +1,6 @@
 //! The whole program.
-ghost use Rattle.std.specs.Prelude.{◌≡◌, ◌<◌, ◌≤◌, length, map};
+ghost use Rattle.std.specs.Prelude.{◌≡◌, ◌<◌, ◌≤◌, [], length, map};
+ghost use Rattle.envimage.specs.Sink.{Wrote};
 ghost use Rattle.ubtool_core.specs.Input.{PrintsInput};
 ghost use Rattle.ubtool_run.specs.Running.{Ends, HasDone, HasRefused, IsMisused, Tells};
 
@@ -79,6 +80,8 @@ pub fn run_tool<S: AsStr, R: Read, F: Files, O: Out, E: Out>(
 ) -> u8
     ensures status { result ≤ 2 }
     ensures printed { length words.now ≡ 0 → result ≡ 0 → PrintsInput (R.remaining input.old) (O.sink out.old) (O.sink out.new) }
+    ensures quiet { length words.now ≡ 0 → result ≡ 0 → Wrote (E.sink err.old) (E.sink err.new) [] }
+    ensures untouched { length words.now ≡ 0 → (F.told files.new ≡ F.told files.old) × (F.faults files.new ≡ F.faults files.old) }
     ensures done { 0 < length words.now → result ≡ 0 → HasDone (map S.text words.now) record { faults = F.faults files.old; told = F.told files.old } record { faults = F.faults files.new; told = F.told files.new }
         record { out = O.sink out.old; out' = O.sink out.new; err = E.sink err.old; err' = E.sink err.new } }
     ensures refused { 0 < length words.now → result ≡ 1 → HasRefused (map S.text words.now) record { faults = F.faults files.old; told = F.told files.old } record { faults = F.faults files.new; told = F.told files.new }
