@@ -1,0 +1,53 @@
+//! How long scripts end.
+use bootstore::{Plain, Store, Trail};
+use envtools::Env;
+use rehearse::{Bounds, Devices};
+use rehearse_runs::{Ending, Runs};
+use std::alloc::Global;
+use std::test::Fail;
+
+/// The letter of how the first run of a text ends, where `a` runs `b` and `b` runs `a`.
+fn ending<S: Store>(alloc: Global, text: &[u8], steps: u32) -> Result<u8, Fail> {
+    let mut env = Env::new(alloc);
+    env.set(b"bootcmd", text)?;
+    env.set(b"a", b"run b")?;
+    env.set(b"b", b"run a")?;
+    let devices = Devices::parse(alloc, b"load")?;
+    let bounds = Bounds::new(1, steps).ok_or("bounds")?;
+    let mut runs = Runs::<S>::new(alloc, &env, &devices, b"bootcmd", bounds)?;
+    let Some(view) = runs.next()? else {
+        return Ok(b'-');
+    };
+    Ok(match view.ending() {
+        Ending::End(_) => b'e',
+        Ending::CutDevices => b'd',
+        Ending::CutSteps => b's',
+        Ending::Unknown(_) => b'u',
+        Ending::Syntax(_) => b'y',
+        Ending::Size => b'z',
+        Ending::Booted(_) => b'b',
+    })
+}
+
+#[test]
+fn endless_scripts_are_cut(rt: HostRuntime) -> Result<(), Fail> {
+    let rows: [(&[u8], u32, u8); 6] = [
+        (b"while true; do true; done", 1_000_000, b's'),
+        (b"load; while true; do true; done", 1_000_000, b's'),
+        (b"run bootcmd", 100_000, b's'),
+        (b"run a", 100_000, b's'),
+        (
+            b"x=0123456789abcdef; while true; do x=$x$x; done",
+            10_000,
+            b'z',
+        ),
+        (b"load; load", 10_000, b'd'),
+    ];
+    for (text, steps, wanted) in rows {
+        let plain = ending::<Plain>(rt.alloc(), text, steps)?;
+        let trail = ending::<Trail>(rt.alloc(), text, steps)?;
+        assert_eq!(rt; plain, wanted);
+        assert_eq!(rt; trail, wanted);
+    }
+    Ok(())
+}
