@@ -25,3 +25,5 @@ pub mod VerdictLemmas
 pub mod VerdictRows
 mod ListedRows
 mod RunningRows
+pub mod EdgeRows
+mod BoundRows
