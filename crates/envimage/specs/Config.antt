@@ -2,6 +2,7 @@
 use Rattle.std.specs.Prelude.{ℕ, ◌+◌, ◌-◌, ◌*◌, ◌^◌, ◌==◌, ◌&&◌, ◌||◌, not, nat_lt, nat_le, Bool, false, List, [], ◌∷◌, length, filter, fold, Option, None, Some, Result, Ok, Err, if◌then◌else◌}
 use Rattle.std.specs.Str.Lossy.{utf8_valid_len}
 use Rattle.std.specs.List.{list_all}
+use Rattle.ascii.specs.Bytes as ascii
 use Rattle.envimage.specs.Image.{is_size}
 use Rattle.envimage.specs.Text.{numbered_lines}
 use Rattle.envimage.specs.Words.{words_of}
@@ -12,9 +13,9 @@ use Rattle.envimage.specs.declared.config.ConfigError.TheVariants.{BadLine, NotT
 
 -- the value of a digit of any base up to 16, of both cases, and 16 where a byte is no digit
 abbrev pub digit_of : ℕ → ℕ
-digit_of b = if nat_le 48 b && nat_le b 57 then b - 48
-    else (if nat_le 65 b && nat_le b 70 then b - 55
-    else (if nat_le 97 b && nat_le b 102 then b - 87 else 16))
+digit_of b = if nat_le ascii.digit_zero b && nat_le b ascii.digit_nine then b - ascii.digit_zero
+    else (if nat_le ascii.capital_a b && nat_le b ascii.capital_f then b - (ascii.capital_a - 10)
+    else (if nat_le ascii.small_a b && nat_le b ascii.small_f then b - (ascii.small_a - 10) else 16))
 
 -- the digits' number, whatever they are
 abbrev pub value_in : ℕ → List ℕ → ℕ
@@ -23,14 +24,16 @@ value_in base digits = fold (λ number b. number * base + digit_of b) 0 digits
 -- one digit or more, all of the base, and a number of at most 9,223,372,036,854,775,807
 abbrev pub is_number_in : ℕ → List ℕ → Bool
 is_number_in base digits =
-    not (length digits == 0) && (list_all (λ b. nat_lt (digit_of b) base) digits && nat_lt (value_in base digits) (2 ^ 63))
+    not (length digits == 0)
+    && (list_all (λ b. nat_lt (digit_of b) base) digits && nat_lt (value_in base digits) (2 ^ 63))
 
 abbrev pub number_in : ℕ → List ℕ → Option ℕ
 number_in base digits = if is_number_in base digits then Some (value_in base digits) else None
 
 -- what follows `0x` or `0X`
 abbrev pub after_0x : List ℕ → Option (List ℕ)
-after_0x (a ∷ b ∷ digits) = if (a == 48) && ((b == 120) || (b == 88)) then Some digits else None
+after_0x (a ∷ b ∷ digits) = if (a == ascii.digit_zero) && ((b == ascii.small_x) || (b == ascii.capital_x)) then
+    Some digits else None
 after_0x _ = None
 
 -- hexadecimal after `0x`, octal after a leading 0, else decimal
@@ -40,7 +43,7 @@ offset_of word = by (after_0x word) word
     by : Option (List ℕ) → List ℕ → Option ℕ
     by (Some digits) word = number_in 16 digits
     by None [] = None
-    by None (b ∷ bs) = if b == 48 then number_in 8 (b ∷ bs) else number_in 10 (b ∷ bs)
+    by None (b ∷ bs) = if b == ascii.digit_zero then number_in 8 (b ∷ bs) else number_in 10 (b ∷ bs)
 
 -- hexadecimal, with or without `0x`
 abbrev pub size_of : List ℕ → Option ℕ
@@ -57,7 +60,7 @@ abbrev pub is_place_line : List ℕ → Bool
 is_place_line line = by (words_of line)
   where
     by : List (List ℕ) → Bool
-    by ((b ∷ bs) ∷ words) = not (b == 35)
+    by ((b ∷ bs) ∷ words) = not (b == ascii.hash)
     by _ = false
 
 abbrev pub place_lines : List ℕ → List (ℕ × List ℕ)
@@ -88,7 +91,8 @@ abbrev pub single : ℕ → Result PlaceShown ConfigError → Result (List Place
 single number (Err e) = Err e
 single number (Ok p) = if is_size 5 p.size then Ok (p ∷ []) else Err (SizeOutOfRange number)
 
-abbrev pub pair : ℕ → ℕ → Result PlaceShown ConfigError → Result PlaceShown ConfigError → Result (List PlaceShown) ConfigError
+abbrev pub pair : ℕ → ℕ → Result PlaceShown ConfigError → Result PlaceShown ConfigError →
+    Result (List PlaceShown) ConfigError
 pair first second (Err e) q = Err e
 pair first second (Ok p) (Err e) = Err e
 pair first second (Ok p) (Ok q) =

@@ -1,6 +1,7 @@
 -- The data of an image: entries `name=value`, each ended by a NUL, then one more NUL, then anything.
 use Rattle.std.specs.Prelude.{◌≡◌, ◌≢◌, ℕ, ◌+◌, ◌≤◌, ◌==◌, Bool, List, [], ◌∷◌, ◌++◌, length, Option, None, Some, if◌then◌else◌}
 use Rattle.std.specs.List.{flat_map, AllByRecursion, before_first, after_first, list_any}
+use Rattle.ascii.specs.Bytes as ascii
 use Rattle.envimage.specs.declared.content.DataError.{DataError}
 use Rattle.envimage.specs.declared.content.DataError.TheVariants.{NotTerminated, NoEquals, EmptyName}
 
@@ -9,20 +10,20 @@ abbrev pub Pair : Type 0
 Pair = List ℕ × List ℕ
 
 abbrev pub IsNameByte : ℕ → Type 0
-IsNameByte b = (b ≢ 0) × (b ≢ 61)
+IsNameByte b = (b ≢ ascii.nul) × (b ≢ ascii.equals)
 
 pub record IsVariable (p : Pair) : Type 0 where
   pub named : p.0 ≢ []
   pub name : AllByRecursion IsNameByte p.0
-  pub value : AllByRecursion (λ b. b ≢ 0) p.1
+  pub value : AllByRecursion (λ b. b ≢ ascii.nul) p.1
 
 abbrev pub entry : Pair → List ℕ
-entry p = p.0 ++ 61 ∷ p.1 ++ 0 ∷ []
+entry p = p.0 ++ ascii.equals ∷ p.1 ++ ascii.nul ∷ []
 
 -- The body is the entries of these variables, a NUL, and a filling.
 pub record IsData (body : List ℕ) (pairs : List Pair) : Type 0 where
   pub filling : List ℕ
-  pub whole : body ≡ flat_map entry pairs ++ 0 ∷ filling
+  pub whole : body ≡ flat_map entry pairs ++ ascii.nul ∷ filling
   pub each : AllByRecursion IsVariable pairs
 
 -- The body begins with the entries of these variables, and goes on as the rest.
@@ -39,14 +40,15 @@ pub record IsLongestRow (body : List ℕ) (pairs : List Pair) (rest : List ℕ) 
 -- The rest begins with this text, which a NUL ends.
 pub record BeginsWithText (rest text : List ℕ) : Type 0 where
   pub after : List ℕ
-  pub whole : rest ≡ text ++ 0 ∷ after
-  pub unbroken : AllByRecursion (λ b. b ≢ 0) text
+  pub whole : rest ≡ text ++ ascii.nul ∷ after
+  pub unbroken : AllByRecursion (λ b. b ≢ ascii.nul) text
 
 -- What is wrong at a place where no entry stands: nothing where the last NUL does.
 abbrev pub IsFaultAt : ℕ → List ℕ → Option DataError → Type 0
 IsFaultAt at rest None = BeginsWithText rest []
-IsFaultAt at rest (Some NotTerminated) = AllByRecursion (λ b. b ≢ 0) rest
-IsFaultAt at rest (Some (EmptyName place)) = (place ≡ at) × ((text : List ℕ) × BeginsWithText rest (61 ∷ text))
+IsFaultAt at rest (Some NotTerminated) = AllByRecursion (λ b. b ≢ ascii.nul) rest
+IsFaultAt at rest (Some (EmptyName place)) = (place ≡ at)
+    × ((text : List ℕ) × BeginsWithText rest (ascii.equals ∷ text))
 IsFaultAt at rest (Some (NoEquals place)) =
     (place ≡ at) × ((text : List ℕ) × (BeginsWithText rest text) × (text ≢ []) × (AllByRecursion IsNameByte text))
 
@@ -60,10 +62,10 @@ pub record IsFault (body : List ℕ) (fault : Option DataError) : Type 0 where
 -- ---- the same, computed from the texts between the NULs
 
 abbrev pub is_nul : ℕ → Bool
-is_nul b = b == 0
+is_nul b = b == ascii.nul
 
 abbrev pub is_equals : ℕ → Bool
-is_equals b = b == 61
+is_equals b = b == ascii.equals
 
 abbrev pub onto_first : ℕ → List (List ℕ) → List (List ℕ)
 onto_first b [] = []

@@ -25,9 +25,13 @@ stored_bytes Big crc = to_be_bytes w32 crc
 abbrev pub is_right : ByteOrder → ℕ → List ℕ → Bool
 is_right order header copy = stored order copy == crc (drop header copy)
 
+-- the most bytes that an image may have: one mebibyte. Ours.
+abbrev pub most_size : ℕ
+most_size = 1048576
+
 -- the sizes that an image may have
 abbrev pub is_size : ℕ → ℕ → Bool
-is_size least size = nat_le least size && nat_le size 1048576
+is_size least size = nat_le least size && nat_le size most_size
 
 -- a copy with flag b was written after one with flag a
 abbrev pub is_newer : ℕ → ℕ → Bool

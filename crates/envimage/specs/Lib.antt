@@ -4,11 +4,9 @@ pub mod Data
 pub mod Encoding
 pub mod Entries
 pub mod Image
-pub mod ImageRows
 pub mod Laws
 pub mod Over
 pub mod Place
-pub mod Rows
 pub mod Sink
 pub mod Text
 pub mod Words

@@ -2,10 +2,11 @@
 use Rattle.std.specs.Prelude.{ℕ, ◌+◌, ◌==◌, Bool, List, [], length, if◌then◌else◌}
 use Rattle.std.specs.List.{slice_split, enumerate_from}
 use Rattle.std.specs.Borrow.{Bor}
+use Rattle.ascii.specs.Bytes as ascii
 use Rattle.envimage.specs.declared.text.Lines.{Lines}
 
 abbrev pub is_newline : ℕ → Bool
-is_newline b = b == 10
+is_newline b = b == ascii.newline
 
 -- the lines of a text, with their numbers from 1 on
 abbrev pub numbered_lines : List ℕ → List (ℕ × List ℕ)

@@ -1,10 +1,11 @@
 -- The words of a line.
 use Rattle.std.specs.Prelude.{ℕ, ◌==◌, ◌||◌, not, Bool, List, [], ◌∷◌, length, filter, if◌then◌else◌}
 use Rattle.std.specs.List.{slice_split}
+use Rattle.ascii.specs.Bytes as ascii
 
 -- a space, a tab or a carriage return
 abbrev pub is_blank : ℕ → Bool
-is_blank b = (b == 32) || ((b == 9) || (b == 13))
+is_blank b = (b == ascii.space) || ((b == ascii.tab) || (b == ascii.carriage_return))
 
 -- what follows the bytes at the front that pass a test
 abbrev pub skipped : (ℕ → Bool) → List ℕ → List ℕ
