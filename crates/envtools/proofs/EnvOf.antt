@@ -1,5 +1,5 @@
 -- The environment of a list of pairs, made one pair after another.
-use Rattle.std.proofs.Common.{◌≡◌, ℕ, zero, suc, ◌+◌, take, add-one, length, length-append, arith, true, false, cond, fold, inl, inr, List, [], ◌∷◌, ◌++◌, None, Some, refl, sym, ap, subst, ◌∙◌, append_assoc}
+use Rattle.std.proofs.Common.{◌≡◌, ℕ, zero, suc, ◌+◌, take, add-one, length, length-append, arith, true, false, cond, fold, inl, inr, List, [], ◌∷◌, ◌++◌, Option, None, Some, refl, sym, ap, subst, ◌∙◌, append_assoc}
 use Rattle.std.specs.Prelude.{unwrap_or, slice_get}
 use Rattle.std.specs.List.{AllByRecursion, flat_map}
 use Rattle.std.proofs.lemmas.List.{append-nil}
@@ -82,6 +82,31 @@ fold-more done (p ∷ left) =
 
 pub fold-assigned : (pairs : List Pair) → fold (λ env p. assigned env p.0 p.1) [] pairs ≡ env_of pairs
 fold-assigned pairs = fold-more [] pairs
+
+-- ---- one name, read from all the pairs
+
+-- a pair of the name has its value, and any other leaves what was found
+abbrev pub last_value : List ℕ → Option (List ℕ) → Pair → Option (List ℕ)
+last_value name found p = cond (same name p.0) (Some p.1) found
+
+last_value-assigned : (name : List ℕ) (env : List Pair) (p : Pair) → last_value name (value_of env name) p ≡ value_of (assigned env p.0 p.1) name
+last_value-assigned name env p =
+    elim (cases_Bool (same name p.0)) [
+      | inl found ↦
+          let one : name ≡ p.0 = (bytes_decides name p.0).0 found in
+          let it : value_of (assigned env p.0 p.1) name ≡ Some p.1 =
+          ap (λ n. value_of (assigned env p.0 p.1) n) one ∙ value_of-assigned env p.0 p.1 in
+          rw found (sym it)
+      | inr other ↦ rw other (sym (value_of-assigned_other env p.0 p.1 name (nat_list_eq_equiv.symm p.0 name ∙ other)))
+    ]
+
+last_value-more : (name : List ℕ) (env left : List Pair) → fold (last_value name) (value_of env name) left ≡ value_of (fold (λ env p. assigned env p.0 p.1) env left) name
+last_value-more name env [] = refl
+last_value-more name env (p ∷ left) =
+    ap (λ found. fold (last_value name) found left) (last_value-assigned name env p) ∙ last_value-more name (assigned env p.0 p.1) left
+
+pub fold-last_value : (name : List ℕ) (pairs : List Pair) → fold (last_value name) None pairs ≡ value_of (env_of pairs) name
+fold-last_value name pairs = last_value-more name [] pairs ∙ ap (λ env. value_of env name) (fold-assigned pairs)
 
 -- ---- an environment that is copied
 

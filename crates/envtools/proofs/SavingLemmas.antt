@@ -1,8 +1,9 @@
 -- A redundant pair with other bytes in the place of its spare copy.
-use Rattle.std.proofs.Common.{◌≡◌, ◌≤◌, ◌<◌, ℕ, ◌+◌, ◌%◌, ◌==◌, Bool, true, false, ◌-◌, List, length, length-drop, eqb-true, drop, Option, None, Some, Ok, refl, sym, ap, subst, ◌∙◌, arith, eq-eqb, inl, inr}
+use Rattle.std.proofs.Common.{◌≡◌, ◌≤◌, ◌<◌, ℕ, ◌+◌, ◌%◌, ◌==◌, Bool, true, false, ◌-◌, List, length, length-take, length-drop, take, eqb-true, drop, Option, None, Some, Ok, refl, sym, ap, subst, ◌∙◌, arith, eq-eqb, inl, inr}
 use Rattle.std.specs.Prelude.{slice_index}
-use Rattle.std.proofs.lemmas.Bool.{cases_eq}
+use Rattle.std.proofs.lemmas.Bool.{cases_Bool, cases_eq}
 use Rattle.std.proofs.lemmas.Bool.Decides.{nat_tests}
+use Rattle.std.proofs.lemmas.List.{length-append}
 use Rattle.std.specs.List.{AllByRecursion}
 use Rattle.envimage.specs.Data.{Pair, IsVariable, data_fault, pairs_of}
 use Rattle.envimage.specs.Encoding.{needed, image_of, data_bytes, is_image_size}
@@ -11,7 +12,7 @@ use Rattle.envimage.specs.declared.content.DataError.{DataError}
 use Rattle.envimage.specs.declared.image.ByteOrder.{ByteOrder}
 use Rattle.envimage.specs.declared.image.Which.TheVariants.{First, Second}
 use Rattle.envimage.proofs.RoundTrip.{encoded_is_right, data_is_read_back, length-image_of, flag-there}
-use Rattle.envtools.specs.Saving.{SpareMayBreak, SavedIsLoaded, with_spare, load_pair, size_of, next_flag, copy_to_write, saved_image}
+use Rattle.envtools.specs.Saving.{FrontMayStand, SpareMayBreak, SavedIsLoaded, half_written, spare_of, with_spare, load_pair, size_of, next_flag, copy_to_write, other_copy, saved_image}
 
 -- what loading a pair says of it, by the copy that is current
 record LoadedFirst (order : ByteOrder) (first second : List ℕ) (s : Shown) : Type 0 where
@@ -174,6 +175,45 @@ saved_is_loaded order first second loaded env h f g all fits = by loaded (loadin
           saved_first order flag size env all enough second (sym whole) (ap (is_size 6) whole ∙ in_range) p.right (before_is_older (slice_index second 4) g),
           (data_is_read_back env (size - needed (Some flag) env) all).1,
         )
+
+-- ---- a front of what is saved stands over the spare copy
+
+length-half_written : (copy bytes : List ℕ) (n : ℕ) → length bytes ≡ length copy → length (half_written copy n bytes) ≡ length copy
+length-half_written copy bytes n same =
+    omega (arith, same, length-append (take n bytes) (drop n copy), length-take n bytes, length-drop n copy)
+
+-- what is saved has the length of both copies
+saved-length : (order : ByteOrder) (first second : List ℕ) (s : Shown) (env : List Pair) → Loading order first second s → needed (next_flag s.flag) env ≤ size_of s
+    → (length (saved_image env s) ≡ length first) × (length (spare_of s.which first second) ≡ length first)
+saved-length order first second s env (loaded_first p) fits =
+    let same : length first ≡ length second = eqb-true (length first) (length second) p.equal in
+    let whole : size_of s ≡ length first = ap size_of p.shown ∙ whole_size first p.size in
+    (length-image_of s.order (next_flag s.flag) (size_of s) env fits ∙ whole, ap (λ t. length (spare_of t.which first second)) p.shown ∙ sym same)
+saved-length order first second s env (loaded_second p) fits =
+    let same : length first ≡ length second = eqb-true (length first) (length second) p.equal in
+    let in_range : is_size 6 (length second) ≡ true = ap (is_size 6) (sym same) ∙ p.size in
+    let whole : size_of s ≡ length second = ap size_of p.shown ∙ whole_size second in_range in
+    (length-image_of s.order (next_flag s.flag) (size_of s) env fits ∙ (whole ∙ sym same), ap (λ t. length (spare_of t.which first second)) p.shown)
+
+pub front_may_stand : FrontMayStand
+front_may_stand order first second loaded env n h fits =
+    let lengths = saved-length order first second loaded env (loading order first second loaded h) fits in
+    let spare : List ℕ = half_written (spare_of loaded.which first second) n (saved_image env loaded) in
+    let len : length spare ≡ length first =
+    length-half_written (spare_of loaded.which first second) (saved_image env loaded) n (lengths.0 ∙ sym lengths.1) ∙ lengths.1 in
+    elim (cases_Bool (is_right order 5 spare)) [
+      | inl right ↦ inr right
+      | inr broken ↦ inl (spare_may_break order first second spare loaded h len broken)
+    ]
+
+-- of a pair the copy that was not loaded is written
+pub spare-is-written : (order : ByteOrder) (first second : List ℕ) (s : Shown) → load_of order first (Some second) ≡ Ok s → copy_to_write s ≡ other_copy s.which
+spare-is-written order first second s h =
+    let P : Shown → Type 0 = λ t. copy_to_write t ≡ other_copy t.which in
+    elim (loading order first second s h) [
+      | loaded_first p ↦ subst P (sym p.shown) refl
+      | loaded_second p ↦ subst P (sym p.shown) refl
+    ]
 
 -- ---- the size of what is loaded
 

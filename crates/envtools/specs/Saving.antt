@@ -1,5 +1,5 @@
 -- What writing an environment back makes of a loaded image.
-use Rattle.std.specs.Prelude.{◌≡◌, ◌≤◌, ◌<◌, ℕ, ◌+◌, ◌%◌, false, List, length, slice_index, Option, None, Some, Result, Ok}
+use Rattle.std.specs.Prelude.{◌≡◌, ◌≤◌, ◌<◌, ◌⊎◌, ℕ, ◌+◌, ◌%◌, true, false, List, ◌++◌, length, take, drop, slice_index, Option, None, Some, Result, Ok}
 use Rattle.std.specs.List.{AllByRecursion}
 use Rattle.envimage.specs.Data.{Pair, IsVariable, pairs_of}
 use Rattle.envimage.specs.Encoding.{header_len, needed, image_of}
@@ -58,6 +58,27 @@ abbrev pub SpareMayBreak : Type 0
 SpareMayBreak = (order : ByteOrder) (first second bytes : List ℕ) (loaded : Shown) →
     load_of order first (Some second) ≡ Ok loaded → length bytes ≡ length first → is_right order 5 bytes ≡ false →
     load_pair order (with_spare loaded.which first second bytes) ≡ Ok loaded
+
+-- the copy of a pair that was not loaded
+abbrev pub spare_of : Which → List ℕ → List ℕ → List ℕ
+spare_of First first second = second
+spare_of Second first second = first
+
+-- a copy over which the first n of these bytes were written
+abbrev pub half_written : List ℕ → ℕ → List ℕ → List ℕ
+half_written copy n bytes = take n bytes ++ drop n copy
+
+-- what loading a pair gave, it gives with these bytes in the place of the spare copy, or they are right
+abbrev pub OldOrRight : ByteOrder → List ℕ → List ℕ → Shown → List ℕ → Type 0
+OldOrRight order first second loaded bytes =
+    (load_pair order (with_spare loaded.which first second bytes) ≡ Ok loaded) ⊎ (is_right order 5 bytes ≡ true)
+
+-- Whatever front of the saved bytes stands in the spare copy's place, loading gives what it gave before, or that copy
+-- is right.
+abbrev pub FrontMayStand : Type 0
+FrontMayStand = (order : ByteOrder) (first second : List ℕ) (loaded : Shown) (env : List Pair) (n : ℕ) →
+    load_of order first (Some second) ≡ Ok loaded → needed (next_flag loaded.flag) env ≤ size_of loaded →
+    OldOrRight order first second loaded (half_written (spare_of loaded.which first second) n (saved_image env loaded))
 
 -- The saved bytes in the spare copy's place make loading give the saved variables.
 abbrev pub SavedIsLoaded : Type 0

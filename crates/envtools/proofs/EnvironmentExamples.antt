@@ -4,7 +4,7 @@ use Rattle.envimage.specs.declared.image.ByteOrder.TheVariants.{Little, Big}
 use Rattle.envimage.specs.declared.image.Which.TheVariants.{First, Second}
 use Rattle.envtools.specs.Environment.{env_of, put, changed}
 use Rattle.envtools.specs.Printing.{printed_output, printed_errors}
-use Rattle.envtools.specs.Saving.{copy_to_write, saved_image}
+use Rattle.envtools.specs.Saving.{copy_to_write, half_written, saved_image, spare_of}
 use Rattle.envtools.specs.Scripting.{scripted}
 use Rattle.envtools.specs.declared.script.ScriptError.TheVariants.{BadName, BadValue}
 
@@ -97,3 +97,20 @@ flag_wraps_copy = refl
 
 flag_wraps : saved_image ((codes "a", codes "3") ∷ []) (record { which = Second; flag = (Some 255); order = Little; body = 0x61 ∷ 0x3d ∷ 0x32 ∷ 0 ∷ 0 ∷ [] }) ≡ (0x55 ∷ 0xd2 ∷ 0x1c ∷ 0x46 ∷ 0x00 ∷ 0x61 ∷ 0x3d ∷ 0x33 ∷ 0x00 ∷ 0x00 ∷ [])
 flag_wraps = refl
+
+-- ---- a write that is broken off
+
+nothing_written : half_written (codes "old") 0 (codes "new") ≡ codes "old"
+nothing_written = refl
+
+two_bytes_written : half_written (codes "old") 2 (codes "new") ≡ codes "ned"
+two_bytes_written = refl
+
+all_written : half_written (codes "old") 3 (codes "new") ≡ codes "new"
+all_written = refl
+
+spare_of_the_first : spare_of First (codes "a") (codes "b") ≡ codes "b"
+spare_of_the_first = refl
+
+spare_of_the_second : spare_of Second (codes "a") (codes "b") ≡ codes "a"
+spare_of_the_second = refl
