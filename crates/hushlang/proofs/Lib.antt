@@ -1,6 +1,6 @@
 pub mod Machine
 pub mod ViewLemmas
-pub mod Rows
+mod GrammarExamples
 pub mod Spelled
 pub mod EachSpelled
 pub mod Steps
@@ -25,9 +25,9 @@ pub mod Closed
 pub mod Productions
 pub mod Faults
 pub mod Told
-pub mod ScriptRows
+mod ScriptExamples
 pub mod NextToken
 pub mod ExpandLemmas
 pub mod Shortening
 pub mod ShortValues
-mod ExpansionRows
+mod ExpansionExamples

@@ -4,7 +4,8 @@ use Rattle.std.proofs.lemmas.Bool.{not-true, or_parts, and_parts, ne_eqb, falseâ
 use Rattle.std.proofs.Math.Seq.{take-append_seam, drop-append_seam}
 use Rattle.std.proofs.lemmas.List.{length-append}
 use Rattle.std.specs.List.{prefix_len, list_all}
-use Rattle.hushlang.specs.Bytes.{newline, is_separator, is_ordinary, begins_name, is_name_byte, is_brace_byte, is_escapable, begins}
+use Rattle.ascii.specs.Bytes.{newline}
+use Rattle.hushlang.specs.Bytes.{is_separator, is_ordinary, begins_name, is_name_byte, is_brace_byte, is_escapable, begins}
 use Rattle.hushlang.specs.Token.{Part, Plain, Kept, Mark, Var, Status, Token, sign, word, End, Refused}
 use Rattle.hushlang.specs.Spelling as spelling
 use Rattle.hushlang.specs.Spelling.{dollar_itself, is_bare, IsDollar, IsBadDollar, open_brace, no_name, no_brace, Contents, Row, EndsWord, IsFaulty, may_begin_word, Spells}

@@ -46,7 +46,8 @@ to_come p = row p.mode p.stop 0 p.at (drop p.at p.source)
 
 -- the first of the parts to come, and the rest of them; without one the end, and then the same again
 abbrev pub Cuts : Place → Result (Option Part) SyntaxError → Place → Type 0
-Cuts old (Ok (Some found)) new = (to_come old ≡ in_front (part found ∷ []) (to_come new)) × (old.at < new.at) × (new.at ≤ length old.source)
+Cuts old (Ok (Some found)) new = (to_come old ≡ in_front (part found ∷ []) (to_come new)) × (old.at < new.at)
+    × (new.at ≤ length old.source)
 Cuts old (Ok None) new = (to_come old ≡ Takes new.stop []) × (to_come new ≡ to_come old)
 Cuts old (Err error) new = (to_come old ≡ Refuses error) × (to_come new ≡ to_come old)
 

@@ -69,4 +69,5 @@ IsBrief value = length value ≤ 2 * length (kept_bytes (map split_atom value)) 
 -- each name has a brief value that is cut as its variable's is
 abbrev pub AreShort : Setting → List (Vec ℕ Global × Vec ℕ Global) → Type 0
 AreShort setting [] = Unit
-AreShort setting (entry ∷ entries) = AreCutAlike (value_of setting entry.0.items) entry.1.items × IsBrief entry.1.items × AreShort setting entries
+AreShort setting (entry ∷ entries) = AreCutAlike (value_of setting entry.0.items) entry.1.items
+    × IsBrief entry.1.items × AreShort setting entries

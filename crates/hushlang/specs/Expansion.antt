@@ -1,10 +1,11 @@
 -- What words expand to, by the rules of the shell's expansion (U-Boot documentation, doc/usage/cmdline,
 -- on variables and quotes); the limit and the details of splitting are ours.
-use Rattle.std.specs.Prelude.{ℕ, Bool, true, false, ◌||◌, ◌==◌, List, [], ◌∷◌, length, map, filter, flat_map, sum_by, decimal, if◌then◌else◌, Option, unwrap_or}
+use Rattle.std.specs.Prelude.{ℕ, Bool, true, false, ◌||◌, ◌==◌, List, [], ◌∷◌, length, map, filter, flat_map, sum_by, decimal, if◌then◌else◌, Option, Some, unwrap_or}
 use Rattle.std.specs.FinMap as finite
 use Rattle.std.specs.FinMap.{FinMap}
-use Rattle.std.specs.Ordering.{nat_cmp}
+use Rattle.std.specs.Ordering.{is_eq, nat_cmp}
 use Rattle.std.specs.Cmp.Lexicographic.{slice_cmp}
+use Rattle.ascii.specs.Bytes as ascii
 use Rattle.hushlang.specs.Tree as tree
 use Rattle.hushlang.specs.Tree.{Word, Piece}
 
@@ -23,13 +24,20 @@ pub record Setting : Type 0 where
 abbrev pub setting_of : FinMap (slice_cmp nat_cmp) (List ℕ) → ℕ → Setting
 setting_of variables status = record { value = finite.get variables; status = status }
 
+-- one variable more is set, or has another value
+abbrev pub with_variable : Setting → (name value : List ℕ) → Setting
+with_variable setting name value = record {
+  value = λ other. if is_eq (slice_cmp nat_cmp other name) then Some value else setting.value other;
+  status = setting.status;
+}
+
 -- the value of a variable, empty where it is not set
 abbrev pub value_of : Setting → List ℕ → List ℕ
 value_of setting name = unwrap_or (setting.value name) []
 
 -- a byte at which a split value is cut: a space, a tab or a newline
 abbrev pub separates : ℕ → Bool
-separates byte = byte == 32 || byte == 9 || byte == 10
+separates byte = byte == ascii.space || byte == ascii.tab || byte == ascii.newline
 
 abbrev pub split_atom : ℕ → Atom
 split_atom byte = if separates byte then Separator byte else Kept byte

@@ -1,8 +1,9 @@
 -- The grammar: a case for each production. The tokens begin with what the tree says, and go on as rest.
--- After the hush shell of the U-Boot documentation, doc/usage/cmdline. That a block is never empty, the limit of levels, and
--- where reserved words and assignments count, are ours.
+-- After the hush shell of the U-Boot documentation, doc/usage/cmdline. That a block is never empty, the limit of
+-- levels, and where reserved words and assignments count, are ours.
 use Rattle.std.specs.Prelude.{◌≡◌, ℕ, suc, Bool, true, false, List, [], ◌∷◌, map, Option, Some, None, ◌&&◌, ◌==◌, if◌then◌else◌, is_some, codes, option_map}
 use Rattle.std.specs.List.{list_all}
+use Rattle.ascii.specs.Bytes as ascii
 use Rattle.hushlang.specs.Bytes.{begins_name, is_name_byte}
 use Rattle.hushlang.specs.Token.{Part, Plain, Token}
 use Rattle.hushlang.specs.Words.{reserved, plain_bytes, is_plain}
@@ -88,7 +89,7 @@ with_front b (Some found) = Some (b ∷ found.0, found.1)
 
 abbrev pub up_to_equals : List Part → Option (List ℕ × List Part)
 up_to_equals [] = None
-up_to_equals (Plain b ∷ parts) = if b == 61 then Some ([], parts) else with_front b (up_to_equals parts)
+up_to_equals (Plain b ∷ parts) = if b == ascii.equals then Some ([], parts) else with_front b (up_to_equals parts)
 up_to_equals (part ∷ parts) = None
 
 abbrev pub named : Option (List ℕ × List Part) → Option (List ℕ × List Part)
@@ -128,7 +129,9 @@ IsAssignment parts value = option_map value_of (assignment parts) ≡ Some value
 -- the tokens are assignments, and these are their names and values
 pub data AreAssignments : List Token → List (List ℕ × Word) → Type 0 where
   no_word : AreAssignments [] []
-  assigned : {t : Token} {tokens : List Token} {values : List (List ℕ × Word)} (found : List ℕ × List Part) → assignment t.parts ≡ Some found → AreAssignments tokens values → AreAssignments (t ∷ tokens) (value_of found ∷ values)
+  assigned : {t : Token} {tokens : List Token} {values : List (List ℕ × Word)} (found : List ℕ × List Part) →
+      assignment t.parts ≡ Some found → AreAssignments tokens values →
+      AreAssignments (t ∷ tokens) (value_of found ∷ values)
 
 -- ---- what may follow a block: a reserved word that goes on or ends, or the end of the text
 abbrev pub closes : Reserved → Bool
@@ -153,48 +156,77 @@ goes_on (t ∷ tokens) = op_of t
 mutual
   pub data IsCommand : (depth : ℕ) → (tokens : List Token) → (command : Command) → (rest : List Token) → Type 0 where
     -- all words up to the next token that is none
-    simple : {depth : ℕ} (t : Token) (tokens : List Token) → is_word t ≡ true → reserved_of t ≡ None → assignment t.parts ≡ None → IsCommand depth (t ∷ tokens) (Simple (map word_of (words (t ∷ tokens)))) (past is_word (t ∷ tokens))
-    assign : {depth : ℕ} (t : Token) (tokens : List Token) {values : List (List ℕ × Word)} → is_word t ≡ true → reserved_of t ≡ None → is_some (assignment t.parts) ≡ true → AreAssignments (words (t ∷ tokens)) values → IsCommand depth (t ∷ tokens) (Assign values) (past is_word (t ∷ tokens))
-    «if» : {depth : ℕ} {t fi : Token} {tokens rest : List Token} {arms : Arms} → reserved_of t ≡ Some r.If → IsArms depth tokens arms (fi ∷ rest) → reserved_of fi ≡ Some r.Fi → IsCommand (suc depth) (t ∷ tokens) (If arms) rest
-    «while» : {depth : ℕ} {t : Token} {tokens rest : List Token} {cond body : Script} → reserved_of t ≡ Some r.While → IsLoop depth tokens cond body rest → IsCommand (suc depth) (t ∷ tokens) (Loop false cond body) rest
-    until : {depth : ℕ} {t : Token} {tokens rest : List Token} {cond body : Script} → reserved_of t ≡ Some r.Until → IsLoop depth tokens cond body rest → IsCommand (suc depth) (t ∷ tokens) (Loop true cond body) rest
-    for_in : {depth : ℕ} {t named in_word sep : Token} (tokens : List Token) {after rest : List Token} {name : List ℕ} {body : Script} → reserved_of t ≡ Some r.For → name_in named ≡ Some name → is_in_word in_word ≡ true → past is_word tokens ≡ sep ∷ after → is_separator sep ≡ true → IsBody depth (past is_separator after) body rest → IsCommand (suc depth) (t ∷ named ∷ in_word ∷ tokens) (For name (map word_of (words tokens)) body) rest
+    simple : {depth : ℕ} (t : Token) (tokens : List Token) → is_word t ≡ true → reserved_of t ≡ None →
+        assignment t.parts ≡ None →
+        IsCommand depth (t ∷ tokens) (Simple (map word_of (words (t ∷ tokens)))) (past is_word (t ∷ tokens))
+    assign : {depth : ℕ} (t : Token) (tokens : List Token) {values : List (List ℕ × Word)} → is_word t ≡ true →
+        reserved_of t ≡ None → is_some (assignment t.parts) ≡ true → AreAssignments (words (t ∷ tokens)) values →
+        IsCommand depth (t ∷ tokens) (Assign values) (past is_word (t ∷ tokens))
+    «if» : {depth : ℕ} {t fi : Token} {tokens rest : List Token} {arms : Arms} → reserved_of t ≡ Some r.If →
+        IsArms depth tokens arms (fi ∷ rest) → reserved_of fi ≡ Some r.Fi →
+        IsCommand (suc depth) (t ∷ tokens) (If arms) rest
+    «while» : {depth : ℕ} {t : Token} {tokens rest : List Token} {cond body : Script} → reserved_of t ≡ Some r.While →
+        IsLoop depth tokens cond body rest → IsCommand (suc depth) (t ∷ tokens) (Loop false cond body) rest
+    until : {depth : ℕ} {t : Token} {tokens rest : List Token} {cond body : Script} → reserved_of t ≡ Some r.Until →
+        IsLoop depth tokens cond body rest → IsCommand (suc depth) (t ∷ tokens) (Loop true cond body) rest
+    for_in : {depth : ℕ} {t named in_word sep : Token} (tokens : List Token) {after rest : List Token} {name : List ℕ}
+        {body : Script} → reserved_of t ≡ Some r.For → name_in named ≡ Some name → is_in_word in_word ≡ true →
+        past is_word tokens ≡ sep ∷ after → is_separator sep ≡ true →
+        IsBody depth (past is_separator after) body rest →
+        IsCommand (suc depth) (t ∷ named ∷ in_word ∷ tokens) (For name (map word_of (words tokens)) body) rest
 
   -- a condition, `then` and a block, and what comes before `fi`
   pub data IsArms : (depth : ℕ) → (tokens : List Token) → (arms : Arms) → (rest : List Token) → Type 0 where
-    arm : {depth : ℕ} {then_word : Token} {tokens after more rest : List Token} {cond body : Script} {arms : Arms} → IsBlock depth tokens cond (then_word ∷ after) → reserved_of then_word ≡ Some r.Then → IsBlock depth after body more → IsMore depth more arms rest → IsArms depth tokens (Arm cond body arms) rest
+    arm : {depth : ℕ} {then_word : Token} {tokens after more rest : List Token} {cond body : Script} {arms : Arms} →
+        IsBlock depth tokens cond (then_word ∷ after) → reserved_of then_word ≡ Some r.Then →
+        IsBlock depth after body more → IsMore depth more arms rest → IsArms depth tokens (Arm cond body arms) rest
 
   pub data IsMore : (depth : ℕ) → (tokens : List Token) → (arms : Arms) → (rest : List Token) → Type 0 where
-    arms_end : {depth : ℕ} {fi : Token} {rest : List Token} → reserved_of fi ≡ Some r.Fi → IsMore depth (fi ∷ rest) NoElse (fi ∷ rest)
-    «else» : {depth : ℕ} {t : Token} {tokens rest : List Token} {body : Script} → reserved_of t ≡ Some r.Else → IsBlock depth tokens body rest → IsMore depth (t ∷ tokens) (Else body) rest
-    elif : {depth : ℕ} {t : Token} {tokens rest : List Token} {arms : Arms} → reserved_of t ≡ Some r.Elif → IsArms depth tokens arms rest → IsMore depth (t ∷ tokens) arms rest
+    arms_end : {depth : ℕ} {fi : Token} {rest : List Token} → reserved_of fi ≡ Some r.Fi →
+        IsMore depth (fi ∷ rest) NoElse (fi ∷ rest)
+    «else» : {depth : ℕ} {t : Token} {tokens rest : List Token} {body : Script} → reserved_of t ≡ Some r.Else →
+        IsBlock depth tokens body rest → IsMore depth (t ∷ tokens) (Else body) rest
+    elif : {depth : ℕ} {t : Token} {tokens rest : List Token} {arms : Arms} → reserved_of t ≡ Some r.Elif →
+        IsArms depth tokens arms rest → IsMore depth (t ∷ tokens) arms rest
 
   -- a condition, and `do`, a block and `done`
   pub data IsLoop : (depth : ℕ) → (tokens : List Token) → (cond body : Script) → (rest : List Token) → Type 0 where
-    loop : {depth : ℕ} {tokens after rest : List Token} {cond body : Script} → IsBlock depth tokens cond after → IsBody depth after body rest → IsLoop depth tokens cond body rest
+    loop : {depth : ℕ} {tokens after rest : List Token} {cond body : Script} → IsBlock depth tokens cond after →
+        IsBody depth after body rest → IsLoop depth tokens cond body rest
 
   pub data IsBody : (depth : ℕ) → (tokens : List Token) → (body : Script) → (rest : List Token) → Type 0 where
-    body : {depth : ℕ} {begin done : Token} {tokens rest : List Token} {body : Script} → reserved_of begin ≡ Some r.Do → IsBlock depth tokens body (done ∷ rest) → reserved_of done ≡ Some r.Done → IsBody depth (begin ∷ tokens) body rest
+    body : {depth : ℕ} {begin done : Token} {tokens rest : List Token} {body : Script} →
+        reserved_of begin ≡ Some r.Do → IsBlock depth tokens body (done ∷ rest) → reserved_of done ≡ Some r.Done →
+        IsBody depth (begin ∷ tokens) body rest
 
   pub data IsBlock : (depth : ℕ) → (tokens : List Token) → (block : Script) → (rest : List Token) → Type 0 where
-    block : {depth : ℕ} (tokens : List Token) {block : Script} {rest : List Token} → IsLists depth (past is_separator tokens) block rest → IsBlock depth tokens block rest
+    block : {depth : ℕ} (tokens : List Token) {block : Script} {rest : List Token} →
+        IsLists depth (past is_separator tokens) block rest → IsBlock depth tokens block rest
 
   -- and-or lists with separators between. Behind a simple command or assignments no word comes without a separator
   pub data IsLists : (depth : ℕ) → (tokens : List Token) → (lists : Script) → (rest : List Token) → Type 0 where
-    last : {depth : ℕ} {tokens : List Token} (after : List Token) {list : AndOr} → IsAndOr depth tokens list after → ends_block (past is_separator after) ≡ true → IsLists depth tokens (Runs list Empty) (past is_separator after)
-    more : {depth : ℕ} {sep : Token} {tokens after rest : List Token} {list : AndOr} {lists : Script} → IsAndOr depth tokens list (sep ∷ after) → is_separator sep ≡ true → IsLists depth (past is_separator after) lists rest → IsLists depth tokens (Runs list lists) rest
+    last : {depth : ℕ} {tokens : List Token} (after : List Token) {list : AndOr} → IsAndOr depth tokens list after →
+        ends_block (past is_separator after) ≡ true → IsLists depth tokens (Runs list Empty) (past is_separator after)
+    more : {depth : ℕ} {sep : Token} {tokens after rest : List Token} {list : AndOr} {lists : Script} →
+        IsAndOr depth tokens list (sep ∷ after) → is_separator sep ≡ true →
+        IsLists depth (past is_separator after) lists rest → IsLists depth tokens (Runs list lists) rest
 
   pub data IsAndOr : (depth : ℕ) → (tokens : List Token) → (list : AndOr) → (rest : List Token) → Type 0 where
-    starts : {depth : ℕ} {tokens after rest : List Token} {first : Command} {joined : Joined} → IsCommand depth tokens first after → IsJoined depth after joined rest → IsAndOr depth tokens (Starts first joined) rest
+    starts : {depth : ℕ} {tokens after rest : List Token} {first : Command} {joined : Joined} →
+        IsCommand depth tokens first after → IsJoined depth after joined rest →
+        IsAndOr depth tokens (Starts first joined) rest
 
   pub data IsJoined : (depth : ℕ) → (tokens : List Token) → (joined : Joined) → (rest : List Token) → Type 0 where
     alone : {depth : ℕ} {tokens : List Token} → goes_on tokens ≡ None → IsJoined depth tokens Alone tokens
-    joins : {depth : ℕ} {t : Token} {op : Op} (tokens : List Token) {after rest : List Token} {command : Command} {joined : Joined} → op_of t ≡ Some op → IsCommand depth (past is_newline tokens) command after → IsJoined depth after joined rest → IsJoined depth (t ∷ tokens) (Joins op command joined) rest
+    joins : {depth : ℕ} {t : Token} {op : Op} (tokens : List Token) {after rest : List Token} {command : Command}
+        {joined : Joined} → op_of t ≡ Some op → IsCommand depth (past is_newline tokens) command after →
+        IsJoined depth after joined rest → IsJoined depth (t ∷ tokens) (Joins op command joined) rest
 
 -- all tokens are a script
 pub data IsScript : (depth : ℕ) → (tokens : List Token) → (script : Script) → Type 0 where
   no_command : {depth : ℕ} {tokens : List Token} → past is_separator tokens ≡ [] → IsScript depth tokens Empty
-  commands : {depth : ℕ} (tokens : List Token) {script : Script} → IsLists depth (past is_separator tokens) script [] → IsScript depth tokens script
+  commands : {depth : ℕ} (tokens : List Token) {script : Script} →
+      IsLists depth (past is_separator tokens) script [] → IsScript depth tokens script
 
 -- compound commands stand at most so deep in one another
 abbrev pub max_nesting : ℕ

@@ -17,7 +17,8 @@ use Rattle.hushlang.specs.Parsing.{whole}
 
 -- a text spells no other tokens than those that are computed, so one row of them at most
 abbrev pub SpelledOnce : Type 0
-SpelledOnce = (at : ℕ) (text : List ℕ) (tokens : List Token) (end : End) → Spells at text tokens end → lexed at text ≡ record { tokens = tokens; end = end }
+SpelledOnce = (at : ℕ) (text : List ℕ) (tokens : List Token) (end : End) → Spells at text tokens end →
+    lexed at text ≡ record { tokens = tokens; end = end }
 
 -- and it spells those
 abbrev pub EachSpelled : Type 0
@@ -50,24 +51,29 @@ StandsWithin start stop other = ⊥
 abbrev pub AreInOrder : (start stop : ℕ) → List Token → End → Type 0
 AreInOrder start stop [] Whole = Unit {0}
 AreInOrder start stop [] (Refused error) = StandsWithin start stop error
-AreInOrder start stop (t ∷ tokens) end = (start ≤ t.start) × (t.start < t.stop) × (t.stop ≤ stop) × AreInOrder t.stop stop tokens end
+AreInOrder start stop (t ∷ tokens) end = (start ≤ t.start) × (t.start < t.stop) × (t.stop ≤ stop)
+    × AreInOrder t.stop stop tokens end
 
 abbrev pub TokensInOrder : Type 0
-TokensInOrder = (at : ℕ) (text : List ℕ) (tokens : List Token) (end : End) → Spells at text tokens end → AreInOrder at (at + length text) tokens end
+TokensInOrder = (at : ℕ) (text : List ℕ) (tokens : List Token) (end : End) → Spells at text tokens end →
+    AreInOrder at (at + length text) tokens end
 
 -- ---- trees
 
 -- the reader finds each tree
 abbrev pub EachTreeIsRead : Type 0
-EachTreeIsRead = (depth : ℕ) (tokens : List Token) (s : Script) (size : ℕ) → IsScript depth tokens s → whole depth record { tokens = tokens; end = Whole; size = size } ≡ Ok s
+EachTreeIsRead = (depth : ℕ) (tokens : List Token) (s : Script) (size : ℕ) → IsScript depth tokens s →
+    whole depth record { tokens = tokens; end = Whole; size = size } ≡ Ok s
 
 -- what the reader finds is a tree of the tokens, and they end with no fault
 abbrev pub WhatIsReadIsATree : Type 0
-WhatIsReadIsATree = (depth : ℕ) (tokens : List Token) (end : End) (s : Script) (size : ℕ) → whole depth record { tokens = tokens; end = end; size = size } ≡ Ok s → (end ≡ Whole) × IsScript depth tokens s
+WhatIsReadIsATree = (depth : ℕ) (tokens : List Token) (end : End) (s : Script) (size : ℕ) →
+    whole depth record { tokens = tokens; end = end; size = size } ≡ Ok s → (end ≡ Whole) × IsScript depth tokens s
 
 -- tokens have one tree at most
 abbrev pub OneTree : Type 0
-OneTree = (depth : ℕ) (tokens : List Token) (s other : Script) → IsScript depth tokens s → IsScript depth tokens other → s ≡ other
+OneTree = (depth : ℕ) (tokens : List Token) (s other : Script) → IsScript depth tokens s →
+    IsScript depth tokens other → s ≡ other
 
 -- and so has a text
 abbrev pub OneTreeOfText : Type 0
@@ -79,32 +85,39 @@ BlocksHoldCommands = (depth : ℕ) (tokens : List Token) (s : Script) → IsScri
 
 -- where a closing word stands right behind an and-or list, without a separator, its last command is compound
 abbrev pub BlocksAreClosed : Type 0
-BlocksAreClosed = (depth : ℕ) (tokens more : List Token) (t : Token) (list : AndOr) → IsAndOr depth tokens list (t ∷ more) → closes_at (reserved_of t) ≡ true → ends_compound list ≡ true
+BlocksAreClosed = (depth : ℕ) (tokens more : List Token) (t : Token) (list : AndOr) →
+    IsAndOr depth tokens list (t ∷ more) → closes_at (reserved_of t) ≡ true → ends_compound list ≡ true
 
 -- each block by the productions, with a closing word behind it, is derived
 abbrev pub EachProducedBlockIsDerived : Type 0
-EachProducedBlockIsDerived = (depth : ℕ) (tokens more : List Token) (t : Token) (block : Script) → closes_at (reserved_of t) ≡ true → IsProduced depth tokens block (t ∷ more) → IsBlock depth tokens block (t ∷ more)
+EachProducedBlockIsDerived = (depth : ℕ) (tokens more : List Token) (t : Token) (block : Script) →
+    closes_at (reserved_of t) ≡ true → IsProduced depth tokens block (t ∷ more) → IsBlock depth tokens block (t ∷ more)
 
 -- and each derived block, with a token behind it, is one by the productions
 abbrev pub EachDerivedBlockIsProduced : Type 0
-EachDerivedBlockIsProduced = (depth : ℕ) (tokens more : List Token) (t : Token) (block : Script) → IsBlock depth tokens block (t ∷ more) → IsProduced depth tokens block (t ∷ more)
+EachDerivedBlockIsProduced = (depth : ℕ) (tokens more : List Token) (t : Token) (block : Script) →
+    IsBlock depth tokens block (t ∷ more) → IsProduced depth tokens block (t ∷ more)
 
 -- the scripts by the productions are those that are derived
 abbrev pub EachProducedScriptIsDerived : Type 0
-EachProducedScriptIsDerived = (depth : ℕ) (tokens : List Token) (s : Script) → IsProducedScript depth tokens s → IsScript depth tokens s
+EachProducedScriptIsDerived = (depth : ℕ) (tokens : List Token) (s : Script) → IsProducedScript depth tokens s →
+    IsScript depth tokens s
 
 abbrev pub EachDerivedScriptIsProduced : Type 0
-EachDerivedScriptIsProduced = (depth : ℕ) (tokens : List Token) (s : Script) → IsScript depth tokens s → IsProducedScript depth tokens s
+EachDerivedScriptIsProduced = (depth : ℕ) (tokens : List Token) (s : Script) → IsScript depth tokens s →
+    IsProducedScript depth tokens s
 
 -- ---- places
 
 -- a refusal names the first token with which no script can go on, or the fault or the end behind all tokens
 abbrev pub RefusalsArePlaced : Type 0
-RefusalsArePlaced = (depth : ℕ) (tokens : List Token) (end : End) (size : ℕ) (e : SyntaxError) → whole depth record { tokens = tokens; end = end; size = size } ≡ Err e → IsRefusal depth tokens end size e
+RefusalsArePlaced = (depth : ℕ) (tokens : List Token) (end : End) (size : ℕ) (e : SyntaxError) →
+    whole depth record { tokens = tokens; end = end; size = size } ≡ Err e → IsRefusal depth tokens end size e
 
 -- a lexical fault is the answer where all tokens before it begin a script
 abbrev pub FaultsAreAnswered : Type 0
-FaultsAreAnswered = (depth : ℕ) (tokens : List Token) (size : ℕ) (e : SyntaxError) → IsViable depth tokens → whole depth record { tokens = tokens; end = Refused e; size = size } ≡ Err e
+FaultsAreAnswered = (depth : ℕ) (tokens : List Token) (size : ℕ) (e : SyntaxError) → IsViable depth tokens →
+    whole depth record { tokens = tokens; end = Refused e; size = size } ≡ Err e
 
 -- what begins tokens that begin a script begins one
 abbrev pub PrefixIsViable : Type 0
@@ -112,11 +125,13 @@ PrefixIsViable = (depth : ℕ) (front more : List Token) → IsViable depth (fro
 
 -- the words `true` and `in`, separators and reserved words
 abbrev pub completes : Token → Bool
-completes t = is_separator t || (is_some (reserved_of t) || (is_in_word t || (is_word t && is_plain (codes "true") t.parts)))
+completes t = is_separator t
+    || (is_some (reserved_of t) || (is_in_word t || (is_word t && is_plain (codes "true") t.parts)))
 
 -- these alone bring tokens that begin a script to its end
 abbrev pub FewTokensComplete : Type 0
-FewTokensComplete = (depth : ℕ) (tokens : List Token) → IsViable depth tokens → (more : List Token) × (list_all completes more ≡ true) × ((s : Script) × IsScript depth (tokens ++ more) s)
+FewTokensComplete = (depth : ℕ) (tokens : List Token) → IsViable depth tokens → (more : List Token)
+    × (list_all completes more ≡ true) × ((s : Script) × IsScript depth (tokens ++ more) s)
 
 -- each text is blocked at a place: where it is a script, at its end
 abbrev pub EachTextIsBlocked : Type 0

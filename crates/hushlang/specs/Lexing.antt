@@ -47,9 +47,15 @@ IsPart source t = (t.text.now ≡ take (t.stop - t.start) (drop t.start source))
 -- the first token of those to come, which is a part of the source, and the rest of them;
 -- without one the end or what refuses the text, and then nothing changes
 abbrev pub Gives : Coming → Result (Option Token) SyntaxError → Coming → Type 0
-Gives old (Ok (Some t)) new = (tokens_to_come old ≡ record { tokens = token_of t ∷ (tokens_to_come new).tokens; end = (tokens_to_come new).end }) × IsPart old.source t × (old.at < new.at) × (new.at ≤ length old.source)
-Gives old (Ok None) new = (tokens_to_come old ≡ record { tokens = []; end = Whole }) × (tokens_to_come new ≡ tokens_to_come old)
-Gives old (Err error) new = (tokens_to_come old ≡ record { tokens = []; end = Refused error }) × (tokens_to_come new ≡ tokens_to_come old)
+Gives old (Ok (Some t)) new =
+    (tokens_to_come old ≡ record {
+      tokens = token_of t ∷ (tokens_to_come new).tokens;
+      end = (tokens_to_come new).end;
+    }) × IsPart old.source t × (old.at < new.at) × (new.at ≤ length old.source)
+Gives old (Ok None) new = (tokens_to_come old ≡ record { tokens = []; end = Whole })
+    × (tokens_to_come new ≡ tokens_to_come old)
+Gives old (Err error) new = (tokens_to_come old ≡ record { tokens = []; end = Refused error })
+    × (tokens_to_come new ≡ tokens_to_come old)
 
 -- the text from a place on spells these tokens, and then is at its end or refused
 abbrev pub StillSpells : Coming → List spec.Token → End → Type 0
@@ -58,7 +64,8 @@ StillSpells c tokens end = Spells c.at (drop c.at c.source) tokens end
 -- the same by the rules: whatever the rest spells, the token stands in front of it. Behind the end, and behind what
 -- refuses the text, nothing else is to come
 abbrev pub SpellsNext : Coming → Result (Option Token) SyntaxError → Coming → Type 0
-SpellsNext old (Ok (Some t)) new = (tokens : List spec.Token) (end : End) → StillSpells new tokens end → StillSpells old (token_of t ∷ tokens) end
+SpellsNext old (Ok (Some t)) new = (tokens : List spec.Token) (end : End) → StillSpells new tokens end →
+    StillSpells old (token_of t ∷ tokens) end
 SpellsNext old (Ok None) new = StillSpells old [] Whole × StillSpells new [] Whole
 SpellsNext old (Err error) new = StillSpells old [] (Refused error) × StillSpells new [] (Refused error)
 

@@ -125,10 +125,13 @@ newline_first (t ∷ tokens) = is_newline t
 abbrev pub newline_next : Input → Bool
 newline_next i = newline_first i.tokens
 
--- What is found so far goes along. The number bounds the turns. Each turn takes a token, so the count of tokens is enough.
-abbrev pub joined_by : Parser Command → (List (Op × Command) → Parser Joined) → List (Op × Command) → Option Op → Parser Joined
+-- What is found so far goes along. The number bounds the turns. Each turn takes a token, so the count of tokens is
+-- enough.
+abbrev pub joined_by : Parser Command → (List (Op × Command) → Parser Joined) → List (Op × Command) → Option Op →
+    Parser Joined
 joined_by command more found None = pure (joins_of found)
-joined_by command more found (Some op) = λ i. (skip is_newline >> command >>= λ c. more (found ++ (op, c) ∷ [])) (next i)
+joined_by command more found (Some op) =
+    λ i. (skip is_newline >> command >>= λ c. more (found ++ (op, c) ∷ [])) (next i)
 
 unfoldable pub joined : Parser Command → ℕ → List (Op × Command) → Parser Joined
 joined command zero found = joined_by command (λ f. refuse) found None
@@ -148,7 +151,10 @@ lists_by more found false false = refuse
 
 unfoldable pub lists : Parser Command → ℕ → List AndOr → Parser Script
 lists command zero found = refuse
-lists command (suc turns) found = and_or command >>= λ list. λ i. lists_by (lists command turns (found ++ list ∷ [])) (found ++ list ∷ []) (separator_next i) (closes_next (behind is_separator i)) i
+lists command (suc turns) found =
+    and_or command >>= λ list. λ i.
+    lists_by (lists command turns (found ++ list ∷ [])) (found ++ list ∷ []) (separator_next i)
+    (closes_next (behind is_separator i)) i
 
 unfoldable pub lists_all : Parser Command → Parser Script
 lists_all command i = lists command (suc (length i.tokens)) [] i
@@ -157,7 +163,8 @@ unfoldable pub block : Parser Command → Parser Script
 block command = skip is_separator >> lists_all command
 
 -- behind an arm: `fi`, an `else` block, or another arm
-abbrev pub more_by : Parser Command → (List (Script × Script) → Parser Arms) → List (Script × Script) → Option Reserved → Parser Arms
+abbrev pub more_by : Parser Command → (List (Script × Script) → Parser Arms) → List (Script × Script) →
+    Option Reserved → Parser Arms
 more_by command more found (Some r.Else) = λ i. (block command >>= λ body. pure (arms_of found (Some body))) (next i)
 more_by command more found (Some r.Elif) = λ i. more found (next i)
 more_by command more found (Some r.Fi) = pure (arms_of found None)
@@ -172,7 +179,8 @@ arm command = do
 
 unfoldable pub arms : Parser Command → ℕ → List (Script × Script) → Parser Arms
 arms command zero found = refuse
-arms command (suc turns) found = arm command >>= λ one. λ i. more_by command (arms command turns) (found ++ one ∷ []) (keyword i) i
+arms command (suc turns) found =
+    arm command >>= λ one. λ i. more_by command (arms command turns) (found ++ one ∷ []) (keyword i) i
 
 unfoldable pub arms_all : Parser Command → Parser Arms
 arms_all command i = arms command (suc (length i.tokens)) [] i
@@ -257,7 +265,8 @@ for_command command = do
 
 -- ---- simple commands and assignments, where no reserved word comes next
 
-abbrev pub assigned : Token → Option (List ℕ × List Part) → Result (List (List ℕ × Word)) SyntaxError → Result (List (List ℕ × Word)) SyntaxError
+abbrev pub assigned : Token → Option (List ℕ × List Part) → Result (List (List ℕ × Word)) SyntaxError →
+    Result (List (List ℕ × Word)) SyntaxError
 assigned t None more = Err (AssignmentBeforeCommand t.start)
 assigned t (Some found) (Ok values) = Ok (value_of found ∷ values)
 assigned t (Some found) (Err error) = Err error

@@ -22,8 +22,12 @@ place_of e = None
 -- why tokens, with what they end by, are no script
 pub data IsRefusal : (depth : ℕ) → (tokens : List Token) → (end : End) → (size : ℕ) → (e : SyntaxError) → Type 0 where
   -- the tokens before it begin a script, and with it they do not
-  at_token : {depth : ℕ} {end : End} {size : ℕ} {e : SyntaxError} (front : List Token) (t : Token) (more : List Token) → IsViable depth front → (IsViable depth (front ++ t ∷ []) → ⊥) → place_of e ≡ Some t.start → IsRefusal depth (front ++ t ∷ more) end size e
+  at_token : {depth : ℕ} {end : End} {size : ℕ} {e : SyntaxError} (front : List Token) (t : Token) (more : List Token)
+      → IsViable depth front → (IsViable depth (front ++ t ∷ []) → ⊥) → place_of e ≡ Some t.start →
+      IsRefusal depth (front ++ t ∷ more) end size e
   -- all tokens begin a script, and a lexical fault follows
-  at_fault : {depth : ℕ} {tokens : List Token} {size : ℕ} {e : SyntaxError} → IsViable depth tokens → IsRefusal depth tokens (Refused e) size e
+  at_fault : {depth : ℕ} {tokens : List Token} {size : ℕ} {e : SyntaxError} → IsViable depth tokens →
+      IsRefusal depth tokens (Refused e) size e
   -- all tokens begin a script, and are none
-  at_end : {depth : ℕ} {tokens : List Token} {size : ℕ} {e : SyntaxError} → IsViable depth tokens → place_of e ≡ Some size → IsRefusal depth tokens Whole size e
+  at_end : {depth : ℕ} {tokens : List Token} {size : ℕ} {e : SyntaxError} → IsViable depth tokens →
+      place_of e ≡ Some size → IsRefusal depth tokens Whole size e

@@ -2,7 +2,8 @@
 -- Ours.
 use Rattle.std.specs.Prelude.{ℕ, zero, suc, ◌+◌, ◌-◌, Bool, true, false, not, ◌&&◌, ◌==◌, if◌then◌else◌, List, [], ◌∷◌, ◌++◌, length, take, drop}
 use Rattle.std.specs.List.{prefix_len}
-use Rattle.hushlang.specs.Bytes.{newline, is_blank, is_separator, begins_name, is_name_byte, is_brace_byte, is_escapable, begins}
+use Rattle.ascii.specs.Bytes as ascii
+use Rattle.hushlang.specs.Bytes.{is_blank, is_separator, begins_name, is_name_byte, is_brace_byte, is_escapable, begins}
 use Rattle.hushlang.specs.Token.{Part, Plain, Kept, Mark, Var, Status, Token, sign, word, End, Whole, Refused}
 use Rattle.hushlang.specs.Spelling.{dollar_itself}
 use Rattle.hushlang.specs.declared.parts.Mode.{Mode}
@@ -27,17 +28,19 @@ splits Bare = true
 splits mode = false
 
 abbrev pub variable : (split : Bool) → (first : ℕ) → (name : List ℕ) → Part
-variable split first [] = if first == 63 then Status else Var (first ∷ []) split
+variable split first [] = if first == ascii.question_mark then Status else Var (first ∷ []) split
 variable split first (b ∷ name) = Var (first ∷ b ∷ name) split
 
 -- behind `${`, where the brace bytes and what follows them are known
 abbrev pub closed : (mode : Mode) → (at : ℕ) → (name rest : List ℕ) → Step
 closed mode at name [] = Fails (OpenBrace at)
 closed mode at [] (b ∷ rest) = Fails (BadVariable at)
-closed mode at (first ∷ name) (b ∷ rest) = if b == 125 then Goes mode (3 + length name) (variable (splits mode) first name ∷ []) else Fails (BadVariable at)
+closed mode at (first ∷ name) (b ∷ rest) = if b == ascii.close_brace then
+    Goes mode (3 + length name) (variable (splits mode) first name ∷ []) else Fails (BadVariable at)
 
 unfoldable pub braced : (mode : Mode) → (at : ℕ) → (text : List ℕ) → Step
-braced mode at text = closed mode at (take (prefix_len is_brace_byte text) text) (drop (prefix_len is_brace_byte text) text)
+braced mode at text =
+    closed mode at (take (prefix_len is_brace_byte text) text) (drop (prefix_len is_brace_byte text) text)
 
 abbrev pub named : (mode : Mode) → (size : ℕ) → (text : List ℕ) → Step
 named mode size text = Goes mode size (Var (take size text) (splits mode) ∷ [])
@@ -46,40 +49,41 @@ named mode size text = Goes mode size (Var (take size text) (splits mode) ∷ []
 unfoldable pub dollar : (mode : Mode) → (at : ℕ) → (text : List ℕ) → Step
 dollar mode at [] = Goes mode 0 (dollar_itself (splits mode) ∷ [])
 dollar mode at (b ∷ text) =
-    if b == 63 then Goes mode 1 (Status ∷ [])
-    else (if b == 123 then braced mode at text
+    if b == ascii.question_mark then Goes mode 1 (Status ∷ [])
+    else (if b == ascii.open_brace then braced mode at text
     else (if begins_name b then named mode (prefix_len is_name_byte (b ∷ text)) (b ∷ text)
     else Goes mode 0 (dollar_itself (splits mode) ∷ [])))
 
 -- behind a backslash outside quotes
 abbrev pub backslash : (at : ℕ) → List ℕ → Step
 backslash at [] = Fails (LoneBackslash at)
-backslash at (b ∷ text) = if b == newline then Vanishes else Goes Bare 1 (Kept b ∷ [])
+backslash at (b ∷ text) = if b == ascii.newline then Vanishes else Goes Bare 1 (Kept b ∷ [])
 
 unfoldable pub bare : (at b : ℕ) → (text : List ℕ) → Step
 bare at b text =
     if is_separator b then Ends
-    else (if b == 92 then backslash at text
-    else (if b == 39 then Goes (Single at) 0 (Mark ∷ [])
-    else (if b == 34 then Goes (Double at) 0 (Mark ∷ [])
-    else (if b == 36 then dollar Bare at text
+    else (if b == ascii.backslash then backslash at text
+    else (if b == ascii.quote then Goes (Single at) 0 (Mark ∷ [])
+    else (if b == ascii.double_quote then Goes (Double at) 0 (Mark ∷ [])
+    else (if b == ascii.dollar then dollar Bare at text
     else Goes Bare 0 (Plain b ∷ [])))))
 
 -- behind a backslash in double quotes
 abbrev pub escape : (mode : Mode) → List ℕ → Step
-escape mode [] = Goes mode 0 (Kept 92 ∷ [])
-escape mode (b ∷ text) = if is_escapable b then Goes mode 1 (Kept b ∷ []) else (if b == newline then Goes mode 1 [] else Goes mode 0 (Kept 92 ∷ []))
+escape mode [] = Goes mode 0 (Kept ascii.backslash ∷ [])
+escape mode (b ∷ text) = if is_escapable b then Goes mode 1 (Kept b ∷ [])
+    else (if b == ascii.newline then Goes mode 1 [] else Goes mode 0 (Kept ascii.backslash ∷ []))
 
 unfoldable pub inside : (mode : Mode) → (at b : ℕ) → (text : List ℕ) → Step
 inside mode at b text =
-    if b == 34 then Goes Bare 0 []
-    else (if b == 92 then escape mode text
-    else (if b == 36 then dollar mode at text
+    if b == ascii.double_quote then Goes Bare 0 []
+    else (if b == ascii.backslash then escape mode text
+    else (if b == ascii.dollar then dollar mode at text
     else Goes mode 0 (Kept b ∷ [])))
 
 unfoldable pub step : (mode : Mode) → (at b : ℕ) → (text : List ℕ) → Step
 step Bare at b text = bare at b text
-step (Single opening) at b text = if b == 39 then Goes Bare 0 [] else Goes (Single opening) 0 (Kept b ∷ [])
+step (Single opening) at b text = if b == ascii.quote then Goes Bare 0 [] else Goes (Single opening) 0 (Kept b ∷ [])
 step (Double opening) at b text = inside (Double opening) at b text
 
 -- a row of pieces: where it stops and its parts
@@ -120,7 +124,10 @@ at_end (Double opening) stop = Refuses (OpenQuote opening)
 abbrev pub row : (mode : Mode) → (stop skip at : ℕ) → (text : List ℕ) → Seen
 row mode stop skip at [] = at_end mode stop
 row mode stop (suc skip) at (b ∷ text) = row mode stop skip (suc at) text
-row mode stop zero at (b ∷ text) = onto (step mode at b text) stop (row (mode_behind mode (step mode at b text)) (stop_behind stop at (step mode at b text)) (skip_behind (step mode at b text)) (suc at) text)
+row mode stop zero at (b ∷ text) =
+    onto (step mode at b text) stop
+    (row (mode_behind mode (step mode at b text)) (stop_behind stop at (step mode at b text))
+    (skip_behind (step mode at b text)) (suc at) text)
 
 -- what stands at the front of a text
 pub data Front : Type 0 where
@@ -140,16 +147,20 @@ word_front at b text = word_at at (row Bare at 0 at (b ∷ text))
 abbrev pub separator_front : (at : ℕ) → (b : ℕ) → (text : List ℕ) → Front
 separator_front at b text =
     if is_blank b then Gap 0
-    else (if b == 59 then Sees (sign kinds.Semi at (suc at)) 0
-    else (if b == 38 then (if begins (λ c. c == 38) text then Sees (sign kinds.AndAnd at (suc (suc at))) 1 else Stops (SingleAmp at))
-    else (if b == 124 then (if begins (λ c. c == 124) text then Sees (sign kinds.OrOr at (suc (suc at))) 1 else Stops (SinglePipe at))
+    else (if b == ascii.semicolon then Sees (sign kinds.Semi at (suc at)) 0
+    else (if b == ascii.ampersand then
+    (if begins (λ c. c == ascii.ampersand) text then Sees (sign kinds.AndAnd at (suc (suc at))) 1
+    else Stops (SingleAmp at))
+    else (if b == ascii.bar then
+    (if begins (λ c. c == ascii.bar) text then Sees (sign kinds.OrOr at (suc (suc at))) 1
+    else Stops (SinglePipe at))
     else Sees (sign kinds.Newline at (suc at)) 0)))
 
 unfoldable pub front : (at : ℕ) → (b : ℕ) → (text : List ℕ) → Front
 front at b text =
     if is_separator b then separator_front at b text
-    else (if b == 35 then Gap (prefix_len (λ c. not (c == newline)) text)
-    else (if b == 92 && begins (λ c. c == newline) text then Gap 1
+    else (if b == ascii.hash then Gap (prefix_len (λ c. not (c == ascii.newline)) text)
+    else (if b == ascii.backslash && begins (λ c. c == ascii.newline) text then Gap 1
     else word_front at b text))
 
 abbrev pub skip_of : Front → ℕ

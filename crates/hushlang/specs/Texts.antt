@@ -33,11 +33,15 @@ IsFaultOf text e = (tokens : List Token) × Spells 0 text tokens (Refused e) × 
 -- no script goes on with what stands at this place
 pub data IsBlocked : (text : List ℕ) → (place : ℕ) → Type 0 where
   -- the first token with which the tokens begin no script
-  at_token : {text : List ℕ} {end : End} (front : List Token) (t : Token) (more : List Token) → Spells 0 text (front ++ t ∷ more) end → IsViable max_nesting front → (IsViable max_nesting (front ++ t ∷ []) → ⊥) → IsBlocked text t.start
+  at_token : {text : List ℕ} {end : End} (front : List Token) (t : Token) (more : List Token) →
+      Spells 0 text (front ++ t ∷ more) end → IsViable max_nesting front →
+      (IsViable max_nesting (front ++ t ∷ []) → ⊥) → IsBlocked text t.start
   -- all tokens begin a script: the fault behind them
-  at_fault : {text : List ℕ} {place : ℕ} (e : SyntaxError) → IsFaultOf text e → fault_place e ≡ Some place → IsBlocked text place
+  at_fault : {text : List ℕ} {place : ℕ} (e : SyntaxError) → IsFaultOf text e → fault_place e ≡ Some place →
+      IsBlocked text place
   -- all tokens begin a script, up to the end of the text
-  at_end : {text : List ℕ} (tokens : List Token) → Spells 0 text tokens Whole → IsViable max_nesting tokens → IsBlocked text (length text)
+  at_end : {text : List ℕ} (tokens : List Token) → Spells 0 text tokens Whole → IsViable max_nesting tokens →
+      IsBlocked text (length text)
 
 -- ---- what an answer says of a text
 

@@ -47,7 +47,8 @@ shared (Some body) = Some body.value
 abbrev pub command_level : Command-F Command AndOr Script → Command
 command_level (open_command.Simple words) = tree.Simple (map word words.items)
 command_level (open_command.Assign values) = tree.Assign (map (λ v. (v.0.items, word v.1)) values.items)
-command_level (open_command.If all other) = tree.If (arms (map (λ arm. (arm.0.value, arm.1.value)) all.items) (shared other))
+command_level (open_command.If all other) =
+    tree.If (arms (map (λ arm. (arm.0.value, arm.1.value)) all.items) (shared other))
 command_level (open_command.Loop until cond body) = tree.Loop until cond.value body.value
 command_level (open_command.For name words body) = tree.For name.items (map word words.items) body.value
 
@@ -77,7 +78,8 @@ arm p = (script p.0.value, script p.1.value)
 abbrev pub joined : Op × code.Command → Op × Command
 joined p = (p.0, command p.1)
 
-abbrev pub arms_of : Vec (Rc code_script.Script Global × Rc code_script.Script Global) Global × Option (Rc code_script.Script Global) → Arms
+abbrev pub arms_of : Vec (Rc code_script.Script Global × Rc code_script.Script Global) Global
+    × Option (Rc code_script.Script Global) → Arms
 arms_of p = arms (map arm p.0.items) (script_in p.1)
 
 abbrev pub value : Vec ℕ Global × Word → List ℕ × tree.Word

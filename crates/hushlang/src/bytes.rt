@@ -2,6 +2,7 @@
 
 ghost use Rattle.std.specs.Prelude.{◌≡◌, ◌<◌, ◌≤◌, length, not, IsTrue, ◌==◌};
 ghost use Rattle.std.specs.List.{prefix_len};
+ghost use Rattle.ascii.specs.Bytes as ascii;
 ghost use Rattle.hushlang.specs.Bytes as spec;
 
 /// Whether a byte is a space or a tab.
@@ -89,7 +90,7 @@ pub fn brace_len(text: &[u8]) -> usize
 
 /// How many bytes stand before the end of the line.
 pub fn line_len(text: &[u8]) -> usize
-    ensures value { result ≡ prefix_len (λ b. not (b == spec.newline)) text.now }
+    ensures value { result ≡ prefix_len (λ b. not (b == ascii.newline)) text.now }
     ensures within { result ≤ length text.now }
 {
     text.iter().take_while(|b| **b != b'\n').count()

@@ -1,10 +1,7 @@
 //! What words expand to: the fields of a command, or the one value of an assignment.
 
-ghost use Rattle.std.specs.Prelude.{◌≡◌, ◌<◌, ◌≤◌, ◌+◌, ◌++◌, ℕ, List, length, map, OnOk, IfOk, IfErr};
+ghost use Rattle.std.specs.Prelude.{◌≡◌, ◌<◌, ◌≤◌, ◌+◌, ◌++◌, length, map, OnOk, IfOk, IfErr};
 ghost use Rattle.std.specs.Option.{option_copied};
-ghost use Rattle.std.specs.FinMap as finite;
-ghost use Rattle.std.specs.Ordering.{nat_cmp};
-ghost use Rattle.std.specs.Cmp.Lexicographic.{slice_cmp};
 ghost use Rattle.hushlang.specs.Expansion as spec;
 ghost use Rattle.hushlang.specs.Expanding as way;
 ghost use Rattle.hushlang.specs.View as view;
@@ -57,30 +54,24 @@ impl<T: Drop> From<AllocFailed<T>> for ExpandError {
 
 /// The variables that are set, and the status of the last command.
 pub trait Vars {
-    /// The variables that are set, with their values.
-    ghost variables: { Self → finite.FinMap (slice_cmp nat_cmp) (List ℕ) };
-
-    /// The status of the last command.
-    ghost last_status: { Self → ℕ };
+    /// The values of the variables, and the status of the last command.
+    ghost setting: { Self → spec.Setting };
 
     /// The value of a variable, or None where it is not set.
     fn get(&self, name: &[u8]) -> Option<&[u8]>
-        ensures { option_copied result ≡ finite.get (variables self.now) name.now };
+        ensures { option_copied result ≡ (setting self.now).value name.now };
 
     /// The status of the last command.
     fn status(&self) -> u8
-        ensures { result ≡ last_status self.now };
+        ensures { result ≡ (setting self.now).status };
 }
 
 /// The fields of all words, in order. The answer is TooLong exactly where they hold more than 65,536 bytes
 /// in all, and Memory only where a growth was refused.
 pub fn expand<V: Vars>(alloc: Global, words: &[Word], vars: &V) -> Result<Vec<Vec<u8>>, ExpandError>
-    ensures fields { let setting = spec.setting_of (V.variables vars.now) (V.last_status vars.now) in
-        IfOk result (λ found. map (λ field. field.items) found.items ≡ spec.fields setting (map view.word words.now)) }
-    ensures within_limit { let setting = spec.setting_of (V.variables vars.now) (V.last_status vars.now) in
-        OnOk result (spec.size (spec.fields setting (map view.word words.now)) ≤ spec.most_bytes) }
-    ensures too_long { let setting = spec.setting_of (V.variables vars.now) (V.last_status vars.now) in
-        IfErr result (λ error. error ≡ ExpandError.TooLong → spec.most_bytes < spec.size (spec.fields setting (map view.word words.now))) }
+    ensures fields { IfOk result (λ found. map (λ field. field.items) found.items ≡ spec.fields (V.setting vars.now) (map view.word words.now)) }
+    ensures within_limit { OnOk result (spec.size (spec.fields (V.setting vars.now) (map view.word words.now)) ≤ spec.most_bytes) }
+    ensures too_long { IfErr result (λ error. error ≡ ExpandError.TooLong → spec.most_bytes < spec.size (spec.fields (V.setting vars.now) (map view.word words.now))) }
 {
     let mut fields = Gathering::new(alloc);
     let mut values = ShortValues::new(alloc);
@@ -93,12 +84,9 @@ pub fn expand<V: Vars>(alloc: Global, words: &[Word], vars: &V) -> Result<Vec<Ve
 /// All bytes of a word, without cutting it at separators. The answer is TooLong exactly where there are more
 /// than 65,536 of them, and Memory only where a growth was refused.
 pub fn expand_one<V: Vars>(alloc: Global, word: &Word, vars: &V) -> Result<Vec<u8>, ExpandError>
-    ensures bytes { let setting = spec.setting_of (V.variables vars.now) (V.last_status vars.now) in
-        IfOk result (λ value. value.items ≡ spec.joined setting (view.word word.now)) }
-    ensures within_limit { let setting = spec.setting_of (V.variables vars.now) (V.last_status vars.now) in
-        OnOk result (length (spec.joined setting (view.word word.now)) ≤ spec.most_bytes) }
-    ensures too_long { let setting = spec.setting_of (V.variables vars.now) (V.last_status vars.now) in
-        IfErr result (λ error. error ≡ ExpandError.TooLong → spec.most_bytes < length (spec.joined setting (view.word word.now))) }
+    ensures bytes { IfOk result (λ value. value.items ≡ spec.joined (V.setting vars.now) (view.word word.now)) }
+    ensures within_limit { OnOk result (length (spec.joined (V.setting vars.now) (view.word word.now)) ≤ spec.most_bytes) }
+    ensures too_long { IfErr result (λ error. error ≡ ExpandError.TooLong → spec.most_bytes < length (spec.joined (V.setting vars.now) (view.word word.now))) }
 {
     let mut value = Vec::new(alloc);
     for piece in &word.pieces {
@@ -109,7 +97,7 @@ pub fn expand_one<V: Vars>(alloc: Global, word: &Word, vars: &V) -> Result<Vec<u
 
 /// The value of a variable, empty where it is not set.
 fn value_of<'v, V: Vars>(vars: &'v V, name: &[u8]) -> &'v [u8]
-    ensures { result.now ≡ spec.value_of (spec.setting_of (V.variables vars.now) (V.last_status vars.now)) name.now }
+    ensures { result.now ≡ spec.value_of (V.setting vars.now) name.now }
 {
     match vars.get(name) {
         Some(value) => value,
@@ -164,11 +152,9 @@ fn append(value: &mut Vec<u8>, bytes: &[u8]) -> Result<(), ExpandError>
 #[tactic(auto, using(crate::proofs::ExpandLemmas::uncut))]
 fn append_piece<V: Vars>(value: &mut Vec<u8>, piece: &Piece, vars: &V) -> Result<(), ExpandError>
     requires { length value.old.items ≤ spec.most_bytes }
-    ensures appended { let setting = spec.setting_of (V.variables vars.now) (V.last_status vars.now) in
-        OnOk result (value.new.items ≡ value.old.items ++ spec.all_bytes (spec.atoms_of_piece setting (view.piece piece.now))) }
+    ensures appended { OnOk result (value.new.items ≡ value.old.items ++ spec.all_bytes (spec.atoms_of_piece (V.setting vars.now) (view.piece piece.now))) }
     ensures within_limit { OnOk result (length value.new.items ≤ spec.most_bytes) }
-    ensures too_long { let setting = spec.setting_of (V.variables vars.now) (V.last_status vars.now) in
-        IfErr result (λ error. error ≡ ExpandError.TooLong → spec.most_bytes < length (value.old.items ++ spec.all_bytes (spec.atoms_of_piece setting (view.piece piece.now)))) }
+    ensures too_long { IfErr result (λ error. error ≡ ExpandError.TooLong → spec.most_bytes < length (value.old.items ++ spec.all_bytes (spec.atoms_of_piece (V.setting vars.now) (view.piece piece.now)))) }
 {
     match piece {
         Piece::Bytes(bytes) => append(value, bytes),
@@ -294,14 +280,12 @@ impl Gathering {
         values: &mut ShortValues,
     ) -> Result<(), ExpandError>
         requires counted { way.IsCounted self.old }
-        requires short { way.AreShort (spec.setting_of (V.variables vars.now) (V.last_status vars.now)) values.old.entries }
-        ensures added { let setting = spec.setting_of (V.variables vars.now) (V.last_status vars.now) in
-            OnOk result (way.gathered self.new ≡ way.with_atoms (way.gathered self.old) (map spec.split_atom (spec.value_of setting name.now))) }
+        requires short { way.AreShort (V.setting vars.now) values.old.entries }
+        ensures added { OnOk result (way.gathered self.new ≡ way.with_atoms (way.gathered self.old) (map spec.split_atom (spec.value_of (V.setting vars.now) name.now))) }
         ensures counted { OnOk result (way.IsCounted self.new) }
-        ensures short { OnOk result (way.AreShort (spec.setting_of (V.variables vars.now) (V.last_status vars.now)) values.new.entries) }
-        ensures too_long { let setting = spec.setting_of (V.variables vars.now) (V.last_status vars.now) in
-            IfErr result (λ error. error ≡ ExpandError.TooLong →
-            spec.most_bytes < way.gathered_size (way.with_atoms (way.gathered self.old) (map spec.split_atom (spec.value_of setting name.now)))) }
+        ensures short { OnOk result (way.AreShort (V.setting vars.now) values.new.entries) }
+        ensures too_long { IfErr result (λ error. error ≡ ExpandError.TooLong →
+            spec.most_bytes < way.gathered_size (way.with_atoms (way.gathered self.old) (map spec.split_atom (spec.value_of (V.setting vars.now) name.now)))) }
     {
         if let Some(short) = values.get(name) {
             return self.split(short);
@@ -320,14 +304,12 @@ impl Gathering {
         values: &mut ShortValues,
     ) -> Result<(), ExpandError>
         requires counted { way.IsCounted self.old }
-        requires short { way.AreShort (spec.setting_of (V.variables vars.now) (V.last_status vars.now)) values.old.entries }
-        ensures added { let setting = spec.setting_of (V.variables vars.now) (V.last_status vars.now) in
-            OnOk result (way.gathered self.new ≡ way.with_atoms (way.gathered self.old) (spec.atoms_of_piece setting (view.piece piece.now))) }
+        requires short { way.AreShort (V.setting vars.now) values.old.entries }
+        ensures added { OnOk result (way.gathered self.new ≡ way.with_atoms (way.gathered self.old) (spec.atoms_of_piece (V.setting vars.now) (view.piece piece.now))) }
         ensures counted { OnOk result (way.IsCounted self.new) }
-        ensures short { OnOk result (way.AreShort (spec.setting_of (V.variables vars.now) (V.last_status vars.now)) values.new.entries) }
-        ensures too_long { let setting = spec.setting_of (V.variables vars.now) (V.last_status vars.now) in
-            IfErr result (λ error. error ≡ ExpandError.TooLong →
-            spec.most_bytes < way.gathered_size (way.with_atoms (way.gathered self.old) (spec.atoms_of_piece setting (view.piece piece.now)))) }
+        ensures short { OnOk result (way.AreShort (V.setting vars.now) values.new.entries) }
+        ensures too_long { IfErr result (λ error. error ≡ ExpandError.TooLong →
+            spec.most_bytes < way.gathered_size (way.with_atoms (way.gathered self.old) (spec.atoms_of_piece (V.setting vars.now) (view.piece piece.now)))) }
     {
         match piece {
             Piece::Bytes(bytes) => self.keep_all(bytes),
@@ -349,14 +331,12 @@ impl Gathering {
         values: &mut ShortValues,
     ) -> Result<(), ExpandError>
         requires counted { way.IsCounted self.old }
-        requires short { way.AreShort (spec.setting_of (V.variables vars.now) (V.last_status vars.now)) values.old.entries }
-        ensures added { let setting = spec.setting_of (V.variables vars.now) (V.last_status vars.now) in
-            OnOk result (way.gathered self.new ≡ way.with_word setting (way.gathered self.old) (view.word word.now)) }
+        requires short { way.AreShort (V.setting vars.now) values.old.entries }
+        ensures added { OnOk result (way.gathered self.new ≡ way.with_word (V.setting vars.now) (way.gathered self.old) (view.word word.now)) }
         ensures counted { OnOk result (way.IsCounted self.new) }
-        ensures short { OnOk result (way.AreShort (spec.setting_of (V.variables vars.now) (V.last_status vars.now)) values.new.entries) }
-        ensures too_long { let setting = spec.setting_of (V.variables vars.now) (V.last_status vars.now) in
-            IfErr result (λ error. error ≡ ExpandError.TooLong →
-            spec.most_bytes < way.gathered_size (way.with_word setting (way.gathered self.old) (view.word word.now))) }
+        ensures short { OnOk result (way.AreShort (V.setting vars.now) values.new.entries) }
+        ensures too_long { IfErr result (λ error. error ≡ ExpandError.TooLong →
+            spec.most_bytes < way.gathered_size (way.with_word (V.setting vars.now) (way.gathered self.old) (view.word word.now))) }
     {
         for piece in &word.pieces {
             self.add_piece(piece, vars, values)?;

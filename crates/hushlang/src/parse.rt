@@ -316,6 +316,9 @@ pub fn parse(alloc: Global, text: &[u8]) -> Result<Script, SyntaxError>
     ensures tree { IfOk result (λ s. IsTreeOf text.now (view.script s)) }
     ensures blocks { IfOk result (λ s. FullScript (view.script s)) }
 
+    // The answer is what the rules read in the text, as it is computed; each clause below follows from it.
+    ensures read { Answers view.script (spec.whole grammar.max_nesting (input_in text.now)) result }
+
     // Any refusal but Memory comes only where there is no tree, at the first place that no script passes.
     ensures refused { IfErr result (λ e. e ≢ Memory → HasNoTree text.now) }
     ensures place { IfErr result (λ e. IsPlaced text.now (place_of e)) }

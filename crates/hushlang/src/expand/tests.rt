@@ -16,10 +16,9 @@ struct Only<'a> {
 
 impl Vars for Only<'_> {
     ghost use Rattle.std.specs.FinMap.{empty, insert};
+    ghost use Rattle.hushlang.specs.Expansion.{setting_of};
 
-    ghost variables = { λ only. insert empty only.name.now only.value.now };
-
-    ghost last_status = { λ only. only.status };
+    ghost setting = { λ only. setting_of (insert empty only.name.now only.value.now) only.status };
 
     fn get(&self, name: &[u8]) -> Option<&[u8]> {
         if name.cmp(&self.name).is_eq() {
@@ -43,11 +42,9 @@ struct With<'a, V: Vars + Drop> {
 }
 
 impl<V: Vars + Drop> Vars for With<'_, V> {
-    ghost use Rattle.std.specs.FinMap.{insert};
+    ghost use Rattle.hushlang.specs.Expansion.{with_variable};
 
-    ghost variables = { λ with. insert (V.variables with.others) with.name.now with.value.now };
-
-    ghost last_status = { λ with. V.last_status with.others };
+    ghost setting = { λ with. with_variable (V.setting with.others) with.name.now with.value.now };
 
     fn get(&self, name: &[u8]) -> Option<&[u8]> {
         if name.cmp(&self.name).is_eq() {

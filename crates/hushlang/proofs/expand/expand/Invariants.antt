@@ -1,12 +1,11 @@
 use Rattle.std.proofs.Common.{◌≡◌, map, drop}
-use Rattle.hushlang.specs.Expansion.{setting_of}
 use Rattle.hushlang.specs.Expanding.{gathered, nothing_gathered, with_words, IsCounted, AreShort}
 use Rattle.hushlang.specs.View as view
 use Rattle.hushlang.proofs.expand.expand.Given as goal
 
 abbrev pub invariant-loop-word : goal.invariant-loop-word
 invariant-loop-word g l =
-    let setting = setting_of (g.V.Vars.variables l.vars) (g.V.Vars.last_status l.vars) in
+    let setting = g.V.Vars.setting l.vars in
     record {
       same : with_words setting (gathered l.fields) (map view.word (drop l.word-index l.words)) ≡ with_words setting nothing_gathered (map view.word l.words);
       counted : IsCounted l.fields;

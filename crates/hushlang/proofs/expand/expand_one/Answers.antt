@@ -2,14 +2,14 @@ use Rattle.std.proofs.Common.{◌∙◌, ◌++◌, ap, map, arith, sym, append-n
 use Rattle.std.specs.List.{flat_map}
 use Rattle.std.proofs.Math.ListN.{drop_of_length-le}
 use Rattle.std.proofs.lemmas.Result.{err_from_is_err_and}
-use Rattle.hushlang.specs.Expansion.{atoms, atoms_of_piece, all_bytes, joined, setting_of}
+use Rattle.hushlang.specs.Expansion.{atoms, atoms_of_piece, all_bytes, joined}
 use Rattle.hushlang.specs.View as view
 use Rattle.hushlang.proofs.ExpandLemmas.{over_by_bytes, next_bytes, drop_next}
 use Rattle.hushlang.proofs.expand.expand_one.Goals as goal
 
 pub loop-piece-preserved : goal.loop-piece-preserved
 loop-piece-preserved g c =
-    let setting = setting_of (g.V.Vars.variables c.args.vars.now) (g.V.Vars.last_status c.args.vars.now) in
+    let setting = g.V.Vars.setting c.args.vars.now in
     let is = rw c.deref-piece-items.ensures.value at c.piece-item.is in
     let first = ap (map view.piece) (drop_next c.args.word.now.pieces.items c.loop-piece.piece-index c.piece-item.result (omega arith) is) in
     record {
@@ -20,7 +20,7 @@ loop-piece-preserved g c =
 pub returns-in_err-append_piece-clause-too_long : goal.returns-in_err-append_piece-clause-too_long
 unfolding atoms joined
 returns-in_err-append_piece-clause-too_long g c =
-    let setting = setting_of (g.V.Vars.variables c.args.vars.now) (g.V.Vars.last_status c.args.vars.now) in
+    let setting = g.V.Vars.setting c.args.vars.now in
     let is = rw c.deref-piece-items.ensures.value at c.piece-item.is in
     let first = ap (map view.piece) (drop_next c.args.word.now.pieces.items c.loop-piece.piece-index c.piece-item.result (omega arith) is) in
     let p = err_from_is_err_and c.from_residual.result c.from_residual.ensures.1 in
@@ -29,7 +29,7 @@ returns-in_err-append_piece-clause-too_long g c =
 pub returns-clause-bytes : goal.returns-clause-bytes
 unfolding atoms joined
 returns-clause-bytes g c =
-    let setting = setting_of (g.V.Vars.variables c.args.vars.now) (g.V.Vars.last_status c.args.vars.now) in
+    let setting = g.V.Vars.setting c.args.vars.now in
     let done = drop_of_length-le c.args.word.now.pieces.items {i = c.loop-piece.piece-index} (omega arith) in
     let value = c.loop-piece.value.items in
     sym (append-nil value) ∙ ap (λ pieces. value ++ all_bytes (flat_map (atoms_of_piece setting) (map view.piece pieces))) (sym done) ∙ c.loop-piece.invariant.same

@@ -1,5 +1,5 @@
 use Rattle.std.proofs.Common.{◌≡◌, ◌∙◌, ◌<◌, OnOk, IfErr, map, sym, ap, subst}
-use Rattle.hushlang.specs.Expansion.{setting_of, value_of, split_atom, most_bytes}
+use Rattle.hushlang.specs.Expansion.{value_of, split_atom, most_bytes}
 use Rattle.hushlang.specs.Expanding.{gathered, gathered_size, with_atoms, AreCutAlike, AreShort}
 use Rattle.hushlang.specs.declared.expand.ExpandError.TheVariants.{TooLong}
 use Rattle.hushlang.proofs.ShortValues.{Entries, short_found, short_added}
@@ -7,7 +7,7 @@ use Rattle.hushlang.proofs.expand.Gathering.add_split.Goals as goal
 
 pub returns-in-Some-clause-added : goal.returns-in-Some-clause-added
 returns-in-Some-clause-added g c =
-    let setting = setting_of (g.V.Vars.variables c.args.vars.now) (g.V.Vars.last_status c.args.vars.now) in
+    let setting = g.V.Vars.setting c.args.vars.now in
     let now = gathered c.args.self.now in
     let short = short_found setting c.args.values.now.entries c.args.name.now c.in-Some.short.now c.requires.short c.in-Some.ensures.value in
     let same = ap (λ value. with_atoms now (map split_atom value)) c.deref.ensures.value ∙ sym (short.0 now) in
@@ -15,7 +15,7 @@ returns-in-Some-clause-added g c =
 
 pub returns-in-Some-clause-too_long : goal.returns-in-Some-clause-too_long
 returns-in-Some-clause-too_long g c =
-    let setting = setting_of (g.V.Vars.variables c.args.vars.now) (g.V.Vars.last_status c.args.vars.now) in
+    let setting = g.V.Vars.setting c.args.vars.now in
     let now = gathered c.args.self.now in
     let short = short_found setting c.args.values.now.entries c.args.name.now c.in-Some.short.now c.requires.short c.in-Some.ensures.value in
     let same = ap (λ value. with_atoms now (map split_atom value)) c.deref.ensures.value ∙ sym (short.0 now) in
@@ -23,7 +23,7 @@ returns-in-Some-clause-too_long g c =
 
 pub returns-clause-short : goal.returns-clause-short
 returns-clause-short g c =
-    let setting = setting_of (g.V.Vars.variables c.args.vars.now) (g.V.Vars.last_status c.args.vars.now) in
+    let setting = g.V.Vars.setting c.args.vars.now in
     let key = c.in_ok-from_slice.field-0 in
     let short = c.in_ok-short.short in
     let value = c.value_of-value.ensures ∙ sym (ap (value_of setting) c.in_ok-from_slice.ensures.items) in

@@ -2,7 +2,7 @@ use Rattle.std.proofs.Common.{◌∙◌, ap, map, arith, sym}
 use Rattle.std.specs.List.{flat_map}
 use Rattle.std.proofs.Math.ListN.{drop_of_length-le}
 use Rattle.std.proofs.lemmas.Result.{err_from_is_err_and, on_ok_weaker}
-use Rattle.hushlang.specs.Expansion.{atoms, atoms_of_piece, setting_of}
+use Rattle.hushlang.specs.Expansion.{atoms, atoms_of_piece}
 use Rattle.hushlang.specs.Expanding.{gathered, with_atoms, closed}
 use Rattle.hushlang.specs.View as view
 use Rattle.hushlang.proofs.ExpandLemmas.{over_by_piece, next_piece, drop_next, gathered_size-closed}
@@ -10,7 +10,7 @@ use Rattle.hushlang.proofs.expand.Gathering.add_word.Goals as goal
 
 pub loop-piece-preserved : goal.loop-piece-preserved
 loop-piece-preserved g c =
-    let setting = setting_of (g.V.Vars.variables c.args.vars.now) (g.V.Vars.last_status c.args.vars.now) in
+    let setting = g.V.Vars.setting c.args.vars.now in
     let is = rw c.deref-piece-items.ensures.value at c.piece-item.is in
     let first = ap (map view.piece) (drop_next c.args.word.now.pieces.items c.loop-piece.piece-index c.piece-item.result (omega arith) is) in
     record {
@@ -22,7 +22,7 @@ loop-piece-preserved g c =
 pub returns-in_err-add_piece-clause-too_long : goal.returns-in_err-add_piece-clause-too_long
 unfolding atoms
 returns-in_err-add_piece-clause-too_long g c =
-    let setting = setting_of (g.V.Vars.variables c.args.vars.now) (g.V.Vars.last_status c.args.vars.now) in
+    let setting = g.V.Vars.setting c.args.vars.now in
     let is = rw c.deref-piece-items.ensures.value at c.piece-item.is in
     let first = ap (map view.piece) (drop_next c.args.word.now.pieces.items c.loop-piece.piece-index c.piece-item.result (omega arith) is) in
     let word = atoms setting (view.word c.args.word.now) in
@@ -33,7 +33,7 @@ returns-in_err-add_piece-clause-too_long g c =
 pub returns-clause-added : goal.returns-clause-added
 unfolding atoms
 returns-clause-added g c =
-    let setting = setting_of (g.V.Vars.variables c.args.vars.now) (g.V.Vars.last_status c.args.vars.now) in
+    let setting = g.V.Vars.setting c.args.vars.now in
     let done = drop_of_length-le c.args.word.now.pieces.items {i = c.loop-piece.piece-index} (omega arith) in
     let all = ap (λ pieces. with_atoms (gathered c.loop-piece.self) (flat_map (atoms_of_piece setting) (map view.piece pieces))) (sym done) ∙ c.loop-piece.invariant.same in
     on_ok_weaker c.close.result (λ is. is ∙ ap closed all) c.close.ensures.closed
