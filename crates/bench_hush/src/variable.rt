@@ -11,10 +11,9 @@ pub struct Only<'a> {
 
 impl Vars for Only<'_> {
     ghost use Rattle.std.specs.FinMap.{empty, insert};
+    ghost use Rattle.hushlang.specs.Expansion.{setting_of};
 
-    ghost variables = { λ only. insert empty only.name.now only.value.now };
-
-    ghost last_status = { λ _. 0 };
+    ghost setting = { λ only. setting_of (insert empty only.name.now only.value.now) 0 };
 
     fn get(&self, name: &[u8]) -> Option<&[u8]> {
         if name.cmp(&self.name).is_eq() {

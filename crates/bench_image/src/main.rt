@@ -12,7 +12,7 @@ const SIZE: u32 = 1 << 20;
 /// How often; the best time counts.
 const TURNS: u32 = 21;
 
-/// Bytes that tools/bench_crc.py makes too.
+/// Bytes that tools/bench.d/zlib_crc32.c makes too.
 fn pattern(alloc: Global) -> Result<Vec<u8>, AllocError> {
     let mut bytes = Vec::with_capacity(alloc, SIZE as usize)?;
     for index in 0..SIZE {

@@ -1,4 +1,4 @@
-mod Rows
+mod StoreExamples
 pub mod Tables
 pub mod Trails
 pub mod Onces
