@@ -7,62 +7,14 @@ use Rattle.rehearse.specs.Outcomes.{Word, Outcome, Success, Failure}
 use Rattle.rehearse.specs.Trees.{tree_of}
 use Rattle.rehearse.specs.State.{Text, get, State, start, setting_in}
 use Rattle.rehearse.specs.Verdict.{verdict}
-use Rattle.rehearse.specs.Commands.{Builtin, SetEnv, Run as RunTexts, Test, Echo, True, False, Leave, Device, NoCommand, builtins, builtin_in, asks_device, exit_status}
+use Rattle.rehearse.specs.Builtins.{SetEnv, Run as RunTexts, Test, Echo, True, False, Leave}
+use Rattle.rehearse.specs.Commands.{Called, BuiltIn, Device, NoCommand, called_by, asks_device, exit_status}
 use Rattle.rehearse.specs.Proper.{IsProper, IsProperList, IsProperJoined, IsProperCommand, HasArm, AreProperArms, IsBlock}
 use Rattle.rehearse.specs.Execution.{Setting, Answer, Normal, Exit, Ended, Dry, Ending, CutDevices, CutSteps, Syntax, Size, go_on, set_status, set_local, status_when, goes, holds, begin, take_outcome, device, Request, no_effect, logged, set_environment, boot, text_end, run_text, run_all, command, simple, sized, assign, turns, for_each, exec_script, exec_list, exec_joined, exec_command, exec_arms, exec}
 use Rattle.rehearse.specs.Runs.{Task, run_on, state_of, steps}
 use Rattle.rehearse.proofs.ProperLemmas.{trees_are_proper}
-use Rattle.rehearse.proofs.Keeping.{Track, Keeps, KeepsAll, Keeps-text, Keeps-simple, Keeps-sized, Keeps-assign, Keeps-for, Keeps-script, Keeps-list, Keeps-joined, Keeps-one, Keeps-arms, Keeps-exec, Keeps-ended, Keeps-if, Keeps-turns, after_condition, Keeps-after_condition}
-
--- ---- each block begins a step
-
--- more than n steps were begun, where the text goes on
-abbrev pub Grew : ℕ → Answer → Type 0
-Grew n (Normal t) = n < t.steps
-Grew n (Exit t) = Unit {0}
-Grew n (Ended ending t) = Unit {0}
-Grew n (Dry t) = Unit {0}
-
-Grew-track : (bound n : ℕ) (s : State) (a : Answer) → n < s.steps → Track bound s a → Grew n a
-Grew-track bound n s (Normal t) h k = let e = k.steps in omega arith
-Grew-track bound n s (Exit t) h k = tt
-Grew-track bound n s (Ended ending t) h k = tt
-Grew-track bound n s (Dry t) h k = tt
-
-Grew-go_on : (bound n : ℕ) (a : Answer) (g : State → Answer) → Grew n a → ((t : State) → Keeps bound t g) → Grew n (go_on a g)
-Grew-go_on bound n (Normal t) g h k = Grew-track bound n t (g t) h (k t).0
-Grew-go_on bound n (Exit t) g h k = tt
-Grew-go_on bound n (Ended ending t) g h k = tt
-Grew-go_on bound n (Dry t) g h k = tt
-
-module _ (setting : Setting) (left : ℕ) (text : Script → State → Answer) (kept : (a : Script) → KeepsAll setting (text a)) where
-  Grew-begin : (b : Bool) (s : State) (f : State → Answer) → KeepsAll setting f → Grew s.steps (elim b [ true ↦ f (record s { steps = suc s.steps }) | false ↦ Ended CutSteps s ])
-  Grew-begin true s f k = Grew-track setting.device_bound s.steps (record s { steps = suc s.steps }) (f (record s { steps = suc s.steps })) (omega arith) (k (record s { steps = suc s.steps })).0
-  Grew-begin false s f k = tt
-
-  Grew-turns : (k : ℕ) (until : Bool) (c b : State → Answer) → KeepsAll setting c → KeepsAll setting b → ((s : State) → Grew s.steps (c s)) → (last : ℕ) (s : State) → Grew s.steps (turns k until c b last s)
-  Grew-turns zero until c b h j g last s = tt
-  Grew-turns (suc k) until c b h j g last s = Grew-go_on setting.device_bound s.steps (c s) (after_condition setting until b (λ u. turns k until c b u.memory.status u) last) (g s) (Keeps-after_condition setting until b (λ u. turns k until c b u.memory.status u) j (λ u. Keeps-turns setting k until c b h j u.memory.status u) last)
-
-  mutual
-    pub Grew-command : (a : Command) → IsProperCommand a → (s : State) → Grew s.steps (exec_command setting left text a s)
-    Grew-command (tree.Simple words) p s = Grew-begin (nat_lt s.steps setting.step_bound) s (λ t. sized (fields (setting_in t.memory) words) (simple setting text) t) (λ t. Keeps-sized setting (fields (setting_in t.memory) words) (simple setting text) (Keeps-simple setting text kept) t)
-    Grew-command (tree.Assign pairs) p s = Grew-begin (nat_lt s.steps setting.step_bound) s (assign pairs) (Keeps-assign setting pairs)
-    Grew-command (tree.If arms) p s = Grew-if arms p s
-    Grew-command (tree.Loop until c b) p s = Grew-turns left until (exec_script setting left text c) (exec_script setting left text b) (Keeps-script setting left text kept c) (Keeps-script setting left text kept b) (Grew-block c p.0) 0 s
-    Grew-command (tree.For name words b) p s = Grew-begin (nat_lt s.steps setting.step_bound) s (λ t. sized (fields (setting_in t.memory) words) (for_each name (exec_script setting left text b) 0) t) (λ t. Keeps-sized setting (fields (setting_in t.memory) words) (for_each name (exec_script setting left text b) 0) (λ fs. Keeps-for setting name (exec_script setting left text b) (Keeps-script setting left text kept b) 0 fs) t)
-
-    pub Grew-block : (a : Script) → IsBlock a → (s : State) → Grew s.steps (exec_script setting left text a s)
-    Grew-block tree.Empty p s = absurd p
-    Grew-block (tree.Runs l ls) p s = Grew-go_on setting.device_bound s.steps (exec_list setting left text l s) (exec_script setting left text ls) (Grew-list l p.0 s) (Keeps-script setting left text kept ls)
-
-    Grew-list : (a : AndOr) → IsProperList a → (s : State) → Grew s.steps (exec_list setting left text a s)
-    Grew-list (tree.Starts c rest) p s = Grew-go_on setting.device_bound s.steps (exec_command setting left text c s) (exec_joined setting left text rest) (Grew-command c p.0 s) (Keeps-joined setting left text kept rest)
-
-    Grew-if : (a : Arms) → HasArm a → (s : State) → Grew s.steps (exec_arms setting left text a s)
-    Grew-if (tree.Arm c b arms) p s = Grew-go_on setting.device_bound s.steps (exec_script setting left text c s) (λ t. elim (nat_eq t.memory.status 0) [ true ↦ exec_script setting left text b t | false ↦ exec_arms setting left text arms t ]) (Grew-block c p.0 s) (λ t. Keeps-if setting.device_bound t (nat_eq t.memory.status 0) (exec_script setting left text b) (exec_arms setting left text arms) (Keeps-script setting left text kept b t) (Keeps-arms setting left text kept arms t))
-    Grew-if (tree.Else b) p s = absurd p
-    Grew-if tree.NoElse p s = absurd p
+use Rattle.rehearse.proofs.Growing.{Grew, Grew-block}
+use Rattle.rehearse.proofs.Keeping.{Track, KeepsAll, Keeps-text, Keeps-script, Keeps-list, Keeps-one, Keeps-exec, Keeps-ended}
 
 -- ---- no run goes past a bound
 
@@ -155,21 +107,21 @@ module _ (setting : Setting) where
     leave-ends (Some k) t h = h
     leave-ends None t h = h
 
-    command-ends : (b : Builtin) (name : Text) (ws : List Text) (t : State) → IsWithin t → setting.step_bound < n + t.steps → Ends (command setting script b name ws t)
-    command-ends SetEnv name ws t h r = h
-    command-ends RunTexts name [] t h r = h
-    command-ends RunTexts name (w ∷ ws) t h r = run-ends (w ∷ ws) t h r
-    command-ends Test name ws t h r = Ends-if (asks_device ws) (device setting (record { name = name; words = ws; effect = no_effect }) t) (Normal (set_status (status_when (verdict ws)) t)) (λ e. device-ends t (record { name = name; words = ws; effect = no_effect }) h) (λ e. h)
-    command-ends Echo name ws t h r = h
-    command-ends True name ws t h r = h
-    command-ends False name ws t h r = h
-    command-ends Leave name ws t h r = leave-ends (exit_status ws) t h
+    command-ends : (b : Called) (name : Text) (ws : List Text) (t : State) → IsWithin t → setting.step_bound < n + t.steps → Ends (command setting script b name ws t)
+    command-ends (BuiltIn SetEnv) name ws t h r = h
+    command-ends (BuiltIn RunTexts) name [] t h r = h
+    command-ends (BuiltIn RunTexts) name (w ∷ ws) t h r = run-ends (w ∷ ws) t h r
+    command-ends (BuiltIn Test) name ws t h r = Ends-if (asks_device ws) (device setting (record { name = name; words = ws; effect = no_effect }) t) (Normal (set_status (status_when (verdict ws)) t)) (λ e. device-ends t (record { name = name; words = ws; effect = no_effect }) h) (λ e. h)
+    command-ends (BuiltIn Echo) name ws t h r = h
+    command-ends (BuiltIn True) name ws t h r = h
+    command-ends (BuiltIn False) name ws t h r = h
+    command-ends (BuiltIn Leave) name ws t h r = leave-ends (exit_status ws) t h
     command-ends (Device effect) name ws t h r = device-ends t (record { name = name; words = ws; effect = effect }) h
     command-ends NoCommand name ws t h r = (h, tt)
 
     simple-ends : (fs : List Text) (t : State) → IsWithin t → setting.step_bound < n + t.steps → Ends (simple setting script fs t)
     simple-ends [] t h r = h
-    simple-ends (name ∷ ws) t h r = command-ends (builtin_in builtins setting.devices name) name ws t h r
+    simple-ends (name ∷ ws) t h r = command-ends (called_by setting.devices name) name ws t h r
 
   -- over the tree, with n steps left
   module _ (n : ℕ) (text : Script → State → Answer) (kept : (a : Script) → KeepsAll setting (text a)) (ends : (a : Script) → IsProper a → (t : State) → IsWithin t → setting.step_bound < n + t.steps → Ends (text a t)) where

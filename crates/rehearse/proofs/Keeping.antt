@@ -9,7 +9,8 @@ use Rattle.rehearse.specs.State.{Text, get, Memory, State, setting_in}
 use Rattle.hushlang.specs.Expansion.{fields, joined, size, most_bytes}
 use Rattle.rehearse.specs.Trees.{tree_of}
 use Rattle.rehearse.specs.Verdict.{verdict}
-use Rattle.rehearse.specs.Commands.{Builtin, SetEnv, Run as RunTexts, Test, Echo, True, False, Leave, Device, NoCommand, builtins, builtin_in, asks_device, setenv, echo, exit_status}
+use Rattle.rehearse.specs.Builtins.{SetEnv, Run as RunTexts, Test, Echo, True, False, Leave}
+use Rattle.rehearse.specs.Commands.{Called, BuiltIn, Device, NoCommand, called_by, asks_device, setenv, echo, exit_status}
 use Rattle.rehearse.specs.Execution.{Setting, Answer, Normal, Exit, Ended, Dry, Ending, CutDevices, CutSteps, Unknown, Syntax, Size, go_on, remember, set_status, set_local, status_when, goes, holds, begin, take_outcome, device, Request, no_effect, logged, set_environment, boot, text_end, run_text, run_all, command, simple, sized, assign, turns, for_each, exec_script, exec_list, exec_joined, exec_command, exec_arms, exec, succeeds}
 use Rattle.rehearse.specs.Runs.{state_of}
 
@@ -35,12 +36,12 @@ Track bound s (Exit t) = GoesTo s t
 Track bound s (Ended ending t) = GoesTo s t
 Track bound s (Dry t) = GoesTo s t × (t.word ≡ []) × (length t.log < bound)
 
--- what an answer becomes where x stands behind the word
+-- what an answer becomes where x stands behind the word: no fewer steps are begun
 abbrev pub Extends : Word → Answer → Answer → Type 0
 Extends x (Normal t) b = b ≡ Normal (more x t)
 Extends x (Exit t) b = b ≡ Exit (more x t)
 Extends x (Ended ending t) b = b ≡ Ended ending (more x t)
-Extends x (Dry t) b = x ≢ [] → length (state_of b).word < length x
+Extends x (Dry t) b = (x ≢ [] → length (state_of b).word < length x) × (t.steps ≤ (state_of b).steps)
 
 -- what holds of a part of a script at a state
 abbrev pub Keeps : ℕ → State → (State → Answer) → Type 0
@@ -88,11 +89,18 @@ module _ (bound : ℕ) where
   go_on-less x (Ended ending t) g k h = h
   go_on-less x (Dry t) g k h = h
 
+  -- and no fewer steps are begun
+  go_on-later : (n : ℕ) (b : Answer) (g : State → Answer) → ((t : State) → Keeps bound t g) → n ≤ (state_of b).steps → n ≤ (state_of (go_on b g)).steps
+  go_on-later n (Normal t) g k h = let e = (Track-of bound t (g t) (k t).0).steps in omega arith
+  go_on-later n (Exit t) g k h = h
+  go_on-later n (Ended ending t) g k h = h
+  go_on-later n (Dry t) g k h = h
+
   go_on-extends : (x : Word) (a b : Answer) (g : State → Answer) → ((t : State) → Keeps bound t g) → Extends x a b → Extends x (go_on a g) (go_on b g)
   go_on-extends x (Normal t) b g k h = rw h ((k t).1 x)
   go_on-extends x (Exit t) b g k h = rw h refl
   go_on-extends x (Ended ending t) b g k h = rw h refl
-  go_on-extends x (Dry t) b g k h = λ ne. go_on-less x b g k (h ne)
+  go_on-extends x (Dry t) b g k h = (λ ne. go_on-less x b g k (h.0 ne), go_on-later t.steps b g k h.1)
 
   pub Keeps-go_on : (s : State) (f g : State → Answer) → Keeps bound s f → ((t : State) → Keeps bound t g) → Keeps bound s (λ t. go_on (f t) g)
   Keeps-go_on s f g h k = (go_on-track s (f s) g h.0 k, λ x. go_on-extends x (f s) (f (more x s)) g k (h.1 x))
@@ -135,11 +143,17 @@ module _ (bound : ℕ) where
   text_end-less x (Ended ending t) g k h = h
   text_end-less x (Dry t) g k h = h
 
+  text_end-later : (n : ℕ) (b : Answer) (g : State → Answer) → ((t : State) → Keeps bound t g) → n ≤ (state_of b).steps → n ≤ (state_of (text_end b g)).steps
+  text_end-later n (Normal t) g k h = let e = Keeps-if t (nat_eq t.memory.status 0) g Normal (k t) (Keeps-stays t) in let a : Answer = elim (nat_eq t.memory.status 0) [ true ↦ g t | false ↦ Normal t ] in let l = (Track-of bound t a e.0).steps in omega arith
+  text_end-later n (Exit t) g k h = let e = Keeps-if t (nat_eq t.memory.status 0) g Normal (k t) (Keeps-stays t) in let a : Answer = elim (nat_eq t.memory.status 0) [ true ↦ g t | false ↦ Normal t ] in let l = (Track-of bound t a e.0).steps in omega arith
+  text_end-later n (Ended ending t) g k h = h
+  text_end-later n (Dry t) g k h = h
+
   text_end-extends : (x : Word) (a b : Answer) (g : State → Answer) → ((t : State) → Keeps bound t g) → Extends x a b → Extends x (text_end a g) (text_end b g)
   text_end-extends x (Normal t) b g k h = rw h ((Keeps-if t (nat_eq t.memory.status 0) g Normal (k t) (Keeps-stays t)).1 x)
   text_end-extends x (Exit t) b g k h = rw h ((Keeps-if t (nat_eq t.memory.status 0) g Normal (k t) (Keeps-stays t)).1 x)
   text_end-extends x (Ended ending t) b g k h = rw h refl
-  text_end-extends x (Dry t) b g k h = λ ne. text_end-less x b g k (h ne)
+  text_end-extends x (Dry t) b g k h = (λ ne. text_end-less x b g k (h.0 ne), text_end-later t.steps b g k h.1)
 
 module _ (setting : Setting) where
   abbrev pub KeepsAll : (State → Answer) → Type 0
@@ -164,6 +178,10 @@ module _ (setting : Setting) where
   boot-less true name x t e = let l = ap length e in omega arith
   boot-less false name x t e = let l = ap length e in omega arith
 
+  boot-steps : (b : Bool) (name : Text) (t : State) → (state_of (boot b name t)).steps ≡ t.steps
+  boot-steps true name t = refl
+  boot-steps false name t = refl
+
   took : (s : State) (r : Request) (d : Outcome) (rest : Word) → s.word ≡ d ∷ rest → GoesTo s (logged d r (record s { word = rest }))
   took s r d rest e = record { taken = d ∷ []; word = e; log = length-append s.log (record { success = succeeds d; words = r.name ∷ r.words } ∷ []); outcomes = map-append (λ e. e.success) s.log (record { success = succeeds d; words = r.name ∷ r.words } ∷ []); steps = omega arith }
 
@@ -176,9 +194,11 @@ module _ (setting : Setting) where
   asked s r (Failure ∷ rest) room e = took s r Failure rest e
 
   asked-extends : (s : State) (r : Request) (rest x : Word) → Extends x (take_outcome r rest s) (take_outcome r (rest ++ x) (more x s))
-  asked-extends s r [] [] = λ ne. absurd (ne refl)
-  asked-extends s r [] (Success ∷ x) = λ ne. boot-less r.effect.ends r.name x (set_environment r.effect.sets (logged Success r (record s { word = x }))) refl
-  asked-extends s r [] (Failure ∷ x) = λ ne. omega arith
+  asked-extends s r [] [] = (λ ne. absurd (ne refl), omega arith)
+  asked-extends s r [] (Success ∷ x) =
+      let t : State = set_environment r.effect.sets (logged Success r (record s { word = x })) in
+      (λ ne. boot-less r.effect.ends r.name x t refl, let e = boot-steps r.effect.ends r.name t in omega arith)
+  asked-extends s r [] (Failure ∷ x) = (λ ne. omega arith, omega arith)
   asked-extends s r (Success ∷ rest) x = boot-extends x r.effect.ends r.name (set_environment r.effect.sets (logged Success r (record s { word = rest })))
   asked-extends s r (Failure ∷ rest) x = refl
 
@@ -225,21 +245,21 @@ module _ (setting : Setting) where
     Keeps-leave (Some n) s = Keeps-exit setting.device_bound s (λ m. record m { status = n })
     Keeps-leave None s = Keeps-normal setting.device_bound s (λ m. record m { status = 1 })
 
-    pub Keeps-command : (b : Builtin) (name : Text) (ws : List Text) → KeepsAll (command setting script b name ws)
-    Keeps-command SetEnv name ws s = Keeps-normal setting.device_bound s (setenv ws)
-    Keeps-command RunTexts name [] s = Keeps-normal setting.device_bound s (λ m. record m { status = 1 })
-    Keeps-command RunTexts name (w ∷ ws) s = Keeps-run (w ∷ ws) s
-    Keeps-command Test name ws s = Keeps-if setting.device_bound s (asks_device ws) (device setting (record { name = name; words = ws; effect = no_effect })) (λ t. Normal (set_status (status_when (verdict ws)) t)) (Keeps-device (record { name = name; words = ws; effect = no_effect }) s) (Keeps-normal setting.device_bound s (λ m. record m { status = status_when (verdict ws) }))
-    Keeps-command Echo name ws s = Keeps-normal setting.device_bound s (echo ws)
-    Keeps-command True name ws s = Keeps-normal setting.device_bound s (λ m. record m { status = 0 })
-    Keeps-command False name ws s = Keeps-normal setting.device_bound s (λ m. record m { status = 1 })
-    Keeps-command Leave name ws s = Keeps-leave (exit_status ws) s
+    pub Keeps-command : (b : Called) (name : Text) (ws : List Text) → KeepsAll (command setting script b name ws)
+    Keeps-command (BuiltIn SetEnv) name ws s = Keeps-normal setting.device_bound s (setenv ws)
+    Keeps-command (BuiltIn RunTexts) name [] s = Keeps-normal setting.device_bound s (λ m. record m { status = 1 })
+    Keeps-command (BuiltIn RunTexts) name (w ∷ ws) s = Keeps-run (w ∷ ws) s
+    Keeps-command (BuiltIn Test) name ws s = Keeps-if setting.device_bound s (asks_device ws) (device setting (record { name = name; words = ws; effect = no_effect })) (λ t. Normal (set_status (status_when (verdict ws)) t)) (Keeps-device (record { name = name; words = ws; effect = no_effect }) s) (Keeps-normal setting.device_bound s (λ m. record m { status = status_when (verdict ws) }))
+    Keeps-command (BuiltIn Echo) name ws s = Keeps-normal setting.device_bound s (echo ws)
+    Keeps-command (BuiltIn True) name ws s = Keeps-normal setting.device_bound s (λ m. record m { status = 0 })
+    Keeps-command (BuiltIn False) name ws s = Keeps-normal setting.device_bound s (λ m. record m { status = 1 })
+    Keeps-command (BuiltIn Leave) name ws s = Keeps-leave (exit_status ws) s
     Keeps-command (Device effect) name ws s = Keeps-device (record { name = name; words = ws; effect = effect }) s
     Keeps-command NoCommand name ws s = Keeps-ended setting.device_bound s (Unknown name)
 
     pub Keeps-simple : (fs : List Text) → KeepsAll (simple setting script fs)
     Keeps-simple [] s = Keeps-normal setting.device_bound s (λ m. record m { status = 0 })
-    Keeps-simple (name ∷ ws) s = Keeps-command (builtin_in builtins setting.devices name) name ws s
+    Keeps-simple (name ∷ ws) s = Keeps-command (called_by setting.devices name) name ws s
 
   -- what a turn of a loop does after its condition
   abbrev pub after_condition : Bool → (State → Answer) → (State → Answer) → ℕ → State → Answer

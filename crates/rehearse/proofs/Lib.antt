@@ -5,25 +5,28 @@ pub mod Choice
 pub mod Following
 pub mod Keeping
 pub mod TaskChoices
+pub mod StepLemmas
 pub mod OrderOfWords
+pub mod Growing
 pub mod BoundLemmas
 pub mod Pages
 pub mod Whole
 pub mod RecordLines
 pub mod ResumedLemmas
 pub mod Rehearsed
-mod Rows
-mod RuleRows
-mod BootRows
-mod ResumingRows
+mod ListingExamples
+mod ExecutionExamples
+mod BootingExamples
+mod ResumingExamples
 pub mod DeviceLemmas
-pub mod DeviceListRows
+mod DeviceListExamples
 pub mod JoinedLines
 pub mod MapLemmas
 pub mod QuietNames
+pub mod PlainLists
 pub mod VerdictLemmas
-pub mod VerdictRows
-mod ListedRows
-mod RunningRows
-pub mod EdgeRows
-mod BoundRows
+mod VerdictExamples
+mod ListedExamples
+mod RunningExamples
+mod EdgeExamples
+mod BoundExamples

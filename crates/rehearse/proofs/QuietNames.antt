@@ -6,7 +6,8 @@ use Rattle.std.proofs.lemmas.Bool.{false≢true}
 use Rattle.std.proofs.lemmas.Bool.Decides.{nat_tests}
 use Rattle.envimage.specs.Text.{numbered_lines}
 use Rattle.rehearse.specs.Verdict.{Text}
-use Rattle.rehearse.specs.DeviceList.{Effect, Devices, effect_of, joint, joined, device_words, begins_comment, is_built_in, with_listing, after_words, after_line, listed_lines}
+use Rattle.rehearse.specs.Builtins.{is_built_in}
+use Rattle.rehearse.specs.DeviceList.{Effect, Devices, effect_of, joint, joined, device_words, begins_comment, with_listing, after_words, after_line, listed_lines}
 use Rattle.rehearse.specs.DeviceLaws.{quiet, is_name_alone, NamesAreQuiet}
 use Rattle.rehearse.specs.declared.devices_error.DevicesError.{DevicesError}
 use Rattle.rehearse.specs.declared.devices_error.DevicesError.TheVariants.{BadLine, BuiltIn}

@@ -6,9 +6,15 @@ pub record BoundsShown : Type 0 where
   pub devices : ℕ
   pub steps : ℕ
 
--- at most 32 device commands and 1,000,000 steps
+-- the most device commands and steps that a rehearsal may allow to a run
+abbrev pub most_devices : ℕ
+most_devices = 32
+
+abbrev pub most_steps : ℕ
+most_steps = 1000000
+
 abbrev pub are_bounds : ℕ → ℕ → Bool
-are_bounds devices steps = nat_le devices 32 && nat_le steps 1000000
+are_bounds devices steps = nat_le devices most_devices && nat_le steps most_steps
 
 abbrev pub bounds_of : ℕ → ℕ → Option BoundsShown
 bounds_of devices steps = if are_bounds devices steps then Some (record { devices = devices; steps = steps }) else None

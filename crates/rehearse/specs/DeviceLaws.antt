@@ -10,7 +10,8 @@ use Rattle.rehearse.specs.DeviceList.{Effect, Devices, Listing, effect_of, devic
 -- the command that a line names, if it names one, in a list without a faulty line
 abbrev pub line_listing : ℕ → List Text → Option Listing
 line_listing number [] = None
-line_listing number (first ∷ words) = if begins_comment first then None else result_ok (listing_of number (heading_of first words))
+line_listing number (first ∷ words) = if begins_comment first then None
+    else result_ok (listing_of number (heading_of first words))
 
 abbrev pub with_line : Option Listing → List Listing → List Listing
 with_line None more = more
@@ -48,5 +49,6 @@ is_name_alone line = nat_le (length (device_words line)) 1
 
 -- A list without a second word in any line says nothing but names.
 abbrev pub NamesAreQuiet : Type 0
-NamesAreQuiet = (text : Text) (devices : Devices) → listed text ≡ Ok devices → list_all (λ l. is_name_alone l.1) (numbered_lines text) ≡ true
+NamesAreQuiet = (text : Text) (devices : Devices) → listed text ≡ Ok devices →
+    list_all (λ l. is_name_alone l.1) (numbered_lines text) ≡ true
     → (name : Text) (effect : Effect) → effect_of devices name ≡ Some effect → effect ≡ quiet

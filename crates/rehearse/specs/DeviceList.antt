@@ -3,9 +3,11 @@ use Rattle.std.specs.Prelude.{ℕ, ◌+◌, ◌==◌, ◌||◌, ◌&&◌, ◌++�
 use Rattle.std.specs.Str.{bytes_eq}
 use Rattle.std.specs.List.{list_any, slice_split, position}
 use Rattle.std.specs.Map.{lookup}
+use Rattle.ascii.specs.Bytes as ascii
 use Rattle.envimage.specs.Text.{numbered_lines}
 use Rattle.envimage.specs.Words.{is_blank, skipped}
 use Rattle.rehearse.specs.Verdict.{Text}
+use Rattle.rehearse.specs.Builtins.{is_built_in}
 use Rattle.rehearse.specs.declared.devices_error.DevicesError.{DevicesError}
 use Rattle.rehearse.specs.declared.devices_error.DevicesError.TheVariants.{BadLine, BuiltIn}
 
@@ -37,7 +39,7 @@ abbrev pub trimmed : Text → Text
 trimmed line = cut_behind (skipped is_blank line)
 
 abbrev pub is_space : ℕ → Bool
-is_space b = (b == 32) || (b == 9)
+is_space b = (b == ascii.space) || (b == ascii.tab)
 
 -- Spaces and tabs separate words; a carriage return inside the line is a byte of its word.
 abbrev pub device_words : Text → List Text
@@ -46,12 +48,12 @@ device_words line = filter (λ word. not (length word == 0)) (slice_split is_spa
 -- ---- what a line says
 
 abbrev pub is_equals : ℕ → Bool
-is_equals b = b == 61
+is_equals b = b == ascii.equals
 
 -- a variable's name is not empty and does not begin with `-`
 abbrev pub is_variable : Text → Bool
 is_variable [] = false
-is_variable (b ∷ bytes) = not (b == 45)
+is_variable (b ∷ bytes) = not (b == ascii.minus)
 
 -- A setting is a variable's name, the first `=`, and a value that may be empty.
 abbrev pub setting : Text → Option (Text × Text)
@@ -84,26 +86,21 @@ heading_of first (second ∷ words) =
     then record { name = second; ends = true; words = words }
     else record { name = first; ends = false; words = second ∷ words }
 
-abbrev pub built_ins : List Text
-built_ins = codes "setenv" ∷ codes "run" ∷ codes "test" ∷ codes "echo" ∷ codes "true" ∷ codes "false" ∷ codes "exit" ∷ []
-
-abbrev pub is_built_in : Text → Bool
-is_built_in name = list_any (bytes_eq name) built_ins
-
 -- one line of a command
 abbrev pub Listing : Type 0
 Listing = Text × Effect
 
 abbrev pub listing_with : ℕ → Heading → Option (List (Text × Text)) → Result Listing DevicesError
 listing_with number h None = Err (BadLine number)
-listing_with number h (Some sets) = if is_built_in h.name then Err (BuiltIn number) else Ok (h.name, record { ends = h.ends; sets = sets })
+listing_with number h (Some sets) = if is_built_in h.name then Err (BuiltIn number)
+    else Ok (h.name, record { ends = h.ends; sets = sets })
 
 abbrev pub listing_of : ℕ → Heading → Result Listing DevicesError
 listing_of number h = listing_with number h (settings h.words)
 
 abbrev pub begins_comment : Text → Bool
 begins_comment [] = false
-begins_comment (b ∷ bytes) = b == 35
+begins_comment (b ∷ bytes) = b == ascii.hash
 
 -- ---- the list
 
@@ -119,12 +116,14 @@ abbrev pub with_listing : Devices → Result Listing DevicesError → Result Dev
 with_listing devices (Ok more) = Ok (joined devices more)
 with_listing devices (Err fault) = Err fault
 
--- The list after the words of one more line, or the line's fault. A line without a word, and one that begins with `#`, says nothing.
+-- The list after the words of one more line, or the line's fault. A line without a word, and one that begins with `#`,
+-- says nothing.
 abbrev pub after_words : Devices → ℕ → Text → List Text → Result Devices DevicesError
 after_words devices number line [] = Ok devices
 after_words devices number line (first ∷ words) =
     if begins_comment first then Ok devices
-    else (if list_any (λ b. b == 0) line then Err (BadLine number) else with_listing devices (listing_of number (heading_of first words)))
+    else (if list_any (λ b. b == ascii.nul) line then Err (BadLine number)
+    else with_listing devices (listing_of number (heading_of first words)))
 
 abbrev pub after_line : Devices → ℕ → Text → Result Devices DevicesError
 after_line devices number line = after_words devices number line (device_words line)

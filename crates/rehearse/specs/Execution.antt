@@ -1,5 +1,5 @@
--- What a script does to a state, for the outcomes that its word still holds (U-Boot documentation, doc/usage/cmdline and
--- doc/usage/cmd). The bounds, and how a run that meets one ends, are ours.
+-- What a script does to a state, for the outcomes that its word still holds (U-Boot documentation, doc/usage/cmdline
+-- and doc/usage/cmd). The bounds, and how a run that meets one ends, are ours.
 use Rattle.std.specs.Prelude.{ℕ, zero, suc, nat_lt, nat_le, nat_eq, Bool, true, false, not, List, [], ◌∷◌, ◌++◌, length, Some, None}
 use Rattle.hushlang.specs.Tree as tree
 use Rattle.hushlang.specs.Tree.{Script, AndOr, Joined, Command, Arms}
@@ -11,7 +11,8 @@ use Rattle.rehearse.specs.Trees.{tree_of}
 use Rattle.rehearse.specs.State.{Text, Variables, get, with_value, Memory, State, setting_in}
 use Rattle.rehearse.specs.DeviceList.{Effect, Devices}
 use Rattle.rehearse.specs.Verdict.{verdict}
-use Rattle.rehearse.specs.Commands.{Builtin, SetEnv, Run, Test, Echo, True, False, Leave, NoCommand, Device, builtins, builtin_in, asks_device, setenv, echo, exit_status}
+use Rattle.rehearse.specs.Builtins.{SetEnv, Run, Test, Echo, True, False, Leave}
+use Rattle.rehearse.specs.Commands.{Called, BuiltIn, NoCommand, Device, called_by, asks_device, setenv, echo, exit_status}
 
 -- the device list, how many device commands a run may ask, and how many steps it may begin
 pub record Setting : Type 0 where
@@ -95,7 +96,9 @@ no_effect = record { ends = false; sets = [] }
 
 -- the command and its outcome stand in the log, and the outcome is the status
 abbrev pub logged : Outcome → Request → State → State
-logged outcome request s = set_status (status_when (succeeds outcome)) (record s { log = s.log ++ record { success = succeeds outcome; words = request.name ∷ request.words } ∷ [] })
+logged outcome request s =
+    set_status (status_when (succeeds outcome))
+    (record s { log = s.log ++ record { success = succeeds outcome; words = request.name ∷ request.words } ∷ [] })
 
 abbrev pub with_all : List (Text × Text) → Variables → Variables
 with_all [] variables = variables
@@ -113,7 +116,9 @@ boot false name s = Normal s
 -- a device command takes the next outcome of the word
 abbrev pub take_outcome : Request → Word → State → Answer
 take_outcome request [] s = Dry s
-take_outcome request (Success ∷ rest) s = boot request.effect.ends request.name (set_environment request.effect.sets (logged Success request (record s { word = rest })))
+take_outcome request (Success ∷ rest) s =
+    boot request.effect.ends request.name
+    (set_environment request.effect.sets (logged Success request (record s { word = rest })))
 take_outcome request (Failure ∷ rest) s = Normal (logged Failure request (record s { word = rest }))
 
 -- ---- parts of scripts, over what they are made of
@@ -132,13 +137,19 @@ sized fs next s = elim (nat_le (size fs) most_bytes) [ true ↦ next fs s | fals
 -- assignments, from the left; those before one that ends the run stand
 abbrev pub assign : List (Text × tree.Word) → State → Answer
 assign [] s = Normal (set_status 0 s)
-assign (pair ∷ pairs) s = let value = joined (setting_in s.memory) pair.1 in elim (nat_le (length value) most_bytes) [ true ↦ assign pairs (set_local pair.0 value s) | false ↦ Ended Size s ]
+assign (pair ∷ pairs) s = let value = joined (setting_in s.memory) pair.1 in elim (nat_le (length value) most_bytes) [
+  | true ↦ assign pairs (set_local pair.0 value s)
+  | false ↦ Ended Size s
+]
 
 -- the turns of a loop, where last is the status of the last body. Each condition holds a command and so begins a step:
 -- where as many turns as steps were left are over, the next turn's step is cut
 abbrev pub turns : (left : ℕ) → (until : Bool) → (cond body : State → Answer) → (last : ℕ) → State → Answer
 turns zero until cond body last s = Ended CutSteps s
-turns (suc left) until cond body last s = go_on (cond s) (λ t. elim (holds until t.memory.status) [ true ↦ go_on (body t) (λ u. turns left until cond body u.memory.status u) | false ↦ Normal (set_status last t) ])
+turns (suc left) until cond body last s = go_on (cond s) (λ t. elim (holds until t.memory.status) [
+  | true ↦ go_on (body t) (λ u. turns left until cond body u.memory.status u)
+  | false ↦ Normal (set_status last t)
+])
 
 -- the body once for each field, of which the variable is the value
 abbrev pub for_each : (name : Text) → (body : State → Answer) → (last : ℕ) → List Text → State → Answer
@@ -150,38 +161,63 @@ for_each name body last (f ∷ fs) s = go_on (body (set_local name f s)) (λ t. 
 module _ (setting : Setting) where
   -- a step is begun and counted where the bound allows one more
   abbrev pub begin : (State → Answer) → State → Answer
-  begin body s = elim (nat_lt s.steps setting.step_bound) [ true ↦ body (record s { steps = suc s.steps }) | false ↦ Ended CutSteps s ]
+  begin body s =
+      elim (nat_lt s.steps setting.step_bound) [
+        | true ↦ body (record s { steps = suc s.steps })
+        | false ↦ Ended CutSteps s
+      ]
 
   -- a device command is asked where the bound allows one more
   abbrev pub device : Request → State → Answer
-  device request s = elim (nat_lt (length s.log) setting.device_bound) [ true ↦ take_outcome request s.word s | false ↦ Ended CutDevices s ]
+  device request s =
+      elim (nat_lt (length s.log) setting.device_bound) [
+        | true ↦ take_outcome request s.word s
+        | false ↦ Ended CutDevices s
+      ]
 
   -- the text of a variable, read when its turn comes. A text without a command gives the status 0
   abbrev pub run_text : (script : Script → State → Answer) → (name text : Text) → State → Answer
-  run_text script name text s = elim (tree_of text) [ None ↦ Ended (Syntax name) s | Some t ↦ script t (elim t [ tree.Empty ↦ set_status 0 s | tree.Runs list more ↦ s ]) ]
+  run_text script name text s =
+      elim (tree_of text) [
+        | None ↦ Ended (Syntax name) s
+        | Some t ↦ script t (elim t [ tree.Empty ↦ set_status 0 s | tree.Runs list more ↦ s ])
+      ]
 
   -- the texts of these variables in turn, up to the first that fails or is not set
   abbrev pub run_all : (script : Script → State → Answer) → List Text → State → Answer
   run_all script [] s = Normal s
-  run_all script (name ∷ names) s = elim (get s.memory.environment name) [ None ↦ Normal (set_status 1 s) | Some text ↦ text_end (run_text script name text s) (run_all script names) ]
+  run_all script (name ∷ names) s =
+      elim (get s.memory.environment name) [
+        | None ↦ Normal (set_status 1 s)
+        | Some text ↦ text_end (run_text script name text s) (run_all script names)
+      ]
 
   -- a command by its fields, the name first
-  abbrev pub command : (script : Script → State → Answer) → Builtin → (name : Text) → (words : List Text) → State → Answer
-  command script SetEnv name words s = Normal (remember (setenv words) s)
-  command script Run name [] s = Normal (set_status 1 s)
-  command script Run name (w ∷ ws) s = run_all script (w ∷ ws) s
-  command script Test name words s = elim (asks_device words) [ true ↦ device (record { name = name; words = words; effect = no_effect }) s | false ↦ Normal (set_status (status_when (verdict words)) s) ]
-  command script Echo name words s = Normal (remember (echo words) s)
-  command script True name words s = Normal (set_status 0 s)
-  command script False name words s = Normal (set_status 1 s)
-  command script Leave name words s = elim (exit_status words) [ Some status ↦ Exit (set_status status s) | None ↦ Normal (set_status 1 s) ]
+  abbrev pub command : (script : Script → State → Answer) → Called → (name : Text) → (words : List Text) → State →
+      Answer
+  command script (BuiltIn SetEnv) name words s = Normal (remember (setenv words) s)
+  command script (BuiltIn Run) name [] s = Normal (set_status 1 s)
+  command script (BuiltIn Run) name (w ∷ ws) s = run_all script (w ∷ ws) s
+  command script (BuiltIn Test) name words s =
+      elim (asks_device words) [
+        | true ↦ device (record { name = name; words = words; effect = no_effect }) s
+        | false ↦ Normal (set_status (status_when (verdict words)) s)
+      ]
+  command script (BuiltIn Echo) name words s = Normal (remember (echo words) s)
+  command script (BuiltIn True) name words s = Normal (set_status 0 s)
+  command script (BuiltIn False) name words s = Normal (set_status 1 s)
+  command script (BuiltIn Leave) name words s =
+      elim (exit_status words) [
+        | Some status ↦ Exit (set_status status s)
+        | None ↦ Normal (set_status 1 s)
+      ]
   command script (Device effect) name words s = device (record { name = name; words = words; effect = effect }) s
   command script NoCommand name words s = Ended (Unknown name) s
 
   -- words that expand to no field do nothing, with status 0
   abbrev pub simple : (script : Script → State → Answer) → List Text → State → Answer
   simple script [] s = Normal (set_status 0 s)
-  simple script (name ∷ words) s = command script (builtin_in builtins setting.devices name) name words s
+  simple script (name ∷ words) s = command script (called_by setting.devices name) name words s
 
   -- over the tree, with so many steps left, where `text` is what the texts do that `run` starts
   module _ (left : ℕ) (text : Script → State → Answer) where
@@ -196,20 +232,29 @@ module _ (setting : Setting) where
       -- what is skipped leaves the status
       pub exec_joined : Joined → State → Answer
       exec_joined tree.Alone s = Normal s
-      exec_joined (tree.Joins op next rest) s = elim (goes op s.memory.status) [ true ↦ go_on (exec_command next s) (exec_joined rest) | false ↦ exec_joined rest s ]
+      exec_joined (tree.Joins op next rest) s =
+          elim (goes op s.memory.status) [
+            | true ↦ go_on (exec_command next s) (exec_joined rest)
+            | false ↦ exec_joined rest s
+          ]
 
       pub exec_command : Command → State → Answer
       exec_command (tree.Simple words) s = begin (λ t. sized (fields (setting_in t.memory) words) (simple text) t) s
       exec_command (tree.Assign values) s = begin (assign values) s
       exec_command (tree.If arms) s = exec_arms arms s
       exec_command (tree.Loop until cond body) s = turns left until (exec_script cond) (exec_script body) 0 s
-      exec_command (tree.For name words body) s = begin (λ t. sized (fields (setting_in t.memory) words) (for_each name (exec_script body) 0) t) s
+      exec_command (tree.For name words body) s =
+          begin (λ t. sized (fields (setting_in t.memory) words) (for_each name (exec_script body) 0) t) s
 
-      -- the block behind the first condition that ends with status 0, else the `else` block; where none is run, status 0
+      -- the block behind the first condition that ends with status 0, else the `else` block; where none is run, status
+      -- 0
       pub exec_arms : Arms → State → Answer
       exec_arms tree.NoElse s = Normal (set_status 0 s)
       exec_arms (tree.Else body) s = exec_script body s
-      exec_arms (tree.Arm cond body more) s = go_on (exec_script cond s) (λ t. elim (nat_eq t.memory.status 0) [ true ↦ exec_script body t | false ↦ exec_arms more t ])
+      exec_arms (tree.Arm cond body more) s = go_on (exec_script cond s) (λ t. elim (nat_eq t.memory.status 0) [
+        | true ↦ exec_script body t
+        | false ↦ exec_arms more t
+      ])
 
   -- a script with so many steps left: the texts that `run` starts have one less, that of the `run`
   abbrev pub exec : (left : ℕ) → Script → State → Answer

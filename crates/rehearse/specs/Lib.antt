@@ -3,6 +3,8 @@ pub mod Trees
 pub mod State
 pub mod DeviceList
 pub mod Verdict
+pub mod Builtins
+pub mod BuiltinsShown
 pub mod Commands
 pub mod Proper
 pub mod Execution
@@ -14,5 +16,6 @@ pub mod Bounds
 pub mod CommandsShown
 pub mod DeviceLaws
 pub mod DevicesShown
+pub mod PlainList
 pub mod Reading
 pub mod Words

@@ -1,6 +1,7 @@
 -- The text that a rehearsal writes. Ours.
-use Rattle.std.specs.Prelude.{ℕ, ◌+◌, ◌/◌, ◌%◌, nat_lt, nat_le, nat_eq, Bool, true, false, cond, ◌&&◌, List, [], ◌∷◌, ◌++◌, map, flat_map, length, take, Option, Some, None, codes, decimal}
+use Rattle.std.specs.Prelude.{ℕ, ◌+◌, ◌-◌, ◌/◌, ◌%◌, nat_lt, nat_le, nat_eq, Bool, true, false, cond, ◌&&◌, List, [], ◌∷◌, ◌++◌, map, flat_map, length, take, Option, Some, None, codes, decimal}
 use Rattle.std.specs.List.{join_with_byte}
+use Rattle.ascii.specs.Bytes as ascii
 use Rattle.bootstore.specs.Moment.{LoggedCommand}
 use Rattle.rehearse.specs.Outcomes.{Outcome, Word}
 use Rattle.rehearse.specs.State.{Text, Variables, get, State}
@@ -10,11 +11,14 @@ use Rattle.rehearse.specs.Runs.{Task, run_on, state_of, ending_of}
 -- ---- bytes, texts and words
 
 abbrev pub hex_digit : ℕ → ℕ
-hex_digit d = cond (nat_lt d 10) (48 + d) (87 + d)
+hex_digit d = cond (nat_lt d 10) (ascii.digit_zero + d) (ascii.small_a - 10 + d)
 
 -- a newline is `\n`, a backslash `\\`; other bytes from 32 to 126 are themselves, and any other is `\x` and two digits
 abbrev pub escaped : ℕ → Text
-escaped b = cond (nat_eq b 10) (codes "\\n") (cond (nat_eq b 92) (codes "\\\\") (cond (nat_le 32 b && nat_le b 126) (b ∷ []) (codes "\\x" ++ hex_digit (b / 16) ∷ hex_digit (b % 16) ∷ [])))
+escaped b = cond (nat_eq b ascii.newline) (codes "\\n")
+    (cond (nat_eq b ascii.backslash) (codes "\\\\")
+    (cond (nat_le ascii.space b
+    && nat_le b ascii.tilde) (b ∷ []) (codes "\\x" ++ hex_digit (b / 16) ∷ hex_digit (b % 16) ∷ [])))
 
 abbrev pub text_form : Text → Text
 text_form bytes = flat_map escaped bytes
@@ -22,11 +26,11 @@ text_form bytes = flat_map escaped bytes
 -- as a text, with `\x20` for a space and `\e` for the empty word
 abbrev pub word_form : Text → Text
 word_form [] = codes "\\e"
-word_form (b ∷ bytes) = flat_map (λ c. cond (nat_eq c 32) (codes "\\x20") (escaped c)) (b ∷ bytes)
+word_form (b ∷ bytes) = flat_map (λ c. cond (nat_eq c ascii.space) (codes "\\x20") (escaped c)) (b ∷ bytes)
 
 abbrev pub digit_when : (success : Bool) → ℕ
-digit_when true = 48
-digit_when false = 49
+digit_when true = ascii.digit_zero
+digit_when false = ascii.digit_one
 
 abbrev pub digit_of : Outcome → ℕ
 digit_of outcome = digit_when (succeeds outcome)
@@ -39,10 +43,10 @@ spelled (d ∷ w) = map digit_of (d ∷ w)
 -- ---- the record of a run
 
 abbrev pub line : Text → Text
-line bytes = bytes ++ 10 ∷ []
+line bytes = bytes ++ ascii.newline ∷ []
 
 abbrev pub device_line : LoggedCommand → Text
-device_line e = codes "dev " ++ digit_when e.success ∷ 32 ∷ join_with_byte 32 (map word_form e.words)
+device_line e = codes "dev " ++ digit_when e.success ∷ ascii.space ∷ join_with_byte ascii.space (map word_form e.words)
 
 -- an empty text has no line
 abbrev pub text_lines : Text → List Text
@@ -53,7 +57,11 @@ abbrev pub variable_line : Text × Text → Text
 variable_line e = codes "var " ++ word_form e.0 ++ codes "=" ++ text_form e.1
 
 abbrev pub asked_line : Variables → Text → Text
-asked_line environment name = elim (get environment name) [ Some value ↦ variable_line (name, value) | None ↦ codes "unset " ++ word_form name ]
+asked_line environment name =
+    elim (get environment name) [
+      | Some value ↦ variable_line (name, value)
+      | None ↦ codes "unset " ++ word_form name
+    ]
 
 -- every environment variable, or those that are asked for, in the order asked
 abbrev pub variable_lines : Variables → (names : List Text) → List Text
@@ -97,7 +105,11 @@ shown ws (Some limit) = take limit ws
 -- the line behind the records: `more` with the last one's word where words are left out, else `done`
 abbrev pub closing : List Word → (limit : Option ℕ) → Text
 closing ws None = codes "done"
-closing ws (Some limit) = elim (nat_le (length ws) limit) [ true ↦ codes "done" | false ↦ codes "more " ++ spelled (last_of [] (take limit ws)) ]
+closing ws (Some limit) =
+    elim (nat_le (length ws) limit) [
+      | true ↦ codes "done"
+      | false ↦ codes "more " ++ spelled (last_of [] (take limit ws))
+    ]
 
 -- the records of words, each written as it is told, and the closing line
 abbrev pub listing : (written : Word → Text) → List Word → (limit : Option ℕ) → Text

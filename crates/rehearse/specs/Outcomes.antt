@@ -86,7 +86,9 @@ abbrev pub first_from : (Word → WordKind) → ℕ → Word → Word
 first_from kind n [] = first_run kind n
 first_from kind n (d ∷ p) = d ∷ first_from (beyond d kind) (pred n) p
 
--- kinds of words that come from choices, at most n of them one behind another: here the run ends, or each outcome leads on
+-- kinds of words that come from choices, at most n of them one behind another: here the run ends, or each outcome leads
+-- on
 abbrev pub IsChoice : ℕ → (Word → WordKind) → Type 0
 IsChoice zero kind = (kind [] ≡ Run) × ((d : Outcome) (w : Word) → kind (d ∷ w) ≡ Long)
-IsChoice (suc n) kind = ((kind [] ≡ Run) × ((d : Outcome) (w : Word) → kind (d ∷ w) ≡ Long)) ⊎ ((kind [] ≡ Short) × ((d : Outcome) → IsChoice n (beyond d kind)))
+IsChoice (suc n) kind = ((kind [] ≡ Run) × ((d : Outcome) (w : Word) → kind (d ∷ w) ≡ Long))
+    ⊎ ((kind [] ≡ Short) × ((d : Outcome) → IsChoice n (beyond d kind)))

@@ -1,6 +1,7 @@
 -- Where a listing that was broken off goes on. Ours.
 use Rattle.std.specs.Prelude.{ℕ, suc, ◌+◌, nat_eq, Bool, true, false, ◌||◌, option_map, List, [], ◌∷◌, ◌++◌, flat_map, length, drop, Option, Some, None, codes}
 use Rattle.std.specs.List.{starts_with}
+use Rattle.ascii.specs.Bytes as ascii
 use Rattle.rehearse.specs.Outcomes.{Word}
 use Rattle.rehearse.specs.State.{Text}
 use Rattle.rehearse.specs.Listing.{spelled, last_of}
@@ -25,11 +26,16 @@ pub record Point : Type 0 where
 -- the lines that a newline ends, behind the part of a line that stands before
 abbrev pub ended_lines : (part : Text) → Text → List Text
 ended_lines part [] = []
-ended_lines part (b ∷ bytes) = elim (nat_eq b 10) [ true ↦ part ∷ ended_lines [] bytes | false ↦ ended_lines (part ++ b ∷ []) bytes ]
+ended_lines part (b ∷ bytes) =
+    elim (nat_eq b ascii.newline) [
+      | true ↦ part ∷ ended_lines [] bytes
+      | false ↦ ended_lines (part ++ b ∷ []) bytes
+    ]
 
 -- a line that ends a record
 abbrev pub is_last_line : Text → Bool
-is_last_line l = starts_with nat_eq l (codes "end ") || starts_with nat_eq l (codes "cut ") || starts_with nat_eq l (codes "stop ") || starts_with nat_eq l (codes "booted ")
+is_last_line l = starts_with nat_eq l (codes "end ") || starts_with nat_eq l (codes "cut ")
+    || starts_with nat_eq l (codes "stop ") || starts_with nat_eq l (codes "booted ")
 
 -- a line that begins a record
 abbrev pub is_first_line : Text → Bool
@@ -38,7 +44,15 @@ is_first_line l = starts_with nat_eq l (codes "run ")
 -- over lines, where the last `run ` so far named this word, this is the point so far, and the next line stands here
 abbrev pub point_in : (word : Option Text) → (point : Option Point) → (at : ℕ) → List Text → Option Point
 point_in word point at [] = point
-point_in word point at (l ∷ ls) = elim (is_last_line l) [ true ↦ point_in word (option_map (λ w. record { word = w; length_before = at + suc (length l) }) word) (at + suc (length l)) ls | false ↦ elim (is_first_line l) [ true ↦ point_in (Some (drop 4 l)) point (at + suc (length l)) ls | false ↦ point_in word point (at + suc (length l)) ls ] ]
+point_in word point at (l ∷ ls) =
+    elim (is_last_line l) [
+      | true ↦ point_in word (option_map (λ w. record { word = w; length_before = at + suc (length l) }) word)
+          (at + suc (length l)) ls
+      | false ↦ elim (is_first_line l) [
+        | true ↦ point_in (Some (drop 4 l)) point (at + suc (length l)) ls
+        | false ↦ point_in word point (at + suc (length l)) ls
+      ]
+    ]
 
 -- behind the last line that ends a record, with the word of the record's first line; none where either is missing
 abbrev pub resume_point_of : (written : Text) → Option Point
@@ -47,4 +61,5 @@ resume_point_of written = point_in None None 0 (ended_lines [] written)
 -- the point behind these records
 abbrev pub point_after : (written : Word → Text) → List Word → Option Point
 point_after written [] = None
-point_after written (v ∷ vs) = Some (record { word = spelled (last_of v vs); length_before = length (flat_map written (v ∷ vs)) })
+point_after written (v ∷ vs) =
+    Some (record { word = spelled (last_of v vs); length_before = length (flat_map written (v ∷ vs)) })

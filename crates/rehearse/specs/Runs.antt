@@ -13,11 +13,18 @@ pub record Task : Type 0 where
 
 -- the rehearsal of a variable, where it is set
 abbrev pub task_of : Setting → Variables → Text → Option Task
-task_of setting environment name = option_map (λ text. record { setting = setting; environment = environment; name = name; text = text }) (get environment name)
+task_of setting environment name =
+    option_map (λ text. record {
+      setting = setting;
+      environment = environment;
+      name = name;
+      text = text;
+    }) (get environment name)
 
 -- what the text comes to with the outcomes of a word
 abbrev pub run_on : Task → Word → Answer
-run_on task w = run_text task.setting (exec task.setting task.setting.step_bound) task.name task.text (start task.environment w)
+run_on task w = run_text task.setting (exec task.setting task.setting.step_bound) task.name task.text
+    (start task.environment w)
 
 -- the state that an answer comes to
 abbrev pub state_of : Answer → State

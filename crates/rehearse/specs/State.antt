@@ -40,7 +40,13 @@ pub record State : Type 0 where
 
 -- the state at the start of a run
 abbrev pub start : Variables → Word → State
-start environment word = record { memory = record { environment = environment; locals = []; status = 0; text = [] }; log = []; steps = 0; word = word }
+start environment word =
+    record {
+      memory = record { environment = environment; locals = []; status = 0; text = [] };
+      log = [];
+      steps = 0;
+      word = word;
+    }
 
 -- a variable's value: that of the environment, else of the shell variable
 abbrev pub value_in : Memory → Text → Option Text
@@ -52,4 +58,10 @@ setting_in m = record { value = value_in m; status = m.status }
 
 -- the state that a store's moment is, with the rest of a word
 abbrev pub state_at : Moment → Word → State
-state_at m word = record { memory = record { environment = entries m.environment; locals = entries m.locals; status = m.status; text = m.text }; log = m.log; steps = m.steps; word = word }
+state_at m word = record {
+  memory =
+      record { environment = entries m.environment; locals = entries m.locals; status = m.status; text = m.text };
+  log = m.log;
+  steps = m.steps;
+  word = word;
+}

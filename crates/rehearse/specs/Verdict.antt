@@ -4,6 +4,7 @@ use Rattle.std.specs.Str.{bytes_eq}
 use Rattle.std.specs.List.{take_while}
 use Rattle.std.specs.Cmp.Lexicographic.{slice_cmp}
 use Rattle.std.specs.Ordering.{nat_cmp, int_eq, is_lt, is_gt}
+use Rattle.ascii.specs.Bytes as ascii
 use Rattle.envimage.specs.Config.{digit_of, value_in}
 
 abbrev pub Text : Type 0
@@ -21,7 +22,7 @@ read_in base word = value_in base (digits_in base word)
 
 -- an x of either case and a hexadecimal digit behind it
 abbrev pub begins_hexadecimal : Text → Bool
-begins_hexadecimal (x ∷ d ∷ digits) = ((x == 120) || (x == 88)) && nat_lt (digit_of d) 16
+begins_hexadecimal (x ∷ d ∷ digits) = ((x == ascii.small_x) || (x == ascii.capital_x)) && nat_lt (digit_of d) 16
 begins_hexadecimal _ = false
 
 abbrev pub behind_first : Text → Text
@@ -35,7 +36,7 @@ read_after_zero word = if begins_hexadecimal word then read_in 16 (behind_first 
 -- a number without a sign
 abbrev pub magnitude : Text → ℕ
 magnitude [] = 0
-magnitude (b ∷ bytes) = if b == 48 then read_after_zero bytes else read_in 10 (b ∷ bytes)
+magnitude (b ∷ bytes) = if b == ascii.digit_zero then read_after_zero bytes else read_in 10 (b ∷ bytes)
 
 abbrev pub negated : ℕ → ℤ
 negated zero = pos 0
@@ -44,7 +45,7 @@ negated (suc n) = negsuc n
 -- what follows a minus sign
 abbrev pub behind_minus : Text → Option Text
 behind_minus [] = None
-behind_minus (b ∷ bytes) = if b == 45 then Some bytes else None
+behind_minus (b ∷ bytes) = if b == ascii.minus then Some bytes else None
 
 -- the number that a word spells, or the nearest one of 64 bits
 abbrev pub number : Text → ℤ
@@ -82,14 +83,16 @@ number_comparisons =
 -- the answer of the comparison that the operator names, if it is in the table
 abbrev pub answer_in : List (Text × Comparison) → Text → Text → Text → Option Bool
 answer_in [] operator left right = None
-answer_in (c ∷ cs) operator left right = if bytes_eq operator c.0 then Some (c.1 left right) else answer_in cs operator left right
+answer_in (c ∷ cs) operator left right = if bytes_eq operator c.0 then Some (c.1 left right)
+    else answer_in cs operator left right
 
 abbrev pub or_else : Option Bool → Option Bool → Option Bool
 or_else None other = other
 or_else (Some truth) other = Some truth
 
 abbrev pub comparison : Text → Text → Text → Option Bool
-comparison operator left right = or_else (answer_in text_comparisons operator left right) (answer_in number_comparisons operator left right)
+comparison operator left right =
+    or_else (answer_in text_comparisons operator left right) (answer_in number_comparisons operator left right)
 
 -- ---- terms
 

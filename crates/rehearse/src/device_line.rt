@@ -2,7 +2,7 @@
 ghost use Rattle.std.specs.Prelude.{◌≡◌, ◌==◌, map, option_map, IfOk};
 ghost use Rattle.std.specs.List.{list_any, position};
 ghost use Rattle.envimage.specs.Words.{is_blank, skipped};
-ghost use Rattle.rehearse.specs.DeviceList.{cut_behind, trimmed, is_space, device_words, is_equals, is_variable, setting, settings, heading_of, is_built_in, begins_comment};
+ghost use Rattle.rehearse.specs.DeviceList.{cut_behind, trimmed, is_space, device_words, is_equals, is_variable, setting, settings, heading_of, begins_comment};
 ghost use Rattle.rehearse.specs.DevicesShown.{settings_shown, heading_shown, lent_setting};
 
 use std::alloc::{AllocError, Global};
@@ -107,19 +107,6 @@ fn has_equals(word: &[u8]) -> bool
     ensures { result ≡ list_any is_equals word.now }
 {
     word.iter().any(|byte| *byte == b'=')
-}
-
-/// Whether the name of a command is that of a built-in one.
-pub(crate) fn is_built_in(name: &[u8]) -> bool
-    ensures { result ≡ is_built_in name.now }
-{
-    name == b"setenv".as_slice()
-        || name == b"run".as_slice()
-        || name == b"test".as_slice()
-        || name == b"echo".as_slice()
-        || name == b"true".as_slice()
-        || name == b"false".as_slice()
-        || name == b"exit".as_slice()
 }
 
 /// The first word of a line is the name, unless it is `final` and a word without `=` follows, which is

@@ -2,9 +2,8 @@
 ghost use Rattle.std.specs.Prelude.{◌≡◌, ◌∷◌, [], OnOk, is_some, option_map};
 ghost use Rattle.rehearse.specs.DeviceList.{joined, effect_of};
 
-use crate::device_line::{
-    Setting, begins_comment, device_words, has_nul, heading_of, is_built_in, settings,
-};
+use crate::builtins::is_built_in;
+use crate::device_line::{Setting, begins_comment, device_words, has_nul, heading_of, settings};
 use crate::devices_error::DevicesError;
 use envimage::Lines;
 use indexmap::IndexMap;

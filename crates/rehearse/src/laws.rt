@@ -5,6 +5,7 @@ ghost use Rattle.rehearse.specs.Laws.{StoredValues, StoredChanges, StoredDeletio
 ghost use Rattle.rehearse.specs.Laws.{NoRunTwice, NoRunBeginsAnother, NoRunIsLonger, RunsAreThere, AnotherFollows};
 ghost use Rattle.rehearse.specs.Laws.{RunsPartWhereAsked, LogIsWord};
 ghost use Rattle.rehearse.specs.Laws.{StepsAreBounded, CutAtStepBound, CutAtDeviceBound, AskedBelowBound};
+ghost use Rattle.rehearse.specs.Laws.{AskedInFront, SharedIsWithin};
 ghost use Rattle.rehearse.specs.Laws.{RunsBegin, RunsFollow, RunsStand, RunsAreRuns, RunsAreOrdered};
 ghost use Rattle.rehearse.specs.Laws.{MoreIsLeft, PagesOfRuns, PagesOfRest};
 ghost use Rattle.rehearse.specs.Laws.{WholeIsGreatest, WholeRecords, Resuming};
@@ -47,6 +48,13 @@ pub fn bounds_of_runs()
     ensures cut_steps { CutAtStepBound }
     ensures cut_devices { CutAtDeviceBound }
     ensures asked { AskedBelowBound }
+{}
+
+/// Where a word begins another, the steps begun before the command that asks for the next outcome are steps
+/// of the longer one too: work, which counts shared steps once, never subtracts more than there is.
+pub fn work_of_runs()
+    ensures front { AskedInFront }
+    ensures shared { SharedIsWithin }
 {}
 
 /// The runs are exactly the words that are runs, in dictionary order; and which comes first, and which behind

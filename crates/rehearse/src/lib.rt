@@ -2,6 +2,7 @@
 #![tactic(auto)]
 
 mod bounds;
+mod builtins;
 pub mod device_laws;
 mod device_line;
 mod devices;
@@ -11,6 +12,7 @@ mod number;
 mod truth;
 
 pub use bounds::{Bounds, DEVICES_MAX, STEPS_MAX};
+pub use builtins::{Builtin, builtin_of};
 pub use devices::{Devices, Effect};
 pub use devices_error::DevicesError;
 pub use truth::verdict;

@@ -2,6 +2,7 @@
 use Rattle.std.proofs.Common.{◌≡◌, true, false, [], ◌∷◌, ◌++◌, Ok, Err, refl}
 use Rattle.std.specs.Prelude.{codes}
 use Rattle.rehearse.specs.DeviceList.{Effect, listed}
+use Rattle.rehearse.specs.PlainList.{plain_names}
 use Rattle.rehearse.specs.declared.devices_error.DevicesError.TheVariants.{BadLine, BuiltIn}
 
 abbrev quiet : Effect
@@ -65,6 +66,31 @@ built_in_false = refl
 
 built_in_exit : listed (codes "exit") ≡ Err (BuiltIn 1)
 built_in_exit = refl
+
+-- ---- the plain form
+
+-- names in their order, each once, between comments of any words and empty lines
+plain_list : plain_names (codes "# d x\nload\r\n\n\tmmc \n#mmc a=b\nload") ≡ Ok (codes "load" ∷ codes "mmc" ∷ [])
+plain_list = refl
+
+plain_comment_alone : plain_names (codes " # final x a=b" ++ 0 ∷ []) ≡ Ok []
+plain_comment_alone = refl
+
+plain_return_inside : plain_names (97 ∷ 13 ∷ 98 ∷ []) ≡ Ok ((97 ∷ 13 ∷ 98 ∷ []) ∷ [])
+plain_return_inside = refl
+
+-- what the whole form reads as a setting or a final command is a second word here
+plain_second_word : plain_names (codes "load\nmmc a=1") ≡ Err (BadLine 2)
+plain_second_word = refl
+
+plain_final : plain_names (codes "final x") ≡ Err (BadLine 1)
+plain_final = refl
+
+plain_nul : plain_names (97 ∷ 0 ∷ []) ≡ Err (BadLine 1)
+plain_nul = refl
+
+plain_built_in : plain_names (codes "load\n\nrun") ≡ Err (BuiltIn 3)
+plain_built_in = refl
 
 -- ---- final commands
 

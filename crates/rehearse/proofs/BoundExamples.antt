@@ -1,17 +1,15 @@
 -- Bounds, steps and work at the edges of the rules, computed.
-use Rattle.std.proofs.Common.{◌≡◌, ℕ, zero, suc, List, [], ◌∷◌, ◌++◌, None, Some, true, false, codes, refl, map}
+use Rattle.std.proofs.Common.{◌≡◌, [], ◌∷◌, ◌++◌, None, true, false, codes, refl, map}
 use Rattle.std.specs.Fmt.{digits}
 use Rattle.hushlang.specs.Expansion.{fields, joined, atoms}
 use Rattle.rehearse.specs.Outcomes.{Success, Failure}
 use Rattle.rehearse.specs.Trees.{tree_of}
-use Rattle.rehearse.specs.State.{Text, Variables}
-use Rattle.rehearse.specs.DeviceList.{Effect, Devices}
-use Rattle.rehearse.specs.Execution.{Ending, End, CutSteps, CutDevices, Unknown, Syntax, Size}
-use Rattle.rehearse.specs.Runs.{Task, run_on, state_of, ending_of, steps, work, runs}
+use Rattle.rehearse.specs.State.{Text}
+use Rattle.rehearse.specs.Execution.{End, CutSteps, Size}
+use Rattle.rehearse.specs.Runs.{steps, work}
 use Rattle.rehearse.specs.DeviceLaws.{is_name_alone}
 use Rattle.envimage.specs.Text.{numbered_lines}
-use Rattle.rehearse.proofs.Rehearsed.{only_load, setting, bootcmd, bootcmd_among, z, listed, listed_after}
-use Rattle.rehearse.proofs.EdgeRows.{told, told_with, told_within, told_of}
+use Rattle.rehearse.proofs.Rehearsed.{only_load, setting, bootcmd, bootcmd_among, z, listed, told_of, told, told_within, times}
 
 -- a list whose comment has two words
 names_alone_beside_a_comment : map (λ l. is_name_alone l.1) (numbered_lines (codes "# d\nload\n\nmmc")) ≡ false ∷ true ∷ true ∷ true ∷ []
@@ -26,6 +24,23 @@ for_without_a_field_sets_nothing = refl
 assignments_see_those_before_them : told (codes "false; x=$? y=$x$?; echo $y") ≡ (codes "11\n", End 0)
 unfolding told_of
 assignments_see_those_before_them = refl
+
+-- the status stays what it was up to the end of the whole command
+assignments_leave_the_status_to_the_end : told (codes "false; x=1 y=$?; echo $y$?") ≡ (codes "10\n", End 0)
+unfolding told_of
+assignments_leave_the_status_to_the_end = refl
+
+-- a step past the bound is not begun, and what its words would expand to is not looked at
+abbrev grown : Text
+grown = codes "x=0123456789abcdef; " ++ times 12 (codes "x=$x$x; ")
+
+size_behind_the_step_bound : map (λ last. told_within 13 (grown ++ last)) (codes "x=$x$x" ∷ codes "for i in $x a; do true; done" ∷ codes "true $x" ∷ []) ≡ ([], CutSteps) ∷ ([], CutSteps) ∷ ([], CutSteps) ∷ []
+unfolding told_of
+size_behind_the_step_bound = refl
+
+size_within_the_step_bound : map (λ last. told_within 14 (grown ++ last)) (codes "x=$x$x" ∷ codes "for i in $x a; do true; done" ∷ codes "true $x" ∷ []) ≡ ([], Size) ∷ ([], Size) ∷ ([], Size) ∷ []
+unfolding told_of
+size_within_the_step_bound = refl
 
 -- bound 0: loops are cut at their first command
 loops_at_step_bound_0 : told_within 0 (codes "while true; do true; done") ∷ told_within 0 (codes "until $u; do true; done") ∷ told_within 0 (codes "if true; then true; fi") ∷ told_within 0 (codes "for i in; do true; done") ∷ [] ≡ ([], CutSteps) ∷ ([], CutSteps) ∷ ([], CutSteps) ∷ ([], CutSteps) ∷ []

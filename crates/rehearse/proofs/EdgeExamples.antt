@@ -1,30 +1,11 @@
 -- Scripts at the edges of the rules, computed: loops and `exit`, odd words, texts in texts, settings, escaped bytes.
-use Rattle.std.proofs.Common.{◌≡◌, ℕ, zero, suc, List, [], ◌∷◌, ◌++◌, None, Some, true, false, codes, refl, map}
-use Rattle.std.specs.Fmt.{digits}
-use Rattle.hushlang.specs.Expansion.{fields, joined, atoms}
-use Rattle.rehearse.specs.Outcomes.{Success, Failure}
-use Rattle.rehearse.specs.Trees.{tree_of}
-use Rattle.rehearse.specs.State.{Text, Variables}
-use Rattle.rehearse.specs.DeviceList.{Effect, Devices}
-use Rattle.rehearse.specs.Execution.{Ending, End, CutSteps, CutDevices, Unknown, Syntax, Size}
-use Rattle.rehearse.specs.Runs.{Task, run_on, state_of, ending_of}
-use Rattle.rehearse.proofs.Rehearsed.{only_load, setting, bootcmd, bootcmd_among, z, listed, listed_after}
-
-abbrev pub Told : Type 0
-Told = Text × Ending
-
-unfoldable pub told_of : Task → Told
-unfolding tree_of fields joined atoms digits
-told_of task = ((state_of (run_on task [])).memory.text, ending_of (run_on task []))
-
-abbrev pub told : Text → Told
-told text = told_of (bootcmd (setting only_load 2 10000) text)
-
-abbrev pub told_with : Variables → Text → Told
-told_with variables text = told_of (bootcmd_among (setting only_load 2 10000) variables text)
-
-abbrev pub told_within : ℕ → Text → Told
-told_within steps text = told_of (bootcmd (setting only_load 2 steps) text)
+use Rattle.std.proofs.Common.{◌≡◌, ℕ, [], ◌∷◌, ◌++◌, None, Some, true, false, codes, refl, map}
+use Rattle.rehearse.specs.Outcomes.{Success}
+use Rattle.rehearse.specs.State.{Text}
+use Rattle.rehearse.specs.DeviceList.{Devices}
+use Rattle.rehearse.specs.Execution.{End, CutSteps, Syntax, Size}
+use Rattle.rehearse.specs.Runs.{Task}
+use Rattle.rehearse.proofs.Rehearsed.{only_load, setting, bootcmd, bootcmd_among, z, listed, listed_after, Told, told_of, told, told_with, told_within, letters}
 
 abbrev v : Text → Text → Text × Text
 v name value = (name, value)
@@ -107,6 +88,11 @@ exit_of_odd_words : map told (codes "exit -5 6; echo $?" ∷ codes "exit +5; ech
 unfolding told_of
 exit_of_odd_words = refl
 
+-- a first word that only begins with `-n` is written
+echo_of_a_word_behind_n : map told (codes "echo -nx" ∷ codes "echo -nx a" ∷ codes "echo -nn; echo $?" ∷ []) ≡ (codes "-nx\n", End 0) ∷ (codes "-nx a\n", End 0) ∷ (codes "-nn\n0\n", End 0) ∷ []
+unfolding told_of
+echo_of_a_word_behind_n = refl
+
 unknown_empty_name : listed (bootcmd (setting only_load 0 10000) (codes "'' x")) z None ≡ codes "run .\nunset z\nstop unknown \\e\ndone\n"
 unfolding listed
 unknown_empty_name = refl
@@ -115,9 +101,29 @@ syntax_of_a_name_with_a_space : listed (bootcmd_among (setting only_load 0 10000
 unfolding listed
 syntax_of_a_name_with_a_space = refl
 
-abbrev letters : ℕ → Text
-letters zero = []
-letters (suc n) = 97 ∷ letters n
+-- every name of a listing is written as a word: of a command, of a text, of a variable that is set and of one that is not
+abbrev odd : Text
+odd = codes "a b\\" ++ 10 ∷ 255 ∷ []
+
+unknown_odd_name : listed (bootcmd (setting only_load 0 10000) (codes "'" ++ odd ++ codes "' x")) z None ≡ codes "run .\nunset z\nstop unknown a\\x20b\\\\\\n\\xff\ndone\n"
+unfolding listed
+unknown_odd_name = refl
+
+syntax_of_an_odd_name : listed (bootcmd_among (setting only_load 0 10000) ((odd, codes "fi") ∷ []) (codes "run '" ++ odd ++ codes "'")) z None ≡ codes "run .\nunset z\nstop syntax a\\x20b\\\\\\n\\xff\ndone\n"
+unfolding listed
+syntax_of_an_odd_name = refl
+
+syntax_of_the_empty_name : listed (bootcmd_among (setting only_load 0 10000) (([], codes "fi") ∷ []) (codes "run ''")) z None ≡ codes "run .\nunset z\nstop syntax \\e\ndone\n"
+unfolding listed
+syntax_of_the_empty_name = refl
+
+odd_names_asked : listed (bootcmd_among (setting only_load 0 10000) ((odd, odd) ∷ []) []) (odd ∷ (0 ∷ odd) ∷ [] ∷ []) None ≡ codes "run .\nvar a\\x20b\\\\\\n\\xff=a b\\\\\\n\\xff\nunset \\x00a\\x20b\\\\\\n\\xff\nunset \\e\nend 0\ndone\n"
+unfolding listed
+odd_names_asked = refl
+
+booted_odd_name : listed (bootcmd (setting ((odd, record { ends = true; sets = (odd, codes "1") ∷ [] }) ∷ []) 1 10000) (codes "'" ++ odd ++ codes "'")) (odd ∷ []) None ≡ codes "run 0\ndev 0 a\\x20b\\\\\\n\\xff\nvar a\\x20b\\\\\\n\\xff=1\nbooted a\\x20b\\\\\\n\\xff\nrun 1\ndev 1 a\\x20b\\\\\\n\\xff\nunset a\\x20b\\\\\\n\\xff\nend 1\ndone\n"
+unfolding listed
+booted_odd_name = refl
 
 size_at_its_limit : told_with ((codes "l", letters 65536) ∷ []) (codes "nosuch $l") ∷ told_of (bootcmd_among (setting only_load 2 0) ((codes "l", letters 65537) ∷ []) (codes "true $l")) ∷ told_with ((codes "l", letters 65537) ∷ []) (codes "$l") ∷ told_with ((codes "l", letters 65536) ∷ []) (codes "x=$l y=$l; echo a") ∷ [] ≡ ([], Size) ∷ ([], CutSteps) ∷ ([], Size) ∷ (codes "a\n", End 0) ∷ []
 unfolding told_of

@@ -1,33 +1,8 @@
 -- Each rule of execution on its own, computed: what the text of `bootcmd` writes, and how its run ends.
-use Rattle.std.proofs.Common.{◌≡◌, ℕ, zero, suc, List, [], ◌∷◌, None, codes, refl, map}
-use Rattle.std.specs.Fmt.{digits}
-use Rattle.hushlang.specs.Expansion.{fields, joined, atoms}
-use Rattle.rehearse.specs.Trees.{tree_of}
+use Rattle.std.proofs.Common.{◌≡◌, ℕ, [], ◌∷◌, None, codes, refl, map}
 use Rattle.rehearse.specs.State.{Text, Variables}
-use Rattle.rehearse.specs.Execution.{Ending, End, CutSteps, Unknown, Syntax, Size}
-use Rattle.rehearse.specs.Runs.{Task, run_on, state_of, ending_of}
-use Rattle.rehearse.proofs.Rehearsed.{only_load, setting, bootcmd, bootcmd_among, listed}
-
-abbrev Told : Type 0
-Told = Text × Ending
-
--- of a text that asks no device command
-unfoldable told_of : Task → Told
-unfolding tree_of fields joined atoms digits
-told_of task = ((state_of (run_on task [])).memory.text, ending_of (run_on task []))
-
-abbrev told : Text → Told
-told text = told_of (bootcmd (setting only_load 2 10000) text)
-
-abbrev told_with : Variables → Text → Told
-told_with variables text = told_of (bootcmd_among (setting only_load 2 10000) variables text)
-
-abbrev told_within : ℕ → Text → Told
-told_within steps text = told_of (bootcmd (setting only_load 2 steps) text)
-
--- the texts write this and end with status 0
-abbrev write : List Text → List Told
-write texts = map (λ text. (text, End 0)) texts
+use Rattle.rehearse.specs.Execution.{End, CutSteps, Unknown, Syntax, Size}
+use Rattle.rehearse.proofs.Rehearsed.{only_load, setting, bootcmd, bootcmd_among, listed, Told, told_of, told, told_with, told_within, write, letters}
 
 -- `&&` and `||` have one rank, and what is skipped leaves the status
 joined_commands : map told (codes "true || echo a && echo b" ∷ codes "false && echo a || echo b" ∷ codes "false && echo a; echo $?" ∷ codes "false || false || echo a" ∷ []) ≡ write (codes "b\n" ∷ codes "b\n" ∷ codes "1\n" ∷ codes "a\n" ∷ [])
@@ -119,10 +94,6 @@ unknown_names = refl
 
 -- 65,536 bytes of words are not too many, and one byte more is: of a command with its name, of a `for` the words behind
 -- `in`, of an assignment the value
-abbrev letters : ℕ → Text
-letters zero = []
-letters (suc n) = 97 ∷ letters n
-
 abbrev with_letters : ℕ → Text → Told
 with_letters n text = told_with ((codes "l", letters n) ∷ []) text
 

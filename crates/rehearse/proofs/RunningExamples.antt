@@ -1,34 +1,10 @@
 -- The examples of docs/RUNNING.md, computed, in its order: what the text of `bootcmd` writes, and how its runs end.
-use Rattle.std.proofs.Common.{◌≡◌, ℕ, List, [], ◌∷◌, None, Some, codes, refl, map}
-use Rattle.std.specs.Fmt.{digits}
-use Rattle.hushlang.specs.Expansion.{fields, joined, atoms}
+use Rattle.std.proofs.Common.{◌≡◌, ℕ, [], ◌∷◌, None, Some, codes, refl, map}
 use Rattle.rehearse.specs.Outcomes.{Success, Failure}
-use Rattle.rehearse.specs.Trees.{tree_of}
-use Rattle.rehearse.specs.State.{Text, Variables}
-use Rattle.rehearse.specs.Execution.{Ending, End, CutSteps, Unknown, Syntax, Size}
-use Rattle.rehearse.specs.Runs.{Task, run_on, state_of, ending_of}
-use Rattle.rehearse.proofs.Rehearsed.{only_load, setting, bootcmd, bootcmd_among, z, listed, listed_after}
-
-abbrev Told : Type 0
-Told = Text × Ending
-
--- of a text that asks no device command
-unfoldable told_of : Task → Told
-unfolding tree_of fields joined atoms digits
-told_of task = ((state_of (run_on task [])).memory.text, ending_of (run_on task []))
-
-abbrev told : Text → Told
-told text = told_of (bootcmd (setting only_load 2 10000) text)
-
-abbrev told_with : Variables → Text → Told
-told_with variables text = told_of (bootcmd_among (setting only_load 2 10000) variables text)
-
-abbrev told_within : ℕ → Text → Told
-told_within steps text = told_of (bootcmd (setting only_load 2 steps) text)
-
--- the texts write this and end with status 0
-abbrev write : List Text → List Told
-write texts = map (λ text. (text, End 0)) texts
+use Rattle.rehearse.specs.State.{Text}
+use Rattle.rehearse.specs.Execution.{End, CutSteps, Unknown, Syntax, Size}
+use Rattle.rehearse.specs.Runs.{Task}
+use Rattle.rehearse.proofs.Rehearsed.{only_load, setting, bootcmd, bootcmd_among, z, listed, listed_after, told_of, told, told_with, told_within, write}
 
 abbrev listing_with : ℕ → Text → Text
 listing_with devices text = listed (bootcmd (setting only_load devices 10000) text) z None

@@ -1,0 +1,43 @@
+-- Device lists in their plain form, which says nothing but names: one name a line. Ours.
+use Rattle.std.specs.Prelude.{◌≡◌, ℕ, ◌==◌, ◌||◌, List, [], ◌∷◌, ◌++◌, map, Result, Ok, Err, if◌then◌else◌}
+use Rattle.std.specs.List.{list_any}
+use Rattle.std.specs.Str.{bytes_eq}
+use Rattle.ascii.specs.Bytes as ascii
+use Rattle.envimage.specs.Text.{numbered_lines}
+use Rattle.rehearse.specs.Verdict.{Text}
+use Rattle.rehearse.specs.Builtins.{is_built_in}
+use Rattle.rehearse.specs.DeviceList.{trimmed, is_space, listed}
+use Rattle.rehearse.specs.DeviceLaws.{quiet}
+use Rattle.rehearse.specs.declared.devices_error.DevicesError.{DevicesError}
+use Rattle.rehearse.specs.declared.devices_error.DevicesError.TheVariants.{BadLine, BuiltIn}
+
+-- a name twice is as once
+abbrev pub with_name : List Text → Text → List Text
+with_name names name = if list_any (bytes_eq name) names then names else names ++ name ∷ []
+
+-- The names after one more line without the blanks round it, or the line's fault: nothing is left of an empty line, `#`
+-- begins a comment, and else it is one word without NUL that names no built-in command.
+abbrev pub plain_line : List Text → ℕ → Text → Result (List Text) DevicesError
+plain_line names number [] = Ok names
+plain_line names number (b ∷ bytes) =
+    if b == ascii.hash then Ok names
+    else (if list_any (λ c. is_space c || c == ascii.nul) (b ∷ bytes) then Err (BadLine number)
+    else (if is_built_in (b ∷ bytes) then Err (BuiltIn number) else Ok (with_name names (b ∷ bytes))))
+
+-- the lines one after another, up to the first faulty one
+abbrev pub plain_lines : List Text → List (ℕ × Text) → Result (List Text) DevicesError
+plain_lines names [] = Ok names
+plain_lines names (l ∷ lines) =
+    elim (plain_line names l.0 (trimmed l.1)) [
+      | Ok next ↦ plain_lines next lines
+      | Err fault ↦ Err fault
+    ]
+
+-- the names of a list in the plain form, or its first fault
+abbrev pub plain_names : Text → Result (List Text) DevicesError
+plain_names text = plain_lines [] (numbered_lines text)
+
+-- Every list that the plain form accepts is accepted, with the same names; none is final, and none sets a variable.
+abbrev pub PlainListsStand : Type 0
+PlainListsStand = (text : Text) (names : List Text) → plain_names text ≡ Ok names →
+    listed text ≡ Ok (map (λ name. (name, quiet)) names)

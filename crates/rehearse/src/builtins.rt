@@ -1,0 +1,47 @@
+//! The commands that are built in: the one list of their names.
+ghost use Rattle.std.specs.Prelude.{◌≡◌, option_map};
+ghost use Rattle.rehearse.specs.Builtins as says;
+ghost use Rattle.rehearse.specs.BuiltinsShown.{builtin_shown};
+
+/// A command that is built in.
+#[derive(Clone, Copy, Debug)]
+pub enum Builtin {
+    SetEnv,
+    Run,
+    Test,
+    Echo,
+    True,
+    False,
+    /// `exit`.
+    Leave,
+}
+
+/// The built-in command of a name, if there is one.
+pub fn builtin_of(name: &[u8]) -> Option<Builtin>
+    ensures { option_map builtin_shown result ≡ says.builtin_of name.now }
+{
+    if name == b"setenv".as_slice() {
+        Some(Builtin::SetEnv)
+    } else if name == b"run".as_slice() {
+        Some(Builtin::Run)
+    } else if name == b"test".as_slice() {
+        Some(Builtin::Test)
+    } else if name == b"echo".as_slice() {
+        Some(Builtin::Echo)
+    } else if name == b"true".as_slice() {
+        Some(Builtin::True)
+    } else if name == b"false".as_slice() {
+        Some(Builtin::False)
+    } else if name == b"exit".as_slice() {
+        Some(Builtin::Leave)
+    } else {
+        None
+    }
+}
+
+/// Whether a name is that of a built-in command, which a device list may not name.
+pub(crate) fn is_built_in(name: &[u8]) -> bool
+    ensures { result ≡ says.is_built_in name.now }
+{
+    builtin_of(name).is_some()
+}
