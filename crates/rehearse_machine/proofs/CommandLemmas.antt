@@ -5,7 +5,10 @@ use Rattle.std.specs.declared.rc.Rc.{Rc}
 use Rattle.std.specs.declared.vec.Vec.{Vec}
 use Rattle.hushlang.specs.declared.tree.Script.{Script as Code}
 use Rattle.hushlang.specs.declared.tree.Word.{Word}
-use Rattle.hushlang.specs.declared.tree.Command.{Command as CommandCode, Simple, Assign, If, Loop, For}
+use Rattle.hushlang.specs.declared.tree.AndOr.{AndOr as ListCode}
+use Rattle.hushlang.specs.declared.tree.Command.{Command as CommandCode, Command-F, Simple, Assign, If, Loop, For, out-Command, roll-Command, roll-out-Command}
+use Rattle.hushlang.specs.declared.tree.Command.TheVariants.{rolls-Simple, rolls-Assign, rolls-If, rolls-Loop, rolls-For}
+use Rattle.hushlang.specs.declared.tree.Command.TheOpen as open_command
 use Rattle.hushlang.specs.Tree as tree
 use Rattle.hushlang.specs.Tree.{Script, Command, Arms}
 use Rattle.hushlang.specs.View as view
@@ -30,6 +33,24 @@ says_assign c values e = ap view.command e ∙ command_assign values
 
 abbrev pub says_for : (c : CommandCode) (name : Vec ℕ Global) (words : Vec Word Global) (body : Rc Code Global) → c ≡ For name words body → view.command c ≡ tree.For name.items (map view.word words.items) (view.script body.value)
 says_for c name words body e = ap view.command e ∙ command_for name words body
+
+-- which command it is, with what it says
+pub data Kind (c : CommandCode) : Type 0 where
+  AsSimple : (words : Vec Word Global) → c ≡ Simple words → Kind c
+  AsAssign : (values : Vec (Vec ℕ Global × Word) Global) → c ≡ Assign values → Kind c
+  AsIf : (arms : Vec Arm Global) → (other : Option (Rc Code Global)) → c ≡ If arms other → Kind c
+  AsLoop : (until : Bool) → (cond body : Rc Code Global) → c ≡ Loop until cond body → Kind c
+  AsFor : (name : Vec ℕ Global) → (words : Vec Word Global) → (body : Rc Code Global) → c ≡ For name words body → Kind c
+
+kind_at : (c : CommandCode) (k : Command-F CommandCode ListCode Code) → c ≡ roll-Command k → Kind c
+kind_at c (open_command.Simple words) e = AsSimple words (e ∙ rolls-Simple words)
+kind_at c (open_command.Assign values) e = AsAssign values (e ∙ rolls-Assign values)
+kind_at c (open_command.If arms other) e = AsIf arms other (e ∙ rolls-If arms other)
+kind_at c (open_command.Loop until cond body) e = AsLoop until cond body (e ∙ rolls-Loop until cond body)
+kind_at c (open_command.For name words body) e = AsFor name words body (e ∙ rolls-For name words body)
+
+pub kind_of : (c : CommandCode) → Kind c
+kind_of c = kind_at c (out-Command c) (sym (roll-out-Command c))
 
 module _ (c : CommandCode) (turn : ℕ) (f : RunningFrame) (fs : List RunningFrame) (s : State) where
   pub if_ends : (arms : Vec Arm Global) (o : Option (Rc Code Global)) (list : List Arm) → c ≡ If arms o → list ≡ arms.items → condition_ends (drop_arms turn (view.arms (map view.arm list) (view.script_in o))) turn f fs s ≡ phase_move (Some (view.command c)) turn f fs s

@@ -11,15 +11,16 @@ use Rattle.bootstore.specs.Record.{Record, changed, with_environment, with_statu
 use Rattle.hushlang.specs.Tree.{Script}
 use Rattle.rehearse.specs.Outcomes.{Word}
 use Rattle.rehearse.specs.State.{Text, Variables, State, state_at, with_value, without}
-use Rattle.rehearse.specs.Commands.{Builtin, SetEnv, Test, Echo, Device, builtins, builtin_in, asks_device, is_bad_name, setenv, echo, is_digit, decimal_from}
+use Rattle.rehearse.specs.Builtins.{SetEnv, Test, Echo}
+use Rattle.rehearse.specs.Commands.{Called, BuiltIn, Device, called_by, asks_device, is_bad_name, setenv, echo, is_digit, decimal_from}
 use Rattle.rehearse.specs.Execution.{Setting, Request, no_effect, remember, set_status, status_when}
 use Rattle.rehearse.specs.Verdict.{verdict}
 use Rattle.rehearse.specs.DeviceList.{Effect}
 use Rattle.rehearse.proofs.StateLemmas.{stored_changes, stored_deletions}
 use Rattle.rehearse_machine.specs.declared.ask.Step.{Step}
 use Rattle.rehearse_machine.specs.declared.ask.Step.TheVariants as steps
-use Rattle.rehearse_machine.specs.Places.{PlaceNext, GoOn, place_ask, place_builtin, place_fields}
-use Rattle.rehearse_machine.specs.Seen.{next_seen, Does, Changes, Changed}
+use Rattle.rehearse_machine.specs.Places.{PlaceNext, GoOn, place_ask, place_called, place_fields}
+use Rattle.rehearse_machine.specs.Seen.{next_seen, Does, Comes, Changes, Changed}
 
 -- ---- numbers
 
@@ -89,17 +90,17 @@ module _ (setting : Setting) (old new : Record) (name : Text) (words : List Text
   abbrev frames : List RunningFrame
   frames = old.present.frames
 
-  pub setenv_does : (b : Builtin) (list : List Text) → b ≡ SetEnv → list ≡ words → Changes old new (setenv list) → Does steps.Going old new (place_builtin setting b name words script old.present.frames)
+  pub setenv_does : (b : Called) (list : List Text) → b ≡ BuiltIn SetEnv → list ≡ words → Changes old new (setenv list) → Does steps.Going old new (place_called setting b name words script old.present.frames)
   setenv_does b list e l h = (
     λ w. ap (λ (x : List RunningFrame). GoOn x (state_at new.present w)) h.1 ∙ ap (GoOn frames) (h.0 w) ∙ ap (λ (x : List Text). GoOn frames (remember (setenv x) (state_at old.present w))) l
-        ∙ sym (ap (λ (x : Builtin). place_builtin setting x name words script frames (state_at old.present w)) e),
+        ∙ sym (ap (λ (x : Called). place_called setting x name words script frames (state_at old.present w)) e),
     h.2,
   )
 
-  pub echo_does : (b : Builtin) (list : List Text) → b ≡ Echo → list ≡ words → Changes old new (echo list) → Does steps.Going old new (place_builtin setting b name words script old.present.frames)
+  pub echo_does : (b : Called) (list : List Text) → b ≡ BuiltIn Echo → list ≡ words → Changes old new (echo list) → Does steps.Going old new (place_called setting b name words script old.present.frames)
   echo_does b list e l h = (
     λ w. ap (λ (x : List RunningFrame). GoOn x (state_at new.present w)) h.1 ∙ ap (GoOn frames) (h.0 w) ∙ ap (λ (x : List Text). GoOn frames (remember (echo x) (state_at old.present w))) l
-        ∙ sym (ap (λ (x : Builtin). place_builtin setting x name words script frames (state_at old.present w)) e),
+        ∙ sym (ap (λ (x : Called). place_called setting x name words script frames (state_at old.present w)) e),
     h.2,
   )
 
@@ -113,17 +114,17 @@ module _ (setting : Setting) (old new : Record) (name : Text) (words : List Text
   taken true x y e = refl
   taken false x y e = absurd (let f = e in cc)
 
-  pub device_does : (step : Step) (b : Builtin) (effect : Effect) → b ≡ Device effect → Asked step effect → Does step old old (place_builtin setting b name words script old.present.frames)
-  device_does step b effect e h = (λ w. h w ∙ sym (ap (λ (x : Builtin). place_builtin setting x name words script frames (state_at old.present w)) e), record { marked = refl; begun = omega arith })
+  pub device_does : (step : Step) (b : Called) (effect : Effect) → b ≡ Device effect → Asked step effect → Does step old old (place_called setting b name words script old.present.frames)
+  device_does step b effect e h = (λ w. h w ∙ sym (ap (λ (x : Called). place_called setting x name words script frames (state_at old.present w)) e), record { marked = refl; begun = omega arith })
 
-  pub test_does : (step : Step) (b : Builtin) → b ≡ Test → asks_device words ≡ true → Asked step no_effect → Does step old old (place_builtin setting b name words script old.present.frames)
+  pub test_does : (step : Step) (b : Called) → b ≡ BuiltIn Test → asks_device words ≡ true → Asked step no_effect → Does step old old (place_called setting b name words script old.present.frames)
   test_does step b e d h = (
     λ w. h w ∙ taken (asks_device words) (place_ask setting (request no_effect) frames (state_at old.present w)) (GoOn frames (set_status (status_when (verdict words)) (state_at old.present w))) d
-        ∙ sym (ap (λ (x : Builtin). place_builtin setting x name words script frames (state_at old.present w)) e),
+        ∙ sym (ap (λ (x : Called). place_called setting x name words script frames (state_at old.present w)) e),
     record { marked = refl; begun = omega arith },
   )
 
-pub fields_named : (setting : Setting) (fields : List (Vec ℕ Global)) (name : Vec ℕ Global) (rest : List (Vec ℕ Global)) (script : Script) (ps : List RunningFrame) (s : State) → fields ≡ name ∷ rest → place_builtin setting (builtin_in builtins setting.devices name.items) name.items (bytes_of_words rest) script ps s ≡ place_fields setting (bytes_of_words fields) script ps s
+pub fields_named : (setting : Setting) (fields : List (Vec ℕ Global)) (name : Vec ℕ Global) (rest : List (Vec ℕ Global)) (script : Script) (ps : List RunningFrame) (s : State) → fields ≡ name ∷ rest → place_called setting (called_by setting.devices name.items) name.items (bytes_of_words rest) script ps s ≡ place_fields setting (bytes_of_words fields) script ps s
 fields_named setting fields name rest script ps s e = sym (ap (λ (x : List (Vec ℕ Global)). place_fields setting (bytes_of_words x) script ps s) e)
 
 pub empty_rest : (ys : List (Vec ℕ Global)) → true ≡ eqb (length ys) 0 → ys ≡ []
@@ -137,3 +138,7 @@ some_rest (y ∷ ys) e = omega arith
 pub some_length : (n : ℕ) → false ≡ eqb n 0 → 0 < n
 some_length zero e = absurd (let f = e in cc)
 some_length (suc n) e = omega arith
+
+-- what the command does that a name is the name of, that name does
+pub named_comes : (setting : Setting) (name : Text) (words : List Text) (script : Script) (frames : List RunningFrame) (r : Result Step StoreError) (old new : Record) (b k : Called) → b ≡ k → Comes r old new (place_called setting k name words script frames) → Comes r old new (place_called setting b name words script frames)
+named_comes setting name words script frames r old new b k e h = subst (λ (x : Called). Comes r old new (place_called setting x name words script frames)) (sym e) h

@@ -6,10 +6,11 @@ use Rattle.hushlang.specs.Expansion.{fields, joined, size, most_bytes}
 use Rattle.rehearse.specs.Trees.{tree_of}
 use Rattle.rehearse.specs.Verdict.{verdict}
 use Rattle.rehearse.specs.State.{Text, get, State, setting_in}
-use Rattle.rehearse.specs.Commands.{Builtin, SetEnv, Run, Test, Echo, True, False, Leave, NoCommand, Device, builtins, builtin_in, asks_device, exit_status}
+use Rattle.rehearse.specs.Builtins.{SetEnv, Run, Test, Echo, True, False, Leave}
+use Rattle.rehearse.specs.Commands.{Called, BuiltIn, NoCommand, Device, called_by, asks_device, exit_status}
 use Rattle.rehearse.specs.Proper.{IsProperCommand, AreProperArms, IsBlock}
 use Rattle.rehearse.specs.Execution.{Setting, CutDevices, CutSteps, Size, set_status, set_local, status_when, goes, holds, Request, no_effect}
-use Rattle.rehearse_machine.specs.Frames.{Frame, Lists, Linked, IfCondition, LoopCondition, LoopBody, ForBody, RunNames, RunText, Next, Go, Ask, Stop, leave, begin_assign, begin_for, begin_arms, begin_tree, begin_text, begin_names, begin_exit, fitting, ask, begin_builtin, begin_fields, begin_command, move}
+use Rattle.rehearse_machine.specs.Frames.{Frame, Lists, Linked, IfCondition, LoopCondition, LoopBody, ForBody, RunNames, RunText, Next, Go, Ask, Stop, leave, begin_assign, begin_for, begin_arms, begin_tree, begin_text, begin_names, begin_exit, fitting, ask, begin_called, begin_fields, begin_command, move}
 use Rattle.rehearse_machine.specs.Turns.{command_depth, arms_depth, script_depth, block_weight, links_weight, arms_weight, tree_weight, text_weight, names_weight, weight}
 use Rattle.rehearse_machine.specs.Meaning.{AreProperFrames}
 
@@ -71,21 +72,21 @@ module _ (setting : Setting) where
   exit-quiet (Some n) fs s = leave-quiet fs (set_status n s)
   exit-quiet None fs s = refl
 
-  builtin-quiet : (b : Builtin) (name : Text) (ws : List Text) (fs : List Frame) (s : State) → IsQuiet s (begin_builtin setting b name ws fs s)
-  builtin-quiet SetEnv name ws fs s = refl
-  builtin-quiet Run name [] fs s = refl
-  builtin-quiet Run name (w ∷ ws) fs s = refl
-  builtin-quiet Test name ws fs s = either-quiet s (asks_device ws) (ask setting (record { name = name; words = ws; effect = no_effect }) fs s) (Go fs (set_status (status_when (verdict ws)) s)) (ask-quiet (record { name = name; words = ws; effect = no_effect }) fs s) refl
-  builtin-quiet Echo name ws fs s = refl
-  builtin-quiet True name ws fs s = refl
-  builtin-quiet False name ws fs s = refl
-  builtin-quiet Leave name ws fs s = exit-quiet (exit_status ws) fs s
+  builtin-quiet : (b : Called) (name : Text) (ws : List Text) (fs : List Frame) (s : State) → IsQuiet s (begin_called setting b name ws fs s)
+  builtin-quiet (BuiltIn SetEnv) name ws fs s = refl
+  builtin-quiet (BuiltIn Run) name [] fs s = refl
+  builtin-quiet (BuiltIn Run) name (w ∷ ws) fs s = refl
+  builtin-quiet (BuiltIn Test) name ws fs s = either-quiet s (asks_device ws) (ask setting (record { name = name; words = ws; effect = no_effect }) fs s) (Go fs (set_status (status_when (verdict ws)) s)) (ask-quiet (record { name = name; words = ws; effect = no_effect }) fs s) refl
+  builtin-quiet (BuiltIn Echo) name ws fs s = refl
+  builtin-quiet (BuiltIn True) name ws fs s = refl
+  builtin-quiet (BuiltIn False) name ws fs s = refl
+  builtin-quiet (BuiltIn Leave) name ws fs s = exit-quiet (exit_status ws) fs s
   builtin-quiet (Device effect) name ws fs s = ask-quiet (record { name = name; words = ws; effect = effect }) fs s
   builtin-quiet NoCommand name ws fs s = refl
 
   fields-quiet : (ws : List Text) (fs : List Frame) (s : State) → IsQuiet s (begin_fields setting ws fs s)
   fields-quiet [] fs s = refl
-  fields-quiet (name ∷ ws) fs s = builtin-quiet (builtin_in builtins setting.devices name) name ws fs s
+  fields-quiet (name ∷ ws) fs s = builtin-quiet (called_by setting.devices name) name ws fs s
 
   for-quiet : (name : Text) (values : List Text) (body : Script) (fs : List Frame) (s : State) → IsQuiet s (begin_for name values body fs s)
   for-quiet name [] body fs s = refl

@@ -1,23 +1,28 @@
 -- The words of a command that asks, expanded again.
-use Rattle.std.proofs.Common.{ℕ, zero, suc, ◌-◌, Bool, true, false, List, ◌∷◌, Option, Some, None, refl, sym, ap, ◌∙◌, ◌≡◌, nat_le}
+use Rattle.std.proofs.Common.{ℕ, ◌-◌, true, false, List, ◌∷◌, Option, Some, None, refl, sym, ap, ◌∙◌, ◌≡◌, nat_le}
 use Rattle.hushlang.specs.Tree as tree
 use Rattle.hushlang.specs.Tree.{AndOr, Command}
 use Rattle.hushlang.specs.View as view
+use Rattle.std.specs.declared.alloc.Global.{Global}
+use Rattle.std.specs.declared.vec.Vec.{Vec}
 use Rattle.hushlang.specs.declared.tree.AndOr.{AndOr as ListCode}
+use Rattle.hushlang.specs.declared.tree.Word.{Word}
+use Rattle.hushlang.specs.declared.tree.Command.{Command as CommandCode, Simple}
 use Rattle.hushlang.specs.Expansion as expansion
 use Rattle.hushlang.specs.Expansion.{fields, size, most_bytes}
 use Rattle.bootstore.specs.declared.frame.At.{At}
 use Rattle.bootstore.specs.Moment.{RunningFrame}
 use Rattle.bootstore.specs.Record.{Record}
-use Rattle.rehearse.specs.Outcomes.{Word}
-use Rattle.rehearse.specs.State.{Text, State, state_at, setting_in}
-use Rattle.rehearse.specs.Execution.{Setting, End, Size}
+use Rattle.rehearse.specs.Outcomes as outcomes
+use Rattle.rehearse.specs.State.{Text, state_at, setting_in}
+use Rattle.rehearse.specs.Execution.{Setting, Size}
 use Rattle.rehearse_machine.specs.declared.halt.Halt.TheVariants as halts
 use Rattle.rehearse_machine.specs.declared.ask.Step.TheVariants as steps
-use Rattle.rehearse_machine.specs.Places.{PlaceNext, StopOn, list_at, command_in, command_at, place_fields}
+use Rattle.rehearse_machine.specs.Places.{StopOn, list_at, command_in, command_at, place_fields}
 use Rattle.rehearse_machine.specs.Asking.{command_in_front, words_of, words_in_front, fields_again}
 use Rattle.rehearse_machine.specs.Variables.{setting_at}
 use Rattle.rehearse_machine.specs.Seen.{Does}
+use Rattle.rehearse_machine.proofs.CommandLemmas.{says_if, says_loop, says_assign, says_for, Kind, AsSimple, AsAssign, AsIf, AsLoop, AsFor, kind_of}
 use Rattle.rehearse_machine.proofs.Settings.{same_setting}
 use Rattle.rehearse_machine.proofs.PartLemmas.{back}
 use Rattle.rehearse_machine.proofs.Beginnings.{chosen, passed}
@@ -38,6 +43,18 @@ module _ (at : At) (f : RunningFrame) (here : at ≡ f.place) where
     pub command_there_in_front : (l : ListCode) (c : Option Command) → list_at f.script f.place.list ≡ Some (view.list l) → c ≡ command_in (view.list l) (at.command - 1) → words_of c ≡ words_in_front f
     command_there_in_front l c e k = sym (in_front ∙ ap (λ (o : Option AndOr). words_of (command_at o (at.command - 1))) e ∙ ap words_of (sym k))
 
+-- only a simple command has words
+module _ (c : CommandCode) where
+  wordless-at : Kind c → ((words : Vec Word Global) → c ≡ Simple words → ⊥) → None ≡ words_of (Some (view.command c))
+  wordless-at (AsSimple words e) other = absurd (other words e)
+  wordless-at (AsAssign values e) other = sym (ap (λ (k : Command). words_of (Some k)) (says_assign c values e))
+  wordless-at (AsIf arms rest e) other = sym (ap (λ (k : Command). words_of (Some k)) (says_if c arms rest e))
+  wordless-at (AsLoop until cond body e) other = sym (ap (λ (k : Command). words_of (Some k)) (says_loop c until cond body e))
+  wordless-at (AsFor name words body e) other = sym (ap (λ (k : Command). words_of (Some k)) (says_for c name words body e))
+
+  pub wordless : ((words : Vec Word Global) → c ≡ Simple words → ⊥) → None ≡ words_of (Some (view.command c))
+  wordless = wordless-at (kind_of c)
+
 -- ---- what its words come to
 
 module _ (setting : Setting) (old : Record) (f : RunningFrame) (fs : List RunningFrame) where
@@ -45,13 +62,13 @@ module _ (setting : Setting) (old : Record) (f : RunningFrame) (fs : List Runnin
   nothing_again e = (λ w. ap (λ (o : Option (List tree.Word)). fields_again setting o f fs (state_at old.present w)) e, record { marked = refl; begun = refl })
 
   module _ (words : List tree.Word) (in_front : Some words ≡ words_in_front f) where
-    again : (w : Word) → fields_again setting (Some words) f fs (state_at old.present w) ≡ fields_again setting (words_in_front f) f fs (state_at old.present w)
+    again : (w : outcomes.Word) → fields_again setting (Some words) f fs (state_at old.present w) ≡ fields_again setting (words_in_front f) f fs (state_at old.present w)
     again w = ap (λ (o : Option (List tree.Word)). fields_again setting o f fs (state_at old.present w)) in_front
 
-    abbrev expanded : Word → List Text
+    abbrev expanded : outcomes.Word → List Text
     expanded w = fields (setting_in (state_at old.present w).memory) words
 
-    same_fields : (w : Word) → fields (setting_at old.present) words ≡ expanded w
+    same_fields : (w : outcomes.Word) → fields (setting_at old.present) words ≡ expanded w
     same_fields w = ap (λ (x : expansion.Setting). fields x words) (same_setting old.present w)
 
     pub too_long_again : nat_le (size (fields (setting_at old.present) words)) most_bytes ≡ false → Does (steps.Ends halts.Size) old old (fields_again setting (words_in_front f) f fs)
@@ -60,7 +77,7 @@ module _ (setting : Setting) (old : Record) (f : RunningFrame) (fs : List Runnin
       record { marked = refl; begun = refl },
     )
 
-    pub fields_found : (found : List Text) → found ≡ fields (setting_at old.present) words → nat_le (size (fields (setting_at old.present) words)) most_bytes ≡ true → (w : Word) → place_fields setting found f.script (f ∷ fs) (state_at old.present w) ≡ fields_again setting (words_in_front f) f fs (state_at old.present w)
+    pub fields_found : (found : List Text) → found ≡ fields (setting_at old.present) words → nat_le (size (fields (setting_at old.present) words)) most_bytes ≡ true → (w : outcomes.Word) → place_fields setting found f.script (f ∷ fs) (state_at old.present w) ≡ fields_again setting (words_in_front f) f fs (state_at old.present w)
     fields_found found e h w =
         ap (λ (x : List Text). place_fields setting x f.script (f ∷ fs) (state_at old.present w)) (e ∙ same_fields w)
         ∙ chosen (nat_le (size (expanded w)) most_bytes) (place_fields setting (expanded w) f.script (f ∷ fs) (state_at old.present w)) (StopOn Size (state_at old.present w)) (ap (λ (x : List Text). nat_le (size x) most_bytes) (sym (same_fields w)) ∙ h)

@@ -5,12 +5,14 @@ use Rattle.hushlang.specs.Tree.{Script, AndOr, Joined, Command, Arms}
 use Rattle.hushlang.specs.Expansion.{fields, size, most_bytes}
 use Rattle.rehearse.specs.Trees.{tree_of}
 use Rattle.rehearse.specs.State.{Text, get, State, setting_in}
-use Rattle.rehearse.specs.Commands.{Builtin, SetEnv, Run, Test, Echo, True, False, Leave, NoCommand, Device, builtins, builtin_in}
+use Rattle.rehearse.specs.Builtins.{SetEnv, Run, Test, Echo, True, False, Leave}
+use Rattle.rehearse.specs.Commands.{Called, BuiltIn, NoCommand, Device, called_by}
 use Rattle.rehearse.specs.Proper.{IsProper, IsProperList, IsProperJoined, IsProperCommand, AreProperArms, IsBlock}
 use Rattle.rehearse.specs.Execution.{Setting, Answer, Normal, Exit, Ended, Dry, CutSteps, Syntax, Size, go_on, set_status, set_local, goes, holds, begin, text_end, run_text, run_all, command, simple, sized, turns, for_each, exec_script, exec_list, exec_joined, exec_command, exec_arms, exec}
-use Rattle.rehearse.proofs.Keeping.{KeepsAll, after_condition, Keeps-script, Keeps-list, Keeps-one, Keeps-exec, Keeps-ended, Keeps-text}
+use Rattle.rehearse.proofs.Growing.{AtLeast, Grew, AtLeast-track, Grew-block}
+use Rattle.rehearse.proofs.Keeping.{KeepsAll, after_condition, Keeps-script, Keeps-list, Keeps-one, Keeps-exec, Keeps-text}
 use Rattle.rehearse.proofs.ProperLemmas.{trees_are_proper}
-use Rattle.rehearse_machine.proofs.Growing.{AtLeast, Grew, AtLeast-track, Grew-block, Cut-block, Cut-turns}
+use Rattle.rehearse_machine.proofs.Cutting.{Cut-block, Cut-turns}
 
 pub block_proper : (a : Script) → IsBlock a → IsProper a
 block_proper tree.Empty p = tt
@@ -42,7 +44,7 @@ same_text_end n (Ended ending t) b f g l e h = rw (← e) refl
 same_text_end n (Dry t) b f g l e h = rw (← e) refl
 
 module _ (setting : Setting) where
-  module _ (n m : ℕ) (below : n ≤ m) (text text' : Script → State → Answer) (kept : (tree : Script) → KeepsAll setting (text tree)) (kept' : (tree : Script) → KeepsAll setting (text' tree)) (same : (tree : Script) → IsProper tree → (t : State) → setting.step_bound < n + t.steps → text tree t ≡ text' tree t) where
+  module _ (n m : ℕ) (below : n ≤ m) (text text' : Script → State → Answer) (kept : (tree : Script) → KeepsAll setting (text tree)) (same : (tree : Script) → IsProper tree → (t : State) → setting.step_bound < n + t.steps → text tree t ≡ text' tree t) where
     same_tree : (o : Option Script) (name : Text) → ((tree : Script) → o ≡ Some tree → IsProper tree) → (t : State) → setting.step_bound < n + t.steps → tree_answer text o name t ≡ tree_answer text' o name t
     same_tree None name p t h = refl
     same_tree (Some tree.Empty) name p t h = same tree.Empty tt (set_status 0 t) h
@@ -59,21 +61,21 @@ module _ (setting : Setting) where
     same_run [] t h = refl
     same_run (name ∷ names) t h = same_named (get t.memory.environment name) name (run_all setting text names) (run_all setting text' names) t h (λ u l. same_run names u (omega arith))
 
-    same_command : (b : Builtin) (name : Text) (ws : List Text) (t : State) → setting.step_bound < n + t.steps → command setting text b name ws t ≡ command setting text' b name ws t
-    same_command SetEnv name ws t h = refl
-    same_command Run name [] t h = refl
-    same_command Run name (w ∷ ws) t h = same_run (w ∷ ws) t h
-    same_command Test name ws t h = refl
-    same_command Echo name ws t h = refl
-    same_command True name ws t h = refl
-    same_command False name ws t h = refl
-    same_command Leave name ws t h = refl
+    same_command : (b : Called) (name : Text) (ws : List Text) (t : State) → setting.step_bound < n + t.steps → command setting text b name ws t ≡ command setting text' b name ws t
+    same_command (BuiltIn SetEnv) name ws t h = refl
+    same_command (BuiltIn Run) name [] t h = refl
+    same_command (BuiltIn Run) name (w ∷ ws) t h = same_run (w ∷ ws) t h
+    same_command (BuiltIn Test) name ws t h = refl
+    same_command (BuiltIn Echo) name ws t h = refl
+    same_command (BuiltIn True) name ws t h = refl
+    same_command (BuiltIn False) name ws t h = refl
+    same_command (BuiltIn Leave) name ws t h = refl
     same_command (Device effect) name ws t h = refl
     same_command NoCommand name ws t h = refl
 
     same_simple : (fs : List Text) (t : State) → setting.step_bound < n + t.steps → simple setting text fs t ≡ simple setting text' fs t
     same_simple [] t h = refl
-    same_simple (name ∷ ws) t h = same_command (builtin_in builtins setting.devices name) name ws t h
+    same_simple (name ∷ ws) t h = same_command (called_by setting.devices name) name ws t h
 
     same_begin : (f g : State → Answer) (s : State) → setting.step_bound ≤ n + s.steps → ((t : State) → setting.step_bound < n + t.steps → f t ≡ g t) → begin setting f s ≡ begin setting g s
     same_begin f g s h k = same_if (nat_lt s.steps setting.step_bound) (f (record s { steps = suc s.steps })) (Ended CutSteps s) (g (record s { steps = suc s.steps })) (Ended CutSteps s) (k (record s { steps = suc s.steps }) (omega arith)) refl
@@ -82,7 +84,7 @@ module _ (setting : Setting) where
     same_sized fs f g t e = same_if (nat_le (size fs) most_bytes) (f fs t) (Ended Size t) (g fs t) (Ended Size t) e refl
 
     pub same_turns : (k j : ℕ) → k ≤ j → (until : Bool) (c c' b b' : State → Answer) → ((t : State) → setting.step_bound ≤ n + t.steps → c t ≡ c' t) → ((t : State) → setting.step_bound ≤ n + t.steps → b t ≡ b' t) → ((t : State) → Grew t.steps (c t)) → KeepsAll setting b → ((t : State) → setting.step_bound ≤ t.steps → c' t ≡ Ended CutSteps t) → (last : ℕ) (s : State) → setting.step_bound ≤ k + s.steps → setting.step_bound ≤ n + s.steps → turns k until c b last s ≡ turns j until c' b' last s
-    same_turns zero j le until c c' b b' ec eb grew kb cut last s h l = sym (Cut-turns setting m text' kept' j until c' b' last s (cut s (omega arith)))
+    same_turns zero j le until c c' b b' ec eb grew kb cut last s h l = sym (Cut-turns setting m text' j until c' b' last s (cut s (omega arith)))
     same_turns (suc k) zero le until c c' b b' ec eb grew kb cut last s h l = absurd (omega arith)
     same_turns (suc k) (suc j) le until c c' b b' ec eb grew kb cut last s h l =
         same_go_on (suc s.steps) (c s) (c' s) (after_condition setting until b (λ u. turns k until c b u.memory.status u) last) (after_condition setting until b' (λ u. turns j until c' b' u.memory.status u) last) (grew s) (ec s l)
@@ -112,7 +114,7 @@ module _ (setting : Setting) where
       same_one (tree.Simple words) p s h = same_begin (λ t. sized (fields (setting_in t.memory) words) (simple setting text) t) (λ t. sized (fields (setting_in t.memory) words) (simple setting text') t) s h (λ t r. same_sized (fields (setting_in t.memory) words) (simple setting text) (simple setting text') t (same_simple (fields (setting_in t.memory) words) t r))
       same_one (tree.Assign pairs) p s h = refl
       same_one (tree.If arms) p s h = same_if_arms arms p s h
-      same_one (tree.Loop until c b) p s h = same_turns n m below until (exec_script setting n text c) (exec_script setting m text' c) (exec_script setting n text b) (exec_script setting m text' b) (same_script c (block_proper c p.0)) (same_script b (block_proper b p.1)) (Grew-block setting n text kept c p.0) (Keeps-script setting n text kept b) (Cut-block setting m text' kept' c p.0) 0 s h h
+      same_one (tree.Loop until c b) p s h = same_turns n m below until (exec_script setting n text c) (exec_script setting m text' c) (exec_script setting n text b) (exec_script setting m text' b) (same_script c (block_proper c p.0)) (same_script b (block_proper b p.1)) (Grew-block setting n text kept c p.0) (Keeps-script setting n text kept b) (Cut-block setting m text' c p.0) 0 s h h
       same_one (tree.For name words b) p s h = same_begin (λ t. sized (fields (setting_in t.memory) words) (for_each name (exec_script setting n text b) 0) t) (λ t. sized (fields (setting_in t.memory) words) (for_each name (exec_script setting m text' b) 0) t) s h (λ t r. same_sized (fields (setting_in t.memory) words) (for_each name (exec_script setting n text b) 0) (for_each name (exec_script setting m text' b) 0) t (same_for name (exec_script setting n text b) (exec_script setting m text' b) (same_script b (block_proper b p)) (Keeps-script setting n text kept b) 0 (fields (setting_in t.memory) words) t (omega arith)))
 
       same_if_arms : (a : Arms) → IsProperCommand (tree.If a) → (s : State) → setting.step_bound ≤ n + s.steps → exec_arms setting n text a s ≡ exec_arms setting m text' a s
@@ -129,12 +131,12 @@ module _ (setting : Setting) where
   pub same_exec : (n m : ℕ) → n ≤ m → (a : Script) → IsProper a → (s : State) → setting.step_bound ≤ n + s.steps → exec setting n a s ≡ exec setting m a s
   same_exec zero zero le a p s h = refl
   same_exec zero (suc m) le tree.Empty p s h = refl
-  same_exec zero (suc m) le (tree.Runs l ls) p s h = Cut-block setting zero (λ b t. Ended CutSteps t) (λ b t. Keeps-ended setting.device_bound t CutSteps) (tree.Runs l ls) p s (omega arith) ∙ sym (Cut-block setting (suc m) (exec setting m) (Keeps-exec setting m) (tree.Runs l ls) p s (omega arith))
+  same_exec zero (suc m) le (tree.Runs l ls) p s h = Cut-block setting zero (λ b t. Ended CutSteps t) (tree.Runs l ls) p s (omega arith) ∙ sym (Cut-block setting (suc m) (exec setting m) (tree.Runs l ls) p s (omega arith))
   same_exec (suc n) zero le a p s h = absurd (omega arith)
-  same_exec (suc n) (suc m) le a p s h = same_script (suc n) (suc m) le (exec setting n) (exec setting m) (Keeps-exec setting n) (Keeps-exec setting m) (λ tree q t r. same_exec n m (omega arith) tree q t (omega arith)) a p s h
+  same_exec (suc n) (suc m) le a p s h = same_script (suc n) (suc m) le (exec setting n) (exec setting m) (Keeps-exec setting n) (λ tree q t r. same_exec n m (omega arith) tree q t (omega arith)) a p s h
 
   -- so a text that is run means what the script means
   pub closed_exec : (n : ℕ) (a : Script) → IsProper a → (s : State) → setting.step_bound ≤ n + s.steps → exec setting n a s ≡ exec_script setting n (exec setting n) a s
   closed_exec zero tree.Empty p s h = refl
-  closed_exec zero (tree.Runs l ls) p s h = Cut-block setting zero (λ b t. Ended CutSteps t) (λ b t. Keeps-ended setting.device_bound t CutSteps) (tree.Runs l ls) p s (omega arith) ∙ sym (Cut-block setting zero (exec setting zero) (Keeps-exec setting zero) (tree.Runs l ls) p s (omega arith))
-  closed_exec (suc n) a p s h = same_script (suc n) (suc n) (omega arith) (exec setting n) (exec setting (suc n)) (Keeps-exec setting n) (Keeps-exec setting (suc n)) (λ tree q t r. same_exec n (suc n) (omega arith) tree q t (omega arith)) a p s h
+  closed_exec zero (tree.Runs l ls) p s h = Cut-block setting zero (λ b t. Ended CutSteps t) (tree.Runs l ls) p s (omega arith) ∙ sym (Cut-block setting zero (exec setting zero) (tree.Runs l ls) p s (omega arith))
+  closed_exec (suc n) a p s h = same_script (suc n) (suc n) (omega arith) (exec setting n) (exec setting (suc n)) (Keeps-exec setting n) (λ tree q t r. same_exec n (suc n) (omega arith) tree q t (omega arith)) a p s h

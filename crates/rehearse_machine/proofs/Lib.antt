@@ -1,5 +1,5 @@
 pub mod PlaceMoves
-pub mod Growing
+pub mod Cutting
 pub mod Fuel
 pub mod Moves
 pub mod Coming

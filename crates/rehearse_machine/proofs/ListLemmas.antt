@@ -53,18 +53,25 @@ module _ (setting : Setting) (l : ListCode) (n : ℕ) (f : RunningFrame) (fs : L
   stays true x y e = absurd (let g = e in cc)
   stays false x y e = refl
 
-  pub list_ends : (at : At) → (n ≡ 0 → ⊥) → length l.rest.items ≤ n - 1 → at ≡ place (suc f.place.list) 0 0 0 → GoOn (moved_to at f ∷ fs) s ≡ place_begins setting (view.list l) n f fs s
-  list_ends at h k e =
-      ap (λ (x : At). GoOn (moved_to x f ∷ fs) s) e
-      ∙ sym (later n (n - 1) (back h) ∙ ap (λ (o : Option (Op × Command)). place_joined setting o f fs s) (join_none l.rest.items (n - 1) (slice_get_past l.rest.items (n - 1) k)))
+  -- what is joined, where the items are known by another name
+  module _ (items : List Join) (same : items ≡ l.rest.items) (h : n ≡ 0 → ⊥) where
+    joined_on : (o : Option (Op × Command)) → joined_at (view.joins (map view.joined items)) (n - 1) ≡ o → place_joined setting o f fs s ≡ place_begins setting (view.list l) n f fs s
+    joined_on o e =
+        sym (later n (n - 1) (back h) ∙ ap (λ (x : List Join). place_joined setting (joined_at (view.joins (map view.joined x)) (n - 1)) f fs s) (sym same)
+        ∙ ap (λ (x : Option (Op × Command)). place_joined setting x f fs s) e)
 
-  pub join_begins : (p : Join) → (n ≡ 0 → ⊥) → n - 1 < length l.rest.items → p ≡ get_or l.rest.items (n - 1) p → goes p.0 s.memory.status ≡ true → place_command setting (view.command p.1) f fs s ≡ place_begins setting (view.list l) n f fs s
-  join_begins p h k e t =
-      goes_on (goes p.0 s.memory.status) (place_command setting (view.command p.1) f fs s) (GoOn (behind f ∷ fs) s) t
-      ∙ sym (later n (n - 1) (back h) ∙ ap (λ (o : Option (Op × Command)). place_joined setting o f fs s) (join_some l.rest.items (n - 1) p (slice_get_read l.rest.items (length l.rest.items) (n - 1) p refl k e)))
+    pub list_ends : (at : At) → length items ≤ n - 1 → at ≡ place (suc f.place.list) 0 0 0 → GoOn (moved_to at f ∷ fs) s ≡ place_begins setting (view.list l) n f fs s
+    list_ends at k e = ap (λ (x : At). GoOn (moved_to x f ∷ fs) s) e ∙ joined_on None (join_none items (n - 1) (slice_get_past items (n - 1) k))
 
-  pub join_skipped : (p : Join) (at : At) → (n ≡ 0 → ⊥) → n - 1 < length l.rest.items → p ≡ get_or l.rest.items (n - 1) p → goes p.0 s.memory.status ≡ false → at ≡ place f.place.list (suc f.place.command) 0 0 → GoOn (moved_to at f ∷ fs) s ≡ place_begins setting (view.list l) n f fs s
-  join_skipped p at h k e t q =
-      ap (λ (x : At). GoOn (moved_to x f ∷ fs) s) q
-      ∙ stays (goes p.0 s.memory.status) (place_command setting (view.command p.1) f fs s) (GoOn (behind f ∷ fs) s) t
-      ∙ sym (later n (n - 1) (back h) ∙ ap (λ (o : Option (Op × Command)). place_joined setting o f fs s) (join_some l.rest.items (n - 1) p (slice_get_read l.rest.items (length l.rest.items) (n - 1) p refl k e)))
+    module _ (p : Join) (k : n - 1 < length items) (e : p ≡ get_or items (n - 1) p) where
+      found : place_joined setting (Some (p.0, view.command p.1)) f fs s ≡ place_begins setting (view.list l) n f fs s
+      found = joined_on (Some (p.0, view.command p.1)) (join_some items (n - 1) p (slice_get_read items (length items) (n - 1) p refl k e))
+
+      pub join_begins : goes p.0 s.memory.status ≡ true → place_command setting (view.command p.1) f fs s ≡ place_begins setting (view.list l) n f fs s
+      join_begins t = goes_on (goes p.0 s.memory.status) (place_command setting (view.command p.1) f fs s) (GoOn (behind f ∷ fs) s) t ∙ found
+
+      pub join_skipped : (at : At) → goes p.0 s.memory.status ≡ false → at ≡ place f.place.list (suc f.place.command) 0 0 → GoOn (moved_to at f ∷ fs) s ≡ place_begins setting (view.list l) n f fs s
+      join_skipped at t q =
+          ap (λ (x : At). GoOn (moved_to x f ∷ fs) s) q
+          ∙ stays (goes p.0 s.memory.status) (place_command setting (view.command p.1) f fs s) (GoOn (behind f ∷ fs) s) t
+          ∙ found

@@ -7,15 +7,17 @@ use Rattle.rehearse.specs.Trees.{tree_of}
 use Rattle.rehearse.specs.Verdict.{verdict}
 use Rattle.rehearse.specs.Outcomes.{Word}
 use Rattle.rehearse.specs.State.{Text, get, State, setting_in}
-use Rattle.rehearse.specs.Commands.{Builtin, SetEnv, Run, Test, Echo, True, False, Leave, NoCommand, Device, builtins, builtin_in, asks_device, exit_status}
+use Rattle.rehearse.specs.Builtins.{SetEnv, Run, Test, Echo, True, False, Leave}
+use Rattle.rehearse.specs.Commands.{Called, BuiltIn, NoCommand, Device, called_by, asks_device, exit_status}
 use Rattle.rehearse.specs.Proper.{IsProper, IsProperCommand, IsBlock}
 use Rattle.rehearse.specs.Execution.{Setting, Answer, Normal, Exit, Ended, Dry, Ending, CutDevices, CutSteps, Unknown, Syntax, Size, go_on, set_status, set_local, status_when, goes, holds, begin, take_outcome, device, Request, no_effect, text_end, run_text, run_all, command, simple, sized, assign, turns, for_each}
-use Rattle.rehearse_machine.specs.Frames.{Frame, Lists, Linked, IfCondition, LoopCondition, LoopBody, ForBody, RunNames, RunText, Next, Go, Ask, Stop, leave, begin_assign, begin_for, begin_arms, begin_tree, begin_text, begin_names, begin_exit, fitting, ask, begin_builtin, begin_fields, counted, begin_command, move}
+use Rattle.rehearse_machine.specs.Frames.{Frame, Lists, Linked, IfCondition, LoopCondition, LoopBody, ForBody, RunNames, RunText, Next, Go, Ask, Stop, leave, begin_assign, begin_for, begin_arms, begin_tree, begin_text, begin_names, begin_exit, fitting, ask, begin_called, begin_fields, counted, begin_command, move}
 use Rattle.rehearse_machine.specs.Came.{Over, Wants}
 use Rattle.rehearse_machine.specs.Meaning.{with, full, script, one, joined_of, arms_of, again, resume, continue, comes_to, AreProperFrames}
+use Rattle.rehearse.proofs.Growing.{Grew, AtLeast-track, Grew-block}
 use Rattle.rehearse.proofs.Keeping.{KeepsAll, after_condition, Keeps-script, Keeps-exec}
 use Rattle.rehearse.proofs.ProperLemmas.{trees_are_proper}
-use Rattle.rehearse_machine.proofs.Growing.{Grew, AtLeast-track, Grew-block, Cut-block}
+use Rattle.rehearse_machine.proofs.Cutting.{Cut-block}
 use Rattle.rehearse_machine.proofs.Fuel.{same_go_on, same_if, closed_exec, same_turns}
 
 module _ (setting : Setting) where
@@ -90,21 +92,21 @@ module _ (setting : Setting) where
     exit-is (Some status) fs s = leave-is fs (set_status status s)
     exit-is None fs s = refl
 
-    builtin-is : (b : Builtin) (name : Text) (ws : List Text) (fs : List Frame) (s : State) → comes_to setting w (begin_builtin setting b name ws fs s) ≡ continue setting fs (command setting (full setting) b name ws (with w s))
-    builtin-is Run name [] fs s = refl
-    builtin-is Run name (v ∷ ws) fs s = refl
-    builtin-is SetEnv name ws fs s = refl
-    builtin-is Test name ws fs s = if-is (asks_device ws) (ask setting (record { name = name; words = ws; effect = no_effect }) fs s) (Go fs (set_status (status_when (verdict ws)) s)) fs (device setting (record { name = name; words = ws; effect = no_effect }) (with w s)) (Normal (set_status (status_when (verdict ws)) (with w s))) (ask-is (record { name = name; words = ws; effect = no_effect }) fs s) refl
-    builtin-is Echo name ws fs s = refl
-    builtin-is True name ws fs s = refl
-    builtin-is False name ws fs s = refl
-    builtin-is Leave name ws fs s = exit-is (exit_status ws) fs s
+    builtin-is : (b : Called) (name : Text) (ws : List Text) (fs : List Frame) (s : State) → comes_to setting w (begin_called setting b name ws fs s) ≡ continue setting fs (command setting (full setting) b name ws (with w s))
+    builtin-is (BuiltIn Run) name [] fs s = refl
+    builtin-is (BuiltIn Run) name (v ∷ ws) fs s = refl
+    builtin-is (BuiltIn SetEnv) name ws fs s = refl
+    builtin-is (BuiltIn Test) name ws fs s = if-is (asks_device ws) (ask setting (record { name = name; words = ws; effect = no_effect }) fs s) (Go fs (set_status (status_when (verdict ws)) s)) fs (device setting (record { name = name; words = ws; effect = no_effect }) (with w s)) (Normal (set_status (status_when (verdict ws)) (with w s))) (ask-is (record { name = name; words = ws; effect = no_effect }) fs s) refl
+    builtin-is (BuiltIn Echo) name ws fs s = refl
+    builtin-is (BuiltIn True) name ws fs s = refl
+    builtin-is (BuiltIn False) name ws fs s = refl
+    builtin-is (BuiltIn Leave) name ws fs s = exit-is (exit_status ws) fs s
     builtin-is (Device effect) name ws fs s = ask-is (record { name = name; words = ws; effect = effect }) fs s
     builtin-is NoCommand name ws fs s = sym (continue-ended fs (Unknown name) (with w s))
 
     fields-is : (ws : List Text) (fs : List Frame) (s : State) → comes_to setting w (begin_fields setting ws fs s) ≡ continue setting fs (simple setting (full setting) ws (with w s))
     fields-is [] fs s = refl
-    fields-is (name ∷ ws) fs s = builtin-is (builtin_in builtins setting.devices name) name ws fs s
+    fields-is (name ∷ ws) fs s = builtin-is (called_by setting.devices name) name ws fs s
 
     counted-is : (next : State → Next) (f : State → Answer) (fs : List Frame) (s : State) → ((t : State) → comes_to setting w (next t) ≡ continue setting fs (f (with w t))) → comes_to setting w (counted setting next s) ≡ continue setting fs (begin setting f (with w s))
     counted-is next f fs s e = if-is (nat_lt s.steps setting.step_bound) (next (record s { steps = suc s.steps })) (Stop CutSteps s) fs (f (with w (record s { steps = suc s.steps }))) (Ended CutSteps (with w s)) (e (record s { steps = suc s.steps })) (sym (continue-ended fs CutSteps (with w s)))
@@ -123,19 +125,19 @@ module _ (setting : Setting) where
 
     -- a turn of a loop, with all the steps for the turns after it
     turn_more_at : (k : ℕ) → setting.step_bound ≡ k → (until : Bool) (c b : Script) → IsBlock c → IsBlock b → (last : ℕ) (s : State) → turns k until (script setting c) (script setting b) last s ≡ go_on (script setting c s) (after_condition setting until (script setting b) (λ u. turns k until (script setting c) (script setting b) u.memory.status u) last)
-    turn_more_at zero e until c b p q last s = let cut : script setting c s ≡ Ended CutSteps s = Cut-block setting setting.step_bound (full setting) (Keeps-exec setting setting.step_bound) c p s (omega arith) in rw cut refl
+    turn_more_at zero e until c b p q last s = let cut : script setting c s ≡ Ended CutSteps s = Cut-block setting setting.step_bound (full setting) c p s (omega arith) in rw cut refl
     turn_more_at (suc k) e until c b p q last s =
         let bound : ℕ = setting.step_bound in
         let kept = Keeps-exec setting bound in
         let grown : (t : State) → Grew t.steps (script setting c t) = Grew-block setting bound (full setting) kept c p in
         let body : KeepsAll setting (script setting b) = Keeps-script setting bound (full setting) kept b in
-        let cut : (t : State) → bound ≤ t.steps → script setting c t ≡ Ended CutSteps t = Cut-block setting bound (full setting) kept c p in
+        let cut : (t : State) → bound ≤ t.steps → script setting c t ≡ Ended CutSteps t = Cut-block setting bound (full setting) c p in
         let fewer : State → Answer = λ u. turns k until (script setting c) (script setting b) u.memory.status u in
         let all : State → Answer = λ u. turns (suc k) until (script setting c) (script setting b) u.memory.status u in
         same_go_on (suc s.steps) (script setting c s) (script setting c s) (after_condition setting until (script setting b) fewer last) (after_condition setting until (script setting b) all last) (grown s) refl
         (λ t g. same_if (holds until t.memory.status) (go_on (script setting b t) fewer) (Normal (set_status last t)) (go_on (script setting b t) all) (Normal (set_status last t))
         (same_go_on t.steps (script setting b t) (script setting b t) fewer all (AtLeast-track setting.device_bound t (script setting b t) (body t).0) refl
-        (λ u r. same_turns setting bound bound (omega arith) (full setting) (full setting) kept kept (λ tree w x y. refl) k (suc k) (omega arith) until (script setting c) (script setting c) (script setting b) (script setting b) (λ x y. refl) (λ x y. refl) grown body cut u.memory.status u (omega arith) (omega arith)))
+        (λ u r. same_turns setting bound bound (omega arith) (full setting) (full setting) kept (λ tree w x y. refl) k (suc k) (omega arith) until (script setting c) (script setting c) (script setting b) (script setting b) (λ x y. refl) (λ x y. refl) grown body cut u.memory.status u (omega arith) (omega arith)))
         refl)
 
     pub turn_more : (until : Bool) (c b : Script) → IsBlock c → IsBlock b → (last : ℕ) (s : State) → turns setting.step_bound until (script setting c) (script setting b) last s ≡ go_on (script setting c s) (after_condition setting until (script setting b) (again setting until c b) last)

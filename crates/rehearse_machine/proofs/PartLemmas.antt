@@ -18,7 +18,7 @@ use Rattle.rehearse.specs.State.{Text, State}
 use Rattle.rehearse.specs.Execution.{Setting}
 use Rattle.rehearse_machine.specs.Places.{GoOn, list_at, command_in, command_at, second, place_begins, place_turn, place_list, phase_move, for_turn, for_move}
 use Rattle.rehearse_machine.proofs.ArmLemmas.{Arm}
-use Rattle.rehearse_machine.proofs.CommandLemmas.{says_if, says_loop, says_simple, says_assign, says_for}
+use Rattle.rehearse_machine.proofs.CommandLemmas.{says_if, says_loop, says_simple, says_assign, says_for, Kind, AsSimple, AsAssign, AsIf, AsLoop, AsFor, kind_of}
 use Rattle.rehearse_machine.proofs.ListLemmas.{Join, join_some, join_none}
 
 pub script_out : (s : Code) → view.script s ≡ view.runs (map view.list (out-Script s).lists.items)
@@ -98,14 +98,25 @@ module _ (o : Option Command) (c : CommandCode) (f : RunningFrame) (fs : List Ru
       ap (λ (x : Text). for_turn (slice_get f.words f.place.turn) x (view.script body.value) f fs s) n
       ∙ sym (goes (tree.For name.items (map view.word words.items) (view.script body.value)) (says_for c name words body e))
 
-  pub no_for_simple : (words : Vec Word Global) → c ≡ Simple words → GoOn fs s ≡ for_move o f fs s
+  no_for_simple : (words : Vec Word Global) → c ≡ Simple words → GoOn fs s ≡ for_move o f fs s
   no_for_simple words e = sym (goes (tree.Simple (map view.word words.items)) (says_simple c words e))
 
-  pub no_for_assign : (values : Vec (Vec ℕ Global × Word) Global) → c ≡ Assign values → GoOn fs s ≡ for_move o f fs s
+  no_for_assign : (values : Vec (Vec ℕ Global × Word) Global) → c ≡ Assign values → GoOn fs s ≡ for_move o f fs s
   no_for_assign values e = sym (goes (tree.Assign (view.values_in values)) (says_assign c values e))
 
-  pub no_for_if : (arms : Vec Arm Global) (other : Option (Rc Code Global)) → c ≡ If arms other → GoOn fs s ≡ for_move o f fs s
+  no_for_if : (arms : Vec Arm Global) (other : Option (Rc Code Global)) → c ≡ If arms other → GoOn fs s ≡ for_move o f fs s
   no_for_if arms other e = sym (goes (tree.If (view.arms (map view.arm arms.items) (view.script_in other))) (says_if c arms other e))
 
-  pub no_for_loop : (until : Bool) (cond body : Rc Code Global) → c ≡ Loop until cond body → GoOn fs s ≡ for_move o f fs s
+  no_for_loop : (until : Bool) (cond body : Rc Code Global) → c ≡ Loop until cond body → GoOn fs s ≡ for_move o f fs s
   no_for_loop until cond body e = sym (goes (tree.Loop until (view.script cond.value) (view.script body.value)) (says_loop c until cond body e))
+
+  no_for-at : Kind c → ((name : Vec ℕ Global) (words : Vec Word Global) (body : Rc Code Global) → c ≡ For name words body → ⊥) → GoOn fs s ≡ for_move o f fs s
+  no_for-at (AsSimple words e) other = no_for_simple words e
+  no_for-at (AsAssign values e) other = no_for_assign values e
+  no_for-at (AsIf arms rest e) other = no_for_if arms rest e
+  no_for-at (AsLoop until cond body e) other = no_for_loop until cond body e
+  no_for-at (AsFor name words body e) other = absurd (other name words body e)
+
+  -- what is no `for` is left
+  pub no_for : ((name : Vec ℕ Global) (words : Vec Word Global) (body : Rc Code Global) → c ≡ For name words body → ⊥) → GoOn fs s ≡ for_move o f fs s
+  no_for = no_for-at (kind_of c)

@@ -15,10 +15,11 @@ use Rattle.rehearse.specs.Outcomes.{Outcome, Success, Failure}
 use Rattle.rehearse.specs.Trees.{tree_of}
 use Rattle.rehearse.specs.State.{Text, get, State, setting_in}
 use Rattle.rehearse.specs.Verdict.{verdict}
-use Rattle.rehearse.specs.Commands.{Builtin, SetEnv, Run, Test, Echo, True, False, Leave, NoCommand, Device, builtins, builtin_in, asks_device, exit_status}
+use Rattle.rehearse.specs.Builtins.{SetEnv, Run, Test, Echo, True, False, Leave}
+use Rattle.rehearse.specs.Commands.{Called, BuiltIn, NoCommand, Device, called_by, asks_device, exit_status}
 use Rattle.rehearse.specs.Execution.{Setting, End, CutDevices, CutSteps, Size, set_status, set_local, status_when, goes, holds, Request, no_effect, logged, set_environment}
-use Rattle.rehearse_machine.specs.Frames.{Frame, Lists, Linked, IfCondition, LoopCondition, LoopBody, ForBody, Next, Go, Ask, Stop, leave, boot_next, answered, begin_assign, begin_for, begin_arms, begun_text, begin_tree, begin_text, begin_names, begin_exit, fitting, ask, begin_builtin, begin_fields, counted, begin_command, move}
-use Rattle.rehearse_machine.specs.Places.{list_at, drop_lists, joined_at, drop_joined, second, command_in, command_at, drop_arms, place, from_command, condition_frame, phase, from_turn, script_frames, for_frame, run_frame, frames_by, frames_of, PlaceNext, GoOn, AskOn, StopOn, next_of, moved_to, behind, in_turn, text_frame, block_frame, is_run, to_run, left, place_exit, place_boot, place_answered, place_assign, place_tree, place_text, place_name, run_move, for_turn, for_move, for_begins, place_arms, condition_ends, phase_move, place_fitting, place_ask, place_builtin, place_fields, place_counted, place_command, place_joined, place_begins, place_turn, place_list, place_by, place_move}
+use Rattle.rehearse_machine.specs.Frames.{Frame, Lists, Linked, IfCondition, LoopCondition, LoopBody, ForBody, Next, Go, Ask, Stop, leave, boot_next, answered, begin_assign, begin_for, begin_arms, begun_text, begin_tree, begin_text, begin_names, begin_exit, fitting, ask, begin_called, begin_fields, counted, begin_command, move}
+use Rattle.rehearse_machine.specs.Places.{list_at, drop_lists, joined_at, drop_joined, second, command_in, command_at, drop_arms, place, from_command, condition_frame, phase, from_turn, script_frames, for_frame, run_frame, frames_by, frames_of, PlaceNext, GoOn, AskOn, StopOn, next_of, moved_to, behind, in_turn, text_frame, block_frame, is_run, to_run, left, place_exit, place_boot, place_answered, place_assign, place_tree, place_text, place_name, run_move, for_turn, for_move, for_begins, place_arms, condition_ends, phase_move, place_fitting, place_ask, place_called, place_fields, place_counted, place_command, place_joined, place_begins, place_turn, place_list, place_by, place_move}
 
 -- ---- parts by their numbers
 
@@ -235,24 +236,24 @@ module _ (setting : Setting) where
   ask-is : (r : Request) (ps : List RunningFrame) (s : State) → next_of (place_ask setting r ps s) ≡ ask setting r (frames_of ps) s
   ask-is r ps s = if_next (nat_lt (length s.log) setting.device_bound) (AskOn r ps s) (StopOn CutDevices s) (Ask r (frames_of ps) s) (Stop CutDevices s) refl refl
 
-  builtin-is : (b : Builtin) (name : Text) (ws : List Text) (script : Script) (ps : List RunningFrame) (s : State) → next_of (place_builtin setting b name ws script ps s) ≡ begin_builtin setting b name ws (frames_of ps) s
-  builtin-is SetEnv name ws script ps s = refl
-  builtin-is Run name [] script ps s = refl
-  builtin-is Run name (w ∷ ws) script ps s = refl
-  builtin-is Test name ws script ps s =
+  builtin-is : (b : Called) (name : Text) (ws : List Text) (script : Script) (ps : List RunningFrame) (s : State) → next_of (place_called setting b name ws script ps s) ≡ begin_called setting b name ws (frames_of ps) s
+  builtin-is (BuiltIn SetEnv) name ws script ps s = refl
+  builtin-is (BuiltIn Run) name [] script ps s = refl
+  builtin-is (BuiltIn Run) name (w ∷ ws) script ps s = refl
+  builtin-is (BuiltIn Test) name ws script ps s =
       let r : Request = record { name = name; words = ws; effect = no_effect } in
       let t : State = set_status (status_when (verdict ws)) s in
       if_next (asks_device ws) (place_ask setting r ps s) (GoOn ps t) (ask setting r (frames_of ps) s) (Go (frames_of ps) t) (ask-is r ps s) refl
-  builtin-is Echo name ws script ps s = refl
-  builtin-is True name ws script ps s = refl
-  builtin-is False name ws script ps s = refl
-  builtin-is Leave name ws script ps s = exit-is (exit_status ws) ps s
+  builtin-is (BuiltIn Echo) name ws script ps s = refl
+  builtin-is (BuiltIn True) name ws script ps s = refl
+  builtin-is (BuiltIn False) name ws script ps s = refl
+  builtin-is (BuiltIn Leave) name ws script ps s = exit-is (exit_status ws) ps s
   builtin-is (Device effect) name ws script ps s = ask-is (record { name = name; words = ws; effect = effect }) ps s
   builtin-is NoCommand name ws script ps s = refl
 
   fields-is : (ws : List Text) (script : Script) (ps : List RunningFrame) (s : State) → next_of (place_fields setting ws script ps s) ≡ begin_fields setting ws (frames_of ps) s
   fields-is [] script ps s = refl
-  fields-is (name ∷ ws) script ps s = builtin-is (builtin_in builtins setting.devices name) name ws script ps s
+  fields-is (name ∷ ws) script ps s = builtin-is (called_by setting.devices name) name ws script ps s
 
   -- at a list of a script that is running
   module _ (f : RunningFrame) (fs : List RunningFrame) (list : AndOr) (at_list : list_at f.script f.place.list ≡ Some list) (scripted : (p : At) → frames_by f.kind (moved_to p f) ≡ script_frames (list_at f.script p.list) p (drop_lists (suc p.list) f.script)) where

@@ -6,10 +6,11 @@ use Rattle.hushlang.specs.Expansion.{fields, joined, size, most_bytes}
 use Rattle.rehearse.specs.Trees.{tree_of}
 use Rattle.rehearse.specs.Verdict.{verdict}
 use Rattle.rehearse.specs.State.{Text, get, State, setting_in}
-use Rattle.rehearse.specs.Commands.{Builtin, SetEnv, Run, Test, Echo, True, False, Leave, NoCommand, Device, builtins, builtin_in, asks_device, exit_status}
+use Rattle.rehearse.specs.Builtins.{SetEnv, Run, Test, Echo, True, False, Leave}
+use Rattle.rehearse.specs.Commands.{Called, BuiltIn, NoCommand, Device, called_by, asks_device, exit_status}
 use Rattle.rehearse.specs.Proper.{IsProper, IsProperCommand, AreProperArms, IsBlock}
 use Rattle.rehearse.specs.Execution.{Setting, CutDevices, CutSteps, Size, set_status, set_local, status_when, goes, holds, Request, no_effect}
-use Rattle.rehearse_machine.specs.Frames.{Frame, Lists, Linked, IfCondition, LoopCondition, LoopBody, ForBody, RunNames, RunText, Next, Go, Ask, Stop, leave, begin_assign, begin_for, begin_arms, begin_tree, begin_text, begin_names, begin_exit, fitting, ask, begin_builtin, begin_fields, begin_command, move}
+use Rattle.rehearse_machine.specs.Frames.{Frame, Lists, Linked, IfCondition, LoopCondition, LoopBody, ForBody, RunNames, RunText, Next, Go, Ask, Stop, leave, begin_assign, begin_for, begin_arms, begin_tree, begin_text, begin_names, begin_exit, fitting, ask, begin_called, begin_fields, begin_command, move}
 use Rattle.rehearse.proofs.ProperLemmas.{trees_are_proper}
 use Rattle.rehearse_machine.proofs.Fuel.{block_proper}
 use Rattle.rehearse_machine.specs.Meaning.{AreProperFrames, IsProperNext}
@@ -49,21 +50,21 @@ module _ (setting : Setting) where
   exit-proper (Some n) fs s p = leave-proper fs (set_status n s) p
   exit-proper None fs s p = p
 
-  builtin-proper : (b : Builtin) (name : Text) (ws : List Text) (fs : List Frame) (s : State) → AreProperFrames fs → IsProperNext (begin_builtin setting b name ws fs s)
-  builtin-proper SetEnv name ws fs s p = p
-  builtin-proper Run name [] fs s p = p
-  builtin-proper Run name (w ∷ ws) fs s p = (tt, p)
-  builtin-proper Test name ws fs s p = either (asks_device ws) (ask setting (record { name = name; words = ws; effect = no_effect }) fs s) (Go fs (set_status (status_when (verdict ws)) s)) (ask-proper (record { name = name; words = ws; effect = no_effect }) fs s p) p
-  builtin-proper Echo name ws fs s p = p
-  builtin-proper True name ws fs s p = p
-  builtin-proper False name ws fs s p = p
-  builtin-proper Leave name ws fs s p = exit-proper (exit_status ws) fs s p
+  builtin-proper : (b : Called) (name : Text) (ws : List Text) (fs : List Frame) (s : State) → AreProperFrames fs → IsProperNext (begin_called setting b name ws fs s)
+  builtin-proper (BuiltIn SetEnv) name ws fs s p = p
+  builtin-proper (BuiltIn Run) name [] fs s p = p
+  builtin-proper (BuiltIn Run) name (w ∷ ws) fs s p = (tt, p)
+  builtin-proper (BuiltIn Test) name ws fs s p = either (asks_device ws) (ask setting (record { name = name; words = ws; effect = no_effect }) fs s) (Go fs (set_status (status_when (verdict ws)) s)) (ask-proper (record { name = name; words = ws; effect = no_effect }) fs s p) p
+  builtin-proper (BuiltIn Echo) name ws fs s p = p
+  builtin-proper (BuiltIn True) name ws fs s p = p
+  builtin-proper (BuiltIn False) name ws fs s p = p
+  builtin-proper (BuiltIn Leave) name ws fs s p = exit-proper (exit_status ws) fs s p
   builtin-proper (Device effect) name ws fs s p = ask-proper (record { name = name; words = ws; effect = effect }) fs s p
   builtin-proper NoCommand name ws fs s p = tt
 
   fields-proper : (ws : List Text) (fs : List Frame) (s : State) → AreProperFrames fs → IsProperNext (begin_fields setting ws fs s)
   fields-proper [] fs s p = p
-  fields-proper (name ∷ ws) fs s p = builtin-proper (builtin_in builtins setting.devices name) name ws fs s p
+  fields-proper (name ∷ ws) fs s p = builtin-proper (called_by setting.devices name) name ws fs s p
 
   for-proper : (name : Text) (values : List Text) (body : Script) (fs : List Frame) (s : State) → IsBlock body → AreProperFrames fs → IsProperNext (begin_for name values body fs s)
   for-proper name [] body fs s q p = p

@@ -1,12 +1,12 @@
 -- Where a run of a task stands that has taken a word: it begins, takes outcomes, asks and ends.
-use Rattle.std.proofs.Common.{Bool, true, false, List, [], ◌∷◌, ◌++◌, Option, Some, None, refl, sym, ap, ◌∙◌, ◌≡◌, append_assoc, append-nil, arith}
+use Rattle.std.proofs.Common.{Bool, true, false, List, [], ◌∷◌, ◌++◌, Option, Some, None, refl, sym, ap, ◌∙◌, ◌≡◌, append_assoc, arith}
 use Rattle.hushlang.specs.Tree as tree
 use Rattle.hushlang.specs.Tree.{Script}
 use Rattle.rehearse.specs.Outcomes.{Word, Outcome, Success, Failure}
 use Rattle.rehearse.specs.Trees.{tree_of}
 use Rattle.rehearse.specs.State.{Text, State, start}
 use Rattle.rehearse.specs.Proper.{IsProper}
-use Rattle.rehearse.specs.Execution.{Answer, Normal, Exit, Ended, Dry, Ending, Syntax, Booted, Request, take_outcome, boot, logged, set_environment}
+use Rattle.rehearse.specs.Execution.{Syntax, Booted, Request, take_outcome, boot, logged, set_environment}
 use Rattle.rehearse.specs.Runs.{Task, run_on}
 use Rattle.rehearse.proofs.ProperLemmas.{trees_are_proper}
 use Rattle.rehearse_machine.specs.Frames.{Frame, Lists, Next, Go, Ask, Stop, move, boot_next, answered, begun_text}

@@ -14,13 +14,12 @@ use Rattle.rehearse_machine.specs.declared.ask.Step.{Step}
 use Rattle.rehearse_machine.specs.declared.ask.Step.TheVariants as steps
 use Rattle.rehearse_machine.specs.declared.rehearsal.Stop.{Stop}
 use Rattle.rehearse_machine.specs.declared.rehearsal.Stop.TheVariants.{Asks, Ends}
-use Rattle.rehearse_machine.specs.Frames.{answered}
 use Rattle.rehearse_machine.specs.Places.{PlaceNext, GoOn, AskOn, StopOn, next_of, frames_of, place_boot, place_answered}
-use Rattle.rehearse_machine.specs.Asking.{found_again, AsksAgain}
-use Rattle.rehearse_machine.specs.Came.{Came, Over, Wants}
+use Rattle.rehearse_machine.specs.Asking.{found_again}
+use Rattle.rehearse_machine.specs.Came.{Came}
 use Rattle.rehearse_machine.specs.Meaning.{comes_to, IsProperNext, AreProperFrames}
 use Rattle.rehearse_machine.specs.Seen.{next_seen, request_seen, Keeps, Does}
-use Rattle.rehearse_machine.specs.Turning.{to_come, step_comes, IsSound, IsSoundStep, IsWithin, Drives}
+use Rattle.rehearse_machine.specs.Turning.{to_come, step_comes, IsSound, IsSoundStep, Drives}
 use Rattle.rehearse_machine.specs.Machine.{Asking, IsAsking, asked_at, Stops, outcome_when}
 use Rattle.rehearse_machine.proofs.Moves.{continue-dry}
 use Rattle.rehearse_machine.proofs.PlaceMoves.{place_answered-is}

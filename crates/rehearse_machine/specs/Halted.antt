@@ -1,5 +1,4 @@
 -- What contracts see of how a run has ended. Ours.
-use Rattle.std.specs.Prelude.{ℕ}
 use Rattle.rehearse.specs.Execution as spec
 use Rattle.rehearse_machine.specs.declared.halt.Halt.{Halt}
 use Rattle.rehearse_machine.specs.declared.halt.Halt.TheVariants as halts

@@ -7,7 +7,7 @@ pub mod Turns
 pub mod Asking
 pub mod Halted
 pub mod Seen
-pub mod Builtins
+pub mod Called
 pub mod Turning
 pub mod Machine
 pub mod Tasks

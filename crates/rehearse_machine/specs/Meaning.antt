@@ -4,7 +4,7 @@ use Rattle.hushlang.specs.Tree.{Script, Joined, Command, Arms}
 use Rattle.rehearse.specs.Outcomes.{Word}
 use Rattle.rehearse.specs.State.{State}
 use Rattle.rehearse.specs.Proper.{IsProper, IsProperJoined, AreProperArms, IsBlock}
-use Rattle.rehearse.specs.Execution.{Setting, Answer, Normal, Exit, Ended, Dry, Ending, End, Request, go_on, set_status, holds, text_end, take_outcome, run_all, turns, for_each, exec_script, exec_joined, exec_command, exec_arms, exec}
+use Rattle.rehearse.specs.Execution.{Setting, Answer, Normal, Exit, Ended, Dry, Ending, Request, go_on, set_status, holds, text_end, take_outcome, run_all, turns, for_each, exec_script, exec_joined, exec_command, exec_arms, exec}
 use Rattle.rehearse.specs.Runs.{Task, run_on}
 use Rattle.rehearse_machine.specs.Came.{Came, Over, settled}
 use Rattle.rehearse_machine.specs.Frames.{Frame, Lists, Linked, IfCondition, LoopCondition, LoopBody, ForBody, RunNames, RunText, Next, Go, Ask, Stop}

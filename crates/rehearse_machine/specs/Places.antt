@@ -12,7 +12,8 @@ use Rattle.rehearse.specs.Outcomes.{Outcome, Success, Failure}
 use Rattle.rehearse.specs.Trees.{tree_of}
 use Rattle.rehearse.specs.State.{Text, get, State, setting_in}
 use Rattle.rehearse.specs.Verdict.{verdict}
-use Rattle.rehearse.specs.Commands.{Builtin, SetEnv, Run, Test, Echo, True, False, Leave, NoCommand, Device, builtins, builtin_in, asks_device, setenv, echo, exit_status}
+use Rattle.rehearse.specs.Builtins.{SetEnv, Run, Test, Echo, True, False, Leave}
+use Rattle.rehearse.specs.Commands.{Called, BuiltIn, NoCommand, Device, called_by, asks_device, setenv, echo, exit_status}
 use Rattle.rehearse.specs.Execution.{Setting, Ending, End, CutDevices, CutSteps, Unknown, Syntax, Size, Booted, remember, set_status, set_local, status_when, goes, holds, Request, no_effect, logged, set_environment}
 use Rattle.rehearse_machine.specs.Frames.{Frame, Lists, Linked, IfCondition, LoopCondition, LoopBody, ForBody, RunNames, RunText, Next, Go, Ask, Stop, begun_text}
 
@@ -234,21 +235,21 @@ module _ (setting : Setting) where
   place_ask request ps s = elim (nat_lt (length s.log) setting.device_bound) [ true ↦ AskOn request ps s | false ↦ StopOn CutDevices s ]
 
   -- the frames stand behind the command, which stands in a script
-  abbrev pub place_builtin : Builtin → Text → List Text → Script → List RunningFrame → State → PlaceNext
-  place_builtin SetEnv name words script ps s = GoOn ps (remember (setenv words) s)
-  place_builtin Run name [] script ps s = GoOn ps (set_status 1 s)
-  place_builtin Run name (w ∷ ws) script ps s = GoOn (names_frame script (w ∷ ws) ∷ ps) s
-  place_builtin Test name words script ps s = elim (asks_device words) [ true ↦ place_ask (record { name = name; words = words; effect = no_effect }) ps s | false ↦ GoOn ps (set_status (status_when (verdict words)) s) ]
-  place_builtin Echo name words script ps s = GoOn ps (remember (echo words) s)
-  place_builtin True name words script ps s = GoOn ps (set_status 0 s)
-  place_builtin False name words script ps s = GoOn ps (set_status 1 s)
-  place_builtin Leave name words script ps s = place_exit (exit_status words) ps s
-  place_builtin (Device effect) name words script ps s = place_ask (record { name = name; words = words; effect = effect }) ps s
-  place_builtin NoCommand name words script ps s = StopOn (Unknown name) s
+  abbrev pub place_called : Called → Text → List Text → Script → List RunningFrame → State → PlaceNext
+  place_called (BuiltIn SetEnv) name words script ps s = GoOn ps (remember (setenv words) s)
+  place_called (BuiltIn Run) name [] script ps s = GoOn ps (set_status 1 s)
+  place_called (BuiltIn Run) name (w ∷ ws) script ps s = GoOn (names_frame script (w ∷ ws) ∷ ps) s
+  place_called (BuiltIn Test) name words script ps s = elim (asks_device words) [ true ↦ place_ask (record { name = name; words = words; effect = no_effect }) ps s | false ↦ GoOn ps (set_status (status_when (verdict words)) s) ]
+  place_called (BuiltIn Echo) name words script ps s = GoOn ps (remember (echo words) s)
+  place_called (BuiltIn True) name words script ps s = GoOn ps (set_status 0 s)
+  place_called (BuiltIn False) name words script ps s = GoOn ps (set_status 1 s)
+  place_called (BuiltIn Leave) name words script ps s = place_exit (exit_status words) ps s
+  place_called (Device effect) name words script ps s = place_ask (record { name = name; words = words; effect = effect }) ps s
+  place_called NoCommand name words script ps s = StopOn (Unknown name) s
 
   abbrev pub place_fields : List Text → Script → List RunningFrame → State → PlaceNext
   place_fields [] script ps s = GoOn ps (set_status 0 s)
-  place_fields (name ∷ ws) script ps s = place_builtin (builtin_in builtins setting.devices name) name ws script ps s
+  place_fields (name ∷ ws) script ps s = place_called (called_by setting.devices name) name ws script ps s
 
   abbrev pub place_counted : (State → PlaceNext) → State → PlaceNext
   place_counted next s = elim (nat_lt s.steps setting.step_bound) [ true ↦ next (record s { steps = suc s.steps }) | false ↦ StopOn CutSteps s ]

@@ -10,7 +10,6 @@ use Rattle.rehearse.specs.State.{Text, Memory, State, state_at}
 use Rattle.rehearse.specs.DeviceList.{Devices}
 use Rattle.rehearse.specs.CommandsShown.{lent_effect}
 use Rattle.rehearse.specs.Bounds.{BoundsShown}
-use Rattle.rehearse.specs.Execution as says
 use Rattle.rehearse.specs.Execution.{Setting, Request, remember}
 use Rattle.rehearse_machine.specs.Places.{PlaceNext, GoOn, AskOn, StopOn}
 use Rattle.rehearse_machine.specs.Halted.{halt_shown}

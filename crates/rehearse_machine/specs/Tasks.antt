@@ -6,7 +6,6 @@ use Rattle.rehearse.specs.State.{Text, get}
 use Rattle.rehearse.specs.DeviceList.{Devices}
 use Rattle.rehearse.specs.Bounds.{BoundsShown}
 use Rattle.rehearse.specs.Runs.{Task, task_of}
-use Rattle.rehearse_machine.specs.Seen.{setting_of}
 use Rattle.rehearse_machine.specs.declared.rehearsal.Rehearsal.{Rehearsal}
 
 -- the rehearsal of a variable of an environment

@@ -29,13 +29,10 @@ fn words_in_front(frame: &Frame) -> Option<&[Word]>
     let Some(command) = command_of(list, at.command - 1) else {
         return None;
     };
-    match command {
-        Command::Simple(words) => Some(words),
-        Command::Assign(_) => None,
-        Command::If { .. } => None,
-        Command::Loop { .. } => None,
-        Command::For { .. } => None,
-    }
+    let Command::Simple(words) = command else {
+        return None;
+    };
+    Some(words)
 }
 
 /// The device command that a frame stands behind, the innermost one.

@@ -1,6 +1,7 @@
 //! The commands that are built in and change what a script reads.
 ghost use Rattle.std.specs.Prelude.{◌≡◌, ◌∷◌, [], IfOk};
 ghost use Rattle.std.specs.List.{join_with_byte, list_all};
+ghost use Rattle.ascii.specs.Bytes as ascii;
 ghost use Rattle.bootstore.specs.Moment.{bytes_of_words};
 ghost use Rattle.rehearse.specs.Commands as says;
 ghost use Rattle.rehearse.specs.CommandsShown.{lent_effect};
@@ -9,50 +10,32 @@ ghost use Rattle.rehearse.specs.Outcomes.{Word};
 ghost use Rattle.rehearse.specs.DeviceList.{Devices as ListedDevices};
 ghost use Rattle.rehearse_machine.specs.Places.{place_ask};
 ghost use Rattle.rehearse_machine.specs.Seen.{next_seen, Changed, Comes, setting_of};
-ghost use Rattle.rehearse_machine.specs.Builtins.{builtin_seen};
+ghost use Rattle.rehearse_machine.specs.Called.{called_seen};
 
 use crate::ask::{Ask, Step};
 use crate::halt::Halt;
 use bootstore::{Store, StoreError};
-use rehearse::{Bounds, Devices, Effect};
+use rehearse::{Bounds, Builtin, Devices, Effect, builtin_of};
 use std::alloc::{AllocError, Global};
 
-/// What the first field of a command names.
+/// What the first field of a command calls.
 #[derive(Clone, Copy)]
-pub(crate) enum Builtin<'a> {
-    SetEnv,
-    Run,
-    Test,
-    Echo,
-    True,
-    False,
-    Leave,
+pub(crate) enum Called<'a> {
+    BuiltIn(Builtin),
     Device(Effect<'a>),
     NoCommand,
 }
 
-/// What a name is the name of.
-pub(crate) fn named<'a>(devices: &'a Devices, name: &[u8]) -> Builtin<'a>
-    ensures { builtin_seen result ≡ says.builtin_in says.builtins devices.now name.now }
+/// What a name calls: a built-in command, else one of the device list.
+pub(crate) fn called_by<'a>(devices: &'a Devices, name: &[u8]) -> Called<'a>
+    ensures { called_seen result ≡ says.called_by devices.now name.now }
 {
-    if name == b"setenv".as_slice() {
-        return Builtin::SetEnv;
-    } else if name == b"run".as_slice() {
-        return Builtin::Run;
-    } else if name == b"test".as_slice() {
-        return Builtin::Test;
-    } else if name == b"echo".as_slice() {
-        return Builtin::Echo;
-    } else if name == b"true".as_slice() {
-        return Builtin::True;
-    } else if name == b"false".as_slice() {
-        return Builtin::False;
-    } else if name == b"exit".as_slice() {
-        return Builtin::Leave;
+    if let Some(builtin) = builtin_of(name) {
+        return Called::BuiltIn(builtin);
     }
     match devices.effect(name) {
-        Some(effect) => Builtin::Device(effect),
-        None => Builtin::NoCommand,
+        Some(effect) => Called::Device(effect),
+        None => Called::NoCommand,
     }
 }
 
@@ -81,7 +64,7 @@ pub(crate) fn ask<'d, S: Store>(
 
 /// Words, with a space between two.
 pub(crate) fn joined(alloc: Global, words: &[Vec<u8>]) -> Result<Vec<u8>, AllocError>
-    ensures { IfOk result (λ v. v.items ≡ join_with_byte 32 (bytes_of_words words.now)) }
+    ensures { IfOk result (λ v. v.items ≡ join_with_byte ascii.space (bytes_of_words words.now)) }
 {
     let mut joined = Vec::new(alloc);
     for (at, word) in words.iter().enumerate() {

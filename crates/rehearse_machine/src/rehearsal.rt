@@ -1,6 +1,7 @@
 //! The text of a rehearsal, from one outcome that is asked for to the next.
 ghost use Rattle.std.specs.Prelude.{◌≡◌, ◌+◌, ◌<◌, ◌≤◌, ◌^◌, ◌∷◌, [], OnOk, IfOk, unwrap_or};
 ghost use Rattle.std.specs.FinMap.{get};
+ghost use Rattle.rehearse.specs.Bounds.{most_steps};
 ghost use Rattle.rehearse.specs.Runs.{run_on};
 ghost use Rattle.rehearse_machine.specs.Came.{settled};
 ghost use Rattle.rehearse_machine.specs.Seen.{Keeps, setting_of};
@@ -79,7 +80,7 @@ pub fn begin<S: Store>(rehearsal: &Rehearsal<'_>, store: &mut S) -> Result<Stop,
     ensures stops { IfOk result (λ stop. Stops (task_in rehearsal.now).setting stop (λ w. settled (run_on (task_in rehearsal.now) w)) (S.record_of store.new).present) }
     ensures marks { OnOk result ((S.record_of store.new).marked ≡ []) }
     ensures begun { OnOk result ((S.record_of store.new).begun ≡ (S.record_of store.old).begun + (S.record_of store.new).present.steps) }
-    ensures within { OnOk result ((S.record_of store.new).present.steps ≤ 1000000) }
+    ensures within { OnOk result ((S.record_of store.new).present.steps ≤ most_steps) }
 {
     let _bound = rehearsal.bounds.steps();
     store.start(rehearsal.env)?;
@@ -103,7 +104,7 @@ pub fn resume<S: Store>(
     ensures stops { IfOk result (λ stop. Stops (task_in rehearsal.now).setting stop (λ w. asked_at (task_in rehearsal.now).setting (S.record_of store.old).present (outcome_when success ∷ w)) (S.record_of store.new).present) }
     ensures marks { OnOk result ((S.record_of store.new).marked ≡ (S.record_of store.old).marked) }
     ensures begun { OnOk result ((S.record_of store.new).begun + (S.record_of store.old).present.steps ≡ (S.record_of store.old).begun + (S.record_of store.new).present.steps) }
-    ensures within { OnOk result ((S.record_of store.new).present.steps ≤ 1000000) }
+    ensures within { OnOk result ((S.record_of store.new).present.steps ≤ most_steps) }
     ensures grows { OnOk result ((S.record_of store.old).present.steps ≤ (S.record_of store.new).present.steps) }
 {
     let _bound = rehearsal.bounds.steps();

@@ -60,17 +60,15 @@ pub(crate) fn move_for<'d, S: Store>(store: &mut S, frame: &Frame) -> Result<Ste
     let Some(command) = command_of(list, at.command) else {
         return leave(store);
     };
-    match command {
-        Command::For {
-            name,
-            words: _,
-            body,
-        } => next_turn(store, frame, name, body),
-        Command::Simple(_) => leave(store),
-        Command::Assign(_) => leave(store),
-        Command::If { .. } => leave(store),
-        Command::Loop { .. } => leave(store),
-    }
+    let Command::For {
+        name,
+        words: _,
+        body,
+    } = command
+    else {
+        return leave(store);
+    };
+    next_turn(store, frame, name, body)
 }
 
 /// A frame of a `run`: the text of its next name, where it is the first or the last text came to status 0.

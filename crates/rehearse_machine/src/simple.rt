@@ -5,22 +5,23 @@ ghost use Rattle.hushlang.specs.Tree as tree;
 ghost use Rattle.hushlang.specs.Expansion.{fields};
 ghost use Rattle.rehearse.specs.State.{Text, setting_in};
 ghost use Rattle.rehearse.specs.Execution.{Setting, set_status};
+ghost use Rattle.rehearse.specs.Builtins as builtins;
 ghost use Rattle.rehearse.specs.Commands as says;
 ghost use Rattle.bootstore.specs.Moment.{bytes_of_words};
 ghost use Rattle.rehearse.specs.DeviceList.{Devices as ListedDevices};
-ghost use Rattle.rehearse_machine.specs.Places.{place_fields, place_builtin, place_exit, place_command, place_counted, place_fitting, for_begins, GoOn};
+ghost use Rattle.rehearse_machine.specs.Places.{place_fields, place_called, place_exit, place_command, place_counted, place_fitting, for_begins, GoOn};
 ghost use Rattle.rehearse_machine.specs.Seen.{Comes, IsTop, under, setting_of};
-ghost use Rattle.rehearse_machine.specs.Builtins.{builtin_seen};
+ghost use Rattle.rehearse_machine.specs.Called.{builtin_called, called_seen};
 
 use crate::ask::Step;
-use crate::commands::{Builtin, ask, asks_device, echo, exit_status, named, setenv};
+use crate::commands::{Called, ask, asks_device, called_by, echo, exit_status, setenv};
 use crate::frames::{behind, enter, finish, place};
 use crate::halt::Halt;
 use crate::steps::{count, expanded};
 use crate::texts::{begin_run, leave_text};
 use bootstore::{Frame, FrameKind, Store, StoreError};
 use hushlang::tree::{Script, Word};
-use rehearse::{Bounds, Devices, Effect, verdict};
+use rehearse::{Bounds, Builtin, Devices, Effect, verdict};
 use std::alloc::Global;
 use std::rc::Rc;
 
@@ -40,7 +41,7 @@ fn run_names<'d, S: Store>(
     names: Vec<Vec<u8>>,
 ) -> Result<Step<'d>, StoreError>
     ensures { (setting : Setting) (name : Text) → Comes result (S.record_of store.old) (S.record_of store.new)
-        (place_builtin setting says.Run name (bytes_of_words names.items) (view.script script.now.value) (S.record_of store.old).present.frames) }
+        (place_called setting (says.BuiltIn builtins.Run) name (bytes_of_words names.items) (view.script script.now.value) (S.record_of store.old).present.frames) }
 {
     if names.is_empty() {
         done(store, 1)
@@ -57,7 +58,7 @@ fn run_test<'d, S: Store>(
     words: Vec<Vec<u8>>,
 ) -> Result<Step<'d>, StoreError>
     ensures { (devices : ListedDevices) (script : tree.Script) → Comes result (S.record_of store.old) (S.record_of store.new)
-        (place_builtin (setting_of devices bounds) says.Test name.items (bytes_of_words words.items) script (S.record_of store.old).present.frames) }
+        (place_called (setting_of devices bounds) (says.BuiltIn builtins.Test) name.items (bytes_of_words words.items) script (S.record_of store.old).present.frames) }
 {
     if asks_device(&words) {
         let effect = Effect {
@@ -86,18 +87,18 @@ fn run_exit<'d, S: Store>(store: &mut S, words: &[Vec<u8>]) -> Result<Step<'d>, 
     }
 }
 
-/// A command that is built in, or a device command.
+/// A command that is built in.
 fn run_builtin<'d, S: Store>(
     alloc: Global,
     store: &mut S,
     script: &Rc<Script>,
     bounds: Bounds,
-    builtin: Builtin<'d>,
+    builtin: Builtin,
     name: Vec<u8>,
     words: Vec<Vec<u8>>,
 ) -> Result<Step<'d>, StoreError>
     ensures { (devices : ListedDevices) → Comes result (S.record_of store.old) (S.record_of store.new)
-        (place_builtin (setting_of devices bounds) (builtin_seen builtin.entry) name.items (bytes_of_words words.items) (view.script script.now.value) (S.record_of store.old).present.frames) }
+        (place_called (setting_of devices bounds) (builtin_called builtin) name.items (bytes_of_words words.items) (view.script script.now.value) (S.record_of store.old).present.frames) }
 {
     match builtin {
         Builtin::SetEnv => {
@@ -113,8 +114,28 @@ fn run_builtin<'d, S: Store>(
         Builtin::True => done(store, 0),
         Builtin::False => done(store, 1),
         Builtin::Leave => run_exit(store, &words),
-        Builtin::Device(effect) => Ok(ask(store, bounds, name, words, effect)),
-        Builtin::NoCommand => Ok(Step::Ends(Halt::Unknown(name))),
+    }
+}
+
+/// What a name calls: a built-in command, a device command, or nothing.
+fn run_called<'d, S: Store>(
+    alloc: Global,
+    store: &mut S,
+    script: &Rc<Script>,
+    bounds: Bounds,
+    called: Called<'d>,
+    name: Vec<u8>,
+    words: Vec<Vec<u8>>,
+) -> Result<Step<'d>, StoreError>
+    ensures { (devices : ListedDevices) → Comes result (S.record_of store.old) (S.record_of store.new)
+        (place_called (setting_of devices bounds) (called_seen called.entry) name.items (bytes_of_words words.items) (view.script script.now.value) (S.record_of store.old).present.frames) }
+{
+    match called {
+        Called::BuiltIn(builtin) => {
+            run_builtin(alloc, store, script, bounds, builtin, name, words)
+        }
+        Called::Device(effect) => Ok(ask(store, bounds, name, words, effect)),
+        Called::NoCommand => Ok(Step::Ends(Halt::Unknown(name))),
     }
 }
 
@@ -134,8 +155,8 @@ pub(crate) fn run_fields<'d, S: Store>(
         return done(store, 0);
     }
     let name = fields.remove(0);
-    let builtin = named(devices, &name);
-    run_builtin(alloc, store, script, bounds, builtin, name, fields)
+    let called = called_by(devices, &name);
+    run_called(alloc, store, script, bounds, called, name, fields)
 }
 
 /// Simple commands begin a step, expand their words, and run the command that the fields name.

@@ -1,4 +1,4 @@
-use Rattle.std.proofs.Common.{ap, ◌∙◌, ◌∷◌, ◌≡◌, sym, subst, List, ℕ, map, Option, Some, None}
+use Rattle.std.proofs.Common.{ap, ◌∙◌, subst, List, ℕ, map, Option}
 use Rattle.std.specs.Prelude.{Vec}
 use Rattle.std.specs.declared.alloc.Global.{Global}
 use Rattle.hushlang.specs.View as view

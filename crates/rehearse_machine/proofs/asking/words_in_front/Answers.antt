@@ -1,12 +1,10 @@
-use Rattle.std.proofs.Common.{ap, ◌∙◌, sym, List, map, Option, Some, None}
-use Rattle.hushlang.specs.Tree as tree
+use Rattle.std.proofs.Common.{ap, ◌∙◌, sym, map, Some, None}
 use Rattle.hushlang.specs.Tree.{Command}
 use Rattle.hushlang.specs.View as view
 use Rattle.rehearse_machine.specs.Asking.{words_of}
-use Rattle.rehearse_machine.proofs.ArmLemmas.{Arm}
-use Rattle.rehearse_machine.proofs.CommandLemmas.{says_if, says_loop, says_simple, says_assign, says_for}
+use Rattle.rehearse_machine.proofs.CommandLemmas.{says_simple}
 use Rattle.rehearse_machine.proofs.PartLemmas.{list_found, list_missing}
-use Rattle.rehearse_machine.proofs.FoundAgain.{no_list_in_front, command_there_in_front}
+use Rattle.rehearse_machine.proofs.FoundAgain.{no_list_in_front, command_there_in_front, wordless}
 use Rattle.rehearse_machine.proofs.asking.words_in_front.Goals as goal
 
 pub returns-in_default : goal.returns-in_default
@@ -23,53 +21,23 @@ returns-in_default-command_of c =
     let found = list_found c.deref.result.now c.deref-2.result.now c.at-at.result f says c.deref-2.ensures.value c.at-at.ensures l c.in-Some.ensures.lookup.3.0 c.in-Some.ensures.lookup.1 in
     command_there_in_front c.at-at.result f c.at-at.ensures c.if-at-eq0.false l None found c.in_default-command_of.ensures.value
 
-pub returns-in-Simple : goal.returns-in-Simple
-returns-in-Simple c =
+pub returns-in_default-command : goal.returns-in_default-command
+returns-in_default-command c =
     let f = c.args.frame.now in
     let says = ap view.script c.deref.ensures ∙ c.script-script.ensures in
     let l = c.in-Some.list.now in
     let found = list_found c.deref.result.now c.deref-2.result.now c.at-at.result f says c.deref-2.ensures.value c.at-at.ensures l c.in-Some.ensures.lookup.3.0 c.in-Some.ensures.lookup.1 in
     let code = c.in-Some-command_of.command.now in
-    ap (λ ws. Some (map view.word ws)) c.deref-in-Simple.ensures.value
+    wordless code c.in_default-command.not-Simple
+    ∙ command_there_in_front c.at-at.result f c.at-at.ensures c.if-at-eq0.false l (Some (view.command code)) found c.in-Some-command_of.ensures.value
+
+pub returns : goal.returns
+returns c =
+    let f = c.args.frame.now in
+    let says = ap view.script c.deref.ensures ∙ c.script-script.ensures in
+    let l = c.in-Some.list.now in
+    let found = list_found c.deref.result.now c.deref-2.result.now c.at-at.result f says c.deref-2.ensures.value c.at-at.ensures l c.in-Some.ensures.lookup.3.0 c.in-Some.ensures.lookup.1 in
+    let code = c.in-Some-command_of.command.now in
+    ap (λ ws. Some (map view.word ws)) c.deref-3.ensures.value
     ∙ sym (ap (λ (k : Command). words_of (Some k)) (says_simple code c.in-Simple.words c.in-Simple.is))
-    ∙ command_there_in_front c.at-at.result f c.at-at.ensures c.if-at-eq0.false l (Some (view.command code)) found c.in-Some-command_of.ensures.value
-
-pub returns-in-Assign : goal.returns-in-Assign
-returns-in-Assign c =
-    let f = c.args.frame.now in
-    let says = ap view.script c.deref.ensures ∙ c.script-script.ensures in
-    let l = c.in-Some.list.now in
-    let found = list_found c.deref.result.now c.deref-2.result.now c.at-at.result f says c.deref-2.ensures.value c.at-at.ensures l c.in-Some.ensures.lookup.3.0 c.in-Some.ensures.lookup.1 in
-    let code = c.in-Some-command_of.command.now in
-    sym (ap (λ (k : Command). words_of (Some k)) (says_assign code c.in-Assign.field-0 c.in-Assign.is))
-    ∙ command_there_in_front c.at-at.result f c.at-at.ensures c.if-at-eq0.false l (Some (view.command code)) found c.in-Some-command_of.ensures.value
-
-pub returns-in-If : goal.returns-in-If
-returns-in-If c =
-    let f = c.args.frame.now in
-    let says = ap view.script c.deref.ensures ∙ c.script-script.ensures in
-    let l = c.in-Some.list.now in
-    let found = list_found c.deref.result.now c.deref-2.result.now c.at-at.result f says c.deref-2.ensures.value c.at-at.ensures l c.in-Some.ensures.lookup.3.0 c.in-Some.ensures.lookup.1 in
-    let code = c.in-Some-command_of.command.now in
-    sym (ap (λ (k : Command). words_of (Some k)) (says_if code c.in-If.arms c.in-If.other c.in-If.is))
-    ∙ command_there_in_front c.at-at.result f c.at-at.ensures c.if-at-eq0.false l (Some (view.command code)) found c.in-Some-command_of.ensures.value
-
-pub returns-in-Loop : goal.returns-in-Loop
-returns-in-Loop c =
-    let f = c.args.frame.now in
-    let says = ap view.script c.deref.ensures ∙ c.script-script.ensures in
-    let l = c.in-Some.list.now in
-    let found = list_found c.deref.result.now c.deref-2.result.now c.at-at.result f says c.deref-2.ensures.value c.at-at.ensures l c.in-Some.ensures.lookup.3.0 c.in-Some.ensures.lookup.1 in
-    let code = c.in-Some-command_of.command.now in
-    sym (ap (λ (k : Command). words_of (Some k)) (says_loop code c.in-Loop.until c.in-Loop.cond c.in-Loop.body c.in-Loop.is))
-    ∙ command_there_in_front c.at-at.result f c.at-at.ensures c.if-at-eq0.false l (Some (view.command code)) found c.in-Some-command_of.ensures.value
-
-pub returns-in-For : goal.returns-in-For
-returns-in-For c =
-    let f = c.args.frame.now in
-    let says = ap view.script c.deref.ensures ∙ c.script-script.ensures in
-    let l = c.in-Some.list.now in
-    let found = list_found c.deref.result.now c.deref-2.result.now c.at-at.result f says c.deref-2.ensures.value c.at-at.ensures l c.in-Some.ensures.lookup.3.0 c.in-Some.ensures.lookup.1 in
-    let code = c.in-Some-command_of.command.now in
-    sym (ap (λ (k : Command). words_of (Some k)) (says_for code c.in-For.name c.in-For.words c.in-For.body c.in-For.is))
     ∙ command_there_in_front c.at-at.result f c.at-at.ensures c.if-at-eq0.false l (Some (view.command code)) found c.in-Some-command_of.ensures.value

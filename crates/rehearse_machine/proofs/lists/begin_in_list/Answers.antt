@@ -1,11 +1,11 @@
-use Rattle.std.proofs.Common.{◌∷◌, ap, ◌∙◌, List, sym, ◌≡◌, ℕ, suc, add-one, ◌-◌, length, ◌≤◌, ◌<◌, subst, get_or, true, false}
+use Rattle.std.proofs.Common.{◌∷◌, ap, ◌∙◌, sym, ◌≡◌, ℕ, suc, add-one, true, false}
 use Rattle.hushlang.specs.View as view
 use Rattle.bootstore.specs.declared.frame.At.{At}
 use Rattle.rehearse.specs.State.{State, state_at}
 use Rattle.rehearse_machine.specs.Places.{GoOn, moved_to, place, place_command, place_begins}
 use Rattle.rehearse_machine.specs.Seen.{under, setting_of}
 use Rattle.rehearse_machine.proofs.Coming.{comes_as, comes_at}
-use Rattle.rehearse_machine.proofs.ListLemmas.{Join, first_begins, list_ends, join_begins, join_skipped}
+use Rattle.rehearse_machine.proofs.ListLemmas.{first_begins, list_ends, join_begins, join_skipped}
 use Rattle.rehearse.specs.Execution.{goes}
 use Rattle.rehearse_machine.proofs.lists.begin_in_list.Goals as goal
 
@@ -20,17 +20,15 @@ returns-then-at-eq0 g c =
 
 pub returns-in_default : goal.returns-in_default
 returns-in_default g c =
-    let old = g.S.Store.record_of c.args.store.now in
-    let fs = under old.present in
+    let fs = under (g.S.Store.record_of c.args.store.now).present in
     let setting = setting_of c.args.devices.now c.args.bounds in
     let f = c.args.frame.now in
     let l = c.args.list.now in
     let n = c.at-at.result.command in
     let there = λ (s : State). ap (λ (m : ℕ). place_begins setting (view.list l) m f fs s) (ap (λ (x : At). x.command) c.at-at.ensures) in
-    let past : length l.rest.items ≤ n - 1 = subst (λ (xs : List Join). length xs ≤ n - 1) c.deref.ensures.value c.in_default.ensures.lookup.3 in
     let place_is = c.place.ensures ∙ ap (λ (x : ℕ). place x 0 0 0) (add-one c.at-at.result.list) ∙ ap (λ (x : At). place (suc x.list) 0 0 0) c.at-at.ensures in
     comes_as c.go_on.result _ _ (GoOn (moved_to c.place.result f ∷ fs)) _
-    (λ s. list_ends setting l n f fs s c.place.result c.if-at-eq0.false past place_is ∙ there s) c.go_on.ensures
+    (λ s. list_ends setting l n f fs s c.deref.result.now c.deref.ensures.value c.if-at-eq0.false c.place.result c.in_default.ensures.lookup.3 place_is ∙ there s) c.go_on.ensures
 
 pub returns-then-goes : goal.returns-then-goes
 returns-then-goes g c =
@@ -42,13 +40,9 @@ returns-then-goes g c =
     let n = c.at-at.result.command in
     let there = λ (s : State). ap (λ (m : ℕ). place_begins setting (view.list l) m f fs s) (ap (λ (x : At). x.command) c.at-at.ensures) in
     let p = c.in-Some.field-0.now in
-    let within : n - 1 < length l.rest.items = subst (λ (xs : List Join). n - 1 < length xs) c.deref.ensures.value c.in-Some.ensures.lookup.3.0 in
-    let found : p ≡ get_or l.rest.items (n - 1) p = subst (λ (xs : List Join). p ≡ get_or xs (n - 1) p) c.deref.ensures.value c.in-Some.ensures.lookup.1 in
-    let same : goes p.0 c.get_status.result ≡ c.goes.result = sym c.goes.ensures in
-    let now : goes p.0 old.present.status ≡ goes p.0 c.get_status.result = ap (goes p.0) (sym c.get_status.ensures) in
-    let runs : goes p.0 old.present.status ≡ true = now ∙ same ∙ c.if-goes.true in
+    let runs : goes p.0 old.present.status ≡ true = ap (goes p.0) (sym c.get_status.ensures) ∙ sym c.goes.ensures ∙ c.if-goes.true in
     comes_at c.begin_command-then-goes.result _ _ (place_command setting (view.command p.1) f fs) _
-    (λ w. join_begins setting l n f fs (state_at old.present w) p c.if-at-eq0.false within found runs ∙ there (state_at old.present w)) c.begin_command-then-goes.ensures
+    (λ w. join_begins setting l n f fs (state_at old.present w) c.deref.result.now c.deref.ensures.value c.if-at-eq0.false p c.in-Some.ensures.lookup.3.0 c.in-Some.ensures.lookup.1 runs ∙ there (state_at old.present w)) c.begin_command-then-goes.ensures
 
 pub returns-else-goes : goal.returns-else-goes
 returns-else-goes g c =
@@ -60,11 +54,7 @@ returns-else-goes g c =
     let n = c.at-at.result.command in
     let there = λ (s : State). ap (λ (m : ℕ). place_begins setting (view.list l) m f fs s) (ap (λ (x : At). x.command) c.at-at.ensures) in
     let p = c.in-Some.field-0.now in
-    let within : n - 1 < length l.rest.items = subst (λ (xs : List Join). n - 1 < length xs) c.deref.ensures.value c.in-Some.ensures.lookup.3.0 in
-    let found : p ≡ get_or l.rest.items (n - 1) p = subst (λ (xs : List Join). p ≡ get_or xs (n - 1) p) c.deref.ensures.value c.in-Some.ensures.lookup.1 in
-    let same : goes p.0 c.get_status.result ≡ c.goes.result = sym c.goes.ensures in
-    let now : goes p.0 old.present.status ≡ goes p.0 c.get_status.result = ap (goes p.0) (sym c.get_status.ensures) in
-    let skips : goes p.0 old.present.status ≡ false = now ∙ same ∙ c.if-goes.false in
+    let skips : goes p.0 old.present.status ≡ false = ap (goes p.0) (sym c.get_status.ensures) ∙ sym c.goes.ensures ∙ c.if-goes.false in
     let place_is = c.behind.ensures ∙ ap (λ (x : At). place x.list (suc x.command) 0 0) c.at-at.ensures in
     comes_at c.go_on-else-goes.result _ _ (GoOn (moved_to c.behind.result f ∷ fs)) _
-    (λ w. join_skipped setting l n f fs (state_at old.present w) p c.behind.result c.if-at-eq0.false within found skips place_is ∙ there (state_at old.present w)) c.go_on-else-goes.ensures
+    (λ w. join_skipped setting l n f fs (state_at old.present w) c.deref.result.now c.deref.ensures.value c.if-at-eq0.false p c.in-Some.ensures.lookup.3.0 c.in-Some.ensures.lookup.1 c.behind.result skips place_is ∙ there (state_at old.present w)) c.go_on-else-goes.ensures

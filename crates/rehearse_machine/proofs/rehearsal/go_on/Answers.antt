@@ -1,5 +1,5 @@
 use Rattle.rehearse_machine.specs.Seen.{setting_of}
-use Rattle.rehearse_machine.proofs.StoppingLemmas.{stops_asking, stops_ended, stops_within}
+use Rattle.rehearse_machine.proofs.StoppingLemmas.{stops_asking}
 use Rattle.rehearse_machine.proofs.rehearsal.go_on.Goals as goal
 
 pub returns-in-Asks-clause-stops : goal.returns-in-Asks-clause-stops

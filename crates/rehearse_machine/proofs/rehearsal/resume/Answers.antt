@@ -1,6 +1,4 @@
-use Rattle.std.proofs.Common.{◌∷◌, ◌≡◌, ◌≤◌, arith, ap, sym, ◌∙◌, subst, Ok, Err}
-use Rattle.bootstore.specs.Record.{Record}
-use Rattle.rehearse_machine.specs.Seen.{setting_of}
+use Rattle.std.proofs.Common.{◌∷◌, arith}
 use Rattle.rehearse_machine.specs.Tasks.{task_in}
 use Rattle.rehearse_machine.specs.Machine.{asked_at, outcome_when}
 use Rattle.rehearse_machine.specs.Turning.{to_come}

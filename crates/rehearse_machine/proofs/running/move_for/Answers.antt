@@ -5,7 +5,7 @@ use Rattle.hushlang.specs.Tree.{AndOr, Command}
 use Rattle.rehearse_machine.specs.Places.{GoOn, command_at, for_move, for_turn}
 use Rattle.rehearse_machine.specs.Seen.{under}
 use Rattle.rehearse_machine.proofs.Coming.{comes_as}
-use Rattle.rehearse_machine.proofs.PartLemmas.{list_found, list_missing, command_there, for_goes, no_for_simple, no_for_assign, no_for_if, no_for_loop}
+use Rattle.rehearse_machine.proofs.PartLemmas.{list_found, list_missing, command_there, for_goes, no_for}
 use Rattle.rehearse_machine.proofs.running.move_for.Goals as goal
 
 pub returns-in_default : goal.returns-in_default
@@ -26,8 +26,8 @@ returns-in_default-command_of g c =
     let none = command_there l _ c.at-at.result f found c.at-at.ensures None c.in_default-command_of.ensures.value in
     comes_as c.leave-in_default-command_of.result _ _ (GoOn fs) _ (λ s. sym (ap (λ (o : Option Command). for_move o f fs s) none)) c.leave-in_default-command_of.ensures
 
-pub returns-in-For : goal.returns-in-For
-returns-in-For g c =
+pub returns-in_default-command : goal.returns-in_default-command
+returns-in_default-command g c =
     let f = c.args.frame.now in
     let fs = under (g.S.Store.record_of c.args.store.now).present in
     let says = ap view.script c.deref.ensures ∙ c.script-script.ensures in
@@ -35,11 +35,10 @@ returns-in-For g c =
     let found = list_found c.deref.result.now c.deref-2.result.now c.at-at.result f says c.deref-2.ensures.value c.at-at.ensures l c.in-Some.ensures.lookup.3.0 c.in-Some.ensures.lookup.1 in
     let code = c.in-Some-command_of.command.now in
     let command = command_there l _ c.at-at.result f found c.at-at.ensures (Some (view.command code)) c.in-Some-command_of.ensures.value in
-    comes_as c.next_turn.result _ _ (for_turn (slice_get f.words f.place.turn) c.deref-in-For.result.now (view.script c.in-For.body.value) f fs) _
-    (λ s. for_goes _ code f fs s command c.in-For.name c.in-For.words c.in-For.body c.deref-in-For.result.now c.in-For.is c.deref-in-For.ensures.value) c.next_turn.ensures
+    comes_as c.leave-in_default-command.result _ _ (GoOn fs) _ (λ s. no_for _ code f fs s command c.in_default-command.not-For) c.leave-in_default-command.ensures
 
-pub returns-in-Simple : goal.returns-in-Simple
-returns-in-Simple g c =
+pub returns : goal.returns
+returns g c =
     let f = c.args.frame.now in
     let fs = under (g.S.Store.record_of c.args.store.now).present in
     let says = ap view.script c.deref.ensures ∙ c.script-script.ensures in
@@ -47,37 +46,5 @@ returns-in-Simple g c =
     let found = list_found c.deref.result.now c.deref-2.result.now c.at-at.result f says c.deref-2.ensures.value c.at-at.ensures l c.in-Some.ensures.lookup.3.0 c.in-Some.ensures.lookup.1 in
     let code = c.in-Some-command_of.command.now in
     let command = command_there l _ c.at-at.result f found c.at-at.ensures (Some (view.command code)) c.in-Some-command_of.ensures.value in
-    comes_as c.leave-in-Simple.result _ _ (GoOn fs) _ (λ s. no_for_simple _ code f fs s command c.in-Simple.field-0 c.in-Simple.is) c.leave-in-Simple.ensures
-
-pub returns-in-Assign : goal.returns-in-Assign
-returns-in-Assign g c =
-    let f = c.args.frame.now in
-    let fs = under (g.S.Store.record_of c.args.store.now).present in
-    let says = ap view.script c.deref.ensures ∙ c.script-script.ensures in
-    let l = c.in-Some.list.now in
-    let found = list_found c.deref.result.now c.deref-2.result.now c.at-at.result f says c.deref-2.ensures.value c.at-at.ensures l c.in-Some.ensures.lookup.3.0 c.in-Some.ensures.lookup.1 in
-    let code = c.in-Some-command_of.command.now in
-    let command = command_there l _ c.at-at.result f found c.at-at.ensures (Some (view.command code)) c.in-Some-command_of.ensures.value in
-    comes_as c.leave-in-Assign.result _ _ (GoOn fs) _ (λ s. no_for_assign _ code f fs s command c.in-Assign.field-0 c.in-Assign.is) c.leave-in-Assign.ensures
-
-pub returns-in-If : goal.returns-in-If
-returns-in-If g c =
-    let f = c.args.frame.now in
-    let fs = under (g.S.Store.record_of c.args.store.now).present in
-    let says = ap view.script c.deref.ensures ∙ c.script-script.ensures in
-    let l = c.in-Some.list.now in
-    let found = list_found c.deref.result.now c.deref-2.result.now c.at-at.result f says c.deref-2.ensures.value c.at-at.ensures l c.in-Some.ensures.lookup.3.0 c.in-Some.ensures.lookup.1 in
-    let code = c.in-Some-command_of.command.now in
-    let command = command_there l _ c.at-at.result f found c.at-at.ensures (Some (view.command code)) c.in-Some-command_of.ensures.value in
-    comes_as c.leave-in-If.result _ _ (GoOn fs) _ (λ s. no_for_if _ code f fs s command c.in-If.arms c.in-If.other c.in-If.is) c.leave-in-If.ensures
-
-pub returns-in-Loop : goal.returns-in-Loop
-returns-in-Loop g c =
-    let f = c.args.frame.now in
-    let fs = under (g.S.Store.record_of c.args.store.now).present in
-    let says = ap view.script c.deref.ensures ∙ c.script-script.ensures in
-    let l = c.in-Some.list.now in
-    let found = list_found c.deref.result.now c.deref-2.result.now c.at-at.result f says c.deref-2.ensures.value c.at-at.ensures l c.in-Some.ensures.lookup.3.0 c.in-Some.ensures.lookup.1 in
-    let code = c.in-Some-command_of.command.now in
-    let command = command_there l _ c.at-at.result f found c.at-at.ensures (Some (view.command code)) c.in-Some-command_of.ensures.value in
-    comes_as c.leave-in-Loop.result _ _ (GoOn fs) _ (λ s. no_for_loop _ code f fs s command c.in-Loop.until c.in-Loop.cond c.in-Loop.body c.in-Loop.is) c.leave-in-Loop.ensures
+    comes_as c.next_turn.result _ _ (for_turn (slice_get f.words f.place.turn) c.deref-3.result.now (view.script c.in-For.body.value) f fs) _
+    (λ s. for_goes _ code f fs s command c.in-For.name c.in-For.words c.in-For.body c.deref-3.result.now c.in-For.is c.deref-3.ensures.value) c.next_turn.ensures

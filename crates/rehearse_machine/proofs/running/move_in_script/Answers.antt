@@ -1,4 +1,4 @@
-use Rattle.std.proofs.Common.{◌∷◌, ap, ◌∙◌, ◌-◌, suc, sym, Option, Some, None}
+use Rattle.std.proofs.Common.{◌∷◌, ap, ◌∙◌, ◌-◌, sym, Option, Some, None}
 use Rattle.hushlang.specs.View as view
 use Rattle.hushlang.specs.Tree.{AndOr}
 use Rattle.bootstore.specs.declared.frame.At.{At}
