@@ -1,5 +1,5 @@
 -- How a rehearsal goes on from run to run.
-use Rattle.std.proofs.Common.{rules, ◌≡◌, ◌≢◌, ℕ, zero, suc, ◌+◌, ◌*◌, ◌^◌, ◌<◌, ◌≤◌, Bool, true, false, List, [], ◌∷◌, ◌++◌, length, map, Some, None, refl, sym, ap, subst, ◌∙◌, length-append, arith}
+use Rattle.std.proofs.Common.{rules, ◌≡◌, ℕ, zero, suc, ◌+◌, ◌*◌, ◌^◌, ◌≤◌, Bool, true, false, List, [], ◌∷◌, ◌++◌, length, map, None, refl, sym, ap, subst, ◌∙◌, length-append, arith}
 use Rattle.std.specs.Prelude.{filter}
 use Rattle.std.proofs.lemmas.List.{length-map}
 use Rattle.std.proofs.lemmas.List.Sums.{length-filter}
@@ -8,17 +8,11 @@ use Rattle.std.proofs.Math.Pow.{pow_mono}
 use Rattle.bootstore.specs.Record.{Record, fresh}
 use Rattle.std.proofs.lemmas.List.Sums.{count_by-le-length}
 use Rattle.rehearse.specs.Bounds.{BoundsShown, are_bounds}
-use Rattle.rehearse.specs.Outcomes.{Word, Outcome, Success, Failure, WordKind, Run, words, is_run_kind}
-use Rattle.rehearse.specs.State.{Text, State, state_at}
-use Rattle.rehearse.specs.Runs.{Task, kind, run_on, runs, rest, steps, state_of}
-use Rattle.rehearse_runs.specs.RunsShown.{RunsShown, outcomes}
-use Rattle.rehearse_runs.specs.Phases.{AreDigits, HasBudget, StandsOn, StandsAt, IsRunIf, HasBegun, shown_at}
+use Rattle.rehearse.specs.Outcomes.{Word, Success, Failure, words, is_run_kind}
+use Rattle.rehearse.specs.State.{Text}
+use Rattle.rehearse.specs.Runs.{Task, kind, runs, steps}
+use Rattle.rehearse_runs.specs.Phases.{AreDigits, HasBudget, HasBegun}
 use Rattle.rehearse_runs.proofs.WorkLemmas.{begun_first}
-use Rattle.rehearse_runs.specs.Searching.{FoundFirst, FoundBehind}
-use Rattle.rehearse_runs.specs.Giving.{GivesWord, GivesNone, LacksMemory, HasFailed}
-use Rattle.rehearse_machine.specs.declared.halt.Halt.{Halt}
-use Rattle.rehearse_runs.specs.declared.runs.Phase.{Phase}
-use Rattle.rehearse_runs.specs.declared.runs.Phase.TheVariants.{Fresh, At, Over, Failed}
 
 -- ---- there are few runs
 

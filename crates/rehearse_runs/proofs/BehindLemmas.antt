@@ -1,14 +1,14 @@
 -- The runs behind a word, and the kinds of texts.
-use Rattle.std.proofs.Common.{◌≡◌, ℕ, ◌+◌, ◌*◌, ◌≤◌, true, List, [], ◌∷◌, ◌++◌, length, map, refl, sym, ap, subst, ◌∙◌, length-append, zero-add, Some, arith}
+use Rattle.std.proofs.Common.{◌≡◌, ℕ, ◌+◌, ◌≤◌, true, List, [], ◌∷◌, length, map, refl, sym, ap, subst, ◌∙◌, length-append, zero-add, Some, arith}
 use Rattle.bootstore.specs.Record.{Record, fresh}
-use Rattle.rehearse.specs.Outcomes.{Word, Outcome, Success, Failure, Run, Short, Long}
-use Rattle.rehearse.specs.State.{Text, State, state_at}
-use Rattle.rehearse.specs.Runs.{Task, kind, run_on, runs, rest, steps, state_of}
+use Rattle.rehearse.specs.Outcomes.{Word, Success, Failure, Run, Short}
+use Rattle.rehearse.specs.State.{Text, State}
+use Rattle.rehearse.specs.Runs.{Task, kind, rest, steps}
 use Rattle.rehearse.specs.Listing.{digit_of}
-use Rattle.rehearse_runs.specs.RunsShown.{RunsShown, outcomes}
-use Rattle.rehearse_runs.specs.Phases.{AreDigits, HasBudget, StandsOn, HasBegun, shown_at}
+use Rattle.rehearse_runs.specs.RunsShown.{outcomes}
+use Rattle.rehearse_runs.specs.Phases.{AreDigits, StandsOn, HasBegun, shown_at}
 use Rattle.rehearse_runs.proofs.WorkLemmas.{begun_behind, none_in_front}
-use Rattle.rehearse_runs.specs.Walking.{IsLongBehind, IsShortBehind, ReachedFirst, WalksTo}
+use Rattle.rehearse_runs.specs.Walking.{IsShortBehind, ReachedFirst, WalksTo}
 use Rattle.rehearse_runs.specs.Behind.{GoesOnBehind, IsNoRun, HasKind, runs_behind}
 use Rattle.rehearse_machine.specs.declared.halt.Halt.{Halt}
 use Rattle.rehearse_runs.specs.declared.runs.Phase.TheVariants.{At}

@@ -1,5 +1,5 @@
 -- A run that is given, and what a rehearsal keeps then.
-use Rattle.std.proofs.Common.{◌≡◌, ℕ, ◌+◌, ◌*◌, ◌≤◌, Bool, true, false, List, [], ◌∷◌, ◌++◌, length, Option, Some, None, refl, sym, ap, subst, ◌∙◌, arith}
+use Rattle.std.proofs.Common.{◌≡◌, ℕ, ◌+◌, ◌≤◌, Bool, true, false, ◌∷◌, length, Option, Some, refl, sym, ap, subst, ◌∙◌, arith}
 use Rattle.bootstore.specs.Record.{Record}
 use Rattle.rehearse.specs.Outcomes.{Word, Run, common_prefix}
 use Rattle.rehearse.specs.State.{Text, State}
@@ -7,7 +7,7 @@ use Rattle.rehearse.specs.Runs.{Task, kind, runs, rest, steps, asked}
 use Rattle.rehearse_machine.specs.declared.halt.Halt.{Halt}
 use Rattle.rehearse_runs.specs.declared.runs.Phase.{Phase}
 use Rattle.rehearse_runs.specs.declared.runs.Phase.TheVariants.{Fresh, At}
-use Rattle.rehearse_runs.specs.RunsShown.{outcomes, given_if, to_come_after, steps_shared, words_made, in_front_of}
+use Rattle.rehearse_runs.specs.RunsShown.{outcomes, given_if, to_come_after, steps_shared}
 use Rattle.rehearse_runs.specs.Phases.{AreDigits, HasBudget, StandsOn, StandsAt, IsRunIf, HasBegun, HasBegunIf, is_failed, shown_at}
 use Rattle.rehearse_runs.specs.Searching.{FoundFirst, FoundBehind, FoundNext}
 use Rattle.rehearse_runs.specs.Giving.{GivesWord}

@@ -1,5 +1,6 @@
 pub mod HexLemmas
 pub mod PageLemmas
+pub mod EscapeLemmas
 pub mod RecordParts
 pub mod RunsLemmas
 pub mod ListingLemmas

@@ -1,5 +1,5 @@
 -- A rehearsal and what is shown of it.
-use Rattle.std.proofs.Common.{◌≡◌, ◌≢◌, ◌↔◌, ◌≤◌, length, ℕ, Bool, true, false, List, [], ◌∷◌, map, refl, sym, ap, subst, ◌∙◌, unwrap_or}
+use Rattle.std.proofs.Common.{◌≡◌, ◌≢◌, ◌↔◌, ◌≤◌, length, Bool, true, false, List, [], ◌∷◌, map, refl, sym, ap, subst, ◌∙◌, unwrap_or}
 use Rattle.bootstore.specs.Moment.{Moment}
 use Rattle.bootstore.specs.Record.{Record}
 use Rattle.bootstore.specs.declared.store.Store.{Ghosts}

@@ -1,25 +1,25 @@
 -- The walk along the digits of a word.
-use Rattle.std.proofs.Common.{◌≡◌, ◌≢◌, ℕ, ◌+◌, ◌<◌, ◌≤◌, true, false, List, [], ◌∷◌, ◌++◌, length, map, rules, Result, Ok, Err, refl, sym, ap, subst, ◌∙◌, append_assoc, append-nil, arith}
+use Rattle.std.proofs.Common.{◌≡◌, ◌≢◌, ◌+◌, ◌<◌, ◌≤◌, true, false, List, [], ◌∷◌, ◌++◌, length, map, rules, Result, Ok, Err, refl, sym, ap, subst, ◌∙◌, append_assoc, append-nil, arith}
 use Rattle.std.specs.Prelude.{IfOk}
 use Rattle.std.specs.Bool.{◌==◌}
 use Rattle.bootstore.specs.Moment.{Moment}
-use Rattle.bootstore.specs.Record.{Record, with_mark}
+use Rattle.bootstore.specs.Record.{Record}
 use Rattle.bootstore.specs.declared.store.StoreError.{StoreError}
-use Rattle.rehearse.specs.Outcomes.{Word, Outcome, Success, Failure, WordKind, Run, Short, Long}
-use Rattle.rehearse.specs.State.{Text, state_at}
-use Rattle.rehearse.specs.Runs.{Task, run_on, kind, state_of, ending_of}
+use Rattle.rehearse.specs.Outcomes.{Word, Outcome, Success, Failure, Run}
+use Rattle.rehearse.specs.State.{Text}
+use Rattle.rehearse.specs.Runs.{Task, kind}
 use Rattle.rehearse.specs.Listing.{digit_of}
 use Rattle.rehearse_runs.specs.RunsShown.{outcomes, outcome_of}
 use Rattle.rehearse_machine.specs.Machine.{Stops, asked_at, outcome_when}
 use Rattle.rehearse_runs.specs.Searching.{StoppedAt, AreMarks}
-use Rattle.rehearse_runs.specs.Walking.{Reached, ReachedFirst, IsLongBehind, IsShortBehind, IsWordBehind, Walks, WalksTo}
+use Rattle.rehearse_runs.specs.Walking.{Reached, IsLongBehind, IsShortBehind, IsWordBehind, Walks, WalksTo}
 use Rattle.rehearse_runs.specs.declared.walking.Walked.{Walked}
 use Rattle.rehearse_runs.specs.declared.walking.Walked.TheVariants as walked
 use Rattle.rehearse_machine.specs.declared.halt.Halt.{Halt}
 use Rattle.rehearse_machine.specs.declared.rehearsal.Stop.{Stop}
 use Rattle.rehearse_machine.specs.declared.rehearsal.Stop.TheVariants.{Asks, Ends}
 use Rattle.rehearse.proofs.TaskChoices.{longer_is_long}
-use Rattle.rehearse_runs.proofs.SearchLemmas.{Asked, asked_here, asked_kind, found_end, goes_on, marks_go_on, stopped_on, marked_failure, outcomes_more}
+use Rattle.rehearse_runs.proofs.SearchLemmas.{Asked, asked_here, asked_kind, found_end, stopped_on, marked_failure, outcomes_more}
 
 -- ---- an outcome is given
 

@@ -1,8 +1,8 @@
 -- The work of the words that were given.
-use Rattle.std.proofs.Common.{◌≡◌, ℕ, zero, suc, ◌+◌, ◌-◌, ◌<◌, ◌≤◌, List, [], ◌∷◌, ◌++◌, length, take, Option, Some, None, refl, sym, ap, subst, ◌∙◌, append_assoc, append-nil, length-append, arith}
+use Rattle.std.proofs.Common.{◌≡◌, ℕ, ◌+◌, ◌-◌, ◌<◌, ◌≤◌, List, [], ◌∷◌, ◌++◌, length, take, Option, Some, None, refl, sym, ap, subst, ◌∙◌, append_assoc, length-append, arith}
 use Rattle.bootstore.specs.Moment.{Moment}
-use Rattle.rehearse.specs.Outcomes.{Word, Outcome, Success, Failure, Run, common_prefix}
-use Rattle.rehearse.specs.Runs.{Task, kind, runs, rest, steps, asked, work, work_from}
+use Rattle.rehearse.specs.Outcomes.{Word, Success, Failure, Run, common_prefix}
+use Rattle.rehearse.specs.Runs.{Task, kind, runs, rest, steps, asked, work_from}
 use Rattle.rehearse_runs.specs.RunsShown.{words_made, in_front_of, work_of, steps_shared, successes}
 use Rattle.rehearse_runs.specs.Phases.{last_answer, HasBegun}
 use Rattle.rehearse_runs.specs.Searching.{AreMarks}

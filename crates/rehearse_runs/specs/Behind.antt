@@ -13,7 +13,16 @@ use Rattle.rehearse_runs.specs.declared.trying.WordKind.TheVariants.{Run, Short,
 
 -- where the runs behind w are to come: its steps are begun
 abbrev pub runs_behind : Task → Word → RunsShown
-runs_behind task w = record { task = task; start = Some w; answers = []; to_come = rest task w; given = Some w; failed = false; shows = true; work = steps task w }
+runs_behind task w = record {
+  task = task;
+  start = Some w;
+  answers = [];
+  to_come = rest task w;
+  given = Some w;
+  failed = false;
+  shows = true;
+  work = steps task w;
+}
 
 -- the text is the digits of a run, and the runs behind it are to come
 pub record GoesOnBehind (task : Task) (text : Text) (runs : RunsShown) : Type 0 where

@@ -1,9 +1,10 @@
 -- What a call of `next` gives, and what it leaves once the run is no longer borrowed. Ours.
-use Rattle.std.specs.Prelude.{◌≡◌, ℕ, ◌+◌, ◌≤◌, length, ◌++◌, Bool, true, false, [], ◌∷◌, map, Option, Some, None, Result, Ok, Err}
+use Rattle.std.specs.Prelude.{◌≡◌, ◌+◌, ◌≤◌, length, ◌++◌, Bool, true, false, [], ◌∷◌, map, Option, Some, None, Result, Ok, Err}
 use Rattle.std.specs.Borrow.{Fml, MutBor, RattleType}
 use Rattle.std.specs.Io.BufRead.{Rests}
 use mir.Syntax.{named}
 use Rattle.bootstore.specs.declared.store.Store.{Ghosts}
+use Rattle.rehearse.specs.Bounds.{most_devices}
 use Rattle.rehearse.specs.Outcomes.{Word}
 use Rattle.rehearse.specs.State.{state_at}
 use Rattle.rehearse.specs.Runs.{Task, run_on, state_of, ending_of, steps}
@@ -60,9 +61,9 @@ module _ {S : Type 0} (g : Ghosts S) where
     pub word : seen_word view ≡ map digit_of w
     pub moment : state_at (seen_moment g view) [] ≡ state_of (run_on task w)
     pub ending : seen_ending view ≡ ending_of (run_on task w)
-    -- no more moments are marked than device commands succeeded, so never more than 32
+    -- no more moments are marked than device commands succeeded, so never more than a run may ask
     pub marks : length (seen_marks g view) ≤ successes w
-    pub few : length (seen_marks g view) ≤ 32
+    pub few : length (seen_marks g view) ≤ most_devices
 
   abbrev pub IsView : RunsShown → Option (RunView S) → Type 0
   IsView shown None = shown.shows ≡ false
@@ -73,5 +74,6 @@ module _ {S : Type 0} (g : Ghosts S) where
   Gives old (Ok (Some view)) new = GivesWord old new × ShowsRun new.task (last_given new) view
   Gives old (Err e) new = Refuses old e new
 
-abbrev pub Lent : (S : RattleType) (g : Ghosts S.Denot) → MutBor RunsShown → Result (Option (RunView S.Denot)) RunError → Fml
+abbrev pub Lent : (S : RattleType) (g : Ghosts S.Denot) → MutBor RunsShown →
+    Result (Option (RunView S.Denot)) RunError → Fml
 Lent S g runs result = Rests (the_row (record { mir = named 1; lft = [] }) S g) runs (Gives g runs.now result)

@@ -32,14 +32,16 @@ AreToCome task None ws = ws ≡ runs task
 AreToCome task (Some text) ws = (w : Word) × (text ≡ map digit_of w) × (kind task w ≡ Run) × (ws ≡ rest task w)
 
 -- what is rehearsed: the commands of the device list, the variable's text, and the words to come
-pub record Rehearsed (environment : List (Text × Text)) (devices_text : Text) (ask : Ask) (task : Task) (words : List Word) : Type 0 where
+pub record Rehearsed (environment : List (Text × Text)) (devices_text : Text) (ask : Ask) (task : Task)
+    (words : List Word) : Type 0 where
   pub devices : Devices
   pub listed_as : listed devices_text ≡ Ok devices
   pub task_is : task_set environment devices ask.name.now ask.bounds ≡ Some task
   pub to_come : AreToCome task (start_of ask) words
 
 -- the listing of the words to come was written
-pub record Rehearses (environment : List (Text × Text)) (devices_text : Text) (ask : Ask) (old new : Sink) (finish : Finish) : Type 0 where
+pub record Rehearses (environment : List (Text × Text)) (devices_text : Text) (ask : Ask) (old new : Sink)
+    (finish : Finish) : Type 0 where
   pub task : Task
   pub words : List Word
   pub rehearsed : Rehearsed environment devices_text ask task words
@@ -47,39 +49,43 @@ pub record Rehearses (environment : List (Text × Text)) (devices_text : Text) (
   pub finish_is : finish ≡ finish_of words ask.limit
 
 -- the variable is not set
-pub record LacksVariable (environment : List (Text × Text)) (devices_text : Text) (ask : Ask) (old new : Sink) : Type 0 where
+pub record LacksVariable (environment : List (Text × Text)) (devices_text : Text) (ask : Ask) (old new : Sink) : Type
+    0 where
   pub devices : Devices
   pub listed_as : listed devices_text ≡ Ok devices
   pub unset : task_set environment devices ask.name.now ask.bounds ≡ None
   pub nothing : new ≡ old
 
 -- the start word is no run
-pub record LacksStart (environment : List (Text × Text)) (devices_text : Text) (ask : Ask) (old new : Sink) : Type 0 where
-  pub devices : Devices
-  pub task : Task
-  pub start : Text
-  pub listed_as : listed devices_text ≡ Ok devices
-  pub task_is : task_set environment devices ask.name.now ask.bounds ≡ Some task
-  pub start_is : start_of ask ≡ Some start
-  pub no_run : IsNoRun task start
-  pub nothing : new ≡ old
+pub record LacksStart (environment : List (Text × Text)) (devices_text : Text) (ask : Ask) (old new : Sink) : Type 0
+  where
+    pub devices : Devices
+    pub task : Task
+    pub start : Text
+    pub listed_as : listed devices_text ≡ Ok devices
+    pub task_is : task_set environment devices ask.name.now ask.bounds ≡ Some task
+    pub start_is : start_of ask ≡ Some start
+    pub no_run : IsNoRun task start
+    pub nothing : new ≡ old
 
 -- the output failed inside the listing
-pub record BreaksOff (environment : List (Text × Text)) (devices_text : Text) (ask : Ask) (old new : Sink) : Type 0 where
-  pub task : Task
-  pub words : List Word
-  pub rehearsed : Rehearsed environment devices_text ask task words
-  pub broke : BrokeOff old new (listing (record_of task (names_of ask)) words ask.limit)
+pub record BreaksOff (environment : List (Text × Text)) (devices_text : Text) (ask : Ask) (old new : Sink) : Type 0
+  where
+    pub task : Task
+    pub words : List Word
+    pub rehearsed : Rehearsed environment devices_text ask task words
+    pub broke : BrokeOff old new (listing (record_of task (names_of ask)) words ask.limit)
 
 -- want of memory inside the listing: whole records stand written
-pub record LacksMemory (environment : List (Text × Text)) (devices_text : Text) (ask : Ask) (old new : Sink) : Type 0 where
-  pub task : Task
-  pub words : List Word
-  pub rehearsed : Rehearsed environment devices_text ask task words
-  pub front : List Word
-  pub left : List Word
-  pub parts : shown words ask.limit ≡ front ++ left
-  pub wrote : Wrote old new (flat_map (record_of task (names_of ask)) front)
+pub record LacksMemory (environment : List (Text × Text)) (devices_text : Text) (ask : Ask) (old new : Sink) : Type 0
+  where
+    pub task : Task
+    pub words : List Word
+    pub rehearsed : Rehearsed environment devices_text ask task words
+    pub front : List Word
+    pub left : List Word
+    pub parts : shown words ask.limit ≡ front ++ left
+    pub wrote : Wrote old new (flat_map (record_of task (names_of ask)) front)
 
 abbrev pub RefusesAsk : List (Text × Text) → Text → Ask → (old new : Sink) → RehearseError → Type 0
 RefusesAsk environment devices_text ask old new (DeviceList fault) = (listed devices_text ≡ Err fault) × (new ≡ old)
@@ -89,7 +95,8 @@ RefusesAsk environment devices_text ask old new Write = BreaksOff environment de
 RefusesAsk environment devices_text ask old new Memory = (new ≡ old) ⊎ LacksMemory environment devices_text ask old new
 
 -- where the runs begin
-pub record Begins (environment : List (Text × Text)) (devices : Devices) (name : Text) (bounds : BoundsShown) (start : Option Text) (r : RunsShown) : Type 0 where
+pub record Begins (environment : List (Text × Text)) (devices : Devices) (name : Text) (bounds : BoundsShown)
+    (start : Option Text) (r : RunsShown) : Type 0 where
   pub task_is : task_set environment devices name bounds ≡ Some r.task
   pub to_come : AreToCome r.task start r.to_come
   pub sound : r.failed ≡ false
@@ -98,5 +105,6 @@ abbrev pub RefusesRuns : List (Text × Text) → Devices → Text → BoundsShow
 RefusesRuns environment devices name bounds start run.NoSuchVariable = task_set environment devices name bounds ≡ None
 RefusesRuns environment devices name bounds start run.Memory = Unit {0}
 RefusesRuns environment devices name bounds start run.NotARun =
-    (task_set environment devices name bounds ≡ Some (task_shown environment devices name bounds)) × (text : Text) × (start ≡ Some text) × IsNoRun (task_shown environment devices name bounds) text
+    (task_set environment devices name bounds ≡ Some (task_shown environment devices name bounds)) × (text : Text)
+    × (start ≡ Some text) × IsNoRun (task_shown environment devices name bounds) text
 RefusesRuns environment devices name bounds start run.Failed = ⊥

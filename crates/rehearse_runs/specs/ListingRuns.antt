@@ -1,10 +1,10 @@
 -- What writing a listing of `Runs` does. Ours.
-use Rattle.std.specs.Prelude.{◌≡◌, ◌≢◌, ℕ, ◌+◌, ◌-◌, nat_le, nat_eq, Bool, true, false, List, [], ◌∷◌, ◌++◌, map, length, drop, Option, Some, None}
+use Rattle.std.specs.Prelude.{◌≡◌, ◌≢◌, ℕ, ◌+◌, ◌-◌, nat_le, nat_eq, Bool, true, false, List, [], ◌++◌, length, drop, Option, Some, None}
 use Rattle.std.specs.List.{flat_map}
 use Rattle.envimage.specs.Sink.{Sink, Wrote, BrokeOff}
 use Rattle.rehearse.specs.Outcomes.{Word}
 use Rattle.rehearse.specs.State.{Text}
-use Rattle.rehearse.specs.Listing.{digit_of, record_of, shown, closing, listing, last_of, line}
+use Rattle.rehearse.specs.Listing.{record_of, shown, listing, last_of}
 use Rattle.rehearse_runs.specs.RunsShown.{RunsShown}
 use Rattle.rehearse_runs.specs.declared.run_error.RunError.{RunError}
 use Rattle.rehearse_runs.specs.declared.run_error.RunError.TheVariants as run
@@ -37,7 +37,8 @@ IsLeft (Some l) None n = ⊥
 IsLeft (Some l) (Some k) n = l ≡ n + k
 
 -- the records of these words were written, one behind another
-pub record Recorded (start now : Sink) (old new : RunsShown) (names : List Text) (limit left : Option ℕ) (ws : List Word) : Type 0 where
+pub record Recorded (start now : Sink) (old new : RunsShown) (names : List Text) (limit left : Option ℕ)
+    (ws : List Word) : Type 0 where
   pub words : old.to_come ≡ ws ++ new.to_come
   pub wrote : Wrote start now (flat_map (record_of old.task names) ws)
   pub count : IsLeft limit left (length ws)
@@ -63,7 +64,8 @@ finish_of ws None = Done
 finish_of ws (Some limit) = elim (nat_le (length ws) limit) [ true ↦ Done | false ↦ More ]
 
 -- the listing was written
-pub record Lists (start now : Sink) (old new : RunsShown) (names : List Text) (limit : Option ℕ) (finish : Finish) : Type 0 where
+pub record Lists (start now : Sink) (old new : RunsShown) (names : List Text) (limit : Option ℕ) (finish : Finish) :
+    Type 0 where
   pub wrote : Wrote start now (listing (record_of old.task names) old.to_come limit)
   pub finish_is : finish ≡ finish_of old.to_come limit
   pub rest : new.to_come ≡ left_out old.to_come limit

@@ -1,6 +1,7 @@
 -- Where a rehearsal stands. Ours.
 use Rattle.std.specs.Prelude.{◌≡◌, ◌∷◌, ◌++◌, Option, Some, None, ℕ, ◌+◌, ◌*◌, ◌≤◌, Bool, true, false, List, [], length, map, ⊤}
 use Rattle.bootstore.specs.Record.{Record}
+use Rattle.rehearse.specs.Bounds.{most_steps}
 use Rattle.rehearse.specs.Outcomes.{Word, Run}
 use Rattle.rehearse.specs.State.{Text, state_at}
 use Rattle.rehearse.specs.Runs.{Task, kind, run_on, state_of, ending_of, runs, rest}
@@ -27,7 +28,7 @@ shows_run Failed = false
 
 -- each word to come begins at most 1,000,000 steps, and there are fewer than 2 ^ 33
 abbrev pub HasBudget : ℕ → List Word → Type 0
-HasBudget begun ws = begun + 1000000 * length ws ≤ 8589934592000000
+HasBudget begun ws = begun + most_steps * length ws ≤ 8589934592000000
 
 -- the run on a word stands in the store
 pub record StandsOn (task : Task) (w : Word) (halt : Halt) (r : Record) : Type 0 where

@@ -1,17 +1,12 @@
 -- What contracts see of `Runs`, of a run that it gives, and of a call of `next`. Ours.
-use Rattle.std.specs.Prelude.{◌≡◌, ℕ, suc, ◌+◌, ◌-◌, length, take, Bool, true, false, cond, nat_eq, List, [], ◌∷◌, map, Option, Some, None, unwrap_or, ⊤}
-use Rattle.std.specs.FinMap.{entries}
-use Rattle.bootstore.specs.Moment.{Moment, environment_of}
+use Rattle.std.specs.Prelude.{ℕ, suc, ◌+◌, ◌-◌, length, take, Bool, true, false, nat_eq, List, [], ◌∷◌, map, Option, Some, None, unwrap_or}
+use Rattle.ascii.specs.Bytes as ascii
 use Rattle.rehearse.specs.Outcomes.{Word, Outcome, Success, Failure, common_prefix}
-use Rattle.rehearse.specs.State.{Text, get, State, state_at}
-use Rattle.rehearse.specs.DeviceList.{Devices}
-use Rattle.rehearse.specs.Bounds.{BoundsShown}
-use Rattle.rehearse.specs.Execution.{Setting, Ending}
-use Rattle.rehearse.specs.Runs.{Task, task_of, run_on, state_of, ending_of, runs, rest, steps, asked, work, work_from}
-use Rattle.rehearse.specs.Listing.{digit_of}
+use Rattle.rehearse.specs.State.{Text}
+use Rattle.rehearse.specs.Runs.{Task, runs, rest, steps, asked, work, work_from}
 
--- the rehearsal, the word handed to `after`, the words given since, those still to come, the last word that was given or
--- handed over, whether want of memory ended it, whether a run is shown, and the steps begun
+-- the rehearsal, the word handed to `after`, the words given since, those still to come, the last word that was given
+-- or handed over, whether want of memory ended it, whether a run is shown, and the steps begun
 pub record RunsShown : Type 0 where
   pub task : Task
   pub start : Option Word
@@ -23,7 +18,7 @@ pub record RunsShown : Type 0 where
   pub work : ℕ
 
 abbrev pub outcome_of : ℕ → Outcome
-outcome_of digit = elim (nat_eq digit 48) [ true ↦ Success | false ↦ Failure ]
+outcome_of digit = elim (nat_eq digit ascii.digit_zero) [ true ↦ Success | false ↦ Failure ]
 
 -- the word of digits
 abbrev pub outcomes : Text → Word
@@ -72,4 +67,13 @@ has_words (w ∷ ws) = true
 
 -- where no word was given yet
 abbrev pub new_runs : Task → RunsShown
-new_runs task = record { task = task; start = None; answers = []; to_come = runs task; given = None; failed = false; shows = false; work = 0 }
+new_runs task = record {
+  task = task;
+  start = None;
+  answers = [];
+  to_come = runs task;
+  given = None;
+  failed = false;
+  shows = false;
+  work = 0;
+}

@@ -1,19 +1,17 @@
 -- The search for the next run. Ours.
-use Rattle.std.specs.Prelude.{◌≡◌, ℕ, ◌+◌, ◌≤◌, Bool, true, false, Option, None, List, [], ◌∷◌, ◌++◌, Some}
+use Rattle.std.specs.Prelude.{◌≡◌, ◌+◌, ◌≤◌, Bool, true, false, Option, None, List, [], ◌∷◌, ◌++◌, Some}
 use Rattle.bootstore.specs.Moment.{Moment}
 use Rattle.bootstore.specs.Record.{Record}
+use Rattle.rehearse.specs.Bounds.{most_steps}
 use Rattle.rehearse.specs.Outcomes.{Word, Failure, Run, turned, first_from, common_prefix}
-use Rattle.rehearse.specs.State.{Text, state_at}
+use Rattle.rehearse.specs.State.{state_at}
 use Rattle.rehearse.specs.Runs.{Task, run_on, state_of, ending_of, kind, runs, rest, asked}
-use Rattle.rehearse_runs.specs.RunsShown.{outcomes}
-use Rattle.rehearse_machine.specs.Tasks.{task_shown}
 use Rattle.rehearse_machine.specs.Halted.{halt_shown}
 use Rattle.rehearse_machine.specs.Machine.{Stops}
 use Rattle.rehearse_machine.specs.Came.{settled}
 use Rattle.rehearse_machine.specs.declared.halt.Halt.{Halt}
 use Rattle.rehearse_machine.specs.declared.rehearsal.Stop.{Stop}
-use Rattle.rehearse_machine.specs.declared.rehearsal.Stop.TheVariants.{Asks, Ends}
-use Rattle.rehearse_machine.specs.declared.rehearsal.Rehearsal.{Rehearsal}
+use Rattle.rehearse_machine.specs.declared.rehearsal.Stop.TheVariants.{Asks}
 
 -- the text stopped with the outcomes of p
 abbrev pub StoppedAt : Task → Word → Stop → Moment → Type 0
@@ -22,7 +20,8 @@ StoppedAt task p stop m = Stops task.setting stop (λ w. settled (run_on task (p
 -- the marked moments are those at which the successes of a word were asked, the last first
 abbrev pub AreMarks : Task → Word → List Moment → Type 0
 AreMarks task w [] = turned w ≡ None
-AreMarks task w (m ∷ ms) = (p : Word) × (turned w ≡ Some (p ++ Failure ∷ [])) × StoppedAt task p Asks m × AreMarks task p ms
+AreMarks task w (m ∷ ms) = (p : Word) × (turned w ≡ Some (p ++ Failure ∷ [])) × StoppedAt task p Asks m
+    × AreMarks task p ms
 
 -- the first run that begins with p stands in the store
 pub record Found (task : Task) (p w : Word) (halt : Halt) (old new : Record) : Type 0 where
@@ -32,7 +31,7 @@ pub record Found (task : Task) (p w : Word) (halt : Halt) (old new : Record) : T
   pub marks : AreMarks task w new.marked
   pub first : first_from (kind task) task.setting.device_bound p ≡ w
   pub begun : new.begun + old.present.steps ≡ old.begun + new.present.steps
-  pub within : new.present.steps ≤ 1000000
+  pub within : new.present.steps ≤ most_steps
   pub grows : old.present.steps ≤ new.present.steps
 
 -- the first run stands in the store
@@ -43,7 +42,7 @@ pub record FoundFirst (task : Task) (w : Word) (halt : Halt) (old new : Record) 
   pub marks : AreMarks task w new.marked
   pub begins : runs task ≡ w ∷ rest task w
   pub begun : new.begun ≡ old.begun + new.present.steps
-  pub within : new.present.steps ≤ 1000000
+  pub within : new.present.steps ≤ most_steps
 
 -- the word was cut behind its last success, which became a failure; or there is no success
 abbrev pub Turns : Bool → (old new : Word) → Type 0
@@ -59,7 +58,7 @@ pub record FoundBehind (task : Task) (u w : Word) (halt : Halt) (old new : Recor
   pub follows : rest task u ≡ w ∷ rest task w
   pub begun : new.begun + asked task (common_prefix u w) ≡ old.begun + new.present.steps
   pub shared : asked task (common_prefix u w) ≤ new.present.steps
-  pub within : new.present.steps ≤ 1000000
+  pub within : new.present.steps ≤ most_steps
 
 abbrev pub FoundNext : Task → (u w : Word) → Option Halt → (old new : Record) → Type 0
 FoundNext task u w None old new = (rest task u ≡ []) × (new ≡ old)

@@ -1,5 +1,5 @@
 -- What contracts see of a run that is shown. Ours.
-use Rattle.std.specs.Prelude.{ℕ, List}
+use Rattle.std.specs.Prelude.{List}
 use Rattle.bootstore.specs.Moment.{Moment}
 use Rattle.bootstore.specs.declared.store.Store.{Ghosts}
 use Rattle.rehearse.specs.State.{Text}

@@ -1,7 +1,8 @@
 -- The walk along the digits of a word. Ours.
-use Rattle.std.specs.Prelude.{◌≡◌, ◌≢◌, ℕ, ◌+◌, ◌≤◌, Bool, List, [], ◌∷◌, ◌++◌, map, Option, Some, None}
+use Rattle.std.specs.Prelude.{◌≡◌, ◌≢◌, ◌+◌, ◌≤◌, Bool, [], ◌∷◌, ◌++◌, map, Option, Some, None}
 use Rattle.std.specs.Borrow.{Bor}
 use Rattle.bootstore.specs.Record.{Record}
+use Rattle.rehearse.specs.Bounds.{most_steps}
 use Rattle.rehearse.specs.Outcomes.{Word, Outcome, Run, Short, Long}
 use Rattle.rehearse.specs.State.{Text, state_at}
 use Rattle.rehearse.specs.Runs.{Task, run_on, state_of, ending_of, kind}
@@ -25,7 +26,7 @@ pub record Reached (task : Task) (w : Word) (halt : Halt) (old new : Record) : T
   pub ending : halt_shown halt ≡ ending_of (run_on task w)
   pub marks : AreMarks task w new.marked
   pub begun : new.begun + old.present.steps ≡ old.begun + new.present.steps
-  pub within : new.present.steps ≤ 1000000
+  pub within : new.present.steps ≤ most_steps
 
 -- behind the outcomes p, a text is not the digits of a run, and not too short for one
 abbrev pub IsLongBehind : Task → (p : Word) → Text → Type 0
@@ -52,9 +53,10 @@ pub record ReachedFirst (task : Task) (w : Word) (halt : Halt) (old new : Record
   pub ending : halt_shown halt ≡ ending_of (run_on task w)
   pub marks : AreMarks task w new.marked
   pub begun : new.begun ≡ old.begun + new.present.steps
-  pub within : new.present.steps ≤ 1000000
+  pub within : new.present.steps ≤ most_steps
 
 abbrev pub WalksTo : Task → (text all : Text) → (w : Word) → Walked → (old new : Record) → Type 0
-WalksTo task text all w (walked.Ends halt) old new = (text ≡ map digit_of w) × (all ≡ text) × ReachedFirst task w halt old new
+WalksTo task text all w (walked.Ends halt) old new = (text ≡ map digit_of w) × (all ≡ text)
+    × ReachedFirst task w halt old new
 WalksTo task text all w walked.Short old new = IsShortBehind task [] text
 WalksTo task text all w walked.Long old new = IsLongBehind task [] text

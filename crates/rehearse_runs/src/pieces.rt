@@ -1,9 +1,9 @@
 //! The pieces of a line of a listing.
-ghost use Rattle.std.specs.Prelude.{◌≡◌, ◌∷◌, [], ◌++◌, ◌/◌, ◌%◌, codes};
+ghost use Rattle.std.specs.Prelude.{◌≡◌, ◌==◌, ◌||◌, ◌∷◌, [], ◌++◌, ◌/◌, ◌%◌, ◌<◌, codes, length, not, position, IfSome};
 ghost use Rattle.std.specs.List.{flat_map};
 ghost use Rattle.rehearse_runs.specs.Paging.{Puts};
 ghost use Rattle.rehearse.specs.Listing.{hex_digit, escaped, text_form, word_form};
-ghost use Rattle.rehearse_runs.specs.Pieces.{piece_text, word_escaped};
+ghost use Rattle.rehearse_runs.specs.Pieces.{is_shown, piece_text, word_escaped};
 
 use crate::page::{Page, put};
 use envimage::{Out, OutFault};
@@ -54,24 +54,55 @@ fn put_word_byte<O: Out>(out: &mut O, page: &mut Page, byte: u8) -> Result<(), O
     }
 }
 
-/// Puts bytes in text form.
+/// Whether a byte stands in text form as it is.
+fn is_shown(byte: u8) -> bool
+    ensures { result ≡ is_shown byte }
+{
+    b' ' <= byte && byte <= b'~' && byte != b'\\'
+}
+
+/// The first byte that does not stand in text form as it is.
+fn first_escaped(bytes: &[u8]) -> Option<usize>
+    ensures first { result ≡ position (λ b. not (is_shown b)) bytes.now }
+    ensures within { IfSome result (λ at. at < length bytes.now) }
+{
+    bytes.iter().position(|byte| !is_shown(*byte))
+}
+
+/// The first byte that does not stand in word form as it is.
+fn first_escaped_in_word(bytes: &[u8]) -> Option<usize>
+    ensures first { result ≡ position (λ b. (b == 32) || not (is_shown b)) bytes.now }
+    ensures within { IfSome result (λ at. at < length bytes.now) }
+{
+    bytes
+        .iter()
+        .position(|byte| *byte == b' ' || !is_shown(*byte))
+}
+
+/// Puts bytes in text form. Those that stand as they are go on the page together.
 fn put_text<O: Out>(out: &mut O, page: &mut Page, bytes: &[u8]) -> Result<(), OutFault>
     ensures { Puts result (O.sink out.old) (O.sink out.new) page.old.items page.new.items (text_form bytes.now) }
 {
-    for byte in bytes {
-        put_byte(out, page, *byte)?;
+    let mut rest = bytes;
+    while let Some(at) = first_escaped(rest) {
+        put(out, page, &rest[..at])?;
+        put_byte(out, page, rest[at])?;
+        rest = &rest[at + 1..];
     }
-    Ok(())
+    put(out, page, rest)
 }
 
 /// Puts bytes that are not empty in word form.
 fn put_word_bytes<O: Out>(out: &mut O, page: &mut Page, bytes: &[u8]) -> Result<(), OutFault>
     ensures { Puts result (O.sink out.old) (O.sink out.new) page.old.items page.new.items (flat_map word_escaped bytes.now) }
 {
-    for byte in bytes {
-        put_word_byte(out, page, *byte)?;
+    let mut rest = bytes;
+    while let Some(at) = first_escaped_in_word(rest) {
+        put(out, page, &rest[..at])?;
+        put_word_byte(out, page, rest[at])?;
+        rest = &rest[at + 1..];
     }
-    Ok(())
+    put(out, page, rest)
 }
 
 /// Puts bytes in word form.

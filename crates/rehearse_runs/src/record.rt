@@ -2,6 +2,7 @@
 ghost use Rattle.std.specs.Prelude.{◌≡◌, ◌++◌, [], map, codes};
 ghost use Rattle.std.specs.List.{flat_map, join_with_byte};
 ghost use Rattle.std.specs.FinMap.{entries};
+ghost use Rattle.ascii.specs.Bytes as ascii;
 ghost use Rattle.envimage.specs.Sink.{Prints};
 ghost use Rattle.bootstore.specs.Moment.{bytes_of_words};
 ghost use Rattle.rehearse.specs.State.{state_at};
@@ -48,7 +49,7 @@ fn put_spaced<O: Out>(out: &mut O, page: &mut Page, words: &[Vec<u8>]) -> Result
 
 /// Puts words in word form, separated by spaces.
 fn put_words<O: Out>(out: &mut O, page: &mut Page, words: &[Vec<u8>]) -> Result<(), OutFault>
-    ensures { Puts result (O.sink out.old) (O.sink out.new) page.old.items page.new.items (join_with_byte 32 (map word_form (bytes_of_words words.now))) }
+    ensures { Puts result (O.sink out.old) (O.sink out.new) page.old.items page.new.items (join_with_byte ascii.space (map word_form (bytes_of_words words.now))) }
 {
     match words.split_first() {
         None => Ok(()),

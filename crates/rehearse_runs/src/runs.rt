@@ -66,6 +66,7 @@ pub struct Runs<'a, S: Store> {
 
 impl<'a, S: Store> Model for Runs<'a, S> {
     ghost use Rattle.std.specs.Prelude.{◌≤◌};
+    ghost use Rattle.rehearse.specs.Bounds.{most_devices};
     ghost use Rattle.rehearse_runs.specs.RunsShown.{RunsShown, outcomes, given_if, to_come_after};
 
     ghost Value = { RunsShown };
@@ -80,7 +81,7 @@ impl<'a, S: Store> Model for Runs<'a, S> {
         × IsRunIf r.has_given (task_in r.rehearsal) (outcomes r.word.items)
         × StandsAt (task_in r.rehearsal) r.has_given (outcomes r.word.items) (S.record_of r.store) r.phase
         × HasBegunIf r.phase (task_in r.rehearsal) (start_of r.start) (given_if r.has_given (outcomes r.word.items)) (to_come_after r.has_given (task_in r.rehearsal) (outcomes r.word.items)) (S.record_of r.store).begun
-        × (task_in r.rehearsal).setting.device_bound ≤ 32 };
+        × (task_in r.rehearsal).setting.device_bound ≤ most_devices };
 }
 
 impl<'a, S: Store> Runs<'a, S> {

@@ -4,6 +4,7 @@ ghost use Rattle.rehearse_runs.specs.RunsShown.{outcomes};
 ghost use Rattle.rehearse_runs.specs.Phases.{AreDigits};
 ghost use Rattle.rehearse_runs.specs.Searching.{StoppedAt, AreMarks, Found, FoundFirst, FoundNext, Turns};
 ghost use Rattle.rehearse_machine.specs.Tasks.{task_in};
+ghost use Rattle.rehearse.specs.Bounds.{most_devices, most_steps};
 ghost use Rattle.rehearse.specs.Outcomes.{Run};
 ghost use Rattle.rehearse.specs.Runs.{kind};
 
@@ -24,9 +25,9 @@ pub(crate) fn search<S: Store>(
     requires stopped { StoppedAt (task_in rehearsal.now) (outcomes digits.old.items) stop (S.record_of store.old).present }
     requires marks { AreMarks (task_in rehearsal.now) (outcomes digits.old.items) (S.record_of store.old).marked }
     requires digits { AreDigits digits.old.items }
-    requires within { (S.record_of store.old).present.steps ≤ 1000000 }
-    requires begun { (S.record_of store.old).begun + (1000000 - (S.record_of store.old).present.steps) + 1000001 < 2 ^ 64 }
-    requires bound { (task_in rehearsal.now).setting.device_bound ≤ 32 }
+    requires within { (S.record_of store.old).present.steps ≤ most_steps }
+    requires begun { (S.record_of store.old).begun + (most_steps - (S.record_of store.old).present.steps) + 1000001 < 2 ^ 64 }
+    requires bound { (task_in rehearsal.now).setting.device_bound ≤ most_devices }
     ensures ok { IfOk result (λ halt. Found (task_in rehearsal.now) (outcomes digits.old.items) (outcomes digits.new.items) halt (S.record_of store.old) (S.record_of store.new)) }
     ensures digits { AreDigits digits.new.items }
 {
@@ -48,7 +49,7 @@ pub(crate) fn first_run<S: Store>(
     digits: &mut Digits,
 ) -> Result<Halt, StoreError>
     requires begun { (S.record_of store.old).begun + 2000001 < 2 ^ 64 }
-    requires bound { (task_in rehearsal.now).setting.device_bound ≤ 32 }
+    requires bound { (task_in rehearsal.now).setting.device_bound ≤ most_devices }
     ensures ok { IfOk result (λ halt. FoundFirst (task_in rehearsal.now) (outcomes digits.new.items) halt (S.record_of store.old) (S.record_of store.new)) }
     ensures digits { AreDigits digits.new.items }
 {
@@ -83,7 +84,7 @@ pub(crate) fn next_run<S: Store>(
     requires marks { AreMarks (task_in rehearsal.now) (outcomes digits.old.items) (S.record_of store.old).marked }
     requires digits { AreDigits digits.old.items }
     requires begun { (S.record_of store.old).begun + 2000001 < 2 ^ 64 }
-    requires bound { (task_in rehearsal.now).setting.device_bound ≤ 32 }
+    requires bound { (task_in rehearsal.now).setting.device_bound ≤ most_devices }
     ensures ok { IfOk result (λ found. FoundNext (task_in rehearsal.now) (outcomes digits.old.items) (outcomes digits.new.items) found (S.record_of store.old) (S.record_of store.new)) }
     ensures digits { AreDigits digits.new.items }
 {

@@ -1,5 +1,6 @@
 //! The walk along the digits of a word.
 ghost use Rattle.std.specs.Prelude.{◌≡◌, ◌+◌, ◌-◌, ◌<◌, ◌≤◌, ◌^◌, ◌∷◌, [], ◌++◌, IfOk, OnOk};
+ghost use Rattle.rehearse.specs.Bounds.{most_devices, most_steps};
 ghost use Rattle.rehearse.specs.Listing.{digit_of};
 ghost use Rattle.rehearse_runs.specs.RunsShown.{outcomes};
 ghost use Rattle.rehearse_runs.specs.Phases.{AreDigits};
@@ -34,12 +35,12 @@ fn choose<S: Store>(
     requires asks { StoppedAt (task_in rehearsal.now) (outcomes digits.old.items) Asks (S.record_of store.old).present }
     requires marks { AreMarks (task_in rehearsal.now) (outcomes digits.old.items) (S.record_of store.old).marked }
     requires begun { (S.record_of store.old).begun + 1000001 < 2 ^ 64 }
-    requires bound { (task_in rehearsal.now).setting.device_bound ≤ 32 }
+    requires bound { (task_in rehearsal.now).setting.device_bound ≤ most_devices }
     ensures stopped { IfOk result (λ stop. StoppedAt (task_in rehearsal.now) (outcomes digits.new.items) stop (S.record_of store.new).present) }
     ensures marks { OnOk result (AreMarks (task_in rehearsal.now) (outcomes digits.new.items) (S.record_of store.new).marked) }
     ensures digits { OnOk result (digits.new.items ≡ digits.old.items ++ digit_of (outcome_when success) ∷ []) }
     ensures begun { OnOk result ((S.record_of store.new).begun + (S.record_of store.old).present.steps ≡ (S.record_of store.old).begun + (S.record_of store.new).present.steps) }
-    ensures within { OnOk result ((S.record_of store.new).present.steps ≤ 1000000) }
+    ensures within { OnOk result ((S.record_of store.new).present.steps ≤ most_steps) }
 {
     if success {
         store.mark()?;
@@ -74,9 +75,9 @@ fn walk<S: Store>(
 ) -> Result<Walked, StoreError>
     requires stopped { StoppedAt (task_in rehearsal.now) (outcomes digits.old.items) stop (S.record_of store.old).present }
     requires marks { AreMarks (task_in rehearsal.now) (outcomes digits.old.items) (S.record_of store.old).marked }
-    requires within { (S.record_of store.old).present.steps ≤ 1000000 }
-    requires begun { (S.record_of store.old).begun + (1000000 - (S.record_of store.old).present.steps) + 1000001 < 2 ^ 64 }
-    requires bound { (task_in rehearsal.now).setting.device_bound ≤ 32 }
+    requires within { (S.record_of store.old).present.steps ≤ most_steps }
+    requires begun { (S.record_of store.old).begun + (most_steps - (S.record_of store.old).present.steps) + 1000001 < 2 ^ 64 }
+    requires bound { (task_in rehearsal.now).setting.device_bound ≤ most_devices }
     ensures ok { IfOk result (λ found. Walks (task_in rehearsal.now) (outcomes digits.old.items) digits.old.items text.now digits.new.items (outcomes digits.new.items) found (S.record_of store.old) (S.record_of store.new)) }
 {
     match stop {
@@ -108,7 +109,7 @@ pub(crate) fn walk_to<S: Store>(
     text: &[u8],
 ) -> Result<Walked, StoreError>
     requires begun { (S.record_of store.old).begun + 2000001 < 2 ^ 64 }
-    requires bound { (task_in rehearsal.now).setting.device_bound ≤ 32 }
+    requires bound { (task_in rehearsal.now).setting.device_bound ≤ most_devices }
     ensures ok { IfOk result (λ found. WalksTo (task_in rehearsal.now) text.now digits.new.items (outcomes digits.new.items) found (S.record_of store.old) (S.record_of store.new)) }
 {
     digits.clear();

@@ -4,6 +4,8 @@
 #[cfg(test)]
 mod ending;
 #[cfg(test)]
+mod listing;
+#[cfg(test)]
 mod ordered;
 #[cfg(test)]
 mod trying;

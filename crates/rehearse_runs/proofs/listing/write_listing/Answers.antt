@@ -1,6 +1,6 @@
-use Rattle.std.proofs.Common.{◌≡◌, false, true, sym, ◌∙◌}
+use Rattle.std.proofs.Common.{sym, ◌∙◌}
 use Rattle.std.proofs.lemmas.Result.{err_from_is_err_and}
-use Rattle.rehearse_runs.proofs.ListingLemmas.{listed_more, unlisted_more, listed_done, unlisted_done}
+use Rattle.rehearse_runs.proofs.ListingLemmas.{unlisted_more, unlisted_done}
 use Rattle.rehearse_runs.proofs.listing.write_listing.Goals as goal
 
 pub returns-in_err-write_more-clause-err : goal.returns-in_err-write_more-clause-err

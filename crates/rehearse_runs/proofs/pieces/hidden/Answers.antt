@@ -1,4 +1,4 @@
-use Rattle.std.proofs.Common.{◌≡◌, ◌∷◌, ◌++◌, ℕ, List, [], Result, Ok, Err, refl, ap, ◌∙◌}
+use Rattle.std.proofs.Common.{◌∷◌, ℕ, List, Result, Ok, Err, refl, ap, ◌∙◌}
 use Rattle.std.specs.Prelude.{OnOk, IsOk}
 use Rattle.std.proofs.lemmas.List.{append-nil}
 use Rattle.rehearse_runs.proofs.HexLemmas.{digits_are}

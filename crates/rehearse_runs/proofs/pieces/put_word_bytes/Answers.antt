@@ -1,15 +1,29 @@
+use Rattle.std.proofs.Common.{◌+◌, ◌≤◌, ℕ, List, length, arith, sym, subst, ◌∙◌}
+use Rattle.std.proofs.lemmas.List.{take_rest, length-drop}
 use Rattle.std.proofs.lemmas.Result.{err_from_is_err_and}
 use Rattle.rehearse_runs.specs.Pieces.{word_escaped}
-use Rattle.rehearse_runs.proofs.PageLemmas.{Put-none, Put-item, Breaks-item}
+use Rattle.rehearse_runs.proofs.EscapeLemmas.{SoFar, in_word, one_more, broke_in_front, broke_behind, at_last}
 use Rattle.rehearse_runs.proofs.pieces.put_word_bytes.Goals as goal
 
-pub loop-byte-init : goal.loop-byte-init
-loop-byte-init g c = Put-none _ _
-
-pub loop-byte-preserved : goal.loop-byte-preserved
-loop-byte-preserved g c = Put-item word_escaped c.args.bytes.now c.loop-byte.byte-index 0 c.loop-byte-test.true c.loop-byte.invariant c.in_ok-put_word_byte.ensures
+pub returns-in_err-put : goal.returns-in_err-put
+returns-in_err-put g c =
+    let p = err_from_is_err_and c.from_residual.result c.from_residual.ensures.1 in
+    rw p.1 (broke_in_front _ _ in_word c.in-Some.at (sym c.first_escaped_in_word.ensures.first ∙ c.in-Some.is) c.loop-at.invariant.0 c.in_err-put.ensures)
 
 pub returns-in_err-put_word_byte : goal.returns-in_err-put_word_byte
 returns-in_err-put_word_byte g c =
-    let p = err_from_is_err_and c.from_residual.result c.from_residual.ensures.1 in
-    rw p.1 (Breaks-item word_escaped c.args.bytes.now c.loop-byte.byte-index 0 c.loop-byte-test.true c.loop-byte.invariant c.in_err-put_word_byte.ensures)
+    let p = err_from_is_err_and c.from_residual-in_err-put_word_byte.result c.from_residual-in_err-put_word_byte.ensures.1 in
+    rw p.1 (broke_behind _ _ in_word c.in-Some.at (sym c.first_escaped_in_word.ensures.first ∙ c.in-Some.is) c.loop-at.invariant.0 c.in_ok-put.ensures c.in_err-put_word_byte.ensures)
+
+pub loop-at-preserved : goal.loop-at-preserved
+loop-at-preserved g c =
+    let P : List ℕ → Type 0 = λ rest. SoFar word_escaped (g.O.Out.sink c.args.out.now) (g.O.Out.sink c.put_word_byte.new.out) c.args.page.now.items c.put_word_byte.new.page.items c.args.bytes.now rest in
+    let far = one_more _ _ in_word c.in-Some.at (sym c.first_escaped_in_word.ensures.first ∙ c.in-Some.is) c.loop-at.invariant.0 c.in_ok-put.ensures c.in_ok-put_word_byte.ensures in
+    let cut = take_rest c.loop-at.rest.now (c.in-Some.at + 1) in
+    let Q : List ℕ → Type 0 = λ rest. length rest ≤ length c.args.bytes.now in
+    let dropped = length-drop (c.in-Some.at + 1) c.loop-at.rest.now in
+    (subst P (sym cut) far, subst Q (sym cut) (omega (arith, dropped, c.loop-at.invariant.1)))
+
+pub returns : goal.returns
+returns g c =
+    at_last _ _ in_word _ _ c.put-2.result (sym c.first_escaped_in_word.ensures.first ∙ c.in_default.is) c.loop-at.invariant.0 c.put-2.ensures

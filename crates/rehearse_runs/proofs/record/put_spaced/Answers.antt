@@ -1,4 +1,4 @@
-use Rattle.std.proofs.Common.{◌≡◌, ◌∷◌, ◌∙◌, ap, append-nil, List, ℕ, get_or}
+use Rattle.std.proofs.Common.{◌∷◌, ◌∙◌, ap, append-nil, List, ℕ}
 use Rattle.std.proofs.lemmas.Result.{err_from_is_err_and}
 use Rattle.rehearse.specs.Listing.{word_form}
 use Rattle.rehearse_runs.specs.Recording.{spaced}

@@ -1,7 +1,6 @@
-use Rattle.std.proofs.Common.{◌≡◌, ◌<◌, List, [], ◌∷◌, length, length-append, arith, refl, ap, sym, ◌∙◌, ℕ, ◌+◌}
+use Rattle.std.proofs.Common.{◌≡◌, List, [], ◌∷◌, length, length-append, arith, ap, sym, ◌∙◌, ℕ, ◌+◌}
 use Rattle.rehearse.specs.Outcomes.{first_from}
 use Rattle.rehearse.specs.Runs.{kind}
-use Rattle.bootstore.specs.Record.{Record}
 use Rattle.rehearse_runs.specs.RunsShown.{outcomes}
 use Rattle.rehearse_machine.specs.Tasks.{task_in}
 use Rattle.rehearse_runs.proofs.SearchLemmas.{found_end, all_more, asked_here, goes_on, marks_go_on, digits_go_on}

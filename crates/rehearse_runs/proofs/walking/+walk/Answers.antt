@@ -1,7 +1,7 @@
 use Rattle.rehearse_runs.specs.RunsShown.{outcomes}
 use Rattle.rehearse_machine.specs.Machine.{outcome_when}
 use Rattle.rehearse_machine.specs.Tasks.{task_in}
-use Rattle.rehearse_runs.proofs.WalkLemmas.{reached_here, ended_here, asks_here, no_digit_here, walked_on, empty_when, filled_when}
+use Rattle.rehearse_runs.proofs.WalkLemmas.{reached_here, no_digit_here, walked_on, empty_when, filled_when}
 use Rattle.rehearse_runs.proofs.walking.+walk.Goals as goal
 
 pub returns-in_default : goal.returns-in_default

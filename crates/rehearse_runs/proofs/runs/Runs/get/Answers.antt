@@ -1,4 +1,4 @@
-use Rattle.std.proofs.Common.{◌∙◌, refl}
+use Rattle.std.proofs.Common.{◌∙◌}
 use Rattle.rehearse_machine.specs.Tasks.{task_in}
 use Rattle.rehearse_runs.proofs.RunsLemmas.{stood}
 use Rattle.rehearse_runs.proofs.runs.Runs.get.Goals as goal

@@ -1,0 +1,87 @@
+-- Bytes that are put together where they stand as they are, and one by one where they do not.
+use Rattle.std.proofs.Common.{◌≡◌, ℕ, zero, suc, ◌+◌, ◌<◌, Bool, true, false, not, List, [], ◌∷◌, ◌++◌, length, get_or, take, drop, Result, None, Some, refl, sym, ap, ◌∙◌, append_assoc, arith, add-one, inl, inr}
+use Rattle.std.specs.Prelude.{◌||◌, ◌==◌}
+use Rattle.std.specs.List.{flat_map, position, list_any}
+use Rattle.std.proofs.lemmas.Bool.Decides.{nat_tests}
+use Rattle.std.proofs.lemmas.Bool.{false≢true, cases_Bool}
+use Rattle.std.proofs.lemmas.List.Quantifiers.{position-Some}
+use Rattle.envimage.specs.Sink.{Sink, BrokeOff}
+use Rattle.envimage.proofs.DataLemmas.{position-none}
+use Rattle.rehearse.specs.Listing.{escaped}
+use Rattle.rehearse_runs.specs.Pieces.{is_shown, word_escaped}
+use Rattle.rehearse_runs.specs.Paging.{Put, Puts}
+use Rattle.rehearse_runs.proofs.PageLemmas.{Put-none, Put-append, Breaks-after, Breaks-before, Puts-after, Puts-as, Breaks-as}
+
+module _ (f : ℕ → List ℕ) where
+  -- the bytes so far were put
+  pub record SoFar (old new : Sink) (before after bytes rest : List ℕ) : Type 0 where
+    pub front : List ℕ
+    pub joined : front ++ flat_map f rest ≡ flat_map f bytes
+    pub put : Put old new before after front
+
+  pub none_yet : (s : Sink) (page bytes : List ℕ) → SoFar s s page page bytes bytes
+  none_yet s page bytes = record { front = []; joined = refl; put = Put-none s page }
+
+module _ (f : ℕ → List ℕ) (is_other : ℕ → Bool) (same : (b : ℕ) → is_other b ≡ false → f b ≡ b ∷ []) where
+  -- bytes that are all put as they are
+  all_same : (bytes : List ℕ) → list_any is_other bytes ≡ false → flat_map f bytes ≡ bytes
+  all_same [] h = refl
+  all_same (b ∷ bytes) h =
+      elim (cases_Bool (is_other b)) [
+        | inl stands ↦ let t : list_any is_other (b ∷ bytes) ≡ true = rw stands refl in absurd (false≢true (sym h ∙ t))
+        | inr other ↦ let t : list_any is_other bytes ≡ false = rw other at h in rw (same b other, all_same bytes t) refl
+      ]
+
+  -- the bytes in front of the first other one are put as they are
+  first_other : (bytes : List ℕ) (at : ℕ) → at < length bytes → ((k : ℕ) → k < at → is_other (get_or bytes k 0) ≡ false)
+      → flat_map f bytes ≡ take at bytes ++ (f (get_or bytes at 0) ++ flat_map f (drop (suc at) bytes))
+  first_other [] at lt none = absurd (omega arith)
+  first_other (b ∷ bytes) zero lt none = refl
+  first_other (b ∷ bytes) (suc at) lt none =
+      rw (same b (none 0 (omega arith)), first_other bytes at (omega arith) (λ k l. none (suc k) (omega arith))) refl
+
+  -- the text of the rest up to the first other byte, and of that byte
+  cut : (rest : List ℕ) (at : ℕ) → position is_other rest ≡ Some at → flat_map f rest ≡ take at rest ++ (f (get_or rest at 0) ++ flat_map f (drop (at + 1) rest))
+  cut rest at is =
+      let found = position-Some is_other rest at 0 is in
+      rw add-one (first_other rest at found.0 found.2)
+
+  pub one_more : {a b c d : Sink} {p q r t bytes rest : List ℕ} (at : ℕ) → position is_other rest ≡ Some at → SoFar f a b p q bytes rest
+      → Put b c q r (take at rest) → Put c d r t (f (get_or rest at 0)) → SoFar f a d p t bytes (drop (at + 1) rest)
+  one_more {rest = rest} at is far plain other = record {
+    front = far.front ++ (take at rest ++ f (get_or rest at 0));
+    joined = append_assoc far.front (take at rest ++ f (get_or rest at 0)) (flat_map f (drop (at + 1) rest))
+        ∙ (ap (λ t. far.front ++ t) (append_assoc (take at rest) (f (get_or rest at 0)) (flat_map f (drop (at + 1) rest)) ∙ sym (cut rest at is)) ∙ far.joined);
+    put = Put-append far.put (Put-append plain other);
+  }
+
+  pub broke_in_front : {a b c : Sink} {p q bytes rest : List ℕ} (at : ℕ) → position is_other rest ≡ Some at → SoFar f a b p q bytes rest
+      → BrokeOff b c (q ++ take at rest) → BrokeOff a c (p ++ flat_map f bytes)
+  broke_in_front {a} {b} {c} {p} {q} {bytes} {rest} at is far broke =
+      let behind = f (get_or rest at 0) ++ flat_map f (drop (at + 1) rest) in
+      let in_rest : BrokeOff b c (q ++ flat_map f rest) = Breaks-as b c q (take at rest ++ behind) (flat_map f rest) (sym (cut rest at is)) (Breaks-before q (take at rest) behind broke) in
+      Breaks-as a c p (far.front ++ flat_map f rest) (flat_map f bytes) far.joined (Breaks-after (flat_map f rest) far.put in_rest)
+
+  pub broke_behind : {a b c d : Sink} {p q r bytes rest : List ℕ} (at : ℕ) → position is_other rest ≡ Some at → SoFar f a b p q bytes rest
+      → Put b c q r (take at rest) → BrokeOff c d (r ++ f (get_or rest at 0)) → BrokeOff a d (p ++ flat_map f bytes)
+  broke_behind {a} {b} {c} {d} {p} {q} {r} {bytes} {rest} at is far plain broke =
+      let other = f (get_or rest at 0) in
+      let behind = flat_map f (drop (at + 1) rest) in
+      let in_other : BrokeOff c d (r ++ (other ++ behind)) = Breaks-before r other behind broke in
+      let joined : (far.front ++ take at rest) ++ (other ++ behind) ≡ flat_map f bytes =
+      append_assoc far.front (take at rest) (other ++ behind) ∙ (ap (λ t. far.front ++ t) (sym (cut rest at is)) ∙ far.joined) in
+      Breaks-as a d p ((far.front ++ take at rest) ++ (other ++ behind)) (flat_map f bytes) joined (Breaks-after (other ++ behind) (Put-append far.put plain) in_other)
+
+  pub at_last : {T E : Type 0} {a b : Sink} {p q bytes rest : List ℕ} (c : Sink) (r : List ℕ) (result : Result T E) → position is_other rest ≡ None → SoFar f a b p q bytes rest
+      → Puts result b c q r rest → Puts result a c p r (flat_map f bytes)
+  at_last {a = a} {p = p} {bytes = bytes} {rest = rest} c r result is far puts =
+      let same_rest : flat_map f rest ≡ rest = all_same rest (position-none is_other rest is) in
+      Puts-as a c p r (far.front ++ rest) (flat_map f bytes) result (ap (λ t. far.front ++ t) (sym same_rest) ∙ far.joined) (Puts-after c r rest result far.put puts)
+
+-- a byte that is shown stands in text form as it is
+pub in_text : (b : ℕ) → not (is_shown b) ≡ false → escaped b ≡ b ∷ []
+in_text b h = grind (arith, nat_tests)
+
+-- and in word form, unless it is a space
+pub in_word : (b : ℕ) → (b == 32) || not (is_shown b) ≡ false → word_escaped b ≡ b ∷ []
+in_word b h = grind (arith, nat_tests)
