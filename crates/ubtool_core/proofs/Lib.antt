@@ -5,4 +5,4 @@ pub mod RehearsalLemmas
 pub mod MemoryLemmas
 pub mod ToldLemmas
 pub mod OrderLemmas
-pub mod Rows
+mod FileExamples

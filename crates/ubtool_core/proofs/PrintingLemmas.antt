@@ -6,11 +6,12 @@ use Rattle.envimage.specs.declared.content.DataError.{DataError}
 use Rattle.envimage.specs.declared.image.ByteOrder.{ByteOrder}
 use Rattle.envimage.specs.declared.image.Which.{Which}
 use Rattle.envimage.specs.declared.image.ImageError.{ImageError}
-use Rattle.envtools.specs.Environment.{IsReadFrom, env_of}
-use Rattle.envtools.specs.declared.env_error.EnvError.{EnvError}
-use Rattle.envtools.specs.declared.env_error.EnvError.TheVariants.{Content, BadName, BadValue, Memory}
-use Rattle.ubtool_core.specs.Errors.{env_fault}
-use Rattle.ubtool_core.specs.Printing.{environment_in, Outputs, AreUnchanged, Prints}
+use Rattle.envtools.specs.Environment.{env_of}
+use Rattle.envtools.specs.Printing.{printed_output, printed_errors, IsPrintFailure}
+use Rattle.envtools.specs.declared.print.PrintDataError.{PrintDataError}
+use Rattle.envtools.specs.declared.print.PrintDataError.TheVariants.{Write, Memory}
+use Rattle.ubtool_core.specs.Errors.{print_fault}
+use Rattle.ubtool_core.specs.Printing.{environment_in, Outputs, Prints}
 
 checked-ok : (shown s : Shown) (fault : Option DataError) → checked shown fault ≡ Ok s → (fault ≡ None) × (shown ≡ s)
 checked-ok shown s None e = (refl, cc)
@@ -26,13 +27,12 @@ then_checked-ok (Ok which) show s h =
 pub loaded-faultless : (order : ByteOrder) (first : List ℕ) (second : Option (List ℕ)) (s : Shown) → load_of order first second ≡ Ok s → data_fault s.body ≡ None
 loaded-faultless order first second s e = then_checked-ok (chosen_of order first second) (shown_of order first second) s e
 
--- its variables can be refused for memory alone
-pub read-fault : (order : ByteOrder) (first : List ℕ) (second : Option (List ℕ)) (s : Shown) (error : EnvError) (names : List (List ℕ)) (header : Bool) (outputs : Outputs)
-    → load_of order first second ≡ Ok s → IsReadFrom s.body (Err error) → AreUnchanged outputs
-    → Prints (environment_in order first second) names header outputs (Err (env_fault error))
-read-fault order first second s (Content fault) names header outputs e read same =
-    let none = loaded-faultless order first second s e in cc
-read-fault order first second s BadName names header outputs e read same = absurd read
-read-fault order first second s BadValue names header outputs e read same = absurd read
-read-fault order first second s Memory names header outputs e read same =
-    ((env_of (pairs_of s.body), rw e refl), same)
+-- printing it is refused as the tool refuses it
+pub print-refused : (order : ByteOrder) (first : List ℕ) (second : Option (List ℕ)) (s : Shown) (error : PrintDataError) (names : List (List ℕ)) (header : Bool) (outputs : Outputs)
+    → load_of order first second ≡ Ok s
+    → IsPrintFailure outputs.out outputs.out' outputs.err outputs.err' (printed_output (env_of (pairs_of s.body)) names header) (printed_errors (env_of (pairs_of s.body)) names) error
+    → Prints (environment_in order first second) names header outputs (Err (print_fault error))
+print-refused order first second s Write names header outputs e broken =
+    record { env = env_of (pairs_of s.body); there = rw e refl; broken = broken }
+print-refused order first second s Memory names header outputs e same =
+    ((env_of (pairs_of s.body), rw e refl), record { out = same.0; err = same.1 })

@@ -3,6 +3,8 @@ use Rattle.envimage.specs.declared.image.ImageError.{ImageError}
 use Rattle.envimage.specs.declared.image.ImageError.TheVariants as image
 use Rattle.envtools.specs.declared.env_error.EnvError.{EnvError}
 use Rattle.envtools.specs.declared.env_error.EnvError.TheVariants as env
+use Rattle.envtools.specs.declared.print.PrintDataError.{PrintDataError}
+use Rattle.envtools.specs.declared.print.PrintDataError.TheVariants as print
 use Rattle.envtools.specs.declared.script.ScriptError.{ScriptError}
 use Rattle.envtools.specs.declared.script.ScriptError.TheVariants as script
 use Rattle.rehearse_runs.specs.declared.rehearsing.RehearseError.{RehearseError}
@@ -22,6 +24,10 @@ env_fault (env.Content fault) = Image (image.Content fault)
 env_fault env.BadName = Env env.BadName
 env_fault env.BadValue = Env env.BadValue
 env_fault env.Memory = Memory
+
+abbrev pub print_fault : PrintDataError → ToolError
+print_fault print.Write = Write
+print_fault print.Memory = Memory
 
 abbrev pub script_fault : ScriptError → ToolError
 script_fault (script.BadName line) = Script (script.BadName line)

@@ -1,8 +1,10 @@
--- For every valid environment image, device list and bounds, the rehearsal writes the records of exactly the runs of bootcmd,
--- each once, in dictionary order of outcome words with success before failure, runs that meet a bound marked cut; started
--- after any run's word it writes exactly the records that follow; want of memory or a failing writer leaves a prefix.
+-- For every valid environment image, device list and bounds, the rehearsal writes the records of exactly the runs of
+-- bootcmd, each once, in dictionary order of outcome words with success before failure, runs that meet a bound marked
+-- cut; started after any run's word it writes exactly the records that follow; want of memory or a failing writer
+-- leaves a prefix.
 --
--- Each phrase of it stands at its line below. The rehearsal is ours; what it rehearses is U-Boot's command line and environment
+-- Each phrase of it stands at its line below. The rehearsal is ours; what it rehearses is U-Boot's command line and
+-- environment
 -- (U-Boot documentation, doc/usage).
 use Rattle.std.specs.Prelude.{◌≡◌, ◌++◌, List, Option, Some, None, Ok}
 use Rattle.std.specs.List.{flat_map}
@@ -19,8 +21,8 @@ use Rattle.rehearse_runs.specs.declared.listing.Finish.{Finish}
 use Rattle.ubtool_core.specs.Given.{Given}
 use Rattle.ubtool_core.specs.Printing.{environment_in}
 
--- "exactly the runs .., each once, in dictionary order": all of them; "started after any run's word": those that follow that
--- run, whose word is given as a listing prints it, the empty one as a dot
+-- "exactly the runs .., each once, in dictionary order": all of them; "started after any run's word": those that
+-- follow that run, whose word is given as a listing prints it, the empty one as a dot
 abbrev pub AreToCome : Task → (after : Option Text) → List Word → Type 0
 AreToCome task None words = words ≡ runs task
 AreToCome task (Some text) words = (w : Word) × (text ≡ spelled w) × (kind task w ≡ Run) × (words ≡ rest task w)

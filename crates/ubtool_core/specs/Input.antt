@@ -1,5 +1,6 @@
 -- What printing the image of an input says of that input.
-use Rattle.std.specs.Prelude.{◌≡◌, List, [], ℕ, true, Option, None, Some, Ok}
+use Rattle.std.specs.Prelude.{◌≡◌, ◌⊎◌, List, [], ◌++◌, ℕ, true, Option, None, Some, Ok}
+use Rattle.std.specs.Io.KnownBytes.{Appends}
 use Rattle.envimage.specs.Data.{Pair}
 use Rattle.envimage.specs.Sink.{Sink, Wrote}
 use Rattle.envimage.specs.declared.image.ByteOrder.TheVariants.{Little}
@@ -11,3 +12,20 @@ abbrev pub PrintsInput : Option (List ℕ) → Sink → Sink → Type 0
 PrintsInput None old new = Unit {0}
 PrintsInput (Some image) old new =
     (env : List Pair) × (environment_in Little image None ≡ Ok env) × (Wrote old new (printed_output env [] true))
+
+-- The first bytes of the text stand on the output.
+pub record FrontStands (old new : Sink) (text : List ℕ) : Type 0 where
+  pub front : List ℕ
+  pub rest : List ℕ
+  pub whole : text ≡ front ++ rest
+  pub bytes : Appends old.taken new.taken front
+
+-- A front of the variables of an image stands on the output, the input's where it tells its bytes.
+abbrev pub PrintsFront : Option (List ℕ) → Sink → Sink → Type 0
+PrintsFront None old new = (env : List Pair) × FrontStands old new (printed_output env [] true)
+PrintsFront (Some image) old new =
+    (env : List Pair) × (environment_in Little image None ≡ Ok env) × (FrontStands old new (printed_output env [] true))
+
+-- where an input is refused, the output is as it was, or it failed inside the variables
+abbrev pub RefusesInput : Option (List ℕ) → Sink → Sink → Type 0
+RefusesInput left old new = (new ≡ old) ⊎ PrintsFront left old new

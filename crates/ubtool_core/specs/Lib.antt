@@ -14,3 +14,4 @@ pub mod Memory
 pub mod WordForm
 pub mod FileFaults
 pub mod Order
+pub mod UntilFailed

@@ -5,7 +5,7 @@ use Rattle.std.specs.Prelude.{map, take, drop, Option, Some, None, Result, Ok, E
 use Rattle.std.specs.Prelude.{if◌then◌else◌, nat_le, string_bytes}
 use Rattle.std.specs.Option.{option_map_or}
 use Rattle.std.specs.declared.alloc.Global.{Global}
-use Rattle.ubtool_core.specs.Told.{Stored, Told, file_at, written}
+use Rattle.ubtool_core.specs.Told.{Stored, Told, file_at, read_limit, written}
 use Rattle.ubtool_core.specs.declared.files.Action.{Action}
 use Rattle.ubtool_core.specs.declared.files.FileFault.{FileFault}
 use Rattle.ubtool_core.specs.declared.files.FileFault.TheVariants.{Failed, Short, TooLong, Memory}
@@ -50,7 +50,7 @@ abbrev pub whole_answer : Bool → Option (List ℕ) → Result (List ℕ) FileF
 whole_answer true file = Err Failed
 whole_answer false None = Err Failed
 whole_answer false (Some all) =
-    if nat_le (length all) 1048576 then Ok all else Err TooLong
+    if nat_le (length all) read_limit then Ok all else Err TooLong
 
 -- the answer to a read of `size` bytes from `offset` on
 abbrev pub part_answer : Bool → Option (List ℕ) → ℕ → ℕ → Result (List ℕ) FileFault

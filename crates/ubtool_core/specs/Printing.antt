@@ -25,13 +25,18 @@ pub record Outputs : Type 0 where
   pub err : Sink
   pub err' : Sink
 
+-- each output as it was, and as it is then
+abbrev pub outputs : (out out' err err' : Sink) → Outputs
+outputs out out' err err' = record { out = out; out' = out'; err = err; err' = err' }
+
 -- Nothing was written.
 pub record AreUnchanged (s : Outputs) : Type 0 where
   pub out : s.out' ≡ s.out
   pub err : s.err' ≡ s.err
 
 -- The environment was found, and all that it prints was written.
-pub record PrintsAll (answer : Result (List Pair) ImageError) (names : List (List ℕ)) (header : Bool) (s : Outputs) (found : Bool) : Type 0 where
+pub record PrintsAll (answer : Result (List Pair) ImageError) (names : List (List ℕ)) (header : Bool) (s : Outputs)
+    (found : Bool) : Type 0 where
   pub env : List Pair
   pub there : answer ≡ Ok env
   pub found_all : found ≡ all_found env names
@@ -39,7 +44,8 @@ pub record PrintsAll (answer : Result (List Pair) ImageError) (names : List (Lis
   pub errors : Wrote s.err s.err' (printed_errors env names)
 
 -- The environment was found, and one output failed inside what it prints.
-pub record BreaksOff (answer : Result (List Pair) ImageError) (names : List (List ℕ)) (header : Bool) (s : Outputs) : Type 0 where
+pub record BreaksOff (answer : Result (List Pair) ImageError) (names : List (List ℕ)) (header : Bool) (s : Outputs) :
+    Type 0 where
   pub env : List Pair
   pub there : answer ≡ Ok env
   pub broken : BreaksEither s.out s.out' s.err s.err' (printed_output env names header) (printed_errors env names)

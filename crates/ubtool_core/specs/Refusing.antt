@@ -1,5 +1,6 @@
--- Why a rehearsal is refused, and what stands written then. The order of the refusals is ours: the image, the device list, the
--- variable, the start word, each looked at where those before it are right; nothing is written before the listing.
+-- Why a rehearsal is refused, and what stands written then. The order of the refusals is ours: the image, the device
+-- list, the variable, the start word, each looked at where those before it are right; nothing is written before the
+-- listing.
 use Rattle.std.specs.Prelude.{◌≡◌, ◌≢◌, ◌⊎◌, List, Option, Some, None, Ok, Err}
 use Rattle.envimage.specs.Data.{Pair}
 use Rattle.envimage.specs.Sink.{Sink}
@@ -38,7 +39,8 @@ abbrev pub Refuses : Given → (old new : Sink) → ToolError → Type 0
 Refuses g old new (Image fault) = (environment_in g.order g.first g.second ≡ Err fault) × (new ≡ old)
 Refuses g old new (Devices fault) = HasImage g × (listed g.device_list ≡ Err fault) × (new ≡ old)
 Refuses g old new NoSuchVariable = HasDevices g (λ found. found ≡ None) × (new ≡ old)
-Refuses g old new NotARun = HasDevices g (λ found. (task : Task) × (found ≡ Some task) × SpellsNoRun task g.after) × (new ≡ old)
+Refuses g old new NotARun = HasDevices g (λ found. (task : Task) × (found ≡ Some task) × SpellsNoRun task g.after)
+    × (new ≡ old)
 Refuses g old new Write = BreaksOff g old new
 Refuses g old new Memory = (HasImage g × (new ≡ old)) ⊎ LacksMemory g old new
 Refuses g old new _ = ⊥

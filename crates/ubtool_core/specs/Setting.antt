@@ -1,15 +1,16 @@
 -- What a change of an image answers.
-use Rattle.std.specs.Prelude.{◌≡◌, ℕ, nat_lt, not, List, map, Option, None, Some, Result, Ok, Err, Vec, if◌then◌else◌}
+use Rattle.std.specs.Prelude.{◌≡◌, ◌⊎◌, ℕ, nat_lt, not, true, List, map, Option, None, Some, Result, Ok, Err, Vec, if◌then◌else◌}
 use Rattle.std.specs.declared.alloc.Global.{Global}
 use Rattle.envimage.specs.Data.{Pair, pairs_of}
 use Rattle.envimage.specs.Encoding.{needed}
-use Rattle.envimage.specs.Image.{Shown, load_of}
+use Rattle.envimage.specs.Image.{Shown, is_right, load_of}
 use Rattle.envimage.specs.declared.image.ByteOrder.{ByteOrder}
 use Rattle.envimage.specs.declared.image.ImageError.{ImageError}
 use Rattle.envimage.specs.declared.image.ImageError.TheVariants.{TooLarge}
 use Rattle.envimage.specs.declared.image.Which.{Which}
+use Rattle.envimage.specs.declared.image.Which.TheVariants.{First, Second}
 use Rattle.envtools.specs.Environment.{env_of, changed, is_name, are_values}
-use Rattle.envtools.specs.Saving.{size_of, next_flag, copy_to_write, saved_image}
+use Rattle.envtools.specs.Saving.{size_of, next_flag, copy_to_write, half_written, saved_image}
 use Rattle.envtools.specs.Scripting.{Reached, scripted}
 use Rattle.envtools.specs.declared.env_error.EnvError.TheVariants.{BadName, BadValue}
 use Rattle.envtools.specs.declared.script.ScriptError.{ScriptError}
@@ -63,10 +64,28 @@ Edits old change new (Err (Script e)) = edited old change ≡ Err (Script e)
 Edits old change new (Err Memory) = Unit {0}
 Edits old change new (Err _) = ⊥
 
-abbrev pub Answers : Result Shown ImageError → Result (Which × List ℕ) ToolError → Result (Which × Vec ℕ Global) ToolError → Type 0
+abbrev pub Answers : Result Shown ImageError → Result (Which × List ℕ) ToolError →
+    Result (Which × Vec ℕ Global) ToolError → Type 0
 Answers loaded answer (Ok w) = answer ≡ Ok (w.0, w.1.items)
 Answers loaded answer (Err (Image e)) = answer ≡ Err (Image e)
 Answers loaded answer (Err (Env e)) = answer ≡ Err (Env e)
 Answers loaded answer (Err (Script e)) = answer ≡ Err (Script e)
 Answers loaded answer (Err Memory) = (s : Shown) × (loaded ≡ Ok s)
 Answers loaded answer (Err _) = ⊥
+
+-- ---- a write that was broken off
+
+-- Of a pair: the first n of the bytes stand over the copy that they are for. Then loading gives what it gave before,
+-- or that copy is right.
+abbrev pub IsSafeAt : ByteOrder → (first second : List ℕ) → Which → (bytes : List ℕ) → ℕ → Type 0
+IsSafeAt order first second First bytes n =
+    (load_of order (half_written first n bytes) (Some second) ≡ load_of order first (Some second))
+    ⊎ (is_right order 5 (half_written first n bytes) ≡ true)
+IsSafeAt order first second Second bytes n =
+    (load_of order first (Some (half_written second n bytes)) ≡ load_of order first (Some second))
+    ⊎ (is_right order 5 (half_written second n bytes) ≡ true)
+
+-- of a pair, this holds of each front of the bytes; a single image may be lost
+abbrev pub IsSafe : ByteOrder → List ℕ → Option (List ℕ) → Which → List ℕ → Type 0
+IsSafe order first None which bytes = Unit {0}
+IsSafe order first (Some second) which bytes = (n : ℕ) → IsSafeAt order first second which bytes n

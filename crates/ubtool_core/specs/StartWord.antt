@@ -1,10 +1,11 @@
 -- The start word of a rehearsal, as a listing prints it. Ours.
 use Rattle.std.specs.Prelude.{◌==◌, [], ◌∷◌, codes, if◌then◌else◌}
+use Rattle.ascii.specs.Bytes as ascii
 use Rattle.rehearse.specs.State.{Text}
 
--- The digits of a printed word: of a dot none, else the text itself. The empty text spells no word, and gives what is no
--- word's digits.
+-- The digits of a printed word: of a dot none, else the text itself. The empty text spells no word, and gives what is
+-- no word's digits.
 abbrev pub digits_in : Text → Text
 digits_in [] = codes "."
-digits_in (b ∷ []) = if b == 46 then [] else b ∷ []
+digits_in (b ∷ []) = if b == ascii.dot then [] else b ∷ []
 digits_in (b ∷ c ∷ more) = b ∷ c ∷ more

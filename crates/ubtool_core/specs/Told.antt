@@ -47,10 +47,14 @@ abbrev pub calls_after : {T : Type 0} → List (List ℕ × Action) → List ℕ
 calls_after calls path action (Err Memory) = calls
 calls_after calls path action _ = calls ++ (path, action) ∷ []
 
+-- the most bytes that are read of a whole file: one mebibyte
+abbrev pub read_limit : ℕ
+read_limit = 1048576
+
 -- the answer to a read of the whole file
 abbrev pub IsWhole : Option (List ℕ) → Result (Vec ℕ Global) FileFault → Type 0
 IsWhole file (Ok bytes) = file ≡ Some bytes.items
-IsWhole file (Err TooLong) = IsSomeAnd file (λ all. 1048576 < length all)
+IsWhole file (Err TooLong) = IsSomeAnd file (λ all. read_limit < length all)
 IsWhole file (Err Short) = ⊥
 IsWhole file (Err _) = Unit {0}
 

@@ -1,6 +1,7 @@
+ghost use Rattle.std.specs.Prelude.{IfOk};
 ghost use Rattle.std.specs.Option.{option_copied};
 ghost use Rattle.envimage.specs.Image.{load_of};
-ghost use Rattle.ubtool_core.specs.Setting.{set_of, Edits, Answers};
+ghost use Rattle.ubtool_core.specs.Setting.{set_of, Edits, Answers, IsSafe};
 
 use crate::error::ToolError;
 use envimage::{ByteOrder, Which, load};
@@ -33,7 +34,8 @@ fn edit_env(env: &mut Env, edit: Edit<'_>) -> Result<(), ToolError>
 
 /// Changes the environment of an image, or of a redundant pair, and answers which copy is to be
 /// written and its bytes; of a pair that is never the current copy. A change that makes no
-/// difference is written too.
+/// difference is written too. Where only a front of the bytes comes to stand there, loading the pair
+/// gives what it gave before, unless that front makes the copy right.
 ///
 /// Refusals in order: the image, the change or the script, `TooLarge`; `Memory` wherever a growth is
 /// made.
@@ -44,7 +46,8 @@ pub fn set_bytes(
     order: ByteOrder,
     edit: Edit<'_>,
 ) -> Result<(Which, Vec<u8>), ToolError>
-    ensures { Answers (load_of order first.now (option_copied second.entry)) (set_of order first.now (option_copied second.entry) edit.entry) result }
+    ensures answer { Answers (load_of order first.now (option_copied second.entry)) (set_of order first.now (option_copied second.entry) edit.entry) result }
+    ensures safe { IfOk result (λ w. IsSafe order first.now (option_copied second.entry) w.0 w.1.items) }
 {
     let loaded = load(first, second, order)?;
     let mut env = Env::from_data(alloc, loaded.body)?;

@@ -1,5 +1,5 @@
 use envimage::ImageError;
-use envtools::{EnvError, PrintError, ScriptError};
+use envtools::{EnvError, PrintDataError, PrintError, ScriptError};
 use rehearse::DevicesError;
 use rehearse_runs::RehearseError;
 use thiserror::Error;
@@ -70,6 +70,20 @@ impl From<PrintError> for ToolError {
 
     fn from(_error: PrintError) -> ToolError {
         ToolError::Write
+    }
+}
+
+impl From<PrintDataError> for ToolError {
+    ghost use Rattle.std.specs.Prelude.{◌≡◌};
+    ghost use Rattle.ubtool_core.specs.Errors.{print_fault};
+
+    ghost from_gives = { λ error e. e ≡ print_fault error };
+
+    fn from(error: PrintDataError) -> ToolError {
+        match error {
+            PrintDataError::Write => ToolError::Write,
+            PrintDataError::Memory => ToolError::Memory,
+        }
     }
 }
 

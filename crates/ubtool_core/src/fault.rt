@@ -43,6 +43,17 @@ pub enum Fault {
     Memory,
 }
 
+impl From<ToolError> for Fault {
+    ghost use Rattle.std.specs.Prelude.{◌≡◌};
+    ghost use Rattle.ubtool_core.specs.declared.fault.Fault.TheVariants.{Tool};
+
+    ghost from_gives = { λ error fault. fault ≡ Tool error };
+
+    fn from(error: ToolError) -> Fault {
+        Fault::Tool(error)
+    }
+}
+
 impl Fault {
     ghost use Rattle.std.specs.Prelude.{◌≡◌};
     ghost use Rattle.ubtool_core.specs.FileFaults.{path_form, read_fault, written_fault};
@@ -86,14 +97,19 @@ impl<O: Out> fmt::Write for Line<'_, O> {
     }
 }
 
-/// Writes one line for a fault, as `ubtool: output failed`. Where the output fails, the rest is left
-/// out. It takes no memory.
-pub fn write_fault<O: Out, E: fmt::Display>(err: &mut O, fault: &E) {
+/// Writes one line for a fault of a program, its name in front. Where the output fails, the rest is left out. It takes
+/// no memory.
+pub fn write_fault_of<O: Out, E: fmt::Display>(err: &mut O, program: &str, fault: &E) {
     use std::fmt::Write;
 
     let mut line = Line { out: err };
-    let _ = write!(line, "ubtool: {fault}\n");
+    let _ = write!(line, "{program}: {fault}\n");
     let Line { out: _ } = line;
+}
+
+/// Writes one line for a fault, as `ubtool: output failed`.
+pub fn write_fault<O: Out, E: fmt::Display>(err: &mut O, fault: &E) {
+    write_fault_of(err, "ubtool", fault);
 }
 
 #[cfg(test)]

@@ -55,7 +55,7 @@ pub enum Action {
 /// Files by their paths: those of the machine, or some in memory. No failed call is tried again.
 pub trait Files {
     ghost use Rattle.ubtool_core.specs.Fault.{CountsFault};
-    ghost use Rattle.ubtool_core.specs.Told.{IfTold, ReadsAll, ReadsAt, Told, WritesAt};
+    ghost use Rattle.ubtool_core.specs.Told.{IfTold, ReadsAll, ReadsAt, Told, WritesAt, read_limit};
     ghost use Rattle.ubtool_core.specs.declared.files.FileFault.TheVariants.{Short, TooLong};
 
     /// How often the device has failed.
@@ -69,7 +69,7 @@ pub trait Files {
     /// Refusals: `Failed`, `TooLong`, `Memory`.
     fn read_all(&mut self, alloc: Global, path: &str) -> Result<Vec<u8>, FileFault>
         ensures count { CountsFault (faults self.old) (faults self.new) result }
-        ensures bound { IfOk result (λ bytes. vec_len bytes ≤ 1048576) }
+        ensures bound { IfOk result (λ bytes. vec_len bytes ≤ read_limit) }
         ensures never_short { result ≢ Err Short }
         ensures told { IfTold (told self.old) (told self.new)
             (λ old new. ReadsAll path.now old new result) };

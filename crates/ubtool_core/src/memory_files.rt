@@ -5,7 +5,7 @@ ghost use Rattle.std.specs.Option.{option_copied};
 ghost use Rattle.std.specs.Str.{bytes_eq};
 ghost use Rattle.ubtool_core.specs.Fault.{CountsFault};
 ghost use Rattle.ubtool_core.specs.Memory.{Gives, IsUnlessMemory, call_of, failing_of, faults_of, file_of, is_due, part_answer, put, reaches, told_of, whole_answer, with_file, write_answer};
-ghost use Rattle.ubtool_core.specs.Told.{ReadsAll, ReadsAt, WritesAt, calls_after, file_at, overwritten};
+ghost use Rattle.ubtool_core.specs.Told.{ReadsAll, ReadsAt, WritesAt, calls_after, file_at, overwritten, read_limit};
 ghost use Rattle.ubtool_core.specs.declared.files.FileFault.TheVariants.{Short, TooLong};
 
 use crate::files::{Action, FileFault, Files, LIMIT};
@@ -209,7 +209,7 @@ impl Files for MemoryFiles {
 
     fn read_all(&mut self, alloc: Global, path: &str) -> Result<Vec<u8>, FileFault>
         ensures count { CountsFault (faults_of self.old) (faults_of self.new) result }
-        ensures bound { IfOk result (λ bytes. vec_len bytes ≤ 1048576) }
+        ensures bound { IfOk result (λ bytes. vec_len bytes ≤ read_limit) }
         ensures never_short { result ≢ Err Short }
         ensures told { ReadsAll path.now (told_of self.old) (told_of self.new) result }
         ensures exact { Gives (whole_answer (is_due self.old) (file_at path.now (told_of self.old).stored)) result }

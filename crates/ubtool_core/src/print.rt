@@ -1,11 +1,20 @@
 ghost use Rattle.std.specs.Prelude.{◌≡◌, map, length, false};
 ghost use Rattle.std.specs.Option.{option_copied};
-ghost use Rattle.ubtool_core.specs.Printing.{Prints, environment_in};
+ghost use Rattle.ubtool_core.specs.Printing.{Prints, environment_in, outputs};
 
 use crate::error::ToolError;
 use envimage::{ByteOrder, Out, load};
-use envtools::{Env, printenv};
+use envtools::print_data;
 use std::alloc::Global;
+
+/// What is asked of printing.
+#[derive(Clone, Copy)]
+pub struct PrintAsk<'a> {
+    /// The variables, in this order; none for all.
+    pub names: &'a [&'a [u8]],
+    /// Whether `NAME=` is printed before a value. Without it, `names` is one name.
+    pub header: bool,
+}
 
 /// Prints the variables of an image, or of the copy of a pair that counts, as `printenv` does: all
 /// of them in order, or those that are named. The answer is false where a name is missing. Without
@@ -16,16 +25,14 @@ pub fn print_bytes<O: Out, E: Out>(
     first: &[u8],
     second: Option<&[u8]>,
     order: ByteOrder,
-    names: &[&[u8]],
-    header: bool,
+    ask: &PrintAsk<'_>,
     out: &mut O,
     err: &mut E,
 ) -> Result<bool, ToolError>
-    requires { header ≡ false → length names.now ≡ 1 }
-    ensures { Prints (environment_in order first.now (option_copied second.entry)) (map (λ n. n.now) names.now) header
-        record { out = O.sink out.old; out' = O.sink out.new; err = E.sink err.old; err' = E.sink err.new } result }
+    requires { ask.now.header ≡ false → length ask.now.names.now ≡ 1 }
+    ensures { Prints (environment_in order first.now (option_copied second.entry)) (map (λ n. n.now) ask.now.names.now) ask.now.header
+        (outputs (O.sink out.old) (O.sink out.new) (E.sink err.old) (E.sink err.new)) result }
 {
     let loaded = load(first, second, order)?;
-    let env = Env::from_data(alloc, loaded.body)?;
-    Ok(printenv(&env, names, header, out, err)?)
+    Ok(print_data(alloc, loaded.body, ask.names, ask.header, out, err)?)
 }

@@ -1,11 +1,10 @@
-ghost use Rattle.std.specs.Prelude.{◌≡◌, ◌⊎◌, OnOk, []};
+ghost use Rattle.std.specs.Prelude.{◌≡◌, ◌⊎◌, IfErr, OnOk, []};
 ghost use Rattle.envimage.specs.Sink.{Wrote};
-ghost use Rattle.ubtool_core.specs.Input.{PrintsInput};
+ghost use Rattle.ubtool_core.specs.Input.{PrintsInput, RefusesInput};
 
-use crate::error::ToolError;
 use crate::fault::{Fault, write_fault};
 use crate::input::{ReadFault, read_up_to};
-use crate::print::print_bytes;
+use crate::print::{PrintAsk, print_bytes};
 use envimage::{ByteOrder, Out, SIZE_MAX};
 use std::alloc::Global;
 use std::io::Read;
@@ -19,21 +18,25 @@ fn print_input<R: Read, O: Out, E: Out>(
 ) -> Result<(), Fault>
     ensures printed { OnOk result (PrintsInput (R.remaining input.old) (O.sink out.old) (O.sink out.new)) }
     ensures quiet { OnOk result (Wrote (E.sink err.old) (E.sink err.new) []) }
+    ensures refused { IfErr result (λ fault. RefusesInput (R.remaining input.old) (O.sink out.old) (O.sink out.new)) }
 {
     let image = match read_up_to(alloc, input, SIZE_MAX + 1) {
         Ok(image) => image,
         Err(ReadFault::Failed) => return Err(Fault::CannotReadInput),
-        Err(ReadFault::Memory) => return Err(Fault::Tool(ToolError::Memory)),
+        Err(ReadFault::Memory) => return Err(Fault::Memory),
     };
-    match print_bytes(alloc, &image, None, ByteOrder::Little, &[], true, out, err) {
-        Ok(_) => Ok(()),
-        Err(error) => Err(Fault::Tool(error)),
-    }
+    let ask = PrintAsk {
+        names: &[],
+        header: true,
+    };
+    print_bytes(alloc, &image, None, ByteOrder::Little, &ask, out, err)?;
+    Ok(())
 }
 
 /// Reads `input` up to its end, or one byte more than an image may have, and prints the variables
 /// of the single image that it is. The answer is the program's status: 0, or 1 where one line on
-/// `err` tells the fault. No failed read is tried again.
+/// `err` tells the fault; the output is then as it was, or broke off inside the variables. No failed
+/// read is tried again.
 pub fn run_input<R: Read, O: Out, E: Out>(
     alloc: Global,
     input: &mut R,
@@ -43,6 +46,7 @@ pub fn run_input<R: Read, O: Out, E: Out>(
     ensures status { (result ≡ 0) ⊎ (result ≡ 1) }
     ensures printed { result ≡ 0 → PrintsInput (R.remaining input.old) (O.sink out.old) (O.sink out.new) }
     ensures quiet { result ≡ 0 → Wrote (E.sink err.old) (E.sink err.new) [] }
+    ensures refused { result ≡ 1 → RefusesInput (R.remaining input.old) (O.sink out.old) (O.sink out.new) }
 {
     match print_input(alloc, input, out, err) {
         Ok(()) => 0,

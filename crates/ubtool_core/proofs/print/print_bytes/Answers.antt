@@ -1,19 +1,23 @@
-use Rattle.std.proofs.Common.{sym, subst, ◌≡◌, Result, Err, Bool, List, ℕ, map, ap, ◌∙◌, refl}
+use Rattle.std.proofs.Common.{sym, subst, ◌≡◌, Result, Err, Bool, List, ℕ, map, ap, ◌∙◌}
 use Rattle.std.proofs.lemmas.Result.{err_from_is_err_and}
 use Rattle.std.specs.Option.{option_copied}
 use Rattle.envimage.specs.Image.{shown}
-use Rattle.ubtool_core.specs.Errors.{env_fault}
+use Rattle.ubtool_core.specs.Errors.{print_fault}
 use Rattle.ubtool_core.specs.Printing.{Outputs, Prints, environment_in}
 use Rattle.ubtool_core.specs.declared.error.ToolError.{ToolError}
-use Rattle.ubtool_core.proofs.PrintingLemmas.{read-fault}
+use Rattle.ubtool_core.proofs.PrintingLemmas.{loaded-faultless, print-refused}
 use Rattle.ubtool_core.proofs.print.print_bytes.Goals as goal
 
-pub returns-in_err-env : goal.returns-in_err-env
-returns-in_err-env g c =
-    let outputs : Outputs = record { out = g.O.Out.sink c.args.out.now; out' = g.O.Out.sink c.args.out.now; err = g.E.Out.sink c.args.err.now; err' = g.E.Out.sink c.args.err.now } in
-    let names : List (List ℕ) = map (λ n. n.now) c.args.names.now in
+pub print_data-requires-clause-body : goal.print_data-requires-clause-body
+print_data-requires-clause-body g c =
+    loaded-faultless c.args.order c.args.first.now (option_copied c.args.second) (shown c.in_ok-loaded.loaded) c.in_ok-loaded.ensures
+
+pub returns-in_err-print_data : goal.returns-in_err-print_data
+returns-in_err-print_data g c =
+    let outputs : Outputs = record { out = g.O.Out.sink c.args.out.now; out' = g.O.Out.sink c.print_data.new.out; err = g.E.Out.sink c.args.err.now; err' = g.E.Out.sink c.print_data.new.err } in
+    let names : List (List ℕ) = map (λ n. n.now) c.args.ask.now.names.now in
     let second = option_copied c.args.second in
-    let p = err_from_is_err_and c.from_residual-in_err-env.result c.from_residual-in_err-env.ensures.1 in
-    let answer : c.from_residual-in_err-env.result ≡ Err (env_fault c.in_err-env.field-0.0) = p.1 ∙ ap Err p.2 in
-    let P : Result Bool ToolError → Type 0 = Prints (environment_in c.args.order c.args.first.now second) names c.args.header outputs in
-    subst P (sym answer) (read-fault c.args.order c.args.first.now second (shown c.in_ok-loaded.loaded) c.in_err-env.field-0.0 names c.args.header outputs c.in_ok-loaded.ensures c.in_err-env.ensures (record { out = refl; err = refl }))
+    let p = err_from_is_err_and c.from_residual-in_err-print_data.result c.from_residual-in_err-print_data.ensures.1 in
+    let answer : c.from_residual-in_err-print_data.result ≡ Err (print_fault c.in_err-print_data.field-0.0) = p.1 ∙ ap Err p.2 in
+    let P : Result Bool ToolError → Type 0 = Prints (environment_in c.args.order c.args.first.now second) names c.args.ask.now.header outputs in
+    subst P (sym answer) (print-refused c.args.order c.args.first.now second (shown c.in_ok-loaded.loaded) c.in_err-print_data.field-0.0 names c.args.ask.now.header outputs c.in_ok-loaded.ensures c.in_err-print_data.ensures.err)
