@@ -8,10 +8,10 @@ use Rattle.clap.specs.declared.parser.matches.ArgMatches.{ArgMatches}
 use Rattle.clap.specs.declared.parser.matches.SubCommand.{SubCommand}
 use Rattle.clap.specs.declared.parser.matches.ArgMatches.TheViews.{out-ArgMatches, out-SubCommand}
 use Rattle.clap.specs.declared.error.kind.ErrorKind.{ErrorKind}
-use Rattle.clap.specs.declared.error.kind.ErrorKind.TheVariants.{DisplayHelp, OutOfMemory}
+use Rattle.clap.specs.declared.error.kind.ErrorKind.TheVariants.{DisplayHelp, DisplayVersion, OutOfMemory}
 use Rattle.clap.proofs.OnLiterals.{clap_on_literals}
 use Rattle.ubtool_cli.specs.declared.ask.Ask.{Ask}
-use Rattle.ubtool_cli.specs.declared.ask.Ask.TheVariants.{Print, Setenv, Rehearse, Help}
+use Rattle.ubtool_cli.specs.declared.ask.Ask.TheVariants.{Print, Setenv, Rehearse, Help, Version}
 use Rattle.ubtool_cli.specs.declared.ask.UseError.{UseError}
 use Rattle.ubtool_cli.specs.declared.ask.UseError.TheVariants.{Line, NeedName, ScriptAndName, HeaderNeedsOne, Memory}
 use Rattle.ubtool_cli.specs.Asked.{Asked, asked_of}
@@ -29,7 +29,8 @@ ubtool_free = refl
 -- where the words are accepted
 pub accepted_answer : (words : List Text) (a : Option Asked) (r : Result Ask UseError) → IsAccepted words → a ≡ asked words → Says a r → Answers words r
 accepted_answer words a (Ok (Help text)) fine is says = absurd says
-accepted_answer words a (Ok (Print config header names order)) fine is says = (fine, says ∙ is)
+accepted_answer words a (Ok Version) fine is says = absurd says
+accepted_answer words a (Ok (Print config what order)) fine is says = (fine, says ∙ is)
 accepted_answer words a (Ok (Setenv config change order)) fine is says = (fine, says ∙ is)
 accepted_answer words a (Ok (Rehearse config list what order)) fine is says = (fine, says ∙ is)
 accepted_answer words a (Err NeedName) fine is says = (fine, says ∙ is)
@@ -46,15 +47,21 @@ refused_answer words k (Ok (Help text)) among is = elim among [
       cc
   | inr one ↦ subst (λ (x : ErrorKind). IsAmong x (fault_of ubtool words)) is one
 ]
-refused_answer words k (Ok (Print config header names order)) among is = absurd is
+refused_answer words k (Ok Version) among is = elim among [
+  | inl memory ↦
+      let bad : DisplayVersion ≡ OutOfMemory = sym is ∙ memory in
+      cc
+  | inr one ↦ subst (λ (x : ErrorKind). IsAmong x (fault_of ubtool words)) is one
+]
+refused_answer words k (Ok (Print config what order)) among is = absurd is
 refused_answer words k (Ok (Setenv config change order)) among is = absurd is
 refused_answer words k (Ok (Rehearse config list what order)) among is = absurd is
 refused_answer words k (Err NeedName) among is = absurd is
 refused_answer words k (Err ScriptAndName) among is = absurd is
 refused_answer words k (Err HeaderNeedsOne) among is = absurd is
 refused_answer words k (Err (Line text)) among is = elim among [
-  | inl memory ↦ absurd (is.1 memory)
-  | inr one ↦ inl (k, one, is.0)
+  | inl memory ↦ absurd (is.2 memory)
+  | inr one ↦ inl (k, one, is.0, is.1)
 ]
 refused_answer words k (Err Memory) among is = tt
 

@@ -1,4 +1,7 @@
 pub mod MadeLemmas
 pub mod EntryLemmas
 pub mod AnswerLemmas
-pub mod Rows
+mod CommandLineExamples
+pub mod CalledLemmas
+mod CalledExamples
+mod LongForms

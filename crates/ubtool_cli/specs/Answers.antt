@@ -4,10 +4,11 @@ use Rattle.std.specs.Prelude.{◌≡◌, ◌≢◌, ◌⊎◌, List, [], map, Op
 use Rattle.std.specs.Prelude.{Result, Ok, Err, option_map, option_and_then, string_bytes}
 use Rattle.clap.specs.Words.{IsAmong, Text, fault_of, subcommand_of}
 use Rattle.clap.specs.declared.error.kind.ErrorKind.{ErrorKind}
-use Rattle.clap.specs.declared.error.kind.ErrorKind.TheVariants.{DisplayHelp, OutOfMemory}
+use Rattle.clap.specs.declared.error.kind.ErrorKind.TheVariants.{DisplayHelp, DisplayVersion}
+use Rattle.clap.specs.declared.error.kind.ErrorKind.TheVariants.{OutOfMemory}
 use Rattle.envimage.specs.declared.image.ByteOrder.{ByteOrder}
 use Rattle.ubtool_cli.specs.declared.ask.Ask.{Ask}
-use Rattle.ubtool_cli.specs.declared.ask.Ask.TheVariants.{Print, Setenv, Rehearse, Help}
+use Rattle.ubtool_cli.specs.declared.ask.Ask.TheVariants.{Print, Setenv, Rehearse, Help, Version}
 use Rattle.ubtool_cli.specs.declared.ask.Change.{Change}
 use Rattle.ubtool_cli.specs.declared.ask.Change.TheVariants.{One, Script}
 use Rattle.ubtool_cli.specs.declared.ask.RehearseAsk.{RehearseAsk}
@@ -33,15 +34,16 @@ change_of config (One name words) order =
     setting config (string_bytes name) (map string_bytes words.items) order
 change_of config (Script file) order = scripted config (string_bytes file) order
 
--- what the value asks for, where it is no help text
+-- what the value asks for, where it is neither a help text nor the version
 abbrev pub meaning_of : Ask → Option Asked
-meaning_of (Print config header names order) =
-    Some (printing (string_bytes config) header (map string_bytes names.items) order)
+meaning_of (Print config what order) =
+    Some (printing (string_bytes config) what.header (map string_bytes what.names.items) order)
 meaning_of (Setenv config change order) =
     Some (change_of (string_bytes config) change order)
 meaning_of (Rehearse config list what order) =
     Some (rehearsing (string_bytes config) (string_bytes list) (rehearsal_of what) order)
 meaning_of (Help text) = None
+meaning_of Version = None
 
 -- what the words ask for, by the subcommand that `clap` finds in them and its entries
 abbrev pub asked : List Text → Option Asked
@@ -51,14 +53,16 @@ asked words = option_and_then (λ s. asked_of s.0 s.1) (subcommand_of ubtool wor
 abbrev pub IsAccepted : List Text → Type 0
 IsAccepted words = fault_of ubtool words ≡ []
 
--- `clap` refuses the words for some mistake, and not to show the help
+-- `clap` refuses the words for some mistake, and not to show the help or the version
 abbrev pub IsMistaken : List Text → Type 0
 IsMistaken words = (k : ErrorKind) × IsAmong k (fault_of ubtool words) × (k ≢ DisplayHelp)
+    × (k ≢ DisplayVersion)
 
 -- the answer to words. A line that is no mistake would come of an accepted `rehearse` without its
 -- device list or with a number out of its range, which `clap` accepts nowhere
 abbrev pub Answers : List Text → Result Ask UseError → Type 0
 Answers words (Ok (Help text)) = IsAmong DisplayHelp (fault_of ubtool words)
+Answers words (Ok Version) = IsAmong DisplayVersion (fault_of ubtool words)
 Answers words (Ok ask) = IsAccepted words × (meaning_of ask ≡ asked words)
 Answers words (Err NeedName) = IsAccepted words × (Some needs_name ≡ asked words)
 Answers words (Err ScriptAndName) = IsAccepted words × (Some script_and_name ≡ asked words)
@@ -69,6 +73,7 @@ Answers words (Err Memory) = Unit {0}
 -- the answer says this, or memory ran out; a line says nothing
 abbrev pub Says : Option Asked → Result Ask UseError → Type 0
 Says a (Ok (Help text)) = ⊥
+Says a (Ok Version) = ⊥
 Says a (Ok ask) = meaning_of ask ≡ a
 Says a (Err NeedName) = Some needs_name ≡ a
 Says a (Err ScriptAndName) = Some script_and_name ≡ a
@@ -85,6 +90,7 @@ IsUnread _ = ⊥
 -- the answer to an error of `clap`
 abbrev pub Reports : ErrorKind → Result Ask UseError → Type 0
 Reports k (Ok (Help text)) = k ≡ DisplayHelp
-Reports k (Err (Line text)) = (k ≢ DisplayHelp) × (k ≢ OutOfMemory)
+Reports k (Ok Version) = k ≡ DisplayVersion
+Reports k (Err (Line text)) = (k ≢ DisplayHelp) × (k ≢ DisplayVersion) × (k ≢ OutOfMemory)
 Reports k (Err Memory) = Unit {0}
 Reports k _ = ⊥

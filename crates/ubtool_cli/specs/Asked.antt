@@ -11,7 +11,7 @@ use Rattle.clap.specs.Words.{Row, Text, all_of, first_of, one_of}
 use Rattle.clap.specs.ValueTests.{is_numeral}
 use Rattle.envimage.specs.declared.image.ByteOrder.{ByteOrder}
 use Rattle.envimage.specs.declared.image.ByteOrder.TheVariants.{Big, Little}
-use Rattle.rehearse.specs.Bounds.{BoundsShown, bounds_of}
+use Rattle.rehearse.specs.Bounds.{BoundsShown, bounds_of, most_devices, most_steps}
 
 -- what a rehearsal is asked for
 pub record Rehearsal : Type 0 where
@@ -76,7 +76,7 @@ order_of rows = if is_set (codes "big-endian") rows then Big else Little
 abbrev pub print_asked : List Row → Asked
 print_asked rows =
     let names = values_of (codes "names") rows in
-    let no_header = is_set (codes "no-header") rows in
+    let no_header = is_set (codes "noheader") rows in
     if no_header && not (length names == 1) then header_needs_one
     else printing (config_of rows) (not no_header) names (order_of rows)
 
@@ -101,8 +101,8 @@ abbrev pub bounds_asked : List Row → Option BoundsShown
 bounds_asked rows =
     option_and_then (λ devices. option_and_then (λ steps.
     bounds_of (unwrap_or devices 16) (unwrap_or steps 10000))
-    (number_within 0 1000000 (codes "steps") rows))
-    (number_within 0 32 (codes "devices") rows)
+    (number_within 0 most_steps (codes "steps") rows))
+    (number_within 0 most_devices (codes "devices") rows)
 
 -- with a device list, bounds and a limit that can be read
 abbrev pub rehearsal_with : Option Text → Option BoundsShown → Option (Option ℕ) → List Row

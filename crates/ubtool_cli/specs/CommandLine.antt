@@ -1,18 +1,25 @@
 -- The command line that `clap` is given: three subcommands with their options and names. It is ours;
--- `-c`, `-n` and `-s` are those of fw_printenv and fw_setenv (U-Boot, tools/env README).
-use Rattle.std.specs.Prelude.{ℕ, Some, true, codes, pos}
+-- `-c`, `-n` and `-s` and their long forms are those of fw_printenv and fw_setenv (U-Boot, tools/env
+-- README), and `--no-header` is libubootenv's.
+use Rattle.std.specs.Prelude.{ℕ, [], ◌∷◌, Some, true, codes, pos}
 use Rattle.clap.specs.Words.{App, Rule, Shape, Text, new_app, new_rule, with_rule, with_subcommand}
 use Rattle.clap.specs.Simple.{on_top}
 use Rattle.clap.specs.declared.builder.action.ArgAction.TheVariants.{Append, SetTrue}
 use Rattle.clap.specs.declared.builder.value_parser.ValueParser.TheVariants as parser
+use Rattle.rehearse.specs.Bounds.{most_devices, most_steps}
 
--- `-x VALUE`
-abbrev pub short_option : Text → ℕ → Rule
-short_option id letter = record (new_rule id) { short = Some letter; value_names = 1 }
+-- the byte of a letter
+abbrev letter : Text → ℕ
+letter [] = 0
+letter (b ∷ text) = b
 
 -- `--word VALUE`
 abbrev pub long_option : Text → Rule
 long_option id = record (new_rule id) { long = Some id; value_names = 1 }
+
+-- `--word VALUE` or `-x VALUE`
+abbrev pub lettered_option : Text → ℕ → Rule
+lettered_option id letter = record (long_option id) { short = Some letter }
 
 -- `--word N`, a whole number from `least` to `most`
 abbrev pub number_option : Text → ℕ → ℕ → Rule
@@ -23,9 +30,9 @@ number_option id least most =
 abbrev pub long_flag : Text → Rule
 long_flag id = record (new_rule id) { long = Some id; action = Some SetTrue }
 
--- `-x`
-abbrev pub short_flag : Text → ℕ → Rule
-short_flag id letter = record (new_rule id) { short = Some letter; action = Some SetTrue }
+-- `--word` or `-x`
+abbrev pub lettered_flag : Text → ℕ → Rule
+lettered_flag id letter = record (long_flag id) { short = Some letter }
 
 -- `[NAME]`
 abbrev pub one : Text → Rule
@@ -37,7 +44,7 @@ many id = record (new_rule id) { value_names = 1; action = Some Append }
 
 -- `-c FILE`
 abbrev pub config : Rule
-config = short_option (codes "config") 99
+config = lettered_option (codes "config") (letter (codes "c"))
 
 abbrev pub big_endian : Rule
 big_endian = long_flag (codes "big-endian")
@@ -46,31 +53,34 @@ big_endian = long_flag (codes "big-endian")
 abbrev pub subcommand : Text → App
 subcommand name = with_rule (with_rule (new_app name) config) big_endian
 
+-- `-n`, with two long forms
+abbrev pub no_header : Rule
+no_header = record (lettered_flag (codes "noheader") (letter (codes "n"))) { aliases = codes "no-header" ∷ [] }
+
 abbrev pub printenv : App
 printenv = with_rule
-    (with_rule (subcommand (codes "printenv"))
-    (short_flag (codes "no-header") 110))
+    (with_rule (subcommand (codes "printenv")) no_header)
     (many (codes "names"))
 
 abbrev pub setenv : App
 setenv = with_rule
     (with_rule
-    (with_rule (subcommand (codes "setenv")) (short_option (codes "script") 115))
+    (with_rule (subcommand (codes "setenv")) (lettered_option (codes "script") (letter (codes "s"))))
     (one (codes "name")))
     (many (codes "values"))
 
 -- `-d FILE`, which no call leaves out
 abbrev pub device_list : Rule
-device_list = record (short_option (codes "device-list") 100) { required = true }
+device_list = record (lettered_option (codes "device-list") (letter (codes "d"))) { required = true }
 
 abbrev pub rehearse_options : App
 rehearse_options = with_rule
     (with_rule
     (with_rule
     (with_rule (subcommand (codes "rehearse")) device_list)
-    (short_option (codes "variable") 98))
-    (number_option (codes "devices") 0 32))
-    (number_option (codes "steps") 0 1000000)
+    (lettered_option (codes "variable") (letter (codes "b"))))
+    (number_option (codes "devices") 0 most_devices))
+    (number_option (codes "steps") 0 most_steps)
 
 abbrev pub rehearse : App
 rehearse = with_rule
@@ -80,12 +90,14 @@ rehearse = with_rule
     (number_option (codes "limit") 1 4294967295))
     (many (codes "names"))
 
--- the program, which has no words of its own
+-- the program, which has no words of its own; its version can be asked for at each subcommand too
 abbrev pub base : App
 base = on_top (λ (s : Shape). record s {
   no_binary_name = true;
   subcommand_required = true;
   disable_help_subcommand = true;
+  has_version = true;
+  propagate_version = true;
 }) (new_app (codes "ubtool"))
 
 abbrev pub ubtool : App

@@ -6,6 +6,9 @@ use envimage::ByteOrder;
 use rehearse::Bounds;
 use thiserror::Error;
 
+/// The version of the program, and of the package that has it.
+pub const VERSION: &str = "0.1.0";
+
 /// The configuration that is read where a call names none.
 pub const DEFAULT_CONFIG: &str = "/etc/fw_env.config";
 
@@ -25,10 +28,8 @@ pub enum Ask {
     Print {
         /// The path of the configuration.
         config: String,
-        /// Whether `NAME=` is printed before a value. Without it, `names` is one name.
-        header: bool,
-        /// The variables to print, in this order; none for all.
-        names: Vec<String>,
+        /// What to print.
+        what: PrintAsk,
         /// How the image's CRC is stored.
         order: ByteOrder,
     },
@@ -54,6 +55,17 @@ pub enum Ask {
     },
     /// To read the help, which this text is.
     Help(String),
+    /// To read the version.
+    Version,
+}
+
+/// What `printenv` is to print.
+#[derive(Debug, Drop)]
+pub struct PrintAsk {
+    /// The variables to print, in this order; none for all.
+    pub names: Vec<String>,
+    /// Whether `NAME=` is printed before a value. Without it, `names` is one name.
+    pub header: bool,
 }
 
 /// What `setenv` is to change.

@@ -1,9 +1,10 @@
 //! The command line that `clap` is given.
 ghost use Rattle.std.specs.Prelude.{◌≡◌, IfOk, false};
 ghost use Rattle.clap.specs.Words.{rule_of};
-ghost use Rattle.ubtool_cli.specs.CommandLine.{device_list, long_flag, long_option, many, number_option, one, printenv, rehearse, rehearse_options, setenv, short_flag, short_option, subcommand, ubtool};
+ghost use Rattle.ubtool_cli.specs.CommandLine.{device_list, lettered_flag, lettered_option, long_flag, long_option, many, no_header, number_option, one, printenv, rehearse, rehearse_options, setenv, subcommand, ubtool};
 ghost use Rattle.ubtool_cli.specs.Made.{IsMade};
 
+use crate::ask::VERSION;
 use clap::builder::ValueParser;
 use clap::{Arg, ArgAction, Command};
 use rehearse::{DEVICES_MAX, STEPS_MAX};
@@ -72,18 +73,19 @@ Examples:
   ubtool rehearse -d devices.txt --limit 20 --after 0110
 ";
 
-fn short_option<'a>(alloc: Global, id: &'a str, letter: char, value: &'a str) -> Arg<'a>
-    ensures rule { rule_of result ≡ short_option id.entry.now letter }
-    ensures local { result.global ≡ false }
-{
-    Arg::new(alloc, id).short(letter).value_name(value)
-}
-
 fn long_option<'a>(alloc: Global, id: &'a str, value: &'a str) -> Arg<'a>
     ensures rule { rule_of result ≡ long_option id.entry.now }
     ensures local { result.global ≡ false }
 {
     Arg::new(alloc, id).long(id).value_name(value)
+}
+
+/// The option `-x VALUE`, `--word VALUE` in its long form.
+pub fn lettered_option<'a>(alloc: Global, id: &'a str, letter: char, value: &'a str) -> Arg<'a>
+    ensures rule { rule_of result ≡ lettered_option id.entry.now letter }
+    ensures local { result.global ≡ false }
+{
+    long_option(alloc, id, value).short(letter)
 }
 
 fn number_option<'a>(alloc: Global, id: &'a str, least: u32, most: u32) -> Arg<'a>
@@ -94,18 +96,19 @@ fn number_option<'a>(alloc: Global, id: &'a str, least: u32, most: u32) -> Arg<'
     long_option(alloc, id, "N").value_parser(range)
 }
 
-fn long_flag<'a>(alloc: Global, id: &'a str) -> Arg<'a>
+/// The flag `--word`.
+pub fn long_flag<'a>(alloc: Global, id: &'a str) -> Arg<'a>
     ensures rule { rule_of result ≡ long_flag id.entry.now }
     ensures local { result.global ≡ false }
 {
     Arg::new(alloc, id).long(id).action(ArgAction::SetTrue)
 }
 
-fn short_flag<'a>(alloc: Global, id: &'a str, letter: char) -> Arg<'a>
-    ensures rule { rule_of result ≡ short_flag id.entry.now letter }
+fn lettered_flag<'a>(alloc: Global, id: &'a str, letter: char) -> Arg<'a>
+    ensures rule { rule_of result ≡ lettered_flag id.entry.now letter }
     ensures local { result.global ≡ false }
 {
-    Arg::new(alloc, id).short(letter).action(ArgAction::SetTrue)
+    long_flag(alloc, id).short(letter)
 }
 
 fn one<'a>(alloc: Global, id: &'a str, value: &'a str) -> Arg<'a>
@@ -115,7 +118,8 @@ fn one<'a>(alloc: Global, id: &'a str, value: &'a str) -> Arg<'a>
     Arg::new(alloc, id).value_name(value)
 }
 
-fn many<'a>(alloc: Global, id: &'a str, value: &'a str) -> Arg<'a>
+/// The words `[NAME]..`.
+pub fn many<'a>(alloc: Global, id: &'a str, value: &'a str) -> Arg<'a>
     ensures rule { rule_of result ≡ many id.entry.now }
     ensures local { result.global ≡ false }
 {
@@ -131,7 +135,7 @@ fn subcommand<'a>(
 ) -> Result<Command<'a>, AllocError>
     ensures { IfOk result (IsMade (subcommand name.entry.now)) }
 {
-    let config = short_option(alloc, "config", 'c', "FILE").help(
+    let config = lettered_option(alloc, "config", 'c', "FILE").help(
         "Configuration, at most 1048576 bytes [default: /etc/fw_env.config]",
     );
     let order = long_flag(alloc, "big-endian").help(
@@ -144,12 +148,18 @@ fn subcommand<'a>(
         .arg(order)
 }
 
+/// The flag for a value without its name, which has a second long name.
+fn no_header<'a>(alloc: Global) -> Result<Arg<'a>, AllocError>
+    ensures { IfOk result (λ flag. (rule_of flag ≡ no_header) × (flag.global ≡ false)) }
+{
+    lettered_flag(alloc, "noheader", 'n')
+        .help("Print the value alone, of exactly one NAME [default: NAME=VALUE]")
+        .alias("no-header")
+}
+
 fn printenv<'a>(alloc: Global) -> Result<Command<'a>, AllocError>
     ensures { IfOk result (IsMade printenv) }
 {
-    let no_header = short_flag(alloc, "no-header", 'n').help(
-        "Print the value alone, of exactly one NAME [default: NAME=VALUE]",
-    );
     let names = many(alloc, "names", "NAME").help(
         "Variables to print, in this order [default: all of the image]",
     );
@@ -159,14 +169,14 @@ fn printenv<'a>(alloc: Global) -> Result<Command<'a>, AllocError>
         "Print variables of the environment",
         PRINTENV_NOTES,
     )?
-    .arg(no_header)?
+    .arg(no_header(alloc)?)?
     .arg(names)
 }
 
 fn setenv<'a>(alloc: Global) -> Result<Command<'a>, AllocError>
     ensures { IfOk result (IsMade setenv) }
 {
-    let script = short_option(alloc, "script", 's', "FILE").help(
+    let script = lettered_option(alloc, "script", 's', "FILE").help(
         "Script of changes, at most 1048576 bytes [default: none, NAME instead]",
     );
     let name = one(alloc, "name", "NAME").help("Variable to set or delete");
@@ -188,7 +198,7 @@ fn device_list<'a>(alloc: Global) -> Arg<'a>
     ensures rule { rule_of result ≡ device_list }
     ensures local { result.global ≡ false }
 {
-    short_option(alloc, "device-list", 'd', "FILE")
+    lettered_option(alloc, "device-list", 'd', "FILE")
         .required(true)
         .help("Device list, at most 1048576 bytes: a command that may fail a line; required")
 }
@@ -196,7 +206,7 @@ fn device_list<'a>(alloc: Global) -> Arg<'a>
 fn rehearse_options<'a>(alloc: Global) -> Result<Command<'a>, AllocError>
     ensures { IfOk result (IsMade rehearse_options) }
 {
-    let variable = short_option(alloc, "variable", 'b', "NAME").help(
+    let variable = lettered_option(alloc, "variable", 'b', "NAME").help(
         "Variable whose text is run [default: bootcmd]",
     );
     let devices = number_option(alloc, "devices", 0, DEVICES_MAX).help(
@@ -239,6 +249,8 @@ pub(crate) fn ubtool<'a>(alloc: Global) -> Result<Command<'a>, AllocError>
     Command::new(alloc, "ubtool")
         .about("Print and change U-Boot environments, and rehearse their boot scripts")
         .after_help(UBTOOL_NOTES)
+        .version(VERSION)
+        .propagate_version(true)
         .bin_name("ubtool")?
         .no_binary_name(true)
         .subcommand_required(true)

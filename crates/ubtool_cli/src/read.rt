@@ -6,8 +6,8 @@ ghost use Rattle.ubtool_cli.specs.declared.ask.UseError.TheVariants.{Memory};
 ghost use Rattle.ubtool_cli.specs.Answers.{Answers, IsUnread, Reports, Says};
 
 use crate::ask::{
-    Ask, Change, DEFAULT_CONFIG, DEFAULT_DEVICES, DEFAULT_STEPS, DEFAULT_VARIABLE, RehearseAsk,
-    UseError,
+    Ask, Change, DEFAULT_CONFIG, DEFAULT_DEVICES, DEFAULT_STEPS, DEFAULT_VARIABLE, PrintAsk,
+    RehearseAsk, UseError,
 };
 use crate::command::ubtool;
 use clap::ArgMatches;
@@ -39,7 +39,11 @@ fn text_of(alloc: Global, matches: &ArgMatches<'_>, id: &str) -> Result<Option<S
 }
 
 /// All the values of an argument, in their order.
-fn texts_of(alloc: Global, matches: &ArgMatches<'_>, id: &str) -> Result<Vec<String>, AllocError>
+pub fn texts_of(
+    alloc: Global,
+    matches: &ArgMatches<'_>,
+    id: &str,
+) -> Result<Vec<String>, AllocError>
     ensures { IfOk result (λ v. map string_bytes v.items
         ≡ values_of id.now (rows_of (found_of matches.now))) }
 {
@@ -80,7 +84,7 @@ fn number_within(matches: &ArgMatches<'_>, id: &str, least: u32, most: u32) -> O
 }
 
 /// The path of the configuration.
-fn config_of(alloc: Global, matches: &ArgMatches<'_>) -> Result<String, AllocError>
+pub fn config_of(alloc: Global, matches: &ArgMatches<'_>) -> Result<String, AllocError>
     ensures { IfOk result (λ t. string_bytes t ≡ config_of (rows_of (found_of matches.now))) }
 {
     match text_of(alloc, matches, "config")? {
@@ -90,7 +94,7 @@ fn config_of(alloc: Global, matches: &ArgMatches<'_>) -> Result<String, AllocErr
 }
 
 /// How the CRC of the image is stored.
-fn order_of(matches: &ArgMatches<'_>) -> ByteOrder
+pub fn order_of(matches: &ArgMatches<'_>) -> ByteOrder
     ensures { result ≡ order_of (rows_of (found_of matches.now)) }
 {
     if is_set(matches, "big-endian") {
@@ -106,14 +110,17 @@ fn print_ask(alloc: Global, matches: &ArgMatches<'_>) -> Result<Ask, UseError>
     ensures { Says (Some (print_asked (rows_of (found_of matches.now)))) result }
 {
     let names = texts_of(alloc, matches, "names")?;
-    let no_header = is_set(matches, "no-header");
+    let no_header = is_set(matches, "noheader");
     if no_header && names.len() != 1 {
         return Err(UseError::HeaderNeedsOne);
     }
+    let what = PrintAsk {
+        names,
+        header: !no_header,
+    };
     Ok(Ask::Print {
         config: config_of(alloc, matches)?,
-        header: !no_header,
-        names,
+        what,
         order: order_of(matches),
     })
 }
@@ -208,13 +215,14 @@ fn ask_of(alloc: Global, matches: &ArgMatches<'_>) -> Result<Ask, UseError>
     }
 }
 
-/// The answer where `clap` refuses the words, or shows its help.
+/// The answer where `clap` refuses the words, or shows its help or the version.
 fn report(alloc: Global, error: &clap::Error) -> Result<Ask, UseError>
     ensures { Reports (kind_of error.now) result }
 {
     match error.kind() {
         ErrorKind::OutOfMemory => Err(UseError::Memory),
         ErrorKind::DisplayHelp => Ok(Ask::Help(error.to_string(alloc)?)),
+        ErrorKind::DisplayVersion => Ok(Ask::Version),
         _ => Err(UseError::Line(error.to_string(alloc)?)),
     }
 }

@@ -1,5 +1,5 @@
 //! What no clause says: that a call succeeds, and the texts.
-use crate::{Ask, read_command};
+use crate::{Ask, read_command, words_called};
 use envimage::ByteOrder;
 use std::alloc::AllocError;
 use std::test::Fail;
@@ -16,6 +16,30 @@ fn answer(rt: &HostRuntime, line: &str) -> Result<String, AllocError> {
         Ok(ask) => format!(in alloc; "{ask:?}"),
         Err(error) => error.to_string(alloc),
     }
+}
+
+#[test]
+fn is_called_by_other_names(rt: HostRuntime) -> Result<(), Fail> {
+    let table = [
+        ("/usr/bin/fw_printenv", "printenv"),
+        ("fw_printenv -n a", "printenv -n a"),
+        ("./fw_setenv a 1", "setenv a 1"),
+        ("/usr/bin/ubtool printenv", "printenv"),
+        ("ubtool", ""),
+        ("xfw_printenv a", "a"),
+        ("fw_printenv/ a", "a"),
+        ("/fw_setenv/fw_printenv2 a", "a"),
+        ("", ""),
+    ];
+    for (line, wanted) in table {
+        let mut args = Vec::new(rt.alloc());
+        for word in line.split_whitespace() {
+            args.push(String::from_str(rt.alloc(), word)?)?;
+        }
+        let words = words_called(args)?.join(rt.alloc(), " ")?;
+        assert_eq!(rt; words.as_str(), wanted, "for {line}");
+    }
+    Ok(())
 }
 
 #[test]
@@ -48,15 +72,15 @@ fn reads_each_subcommand(rt: HostRuntime) -> Result<(), Fail> {
     let table = [
         (
             "printenv",
-            "Print { config: \"/etc/fw_env.config\", header: true, names: [], order: Little }",
+            "Print { config: \"/etc/fw_env.config\", what: PrintAsk { names: [], header: true }, order: Little }",
         ),
         (
             "printenv -- -x",
-            "Print { config: \"/etc/fw_env.config\", header: true, names: [\"-x\"], order: Little }",
+            "Print { config: \"/etc/fw_env.config\", what: PrintAsk { names: [\"-x\"], header: true }, order: Little }",
         ),
         (
             "printenv -c - -n --big-endian b",
-            "Print { config: \"-\", header: false, names: [\"b\"], order: Big }",
+            "Print { config: \"-\", what: PrintAsk { names: [\"b\"], header: false }, order: Big }",
         ),
         (
             "setenv a 1 2",
@@ -71,9 +95,30 @@ fn reads_each_subcommand(rt: HostRuntime) -> Result<(), Fail> {
             "Setenv { config: \"g\", change: Script(\"f\"), order: Little }",
         ),
         (
+            "printenv --config=g --noheader b",
+            "Print { config: \"g\", what: PrintAsk { names: [\"b\"], header: false }, order: Little }",
+        ),
+        (
+            "printenv --no-header --config g b",
+            "Print { config: \"g\", what: PrintAsk { names: [\"b\"], header: false }, order: Little }",
+        ),
+        (
+            "setenv --script f --config g",
+            "Setenv { config: \"g\", change: Script(\"f\"), order: Little }",
+        ),
+        (
             "rehearse -d d -b q --devices 32 --steps 0 --after . --limit 4294967295 --big-endian",
             "Rehearse { config: \"/etc/fw_env.config\", devices_file: \"d\", what: RehearseAsk { name: \"q\", bounds: Bounds { devices: 32, steps: 0 }, after: Some(\".\"), limit: Some(4294967295), names: [] }, order: Big }",
         ),
+        (
+            "rehearse --device-list d --variable q --config g",
+            "Rehearse { config: \"g\", devices_file: \"d\", what: RehearseAsk { name: \"q\", bounds: Bounds { devices: 16, steps: 10000 }, after: None, limit: None, names: [] }, order: Little }",
+        ),
+        ("--version", "Version"),
+        ("-V", "Version"),
+        ("printenv --version", "Version"),
+        ("setenv a -V", "Version"),
+        ("rehearse --version", "Version"),
     ];
     for (line, wanted) in table {
         let given = answer(&rt, line)?;
@@ -107,6 +152,10 @@ fn leaves_the_rest_to_clap(rt: HostRuntime) -> Result<(), Fail> {
         "load",
         "printenv -x",
         "printenv -n -n a",
+        "printenv -n --noheader a",
+        "printenv --config",
+        "printenv --conf f",
+        "--version=1",
         "setenv -s f -s g",
         "rehearse",
         "rehearse -d d --devices 33",
@@ -147,12 +196,16 @@ fn helps(rt: HostRuntime) -> Result<(), Fail> {
             "setenv --help",
             "Usage: ubtool setenv [OPTIONS] [NAME] [VALUE]...\n",
         ),
-        ("setenv --help", "  -s <FILE> "),
+        ("printenv --help", "  -c, --config <FILE> "),
+        ("printenv --help", "  -n, --noheader "),
+        ("setenv --help", "  -s, --script <FILE> "),
         ("setenv --help", "\n  ubtool setenv bootdelay 3\n"),
         (
             "rehearse -h",
-            "Usage: ubtool rehearse [OPTIONS] -d <FILE> [NAME]...\n",
+            "Usage: ubtool rehearse [OPTIONS] --device-list <FILE> [NAME]...\n",
         ),
+        ("rehearse -h", "  -d, --device-list <FILE> "),
+        ("rehearse -h", "  -b, --variable <NAME> "),
         ("rehearse -h", "[default: bootcmd]"),
         ("rehearse -h", "0 to 32 [default: 16]"),
         ("rehearse -h", "0 to 1000000 [default: 10000]"),

@@ -1,0 +1,22 @@
+-- The words that the program reads, by the name that it was called by. The names are those of U-Boot's
+-- tools (tools/env README); that the last part of the path decides is ours.
+use Rattle.std.specs.Prelude.{◌==◌, ◌++◌, List, [], ◌∷◌, Option, Some, None, codes, if◌then◌else◌}
+use Rattle.std.specs.Prelude.{option_to_list}
+use Rattle.std.specs.List.{after_last}
+use Rattle.std.specs.Str.{bytes_eq}
+use Rattle.clap.specs.Words.{Text}
+
+-- what stands behind the last slash of a path, or all of it
+abbrev pub last_part : Text → Text
+last_part path = after_last (λ c. c == 47) path
+
+-- the subcommand that a program of this name stands for
+abbrev pub subcommand_called : Text → Option Text
+subcommand_called name =
+    if bytes_eq name (codes "fw_printenv") then Some (codes "printenv")
+    else (if bytes_eq name (codes "fw_setenv") then Some (codes "setenv") else None)
+
+-- of the path and the words behind it: these words, behind the subcommand that the path stands for
+abbrev pub words_called : List Text → List Text
+words_called [] = []
+words_called (path ∷ words) = option_to_list (subcommand_called (last_part path)) ++ words
