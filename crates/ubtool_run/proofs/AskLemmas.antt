@@ -11,7 +11,7 @@ use Rattle.ubtool_cli.specs.Answers.{Answers, asked, meaning_of}
 use Rattle.ubtool_cli.specs.Asked.{Asked, asked_of, bounds_asked, change_asked, config_of, header_needs_one, is_set, number_within, order_of, print_asked, printing, rehearsal_with, rehearse_asked, set_asked, values_of}
 use Rattle.ubtool_cli.specs.CommandLine.{ubtool}
 use Rattle.ubtool_cli.specs.declared.ask.Ask.{Ask}
-use Rattle.ubtool_cli.specs.declared.ask.Ask.TheVariants.{Help, Print, Rehearse, Setenv}
+use Rattle.ubtool_cli.specs.declared.ask.Ask.TheVariants.{Help, Print, Rehearse, Setenv, Version}
 use Rattle.ubtool_run.specs.Asking.{IsComplete}
 
 -- a value without its name is asked for of one name
@@ -47,7 +47,7 @@ asked-fit words = by (subcommand_of ubtool words)
     of : (name : Text) (rows : List Row) → IsFit (asked_of name rows)
     of name rows =
         let names = values_of (codes "names") rows in
-        let printed = print-fit (is_set (codes "no-header") rows) (length names == 1) (config_of rows) names (order_of rows) refl in
+        let printed = print-fit (is_set (codes "noheader") rows) (length names == 1) (config_of rows) names (order_of rows) refl in
         let set = set-fit (first_of (codes "script") rows) (first_of (codes "name") rows) rows in
         let rehearsed = rehearse-fit (first_of (codes "device-list") rows) (bounds_asked rows) (number_within 1 4294967295 (codes "limit") rows) rows in
         let last = either (bytes_eq name (codes "rehearse")) (rehearse_asked rows) None rehearsed tt in
@@ -61,9 +61,10 @@ asked-fit words = by (subcommand_of ubtool words)
 
 -- what was asked for is complete
 pub answer-complete : (words : List Text) (ask : Ask) → Answers words (Ok ask) → IsComplete ask
-answer-complete words (Print config header names order) h =
-    let fit : IsFit (meaning_of (Print config header names order)) = subst IsFit (sym h.1) (asked-fit words) in
-    λ none. sym (length-map names.items string_bytes) ∙ fit none
+answer-complete words (Print config what order) h =
+    let fit : IsFit (meaning_of (Print config what order)) = subst IsFit (sym h.1) (asked-fit words) in
+    λ none. sym (length-map what.names.items string_bytes) ∙ fit none
 answer-complete words (Setenv config change order) h = tt
 answer-complete words (Rehearse config list what order) h = tt
 answer-complete words (Help text) h = tt
+answer-complete words Version h = tt

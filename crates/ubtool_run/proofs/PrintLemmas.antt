@@ -2,16 +2,29 @@
 use Rattle.std.proofs.Common.{◌≡◌, ℕ, Bool, List, Option, Some, None, Ok, Err, refl}
 use Rattle.std.specs.Prelude.{Result, option_map}
 use Rattle.envimage.specs.declared.image.ByteOrder.{ByteOrder}
-use Rattle.ubtool_core.specs.Printing.{Outputs}
+use Rattle.ubtool_core.specs.Printing.{Outputs, Prints}
 use Rattle.ubtool_core.specs.Told.{Told}
+use Rattle.ubtool_core.specs.declared.error.ToolError.{ToolError}
 use Rattle.ubtool_core.specs.declared.error.ToolError.TheVariants.{Image, Env, Script, Devices, NoSuchVariable, NotARun, Write, Memory}
 use Rattle.ubtool_core.specs.declared.fault.Fault.{Fault}
 use Rattle.ubtool_core.specs.declared.fault.Fault.TheVariants as fault
 use Rattle.ubtool_run.proofs.ReadingLemmas.{found-reads}
 use Rattle.ubtool_run.specs.Images.{Copy, HasRead, ReadsImages, copies}
-use Rattle.ubtool_run.specs.Printing.{PrintsCopies, PrintsFrom, second_bytes}
+use Rattle.ubtool_run.specs.Printing.{PrintsCopies, PrintsFrom, environment, second_bytes}
 use Rattle.ubtool_run.specs.declared.images.Images.{Images}
 use Rattle.ubtool_run.specs.declared.read.StoredCopy.{StoredCopy}
+
+-- a refusal of printing, told as a fault
+pub copies-refused : (order : ByteOrder) (found : List Copy) (names : List (List ℕ)) (header : Bool) (outputs : Outputs) (error : ToolError)
+    → Prints (environment order found) names header outputs (Err error) → PrintsCopies order found names header outputs (Err (fault.Tool error))
+copies-refused order found names header outputs (Image error) h = h
+copies-refused order found names header outputs Write h = h
+copies-refused order found names header outputs Memory h = h.1
+copies-refused order found names header outputs (Env error) h = absurd h
+copies-refused order found names header outputs (Script error) h = absurd h
+copies-refused order found names header outputs (Devices error) h = absurd h
+copies-refused order found names header outputs NoSuchVariable h = absurd h
+copies-refused order found names header outputs NotARun h = absurd h
 
 -- images that were refused
 pub prints-unread : (order : ByteOrder) (config : List ℕ) (names : List (List ℕ)) (header : Bool) (outputs : Outputs) (old new : Told) (f : Fault) → ReadsImages config old new (Err f)

@@ -4,7 +4,7 @@ use Rattle.std.specs.Prelude.{Result}
 use Rattle.envimage.specs.Sink.{Sink}
 use Rattle.ubtool_cli.specs.Answers.{Answers}
 use Rattle.ubtool_cli.specs.declared.ask.Ask.{Ask}
-use Rattle.ubtool_core.specs.Printing.{Outputs}
+use Rattle.ubtool_core.specs.Printing.{outputs}
 use Rattle.ubtool_core.specs.Told.{Told}
 use Rattle.ubtool_core.specs.declared.fault.Fault.{Fault}
 use Rattle.ubtool_run.specs.Asking.{Does}
@@ -14,10 +14,6 @@ use Rattle.ubtool_run.specs.Running.{Ends, FilesSeen, HasDone, HasRefused}
 -- the files at a moment
 abbrev files : ℕ → Option Told → FilesSeen
 files faults told = record { faults = faults; told = told }
-
--- the outputs of a call
-abbrev outputs : Sink → Sink → Sink → Sink → Outputs
-outputs out out' err err' = record { out = out; out' = out'; err = err; err' = err' }
 
 pub status-done : (words : List (List ℕ)) (ask : Ask) (faults faults' : ℕ) (before after : Option Told) (out out' err told err' : Sink) (answer : Result Bool Fault) (status : ℕ)
     → Answers words (Ok ask) → CountsTold faults faults' answer → Does ask before after (outputs out out' err told) answer → Ends answer told err' status → status ≡ 0

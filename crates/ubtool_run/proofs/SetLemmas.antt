@@ -7,13 +7,16 @@ use Rattle.envimage.specs.declared.image.Which.{Which}
 use Rattle.ubtool_cli.specs.declared.ask.Change.{Change}
 use Rattle.ubtool_cli.specs.declared.ask.Change.TheVariants.{One, Script}
 use Rattle.ubtool_core.proofs.OrderLemmas.{OnlyReads-then}
+use Rattle.ubtool_core.proofs.SettingLemmas.{set-safe}
 use Rattle.ubtool_core.specs.Order.{OnlyReads, are_reads}
+use Rattle.ubtool_core.specs.Setting.{IsSafe}
 use Rattle.ubtool_core.specs.Told.{Stored, Told}
 use Rattle.ubtool_core.specs.declared.fault.Fault.{Fault}
 use Rattle.ubtool_core.specs.declared.fault.Fault.TheVariants as fault
 use Rattle.ubtool_core.specs.declared.word_form.WordForm.{WordForm}
 use Rattle.ubtool_run.proofs.ReadingLemmas.{found-reads}
 use Rattle.ubtool_run.specs.Images.{Copy, HasRead, ReadsImages}
+use Rattle.ubtool_run.specs.Printing.{first_bytes, second_bytes}
 use Rattle.ubtool_run.specs.Setting.{Edits, HasEdited, IsChangeFault, IsRefusedChange, Sets, WritesCopy, reads_of}
 
 -- a change that was made only reads
@@ -65,13 +68,18 @@ sets-refused order config change found x y z (fault.NoSuchVariable name) read h 
 sets-refused order config change found x y z (fault.NotARun word) read h = let c = refused-change order config change found x y z (fault.NotARun word) read h in (c.0, inr c.1)
 sets-refused order config change found x y z fault.Memory read h = (OnlyReads-then x y z (found-reads config x y found read) h.0, tt)
 
+-- the bytes of a change that was made, written in part
+changed-safe : (order : ByteOrder) (change : Change) (found : List Copy) (old new : Told) (which : Which) (bytes : List ℕ) → HasEdited order change found old new which bytes
+    → IsSafe order (first_bytes found) (second_bytes found) which bytes
+changed-safe order change found old new which bytes made = set-safe order (first_bytes found) (second_bytes found) made.edit which bytes made.made
+
 -- a change that was made, and the write of the copy
 pub sets-written : (order : ByteOrder) (config : List ℕ) (change : Change) (found : List Copy) (which : Which) (bytes : Vec ℕ Global) (x y z w : Told) (r : Result (Unit {0}) Fault)
     → HasRead config x y found → Edits order change found y z (Ok (which, bytes)) → WritesCopy which found bytes.items z w r → Sets order config change x w r
 sets-written order config change found which bytes x y z w (Ok done) read made h =
-    record { found = found; which = which; bytes = bytes.items; after_images = y; read = read; after_change = z; edited = made; written = h }
+    record { found = found; which = which; bytes = bytes.items; after_images = y; read = read; after_change = z; edited = made; safe = changed-safe order change found y z which bytes.items made; written = h }
 sets-written order config change found which bytes x y z w (Err (fault.CannotWrite path)) read made h =
-    record { found = found; which = which; bytes = bytes.items; after_images = y; read = read; after_change = z; edited = made; written = h }
+    record { found = found; which = which; bytes = bytes.items; after_images = y; read = read; after_change = z; edited = made; safe = changed-safe order change found y z which bytes.items made; written = h }
 sets-written order config change found which bytes x y z w (Err fault.Memory) read made h =
     (OnlyReads-then x z w (OnlyReads-then x y z (found-reads config x y found read) (edit-reads order change found y z which bytes.items made)) h, tt)
 sets-written order config change found which bytes x y z w (Err (fault.Config error)) read made h = absurd h

@@ -1,11 +1,12 @@
 -- What is done for what is asked, on files that tell what stands in them.
 -- The subcommands follow fw_printenv and fw_setenv (U-Boot, tools/env README); the rehearsal is ours.
-use Rattle.std.specs.Prelude.{◌≡◌, ℕ, Bool, true, false, List, length, map, Option, Result, Ok, Err, string_bytes}
+use Rattle.std.specs.Prelude.{◌≡◌, ◌++◌, ℕ, Bool, true, false, List, [], ◌∷◌, codes, length, map, Option, Result, Ok, Err, string_bytes}
 use Rattle.envimage.specs.Sink.{BrokeOff, Sink, Wrote}
 use Rattle.envimage.specs.declared.image.ByteOrder.{ByteOrder}
 use Rattle.ubtool_cli.specs.declared.ask.Ask.{Ask}
-use Rattle.ubtool_cli.specs.declared.ask.Ask.TheVariants.{Help, Print, Rehearse, Setenv}
+use Rattle.ubtool_cli.specs.declared.ask.Ask.TheVariants.{Help, Print, Rehearse, Setenv, Version}
 use Rattle.ubtool_cli.specs.declared.ask.Change.{Change}
+use Rattle.ubtool_cli.specs.declared.ask.TheConstants.{VERSION}
 use Rattle.ubtool_core.specs.Printing.{AreUnchanged, Outputs}
 use Rattle.ubtool_core.specs.Told.{IfTold, Told}
 use Rattle.ubtool_core.specs.declared.error.ToolError.TheVariants.{Write}
@@ -17,10 +18,14 @@ use Rattle.ubtool_run.specs.Setting.{Sets}
 
 -- a value without its name is asked for of one name
 abbrev pub IsComplete : Ask → Type 0
-IsComplete (Print config header names order) = header ≡ false → length names.items ≡ 1
+IsComplete (Print config what order) = what.header ≡ false → length what.names.items ≡ 1
 IsComplete ask = Unit {0}
 
--- the help text was written, or its output failed inside it
+-- the line that tells the version
+abbrev pub version_line : List ℕ
+version_line = codes "ubtool " ++ VERSION.now ++ 10 ∷ []
+
+-- the text was written, of the help or the version, or its output failed inside it
 abbrev pub Helps : List ℕ → Sink → Sink → Result Bool Fault → Type 0
 Helps text old new (Ok all) = (all ≡ true) × Wrote old new text
 Helps text old new (Err (Tool Write)) = BrokeOff old new text
@@ -33,9 +38,9 @@ SetsOf order config change old new (Err fault) = Sets order config change old ne
 
 -- What doing it comes to: with the files from before to after, and on the outputs.
 abbrev pub Does : Ask → Option Told → Option Told → Outputs → Result Bool Fault → Type 0
-Does (Print config header names order) before after outputs result =
+Does (Print config what order) before after outputs result =
     IfTold before after (λ old new.
-    PrintsFrom order (string_bytes config) (map string_bytes names.items) header outputs old new result)
+    PrintsFrom order (string_bytes config) (map string_bytes what.names.items) what.header outputs old new result)
     × LeavesOutputs result outputs
 Does (Setenv config change order) before after outputs result =
     IfTold before after (λ old new. SetsOf order (string_bytes config) change old new result)
@@ -47,4 +52,7 @@ Does (Rehearse config device_list what order) before after outputs result =
     × (outputs.err' ≡ outputs.err)
 Does (Help text) before after outputs result =
     Helps (string_bytes text) outputs.out outputs.out' result
+    × ((after ≡ before) × (outputs.err' ≡ outputs.err))
+Does Version before after outputs result =
+    Helps version_line outputs.out outputs.out' result
     × ((after ≡ before) × (outputs.err' ≡ outputs.err))

@@ -6,7 +6,7 @@ use Rattle.envimage.specs.Place.{place_shown, AnswersPlaces}
 use Rattle.envimage.specs.declared.config.ConfigError.{ConfigError}
 use Rattle.envimage.specs.declared.config.Place.{Place}
 use Rattle.ubtool_core.specs.Order.{OnlyReads}
-use Rattle.ubtool_core.specs.Told.{Stored, Told, file_at}
+use Rattle.ubtool_core.specs.Told.{Stored, Told, file_at, read_limit}
 use Rattle.ubtool_core.specs.declared.fault.Fault.{Fault}
 use Rattle.ubtool_core.specs.declared.fault.Fault.TheVariants.{CannotRead, Config, FileShort, FileTooLong, Memory}
 use Rattle.ubtool_core.specs.declared.files.Action.TheVariants.{ReadAll}
@@ -63,7 +63,8 @@ SomeIsShort stored [] = ⊥
 SomeIsShort stored (place ∷ more) = IsShort stored place ⊎ SomeIsShort stored more
 
 -- The configuration's text is there, and says this.
-pub record FromConfig (config : List ℕ) (stored : Stored) (Says : Result (List PlaceShown) ConfigError → Type 0) : Type 0 where
+pub record FromConfig (config : List ℕ) (stored : Stored) (Says : Result (List PlaceShown) ConfigError →
+    Type 0) : Type 0 where
   pub text : List ℕ
   pub there : file_at config stored ≡ Some text
   pub says : Says (places text)
@@ -73,7 +74,7 @@ pub record FromConfig (config : List ℕ) (stored : Stored) (Says : Result (List
 abbrev pub IsImagesFault : List ℕ → Stored → Fault → Type 0
 IsImagesFault config stored (CannotRead path) = Unit {0}
 IsImagesFault config stored Memory = Unit {0}
-IsImagesFault config stored (FileTooLong path) = IsSomeAnd (file_at config stored) (λ all. 1048576 < length all)
+IsImagesFault config stored (FileTooLong path) = IsSomeAnd (file_at config stored) (λ all. read_limit < length all)
 IsImagesFault config stored (Config error) = FromConfig config stored (λ answer. AnswersPlaces answer (Err error))
 IsImagesFault config stored (FileShort path) =
     FromConfig config stored (λ answer. (named : List PlaceShown) × (answer ≡ Ok named) × SomeIsShort stored named)

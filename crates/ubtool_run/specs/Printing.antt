@@ -30,7 +30,8 @@ abbrev pub PrintsCopies : ByteOrder → List Copy → List (List ℕ) → Bool �
 PrintsCopies order found names header outputs (Ok all) = PrintsAll (environment order found) names header outputs all
 PrintsCopies order found names header outputs (Err (Tool (Image error))) =
     (environment order found ≡ Err error) × AreUnchanged outputs
-PrintsCopies order found names header outputs (Err (Tool Write)) = BreaksOff (environment order found) names header outputs
+PrintsCopies order found names header outputs (Err (Tool Write)) =
+    BreaksOff (environment order found) names header outputs
 PrintsCopies order found names header outputs (Err (Tool Memory)) = AreUnchanged outputs
 PrintsCopies order found names header outputs (Err fault) = ⊥
 
@@ -50,7 +51,8 @@ PrintsFrom order config names header outputs old new (Err (Tool (Image error))) 
 PrintsFrom order config names header outputs old new (Err (Tool Write)) =
     FromImages config old new (λ found. BreaksOff (environment order found) names header outputs)
 PrintsFrom order config names header outputs old new (Err (Tool Memory)) = OnlyReads old new
-PrintsFrom order config names header outputs old new (Err fault) = OnlyReads old new × IsImagesFault config old.stored fault
+PrintsFrom order config names header outputs old new (Err fault) = OnlyReads old new
+    × IsImagesFault config old.stored fault
 
 -- a refusal other than that of an output leaves both as they were
 abbrev pub LeavesOutputs : Result Bool Fault → Outputs → Type 0

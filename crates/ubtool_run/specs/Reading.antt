@@ -6,7 +6,7 @@ use Rattle.envimage.specs.Config.{PlaceShown}
 use Rattle.envimage.specs.Place.{place_shown}
 use Rattle.envimage.specs.declared.config.Place.{Place}
 use Rattle.ubtool_core.specs.Order.{OnlyReads}
-use Rattle.ubtool_core.specs.Told.{Stored, Told, file_at}
+use Rattle.ubtool_core.specs.Told.{Stored, Told, file_at, read_limit}
 use Rattle.ubtool_core.specs.declared.fault.Fault.{Fault}
 use Rattle.ubtool_core.specs.declared.fault.Fault.TheVariants.{CannotRead, FileShort, FileTooLong, Memory}
 use Rattle.ubtool_core.specs.declared.files.Action.{Action}
@@ -33,7 +33,7 @@ pub record Reads (call : List ℕ × Action) (there : Option (List ℕ)) (old ne
 -- why a whole file may be refused, from what stands in it
 abbrev pub IsTextFault : Option (List ℕ) → Fault → Type 0
 IsTextFault file (CannotRead path) = Unit {0}
-IsTextFault file (FileTooLong path) = IsSomeAnd file (λ all. 1048576 < length all)
+IsTextFault file (FileTooLong path) = IsSomeAnd file (λ all. read_limit < length all)
 IsTextFault file Memory = Unit {0}
 IsTextFault file _ = ⊥
 

@@ -1,4 +1,5 @@
--- What rehearsing the images of a configuration does, from files that tell what stands in them. The order of work is ours.
+-- What rehearsing the images of a configuration does, from files that tell what stands in them. The order of work is
+-- ours.
 use Rattle.std.specs.Prelude.{◌≡◌, ◌⊎◌, ℕ, Bool, true, List, map, Option, Some, None, option_map, Result, Ok, Err, string_bytes, String}
 use Rattle.std.specs.declared.alloc.Global.{Global}
 use Rattle.envimage.specs.Sink.{Sink, counted}
@@ -55,7 +56,8 @@ RehearsesCopies g old new (Err tool.Memory) = RunsOut g old new
 RehearsesCopies g old new (Err error) = Refuses g old new error
 
 -- The images were read, and then the device list, and this holds of what they give.
-pub record FromFiles (order : ByteOrder) (config device_list : List ℕ) (what : RehearseAsk) (old new : Told) (IsSo : Given → Type 0) : Type 0 where
+pub record FromFiles (order : ByteOrder) (config device_list : List ℕ) (what : RehearseAsk) (old new : Told)
+    (IsSo : Given → Type 0) : Type 0 where
   pub found : List Copy
   pub after_images : Told
   pub read : HasRead config old after_images found
@@ -70,23 +72,28 @@ pub record IsUnlisted (config device_list : List ℕ) (old : Told) (fault : Faul
   pub read : HasRead config old after_images found
   pub refused : IsTextFault (file_at device_list old.stored) fault
 
--- The images and the device list were read, and the whole listing was written; or the rehearsal is refused, the fault told by
--- what the words said; or a read is refused, and files were only read.
-abbrev pub RehearsesFrom : ByteOrder → (config device_list : List ℕ) → RehearseAsk → (out out' : Sink) → (old new : Told) → Result Bool Fault → Type 0
+-- The images and the device list were read, and the whole listing was written; or the rehearsal is refused, the fault
+-- told by what the words said; or a read is refused, and files were only read.
+abbrev pub RehearsesFrom : ByteOrder → (config device_list : List ℕ) → RehearseAsk → (out out' : Sink) →
+    (old new : Told) → Result Bool Fault → Type 0
 RehearsesFrom order config device_list what out out' old new (Ok all) =
-    (all ≡ true) × FromFiles order config device_list what old new (λ g. (finish : Finish) × Rehearses g out out' finish)
+    (all ≡ true) × FromFiles order config device_list what old new (λ g. (finish : Finish)
+    × Rehearses g out out' finish)
 RehearsesFrom order config device_list what out out' old new (Err (Tool tool.Memory)) =
     FromFiles order config device_list what old new (λ g. RunsOut g out out')
 RehearsesFrom order config device_list what out out' old new (Err (Tool error)) =
     FromFiles order config device_list what old new (λ g. Refuses g out out' error)
 RehearsesFrom order config device_list what out out' old new (Err (NoSuchVariable name)) =
-    (name ≡ path_form what.name) × FromFiles order config device_list what old new (λ g. Refuses g out out' tool.NoSuchVariable)
+    (name ≡ path_form what.name)
+    × FromFiles order config device_list what old new (λ g. Refuses g out out' tool.NoSuchVariable)
 RehearsesFrom order config device_list what out out' old new (Err (NotARun word)) =
-    (Some word ≡ option_map path_form what.after) × FromFiles order config device_list what old new (λ g. Refuses g out out' tool.NotARun)
+    (Some word ≡ option_map path_form what.after)
+    × FromFiles order config device_list what old new (λ g. Refuses g out out' tool.NotARun)
 RehearsesFrom order config device_list what out out' old new (Err fault) =
     OnlyReads old new × (IsImagesFault config old.stored fault ⊎ IsUnlisted config device_list old fault)
 
--- over any files: the output's failure is counted where it is told, and any refusal but that and memory leaves it as it was
+-- over any files: the output's failure is counted where it is told, and any refusal but that and memory leaves it as it
+-- was
 abbrev pub LeavesOutput : Result Bool Fault → (old new : Sink) → Type 0
 LeavesOutput (Ok all) old new = new.failures ≡ old.failures
 LeavesOutput (Err (Tool tool.Write)) old new = new.failures ≡ counted old.failures

@@ -8,6 +8,7 @@ use Rattle.ubtool_cli.specs.declared.ask.UseError.{UseError}
 use Rattle.ubtool_cli.specs.declared.ask.UseError.TheVariants.{Line}
 use Rattle.ubtool_core.specs.Printing.{Outputs}
 use Rattle.ubtool_core.specs.Told.{Told}
+use Rattle.ubtool_core.specs.declared.files.Files.{Ghosts}
 use Rattle.ubtool_core.specs.declared.fault.Fault.{Fault}
 use Rattle.ubtool_run.specs.Asking.{Does}
 use Rattle.ubtool_run.specs.Faults.{CountsTold}
@@ -17,6 +18,10 @@ use Rattle.ubtool_run.specs.Faults.{CountsTold}
 pub record FilesSeen : Type 0 where
   pub faults : ℕ
   pub told : Option Told
+
+-- what some files show
+abbrev pub files_seen : {F : Type 0} → Ghosts F → F → FilesSeen
+files_seen g files = record { faults = g.faults files; told = g.told files }
 
 -- Status 0: the words ask for something, and it was done; no call on files failed.
 pub record HasDone (words : List Text) (before after : FilesSeen) (outputs : Outputs) : Type 0 where
@@ -41,7 +46,7 @@ pub record HasRefused (words : List Text) (before after : FilesSeen) (outputs : 
   pub counts : CountsTold before.faults after.faults answer
   pub told_from : Sink
   pub told : TellsLast answer told_from outputs.err'
-  pub does : Does ask before.told after.told (record { out = outputs.out; out' = outputs.out'; err = outputs.err; err' = told_from }) answer
+  pub does : Does ask before.told after.told (record outputs { err' = told_from }) answer
 
 -- what is told where words are refused: what `clap` says, as it is, or its front where the output failed
 abbrev pub Tells : UseError → Sink → Sink → Type 0

@@ -9,7 +9,7 @@ use Rattle.envimage.specs.declared.image.Which.TheVariants.{First, Second}
 use Rattle.ubtool_cli.specs.declared.ask.Change.{Change}
 use Rattle.ubtool_cli.specs.declared.ask.Change.TheVariants.{One, Script}
 use Rattle.ubtool_core.specs.Order.{OnlyReads}
-use Rattle.ubtool_core.specs.Setting.{set_of}
+use Rattle.ubtool_core.specs.Setting.{IsSafe, set_of}
 use Rattle.ubtool_core.specs.Told.{Stored, Told, WritesAt, file_at}
 use Rattle.ubtool_core.specs.declared.change.Edit.{Edit}
 use Rattle.ubtool_core.specs.declared.change.Edit.TheVariants as edit
@@ -55,7 +55,8 @@ reads_of (One name words) = []
 reads_of (Script path) = (string_bytes path, ReadAll) ∷ []
 
 -- The change was made, in memory, of copies that were found.
-pub record HasEdited (order : ByteOrder) (change : Change) (found : List Copy) (old new : Told) (which : Which) (bytes : List ℕ) : Type 0 where
+pub record HasEdited (order : ByteOrder) (change : Change) (found : List Copy) (old new : Told) (which : Which)
+    (bytes : List ℕ) : Type 0 where
   pub edit : Edit
   pub says : IsEdit change old.stored edit
   pub made : edited order found edit ≡ Ok (which, bytes)
@@ -63,7 +64,8 @@ pub record HasEdited (order : ByteOrder) (change : Change) (found : List Copy) (
   pub stored : new.stored ≡ old.stored
 
 -- The change is refused, for what it says.
-pub record IsUnmade (order : ByteOrder) (change : Change) (found : List Copy) (stored : Stored) (error : ToolError) : Type 0 where
+pub record IsUnmade (order : ByteOrder) (change : Change) (found : List Copy) (stored : Stored) (error : ToolError) :
+    Type 0 where
   pub edit : Edit
   pub says : IsEdit change stored edit
   pub refusal : IsRefusal error (edited order found edit)
@@ -87,7 +89,8 @@ IsPlaceOf First (copy ∷ second ∷ more) place = place ≡ copy.0
 IsPlaceOf Second (copy ∷ second ∷ more) place = place ≡ second.0
 
 -- The bytes were written in the place of the copy, or that write was tried.
-pub record WritesIn (which : Which) (found : List Copy) (bytes : List ℕ) (old new : Told) (answer : Result (Unit {0}) FileFault) : Type 0 where
+pub record WritesIn (which : Which) (found : List Copy) (bytes : List ℕ) (old new : Told)
+    (answer : Result (Unit {0}) FileFault) : Type 0 where
   pub place : PlaceShown
   pub there : IsPlaceOf which found place
   pub writes : WritesAt place.device place.offset bytes old new answer
@@ -99,8 +102,10 @@ WritesCopy which found bytes old new (Err (CannotWrite path)) = WritesIn which f
 WritesCopy which found bytes old new (Err faults.Memory) = OnlyReads old new
 WritesCopy which found bytes old new (Err fault) = ⊥
 
--- The images were read, the change was made, and then one copy was written, or that write was tried.
-pub record HasSet (order : ByteOrder) (config : List ℕ) (change : Change) (old new : Told) (answer : Result (Unit {0}) FileFault) : Type 0 where
+-- The images were read, the change was made, and then one copy was written, or that write was tried. Of a pair,
+-- whatever front of the bytes came to stand there, loading gives what it gave before, or that copy is right.
+pub record HasSet (order : ByteOrder) (config : List ℕ) (change : Change) (old new : Told)
+    (answer : Result (Unit {0}) FileFault) : Type 0 where
   pub found : List Copy
   pub which : Which
   pub bytes : List ℕ
@@ -108,10 +113,12 @@ pub record HasSet (order : ByteOrder) (config : List ℕ) (change : Change) (old
   pub read : HasRead config old after_images found
   pub after_change : Told
   pub edited : HasEdited order change found after_images after_change which bytes
+  pub safe : IsSafe order (first_bytes found) (second_bytes found) which bytes
   pub written : WritesIn which found bytes after_change new answer
 
 -- The images were read, and the change of them is refused for this.
-pub record IsRefusedChange (order : ByteOrder) (config : List ℕ) (change : Change) (old : Told) (fault : Fault) : Type 0 where
+pub record IsRefusedChange (order : ByteOrder) (config : List ℕ) (change : Change) (old : Told) (fault : Fault) : Type
+    0 where
   pub found : List Copy
   pub after_images : Told
   pub read : HasRead config old after_images found
@@ -120,7 +127,8 @@ pub record IsRefusedChange (order : ByteOrder) (config : List ℕ) (change : Cha
 -- why nothing may be written: memory; or the images are refused, or the change of them
 abbrev pub IsSetFault : ByteOrder → List ℕ → Change → Told → Fault → Type 0
 IsSetFault order config change old faults.Memory = Unit {0}
-IsSetFault order config change old fault = IsImagesFault config old.stored fault ⊎ IsRefusedChange order config change old fault
+IsSetFault order config change old fault = IsImagesFault config old.stored fault
+    ⊎ IsRefusedChange order config change old fault
 
 -- the change was written; or its write failed; or it was refused, and files were only read
 abbrev pub Sets : ByteOrder → List ℕ → Change → Told → Told → Result (Unit {0}) Fault → Type 0

@@ -9,4 +9,7 @@ mod rehearsing;
 mod set;
 mod tool;
 
+pub use images::{Images, read_images};
+pub use print::slices_of;
+pub use read::StoredCopy;
 pub use tool::run_tool;

@@ -21,7 +21,7 @@ fn refusal_of(error: ToolError, what: RehearseAsk) -> Fault
     match (error, what.after) {
         (ToolError::NoSuchVariable, _) => Fault::NoSuchVariable(WordForm(what.name)),
         (ToolError::NotARun, Some(word)) => Fault::NotARun(WordForm(word)),
-        (error, _) => Fault::Tool(error),
+        (error, _) => error.into(),
     }
 }
 

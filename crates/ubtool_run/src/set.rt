@@ -24,10 +24,7 @@ fn edited_copy(
     ensures { IsEdited order (copies images.now) edit.entry result }
 {
     let second = images.second_bytes();
-    match set_bytes(alloc, &images.first.bytes, second, order, edit) {
-        Ok(written) => Ok(written),
-        Err(error) => Err(Fault::Tool(error)),
-    }
+    Ok(set_bytes(alloc, &images.first.bytes, second, order, edit)?)
 }
 
 /// Which copy of the images is to be written after a change, and its bytes. The text of a script is

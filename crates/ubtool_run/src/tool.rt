@@ -2,7 +2,8 @@
 ghost use Rattle.std.specs.Prelude.{◌≡◌, ◌<◌, ◌≤◌, [], length, map};
 ghost use Rattle.envimage.specs.Sink.{Wrote};
 ghost use Rattle.ubtool_core.specs.Input.{PrintsInput};
-ghost use Rattle.ubtool_run.specs.Running.{Ends, HasDone, HasRefused, IsMisused, Tells};
+ghost use Rattle.ubtool_core.specs.Printing.{outputs};
+ghost use Rattle.ubtool_run.specs.Running.{Ends, HasDone, HasRefused, IsMisused, Tells, files_seen};
 
 use crate::perform::perform;
 use envimage::{Out, write_all};
@@ -47,12 +48,12 @@ fn run_words<S: AsStr, F: Files, O: Out, E: Out>(
     err: &mut E,
 ) -> u8
     ensures status { result ≤ 2 }
-    ensures done { result ≡ 0 → HasDone (map S.text words.now) record { faults = F.faults files.old; told = F.told files.old } record { faults = F.faults files.new; told = F.told files.new }
-        record { out = O.sink out.old; out' = O.sink out.new; err = E.sink err.old; err' = E.sink err.new } }
-    ensures refused { result ≡ 1 → HasRefused (map S.text words.now) record { faults = F.faults files.old; told = F.told files.old } record { faults = F.faults files.new; told = F.told files.new }
-        record { out = O.sink out.old; out' = O.sink out.new; err = E.sink err.old; err' = E.sink err.new } }
-    ensures misused { result ≡ 2 → IsMisused (map S.text words.now) record { faults = F.faults files.old; told = F.told files.old } record { faults = F.faults files.new; told = F.told files.new }
-        record { out = O.sink out.old; out' = O.sink out.new; err = E.sink err.old; err' = E.sink err.new } }
+    ensures done { result ≡ 0 → HasDone (map S.text words.now) (files_seen F.Files files.old) (files_seen F.Files files.new)
+        (outputs (O.sink out.old) (O.sink out.new) (E.sink err.old) (E.sink err.new)) }
+    ensures refused { result ≡ 1 → HasRefused (map S.text words.now) (files_seen F.Files files.old) (files_seen F.Files files.new)
+        (outputs (O.sink out.old) (O.sink out.new) (E.sink err.old) (E.sink err.new)) }
+    ensures misused { result ≡ 2 → IsMisused (map S.text words.now) (files_seen F.Files files.old) (files_seen F.Files files.new)
+        (outputs (O.sink out.old) (O.sink out.new) (E.sink err.old) (E.sink err.new)) }
 {
     match read_command(alloc, words) {
         Ok(ask) => {
@@ -82,12 +83,12 @@ pub fn run_tool<S: AsStr, R: Read, F: Files, O: Out, E: Out>(
     ensures printed { length words.now ≡ 0 → result ≡ 0 → PrintsInput (R.remaining input.old) (O.sink out.old) (O.sink out.new) }
     ensures quiet { length words.now ≡ 0 → result ≡ 0 → Wrote (E.sink err.old) (E.sink err.new) [] }
     ensures untouched { length words.now ≡ 0 → (F.told files.new ≡ F.told files.old) × (F.faults files.new ≡ F.faults files.old) }
-    ensures done { 0 < length words.now → result ≡ 0 → HasDone (map S.text words.now) record { faults = F.faults files.old; told = F.told files.old } record { faults = F.faults files.new; told = F.told files.new }
-        record { out = O.sink out.old; out' = O.sink out.new; err = E.sink err.old; err' = E.sink err.new } }
-    ensures refused { 0 < length words.now → result ≡ 1 → HasRefused (map S.text words.now) record { faults = F.faults files.old; told = F.told files.old } record { faults = F.faults files.new; told = F.told files.new }
-        record { out = O.sink out.old; out' = O.sink out.new; err = E.sink err.old; err' = E.sink err.new } }
-    ensures misused { result ≡ 2 → IsMisused (map S.text words.now) record { faults = F.faults files.old; told = F.told files.old } record { faults = F.faults files.new; told = F.told files.new }
-        record { out = O.sink out.old; out' = O.sink out.new; err = E.sink err.old; err' = E.sink err.new } }
+    ensures done { 0 < length words.now → result ≡ 0 → HasDone (map S.text words.now) (files_seen F.Files files.old) (files_seen F.Files files.new)
+        (outputs (O.sink out.old) (O.sink out.new) (E.sink err.old) (E.sink err.new)) }
+    ensures refused { 0 < length words.now → result ≡ 1 → HasRefused (map S.text words.now) (files_seen F.Files files.old) (files_seen F.Files files.new)
+        (outputs (O.sink out.old) (O.sink out.new) (E.sink err.old) (E.sink err.new)) }
+    ensures misused { result ≡ 2 → IsMisused (map S.text words.now) (files_seen F.Files files.old) (files_seen F.Files files.new)
+        (outputs (O.sink out.old) (O.sink out.new) (E.sink err.old) (E.sink err.new)) }
 {
     if words.is_empty() {
         run_input(alloc, input, out, err)
