@@ -2,6 +2,8 @@
 #![tactic(auto)]
 
 #[cfg(test)]
+mod failing_once;
+#[cfg(test)]
 mod images;
 #[cfg(test)]
 mod outputs;

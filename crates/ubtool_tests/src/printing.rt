@@ -1,7 +1,7 @@
 use crate::writers::{Limited, Memory};
 use envimage::{ByteOrder, ImageError};
 use std::alloc::Global;
-use ubtool_core::{ToolError, print_bytes, run_input};
+use ubtool_core::{PrintAsk, ToolError, print_bytes, run_input};
 
 /// The image of `a=1`, nine bytes.
 const ONE: [u8; 9] = [0x3B, 0x06, 0x98, 0x45, 0x61, 0x3D, 0x31, 0x00, 0x00];
@@ -30,6 +30,12 @@ const COPY_BIG: [u8; 32] = [
     0x00, 0xff, 0xff, 0xff, 0xff, 0xff, 0xff, 0xff, 0xff, 0xff, 0xff, 0xff, 0xff, 0xff, 0xff, 0xff,
 ];
 
+/// `a=1`, `b=2` and `a=3`: the last value of `a` counts, in its first place.
+const TWICE: [u8; 17] = [
+    0xD2, 0x98, 0xEC, 0x6C, 0x61, 0x3D, 0x31, 0x00, 0x62, 0x3D, 0x32, 0x00, 0x61, 0x3D, 0x33, 0x00,
+    0x00,
+];
+
 /// What a call printed on its two outputs, and its answer.
 #[derive(Drop)]
 struct Printed {
@@ -47,7 +53,11 @@ fn print(
 ) -> Printed {
     let mut out = Memory::new(alloc);
     let mut err = Memory::new(alloc);
-    let answer = print_bytes(alloc, first, second, order, names, true, &mut out, &mut err);
+    let ask = PrintAsk {
+        names,
+        header: true,
+    };
+    let answer = print_bytes(alloc, first, second, order, &ask, &mut out, &mut err);
     Printed { answer, out, err }
 }
 
@@ -134,20 +144,36 @@ fn names_are_printed_in_the_order_asked(rt: HostRuntime) {
 }
 
 #[test]
+fn a_repeated_name_has_its_last_value(rt: HostRuntime) {
+    let printed = print(rt.alloc(), &TWICE, None, ByteOrder::Little, &[]);
+    assert_eq!(rt; printed.out.bytes.as_slice(), b"a=3\nb=2\n".as_slice());
+    let named = print(rt.alloc(), &TWICE, None, ByteOrder::Little, &[b"b", b"a"]);
+    assert_eq!(rt; named.answer, Ok(true));
+    assert_eq!(rt; named.out.bytes.as_slice(), b"b=2\na=3\n".as_slice());
+}
+
+#[test]
+fn many_names_are_printed_in_the_order_asked(rt: HostRuntime) {
+    let names: [&[u8]; 5] = [b"b", b"a", b"z", b"a", b"b"];
+    let Printed { answer, out, err } = print(rt.alloc(), &TWICE, None, ByteOrder::Little, &names);
+    assert_eq!(rt; answer, Ok(false));
+    assert_eq!(rt; out.bytes.as_slice(), b"b=2\na=3\na=3\nb=2\n".as_slice());
+    assert_eq!(rt;
+        err.bytes.as_slice(),
+        b"## Error: \"z\" not defined\n".as_slice()
+    );
+}
+
+#[test]
 fn a_value_is_printed_alone(rt: HostRuntime) {
     let mut out = Memory::new(rt.alloc());
     let mut err = Memory::new(rt.alloc());
     let little = ByteOrder::Little;
-    let answer = print_bytes(
-        rt.alloc(),
-        &ONE,
-        None,
-        little,
-        &[b"a"],
-        false,
-        &mut out,
-        &mut err,
-    );
+    let ask = PrintAsk {
+        names: &[b"a"],
+        header: false,
+    };
+    let answer = print_bytes(rt.alloc(), &ONE, None, little, &ask, &mut out, &mut err);
     assert_eq!(rt; answer, Ok(true));
     assert_eq!(rt; out.bytes.as_slice(), b"1\n".as_slice());
 }
@@ -161,16 +187,11 @@ fn a_failing_output_keeps_a_front_of_the_lines(rt: HostRuntime) {
         };
         let mut err = Memory::new(rt.alloc());
         let little = ByteOrder::Little;
-        let answer = print_bytes(
-            rt.alloc(),
-            &SINGLE,
-            None,
-            little,
-            &[],
-            true,
-            &mut out,
-            &mut err,
-        );
+        let ask = PrintAsk {
+            names: &[],
+            header: true,
+        };
+        let answer = print_bytes(rt.alloc(), &SINGLE, None, little, &ask, &mut out, &mut err);
         assert_eq!(rt; answer, Err(ToolError::Write));
         assert_eq!(rt; out.memory.bytes.as_slice(), &b"a=1\nb=x  y\n"[..room]);
         assert_eq!(rt; out.memory.failures, 1);

@@ -133,6 +133,22 @@ fn the_spare_copy_is_written(rt: HostRuntime) -> Result<(), Fail> {
     Ok(())
 }
 
+/// The last two bytes of the copy are what stood there, so that its front of eight is the whole copy.
+#[test]
+fn each_front_of_a_copy_leaves_the_old_or_the_new(rt: HostRuntime) -> Result<(), Fail> {
+    for front in 0..=10usize {
+        let mut image = Vec::new(rt.alloc());
+        image.extend_from_slice(&SET_PAIR[..front])?;
+        image.extend_from_slice(&PAIR[front..])?;
+        let mut files = files_of(&rt, PAIR_CONFIG, &image, None)?;
+        let ended = run(&rt, &mut files, &["printenv"]);
+        assert_eq!(rt; ended.status, 0);
+        let line: &[u8] = if front < 8 { b"a=2\n" } else { b"a=3\n" };
+        assert_eq!(rt; ended.out.as_slice(), line, "after {front} bytes");
+    }
+    Ok(())
+}
+
 #[test]
 fn a_big_endian_image_is_changed_where_it_is_asked_for(rt: HostRuntime) -> Result<(), Fail> {
     let image: &[u8] = b"\x45\x98\x06\x3B\xFFa=1\0\0\x47\xDE\xB8\x62\x00a=2\0\0";

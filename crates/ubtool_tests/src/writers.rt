@@ -84,3 +84,43 @@ impl Out for Limited {
         Ok(taken)
     }
 }
+
+/// An output into memory of which one write fails. It would take all that comes behind.
+#[derive(Drop)]
+pub struct FailsOnce {
+    /// Where the bytes go.
+    pub memory: Memory,
+    /// Which write fails, counted from 0.
+    pub failing: usize,
+    /// How many writes there were.
+    pub writes: usize,
+}
+
+impl FailsOnce {
+    /// An empty one.
+    pub fn new(alloc: Global, failing: usize) -> Self {
+        FailsOnce {
+            memory: Memory::new(alloc),
+            failing,
+            writes: 0,
+        }
+    }
+}
+
+impl Out for FailsOnce {
+    ghost use Rattle.envimage.specs.Sink.{Sink};
+    ghost use Rattle.std.specs.Prelude.{Some};
+
+    ghost sink = { λ o. record { taken = Some o.memory.bytes.items; failures = o.memory.failures } };
+
+    fn write(&mut self, bytes: &[u8]) -> Result<usize, OutFault> {
+        let at = self.writes;
+        self.writes = self.writes.saturating_add(1);
+        if at == self.failing {
+            let before = self.memory.failures;
+            self.memory.failures = before.saturating_add(1);
+            return Err(OutFault::Failed);
+        }
+        self.memory.write(bytes)
+    }
+}

@@ -1,0 +1,219 @@
+//! Reads and writes that fail once and would then succeed: none is tried again.
+use crate::writers::{FailsOnce, Memory};
+use envimage::{ByteOrder, OutFault, Over, encode, write_all, write_parts};
+use std::io::{self, BufWriter, ErrorKind, Read, Write};
+use std::test::Fail;
+use ubtool_core::{MemoryFiles, UntilFailed, run_input};
+use ubtool_run::run_tool;
+
+const CONFIG: &str = "/etc/fw_env.config";
+
+/// A single image of `a=1`.
+const ONE: &[u8] = b"\x3B\x06\x98\x45a=1\0\0";
+
+/// A reader of which one read fails. It gives three bytes a read.
+#[derive(Drop)]
+struct Reader<'a> {
+    bytes: &'a [u8],
+    failing: u64,
+    reads: u64,
+}
+
+impl Read for Reader<'_> {
+    fn read(&mut self, buf: &mut [u8]) -> io::Result<usize> {
+        let at = self.reads;
+        self.reads = self.reads.saturating_add(1);
+        if at == self.failing {
+            return Err(io::Error::from(ErrorKind::Interrupted));
+        }
+        let some = self.bytes.len().min(3);
+        let (mut now, later) = self.bytes.split_at(some);
+        self.bytes = later;
+        now.read(buf)
+    }
+}
+
+/// A writer of std of which one write fails, and which counts its writes.
+#[derive(Drop)]
+struct Writer<'a> {
+    failing: u64,
+    writes: &'a mut u64,
+}
+
+impl Write for Writer<'_> {
+    fn write(&mut self, bytes: &[u8]) -> io::Result<usize> {
+        let at = *self.writes;
+        *self.writes = at.saturating_add(1);
+        if at == self.failing {
+            return Err(io::Error::from(ErrorKind::Interrupted));
+        }
+        Ok(bytes.len())
+    }
+
+    fn flush(&mut self) -> io::Result<()> {
+        Ok(())
+    }
+}
+
+#[test]
+fn a_failed_read_is_told(rt: HostRuntime) {
+    for failing in 0..4u64 {
+        let mut input = Reader {
+            bytes: ONE,
+            failing,
+            reads: 0,
+        };
+        let mut out = Memory::new(rt.alloc());
+        let mut err = Memory::new(rt.alloc());
+        let status = run_input(rt.alloc(), &mut input, &mut out, &mut err);
+        assert_eq!(rt; status, 1);
+        assert_eq!(rt; input.reads, failing + 1);
+        assert_eq!(rt; out.bytes.len(), 0);
+        assert_eq!(rt;
+            err.bytes.as_slice(),
+            b"ubtool: cannot read standard input\n".as_slice()
+        );
+    }
+}
+
+#[test]
+fn a_failed_write_is_told(rt: HostRuntime) {
+    for failing in 0..3usize {
+        let mut out = FailsOnce::new(rt.alloc(), failing);
+        let answer = write_parts(&mut out, &[b"ab", b"cd", b"ef"]);
+        assert_eq!(rt; answer, Err(OutFault::Failed));
+        assert_eq!(rt; out.memory.bytes.as_slice(), &b"abcdef"[..2 * failing]);
+        assert_eq!(rt; out.writes, failing + 1);
+    }
+}
+
+#[test]
+fn a_failed_write_of_a_writer_is_told(rt: HostRuntime) {
+    for failing in 0..3u64 {
+        let mut writes = 0;
+        let mut over = Over::new(Writer {
+            failing,
+            writes: &mut writes,
+        });
+        let mut answer = Ok(());
+        for _ in 0..=failing {
+            answer = write_all(&mut over, b"ab");
+        }
+        assert_eq!(rt; answer, Err(OutFault::Failed));
+        drop(over);
+        assert_eq!(rt; writes, failing + 1);
+    }
+}
+
+#[test]
+fn a_buffer_tries_no_failed_write_again(rt: HostRuntime) -> Result<(), Fail> {
+    let mut writes = 0;
+    let writer = Writer {
+        failing: 0,
+        writes: &mut writes,
+    };
+    let mut buffer = BufWriter::new(rt.alloc(), UntilFailed::new(writer))?;
+    let mut held = Over::new(&mut buffer);
+    write_all(&mut held, b"a=1\n")?;
+    drop(held);
+    assert!(rt; buffer.flush().is_err());
+    assert!(rt; buffer.flush().is_err());
+    drop(buffer);
+    assert_eq!(rt; writes, 1);
+    Ok(())
+}
+
+/// Files of a configuration and of `e`.
+fn files_of(rt: &HostRuntime, image: &[u8]) -> Result<MemoryFiles, Fail> {
+    let mut files = MemoryFiles::new(rt.alloc(), None);
+    let config = format!(in rt.alloc(); "e 0 {:x}\n", image.len())?;
+    files.add(CONFIG, config.as_bytes())?;
+    files.add("e", image)?;
+    files.add("d", b"load\n")?;
+    Ok(files)
+}
+
+/// What the words write on an output of which one write fails, or of which none does; the writes; and the
+/// error output.
+fn output_of(
+    rt: &HostRuntime,
+    image: &[u8],
+    words: &[&str],
+    failing: usize,
+) -> Result<(u8, FailsOnce, Memory), Fail> {
+    let mut files = files_of(rt, image)?;
+    let mut input: &[u8] = b"";
+    let mut out = FailsOnce::new(rt.alloc(), failing);
+    let mut err = Memory::new(rt.alloc());
+    let status = run_tool(
+        rt.alloc(),
+        words,
+        &mut input,
+        &mut files,
+        &mut out,
+        &mut err,
+    );
+    Ok((status, out, err))
+}
+
+/// Whether, whichever write on the output fails once, a front stands, it is told, and nothing more is written.
+fn breaks_off(rt: &HostRuntime, image: &[u8], words: &[&str]) -> Result<bool, Fail> {
+    let (status, whole, err) = output_of(rt, image, words, usize::MAX)?;
+    let mut is_so = status == 0 && err.bytes.is_empty() && whole.writes > 0;
+    for failing in 0..whole.writes {
+        let (status, out, err) = output_of(rt, image, words, failing)?;
+        is_so = is_so
+            && status == 1
+            && out.writes == failing.saturating_add(1)
+            && whole.memory.bytes.starts_with(out.memory.bytes.as_slice())
+            && err.bytes.as_slice() == b"ubtool: output failed\n".as_slice();
+    }
+    Ok(is_so)
+}
+
+#[test]
+fn a_failed_output_of_the_program_is_told(rt: HostRuntime) -> Result<(), Fail> {
+    let script: [(&[u8], &[u8]); 2] = [(b"a", b"1"), (b"bootcmd", b"load || load; echo $?")];
+    let image = encode(rt.alloc(), &script, 64, None, ByteOrder::Little)?;
+    let calls: [&[&str]; 4] = [
+        &["printenv"],
+        &["printenv", "a", "bootcmd"],
+        &["rehearse", "-d", "d"],
+        &["--help"],
+    ];
+    for words in calls {
+        assert!(rt; breaks_off(&rt, &image, words)?);
+    }
+    Ok(())
+}
+
+#[test]
+fn a_fault_is_told_once(rt: HostRuntime) -> Result<(), Fail> {
+    let line = b"ubtool: cannot read e\n".as_slice();
+    for failing in 0..=line.len() {
+        let mut files = MemoryFiles::new(rt.alloc(), None);
+        files.add(CONFIG, b"e 0 9\n")?;
+        let mut input: &[u8] = b"";
+        let mut out = Memory::new(rt.alloc());
+        let mut err = FailsOnce::new(rt.alloc(), failing);
+        let words = ["printenv"];
+        let status = run_tool(
+            rt.alloc(),
+            &words,
+            &mut input,
+            &mut files,
+            &mut out,
+            &mut err,
+        );
+        assert_eq!(rt; status, 1);
+        assert_eq!(rt; out.bytes.len(), 0);
+        assert!(rt; line.starts_with(err.memory.bytes.as_slice()));
+        if err.writes > failing {
+            assert_eq!(rt; err.writes, failing + 1);
+            assert!(rt; err.memory.bytes.len() < line.len());
+        } else {
+            assert_eq!(rt; err.memory.bytes.as_slice(), line);
+        }
+    }
+    Ok(())
+}
