@@ -1,0 +1,17 @@
+-- The command line that `clap` is given: two options, as `ubtool` has them, and names. It is ours.
+use Rattle.std.specs.Prelude.{true, codes}
+use Rattle.clap.specs.Words.{App, Shape, new_app, with_rule}
+use Rattle.clap.specs.Simple.{on_top}
+use Rattle.ubtool_cli.specs.CommandLine.{big_endian, config, many}
+
+-- the program, which has no words of its own
+abbrev pub base : App
+base = on_top (λ (s : Shape). record s { no_binary_name = true }) (new_app (codes "hushcheck"))
+
+-- `[-c FILE] [--big-endian]`
+abbrev pub options : App
+options = with_rule (with_rule base config) big_endian
+
+-- and `[NAME]..`
+abbrev pub hushcheck : App
+hushcheck = with_rule options (many (codes "names"))

@@ -1,0 +1,5 @@
+pub mod CommandLine
+pub mod Asked
+pub mod Answers
+pub mod Checking
+pub mod Running

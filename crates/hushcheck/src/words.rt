@@ -1,0 +1,58 @@
+//! Reading the words.
+ghost use Rattle.std.specs.Prelude.{◌≡◌, IfOk, codes, map, string_bytes};
+ghost use Rattle.clap.specs.Words.{found_of, kind_of, rows_of};
+ghost use Rattle.hushcheck.specs.Answers.{Answers, Reports, Says};
+ghost use Rattle.hushcheck.specs.Asked.{asked_of, or_bootcmd};
+ghost use Rattle.ubtool_cli.specs.Asked.{values_of};
+
+use crate::ask::{Ask, UseError};
+use crate::command::hushcheck;
+use clap::ArgMatches;
+use clap::error::ErrorKind;
+use std::alloc::{AllocError, Global};
+use std::convert::AsStr;
+use ubtool_cli::{DEFAULT_VARIABLE, config_of, order_of, texts_of};
+
+/// The variables to check.
+fn names_of(alloc: Global, matches: &ArgMatches<'_>) -> Result<Vec<String>, AllocError>
+    ensures { IfOk result (λ names. map string_bytes names.items
+        ≡ or_bootcmd (values_of (codes "names") (rows_of (found_of matches.now)))) }
+{
+    let mut names = texts_of(alloc, matches, "names")?;
+    if names.is_empty() {
+        names.push(String::from_str(alloc, DEFAULT_VARIABLE)?)?;
+    }
+    Ok(names)
+}
+
+/// What the entries ask for.
+fn ask_of(alloc: Global, matches: &ArgMatches<'_>) -> Result<Ask, UseError>
+    ensures { Says (asked_of (rows_of (found_of matches.now))) result }
+{
+    Ok(Ask::Check {
+        config: config_of(alloc, matches)?,
+        names: names_of(alloc, matches)?,
+        order: order_of(matches),
+    })
+}
+
+/// The answer where `clap` refuses the words, or shows its help.
+fn report(alloc: Global, error: &clap::Error) -> Result<Ask, UseError>
+    ensures { Reports (kind_of error.now) result }
+{
+    match error.kind() {
+        ErrorKind::OutOfMemory => Err(UseError::Memory),
+        ErrorKind::DisplayHelp => Ok(Ask::Help(error.to_string(alloc)?)),
+        _ => Err(UseError::Line(error.to_string(alloc)?)),
+    }
+}
+
+/// Reads the words after the program's name.
+pub fn read_words<S: AsStr>(alloc: Global, words: &[S]) -> Result<Ask, UseError>
+    ensures { Answers (map S.text words.now) result }
+{
+    match hushcheck(alloc)?.try_get_matches_from(words) {
+        Ok(matches) => ask_of(alloc, &matches),
+        Err(error) => report(alloc, &error),
+    }
+}

@@ -1,0 +1,263 @@
+-- One turn of a check: the names so far, what was told of them, and how much is left.
+use Rattle.std.proofs.Common.{◌≡◌, ℕ, zero, suc, ◌+◌, ◌-◌, ◌<◌, ◌≤◌, ◌⊎◌, inl, inr, Bool, true, false, ◌&&◌, ◌||◌, List, [], ◌∷◌, ◌++◌, length, take, get_or, Contains, Some, refl, sym, ap, subst, ◌∙◌, append_assoc, arith}
+use Rattle.std.specs.Cmp.Lexicographic.{bytes_decides, nat_list_eq_equiv}
+use Rattle.std.proofs.lemmas.Bool.{cases_Bool, cases_lt}
+use Rattle.std.proofs.lemmas.List.{append-nil, get_or_append_left, length-append, take-append-le, take_all}
+use Rattle.std.proofs.lemmas.List.Folds.{list_any-append, list_all-append}
+use Rattle.std.proofs.lemmas.Grind.{flat_map-append}
+use Rattle.std.proofs.Math.Seq.{get_or-append_seam, take-append_seam}
+use Rattle.std.specs.List.{flat_map, list_all, list_any}
+use Rattle.envimage.specs.Data.{Pair}
+use Rattle.envtools.specs.Environment.{same}
+use Rattle.envtools.specs.Printing.{all_found}
+use Rattle.hushcheck_core.specs.Names.{Text, run_by_name, run_by_value}
+use Rattle.hushcheck_core.specs.Order.{IsReached, is_asked, is_run, once, with_name, with_names}
+use Rattle.hushcheck_core.specs.Report.{Checks, is_sound, is_well_formed, lines_of}
+use Rattle.hushcheck_core.proofs.OrderLemmas.{with_names-append}
+
+-- ---- names that go behind others
+
+-- they stand behind those that are there
+abbrev Extends : List Text → List Text → Type 0
+Extends names more = (extra : List Text) × (more ≡ names ++ extra)
+
+extends_name : (names : List Text) (name : Text) → Extends names (with_name names name)
+extends_name names name =
+    elim (cases_Bool (list_any (same name) names)) [
+      | inl there ↦ ([], rw there (sym (append-nil names)))
+      | inr new ↦ (name ∷ [], rw new refl)
+    ]
+
+pub extends : (names more : List Text) → Extends names (with_names names more)
+extends names [] = ([], sym (append-nil names))
+extends names (n ∷ more) =
+    let one = extends_name names n in
+    let others = extends (with_name names n) more in
+    (one.0 ++ others.0, others.1 ∙ ap (λ ns. ns ++ others.0) one.1 ∙ append_assoc names one.0 others.0)
+
+length-with_name : (names : List Text) (name : Text) → length (with_name names name) ≤ length names + 1
+length-with_name names name =
+    elim (cases_Bool (list_any (same name) names)) [
+      | inl there ↦ rw there (omega arith)
+      | inr new ↦ rw new (let l = length-append names (name ∷ []) in omega (arith, l))
+    ]
+
+pub length-with_names : (names more : List Text) → length (with_names names more) ≤ length names + length more
+length-with_names names [] = omega arith
+length-with_names names (n ∷ more) = let one = length-with_name names n in let rest = length-with_names (with_name names n) more in omega (arith, one, rest)
+
+-- ---- each name once
+
+abbrev pub AreNew : List Text → Type 0
+AreNew names = (k : ℕ) → k < length names → list_any (same (get_or names k [])) (take k names) ≡ false
+
+new-push : (names : List Text) (name : Text) → AreNew names → list_any (same name) names ≡ false → AreNew (names ++ name ∷ [])
+new-push names name all new k within =
+    elim (cases_lt k (length names)) [
+      | inl before ↦ let e = get_or_append_left names (name ∷ []) [] k before in let t = take-append-le k names (name ∷ []) (omega (arith, before)) in rw (e, t) (all k before)
+      | inr last ↦
+          let l = length-append names (name ∷ []) in
+          let is : length names ≡ k = omega (arith, l, within, last) in
+          let P : ℕ → Type 0 = λ j. list_any (same (get_or (names ++ name ∷ []) j [])) (take j (names ++ name ∷ [])) ≡ false in
+          let e = get_or-append_seam names name [] [] in let t = take-append_seam names (name ∷ []) in
+          subst P is (rw (e, t) new)
+    ]
+
+new-with_name : (names : List Text) (name : Text) → AreNew names → AreNew (with_name names name)
+new-with_name names name all =
+    elim (cases_Bool (list_any (same name) names)) [
+      | inl there ↦ rw there all
+      | inr new ↦ rw new (new-push names name all new)
+    ]
+
+new-with_names : (names more : List Text) → AreNew names → AreNew (with_names names more)
+new-with_names names [] all = all
+new-with_names names (n ∷ more) all = new-with_names (with_name names n) more (new-with_name names n all)
+
+pub new-once : (names more : List Text) → names ≡ once more → AreNew names
+new-once names more e = subst AreNew (sym e) (new-with_names [] more (λ k within. absurd (omega (arith, within))))
+
+-- ---- names that have something in common
+
+contains_tail : (x : Text) (xs : List Text) (m : Text) → Contains xs m → Contains (x ∷ xs) m
+contains_tail x xs m c = (suc c.0, (let h = c.1 in omega (arith, h)), c.2)
+
+contains_head : (x : Text) (xs : List Text) → Contains (x ∷ xs) x
+contains_head x xs = (0, omega arith, refl)
+
+contains-push : (names : List Text) (n m : Text) → Contains (names ++ n ∷ []) m → Contains names m ⊎ (n ≡ m)
+contains-push [] n m (zero, h, e) = inr e
+contains-push [] n m (suc k, h, e) = absurd (omega (arith, h))
+contains-push (x ∷ xs) n m (zero, h, e) = inl (0, omega arith, e)
+contains-push (x ∷ xs) n m (suc k, h, e) =
+    elim (contains-push xs n m (k, omega (arith, h), e)) [
+      | inl there ↦ inl (contains_tail x xs m there)
+      | inr last ↦ inr last
+    ]
+
+module _ (Good : Text → Type 0) where
+  abbrev AreGood : List Text → Type 0
+  AreGood names = (m : Text) → Contains names m → Good m
+
+  good-with_name : (names : List Text) (n : Text) → AreGood names → Good n → AreGood (with_name names n)
+  good-with_name names n all good =
+      elim (cases_Bool (list_any (same n) names)) [
+        | inl there ↦ rw there all
+        | inr new ↦ rw new (λ m c. elim (contains-push names n m c) [ inl before ↦ all m before | inr last ↦ subst Good last good ])
+      ]
+
+  pub good-with_names : (names more : List Text) → AreGood names → AreGood more → AreGood (with_names names more)
+  good-with_names names [] all others = all
+  good-with_names names (n ∷ more) all others =
+      good-with_names (with_name names n) more (good-with_name names n all (others n (contains_head n more))) (λ m c. others m (contains_tail n more m c))
+
+-- ---- how many names may still come: those that the texts run which had no turn
+
+abbrev left_of : Bool → ℕ → ℕ
+left_of true n = 0
+left_of false n = n
+
+abbrev pub left : List Pair → List Text → ℕ
+left [] done = 0
+left (p ∷ env) done = left_of (list_any (same p.0) done) (length (run_by_value (Some p.1))) + left env done
+
+any_push : (p n : Text) (done : List Text) → list_any (same p) (done ++ n ∷ []) ≡ (list_any (same p) done || (same p n || false))
+any_push p n done = list_any-append (same p) done (n ∷ [])
+
+less_of : (a b : Bool) (r : ℕ) → left_of (a || b) r ≤ left_of a r
+less_of true b r = omega arith
+less_of false true r = omega arith
+less_of false false r = omega arith
+
+left-push : (env : List Pair) (done : List Text) (n : Text) → left env (done ++ n ∷ []) ≤ left env done
+left-push [] done n = omega arith
+left-push (p ∷ env) done n =
+    let e = any_push p.0 n done in
+    let one = less_of (list_any (same p.0) done) (same p.0 n || false) (length (run_by_value (Some p.1))) in
+    let rest = left-push env done n in
+    rw e (omega (arith, one, rest))
+
+pub left-turn : (env : List Pair) (done : List Text) (n : Text) → list_any (same n) done ≡ false → left env (done ++ n ∷ []) + length (run_by_name env n) ≤ left env done
+left-turn [] done n new = omega arith
+left-turn (p ∷ env) done n new =
+    elim (cases_Bool (same n p.0)) [
+      | inl is ↦
+          let eq : n ≡ p.0 = (bytes_decides n p.0).0 is in
+          let fresh : list_any (same p.0) done ≡ false = subst (λ x. list_any (same x) done ≡ false) eq new in
+          let there : same p.0 n ≡ true = nat_list_eq_equiv.symm p.0 n ∙ is in
+          let e = any_push p.0 n done in
+          let rest = left-push env done n in
+          rw (is, e, fresh, there) (omega (arith, rest))
+      | inr other ↦
+          let away : same p.0 n ≡ false = nat_list_eq_equiv.symm p.0 n ∙ other in
+          let e = any_push p.0 n done in
+          let one = less_of (list_any (same p.0) done) (false || false) (length (run_by_value (Some p.1))) in
+          let rest = left-turn env done n new in
+          rw (other, e, away) (omega (arith, one, rest))
+    ]
+
+-- ---- one turn
+
+module _ (env : List Pair) (asked : List Text) (names : List Text) (at : ℕ) where
+  -- the names so far are in order, and what was told of those before a place
+  pub record Standing (told : Text) (sound : Bool) : Type 0 where
+    pub within : at ≤ length names
+    pub in_turn : names ≡ once (asked ++ flat_map (run_by_name env) (take at names))
+    pub reached : (m : Text) → Contains names m → IsReached env asked m
+    pub told_is : told ≡ flat_map (lines_of env) (take at names)
+    pub sound_is : sound ≡ is_sound env asked (take at names)
+
+-- before the first turn
+pub standing_first : (env : List Pair) (asked names : List Text) (told : Text) (sound : Bool) → names ≡ once asked → told ≡ [] → sound ≡ all_found env asked → Standing env asked names 0 told sound
+standing_first env asked names told sound e t s = record {
+  within = omega arith;
+  in_turn = e ∙ ap once (sym (append-nil asked));
+  reached = subst (λ ns. (m : Text) → Contains ns m → IsReached env asked m) (sym e) (good-with_names (IsReached env asked) [] asked (λ m c. absurd (let h = c.1 in omega (arith, h))) (λ m c. is_asked m c));
+  told_is = t;
+  sound_is = s ∙ sym (and_true (all_found env asked));
+}
+  where
+    and_true : (b : Bool) → (b && true) ≡ b
+    and_true true = refl
+    and_true false = refl
+
+and_assoc : (a b c : Bool) → ((a && b) && c) ≡ (a && (b && c))
+and_assoc true b c = refl
+and_assoc false b c = refl
+
+and_end : (b c : Bool) → (b && (c && true)) ≡ (b && c)
+and_end true true = refl
+and_end true false = refl
+and_end false c = refl
+
+take_suc : (names : List Text) (at : ℕ) → at < length names → take (at + 1) names ≡ take at names ++ get_or names at [] ∷ []
+take_suc [] at h = absurd (omega (arith, h))
+take_suc (n ∷ names) zero h = refl
+take_suc (n ∷ names) (suc at) h = let e : suc at + 1 ≡ suc (at + 1) = omega arith in ap (λ k. take k (n ∷ names)) e ∙ ap (λ ns. n ∷ ns) (take_suc names at (omega (arith, h)))
+
+-- the names before the next place
+pub take_turn : (names more : List Text) (at : ℕ) → at < length names → take (at + 1) (with_names names more) ≡ take at names ++ get_or names at [] ∷ []
+take_turn names more at within =
+    let x = extends names more in
+    ap (take (at + 1)) x.1 ∙ take-append-le (at + 1) names x.0 (omega (arith, within)) ∙ take_suc names at within
+
+one_more : {X : Type 0} (f : Text → List X) (xs : List Text) (x : Text) → flat_map f (xs ++ x ∷ []) ≡ flat_map f xs ++ f x
+one_more f xs x = flat_map-append f xs (x ∷ []) ∙ ap (λ ys. flat_map f xs ++ ys) (append-nil (f x))
+
+-- after one turn more
+pub standing_next : (env : List Pair) (asked names names' : List Text) (at : ℕ) (told told' : Text) (sound sound' : Bool) → at < length names → Standing env asked names at told sound
+    → names' ≡ with_names names (run_by_name env (get_or names at []))
+    → told' ≡ told ++ lines_of env (get_or names at [])
+    → sound' ≡ (sound && is_well_formed env (get_or names at []))
+    → Standing env asked names' (at + 1) told' sound'
+standing_next env asked names names' at told told' sound sound' within s e t w =
+    let n = get_or names at [] in
+    let more = run_by_name env n in
+    let front : take (at + 1) names' ≡ take at names ++ n ∷ [] = ap (take (at + 1)) e ∙ take_turn names more at within in
+    let x = extends names more in
+    let long : length names' ≡ length names + length x.0 = ap (λ ns. length ns) (e ∙ x.1) ∙ length-append names x.0 in
+    let before = flat_map (run_by_name env) (take at names) in
+    record {
+      within = omega (arith, long, within);
+      in_turn =
+          e ∙ ap (λ ns. with_names ns more) s.in_turn ∙ sym (with_names-append [] (asked ++ before) more)
+          ∙ ap once (append_assoc asked before more ∙ ap (λ ns. asked ++ ns) (sym (ap (flat_map (run_by_name env)) front ∙ one_more (run_by_name env) (take at names) n)));
+      reached = subst (λ ns. (m : Text) → Contains ns m → IsReached env asked m) (sym e)
+          (good-with_names (IsReached env asked) names more s.reached (λ m c. is_run n m (s.reached n (at, within, refl_at names at within)) c));
+      told_is = t ∙ ap (λ ts. ts ++ lines_of env n) s.told_is ∙ sym (ap (flat_map (lines_of env)) front ∙ one_more (lines_of env) (take at names) n);
+      sound_is =
+          w ∙ ap (λ b. b && is_well_formed env n) s.sound_is ∙ and_assoc (all_found env asked) (list_all (is_well_formed env) (take at names)) (is_well_formed env n)
+          ∙ ap (λ b. all_found env asked && b) (sym (ap (list_all (is_well_formed env)) front ∙ list_all-append (is_well_formed env) (take at names) (n ∷ []) ∙ and_end (list_all (is_well_formed env) (take at names)) (is_well_formed env n)));
+    }
+  where
+    refl_at : (xs : List Text) (k : ℕ) → k < length xs → get_or xs k (get_or xs k []) ≡ get_or xs k []
+    refl_at [] k h = absurd (omega (arith, h))
+    refl_at (y ∷ ys) zero h = refl
+    refl_at (y ∷ ys) (suc k) h = refl_at ys k (omega (arith, h))
+
+-- fewer names are left
+pub left_less : (env : List Pair) (asked names names' : List Text) (at : ℕ) (told : Text) (sound : Bool) → at < length names → Standing env asked names at told sound
+    → names' ≡ with_names names (run_by_name env (get_or names at []))
+    → left env (take (at + 1) names') + (length names' - (at + 1)) < left env (take at names) + (length names - at)
+left_less env asked names names' at told sound within s e =
+    let n = get_or names at [] in
+    let more = run_by_name env n in
+    let front : take (at + 1) names' ≡ take at names ++ n ∷ [] = ap (take (at + 1)) e ∙ take_turn names more at within in
+    let new = new-once names (asked ++ flat_map (run_by_name env) (take at names)) s.in_turn at within in
+    let fewer : left env (take (at + 1) names') + length more ≤ left env (take at names) = rw front (left-turn env (take at names) n new) in
+    let long : length names' ≤ length names + length more = rw e (length-with_names names more) in
+    omega (arith, fewer, long, within)
+
+-- behind the last turn
+pub standing_last : (env : List Pair) (asked names : List Text) (at : ℕ) (told : Text) (sound : Bool) → length names ≤ at → Standing env asked names at told sound → Checks env asked told sound
+standing_last env asked names at told sound past s =
+    let all : take at names ≡ names = take_all at names past in
+    record {
+      order = names;
+      is_order = record {
+        in_turn = s.in_turn ∙ ap (λ ns. once (asked ++ flat_map (run_by_name env) ns)) all;
+        reached = s.reached;
+      };
+      told_is = s.told_is ∙ ap (flat_map (lines_of env)) all;
+      sound_is = s.sound_is ∙ ap (is_sound env asked) all;
+    }

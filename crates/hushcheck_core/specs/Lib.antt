@@ -1,0 +1,5 @@
+pub mod Place
+pub mod Shown
+pub mod Names
+pub mod Order
+pub mod Report

@@ -1,0 +1,90 @@
+-- The names that a text runs. `run NAME..` runs the commands in the variables of these names (U-Boot documentation,
+-- doc/usage/cmd/run); that only names which are written out count is ours.
+use Rattle.std.specs.Prelude.{◌++◌, ◌∷◌, ℕ, Bool, false, List, [], Option, Some, None, Result, Ok, Err, codes, if◌then◌else◌}
+use Rattle.std.specs.List.{filter_map}
+use Rattle.envimage.specs.Data.{Pair}
+use Rattle.envtools.specs.Environment.{same, value_of}
+use Rattle.hushlang.specs.Cursor.{input_in}
+use Rattle.hushlang.specs.Grammar.{max_nesting}
+use Rattle.hushlang.specs.Parsing.{whole}
+use Rattle.hushlang.specs.Tree.{Script, Empty, Runs, AndOr, Starts, Joined, Alone, Joins, Command, Simple, Assign, If, Loop, For, Arms, NoElse, Else, Arm, Word, Bytes, Mark, Var, Status}
+use Rattle.hushlang.specs.View as view
+use Rattle.hushlang.specs.declared.tree.Script as code_script
+use Rattle.hushlang.specs.declared.token.SyntaxError.{SyntaxError}
+
+abbrev pub Text : Type 0
+Text = List ℕ
+
+-- bytes in front of what follows, where that is known
+abbrev pub in_front : Text → Option Text → Option Text
+in_front bytes None = None
+in_front bytes (Some rest) = Some (bytes ++ rest)
+
+-- the bytes of a word that holds no variable and no status, with what its quotes hold
+abbrev pub written_out : Word → Option Text
+written_out [] = Some []
+written_out (Bytes bytes ∷ more) = in_front bytes (written_out more)
+written_out (Mark ∷ more) = written_out more
+written_out (Var name split ∷ more) = None
+written_out (Status ∷ more) = None
+
+-- the word is `run`
+abbrev pub is_run : Option Text → Bool
+is_run None = false
+is_run (Some command) = same command (codes "run")
+
+-- the names that a simple command runs: behind `run`, its words that are written out
+abbrev pub run_by_words : List Word → List Text
+run_by_words [] = []
+run_by_words (word ∷ words) = if is_run (written_out word) then filter_map written_out words else []
+
+-- the names that a tree runs, in the order in which they stand in the text
+abbrev mutual
+  pub run_by_script : Script → List Text
+  run_by_script Empty = []
+  run_by_script (Runs list more) = run_by_list list ++ run_by_script more
+
+  pub run_by_list : AndOr → List Text
+  run_by_list (Starts first rest) = run_by_command first ++ run_by_joined rest
+
+  pub run_by_joined : Joined → List Text
+  run_by_joined Alone = []
+  run_by_joined (Joins op command rest) = run_by_command command ++ run_by_joined rest
+
+  pub run_by_command : Command → List Text
+  run_by_command (Simple words) = run_by_words words
+  run_by_command (Assign values) = []
+  run_by_command (If arms) = run_by_arms arms
+  run_by_command (Loop until cond body) = run_by_script cond ++ run_by_script body
+  run_by_command (For name words body) = run_by_script body
+
+  pub run_by_arms : Arms → List Text
+  run_by_arms NoElse = []
+  run_by_arms (Else body) = run_by_script body
+  run_by_arms (Arm cond body more) = (run_by_script cond ++ run_by_script body) ++ run_by_arms more
+
+-- a condition and its block
+abbrev pub run_by_arm : Script × Script → List Text
+run_by_arm arm = run_by_script arm.0 ++ run_by_script arm.1
+
+-- what the language reads in a text: its tree, or why it has none
+abbrev pub read_in : Text → Result Script SyntaxError
+read_in text = whole max_nesting (input_in text)
+
+-- a text without a tree runs nothing
+abbrev pub run_by_read : Result Script SyntaxError → List Text
+run_by_read (Ok script) = run_by_script script
+run_by_read (Err error) = []
+
+-- the names that the text of a variable runs; one that is not set runs nothing
+abbrev pub run_by_value : Option Text → List Text
+run_by_value None = []
+run_by_value (Some text) = run_by_read (read_in text)
+
+abbrev pub run_by_name : List Pair → Text → List Text
+run_by_name env name = run_by_value (value_of env name)
+
+-- the names that a script runs which was found, if any was
+abbrev pub run_by_found : Option code_script.Script → List Text
+run_by_found None = []
+run_by_found (Some script) = run_by_script (view.script script)

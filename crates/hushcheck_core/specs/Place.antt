@@ -1,0 +1,27 @@
+-- Where a byte stands in a text: its line and its column, as compilers tell them. Ours.
+use Rattle.std.specs.Prelude.{◌==◌, ◌+◌, ◌++◌, ℕ, Bool, List, length, take, drop, count_by}
+use Rattle.std.specs.List.{after_last, before_first}
+use Rattle.hushcheck_core.specs.declared.place.Place.{Place}
+
+abbrev pub is_newline : ℕ → Bool
+is_newline byte = byte == 10
+
+-- the bytes of the line of a byte that stand before it: those behind the last newline before it
+abbrev pub line_front : (text : List ℕ) → (at : ℕ) → List ℕ
+line_front text at = after_last is_newline (take at text)
+
+-- the other bytes of its line: those from it up to the next newline
+abbrev pub line_rest : (text : List ℕ) → (at : ℕ) → List ℕ
+line_rest text at = before_first is_newline (drop at text)
+
+-- the line of a byte, without its newline; behind the last byte it is the last line
+abbrev pub line_text : (text : List ℕ) → (at : ℕ) → List ℕ
+line_text text at = line_front text at ++ line_rest text at
+
+-- The number of its line is one more than the newlines before it, and its column one more than the bytes of the line
+-- before it.
+abbrev pub place_in : (text : List ℕ) → (at : ℕ) → Place
+place_in text at = record {
+  line = 1 + count_by is_newline (take at text);
+  column = 1 + length (line_front text at);
+}

@@ -1,0 +1,105 @@
+//! The texts that are reached, and what is told of each.
+ghost use Rattle.std.specs.Prelude.{◌≡◌, ◌&&◌, ◌++◌, ◌<◌, [], length, map, IfOk, OnOk, slice_index_or};
+ghost use Rattle.std.specs.List.{list_all};
+ghost use Rattle.envtools.specs.Environment.{value_of};
+ghost use Rattle.envtools.specs.Printing.{all_found};
+ghost use Rattle.hushcheck_core.specs.Names.{run_by_found, run_by_name};
+ghost use Rattle.hushcheck_core.specs.Order.{with_names};
+ghost use Rattle.hushcheck_core.specs.Report.{Checks, is_well_formed, lines_of};
+
+use crate::lines::{push_fault, push_named};
+use crate::names::{Names, asked_names};
+use crate::walk::add_script;
+use envtools::Env;
+use hushlang::parse::parse;
+use hushlang::token::SyntaxError;
+use hushlang::tree::Script;
+use std::alloc::{AllocError, Global};
+
+/// What is told of the texts that are reached.
+#[derive(Debug, Drop)]
+pub struct Report {
+    /// The lines.
+    pub text: Vec<u8>,
+    /// Whether all is well: each name that was asked for is set, and each text is well-formed.
+    pub sound: bool,
+}
+
+/// Whether all of the names are set.
+fn are_set(env: &Env, names: &[&[u8]]) -> bool
+    ensures { result ≡ all_found env.now (map (λ name. name.now) names.now) }
+{
+    for name in names {
+        if env.get(name).is_none() {
+            return false;
+        }
+    }
+    true
+}
+
+/// Tells of a variable, and gives the script that its text is, if it is one.
+fn tell(
+    alloc: Global,
+    env: &Env,
+    name: &[u8],
+    report: &mut Report,
+) -> Result<Option<Script>, AllocError>
+    ensures text { OnOk result (report.new.text.items ≡ report.old.text.items ++ lines_of env.now name.now) }
+    ensures sound { OnOk result (report.new.sound ≡ (report.old.sound && is_well_formed env.now name.now)) }
+    ensures script { IfOk result (λ script. run_by_found script ≡ run_by_name env.now name.now) }
+{
+    let Some(text) = env.get(name) else {
+        push_named(&mut report.text, name, b": not set\n")?;
+        return Ok(None);
+    };
+    match parse(alloc, text) {
+        Ok(script) => {
+            push_named(&mut report.text, name, b": ok\n")?;
+            Ok(Some(script))
+        }
+        Err(SyntaxError::Memory) => Err(AllocError),
+        Err(error) => {
+            push_fault(&mut report.text, name, text, error)?;
+            report.sound = false;
+            Ok(None)
+        }
+    }
+}
+
+/// Tells of the variable at a place, and adds the names that its text runs.
+fn take_turn(
+    alloc: Global,
+    env: &Env,
+    names: &mut Names,
+    at: usize,
+    report: &mut Report,
+) -> Result<(), AllocError>
+    requires { at < length names.old }
+    ensures text { OnOk result (report.new.text.items ≡ report.old.text.items ++ lines_of env.now (slice_index_or names.old at [])) }
+    ensures sound { OnOk result (report.new.sound ≡ (report.old.sound && is_well_formed env.now (slice_index_or names.old at []))) }
+    ensures names { OnOk result (names.new ≡ with_names names.old (run_by_name env.now (slice_index_or names.old at []))) }
+{
+    let name = names.get(at).unwrap();
+    match tell(alloc, env, name, report)? {
+        Some(script) => add_script(alloc, &script, names),
+        None => Ok(()),
+    }
+}
+
+/// Looks at the variables that are asked for, and then at those that the text of each in turn runs by a name that is
+/// written out, each once, and tells of each whether its text is well-formed, and if not, where it breaks.
+pub fn check(alloc: Global, env: &Env, asked: &[&[u8]]) -> Result<Report, AllocError>
+    ensures { IfOk result (λ report. Checks env.now (map (λ name. name.now) asked.now) report.text.items report.sound) }
+{
+    let mut names = asked_names(alloc, asked)?;
+    let mut report = Report {
+        text: Vec::new(alloc),
+        sound: are_set(env, asked),
+    };
+    let mut at = 0;
+    'names: while at < names.len() {
+        take_turn(alloc, env, &mut names, at, &mut report)?;
+        at += 1;
+    }
+    Ok(report)
+}

@@ -1,0 +1,44 @@
+//! Why a text is refused, in words.
+ghost use Rattle.std.specs.Prelude.{◌≡◌};
+ghost use Rattle.hushcheck_core.specs.Report as spec;
+
+use hushlang::token::SyntaxError;
+
+/// The byte at which a text is refused.
+pub(crate) fn byte_of(error: SyntaxError) -> usize
+    ensures { result ≡ spec.byte_of error }
+{
+    match error {
+        SyntaxError::OpenQuote(at)
+        | SyntaxError::LoneBackslash(at)
+        | SyntaxError::OpenBrace(at)
+        | SyntaxError::BadVariable(at)
+        | SyntaxError::SingleAmp(at)
+        | SyntaxError::SinglePipe(at)
+        | SyntaxError::Unexpected(at)
+        | SyntaxError::MissingWord(at)
+        | SyntaxError::AssignmentBeforeCommand(at)
+        | SyntaxError::TooDeep(at) => at,
+        SyntaxError::Memory => 0,
+    }
+}
+
+/// What is wrong there, in a text of so many bytes.
+pub(crate) fn what_of(size: usize, error: SyntaxError) -> &'static [u8]
+    ensures { result.now ≡ spec.what_of size error }
+{
+    match error {
+        SyntaxError::OpenQuote(_) => b"the quote is not closed",
+        SyntaxError::LoneBackslash(_) => b"the backslash is the last byte",
+        SyntaxError::OpenBrace(_) => b"the brace is not closed",
+        SyntaxError::BadVariable(_) => b"the braces hold no name",
+        SyntaxError::SingleAmp(_) => b"a single &",
+        SyntaxError::SinglePipe(_) => b"a single |",
+        SyntaxError::Unexpected(at) if at == size => b"unexpected end of the text",
+        SyntaxError::Unexpected(_) => b"unexpected token",
+        SyntaxError::MissingWord(_) => b"a word is missing",
+        SyntaxError::AssignmentBeforeCommand(_) => b"an assignment stands before the command",
+        SyntaxError::TooDeep(_) => b"nested too deep",
+        SyntaxError::Memory => b"out of memory",
+    }
+}

@@ -1,0 +1,15 @@
+//! Where boot scripts break: the texts that are reached from a variable, and what is wrong in each.
+#![tactic(auto)]
+
+mod checking;
+mod fault;
+mod lines;
+mod names;
+mod place;
+mod shown;
+#[cfg(test)]
+mod tests;
+mod walk;
+
+pub use checking::{Report, check};
+pub use place::{Place, line_at, line_front, place_of};

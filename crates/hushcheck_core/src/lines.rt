@@ -1,0 +1,64 @@
+//! The lines that are told of a text.
+ghost use Rattle.std.specs.Prelude.{◌≡◌, ◌++◌, decimal, OnOk};
+ghost use Rattle.hushcheck_core.specs.Report as spec;
+ghost use Rattle.hushcheck_core.specs.Shown.{word_form};
+
+use crate::fault::{byte_of, what_of};
+use crate::place::{Place, line_at, line_front, place_of};
+use crate::shown::{push_line, push_mark, push_name};
+use hushlang::token::SyntaxError;
+use itoa::Buffer;
+use std::alloc::AllocError;
+
+/// Puts a number behind a text.
+fn push_number(told: &mut Vec<u8>, number: usize) -> Result<(), AllocError>
+    ensures { OnOk result (told.new.items ≡ told.old.items ++ decimal number) }
+{
+    let mut digits = Buffer::new();
+    told.extend_from_slice(digits.format(number).as_bytes())
+}
+
+/// Puts a line that begins with a name.
+pub(crate) fn push_named(told: &mut Vec<u8>, name: &[u8], rest: &[u8]) -> Result<(), AllocError>
+    ensures { OnOk result (told.new.items ≡ told.old.items ++ (word_form name.now ++ rest.now)) }
+{
+    push_name(told, name)?;
+    told.extend_from_slice(rest)
+}
+
+/// Puts `NAME:LINE:COLUMN: ` behind a text.
+fn push_place(told: &mut Vec<u8>, name: &[u8], place: Place) -> Result<(), AllocError>
+    ensures { OnOk result (told.new.items ≡ told.old.items ++ spec.place_form name.now place) }
+{
+    push_named(told, name, b":")?;
+    push_number(told, place.line)?;
+    told.extend_from_slice(b":")?;
+    push_number(told, place.column)?;
+    told.extend_from_slice(b": ")
+}
+
+/// Puts the line of a byte, and the line of a mark under it, behind a text.
+fn push_marked(told: &mut Vec<u8>, line: &[u8], front: &[u8]) -> Result<(), AllocError>
+    ensures { OnOk result (told.new.items ≡ told.old.items ++ spec.marked line.now front.now) }
+{
+    push_line(told, line)?;
+    told.extend_from_slice(b"\n")?;
+    push_mark(told, front)?;
+    told.extend_from_slice(b"\n")
+}
+
+/// Puts what is wrong with a text, its line and a mark behind a text.
+pub(crate) fn push_fault(
+    told: &mut Vec<u8>,
+    name: &[u8],
+    text: &[u8],
+    error: SyntaxError,
+) -> Result<(), AllocError>
+    ensures { OnOk result (told.new.items ≡ told.old.items ++ spec.fault_lines name.now text.now error) }
+{
+    let at = byte_of(error);
+    push_place(told, name, place_of(text, at))?;
+    told.extend_from_slice(what_of(text.len(), error))?;
+    told.extend_from_slice(b"\n")?;
+    push_marked(told, line_at(text, at), line_front(text, at))
+}
