@@ -1,0 +1,24 @@
+# Completion of hushcheck for fish: options, files, and the names of variables that the configuration on the command line,
+# or /etc/fw_env.config, leads to, as ubtool prints them.
+
+function __hushcheck_names
+    set -l from
+    set -l words (commandline -opc)
+    for number in (seq 2 (count $words))
+        switch $words[$number]
+            case --
+                break
+            case -c --config
+                test (count $words) -gt $number; and set -a from -c $words[(math $number + 1)]
+            case --big-endian
+                set -a from --big-endian
+        end
+    end
+    ubtool printenv $from 2>/dev/null </dev/null | string replace -rf '^([A-Za-z0-9_.-]*)=.*' '$1'
+end
+
+complete -c hushcheck -f
+complete -c hushcheck -s h -l help -d 'Print help'
+complete -c hushcheck -s c -l config -r -F -d 'Configuration'
+complete -c hushcheck -l big-endian -d 'The CRC is stored big-endian'
+complete -c hushcheck -a '(__hushcheck_names)' -d Variable

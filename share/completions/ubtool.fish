@@ -1,0 +1,62 @@
+# Completion of ubtool for fish: subcommands, options, files, and the names of variables that the configuration on the
+# command line, or /etc/fw_env.config, leads to.
+
+function __ubtool_names
+    set -l from
+    set -l words (commandline -opc)
+    for number in (seq 3 (count $words))
+        switch $words[$number]
+            case --
+                break
+            case -c --config
+                test (count $words) -gt $number; and set -a from -c $words[(math $number + 1)]
+            case --big-endian
+                set -a from --big-endian
+        end
+    end
+    ubtool printenv $from 2>/dev/null </dev/null | string replace -rf '^([A-Za-z0-9_.-]*)=.*' '$1'
+end
+
+# Whether the next word is the first of setenv that is no option.
+function __ubtool_setenv_first
+    set -l words (commandline -opc)
+    test (count $words) -ge 2; and test $words[2] = setenv; or return 1
+    set -l value
+    for word in $words[3..-1]
+        if test -n "$value"
+            set value
+            continue
+        end
+        switch $word
+            case -c --config -s --script
+                set value yes
+            case '-*'
+            case '*'
+                return 1
+        end
+    end
+end
+
+complete -c ubtool -f
+complete -c ubtool -s h -l help -d 'Print help'
+complete -c ubtool -s V -l version -d 'Print version'
+complete -c ubtool -n __fish_use_subcommand -a printenv -d 'Print variables of the environment'
+complete -c ubtool -n __fish_use_subcommand -a setenv -d 'Set or delete variables of the environment'
+complete -c ubtool -n __fish_use_subcommand -a rehearse -d 'List every run of a boot script'
+
+set -l any '__fish_seen_subcommand_from printenv setenv rehearse'
+complete -c ubtool -n $any -s c -l config -r -F -d 'Configuration'
+complete -c ubtool -n $any -l big-endian -d 'The CRC is stored big-endian'
+complete -c ubtool -n '__fish_seen_subcommand_from printenv' -s n -l noheader -d 'Print the value alone'
+complete -c ubtool -n '__fish_seen_subcommand_from setenv' -s s -l script -r -F -d 'Script of changes'
+
+set -l rehearse '__fish_seen_subcommand_from rehearse'
+complete -c ubtool -n $rehearse -s d -l device-list -r -F -d 'Device list'
+complete -c ubtool -n $rehearse -s b -l variable -x -a '(__ubtool_names)' -d 'Variable whose text is run'
+complete -c ubtool -n $rehearse -l devices -x -d 'At most so many device commands a run'
+complete -c ubtool -n $rehearse -l steps -x -d 'At most so many steps a run'
+complete -c ubtool -n $rehearse -l after -x -d 'Begin after the run of a word'
+complete -c ubtool -n $rehearse -l limit -x -d 'At most so many records'
+
+complete -c ubtool -n '__fish_seen_subcommand_from printenv rehearse' -a '(__ubtool_names)' -d Variable
+complete -c ubtool -n __ubtool_setenv_first -a '(__ubtool_names)' -d Variable
