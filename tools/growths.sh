@@ -47,4 +47,4 @@ while :; do
     fi
     number=$((number + 1))
 done
-echo "$((number - 1)) growths refused in turn, $refusals of them in a change of a store"
+echo "$((number - 1)) growths refused in turn, $refusals of them in a call that was then made again"
