@@ -1,7 +1,7 @@
 -- The data of an image: entries `name=value`, each ended by a NUL, then one more NUL, then anything.
 use Rattle.std.specs.Prelude.{◌≡◌, ◌≢◌, ℕ, ◌+◌, ◌≤◌, ◌==◌, Bool, List, [], ◌∷◌, ◌++◌, length, Option, None, Some, if◌then◌else◌}
 use Rattle.std.specs.List.{flat_map, AllByRecursion, before_first, after_first, list_any}
-use Rattle.ascii.specs.Bytes as ascii
+use Rattle.text.specs.Bytes as ascii
 use Rattle.envimage.specs.declared.content.DataError.{DataError}
 use Rattle.envimage.specs.declared.content.DataError.TheVariants.{NotTerminated, NoEquals, EmptyName}
 

@@ -2,7 +2,7 @@
 use Rattle.std.specs.Prelude.{ℕ, ◌+◌, ◌==◌, Bool, List, [], length, if◌then◌else◌}
 use Rattle.std.specs.List.{slice_split, enumerate_from}
 use Rattle.std.specs.Borrow.{Bor}
-use Rattle.ascii.specs.Bytes as ascii
+use Rattle.text.specs.Bytes as ascii
 use Rattle.envimage.specs.declared.text.Lines.{Lines}
 
 abbrev pub is_newline : ℕ → Bool

@@ -1,7 +1,7 @@
 -- What a script of changes does to an environment.
 use Rattle.std.specs.Prelude.{◌≡◌, ℕ, ◌+◌, ◌==◌, ◌||◌, not, Bool, List, [], ◌∷◌, ◌++◌, take, drop, Option, None, Some, Result, Ok, Err, if◌then◌else◌}
 use Rattle.std.specs.List.{position_or_len}
-use Rattle.ascii.specs.Bytes as ascii
+use Rattle.text.specs.Bytes as ascii
 use Rattle.envimage.specs.Data.{Pair}
 use Rattle.envimage.specs.Text.{numbered_lines}
 use Rattle.envimage.specs.Words.{skipped}

@@ -3,7 +3,7 @@ use Rattle.std.proofs.Common.{◌≡◌, ◌≢◌, ℕ, zero, suc, ◌+◌, ◌
 use Rattle.std.proofs.lemmas.Bool.{cases_Bool, eqb-true, eqb-false, false≢true, and_from, or_from, not_from_false, not-false, and_parts}
 use Rattle.std.proofs.lemmas.List.{length-append}
 use Rattle.std.specs.List.{list_all}
-use Rattle.ascii.specs.Bytes.{newline}
+use Rattle.text.specs.Bytes.{newline}
 use Rattle.hushlang.specs.Bytes.{is_blank, is_separator, begins_name, is_name_byte, is_brace_byte, is_escapable, begins}
 use Rattle.hushlang.specs.Token.{Part, Plain, Kept, Mark, Var, Status, Token, sign, word, End, Whole}
 use Rattle.hushlang.specs.Token as ends

@@ -3,7 +3,7 @@ use Rattle.std.proofs.Common.{◌≡◌, ℕ, zero, suc, ◌+◌, ◌-◌, ◌<�
 use Rattle.std.proofs.lemmas.List.{length-append, length-drop, drop-drop}
 use Rattle.std.proofs.Math.Seq.{take-append_seam}
 use Rattle.std.proofs.lemmas.Bool.{cond_both, false≢true, and_from, not_from_false}
-use Rattle.ascii.specs.Bytes.{newline}
+use Rattle.text.specs.Bytes.{newline}
 use Rattle.hushlang.specs.Bytes.{is_separator, is_blank, begins}
 use Rattle.hushlang.specs.Token.{Part, Token, sign}
 use Rattle.hushlang.specs.Reading.{Seen, Takes, Refuses, row, Ends, Front, Gap, Sees, Stops, word_at, word_front, separator_front, front, skip_of, follow, Lexed, lexed, lexed_from}

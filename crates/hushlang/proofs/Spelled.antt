@@ -4,7 +4,7 @@ use Rattle.std.proofs.lemmas.Bool.{not-true, or_parts, and_parts, ne_eqb, falseâ
 use Rattle.std.proofs.Math.Seq.{take-append_seam, drop-append_seam}
 use Rattle.std.proofs.lemmas.List.{length-append}
 use Rattle.std.specs.List.{prefix_len, list_all}
-use Rattle.ascii.specs.Bytes.{newline}
+use Rattle.text.specs.Bytes.{newline}
 use Rattle.hushlang.specs.Bytes.{is_separator, is_ordinary, begins_name, is_name_byte, is_brace_byte, is_escapable, begins}
 use Rattle.hushlang.specs.Token.{Part, Plain, Kept, Mark, Var, Status, Token, sign, word, End, Refused}
 use Rattle.hushlang.specs.Spelling as spelling

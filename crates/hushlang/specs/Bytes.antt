@@ -1,7 +1,7 @@
 -- The bytes that the language tells apart.
 -- After the hush shell of the U-Boot documentation, doc/usage/cmdline; which bytes may stand in braces is ours.
 use Rattle.std.specs.Prelude.{ℕ, Bool, false, not, ◌&&◌, ◌||◌, ◌==◌, nat_le, List, [], ◌∷◌}
-use Rattle.ascii.specs.Bytes as ascii
+use Rattle.text.specs.Bytes as ascii
 
 abbrev pub is_blank : ℕ → Bool
 is_blank b = b == ascii.space || b == ascii.tab

@@ -3,7 +3,7 @@
 -- levels, and where reserved words and assignments count, are ours.
 use Rattle.std.specs.Prelude.{◌≡◌, ℕ, suc, Bool, true, false, List, [], ◌∷◌, map, Option, Some, None, ◌&&◌, ◌==◌, if◌then◌else◌, is_some, codes, option_map}
 use Rattle.std.specs.List.{list_all}
-use Rattle.ascii.specs.Bytes as ascii
+use Rattle.text.specs.Bytes as ascii
 use Rattle.hushlang.specs.Bytes.{begins_name, is_name_byte}
 use Rattle.hushlang.specs.Token.{Part, Plain, Token}
 use Rattle.hushlang.specs.Words.{reserved, plain_bytes, is_plain}

@@ -3,7 +3,7 @@
 -- places, on `$` before other bytes and on backslashes in double quotes, the rule is ours.
 use Rattle.std.specs.Prelude.{◌≡◌, ◌≢◌, ℕ, suc, ◌+◌, Bool, true, false, not, ◌&&◌, ◌==◌, IsTrue, List, [], ◌∷◌, ◌++◌, length, map, ◌⊎◌}
 use Rattle.std.specs.List.{list_all}
-use Rattle.ascii.specs.Bytes as ascii
+use Rattle.text.specs.Bytes as ascii
 use Rattle.hushlang.specs.Bytes.{is_blank, is_separator, is_ordinary, begins_name, is_name_byte, is_brace_byte, is_escapable, begins}
 use Rattle.hushlang.specs.Token.{Part, Plain, Kept, Mark, Var, Status, Token, sign, word, End, Whole, Refused}
 use Rattle.hushlang.specs.declared.token.Kind.TheVariants as kinds

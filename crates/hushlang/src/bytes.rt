@@ -2,7 +2,7 @@
 
 ghost use Rattle.std.specs.Prelude.{◌≡◌, ◌<◌, ◌≤◌, length, not, IsTrue, ◌==◌};
 ghost use Rattle.std.specs.List.{prefix_len};
-ghost use Rattle.ascii.specs.Bytes as ascii;
+ghost use Rattle.text.specs.Bytes as ascii;
 ghost use Rattle.hushlang.specs.Bytes as spec;
 
 /// Whether a byte is a space or a tab.

@@ -2,7 +2,7 @@
 -- doc/usage/cmd, on `echo`, `env`, `exit`, `true` and `false`); what the pages leave open is ours.
 use Rattle.std.specs.Prelude.{ℕ, ◌+◌, ◌-◌, ◌*◌, nat_le, nat_eq, Bool, true, false, not, cond, ◌&&◌, ◌||◌, List, [], ◌∷◌, ◌++◌, length, Option, Some, None, bytes_eq, codes}
 use Rattle.std.specs.List.{join_with_byte, list_any, list_all}
-use Rattle.ascii.specs.Bytes as ascii
+use Rattle.text.specs.Bytes as ascii
 use Rattle.rehearse.specs.Builtins.{Builtin, builtin_of}
 use Rattle.rehearse.specs.DeviceList.{Effect, Devices, effect_of}
 use Rattle.rehearse.specs.State.{Text, Memory, with_value, without}

@@ -3,7 +3,7 @@ use Rattle.std.specs.Prelude.{ℕ, ◌+◌, ◌==◌, ◌||◌, ◌&&◌, ◌++�
 use Rattle.std.specs.Str.{bytes_eq}
 use Rattle.std.specs.List.{list_any, slice_split, position}
 use Rattle.std.specs.Map.{lookup}
-use Rattle.ascii.specs.Bytes as ascii
+use Rattle.text.specs.Bytes as ascii
 use Rattle.envimage.specs.Text.{numbered_lines}
 use Rattle.envimage.specs.Words.{is_blank, skipped}
 use Rattle.rehearse.specs.Verdict.{Text}

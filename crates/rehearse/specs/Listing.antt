@@ -1,7 +1,7 @@
 -- The text that a rehearsal writes. Ours.
 use Rattle.std.specs.Prelude.{ℕ, ◌+◌, ◌-◌, ◌/◌, ◌%◌, nat_lt, nat_le, nat_eq, Bool, true, false, cond, ◌&&◌, List, [], ◌∷◌, ◌++◌, map, flat_map, length, take, Option, Some, None, codes, decimal}
 use Rattle.std.specs.List.{join_with_byte}
-use Rattle.ascii.specs.Bytes as ascii
+use Rattle.text.specs.Bytes as ascii
 use Rattle.bootstore.specs.Moment.{LoggedCommand}
 use Rattle.rehearse.specs.Outcomes.{Outcome, Word}
 use Rattle.rehearse.specs.State.{Text, Variables, get, State}

@@ -1,7 +1,7 @@
 -- Where a listing that was broken off goes on. Ours.
 use Rattle.std.specs.Prelude.{ℕ, suc, ◌+◌, nat_eq, Bool, true, false, ◌||◌, option_map, List, [], ◌∷◌, ◌++◌, flat_map, length, drop, Option, Some, None, codes}
 use Rattle.std.specs.List.{starts_with}
-use Rattle.ascii.specs.Bytes as ascii
+use Rattle.text.specs.Bytes as ascii
 use Rattle.rehearse.specs.Outcomes.{Word}
 use Rattle.rehearse.specs.State.{Text}
 use Rattle.rehearse.specs.Listing.{spelled, last_of}

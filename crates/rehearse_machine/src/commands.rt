@@ -1,7 +1,7 @@
 //! The commands that are built in and change what a script reads.
 ghost use Rattle.std.specs.Prelude.{◌≡◌, ◌∷◌, [], IfOk};
 ghost use Rattle.std.specs.List.{join_with_byte, list_all};
-ghost use Rattle.ascii.specs.Bytes as ascii;
+ghost use Rattle.text.specs.Bytes as ascii;
 ghost use Rattle.bootstore.specs.Moment.{bytes_of_words};
 ghost use Rattle.rehearse.specs.Commands as says;
 ghost use Rattle.rehearse.specs.CommandsShown.{lent_effect};

@@ -1,6 +1,6 @@
 -- The pieces of a line. Ours.
 use Rattle.std.specs.Prelude.{ℕ, Bool, cond, nat_eq, nat_le, not, ◌&&◌, codes}
-use Rattle.ascii.specs.Bytes as ascii
+use Rattle.text.specs.Bytes as ascii
 use Rattle.rehearse.specs.State.{Text}
 use Rattle.rehearse.specs.Listing.{escaped, text_form, word_form}
 use Rattle.rehearse_runs.specs.declared.pieces.Piece.{Piece}

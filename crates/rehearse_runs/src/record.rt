@@ -2,7 +2,7 @@
 ghost use Rattle.std.specs.Prelude.{◌≡◌, ◌++◌, [], map, codes};
 ghost use Rattle.std.specs.List.{flat_map, join_with_byte};
 ghost use Rattle.std.specs.FinMap.{entries};
-ghost use Rattle.ascii.specs.Bytes as ascii;
+ghost use Rattle.text.specs.Bytes as ascii;
 ghost use Rattle.envimage.specs.Sink.{Prints};
 ghost use Rattle.bootstore.specs.Moment.{bytes_of_words};
 ghost use Rattle.rehearse.specs.State.{state_at};

@@ -1,6 +1,6 @@
 -- The start word of a rehearsal, as a listing prints it. Ours.
 use Rattle.std.specs.Prelude.{◌==◌, [], ◌∷◌, codes, if◌then◌else◌}
-use Rattle.ascii.specs.Bytes as ascii
+use Rattle.text.specs.Bytes as ascii
 use Rattle.rehearse.specs.State.{Text}
 
 -- The digits of a printed word: of a dot none, else the text itself. The empty text spells no word, and gives what is

@@ -2,7 +2,7 @@
 -- form is ours.
 use Rattle.std.specs.Prelude.{◌==◌, ◌&&◌, ◌++◌, ◌∷◌, ℕ, List, [], codes, nat_le, if◌then◌else◌}
 use Rattle.std.specs.List.{flat_map}
-use Rattle.ascii.specs.Bytes as ascii
+use Rattle.text.specs.Bytes as ascii
 use Rattle.hex.specs.Hex.{encode_lower}
 
 -- a newline is `\n`, a backslash `\\`; bytes from 33 to 126 are themselves, any other, a space among
