@@ -7,7 +7,7 @@ use Rattle.std.specs.Prelude.{IsUtf8, slice_index}
 use Rattle.std.specs.List.{list_all}
 use Rattle.std.specs.Str.Lossy.{utf8_valid_len}
 use Rattle.envimage.specs.Config.{PlaceShown, is_text, places, places_among, place_lines, place_of, single, pair}
-use Rattle.envimage.specs.Words.{words_of}
+use Rattle.text.specs.Words.{words_of}
 use Rattle.envimage.specs.declared.config.ConfigError.{ConfigError}
 use Rattle.envimage.specs.declared.config.ConfigError.TheVariants.{NoPlace}
 

@@ -1,25 +1,16 @@
 -- The places that a configuration names.
-use Rattle.std.specs.Prelude.{ℕ, ◌+◌, ◌-◌, ◌*◌, ◌^◌, ◌==◌, ◌&&◌, ◌||◌, not, nat_lt, nat_le, Bool, false, List, [], ◌∷◌, length, filter, fold, Option, None, Some, Result, Ok, Err, if◌then◌else◌}
+use Rattle.std.specs.Prelude.{ℕ, ◌^◌, ◌==◌, ◌&&◌, ◌||◌, not, nat_lt, Bool, false, List, [], ◌∷◌, length, filter, Option, None, Some, Result, Ok, Err, if◌then◌else◌}
 use Rattle.std.specs.Str.Lossy.{utf8_valid_len}
 use Rattle.std.specs.List.{list_all}
 use Rattle.text.specs.Bytes as ascii
 use Rattle.envimage.specs.Image.{is_size}
-use Rattle.envimage.specs.Text.{numbered_lines}
-use Rattle.envimage.specs.Words.{words_of}
+use Rattle.text.specs.Lines.{numbered_lines}
+use Rattle.text.specs.Numbers.{digit_of, value_in}
+use Rattle.text.specs.Words.{words_of}
 use Rattle.envimage.specs.declared.config.ConfigError.{ConfigError}
 use Rattle.envimage.specs.declared.config.ConfigError.TheVariants.{BadLine, NotText, BadNumber, NoPlace, SizeOutOfRange, UnequalSizes}
 
 -- ---- numbers
-
--- the value of a digit of any base up to 16, of both cases, and 16 where a byte is no digit
-abbrev pub digit_of : ℕ → ℕ
-digit_of b = if nat_le ascii.digit_zero b && nat_le b ascii.digit_nine then b - ascii.digit_zero
-    else (if nat_le ascii.capital_a b && nat_le b ascii.capital_f then b - (ascii.capital_a - 10)
-    else (if nat_le ascii.small_a b && nat_le b ascii.small_f then b - (ascii.small_a - 10) else 16))
-
--- the digits' number, whatever they are
-abbrev pub value_in : ℕ → List ℕ → ℕ
-value_in base digits = fold (λ number b. number * base + digit_of b) 0 digits
 
 -- one digit or more, all of the base, and a number of at most 9,223,372,036,854,775,807
 abbrev pub is_number_in : ℕ → List ℕ → Bool

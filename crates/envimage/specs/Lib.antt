@@ -8,5 +8,3 @@ pub mod Laws
 pub mod Over
 pub mod Place
 pub mod Sink
-pub mod Text
-pub mod Words

@@ -2,12 +2,12 @@
 use Rattle.std.specs.Prelude.{◌≡◌, ℕ, List, filter, map, Result, Ok, Err, Vec, string_bytes}
 use Rattle.std.specs.declared.alloc.Global.{Global}
 use Rattle.envimage.specs.Config.{PlaceShown, is_place_line}
-use Rattle.envimage.specs.Text.{lines_left}
+use Rattle.text.specs.Lines.{lines_left}
 use Rattle.envimage.specs.declared.config.ConfigError.{ConfigError}
 use Rattle.envimage.specs.declared.config.ConfigError.TheVariants.{BadLine, NotText, BadNumber, NoPlace, SizeOutOfRange, UnequalSizes, Memory}
 use Rattle.envimage.specs.declared.config.Place.{Place}
 use Rattle.envimage.specs.declared.config.NamedPlace.{NamedPlace}
-use Rattle.envimage.specs.declared.text.Lines.{Lines}
+use Rattle.text.specs.declared.lines.Lines.{Lines}
 
 abbrev pub place_shown : Place → PlaceShown
 place_shown p = record { device = string_bytes p.device; offset = p.offset; size = p.size }

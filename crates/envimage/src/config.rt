@@ -5,14 +5,13 @@ ghost use Rattle.std.specs.Result.{result_err};
 ghost use Rattle.envimage.specs.Config.{places, place_of, place_with, is_place_line, is_text, single, pair};
 ghost use Rattle.envimage.specs.Image.{Gives};
 ghost use Rattle.envimage.specs.Place.{named_shown, place_shown, places_left, AnswersPlaces};
-ghost use Rattle.envimage.specs.Words.{words_of};
+ghost use Rattle.text.specs.Words.{words_of};
 ghost use Rattle.envimage.specs.declared.config.ConfigError.TheVariants.{BadLine};
 
 use crate::image::{COPY_MIN, SINGLE_MIN, is_size};
 use crate::number::{offset_of, size_of};
-use crate::text::Lines;
-use crate::words::next_word;
 use std::alloc::{AllocError, Global};
+use text::{Lines, next_word};
 use thiserror::Error;
 
 /// Why a configuration was refused. Lines count from 1, skipped ones included.

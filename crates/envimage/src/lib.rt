@@ -11,9 +11,7 @@ mod image;
 pub mod laws;
 mod number;
 mod output;
-mod text;
 mod walk;
-mod words;
 
 pub use config::{ConfigError, Place, parse_config};
 pub use content::{DataError, check_data, entries};
@@ -21,5 +19,4 @@ pub use crc::crc32;
 pub use encoding::encode;
 pub use image::{ByteOrder, COPY_MIN, ImageError, Loaded, SINGLE_MIN, SIZE_MAX, Which, load};
 pub use output::{Out, OutFault, Over, write_all, write_parts};
-pub use text::Lines;
 pub use walk::Entries;

@@ -1,40 +1,31 @@
 //! The numbers of a configuration.
-ghost use Rattle.std.specs.Prelude.{◌≡◌, ◌≤◌, length};
+ghost use Rattle.std.specs.Prelude.{◌≡◌, ◌≤◌, nat_lt};
+ghost use Rattle.std.specs.List.{list_all};
 ghost use Rattle.std.specs.Option.{option_copied};
-ghost use Rattle.envimage.specs.Config.{digit_of, number_in, after_0x, offset_of, size_of};
+ghost use Rattle.envimage.specs.Config.{number_in, after_0x, offset_of, size_of};
+ghost use Rattle.text.specs.Numbers.{digit_of};
+
+use text::{digit_of, value_in};
 
 /// The greatest number that a configuration may hold.
 const NUMBER_MAX: u64 = 9_223_372_036_854_775_807;
 
-/// The value of a digit of any base up to 16, and 16 where the byte is no digit.
-fn digit_of(byte: u8) -> u64
-    ensures { result ≡ digit_of byte }
+/// Whether all digits are of a base.
+fn all_of_base(base: u64, digits: &[u8]) -> bool
+    ensures { result ≡ list_all (λ b. nat_lt (digit_of b) base) digits.now }
 {
-    match byte {
-        b'0'..=b'9' => u64::from(byte - b'0'),
-        b'A'..=b'F' => u64::from(byte - b'A') + 10,
-        b'a'..=b'f' => u64::from(byte - b'a') + 10,
-        _ => 16,
-    }
+    digits.iter().all(|digit| digit_of(*digit) < base)
 }
 
 /// The number of one digit or more of a base.
 fn number_in(base: u64, digits: &[u8]) -> Option<u64>
-    requires low { 1 ≤ base }
-    requires high { base ≤ 16 }
+    requires { 1 ≤ base }
     ensures { result ≡ number_in base digits.now }
 {
-    if digits.is_empty() {
+    if digits.is_empty() || !all_of_base(base, digits) {
         return None;
     }
-    let mut number: u64 = 0;
-    for digit in digits {
-        let value = digit_of(*digit);
-        if value >= base {
-            return None;
-        }
-        number = number.saturating_mul(base).saturating_add(value);
-    }
+    let number = value_in(base, digits);
     if number > NUMBER_MAX {
         None
     } else {

@@ -1,6 +1,7 @@
 ghost use Rattle.std.specs.Prelude.{◌≡◌};
 
-use crate::content::{cut_at_nul, find};
+use crate::content::cut_at_nul;
+use text::find;
 
 /// The variables of an image's data, in order.
 #[derive(Clone, Copy, Debug)]

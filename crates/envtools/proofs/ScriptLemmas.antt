@@ -1,49 +1,17 @@
 -- The parts of a script's line.
-use Rattle.std.proofs.Common.{◌≡◌, ◌≢◌, ℕ, ◌+◌, ◌-◌, ◌<◌, ◌≤◌, false, List, [], ◌∷◌, ◌++◌, length, get_or, take, drop, inl, inr, None, Some, Result, Ok, Err, refl, sym, ap, ◌∙◌, arith, eqb}
+use Rattle.std.proofs.Common.{◌≡◌, ℕ, ◌+◌, ◌-◌, List, [], ◌∷◌, ◌++◌, length, take, drop, inl, inr, None, Some, Result, Ok, Err, refl, sym, ap, ◌∙◌, arith}
 use Rattle.std.proofs.lemmas.Bool.{cases_Bool}
-use Rattle.std.proofs.lemmas.Bool.Decides.{nat_tests}
-use Rattle.std.proofs.lemmas.List.{take_all, take_more, take_rest}
+use Rattle.std.proofs.lemmas.List.{take_all, take_rest}
 use Rattle.std.specs.List.{position, position_or_len, slice_split, enumerate_from}
 use Rattle.std.specs.Prelude.{unwrap_or}
 use Rattle.std.proofs.Math.ListN.{drop_of_length-le}
-use Rattle.envimage.proofs.WordLemmas.{position-or}
+use Rattle.text.proofs.WordLemmas.{position-or}
 use Rattle.envimage.specs.Data.{Pair}
-use Rattle.envimage.specs.Text.{numbered_lines, is_newline}
-use Rattle.envimage.specs.Words.{skipped}
-use Rattle.envtools.specs.Scripting.{onto_line, without_returns, is_space, ends_name, name_and_value, Reached, go_on, after_line, line_change, scripted_lines, scripted, AppliesLine, AppliesScript}
+use Rattle.text.specs.Lines.{numbered_lines, is_newline}
+use Rattle.text.specs.Words.{is_space, cut_front}
+use Rattle.envtools.specs.Scripting.{ends_name, name_and_value, Reached, go_on, after_line, line_change, scripted_lines, scripted, AppliesLine, AppliesScript}
 use Rattle.envtools.specs.declared.script.ScriptError.{ScriptError}
 use Rattle.envtools.specs.declared.script.ScriptError.TheVariants.{BadName, BadValue, Memory}
-
-trimmed-return : (line : List ℕ) → without_returns (line ++ 13 ∷ []) ≡ without_returns line
-trimmed-return [] = refl
-trimmed-return (b ∷ bs) = ap (onto_line b) (trimmed-return bs)
-
-trimmed-other : (line : List ℕ) (b : ℕ) → b ≢ 13 → without_returns (line ++ b ∷ []) ≡ line ++ b ∷ []
-trimmed-other [] b other = let apart : eqb b 13 ≡ false = grind (arith, nat_tests) in rw apart refl
-trimmed-other (c ∷ []) b other = ap (onto_line c) (trimmed-other [] b other)
-trimmed-other (c ∷ d ∷ cs) b other = ap (onto_line c) (trimmed-other (d ∷ cs) b other)
-
--- the last of the first bytes of a line
-last_of : (line : List ℕ) (len : ℕ) → 0 < len → len ≤ length line → take len line ≡ take (len - 1) line ++ get_or line (len - 1) 0 ∷ []
-last_of line len some within =
-    let more : len ≡ (len - 1) + 1 = omega arith in
-    ap (λ n. take n line) more ∙ take_more line (len - 1) 0 (omega arith)
-
-pub returns-all : (line : List ℕ) → without_returns (take (length line) line) ≡ without_returns line
-returns-all line = ap without_returns (take_all (length line) line (omega arith))
-
-pub returns-step : (line : List ℕ) (len : ℕ) → 0 < len → len ≤ length line → get_or line (len - 1) 0 ≡ 13 → without_returns (take len line) ≡ without_returns line → without_returns (take (len - 1) line) ≡ without_returns line
-returns-step line len some within this before =
-    sym (ap without_returns (last_of line len some within ∙ ap (λ b. take (len - 1) line ++ b ∷ []) this) ∙ trimmed-return (take (len - 1) line)) ∙ before
-
-pub returns-stop : (line : List ℕ) (len : ℕ) → 0 < len → len ≤ length line → get_or line (len - 1) 0 ≢ 13 → without_returns (take len line) ≡ without_returns line → take len line ≡ without_returns line
-returns-stop line len some within other before =
-    last_of line len some within ∙ (sym (trimmed-other (take (len - 1) line) (get_or line (len - 1) 0) other) ∙ (sym (ap without_returns (last_of line len some within)) ∙ before))
-
-pub returns-none : (line : List ℕ) (len : ℕ) → len ≡ 0 → without_returns (take len line) ≡ without_returns line → [] ≡ without_returns line
-returns-none line len none before = sym (ap (λ n. without_returns (take n line)) none) ∙ before
-
-pub ruleset ends = (returns-all, returns-step, returns-stop, returns-none)
 
 -- ---- the name and the value
 
@@ -51,16 +19,16 @@ pub name-unfound : (text : List ℕ) → position ends_name text ≡ None → (t
 name-unfound text e =
     let n : position_or_len ends_name text ≡ length text = sym (position-or ends_name text) ∙ ap (λ o. unwrap_or o (length text)) e in
     let name : take (position_or_len ends_name text) text ≡ text = ap (λ k. take k text) n ∙ take_all (length text) text (omega arith) in
-    let value : skipped is_space (drop (position_or_len ends_name text + 1) text) ≡ [] =
-    ap (λ k. skipped is_space (drop (k + 1) text)) n ∙ ap (skipped is_space) (drop_of_length-le text {i = length text + 1} (omega arith)) in
+    let value : cut_front is_space (drop (position_or_len ends_name text + 1) text) ≡ [] =
+    ap (λ k. cut_front is_space (drop (k + 1) text)) n ∙ ap (cut_front is_space) (drop_of_length-le text {i = length text + 1} (omega arith)) in
     λ i. (sym name i, sym value i)
 
-pub name-found : (text : List ℕ) (at : ℕ) → position ends_name text ≡ Some at → (take at text, skipped is_space (take (length text - (at + 1)) (drop (at + 1) text))) ≡ name_and_value text
+pub name-found : (text : List ℕ) (at : ℕ) → position ends_name text ≡ Some at → (take at text, cut_front is_space (take (length text - (at + 1)) (drop (at + 1) text))) ≡ name_and_value text
 name-found text at e =
     let n : at ≡ position_or_len ends_name text = sym (ap (λ o. unwrap_or o (length text)) e) ∙ position-or ends_name text in
     let name : take at text ≡ take (position_or_len ends_name text) text = ap (λ k. take k text) n in
-    let value : skipped is_space (take (length text - (at + 1)) (drop (at + 1) text)) ≡ skipped is_space (drop (position_or_len ends_name text + 1) text) =
-    ap (skipped is_space) (take_rest text (at + 1)) ∙ ap (λ k. skipped is_space (drop (k + 1) text)) n in
+    let value : cut_front is_space (take (length text - (at + 1)) (drop (at + 1) text)) ≡ cut_front is_space (drop (position_or_len ends_name text + 1) text) =
+    ap (cut_front is_space) (take_rest text (at + 1)) ∙ ap (λ k. cut_front is_space (drop (k + 1) text)) n in
     λ i. (name i, value i)
 
 pub ruleset names = (name-unfound, name-found)

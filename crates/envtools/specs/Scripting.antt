@@ -3,32 +3,23 @@ use Rattle.std.specs.Prelude.{◌≡◌, ℕ, ◌+◌, ◌==◌, ◌||◌, not, 
 use Rattle.std.specs.List.{position_or_len}
 use Rattle.text.specs.Bytes as ascii
 use Rattle.envimage.specs.Data.{Pair}
-use Rattle.envimage.specs.Text.{numbered_lines}
-use Rattle.envimage.specs.Words.{skipped}
+use Rattle.text.specs.Lines.{numbered_lines}
+use Rattle.text.specs.Words.{is_space, cut_front, cut_behind}
 use Rattle.envtools.specs.Environment.{changed_to, is_name, is_value}
 use Rattle.envtools.specs.declared.script.ScriptError.{ScriptError}
 use Rattle.envtools.specs.declared.script.ScriptError.TheVariants.{BadName, BadValue, Memory}
-
-abbrev pub is_space : ℕ → Bool
-is_space b = (b == ascii.space) || (b == ascii.tab)
 
 -- a blank or `=`
 abbrev pub ends_name : ℕ → Bool
 ends_name b = (b == ascii.equals) || is_space b
 
--- a line without the carriage returns at its end
-abbrev pub onto_line : ℕ → List ℕ → List ℕ
-onto_line b [] = if b == ascii.carriage_return then [] else b ∷ []
-onto_line b (c ∷ cs) = b ∷ c ∷ cs
-
-abbrev pub without_returns : List ℕ → List ℕ
-without_returns [] = []
-without_returns (b ∷ bs) = onto_line b (without_returns bs)
+abbrev pub is_return : ℕ → Bool
+is_return b = b == ascii.carriage_return
 
 -- The name before the first blank or `=`, and what follows that byte and the blanks behind it.
 abbrev pub name_and_value : List ℕ → List ℕ × List ℕ
 name_and_value text = let len = position_or_len ends_name text in
-    (take len text, skipped is_space (drop (len + 1) text))
+    (take len text, cut_front is_space (drop (len + 1) text))
 
 -- a line of nothing but blanks is skipped
 abbrev pub change_of : List ℕ → Option (List ℕ × List ℕ)
@@ -38,11 +29,11 @@ change_of (b ∷ bs) = Some (name_and_value (b ∷ bs))
 -- and so is one that begins with `#`
 abbrev pub uncommented : List ℕ → Option (List ℕ × List ℕ)
 uncommented [] = None
-uncommented (b ∷ bs) = if b == ascii.hash then None else change_of (skipped is_space (b ∷ bs))
+uncommented (b ∷ bs) = if b == ascii.hash then None else change_of (cut_front is_space (b ∷ bs))
 
--- the change that a line makes: a name and its new value
+-- the change that a line makes, without the carriage returns at its end: a name and its new value
 abbrev pub line_change : List ℕ → Option (List ℕ × List ℕ)
-line_change line = uncommented (without_returns line)
+line_change line = uncommented (cut_behind is_return line)
 
 -- the environment after a line, or the line's fault
 abbrev pub after_line : List Pair → ℕ → Option (List ℕ × List ℕ) → Result (List Pair) ScriptError

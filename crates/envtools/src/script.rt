@@ -1,13 +1,13 @@
 ghost use Rattle.std.specs.Prelude.{◌≡◌, ◌≤◌, length};
 ghost use Rattle.std.specs.List.{position, position_or_len};
 ghost use Rattle.std.specs.Option.{option_map};
-ghost use Rattle.envimage.specs.Words.{skipped};
-ghost use Rattle.envtools.specs.Scripting.{is_space, ends_name, without_returns, name_and_value, change_of, line_change, AppliesLine, AppliesScript};
+ghost use Rattle.text.specs.Words.{is_space, cut_front, cut_behind};
+ghost use Rattle.envtools.specs.Scripting.{is_return, ends_name, name_and_value, change_of, line_change, AppliesLine, AppliesScript};
 
 use crate::draft::Draft;
 use crate::env::{Env, is_name, is_value};
-use envimage::Lines;
 use std::alloc::AllocError;
+use text::{Lines, cut_behind, cut_front, is_space};
 use thiserror::Error;
 
 /// Why a script was refused. Lines count from 1, skipped ones included.
@@ -35,13 +35,6 @@ impl From<AllocError> for ScriptError {
     }
 }
 
-/// Whether a byte is a space or a tab.
-fn is_space(byte: u8) -> bool
-    ensures { result ≡ is_space byte }
-{
-    byte == b' ' || byte == b'\t'
-}
-
 /// Whether a byte ends a name: a blank or `=`.
 fn ends_name(byte: u8) -> bool
     ensures { result ≡ ends_name byte }
@@ -50,32 +43,17 @@ fn ends_name(byte: u8) -> bool
 }
 
 /// A line without the carriage returns at its end.
-#[tactic(auto, using(crate::proofs::ScriptLemmas::ends))]
 fn without_returns(line: &[u8]) -> &[u8]
-    ensures { result.now ≡ without_returns line.now }
+    ensures { result.now ≡ cut_behind is_return line.now }
 {
-    let mut len = line.len();
-    while len > 0 {
-        if line[len - 1] != b'\r' {
-            return &line[..len];
-        }
-        len -= 1;
-    }
-    &[]
+    cut_behind(line, |byte| byte == b'\r')
 }
 
-/// What follows the blanks at the front.
+/// What follows the spaces and tabs at the front.
 fn without_spaces(text: &[u8]) -> &[u8]
-    ensures { result.now ≡ skipped is_space text.now }
+    ensures { result.now ≡ cut_front is_space text.now }
 {
-    let mut rest = text;
-    while let [first, more @ ..] = rest {
-        if !is_space(*first) {
-            break;
-        }
-        rest = more;
-    }
-    rest
+    cut_front(text, |byte| is_space(byte))
 }
 
 /// The place of the byte that ends a name.
@@ -86,7 +64,6 @@ fn name_end(text: &[u8]) -> Option<usize>
 }
 
 /// The name that a text begins with, and the value behind it.
-
 #[tactic(auto, using(crate::proofs::ScriptLemmas::names))]
 fn name_and_value(text: &[u8]) -> (&[u8], &[u8])
     ensures { (result.0.now, result.1.now) ≡ name_and_value text.now }

@@ -8,7 +8,7 @@ use Rattle.rehearse.specs.State.{Text}
 use Rattle.rehearse.specs.Execution.{End, CutSteps, Size}
 use Rattle.rehearse.specs.Runs.{steps, work}
 use Rattle.rehearse.specs.DeviceLaws.{is_name_alone}
-use Rattle.envimage.specs.Text.{numbered_lines}
+use Rattle.text.specs.Lines.{numbered_lines}
 use Rattle.rehearse.proofs.Rehearsed.{only_load, setting, bootcmd, bootcmd_among, z, listed, told_of, told, told_within, times}
 
 -- a list whose comment has two words

@@ -9,7 +9,7 @@ use Rattle.std.specs.Cmp.Lexicographic.{bytes_decides}
 use Rattle.std.specs.List.{list_any, flat_map}
 use Rattle.std.specs.Result.{result_ok}
 use Rattle.std.specs.Str.{bytes_eq}
-use Rattle.envimage.specs.Text.{numbered_lines}
+use Rattle.text.specs.Lines.{numbered_lines}
 use Rattle.rehearse.specs.Verdict.{Text}
 use Rattle.rehearse.specs.DeviceList.{Effect, Devices, Listing, effect_of, joint, joined, device_words, begins_comment, heading_of, listing_of, with_listing, after_words, after_line, listed_lines}
 use Rattle.rehearse.specs.DeviceLaws.{line_listing, with_line, listings, lines_of, whole_effect, LinesAreJoined}

@@ -5,11 +5,11 @@ use Rattle.std.proofs.lemmas.Bool.Decides.{eqb_tells}
 use Rattle.std.proofs.lemmas.List.Splits.{slice_split-cons_no}
 use Rattle.std.specs.List.{list_any, slice_split, onto_first}
 use Rattle.std.specs.Str.{bytes_eq}
-use Rattle.envimage.specs.Text.{numbered_lines}
-use Rattle.envimage.specs.Words.{is_blank, skipped}
+use Rattle.text.specs.Lines.{numbered_lines}
+use Rattle.text.specs.Words.{is_blank, is_space, cut_front, onto_line, cut_behind, trimmed}
 use Rattle.rehearse.specs.Verdict.{Text}
 use Rattle.rehearse.specs.Builtins.{is_built_in}
-use Rattle.rehearse.specs.DeviceList.{Devices, joined, onto_line, cut_behind, trimmed, is_space, with_listing, after_words, after_line, listed_lines}
+use Rattle.rehearse.specs.DeviceList.{Devices, joined, with_listing, after_words, after_line, listed_lines}
 use Rattle.rehearse.specs.DeviceLaws.{quiet}
 use Rattle.rehearse.specs.PlainList.{with_name, plain_line, plain_lines, PlainListsStand}
 use Rattle.rehearse.specs.declared.devices_error.DevicesError.{DevicesError}
@@ -43,15 +43,15 @@ not_nul : (b : ℕ) → is_blank b ≡ true → eqb b 0 ≡ false
 not_nul zero e = sym e
 not_nul (suc b) e = not_zero b
 
-skipped-nul : (line : Text) → holds_nul (skipped is_blank line) ≡ holds_nul line
-skipped-nul [] = refl
-skipped-nul (b ∷ line) =
+cut_front-nul : (line : Text) → holds_nul (cut_front is_blank line) ≡ holds_nul line
+cut_front-nul [] = refl
+cut_front-nul (b ∷ line) =
     elim (cases_Bool (is_blank b)) [
-      | inl blank ↦ let no = not_nul b blank in rw (blank, no) (skipped-nul line)
+      | inl blank ↦ let no = not_nul b blank in rw (blank, no) (cut_front-nul line)
       | inr other ↦ rw other refl
     ]
 
-onto_line-nul : (b : ℕ) (line : Text) → holds_nul (onto_line b line) ≡ (eqb b 0 || holds_nul line)
+onto_line-nul : (b : ℕ) (line : Text) → holds_nul (onto_line is_blank b line) ≡ (eqb b 0 || holds_nul line)
 onto_line-nul b [] =
     elim (cases_Bool (is_blank b)) [
       | inl blank ↦ let no = not_nul b blank in rw (blank, no) refl
@@ -59,12 +59,12 @@ onto_line-nul b [] =
     ]
 onto_line-nul b (c ∷ line) = refl
 
-cut_behind-nul : (line : Text) → holds_nul (cut_behind line) ≡ holds_nul line
+cut_behind-nul : (line : Text) → holds_nul (cut_behind is_blank line) ≡ holds_nul line
 cut_behind-nul [] = refl
-cut_behind-nul (b ∷ line) = onto_line-nul b (cut_behind line) ∙ ap (λ r. eqb b 0 || r) (cut_behind-nul line)
+cut_behind-nul (b ∷ line) = onto_line-nul b (cut_behind is_blank line) ∙ ap (λ r. eqb b 0 || r) (cut_behind-nul line)
 
 trimmed-nul : (line : Text) → holds_nul (trimmed line) ≡ holds_nul line
-trimmed-nul line = cut_behind-nul (skipped is_blank line) ∙ skipped-nul line
+trimmed-nul line = cut_behind-nul (cut_front is_blank line) ∙ cut_front-nul line
 
 -- ---- the words of a line
 

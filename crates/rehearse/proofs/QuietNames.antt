@@ -4,7 +4,7 @@ use Rattle.std.specs.List.{list_any, list_all, AllByRecursion}
 use Rattle.std.specs.Str.{bytes_eq}
 use Rattle.std.proofs.lemmas.Bool.{false≢true}
 use Rattle.std.proofs.lemmas.Bool.Decides.{nat_tests}
-use Rattle.envimage.specs.Text.{numbered_lines}
+use Rattle.text.specs.Lines.{numbered_lines}
 use Rattle.rehearse.specs.Verdict.{Text}
 use Rattle.rehearse.specs.Builtins.{is_built_in}
 use Rattle.rehearse.specs.DeviceList.{Effect, Devices, effect_of, joint, joined, device_words, begins_comment, with_listing, after_words, after_line, listed_lines}

@@ -3,7 +3,7 @@ use Rattle.std.specs.Prelude.{◌≡◌, ℕ, nat_le, Bool, true, false, length,
 use Rattle.std.specs.Str.{bytes_eq}
 use Rattle.std.specs.List.{list_any, list_all, flat_map}
 use Rattle.std.specs.Result.{result_ok}
-use Rattle.envimage.specs.Text.{numbered_lines}
+use Rattle.text.specs.Lines.{numbered_lines}
 use Rattle.rehearse.specs.Verdict.{Text}
 use Rattle.rehearse.specs.DeviceList.{Effect, Devices, Listing, effect_of, device_words, begins_comment, heading_of, listing_of, listed}
 

@@ -4,8 +4,8 @@ use Rattle.std.specs.Str.{bytes_eq}
 use Rattle.std.specs.List.{list_any, slice_split, position}
 use Rattle.std.specs.Map.{lookup}
 use Rattle.text.specs.Bytes as ascii
-use Rattle.envimage.specs.Text.{numbered_lines}
-use Rattle.envimage.specs.Words.{is_blank, skipped}
+use Rattle.text.specs.Lines.{numbered_lines}
+use Rattle.text.specs.Words.{is_space, trimmed}
 use Rattle.rehearse.specs.Verdict.{Text}
 use Rattle.rehearse.specs.Builtins.{is_built_in}
 use Rattle.rehearse.specs.declared.devices_error.DevicesError.{DevicesError}
@@ -25,23 +25,7 @@ effect_of devices name = lookup (bytes_eq name) devices
 
 -- ---- the words of a line
 
--- a line without the spaces, tabs and carriage returns behind it
-abbrev pub onto_line : ℕ → Text → Text
-onto_line b [] = if is_blank b then [] else b ∷ []
-onto_line b (c ∷ cs) = b ∷ c ∷ cs
-
-abbrev pub cut_behind : Text → Text
-cut_behind [] = []
-cut_behind (b ∷ bytes) = onto_line b (cut_behind bytes)
-
--- and without those in front of it
-abbrev pub trimmed : Text → Text
-trimmed line = cut_behind (skipped is_blank line)
-
-abbrev pub is_space : ℕ → Bool
-is_space b = (b == ascii.space) || (b == ascii.tab)
-
--- Spaces and tabs separate words; a carriage return inside the line is a byte of its word.
+-- Blanks round a line are dropped. Spaces and tabs separate words; a carriage return inside the line is a byte of its word.
 abbrev pub device_words : Text → List Text
 device_words line = filter (λ word. not (length word == 0)) (slice_split is_space (trimmed line))
 

@@ -1,11 +1,11 @@
 //! What one line of a device list says.
 ghost use Rattle.std.specs.Prelude.{◌≡◌, ◌==◌, map, option_map, IfOk};
 ghost use Rattle.std.specs.List.{list_any, position};
-ghost use Rattle.envimage.specs.Words.{is_blank, skipped};
-ghost use Rattle.rehearse.specs.DeviceList.{cut_behind, trimmed, is_space, device_words, is_equals, is_variable, setting, settings, heading_of, begins_comment};
+ghost use Rattle.rehearse.specs.DeviceList.{device_words, is_equals, is_variable, setting, settings, heading_of, begins_comment};
 ghost use Rattle.rehearse.specs.DevicesShown.{settings_shown, heading_shown, lent_setting};
 
 use std::alloc::{AllocError, Global};
+use text::{is_space, trimmed};
 
 /// A variable that a device command sets, and its value.
 pub(crate) type Setting = (Vec<u8>, Vec<u8>);
@@ -16,56 +16,6 @@ pub(crate) struct Heading<'a> {
     pub(crate) name: &'a [u8],
     pub(crate) ends: bool,
     pub(crate) words: &'a [&'a [u8]],
-}
-
-/// Whether a byte is dropped round a line: a space, a tab or a carriage return.
-fn is_blank(byte: u8) -> bool
-    ensures { result ≡ is_blank byte }
-{
-    is_space(byte) || byte == b'\r'
-}
-
-/// Whether a byte separates words: a space or a tab.
-fn is_space(byte: u8) -> bool
-    ensures { result ≡ is_space byte }
-{
-    byte == b' ' || byte == b'\t'
-}
-
-/// What follows the blanks at the front.
-fn cut_front(line: &[u8]) -> &[u8]
-    ensures { result.now ≡ skipped is_blank line.now }
-{
-    let mut rest = line;
-    while let [first, more @ ..] = rest {
-        if !is_blank(*first) {
-            break;
-        }
-        rest = more;
-    }
-    rest
-}
-
-/// A line without the blanks at its end.
-#[tactic(auto, using(crate::proofs::DeviceLemmas::ends))]
-fn cut_behind(line: &[u8]) -> &[u8]
-    ensures { result.now ≡ cut_behind line.now }
-{
-    let mut len = line.len();
-    while len > 0 {
-        if !is_blank(line[len - 1]) {
-            return &line[..len];
-        }
-        len -= 1;
-    }
-    &[]
-}
-
-/// A line without the blanks round it.
-fn trimmed(line: &[u8]) -> &[u8]
-    ensures { result.now ≡ trimmed line.now }
-{
-    cut_behind(cut_front(line))
 }
 
 /// The words of a line.

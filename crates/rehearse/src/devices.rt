@@ -5,10 +5,10 @@ ghost use Rattle.rehearse.specs.DeviceList.{joined, effect_of};
 use crate::builtins::is_built_in;
 use crate::device_line::{Setting, begins_comment, device_words, has_nul, heading_of, settings};
 use crate::devices_error::DevicesError;
-use envimage::Lines;
 use indexmap::IndexMap;
 use std::alloc::{AllocError, Global};
 use std::marker::Model;
+use text::Lines;
 
 /// What a device command does on success.
 #[derive(Clone, Copy, Debug)]

@@ -2,20 +2,10 @@
 ghost use Rattle.std.specs.Prelude.{◌≡◌, ◌-◌, ◌^◌, ◌≤◌, nat_lt, length, min, pos};
 ghost use Rattle.std.specs.List.{prefix_len};
 ghost use Rattle.std.specs.Option.{option_copied};
-ghost use Rattle.envimage.specs.Config.{digit_of, value_in};
+ghost use Rattle.text.specs.Numbers.{digit_of};
 ghost use Rattle.rehearse.specs.Verdict.{digits_in, read_in, begins_hexadecimal, magnitude, negated, behind_minus, number};
 
-/// The value of a digit of any base up to 16, and 16 where the byte is no digit.
-fn digit_of(byte: u8) -> u64
-    ensures { result ≡ digit_of byte }
-{
-    match byte {
-        b'0'..=b'9' => u64::from(byte - b'0'),
-        b'A'..=b'F' => u64::from(byte - b'A') + 10,
-        b'a'..=b'f' => u64::from(byte - b'a') + 10,
-        _ => 16,
-    }
-}
+use text::{digit_of, value_in};
 
 /// How many bytes in front are digits of a base.
 fn digits_len(base: u64, word: &[u8]) -> usize
@@ -32,18 +22,6 @@ fn digits_in(base: u64, word: &[u8]) -> &[u8]
     ensures { result.now ≡ digits_in base word.now }
 {
     &word[..digits_len(base, word)]
-}
-
-/// The number of some digits, as far as 64 bits can hold it.
-fn value_in(base: u64, digits: &[u8]) -> u64
-    requires { 1 ≤ base }
-    ensures { result ≡ min (value_in base digits.now) (2 ^ 64 - 1) }
-{
-    let mut number: u64 = 0;
-    for digit in digits {
-        number = number.saturating_mul(base).saturating_add(digit_of(*digit));
-    }
-    number
 }
 
 /// The number that the digits in front spell, and 0 where there is none.

@@ -6,7 +6,7 @@ use Rattle.std.proofs.lemmas.Bool.Decides.{nat_tests}
 use Rattle.std.proofs.lemmas.Bool.{false≢true, cases_Bool}
 use Rattle.std.proofs.lemmas.List.Quantifiers.{position-Some}
 use Rattle.envimage.specs.Sink.{Sink, BrokeOff}
-use Rattle.envimage.proofs.DataLemmas.{position-none}
+use Rattle.text.proofs.SearchLemmas.{position-none}
 use Rattle.rehearse.specs.Listing.{escaped}
 use Rattle.rehearse_runs.specs.Pieces.{is_shown, word_escaped}
 use Rattle.rehearse_runs.specs.Paging.{Put, Puts}

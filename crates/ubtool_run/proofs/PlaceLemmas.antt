@@ -5,7 +5,7 @@ use Rattle.std.specs.Prelude.{Result, if◌then◌else◌, not, ◌==◌}
 use Rattle.envimage.specs.Config.{PlaceShown, place_of, places, places_among, place_lines, single, pair}
 use Rattle.envimage.specs.Image.{is_size}
 use Rattle.envimage.specs.Place.{place_shown}
-use Rattle.envimage.specs.Words.{words_of}
+use Rattle.text.specs.Words.{words_of}
 use Rattle.envimage.specs.declared.config.ConfigError.{ConfigError}
 use Rattle.envimage.specs.declared.config.Place.{Place}
 use Rattle.ubtool_run.specs.Images.{second_place}

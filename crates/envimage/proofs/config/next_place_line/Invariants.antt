@@ -1,6 +1,6 @@
 use Rattle.std.proofs.Common.{◌≡◌, length}
 use Rattle.envimage.specs.Place.{places_left}
-use Rattle.envimage.specs.Text.{lines_left}
+use Rattle.text.specs.Lines.{lines_left}
 use Rattle.envimage.proofs.config.next_place_line.Given as goal
 
 -- the lines passed over name no place

@@ -1,6 +1,6 @@
 use Rattle.std.proofs.Common.{◌≡◌, ◌++◌, ◌∷◌, [], ℕ, List, Result, ap, sym, subst, ◌∙◌, append_assoc, Err}
 use Rattle.std.proofs.lemmas.Result.{err_from_is_err_and}
-use Rattle.envimage.specs.Text.{lines_left}
+use Rattle.text.specs.Lines.{lines_left}
 use Rattle.envtools.specs.Scripting.{AppliesScript}
 use Rattle.envtools.specs.declared.script.ScriptError.{ScriptError}
 use Rattle.envtools.proofs.ScriptLemmas.{scripted-next, script-refused}

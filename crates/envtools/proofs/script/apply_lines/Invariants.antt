@@ -1,5 +1,5 @@
 use Rattle.std.proofs.Common.{◌≡◌, ◌++◌, ℕ, List, None}
-use Rattle.envimage.specs.Text.{numbered_lines, lines_left}
+use Rattle.text.specs.Lines.{numbered_lines, lines_left}
 use Rattle.envtools.specs.Scripting.{scripted_lines}
 use Rattle.envtools.proofs.script.apply_lines.Given as goal
 

@@ -3,7 +3,7 @@ use Rattle.std.specs.Slice.Iter as slice
 use borrow.Author.Tests.{tests}
 use Rattle.std.proofs.lemmas.Iterator.Consumers.{map_from_collect, YieldsList-from_filter}
 use Rattle.std.proofs.lemmas.Iterator.Splits.{YieldsList-from_slice_split}
-use Rattle.rehearse.specs.DeviceList.{is_space, trimmed}
+use Rattle.text.specs.Words.{is_space, trimmed}
 use Rattle.rehearse.proofs.device_line.device_words.Goals as goal
 
 pub returns : goal.returns

@@ -1,5 +1,5 @@
 use Rattle.std.proofs.Common.{◌≡◌}
-use Rattle.envimage.specs.Text.{lines_left}
+use Rattle.text.specs.Lines.{lines_left}
 use Rattle.rehearse.specs.DeviceList.{listed, listed_lines}
 use Rattle.rehearse.proofs.devices.Devices.parse.Given as goal
 

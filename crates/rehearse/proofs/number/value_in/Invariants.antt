@@ -1,7 +1,0 @@
-use Rattle.std.proofs.Common.{◌≡◌, ◌-◌, ◌^◌, min, take}
-use Rattle.envimage.specs.Config.{value_in}
-use Rattle.rehearse.proofs.number.value_in.Given as goal
-
--- the digits so far make this number as far as it can be held
-abbrev pub invariant-loop-digit : goal.invariant-loop-digit
-invariant-loop-digit l = l.number ≡ min (value_in l.base (take l.digit-index l.digits)) (2 ^ 64 - 1)

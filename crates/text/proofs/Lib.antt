@@ -1,0 +1,4 @@
+pub mod CutLemmas
+pub mod LineLemmas
+pub mod SearchLemmas
+pub mod WordLemmas

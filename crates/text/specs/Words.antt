@@ -1,0 +1,38 @@
+-- The words of a line, and what stands round them.
+use Rattle.std.specs.Prelude.{◌≡◌, ℕ, ◌<◌, ◌==◌, ◌||◌, not, Bool, List, [], ◌∷◌, length, filter, if◌then◌else◌}
+use Rattle.std.specs.List.{slice_split}
+use Rattle.text.specs.Bytes as ascii
+
+-- a space or a tab
+abbrev pub is_space : ℕ → Bool
+is_space b = (b == ascii.space) || (b == ascii.tab)
+
+-- a space, a tab or a carriage return
+abbrev pub is_blank : ℕ → Bool
+is_blank b = is_space b || (b == ascii.carriage_return)
+
+-- what follows the bytes in front that pass a test
+abbrev pub cut_front : (ℕ → Bool) → List ℕ → List ℕ
+cut_front p [] = []
+cut_front p (b ∷ bytes) = if p b then cut_front p bytes else b ∷ bytes
+
+-- what stands before the bytes at the end that pass a test
+abbrev pub onto_line : (ℕ → Bool) → ℕ → List ℕ → List ℕ
+onto_line p b [] = if p b then [] else b ∷ []
+onto_line p b (c ∷ bytes) = b ∷ c ∷ bytes
+
+abbrev pub cut_behind : (ℕ → Bool) → List ℕ → List ℕ
+cut_behind p [] = []
+cut_behind p (b ∷ bytes) = onto_line p b (cut_behind p bytes)
+
+-- a line without the blanks round it
+abbrev pub trimmed : List ℕ → List ℕ
+trimmed line = cut_behind is_blank (cut_front is_blank line)
+
+-- the words of a line are what blanks separate
+abbrev pub words_of : List ℕ → List (List ℕ)
+words_of line = filter (λ word. not (length word == 0)) (slice_split is_blank line)
+
+-- the answers of a closure are those of a test
+abbrev pub Tests : (ℕ → Bool → Type 0) → (ℕ → Bool) → Type 0
+Tests answers p = (b : ℕ) (truth : Bool) → b < 256 → answers b truth → truth ≡ p b
