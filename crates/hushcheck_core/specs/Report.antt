@@ -10,7 +10,8 @@ use Rattle.hushlang.specs.declared.token.SyntaxError.TheVariants.{OpenQuote, Lon
 use Rattle.hushcheck_core.specs.Names.{Text, read_in}
 use Rattle.hushcheck_core.specs.Order.{IsOrder}
 use Rattle.hushcheck_core.specs.Place.{line_front, line_text, place_in}
-use Rattle.hushcheck_core.specs.Shown.{mark_line, shown_line, word_form}
+use Rattle.text.specs.Escapes.{word_form}
+use Rattle.hushcheck_core.specs.Shown.{mark_line, shown_line}
 use Rattle.hushcheck_core.specs.declared.place.Place.{Place}
 
 -- the byte at which a text is refused

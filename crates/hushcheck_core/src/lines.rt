@@ -1,7 +1,7 @@
 //! The lines that are told of a text.
 ghost use Rattle.std.specs.Prelude.{◌≡◌, ◌++◌, decimal, OnOk};
 ghost use Rattle.hushcheck_core.specs.Report as spec;
-ghost use Rattle.hushcheck_core.specs.Shown.{word_form};
+ghost use Rattle.text.specs.Escapes.{word_form};
 
 use crate::fault::{byte_of, what_of};
 use crate::place::{Place, line_at, line_front, place_of};

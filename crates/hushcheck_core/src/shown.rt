@@ -1,30 +1,10 @@
 //! Bytes that may not print.
-ghost use Rattle.std.specs.Prelude.{◌≡◌, ◌∷◌, ◌++◌, [], codes, OnOk};
-ghost use Rattle.hex.specs.Hex.{encode_lower};
-ghost use Rattle.hushcheck_core.specs.Shown.{line_byte, mark_byte, mark_line, shown_line, word_byte, word_form};
+ghost use Rattle.std.specs.Prelude.{◌≡◌, ◌++◌, OnOk};
+ghost use Rattle.text.specs.Escapes.{word_form};
+ghost use Rattle.hushcheck_core.specs.Shown.{line_byte, mark_byte, mark_line, shown_line};
 
 use std::alloc::AllocError;
-
-/// A byte as `\x` and its two hexadecimal digits, in lower case.
-fn hidden(byte: u8) -> [u8; 4]
-    ensures { result ≡ codes "\\x" ++ encode_lower (byte ∷ []) }
-{
-    let mut shown = [b'\\', b'x', 0, 0];
-    let _fits = hex::encode_to_slice([byte], &mut shown[2..]);
-    shown
-}
-
-/// Puts a byte of a name behind a text.
-fn push_word_byte(text: &mut Vec<u8>, byte: u8) -> Result<(), AllocError>
-    ensures { OnOk result (text.new.items ≡ text.old.items ++ word_byte byte) }
-{
-    match byte {
-        b'\n' => text.extend_from_slice(b"\\n"),
-        b'\\' => text.extend_from_slice(b"\\\\"),
-        b'!'..=b'~' => text.extend_from_slice(&[byte]),
-        _ => text.extend_from_slice(&hidden(byte)),
-    }
-}
+use text::Escaped;
 
 /// Puts a name behind a text.
 pub(crate) fn push_name(text: &mut Vec<u8>, name: &[u8]) -> Result<(), AllocError>
@@ -34,7 +14,7 @@ pub(crate) fn push_name(text: &mut Vec<u8>, name: &[u8]) -> Result<(), AllocErro
         return text.extend_from_slice(b"\\e");
     }
     for byte in name {
-        push_word_byte(text, *byte)?;
+        text.extend_from_slice(Escaped::in_word(*byte).as_slice())?;
     }
     Ok(())
 }

@@ -7,7 +7,8 @@ use Rattle.rehearse.specs.Outcomes.{Word, Success, Failure}
 use Rattle.bootstore.specs.Moment.{LoggedCommand}
 use Rattle.rehearse.specs.State.{Text, Variables, get, State}
 use Rattle.rehearse.specs.Execution.{Ending, End, CutDevices, CutSteps, Unknown, Syntax, Size, Booted}
-use Rattle.rehearse.specs.Listing.{hex_digit, escaped, text_form, word_form, digit_when, digit_of, spelled, line, device_line, text_lines, variable_line, asked_line, variable_lines, last_line, inner_lines, record_lines}
+use Rattle.text.specs.Escapes.{hex_digit, escaped, text_form, word_escaped, word_form}
+use Rattle.rehearse.specs.Listing.{digit_when, digit_of, spelled, line, device_line, text_lines, variable_line, asked_line, variable_lines, last_line, inner_lines, record_lines}
 use Rattle.rehearse.specs.Resuming.{ended_lines, is_last_line, is_first_line, Point, point_in, resume_point_of}
 
 -- no byte of it is a newline
@@ -48,7 +49,7 @@ space-line b false = escaped-line b
 
 word-line : (bytes : Text) → IsOneLine (word_form bytes)
 word-line [] = (refl, (refl, tt))
-word-line (b ∷ bytes) = OneLine-flat (λ c. cond (nat_eq c 32) (codes "\\x20") (escaped c)) (λ c. space-line c (nat_eq c 32)) (b ∷ bytes)
+word-line (b ∷ bytes) = OneLine-flat word_escaped (λ c. space-line c (nat_eq c 32)) (b ∷ bytes)
 
 -- lines that end stand as they were written, and the rest has none
 pub lines-of-line : (part l : Text) (bytes : Text) → IsOneLine l → ended_lines part (l ++ 10 ∷ bytes) ≡ (part ++ l) ∷ ended_lines [] bytes

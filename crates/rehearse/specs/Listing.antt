@@ -1,32 +1,15 @@
 -- The text that a rehearsal writes. Ours.
-use Rattle.std.specs.Prelude.{ℕ, ◌+◌, ◌-◌, ◌/◌, ◌%◌, nat_lt, nat_le, nat_eq, Bool, true, false, cond, ◌&&◌, List, [], ◌∷◌, ◌++◌, map, flat_map, length, take, Option, Some, None, codes, decimal}
+use Rattle.std.specs.Prelude.{ℕ, nat_le, Bool, true, false, List, [], ◌∷◌, ◌++◌, map, flat_map, length, take, Option, Some, None, codes, decimal}
 use Rattle.std.specs.List.{join_with_byte}
 use Rattle.text.specs.Bytes as ascii
+use Rattle.text.specs.Escapes.{text_form, word_form}
 use Rattle.bootstore.specs.Moment.{LoggedCommand}
 use Rattle.rehearse.specs.Outcomes.{Outcome, Word}
 use Rattle.rehearse.specs.State.{Text, Variables, get, State}
 use Rattle.rehearse.specs.Execution.{Ending, End, CutDevices, CutSteps, Unknown, Syntax, Size, Booted, succeeds}
 use Rattle.rehearse.specs.Runs.{Task, run_on, state_of, ending_of}
 
--- ---- bytes, texts and words
-
-abbrev pub hex_digit : ℕ → ℕ
-hex_digit d = cond (nat_lt d 10) (ascii.digit_zero + d) (ascii.small_a - 10 + d)
-
--- a newline is `\n`, a backslash `\\`; other bytes from 32 to 126 are themselves, and any other is `\x` and two digits
-abbrev pub escaped : ℕ → Text
-escaped b = cond (nat_eq b ascii.newline) (codes "\\n")
-    (cond (nat_eq b ascii.backslash) (codes "\\\\")
-    (cond (nat_le ascii.space b
-    && nat_le b ascii.tilde) (b ∷ []) (codes "\\x" ++ hex_digit (b / 16) ∷ hex_digit (b % 16) ∷ [])))
-
-abbrev pub text_form : Text → Text
-text_form bytes = flat_map escaped bytes
-
--- as a text, with `\x20` for a space and `\e` for the empty word
-abbrev pub word_form : Text → Text
-word_form [] = codes "\\e"
-word_form (b ∷ bytes) = flat_map (λ c. cond (nat_eq c ascii.space) (codes "\\x20") (escaped c)) (b ∷ bytes)
+-- ---- words
 
 abbrev pub digit_when : (success : Bool) → ℕ
 digit_when true = ascii.digit_zero

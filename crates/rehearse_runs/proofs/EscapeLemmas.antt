@@ -1,14 +1,14 @@
 -- Bytes that are put together where they stand as they are, and one by one where they do not.
 use Rattle.std.proofs.Common.{◌≡◌, ℕ, zero, suc, ◌+◌, ◌<◌, Bool, true, false, not, List, [], ◌∷◌, ◌++◌, length, get_or, take, drop, Result, None, Some, refl, sym, ap, ◌∙◌, append_assoc, arith, add-one, inl, inr}
-use Rattle.std.specs.Prelude.{◌||◌, ◌==◌}
 use Rattle.std.specs.List.{flat_map, position, list_any}
 use Rattle.std.proofs.lemmas.Bool.Decides.{nat_tests}
 use Rattle.std.proofs.lemmas.Bool.{false≢true, cases_Bool}
 use Rattle.std.proofs.lemmas.List.Quantifiers.{position-Some}
 use Rattle.envimage.specs.Sink.{Sink, BrokeOff}
 use Rattle.text.proofs.SearchLemmas.{position-none}
-use Rattle.rehearse.specs.Listing.{escaped}
-use Rattle.rehearse_runs.specs.Pieces.{is_shown, word_escaped}
+use Rattle.rehearse_runs.specs.Pieces.{form_of, stands}
+use Rattle.rehearse_runs.specs.declared.pieces.Form.{Form}
+use Rattle.rehearse_runs.specs.declared.pieces.Form.TheVariants.{Text as AsText, Word as AsWord}
 use Rattle.rehearse_runs.specs.Paging.{Put, Puts}
 use Rattle.rehearse_runs.proofs.PageLemmas.{Put-none, Put-append, Breaks-after, Breaks-before, Puts-after, Puts-as, Breaks-as}
 
@@ -78,10 +78,7 @@ module _ (f : ℕ → List ℕ) (is_other : ℕ → Bool) (same : (b : ℕ) → 
       let same_rest : flat_map f rest ≡ rest = all_same rest (position-none is_other rest is) in
       Puts-as a c p r (far.front ++ rest) (flat_map f bytes) result (ap (λ t. far.front ++ t) (sym same_rest) ∙ far.joined) (Puts-after c r rest result far.put puts)
 
--- a byte that is shown stands in text form as it is
-pub in_text : (b : ℕ) → not (is_shown b) ≡ false → escaped b ≡ b ∷ []
-in_text b h = grind (arith, nat_tests)
-
--- and in word form, unless it is a space
-pub in_word : (b : ℕ) → (b == 32) || not (is_shown b) ≡ false → word_escaped b ≡ b ∷ []
-in_word b h = grind (arith, nat_tests)
+-- a byte that stands as it is
+pub as_it_is : (form : Form) (b : ℕ) → not (stands form b) ≡ false → form_of form b ≡ b ∷ []
+as_it_is AsText b h = grind (arith, nat_tests)
+as_it_is AsWord b h = grind (arith, nat_tests)

@@ -1,4 +1,3 @@
-pub mod HexLemmas
 pub mod PageLemmas
 pub mod EscapeLemmas
 pub mod RecordParts

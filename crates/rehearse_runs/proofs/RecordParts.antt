@@ -8,7 +8,8 @@ use Rattle.std.specs.declared.vec.Vec.{Vec}
 use Rattle.bootstore.specs.Moment.{LoggedCommand, bytes_of_words}
 use Rattle.rehearse.specs.State.{Text, Variables, State}
 use Rattle.rehearse.specs.Execution.{Ending}
-use Rattle.rehearse.specs.Listing.{line, digit_when, word_form, device_line, text_lines, variable_line, variable_lines, asked_line, last_line}
+use Rattle.text.specs.Escapes.{word_form}
+use Rattle.rehearse.specs.Listing.{line, digit_when, device_line, text_lines, variable_line, variable_lines, asked_line, last_line}
 use Rattle.rehearse_runs.specs.Recording.{printed, spaced, entry_line, set_line, named_line, recorded}
 
 module _ {X : Type 0} (g : X → Text) where

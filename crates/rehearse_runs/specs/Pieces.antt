@@ -1,8 +1,10 @@
 -- The pieces of a line. Ours.
-use Rattle.std.specs.Prelude.{ℕ, Bool, cond, nat_eq, nat_le, not, ◌&&◌, codes}
+use Rattle.std.specs.Prelude.{ℕ, Bool, nat_eq, nat_le, not, ◌&&◌}
 use Rattle.text.specs.Bytes as ascii
+use Rattle.text.specs.Escapes.{escaped, text_form, word_escaped, word_form}
 use Rattle.rehearse.specs.State.{Text}
-use Rattle.rehearse.specs.Listing.{escaped, text_form, word_form}
+use Rattle.rehearse_runs.specs.declared.pieces.Form.{Form}
+use Rattle.rehearse_runs.specs.declared.pieces.Form.TheVariants.{Text as AsText, Word as AsWord}
 use Rattle.rehearse_runs.specs.declared.pieces.Piece.{Piece}
 use Rattle.rehearse_runs.specs.declared.pieces.Piece.TheVariants.{Plain, Text as OfText, Word as OfWord}
 
@@ -12,10 +14,15 @@ piece_text (Plain bytes) = bytes.now
 piece_text (OfText bytes) = text_form bytes.now
 piece_text (OfWord bytes) = word_form bytes.now
 
--- a byte of a word
-abbrev pub word_escaped : ℕ → Text
-word_escaped c = cond (nat_eq c ascii.space) (codes "\\x20") (escaped c)
+-- what a byte is printed as
+abbrev pub form_of : Form → ℕ → Text
+form_of AsText = escaped
+form_of AsWord = word_escaped
 
--- a byte that stands in text form as it is
-abbrev pub is_shown : ℕ → Bool
-is_shown b = nat_le ascii.space b && nat_le b ascii.tilde && not (nat_eq b ascii.backslash)
+-- a byte that stands as it is: in a text a space, in a word the byte behind it is the least
+abbrev pub least_of : Form → ℕ
+least_of AsText = ascii.space
+least_of AsWord = ascii.exclamation_mark
+
+abbrev pub stands : Form → ℕ → Bool
+stands form b = nat_le (least_of form) b && nat_le b ascii.tilde && not (nat_eq b ascii.backslash)

@@ -1,4 +1,6 @@
 pub mod CutLemmas
+pub mod HexLemmas
 pub mod LineLemmas
 pub mod SearchLemmas
 pub mod WordLemmas
+mod EscapeExamples

@@ -16,11 +16,12 @@ abbrev pub cut_front : (ℕ → Bool) → List ℕ → List ℕ
 cut_front p [] = []
 cut_front p (b ∷ bytes) = if p b then cut_front p bytes else b ∷ bytes
 
--- what stands before the bytes at the end that pass a test
+-- a byte in front of a line, unless it would be the last one and passes
 abbrev pub onto_line : (ℕ → Bool) → ℕ → List ℕ → List ℕ
 onto_line p b [] = if p b then [] else b ∷ []
 onto_line p b (c ∷ bytes) = b ∷ c ∷ bytes
 
+-- what stands before the bytes at the end that pass a test
 abbrev pub cut_behind : (ℕ → Bool) → List ℕ → List ℕ
 cut_behind p [] = []
 cut_behind p (b ∷ bytes) = onto_line p b (cut_behind p bytes)

@@ -1,12 +1,14 @@
-//! Text, as bytes: the bytes of ASCII by their names, lines and words, numbers, and what stands lowest
-//! of all that reads or writes them.
+//! Text, as bytes: the bytes of ASCII by their names, lines and words, numbers, and what a byte is
+//! printed as.
 #![tactic(auto)]
 
+mod escapes;
 mod lines;
 mod numbers;
 mod search;
 mod words;
 
+pub use escapes::Escaped;
 pub use lines::Lines;
 pub use numbers::{digit_of, value_in};
 pub use search::find;

@@ -11,7 +11,6 @@ pub mod Told
 pub mod Read
 pub mod Machine
 pub mod Memory
-pub mod WordForm
 pub mod FileFaults
 pub mod Order
 pub mod UntilFailed

@@ -1,31 +1,21 @@
 //! Words as they are printed.
 ghost use Rattle.std.specs.Prelude.{Some, string_bytes};
 ghost use Rattle.std.specs.Fmt.{WritesOnOk};
-ghost use Rattle.ubtool_core.specs.WordForm.{word_byte, word_form};
+ghost use Rattle.text.specs.Escapes.{word_escaped, word_form};
 
 use std::{fmt, str};
+use text::Escaped;
 
 /// A name, a path or another word, printed so that its bytes can be told apart: `a b` as `a\x20b`, and
 /// the empty word as `\e`.
 #[derive(Debug, Drop)]
 pub struct WordForm(pub String);
 
+/// Writes a byte of a word.
 fn write_byte<W: fmt::Write>(f: &mut fmt::Formatter<W>, byte: u8) -> fmt::Result
-    ensures { WritesOnOk W.write_str_gives f.old result (word_byte byte) f.new }
+    ensures { WritesOnOk W.write_str_gives f.old result (word_escaped byte) f.new }
 {
-    match byte {
-        b'\n' => f.write_str("\\n"),
-        b'\\' => f.write_str("\\\\"),
-        b'!'..=b'~' => {
-            let shown = [byte];
-            write_ascii(f, &shown)
-        }
-        _ => {
-            let mut digits = [b'\\', b'x', 0, 0];
-            let _ = hex::encode_to_slice([byte], &mut digits[2..]);
-            write_ascii(f, &digits)
-        }
-    }
+    write_ascii(f, Escaped::in_word(byte).as_slice())
 }
 
 fn write_ascii<W: fmt::Write>(f: &mut fmt::Formatter<W>, bytes: &[u8]) -> fmt::Result

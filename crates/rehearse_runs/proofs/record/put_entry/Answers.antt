@@ -4,7 +4,7 @@ use Rattle.std.specs.List.{join_with_byte}
 use Rattle.std.specs.declared.alloc.Global.{Global}
 use Rattle.std.specs.declared.vec.Vec.{Vec}
 use Rattle.bootstore.specs.Moment.{bytes_of_words}
-use Rattle.rehearse.specs.Listing.{word_form}
+use Rattle.text.specs.Escapes.{word_form}
 use Rattle.rehearse_runs.proofs.RecordParts.{entry_parts}
 use Rattle.rehearse_runs.proofs.PageLemmas.{Breaks-before, Breaks-after, Breaks-as, Put-as, Puts-as, Puts-after}
 use Rattle.rehearse_runs.proofs.record.put_entry.Goals as goal

@@ -4,7 +4,7 @@ use Rattle.std.specs.List.{flat_map, join_with_byte}
 use Rattle.std.specs.declared.alloc.Global.{Global}
 use Rattle.std.specs.declared.vec.Vec.{Vec}
 use Rattle.bootstore.specs.Moment.{bytes_of_words}
-use Rattle.rehearse.specs.Listing.{word_form}
+use Rattle.text.specs.Escapes.{word_form}
 use Rattle.rehearse_runs.specs.Recording.{spaced}
 use Rattle.rehearse_runs.proofs.RecordParts.{joined_words}
 use Rattle.rehearse_runs.proofs.PageLemmas.{Breaks-before, Breaks-as, Puts-as, Puts-after}

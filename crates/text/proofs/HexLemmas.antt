@@ -1,7 +1,7 @@
 -- The hexadecimal digits of a byte.
 use Rattle.std.proofs.Common.{◌≡◌, ℕ, zero, suc, ◌<◌, ◌/◌, ◌%◌, [], ◌∷◌, get_or, refl, ap, ◌∙◌, arith}
 use Rattle.hex.specs.Hex.{lower_digits, encode_lower, encode_with}
-use Rattle.rehearse.specs.Listing.{hex_digit}
+use Rattle.text.specs.Escapes.{hex_digit}
 
 digit_is : (d : ℕ) → d < 16 → get_or lower_digits d 0 ≡ hex_digit d
 digit_is zero h = refl

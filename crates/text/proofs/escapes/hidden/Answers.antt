@@ -1,8 +1,8 @@
 use Rattle.std.proofs.Common.{◌∷◌, ℕ, List, Result, Ok, Err, refl, ap, ◌∙◌}
 use Rattle.std.specs.Prelude.{OnOk, IsOk}
 use Rattle.std.proofs.lemmas.List.{append-nil}
-use Rattle.rehearse_runs.proofs.HexLemmas.{digits_are}
-use Rattle.rehearse_runs.proofs.pieces.hidden.Goals as goal
+use Rattle.text.proofs.HexLemmas.{digits_are}
+use Rattle.text.proofs.escapes.hidden.Goals as goal
 
 done : {T E P : Type 0} (r : Result T E) → IsOk r → OnOk r P → P
 done (Ok v) i p = p
