@@ -15,6 +15,7 @@ pub mod Agreement
 pub mod Full
 pub mod Converse
 pub mod Names
+pub mod Fronted
 pub mod Passing
 pub mod WordLists
 pub mod Loops

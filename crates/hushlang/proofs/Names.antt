@@ -1,8 +1,9 @@
 -- What is read of a word so far, and what is left.
-use Rattle.std.proofs.Common.{◌≡◌, ℕ, suc, ◌+◌, length, ◌<◌, get_or, arith, Bool, true, false, if◌then◌else◌, ◌&&◌, List, [], ◌∷◌, ◌++◌, ◌==◌, Option, Some, None, option_map, refl, ap, sym, subst, ◌∙◌, append-nil, append_assoc}
+use Rattle.std.proofs.Common.{◌≡◌, ℕ, suc, ◌+◌, length, ◌<◌, get_or, arith, Bool, true, false, if◌then◌else◌, ◌&&◌, ◌||◌, List, [], ◌∷◌, ◌++◌, ◌==◌, Option, Some, None, option_map, is_some, refl, ap, sym, subst, ◌∙◌, append-nil, append_assoc}
 use Rattle.std.specs.List.{prefix_len, list_all}
+use Rattle.std.proofs.lemmas.List.Folds.{list_all-append}
 use Rattle.std.proofs.Math.Dec.{eqb-suc-suc, eqb-zero-suc}
-use Rattle.hushlang.specs.Bytes.{begins_name, is_name_byte}
+use Rattle.hushlang.specs.Bytes.{begins_name, is_name_byte, continues_name, is_between}
 use Rattle.hushlang.specs.Token.{Part, Plain, Kept, Mark, Var, Status}
 use Rattle.hushlang.specs.Words.{plain_bytes, plain_byte}
 use Rattle.hushlang.specs.Reading.{Seen, Takes, Refuses, in_front, row}
@@ -79,7 +80,7 @@ found_equals front b parts e = rw e (ap (λ bytes. Some (bytes, parts)) (append-
 same_some : (a b : ℕ) → Some a ≡ Some b → a ≡ b
 same_some a b e = cc
 
-plain_is : (part : Part) (b : ℕ) → Some b ≡ plain_byte part → part ≡ Plain b
+pub plain_is : (part : Part) (b : ℕ) → Some b ≡ plain_byte part → part ≡ Plain b
 plain_is (Plain c) b e = ap Plain (sym (same_some b c e))
 plain_is (Kept c) b e = absurd (cc)
 plain_is Mark b e = absurd (cc)
@@ -139,3 +140,69 @@ no_assignment parts front part old new h e is inv =
 pub assignment_end : (parts : List Part) (front : List ℕ) (stop : ℕ) (old : Seen) → old ≡ Takes stop [] → up_to_equals parts ≡ found_behind front (up_to_equals (parts_in old)) → None ≡ assignment parts
 unfolding assignment found_behind
 assignment_end parts front stop old end inv = sym (ap named (inv ∙ ap (λ x. found_behind front (up_to_equals (parts_in x))) end))
+
+-- ---- whether a name goes on
+
+and_both : (x y : Bool) → x ≡ true → y ≡ true → (x && y) ≡ true
+and_both true y e f = f
+and_both false y e f = absurd (cc)
+
+and_none : (x y : Bool) → y ≡ false → (x && y) ≡ false
+and_none true y e = e
+and_none false y e = refl
+
+and_assoc : (x y z : Bool) → (x && (y && z)) ≡ ((x && y) && z)
+and_assoc true y z = refl
+and_assoc false y z = refl
+
+or_same : (x y : Bool) → (x || (x || y)) ≡ (x || y)
+or_same true y = refl
+or_same false y = refl
+
+or_none : (x : Bool) → (x || false) ≡ x
+or_none true = refl
+or_none false = refl
+
+all_behind : (x : ℕ) (front : List ℕ) (b : ℕ) (more : List ℕ) → is_name (x ∷ front ++ b ∷ more) ≡ (is_name (x ∷ front) && (is_name_byte b && list_all is_name_byte more))
+all_behind x front b more =
+    ap (λ (all : Bool). begins_name x && all) (list_all-append is_name_byte front (b ∷ more))
+    ∙ and_assoc (begins_name x) (list_all is_name_byte front) (is_name_byte b && list_all is_name_byte more)
+
+pub name_goes_on : (front : List ℕ) (b : ℕ) (named : Bool) → named ≡ is_name front → (named ≡ false → front ≡ []) → continues_name named b ≡ true → is_name (front ++ b ∷ []) ≡ true
+name_goes_on [] b false is none e = and_both (begins_name b) true (sym (or_none (begins_name b)) ∙ e) refl
+name_goes_on (x ∷ front) b false is none e = let no = none refl in absurd (cc)
+name_goes_on [] b true is none e = absurd (cc)
+name_goes_on (x ∷ front) b true is none e =
+    all_behind x front b [] ∙ and_both (is_name (x ∷ front)) (is_name_byte b && true) (sym is)
+    (and_both (is_name_byte b) true (sym (or_same (begins_name b) (is_between 48 57 b)) ∙ e) refl)
+
+pub name_stops : (front : List ℕ) (b : ℕ) (more : List ℕ) (named : Bool) → named ≡ is_name front → (named ≡ false → front ≡ []) → continues_name named b ≡ false → is_name (front ++ b ∷ more) ≡ false
+name_stops [] b more false is none e = ap (λ (x : Bool). x && list_all is_name_byte more) (sym (or_none (begins_name b)) ∙ e)
+name_stops (x ∷ front) b more false is none e = let no = none refl in absurd (cc)
+name_stops [] b more true is none e = absurd (cc)
+name_stops (x ∷ front) b more true is none e =
+    all_behind x front b more
+    ∙ and_none (is_name (x ∷ front)) (is_name_byte b && list_all is_name_byte more)
+    (ap (λ (x : Bool). x && list_all is_name_byte more) (sym (or_same (begins_name b) (is_between 48 57 b)) ∙ e))
+
+-- ---- an assignment that is asked for
+
+-- no name stands in front of `=` where what is found so far does not go on
+named_none : (front : List ℕ) (o : Option (List ℕ × List Part)) → ((more : List ℕ) → is_name (front ++ more) ≡ false) → named (found_behind front o) ≡ None
+unfolding found_behind
+named_none front None none = refl
+named_none front (Some found) none = ap (λ b. if b then Some (front ++ found.0, found.1) else None) (none found.0)
+
+pub stopped : (parts : List Part) (front : List ℕ) (part : Part) (b : ℕ) (begun : Bool) (old new : Seen) → IsTaken old → old ≡ in_front (part ∷ []) new → Some b ≡ plain_byte part → (b == 61) ≡ false → begun ≡ is_name front → (begun ≡ false → front ≡ []) → continues_name begun b ≡ false → up_to_equals parts ≡ found_behind front (up_to_equals (parts_in old)) → false ≡ is_some (assignment parts)
+unfolding assignment
+stopped parts front part b begun old new h e is other name none stops inv =
+    let step = found_step (up_to_equals parts) front part b old new h e is other inv in
+    sym (ap (λ o. is_some (named o)) step ∙ ap is_some (named_none (front ++ b ∷ []) (up_to_equals (parts_in new)) (λ more. ap is_name (append_assoc front (b ∷ []) more) ∙ name_stops front b more begun name none stops)))
+
+some_if : {A : Type 0} (b : Bool) (a : A) → b ≡ is_some (if b then Some a else None)
+some_if true a = refl
+some_if false a = refl
+
+pub equals_found : (parts : List Part) (front : List ℕ) (part : Part) (b : ℕ) (begun : Bool) (old new : Seen) → IsTaken old → old ≡ in_front (part ∷ []) new → Some b ≡ plain_byte part → (b == 61) ≡ true → begun ≡ is_name front → up_to_equals parts ≡ found_behind front (up_to_equals (parts_in old)) → begun ≡ is_some (assignment parts)
+equals_found parts front part b begun old new h e is equals name inv =
+    some_if begun (front, parts_in new) ∙ ap is_some (found_done parts front part b begun old new h e is equals name inv)

@@ -27,6 +27,10 @@ begins_name b = is_between ascii.small_a ascii.small_z b || is_between ascii.cap
 abbrev pub is_name_byte : ℕ → Bool
 is_name_byte b = begins_name b || is_between ascii.digit_zero ascii.digit_nine b
 
+-- a byte goes on with a name that has begun, or begins one
+abbrev pub continues_name : (begun : Bool) → ℕ → Bool
+continues_name begun b = begins_name b || (begun && is_name_byte b)
+
 abbrev pub is_brace_exception : ℕ → Bool
 is_brace_exception b =
     b == ascii.dollar || b == ascii.open_brace || b == ascii.close_brace || b == ascii.colon || b == ascii.equals

@@ -6,12 +6,13 @@ use Rattle.hushlang.specs.Token as spec
 use Rattle.hushlang.specs.Token.{End, Whole, Refused}
 use Rattle.hushlang.specs.Reading.{Lexed, lexed}
 use Rattle.hushlang.specs.Lexing.{Coming, tokens_to_come, token_of, parts_in, parts_of, IsCut}
-use Rattle.hushlang.specs.Grammar.{assignment}
+use Rattle.hushlang.specs.Grammar.{assignment, reserved_of}
 use Rattle.hushlang.specs.declared.token.SyntaxError.TheVariants.{AssignmentBeforeCommand}
 use Rattle.hushlang.specs.Cutting.{Place, to_come}
 use Rattle.hushlang.specs.Parsing.{Input}
 use Rattle.hushlang.specs.declared.token.Token.{Token}
 use Rattle.hushlang.specs.declared.token.SyntaxError.{SyntaxError}
+use Rattle.hushlang.specs.declared.words.Reserved.{Reserved}
 use Rattle.hushlang.specs.declared.cursor.Tokens.TheInside.{Inside}
 
 abbrev pub end_of : Option SyntaxError → End
@@ -23,15 +24,16 @@ abbrev pub with_ahead : Option Token → Option SyntaxError → Coming → Lexed
 with_ahead (Some t) fault c = record { tokens = token_of t ∷ (tokens_to_come c).tokens; end = (tokens_to_come c).end }
 with_ahead None fault c = record { tokens = []; end = end_of fault }
 
-abbrev pub IsCutAhead : Option Token → Type 0
-IsCutAhead (Some t) = IsCut t
-IsCutAhead None = Unit {0}
+-- the token that is held ahead, with the reserved word that it is
+abbrev pub IsAhead : Option Token → Option Reserved → Type 0
+IsAhead (Some t) word = IsCut t × (word ≡ reserved_of (token_of t))
+IsAhead None word = word ≡ None
 
 abbrev pub input_with : Lexed → ℕ → Input
 input_with all size = record { tokens = all.tokens; end = all.end; size = size }
 
 abbrev pub input_of : Inside → Input
-input_of c = input_with (with_ahead c.ahead c.fault c.lexer) c.size
+input_of c = input_with (with_ahead c.ahead.token c.ahead.fault c.lexer) c.size
 
 -- all tokens of a text
 abbrev pub input_in : List ℕ → Input

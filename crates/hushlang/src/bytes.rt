@@ -33,6 +33,13 @@ pub fn is_name_byte(b: u8) -> bool
     begins_name(b) || (b'0' <= b && b <= b'9')
 }
 
+/// Whether a byte goes on with a name that has begun, or begins one.
+pub fn continues_name(begun: bool, b: u8) -> bool
+    ensures { result ≡ spec.continues_name begun b }
+{
+    begins_name(b) || (begun && is_name_byte(b))
+}
+
 /// Whether a byte may stand in the name between `${` and `}`.
 pub fn is_brace_byte(b: u8) -> bool
     ensures { result ≡ spec.is_brace_byte b }

@@ -1,49 +1,65 @@
 //! A cursor over the tokens of a text, which holds one of them ahead.
 
-ghost use Rattle.std.specs.Prelude.{◌≡◌, ◌<◌, ◌≤◌, length, IsSome, IfErr, IfOk, IfSome, OnOk, OnErr, IsTrue, option_map};
+ghost use Rattle.std.specs.Prelude.{◌≡◌, ◌<◌, ◌≤◌, length, IsSome, IfErr, IfSome, OnOk, OnErr, IsTrue, option_map};
 ghost use Rattle.hushlang.specs.Parsing as spec;
 ghost use Rattle.hushlang.specs.Parsing.{Reads};
 ghost use Rattle.hushlang.specs.Grammar as grammar;
 ghost use Rattle.hushlang.specs.Lexing.{IsCut, token_of, tokens_to_come};
-ghost use Rattle.hushlang.specs.Cursor.{input_in, with_ahead, IsCutAhead};
+ghost use Rattle.hushlang.specs.Cursor.{input_in, with_ahead, IsAhead};
 ghost use Rattle.hushlang.specs.Tree as says;
-ghost use Rattle.hushlang.specs.declared.token.SyntaxError.TheVariants.{Memory};
 
 use crate::lexer::Lexer;
 use crate::token::{Kind, SyntaxError, Token};
 use crate::tree::Op;
-use crate::words::{Reserved, assignment, is_in, is_word, name_in, reserved_at};
+use crate::words::{Reserved, is_assignment, is_in, is_word, name_in, reserved_at};
 use std::alloc::Global;
 use std::marker::Model;
+
+/// What a lexer gives next: a token with the reserved word that it is, or what refuses the text, or neither at
+/// its end. The reserved word is found here alone, since the rules ask for it again and again.
+#[derive(Clone, Copy, Debug)]
+struct Ahead<'a> {
+    token: Option<Token<'a>>,
+    reserved: Option<Reserved>,
+    fault: Option<SyntaxError>,
+}
 
 /// The tokens to come. What refuses the text stands behind the tokens before it.
 #[derive(Drop)]
 pub struct Tokens<'a> {
     lexer: Lexer<'a>,
-    ahead: Option<Token<'a>>,
-    fault: Option<SyntaxError>,
+    ahead: Ahead<'a>,
     size: usize,
 }
 
 impl<'a> Model for Tokens<'a> {
     ghost use Rattle.hushlang.specs.Parsing.{Input};
-    ghost use Rattle.hushlang.specs.Cursor.{input_of, IsCutAhead};
+    ghost use Rattle.hushlang.specs.Cursor.{input_of, IsAhead};
 
     ghost Value = { Input };
 
     ghost view = { input_of };
 
-    ghost invariant = { λ c. IsCutAhead c.ahead };
+    ghost invariant = { λ c. IsAhead c.ahead.token c.ahead.reserved };
 }
 
 /// Takes the next token of a lexer, or what refuses the text.
-fn pull<'a>(lexer: &mut Lexer<'a>) -> (Option<Token<'a>>, Option<SyntaxError>)
-    ensures same { with_ahead result.0 result.1 lexer.new ≡ tokens_to_come lexer.old }
-    ensures cut { IsCutAhead result.0 }
+fn pull<'a>(lexer: &mut Lexer<'a>) -> Ahead<'a>
+    ensures same { with_ahead result.token result.fault lexer.new ≡ tokens_to_come lexer.old }
+    ensures ahead { IsAhead result.token result.reserved }
 {
-    match lexer.next() {
-        Ok(ahead) => (ahead, None),
+    let (token, fault) = match lexer.next() {
+        Ok(token) => (token, None),
         Err(fault) => (None, Some(fault)),
+    };
+    let reserved = match token {
+        Some(token) => reserved_at(token),
+        None => None,
+    };
+    Ahead {
+        token,
+        reserved,
+        fault,
     }
 }
 
@@ -53,11 +69,10 @@ impl<'a> Tokens<'a> {
         ensures { result ≡ input_in text.now }
     {
         let mut lexer = Lexer::new(text);
-        let (ahead, fault) = pull(&mut lexer);
+        let ahead = pull(&mut lexer);
         Tokens {
             lexer,
             ahead,
-            fault,
             size: text.len(),
         }
     }
@@ -67,9 +82,9 @@ impl<'a> Tokens<'a> {
     pub fn refuse(&self) -> SyntaxError
         ensures { result ≡ spec.refusal self.now }
     {
-        match self.ahead {
+        match self.ahead.token {
             Some(token) => SyntaxError::Unexpected(token.start),
-            None => match self.fault {
+            None => match self.ahead.fault {
                 Some(fault) => fault,
                 None => SyntaxError::Unexpected(self.size),
             },
@@ -82,10 +97,7 @@ impl<'a> Tokens<'a> {
         ensures value { result ≡ spec.keyword self.now }
         ensures some { IsSome result → 0 < length self.now.tokens }
     {
-        match self.ahead {
-            Some(token) => reserved_at(token),
-            None => None,
-        }
+        self.ahead.reserved
     }
 
     /// The operator that comes next.
@@ -94,7 +106,7 @@ impl<'a> Tokens<'a> {
         ensures value { result ≡ spec.op_next self.now }
         ensures some { IsSome result → 0 < length self.now.tokens }
     {
-        match self.ahead {
+        match self.ahead.token {
             Some(token) => joins(token.kind),
             None => None,
         }
@@ -106,10 +118,8 @@ impl<'a> Tokens<'a> {
         ensures after { self.new ≡ spec.next self.old }
         ensures shrinks { 0 < length self.old.tokens → length self.new.tokens < length self.old.tokens }
     {
-        if self.ahead.is_some() {
-            let (ahead, fault) = pull(&mut self.lexer);
-            self.ahead = ahead;
-            self.fault = fault;
+        if self.ahead.token.is_some() {
+            self.ahead = pull(&mut self.lexer);
         }
     }
 
@@ -153,7 +163,7 @@ impl<'a> Tokens<'a> {
     fn too_deep(&self) -> SyntaxError
         ensures { result ≡ spec.too_deep_at self.now.tokens }
     {
-        match self.ahead {
+        match self.ahead.token {
             Some(token) => SyntaxError::TooDeep(token.start),
             None => SyntaxError::TooDeep(0),
         }
@@ -164,8 +174,8 @@ impl<'a> Tokens<'a> {
     pub fn closes_block(&self) -> bool
         ensures { result ≡ spec.closes_next self.now }
     {
-        match self.ahead {
-            Some(token) => closes(reserved_at(token)),
+        match self.ahead.token {
+            Some(_) => closes(self.ahead.reserved),
             None => true,
         }
     }
@@ -174,7 +184,7 @@ impl<'a> Tokens<'a> {
         ensures value { result ≡ spec.newline_next self.now }
         ensures some { IsTrue result → 0 < length self.now.tokens }
     {
-        match self.ahead {
+        match self.ahead.token {
             Some(token) => is_newline(token.kind),
             None => false,
         }
@@ -185,7 +195,7 @@ impl<'a> Tokens<'a> {
         ensures value { result ≡ spec.separator_next self.now }
         ensures some { IsTrue result → 0 < length self.now.tokens }
     {
-        match self.ahead {
+        match self.ahead.token {
             Some(token) => separates(token.kind),
             None => false,
         }
@@ -233,7 +243,7 @@ impl<'a> Tokens<'a> {
     pub fn at_word(&self) -> bool
         ensures { result ≡ spec.word_next self.now }
     {
-        match self.ahead {
+        match self.ahead.token {
             Some(token) => is_word(token.kind),
             None => false,
         }
@@ -241,13 +251,12 @@ impl<'a> Tokens<'a> {
 
     /// Whether an assignment comes next.
     #[tactic(auto, unfolding(crate::specs::Parsing::assignment_next))]
-    pub fn at_assignment(&self, alloc: Global) -> Result<bool, SyntaxError>
-        ensures value { IfOk result (λ found. found ≡ spec.assignment_next self.now) }
-        ensures err { IfErr result (λ e. e ≡ Memory) }
+    pub fn at_assignment(&self) -> bool
+        ensures { result ≡ spec.assignment_next self.now }
     {
-        match self.ahead {
-            Some(token) => Ok(assignment(alloc, token)?.is_some()),
-            None => Ok(false),
+        match self.ahead.token {
+            Some(token) => is_assignment(token),
+            None => false,
         }
     }
 
@@ -257,7 +266,7 @@ impl<'a> Tokens<'a> {
         ensures cut { IfSome result IsCut }
         ensures some { IsSome result → 0 < length self.now.tokens }
     {
-        match self.ahead {
+        match self.ahead.token {
             Some(token) if is_word(token.kind) => Some(token),
             _ => None,
         }
@@ -269,7 +278,7 @@ impl<'a> Tokens<'a> {
         ensures reads { Reads (λ name. name.items) (spec.name self.old) result self.new }
         ensures shrinks { OnOk result (length self.new.tokens < length self.old.tokens) }
     {
-        let found = match self.ahead {
+        let found = match self.ahead.token {
             Some(token) => name_in(alloc, token)?,
             None => None,
         };
@@ -300,7 +309,7 @@ impl<'a> Tokens<'a> {
         ensures value { result ≡ spec.in_next self.now }
         ensures some { IsTrue result → 0 < length self.now.tokens }
     {
-        match self.ahead {
+        match self.ahead.token {
             Some(token) => is_in(token),
             None => false,
         }
@@ -311,9 +320,9 @@ impl<'a> Tokens<'a> {
     fn missing(&self) -> SyntaxError
         ensures { result ≡ spec.missing self.now }
     {
-        match self.ahead {
+        match self.ahead.token {
             Some(token) => SyntaxError::MissingWord(token.start),
-            None => match self.fault {
+            None => match self.ahead.fault {
                 Some(fault) => fault,
                 None => SyntaxError::MissingWord(self.size),
             },
@@ -339,7 +348,7 @@ impl<'a> Tokens<'a> {
     pub fn at_last(&self) -> bool
         ensures { result ≡ spec.at_last self.now }
     {
-        match self.ahead {
+        match self.ahead.token {
             Some(_) => false,
             None => true,
         }
@@ -349,9 +358,9 @@ impl<'a> Tokens<'a> {
     pub fn finish(&self) -> Result<(), SyntaxError>
         ensures { (s : says.Script) → spec.finish_at s self.now.tokens self.now.end self.now.size ≡ spec.finished s result }
     {
-        match self.ahead {
+        match self.ahead.token {
             Some(token) => Err(SyntaxError::Unexpected(token.start)),
-            None => match self.fault {
+            None => match self.ahead.fault {
                 Some(fault) => Err(fault),
                 None => Ok(()),
             },

@@ -81,7 +81,7 @@ fn simple(alloc: Global, tokens: &mut Tokens<'_>) -> Result<Command, SyntaxError
     if !tokens.at_word() {
         return Err(tokens.refuse());
     }
-    if tokens.at_assignment(alloc)? {
+    if tokens.at_assignment() {
         Ok(Command::Assign(assignments(alloc, tokens)?))
     } else {
         Ok(Command::Simple(word_list(alloc, tokens)?))

@@ -1,7 +1,8 @@
 //! What the grammar asks of a word.
 
-ghost use Rattle.std.specs.Prelude.{◌≡◌, ◌<◌, length, option_map, IfOk, IfErr, IfSome};
+ghost use Rattle.std.specs.Prelude.{◌≡◌, ◌<◌, length, map, is_some, option_map, IfOk, IfErr, IfSome};
 ghost use Rattle.std.specs.List.{list_all};
+ghost use Rattle.hushlang.specs.Token.{Plain};
 ghost use Rattle.hushlang.specs.Bytes as bytes;
 ghost use Rattle.hushlang.specs.Reading as reading;
 ghost use Rattle.hushlang.specs.Lexing.{parts_of, token_of, IsCut};
@@ -13,7 +14,7 @@ ghost use Rattle.hushlang.specs.Cutting.{to_come, IsTaken};
 ghost use Rattle.hushlang.specs.declared.parts.Mode.TheVariants as modes;
 ghost use Rattle.hushlang.specs.declared.token.SyntaxError.TheVariants.{Memory};
 
-use crate::bytes::{begins_name, name_len};
+use crate::bytes::{begins_name, continues_name, name_len};
 use crate::parts::{Part, Parts};
 use crate::token::{Kind, SyntaxError, Token};
 use std::alloc::Global;
@@ -84,42 +85,76 @@ fn spells_word(token: Token<'_>, word: &[u8]) -> bool
     spells(token.text, word)
 }
 
-/// The reserved word that a word is.
-#[tactic(auto, unfolding(crate::specs::Words::reserved))]
-fn reserved_word(token: Token<'_>) -> Option<Reserved>
-    ensures { result ≡ spec.reserved (parts_of token.entry) }
+/// Whether these bytes are those of a word.
+fn are(bytes: &[u8], word: &[u8]) -> bool
+    ensures { result ≡ spec.is_plain word.now (map Plain bytes.now) }
 {
-    if spells_word(token, b"if") {
+    bytes == word
+}
+
+/// The reserved word of these bytes.
+#[tactic(auto, unfolding(crate::specs::Words::reserved))]
+fn reserved_named(bytes: &[u8]) -> Option<Reserved>
+    ensures { result ≡ spec.reserved (map Plain bytes.now) }
+{
+    if are(bytes, b"if") {
         return Some(Reserved::If);
     }
-    if spells_word(token, b"then") {
+    if are(bytes, b"then") {
         return Some(Reserved::Then);
     }
-    if spells_word(token, b"elif") {
+    if are(bytes, b"elif") {
         return Some(Reserved::Elif);
     }
-    if spells_word(token, b"else") {
+    if are(bytes, b"else") {
         return Some(Reserved::Else);
     }
-    if spells_word(token, b"fi") {
+    if are(bytes, b"fi") {
         return Some(Reserved::Fi);
     }
-    if spells_word(token, b"for") {
+    if are(bytes, b"for") {
         return Some(Reserved::For);
     }
-    if spells_word(token, b"while") {
+    if are(bytes, b"while") {
         return Some(Reserved::While);
     }
-    if spells_word(token, b"until") {
+    if are(bytes, b"until") {
         return Some(Reserved::Until);
     }
-    if spells_word(token, b"do") {
+    if are(bytes, b"do") {
         return Some(Reserved::Do);
     }
-    if spells_word(token, b"done") {
+    if are(bytes, b"done") {
         return Some(Reserved::Done);
     }
     None
+}
+
+/// How many bytes a reserved word has at most.
+const RESERVED_MAX: usize = 5;
+
+/// The reserved word that a word is. No more of it is cut than the parts of a reserved word and one behind them.
+#[tactic(auto, using(crate::proofs::Fronted::fronting))]
+fn reserved_word(token: Token<'_>) -> Option<Reserved>
+    ensures { result ≡ spec.reserved (parts_of token.entry) }
+{
+    let mut parts = Parts::new(token.text, 0);
+    let mut bytes = [0; RESERVED_MAX];
+    let mut size = 0;
+    'parts: loop {
+        match parts.next() {
+            Ok(Some(part)) => {
+                let Some(b) = plain(part) else { return None };
+                if size == RESERVED_MAX {
+                    return None;
+                }
+                bytes[size] = b;
+                size += 1;
+            }
+            Ok(None) => return reserved_named(&bytes[..size]),
+            Err(_) => return None,
+        }
+    }
 }
 
 /// Whether a token is a word.
@@ -193,6 +228,28 @@ pub fn name_in(alloc: Global, token: Token<'_>) -> Result<Option<Vec<u8>>, Synta
         name(alloc, token)
     } else {
         Ok(None)
+    }
+}
+
+/// Whether a word is an assignment. It is cut up to `=`, or to the first part that is no byte of a name, and no
+/// memory is taken.
+pub fn is_assignment(token: Token<'_>) -> bool
+    requires { IsCut token }
+    ensures { result ≡ is_some (grammar.assignment (parts_of token.entry)) }
+{
+    let mut parts = Parts::new(token.text, 0);
+    let mut named = false;
+    'parts: loop {
+        match parts.next() {
+            Ok(Some(part)) => match plain(part) {
+                None => return false,
+                Some(b'=') => return named,
+                Some(b) if continues_name(named, b) => named = true,
+                Some(_) => return false,
+            },
+            Ok(None) => return false,
+            Err(_) => return false,
+        }
     }
 }
 

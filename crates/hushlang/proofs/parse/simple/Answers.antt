@@ -10,15 +10,15 @@ use Rattle.hushlang.proofs.parse.simple.Goals as goal
 pub returns-in_err-assignments-clause-reads : goal.returns-in_err-assignments-clause-reads
 returns-in_err-assignments-clause-reads c =
     let word = sym c.at_word.ensures ∙ c.if-not-at_word.false in
-    let assigns = sym c.in_ok-at_assignment.ensures.value ∙ c.if-branch.true in
+    let assigns = sym c.at_assignment.ensures ∙ c.if-at_assignment.true in
     let whole = λ (e : c.in_err-assignments.field-0.0 ≢ Memory). simple_refused c.args.tokens.now c.in_err-assignments.field-0.0 word assigns (c.in_err-assignments.ensures.reads e) in
-    let p = err_from_is_err_and c.from_residual-in_err-assignments.result c.from_residual-in_err-assignments.ensures.1 in
+    let p = err_from_is_err_and c.from_residual.result c.from_residual.ensures.1 in
     rw (p.1, p.2) whole
 
 pub returns-in_ok-assignments-clause-reads : goal.returns-in_ok-assignments-clause-reads
 returns-in_ok-assignments-clause-reads c =
     let word = sym c.at_word.ensures ∙ c.if-not-at_word.false in
-    let assigns = sym c.in_ok-at_assignment.ensures.value ∙ c.if-branch.true in
+    let assigns = sym c.at_assignment.ensures ∙ c.if-at_assignment.true in
     simple_values c.args.tokens.now c.assignments.new.tokens (map view.value c.in_ok-assignments.field-0.items) word assigns c.in_ok-assignments.ensures.reads
     ∙ ap (λ (x : Command). Ok (x, c.assignments.new.tokens)) (sym (command_assign c.in_ok-assignments.field-0))
 
@@ -36,7 +36,7 @@ returns-in_ok-assignments-clause-shrinks c =
 pub returns-in_ok-word_list-clause-reads : goal.returns-in_ok-word_list-clause-reads
 returns-in_ok-word_list-clause-reads c =
     let word = sym c.at_word.ensures ∙ c.if-not-at_word.false in
-    let assigns = sym c.in_ok-at_assignment.ensures.value ∙ c.if-branch.false in
+    let assigns = sym c.at_assignment.ensures ∙ c.if-at_assignment.false in
     simple_words c.args.tokens.now c.word_list.new.tokens (map view.word c.in_ok-word_list.field-0.items) word assigns c.in_ok-word_list.ensures.reads
     ∙ ap (λ (x : Command). Ok (x, c.word_list.new.tokens)) (sym (command_simple c.in_ok-word_list.field-0))
 
