@@ -1,4 +1,4 @@
-ghost use Rattle.std.specs.Prelude.{◌≡◌, ◌≤◌, length, IsOk, None};
+ghost use Rattle.std.specs.Prelude.{◌≡◌, ◌≤◌, length, IfOk, IsOk, None};
 ghost use Rattle.std.specs.Option.{option_copied};
 ghost use Rattle.envimage.specs.Data.{data_fault};
 ghost use Rattle.envimage.specs.Image.{is_right, is_newer, is_size, stored, current, chosen_of, load_of, Gives, shown, copy_shown};
@@ -181,7 +181,8 @@ pub fn load<'a>(
     second: Option<&'a [u8]>,
     order: ByteOrder,
 ) -> Result<Loaded<'a>, ImageError>
-    ensures { Gives shown result (load_of order first.now (option_copied second.entry)) }
+    ensures answer { Gives shown result (load_of order first.now (option_copied second.entry)) }
+    ensures faultless { IfOk result (λ loaded. data_fault loaded.body.now ≡ None) }
 {
     let which = choose(first, second, order)?;
     let loaded = match (second, which) {

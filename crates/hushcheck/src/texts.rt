@@ -25,7 +25,7 @@ fn environment(
     ensures { Finds (environment_in order first.now (option_copied second.entry)) result }
 {
     let loaded = load(first, second, order)?;
-    Ok(Env::from_data(alloc, loaded.body)?)
+    Ok(Env::from_checked(alloc, loaded.body)?)
 }
 
 /// Checks the texts of an image, or of the copy of a pair that counts, and writes what is told of them. The answer is

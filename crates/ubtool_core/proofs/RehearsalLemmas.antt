@@ -1,5 +1,5 @@
 -- From the rehearsal of an environment to that of an image.
-use Rattle.std.proofs.Common.{◌≡◌, ◌∙◌, arith, ℕ, ◌==◌, Bool, true, false, refl, sym, ap, subst, List, [], ◌∷◌, map, get_or, Option, Some, None, Ok, Err, inl, inr, if◌then◌else◌}
+use Rattle.std.proofs.Common.{◌≡◌, ◌∙◌, arith, ℕ, ◌==◌, Bool, true, false, refl, sym, ap, subst, List, [], ◌∷◌, map, get_or, Option, Some, None, Ok, inl, inr, if◌then◌else◌}
 use Rattle.std.specs.Prelude.{option_map}
 use Rattle.std.specs.Borrow.{Bor}
 use Rattle.std.proofs.lemmas.Bool.{eqb-true}
@@ -8,9 +8,7 @@ use Rattle.envimage.specs.Data.{Pair, pairs_of}
 use Rattle.envimage.specs.Image.{Shown, load_of}
 use Rattle.envimage.specs.Sink.{Sink}
 use Rattle.envimage.specs.declared.image.ByteOrder.{ByteOrder}
-use Rattle.envtools.specs.Environment.{IsReadFrom, env_of}
-use Rattle.envtools.specs.declared.env_error.EnvError.{EnvError}
-use Rattle.envtools.specs.declared.env_error.EnvError.TheVariants as env
+use Rattle.envtools.specs.Environment.{env_of}
 use Rattle.rehearse.specs.Listing.{digit_of, spelled}
 use Rattle.rehearse.specs.Outcomes.{Outcome, Success, Failure, Word}
 use Rattle.rehearse.specs.Runs.{Task}
@@ -21,14 +19,13 @@ use Rattle.rehearse_runs.specs.declared.listing.Finish.{Finish}
 use Rattle.rehearse_runs.specs.declared.rehearsing.Ask.{Ask}
 use Rattle.rehearse_runs.specs.declared.rehearsing.RehearseError.{RehearseError}
 use Rattle.rehearse_runs.specs.declared.rehearsing.RehearseError.TheVariants as rehearsal
-use Rattle.ubtool_core.specs.Errors.{env_fault, rehearse_fault}
+use Rattle.ubtool_core.specs.Errors.{rehearse_fault}
 use Rattle.ubtool_core.specs.Given.{given}
 use Rattle.ubtool_core.specs.Headline.{AreToCome, Rehearsed, Rehearses}
 use Rattle.ubtool_core.specs.Printing.{environment_in}
 use Rattle.ubtool_core.specs.Refusing.{SpellsNoRun, Refuses}
 use Rattle.ubtool_core.specs.StartWord.{digits_in}
 use Rattle.ubtool_core.specs.declared.rehearsal.RehearseAsk.{RehearseAsk}
-use Rattle.ubtool_core.proofs.PrintingLemmas.{loaded-faultless}
 
 -- ---- a word as it is printed, and its digits
 
@@ -109,14 +106,3 @@ refused-image order first second list ask start environment old new rehearsal.Wr
 refused-image order first second list ask start environment old new rehearsal.Memory image is (inl nothing) = inl (record { environment = environment; image = image }, nothing)
 refused-image order first second list ask start environment old new rehearsal.Memory image is (inr h) =
     inr (record { task = h.task; words = h.words; rehearsed = above order first second list ask start environment h.task h.words image is h.rehearsed; front = h.front; left = h.left; parts = h.parts; wrote = h.wrote })
-
--- the variables of a loaded image can be refused for memory alone
-pub unread-image : (order : ByteOrder) (first : List ℕ) (second : Option (List ℕ)) (list : Text) (ask : RehearseAsk) (s : Shown) (old new : Sink) (error : EnvError) → load_of order first second ≡ Ok s → IsReadFrom s.body (Err error) → new ≡ old
-    → Refuses (given order first second list ask) old new (env_fault error)
-unread-image order first second list ask s old new (env.Content fault) e read same =
-    let none = loaded-faultless order first second s e in
-    let wrong : ⊥ = cc in
-    absurd wrong
-unread-image order first second list ask s old new env.BadName e read same = absurd read
-unread-image order first second list ask s old new env.BadValue e read same = absurd read
-unread-image order first second list ask s old new env.Memory e read same = inl (record { environment = env_of (pairs_of s.body); image = rw e refl }, same)

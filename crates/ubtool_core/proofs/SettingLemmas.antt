@@ -1,4 +1,4 @@
--- A body that cannot be read for want of memory, and a write of a pair that is broken off.
+-- A write of a pair that is broken off.
 use Rattle.std.proofs.Common.{◌≡◌, ◌≤◌, ◌⊎◌, ℕ, Bool, true, false, List, Option, None, Some, Result, Ok, Err, refl, sym, subst, ◌∙◌, arith, inl, inr}
 use Rattle.std.specs.Prelude.{nat_lt}
 use Rattle.std.proofs.lemmas.Bool.Decides.{nat_tests}
@@ -9,23 +9,12 @@ use Rattle.envimage.specs.declared.image.ByteOrder.{ByteOrder}
 use Rattle.envimage.specs.declared.image.ImageError.{ImageError}
 use Rattle.envimage.specs.declared.image.Which.{Which}
 use Rattle.envimage.specs.declared.image.Which.TheVariants.{First, Second}
-use Rattle.envtools.specs.Environment.{IsReadFrom, env_of}
+use Rattle.envtools.specs.Environment.{env_of}
 use Rattle.envtools.specs.Saving.{copy_to_write, half_written, load_pair, next_flag, other_copy, saved_image, size_of, spare_of, with_spare}
-use Rattle.envtools.specs.declared.env_error.EnvError.{EnvError}
-use Rattle.envtools.specs.declared.env_error.EnvError.TheVariants.{Content, BadName, BadValue, Memory}
-use Rattle.ubtool_core.specs.Errors.{env_fault}
-use Rattle.ubtool_core.specs.Setting.{Answers, IsSafe, IsSafeAt, edited, set_of, then_written, written}
+use Rattle.ubtool_core.specs.Setting.{IsSafe, IsSafeAt, edited, set_of, then_written, written}
 use Rattle.ubtool_core.specs.declared.change.Edit.{Edit}
 use Rattle.ubtool_core.specs.declared.error.ToolError.{ToolError}
 use Rattle.envtools.proofs.SavingLemmas.{front_may_stand, spare-is-written}
-use Rattle.ubtool_core.proofs.PrintingLemmas.{loaded-faultless}
-
-pub unread : (order : ByteOrder) (first : List ℕ) (second : Option (List ℕ)) (s : Shown) (error : EnvError) (answer : Result (Which × List ℕ) ToolError)
-    → load_of order first second ≡ Ok s → IsReadFrom s.body (Err error) → Answers (load_of order first second) answer (Err (env_fault error))
-unread order first second s (Content fault) answer e read = let none = loaded-faultless order first second s e in cc
-unread order first second s BadName answer e read = absurd read
-unread order first second s BadValue answer e read = absurd read
-unread order first second s Memory answer e read = (s, e)
 
 -- ---- a write that is broken off
 

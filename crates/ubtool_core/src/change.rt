@@ -50,7 +50,7 @@ pub fn set_bytes(
     ensures safe { IfOk result (λ w. IsSafe order first.now (option_copied second.entry) w.0 w.1.items) }
 {
     let loaded = load(first, second, order)?;
-    let mut env = Env::from_data(alloc, loaded.body)?;
+    let mut env = Env::from_checked(alloc, loaded.body)?;
     edit_env(&mut env, edit)?;
     Ok(save(alloc, &env, &loaded)?)
 }

@@ -72,7 +72,7 @@ pub fn rehearse_bytes<O: Out>(
     ensures err { IfErr result (λ e. Refuses (given order first.now (option_copied second.entry) devices_text.now ask.now) (O.sink out.old) (O.sink out.new) e) }
 {
     let loaded = load(first, second, order)?;
-    let env = Env::from_data(alloc, loaded.body)?;
+    let env = Env::from_checked(alloc, loaded.body)?;
     let asked = Ask {
         name: ask.name,
         bounds: ask.bounds,

@@ -3,7 +3,7 @@ use Rattle.std.specs.List.{AllByRecursion}
 use Rattle.envimage.specs.Data.{IsVariable, pairs_of}
 use Rattle.envimage.specs.Entries.{pairs_left}
 use Rattle.envtools.specs.Environment.{assigned, env_of}
-use Rattle.envtools.proofs.env.Env.from_data.Given as goal
+use Rattle.envtools.proofs.env.Env.from_checked.Given as goal
 
 -- the variables that are left make the whole environment
 abbrev pub invariant-loop-name : goal.invariant-loop-name

@@ -5,13 +5,13 @@ use Rattle.envimage.specs.Entries.{pairs_left}
 use Rattle.envimage.proofs.FaultLemmas.{faultless_is_data}
 use Rattle.envtools.specs.Environment.{assigned}
 use Rattle.envtools.proofs.EnvOf.{fold-assigned}
-use Rattle.envtools.proofs.env.Env.from_data.Goals as goal
+use Rattle.envtools.proofs.env.Env.from_checked.Goals as goal
 
 pub loop-name-init : goal.loop-name-init
 loop-name-init c =
     let left : pairs_left c.into_iter-name-iterator.result ≡ pairs_of c.args.body.now = cc in
     let Each : List Pair → Type 0 = λ ps. AllByRecursion IsVariable ps in
-    let d = faultless_is_data c.args.body.now (sym c.in_ok-check_data.ensures) in
+    let d = faultless_is_data c.args.body.now c.requires in
     record {
       whole = ap (λ env. fold (λ env p. assigned env p.0 p.1) env (pairs_left c.into_iter-name-iterator.result)) c.new-env.ensures
           ∙ (ap (fold (λ env p. assigned env p.0 p.1) []) left ∙ fold-assigned (pairs_of c.args.body.now));
