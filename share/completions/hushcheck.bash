@@ -15,7 +15,7 @@ _hushcheck_names() {
 }
 
 _hushcheck() {
-    local word=${COMP_WORDS[COMP_CWORD]} options='-c --config --big-endian -h --help' words number
+    local word=${COMP_WORDS[COMP_CWORD]} options='-c --config --big-endian -h --help -V --version' words number
     COMPREPLY=()
     for ((number = 1; number < COMP_CWORD; number++)); do
         [ "${COMP_WORDS[number]}" != -- ] || options=''

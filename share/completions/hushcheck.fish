@@ -19,6 +19,7 @@ end
 
 complete -c hushcheck -f
 complete -c hushcheck -s h -l help -d 'Print help'
+complete -c hushcheck -s V -l version -d 'Print version'
 complete -c hushcheck -s c -l config -r -F -d 'Configuration'
 complete -c hushcheck -l big-endian -d 'The CRC is stored big-endian'
 complete -c hushcheck -a '(__hushcheck_names)' -d Variable

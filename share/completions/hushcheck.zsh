@@ -19,6 +19,7 @@ _hushcheck() {
         '(-c --config)'{-c,--config}'[configuration]:configuration:_files' \
         '--big-endian[the CRC is stored big-endian]' \
         '(- *)'{-h,--help}'[print help]' \
+        '(- *)'{-V,--version}'[print version]' \
         '*: :_hushcheck_names'
 }
 

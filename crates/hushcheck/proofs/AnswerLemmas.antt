@@ -5,14 +5,15 @@ use Rattle.clap.specs.Words.{App, HasKind, HasMatchesOf, IsAmong, Text, fault_of
 use Rattle.clap.specs.declared.error.Error.{Error}
 use Rattle.clap.specs.declared.parser.matches.ArgMatches.{ArgMatches}
 use Rattle.clap.specs.declared.error.kind.ErrorKind.{ErrorKind}
-use Rattle.clap.specs.declared.error.kind.ErrorKind.TheVariants.{DisplayHelp, OutOfMemory}
+use Rattle.clap.specs.declared.error.kind.ErrorKind.TheVariants.{DisplayHelp, DisplayVersion, OutOfMemory}
 use Rattle.clap.proofs.OnLiterals.{clap_on_literals}
 use Rattle.hushcheck.specs.declared.ask.Ask.{Ask}
-use Rattle.hushcheck.specs.declared.ask.Ask.TheVariants.{Check, Help}
-use Rattle.hushcheck.specs.declared.ask.UseError.{UseError}
-use Rattle.hushcheck.specs.declared.ask.UseError.TheVariants.{Line, Memory}
+use Rattle.hushcheck.specs.declared.ask.Ask.TheVariants.{Check, Help, Version}
+use Rattle.ubtool_cli.specs.Answers.{IsAccepted}
+use Rattle.ubtool_cli.specs.declared.ask.UseError.{UseError}
+use Rattle.ubtool_cli.specs.declared.ask.UseError.TheVariants.{HeaderNeedsOne, Line, Memory, NeedName, ScriptAndName}
 use Rattle.hushcheck.specs.Asked.{Asked, asked_of}
-use Rattle.hushcheck.specs.Answers.{Answers, IsAccepted, Reports, Says, asked}
+use Rattle.hushcheck.specs.Answers.{Answers, Reports, Says, asked}
 use Rattle.hushcheck.specs.CommandLine.{hushcheck}
 
 hushcheck_simple : is_simple hushcheck ≡ true
@@ -24,11 +25,15 @@ unfolding clap_on_literals
 hushcheck_free = refl
 
 -- where the words are accepted
-accepted_answer : (words : List Text) (a : Asked) (r : Result Ask UseError) → IsAccepted words → a ≡ asked words → Says a r → Answers words r
+accepted_answer : (words : List Text) (a : Asked) (r : Result Ask UseError) → IsAccepted hushcheck words → a ≡ asked words → Says a r → Answers words r
 accepted_answer words a (Ok (Help text)) fine is says = absurd says
+accepted_answer words a (Ok Version) fine is says = absurd says
 accepted_answer words a (Ok (Check config names order)) fine is says = (fine, sym is ∙ says)
 accepted_answer words a (Err (Line text)) fine is says = absurd says
 accepted_answer words a (Err Memory) fine is says = tt
+accepted_answer words a (Err NeedName) fine is says = absurd says
+accepted_answer words a (Err ScriptAndName) fine is says = absurd says
+accepted_answer words a (Err HeaderNeedsOne) fine is says = absurd says
 
 -- where they are not
 refused_answer : (words : List Text) (k : ErrorKind) (r : Result Ask UseError) → (k ≡ OutOfMemory) ⊎ IsAmong k (fault_of hushcheck words) → Reports k r → Answers words r
@@ -38,18 +43,27 @@ refused_answer words k (Ok (Help text)) among is = elim among [
       cc
   | inr one ↦ subst (λ (x : ErrorKind). IsAmong x (fault_of hushcheck words)) is one
 ]
+refused_answer words k (Ok Version) among is = elim among [
+  | inl memory ↦
+      let bad : DisplayVersion ≡ OutOfMemory = sym is ∙ memory in
+      cc
+  | inr one ↦ subst (λ (x : ErrorKind). IsAmong x (fault_of hushcheck words)) is one
+]
 refused_answer words k (Ok (Check config names order)) among is = absurd is
 refused_answer words k (Err (Line text)) among is = elim among [
-  | inl memory ↦ absurd (is.1 memory)
-  | inr one ↦ (k, one, is.0)
+  | inl memory ↦ absurd (is.2 memory)
+  | inr one ↦ (k, one, is.0, is.1)
 ]
 refused_answer words k (Err Memory) among is = tt
+refused_answer words k (Err NeedName) among is = absurd is
+refused_answer words k (Err ScriptAndName) among is = absurd is
+refused_answer words k (Err HeaderNeedsOne) among is = absurd is
 
 -- a parse that succeeds
 pub parsed_answer : (app : App) (words : List Text) (m : ArgMatches) (r : Result Ask UseError) → app ≡ hushcheck → HasMatchesOf app words m
     → (is_simple_and_free app ≡ true → fault_of app words ≡ []) → Says (asked_of (rows_of (found_of m))) r → Answers words r
 parsed_answer app words m r is matches kinds says =
-    let fine : IsAccepted words = ap (λ (a : App). fault_of a words) (sym is) ∙ kinds (ap is_simple_and_free is ∙ hushcheck_free) in
+    let fine : IsAccepted hushcheck words = ap (λ (a : App). fault_of a words) (sym is) ∙ kinds (ap is_simple_and_free is ∙ hushcheck_free) in
     let found = (matches (ap is_simple is ∙ hushcheck_simple)).0 ∙ ap (λ (a : App). matches_of a words) is in
     accepted_answer words _ r fine (ap asked_of found) says
 

@@ -1,33 +1,29 @@
 -- The answer to the words of a call. Ours.
-use Rattle.std.specs.Prelude.{◌≡◌, ◌≢◌, List, [], map, Result, Ok, Err, string_bytes}
+use Rattle.std.specs.Prelude.{◌≡◌, ◌≢◌, List, map, Result, Ok, Err, string_bytes}
 use Rattle.clap.specs.Words.{IsAmong, Text, fault_of, matches_of}
 use Rattle.clap.specs.declared.error.kind.ErrorKind.{ErrorKind}
-use Rattle.clap.specs.declared.error.kind.ErrorKind.TheVariants.{DisplayHelp, OutOfMemory}
+use Rattle.clap.specs.declared.error.kind.ErrorKind.TheVariants.{DisplayHelp, DisplayVersion, OutOfMemory}
 use Rattle.hushcheck.specs.Asked.{Asked, asked_of}
 use Rattle.hushcheck.specs.CommandLine.{hushcheck}
 use Rattle.hushcheck.specs.declared.ask.Ask.{Ask}
-use Rattle.hushcheck.specs.declared.ask.Ask.TheVariants.{Check, Help}
-use Rattle.hushcheck.specs.declared.ask.UseError.{UseError}
-use Rattle.hushcheck.specs.declared.ask.UseError.TheVariants.{Line, Memory}
+use Rattle.hushcheck.specs.declared.ask.Ask.TheVariants.{Check, Help, Version}
+use Rattle.ubtool_cli.specs.Answers.{IsAccepted, IsMistaken}
+use Rattle.ubtool_cli.specs.declared.ask.UseError.{UseError}
+use Rattle.ubtool_cli.specs.declared.ask.UseError.TheVariants.{Line, Memory}
 
 -- what the words ask for, by the entries that `clap` finds in them
 abbrev pub asked : List Text → Asked
 asked words = asked_of (matches_of hushcheck words)
 
--- `clap` finds no fault in the words
-abbrev pub IsAccepted : List Text → Type 0
-IsAccepted words = fault_of hushcheck words ≡ []
-
--- `clap` refuses the words for some mistake, and not to show the help
-abbrev pub IsMistaken : List Text → Type 0
-IsMistaken words = (k : ErrorKind) × IsAmong k (fault_of hushcheck words) × (k ≢ DisplayHelp)
-
+-- the answer to words; of the refusals, those that `ubtool` alone has come nowhere
 abbrev pub Answers : List Text → Result Ask UseError → Type 0
 Answers words (Ok (Help text)) = IsAmong DisplayHelp (fault_of hushcheck words)
+Answers words (Ok Version) = IsAmong DisplayVersion (fault_of hushcheck words)
 Answers words (Ok (Check config names order)) =
-    IsAccepted words × (asked words ≡ record { config = string_bytes config; names = map string_bytes names.items; order = order })
-Answers words (Err (Line text)) = IsMistaken words
+    IsAccepted hushcheck words × (asked words ≡ record { config = string_bytes config; names = map string_bytes names.items; order = order })
+Answers words (Err (Line text)) = IsMistaken hushcheck words
 Answers words (Err Memory) = Unit {0}
+Answers words (Err _) = ⊥
 
 -- the answer asks for this, or memory ran out
 abbrev pub Says : Asked → Result Ask UseError → Type 0
@@ -38,6 +34,7 @@ Says a _ = ⊥
 -- the answer to an error of `clap`
 abbrev pub Reports : ErrorKind → Result Ask UseError → Type 0
 Reports k (Ok (Help text)) = k ≡ DisplayHelp
-Reports k (Err (Line text)) = (k ≢ DisplayHelp) × (k ≢ OutOfMemory)
+Reports k (Ok Version) = k ≡ DisplayVersion
+Reports k (Err (Line text)) = (k ≢ DisplayHelp) × (k ≢ DisplayVersion) × (k ≢ OutOfMemory)
 Reports k (Err Memory) = Unit {0}
 Reports k _ = ⊥

@@ -1,10 +1,9 @@
 -- What checking the texts of an image does, from files that tell what stands in them. Ours.
-use Rattle.std.specs.Prelude.{◌≡◌, ℕ, Bool, List, Result, Ok, Err}
+use Rattle.std.specs.Prelude.{◌≡◌, Bool, List, Result, Ok, Err}
 use Rattle.envimage.specs.Data.{Pair}
 use Rattle.envimage.specs.Sink.{BrokeOff, Sink, Wrote}
 use Rattle.envimage.specs.declared.image.ByteOrder.{ByteOrder}
 use Rattle.envimage.specs.declared.image.ImageError.{ImageError}
-use Rattle.envtools.specs.declared.env.Env.{Env}
 use Rattle.hushcheck_core.specs.Names.{Text}
 use Rattle.hushcheck_core.specs.Report.{Checks}
 use Rattle.ubtool_core.specs.Order.{OnlyReads}
@@ -13,7 +12,7 @@ use Rattle.ubtool_core.specs.declared.error.ToolError.{ToolError}
 use Rattle.ubtool_core.specs.declared.error.ToolError.TheVariants.{Image, Memory, Write}
 use Rattle.ubtool_core.specs.declared.fault.Fault.{Fault}
 use Rattle.ubtool_core.specs.declared.fault.Fault.TheVariants.{Tool}
-use Rattle.ubtool_run.specs.Images.{Copy, IsImagesFault}
+use Rattle.ubtool_run.specs.Images.{IsImagesFault}
 use Rattle.ubtool_run.specs.Printing.{FromImages, environment}
 
 -- the environment that was found, or why there is none

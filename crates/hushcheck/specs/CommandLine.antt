@@ -4,9 +4,9 @@ use Rattle.clap.specs.Words.{App, Shape, new_app, with_rule}
 use Rattle.clap.specs.Simple.{on_top}
 use Rattle.ubtool_cli.specs.CommandLine.{big_endian, config, many}
 
--- the program, which has no words of its own
+-- the program, which has a version and no words of its own
 abbrev pub base : App
-base = on_top (λ (s : Shape). record s { no_binary_name = true }) (new_app (codes "hushcheck"))
+base = on_top (λ (s : Shape). record s { no_binary_name = true; has_version = true }) (new_app (codes "hushcheck"))
 
 -- `[-c FILE] [--big-endian]`
 abbrev pub options : App

@@ -2,4 +2,4 @@ pub mod CommandLine
 pub mod Asked
 pub mod Answers
 pub mod Checking
-pub mod Running
+pub mod Doing

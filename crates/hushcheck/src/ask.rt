@@ -1,10 +1,6 @@
-//! What a call asks for, and why its words are refused.
-ghost use Rattle.std.specs.Prelude.{◌≡◌};
-ghost use Rattle.hushcheck.specs.declared.ask.UseError.TheVariants.{Memory};
+//! What a call asks for.
 
 use envimage::ByteOrder;
-use std::alloc::AllocError;
-use thiserror::Error;
 
 /// What the words of a call ask for.
 #[derive(Debug, Drop)]
@@ -20,23 +16,6 @@ pub enum Ask {
     },
     /// To read the help, which this text is.
     Help(String),
-}
-
-/// Why the words of a call are refused.
-#[derive(Debug, Drop, Error)]
-pub enum UseError {
-    /// `clap` refuses the words. The text is its message, with its line ends.
-    #[error("{0}")]
-    Line(String),
-    /// A growth was refused.
-    #[error("out of memory")]
-    Memory,
-}
-
-impl From<AllocError> for UseError {
-    ghost from_gives = { λ _ e. e ≡ Memory };
-
-    fn from(_error: AllocError) -> UseError {
-        UseError::Memory
-    }
+    /// To read the version.
+    Version,
 }

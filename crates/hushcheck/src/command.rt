@@ -5,7 +5,7 @@ ghost use Rattle.ubtool_cli.specs.Made.{IsMade};
 
 use clap::Command;
 use std::alloc::{AllocError, Global};
-use ubtool_cli::{lettered_option, long_flag, many};
+use ubtool_cli::{VERSION, lettered_option, long_flag, many};
 
 const NOTES: &str = "\
 The texts of the variables are read as boot scripts, and then those of the
@@ -30,6 +30,7 @@ fn base<'a>(alloc: Global) -> Result<Command<'a>, AllocError>
     let command = Command::new(alloc, "hushcheck")
         .about("Check the boot scripts of a U-Boot environment")
         .after_help(NOTES)
+        .version(VERSION)
         .bin_name("hushcheck")?;
     Ok(command.no_binary_name(true))
 }

@@ -5,13 +5,13 @@ ghost use Rattle.hushcheck.specs.Answers.{Answers, Reports, Says};
 ghost use Rattle.hushcheck.specs.Asked.{asked_of, or_bootcmd};
 ghost use Rattle.ubtool_cli.specs.Asked.{values_of};
 
-use crate::ask::{Ask, UseError};
+use crate::ask::Ask;
 use crate::command::hushcheck;
 use clap::ArgMatches;
 use clap::error::ErrorKind;
 use std::alloc::{AllocError, Global};
 use std::convert::AsStr;
-use ubtool_cli::{DEFAULT_VARIABLE, config_of, order_of, texts_of};
+use ubtool_cli::{DEFAULT_VARIABLE, UseError, config_of, order_of, texts_of};
 
 /// The variables to check.
 fn names_of(alloc: Global, matches: &ArgMatches<'_>) -> Result<Vec<String>, AllocError>
@@ -36,13 +36,14 @@ fn ask_of(alloc: Global, matches: &ArgMatches<'_>) -> Result<Ask, UseError>
     })
 }
 
-/// The answer where `clap` refuses the words, or shows its help.
+/// The answer where `clap` refuses the words, or shows its help or the version.
 fn report(alloc: Global, error: &clap::Error) -> Result<Ask, UseError>
     ensures { Reports (kind_of error.now) result }
 {
     match error.kind() {
         ErrorKind::OutOfMemory => Err(UseError::Memory),
         ErrorKind::DisplayHelp => Ok(Ask::Help(error.to_string(alloc)?)),
+        ErrorKind::DisplayVersion => Ok(Ask::Version),
         _ => Err(UseError::Line(error.to_string(alloc)?)),
     }
 }

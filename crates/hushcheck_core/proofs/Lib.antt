@@ -4,4 +4,4 @@ pub mod ShownLemmas
 pub mod WalkLemmas
 pub mod CheckLemmas
 pub mod LinesLemmas
-pub mod Rows
+pub mod CheckExamples

@@ -27,7 +27,7 @@ unfolding clap_on_literals
 ubtool_free = refl
 
 -- where the words are accepted
-pub accepted_answer : (words : List Text) (a : Option Asked) (r : Result Ask UseError) → IsAccepted words → a ≡ asked words → Says a r → Answers words r
+pub accepted_answer : (words : List Text) (a : Option Asked) (r : Result Ask UseError) → IsAccepted ubtool words → a ≡ asked words → Says a r → Answers words r
 accepted_answer words a (Ok (Help text)) fine is says = absurd says
 accepted_answer words a (Ok Version) fine is says = absurd says
 accepted_answer words a (Ok (Print config what order)) fine is says = (fine, says ∙ is)
@@ -79,7 +79,7 @@ subcommand_met m name rows = go (out-ArgMatches m).subcommand
 pub parsed_answer : (app : App) (words : List Text) (m : ArgMatches) (r : Result Ask UseError) → app ≡ ubtool → HasMatchesOf app words m
     → (is_simple_and_free app ≡ true → fault_of app words ≡ []) → Says (option_and_then (λ s. asked_of s.0 s.1) (subcommand_rows_of m)) r → Answers words r
 parsed_answer app words m r is matches kinds says =
-    let fine : IsAccepted words = ap (λ (a : App). fault_of a words) (sym is) ∙ kinds (ap is_simple_and_free is ∙ ubtool_free) in
+    let fine : IsAccepted ubtool words = ap (λ (a : App). fault_of a words) (sym is) ∙ kinds (ap is_simple_and_free is ∙ ubtool_free) in
     let found = (matches (ap is_simple is ∙ ubtool_simple)).1 ∙ ap (λ (a : App). subcommand_of a words) is in
     accepted_answer words _ r fine (ap (option_and_then (λ s. asked_of s.0 s.1)) found) says
 

@@ -9,8 +9,8 @@ use Rattle.ubtool_cli.specs.Asked.{Asked, header_needs_one, needs_name, printing
 use Rattle.ubtool_cli.specs.CommandLine.{ubtool}
 
 -- the words are accepted and ask for this
-abbrev AsksFor : List Text → Asked → Type 0
-AsksFor words what = IsAccepted words × (asked words ≡ Some what)
+abbrev pub AsksFor : List Text → Asked → Type 0
+AsksFor words what = IsAccepted ubtool words × (asked words ≡ Some what)
 
 -- the words are refused
 abbrev IsRefused : List Text → Type 0

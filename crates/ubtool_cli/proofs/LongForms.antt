@@ -4,13 +4,9 @@ use Rattle.clap.specs.Words.{Text, fault_of}
 use Rattle.clap.specs.declared.error.kind.ErrorKind.TheVariants.{DisplayVersion}
 use Rattle.clap.proofs.OnLiterals.{clap_on_literals}
 use Rattle.envimage.specs.declared.image.ByteOrder.TheVariants.{Little}
-use Rattle.ubtool_cli.specs.Answers.{IsAccepted, asked}
 use Rattle.ubtool_cli.specs.Asked.{Asked, printing, rehearsing, scripted}
 use Rattle.ubtool_cli.specs.CommandLine.{ubtool}
-
--- the words are accepted and ask for this
-abbrev AsksFor : List Text → Asked → Type 0
-AsksFor words what = IsAccepted words × (asked words ≡ Some what)
+use Rattle.ubtool_cli.proofs.CommandLineExamples.{AsksFor}
 
 -- the words ask for the version alone
 abbrev AsksForVersion : List Text → Type 0

@@ -2,7 +2,7 @@
 -- ours.
 use Rattle.std.specs.Prelude.{◌≡◌, ◌≢◌, ◌⊎◌, List, [], map, Option, Some, None}
 use Rattle.std.specs.Prelude.{Result, Ok, Err, option_map, option_and_then, string_bytes}
-use Rattle.clap.specs.Words.{IsAmong, Text, fault_of, subcommand_of}
+use Rattle.clap.specs.Words.{App, IsAmong, Text, fault_of, subcommand_of}
 use Rattle.clap.specs.declared.error.kind.ErrorKind.{ErrorKind}
 use Rattle.clap.specs.declared.error.kind.ErrorKind.TheVariants.{DisplayHelp, DisplayVersion}
 use Rattle.clap.specs.declared.error.kind.ErrorKind.TheVariants.{OutOfMemory}
@@ -50,12 +50,12 @@ abbrev pub asked : List Text → Option Asked
 asked words = option_and_then (λ s. asked_of s.0 s.1) (subcommand_of ubtool words)
 
 -- `clap` finds no fault in the words
-abbrev pub IsAccepted : List Text → Type 0
-IsAccepted words = fault_of ubtool words ≡ []
+abbrev pub IsAccepted : App → List Text → Type 0
+IsAccepted app words = fault_of app words ≡ []
 
 -- `clap` refuses the words for some mistake, and not to show the help or the version
-abbrev pub IsMistaken : List Text → Type 0
-IsMistaken words = (k : ErrorKind) × IsAmong k (fault_of ubtool words) × (k ≢ DisplayHelp)
+abbrev pub IsMistaken : App → List Text → Type 0
+IsMistaken app words = (k : ErrorKind) × IsAmong k (fault_of app words) × (k ≢ DisplayHelp)
     × (k ≢ DisplayVersion)
 
 -- the answer to words. A line that is no mistake would come of an accepted `rehearse` without its
@@ -63,11 +63,11 @@ IsMistaken words = (k : ErrorKind) × IsAmong k (fault_of ubtool words) × (k �
 abbrev pub Answers : List Text → Result Ask UseError → Type 0
 Answers words (Ok (Help text)) = IsAmong DisplayHelp (fault_of ubtool words)
 Answers words (Ok Version) = IsAmong DisplayVersion (fault_of ubtool words)
-Answers words (Ok ask) = IsAccepted words × (meaning_of ask ≡ asked words)
-Answers words (Err NeedName) = IsAccepted words × (Some needs_name ≡ asked words)
-Answers words (Err ScriptAndName) = IsAccepted words × (Some script_and_name ≡ asked words)
-Answers words (Err HeaderNeedsOne) = IsAccepted words × (Some header_needs_one ≡ asked words)
-Answers words (Err (Line text)) = IsMistaken words ⊎ (IsAccepted words × (None ≡ asked words))
+Answers words (Ok ask) = IsAccepted ubtool words × (meaning_of ask ≡ asked words)
+Answers words (Err NeedName) = IsAccepted ubtool words × (Some needs_name ≡ asked words)
+Answers words (Err ScriptAndName) = IsAccepted ubtool words × (Some script_and_name ≡ asked words)
+Answers words (Err HeaderNeedsOne) = IsAccepted ubtool words × (Some header_needs_one ≡ asked words)
+Answers words (Err (Line text)) = IsMistaken ubtool words ⊎ (IsAccepted ubtool words × (None ≡ asked words))
 Answers words (Err Memory) = Unit {0}
 
 -- the answer says this, or memory ran out; a line says nothing

@@ -2,12 +2,11 @@
 use Rattle.std.proofs.Common.{arith, ◌≡◌, ℕ, Bool, true, false, sym, subst, List, Option, Ok, Err}
 use Rattle.std.specs.Prelude.{Result}
 use Rattle.envimage.specs.Sink.{Sink}
-use Rattle.ubtool_cli.specs.Answers.{Answers}
-use Rattle.ubtool_cli.specs.declared.ask.Ask.{Ask}
-use Rattle.ubtool_core.specs.Printing.{outputs}
+use Rattle.clap.specs.Words.{Text}
+use Rattle.ubtool_cli.specs.declared.ask.UseError.{UseError}
+use Rattle.ubtool_core.specs.Printing.{Outputs, outputs}
 use Rattle.ubtool_core.specs.Told.{Told}
 use Rattle.ubtool_core.specs.declared.fault.Fault.{Fault}
-use Rattle.ubtool_run.specs.Asking.{Does}
 use Rattle.ubtool_run.specs.Faults.{CountsTold}
 use Rattle.ubtool_run.specs.Running.{Ends, FilesSeen, HasDone, HasRefused}
 
@@ -15,19 +14,21 @@ use Rattle.ubtool_run.specs.Running.{Ends, FilesSeen, HasDone, HasRefused}
 abbrev files : ℕ → Option Told → FilesSeen
 files faults told = record { faults = faults; told = told }
 
-pub status-done : (words : List (List ℕ)) (ask : Ask) (faults faults' : ℕ) (before after : Option Told) (out out' err told err' : Sink) (answer : Result Bool Fault) (status : ℕ)
+pub status-done : {Ask : Type 0} (Answers : List Text → Result Ask UseError → Type 0) (Does : Ask → Option Told → Option Told → Outputs → Result Bool Fault → Type 0)
+    (words : List Text) (ask : Ask) (faults faults' : ℕ) (before after : Option Told) (out out' err told err' : Sink) (answer : Result Bool Fault) (status : ℕ)
     → Answers words (Ok ask) → CountsTold faults faults' answer → Does ask before after (outputs out out' err told) answer → Ends answer told err' status → status ≡ 0
-    → HasDone words (files faults before) (files faults' after) (outputs out out' err err')
-status-done words ask faults faults' before after out out' err told err' (Ok true) status asked counts does ends is =
+    → HasDone Answers Does words (files faults before) (files faults' after) (outputs out out' err err')
+status-done Answers Does words ask faults faults' before after out out' err told err' (Ok true) status asked counts does ends is =
     record { ask = ask; asked = asked; sound = counts; does = subst (λ (e : Sink). Does ask before after (outputs out out' err e) (Ok true)) (sym ends.1) does }
-status-done words ask faults faults' before after out out' err told err' (Ok false) status asked counts does ends is = let e : ⊥ = omega (arith, ends.0, is) in absurd e
-status-done words ask faults faults' before after out out' err told err' (Err fault) status asked counts does ends is = let e : ⊥ = omega (arith, ends, is) in absurd e
+status-done Answers Does words ask faults faults' before after out out' err told err' (Ok false) status asked counts does ends is = let e : ⊥ = omega (arith, ends.0, is) in absurd e
+status-done Answers Does words ask faults faults' before after out out' err told err' (Err fault) status asked counts does ends is = let e : ⊥ = omega (arith, ends, is) in absurd e
 
-pub status-refused : (words : List (List ℕ)) (ask : Ask) (faults faults' : ℕ) (before after : Option Told) (out out' err told err' : Sink) (answer : Result Bool Fault) (status : ℕ)
+pub status-refused : {Ask : Type 0} (Answers : List Text → Result Ask UseError → Type 0) (Does : Ask → Option Told → Option Told → Outputs → Result Bool Fault → Type 0)
+    (words : List Text) (ask : Ask) (faults faults' : ℕ) (before after : Option Told) (out out' err told err' : Sink) (answer : Result Bool Fault) (status : ℕ)
     → Answers words (Ok ask) → CountsTold faults faults' answer → Does ask before after (outputs out out' err told) answer → Ends answer told err' status → status ≡ 1
-    → HasRefused words (files faults before) (files faults' after) (outputs out out' err err')
-status-refused words ask faults faults' before after out out' err told err' (Ok true) status asked counts does ends is = let e : ⊥ = omega (arith, ends.0, is) in absurd e
-status-refused words ask faults faults' before after out out' err told err' (Ok false) status asked counts does ends is =
+    → HasRefused Answers Does words (files faults before) (files faults' after) (outputs out out' err err')
+status-refused Answers Does words ask faults faults' before after out out' err told err' (Ok true) status asked counts does ends is = let e : ⊥ = omega (arith, ends.0, is) in absurd e
+status-refused Answers Does words ask faults faults' before after out out' err told err' (Ok false) status asked counts does ends is =
     record { ask = ask; asked = asked; answer = Ok false; is_refusal = λ e. cc; counts = counts; told_from = told; told = ends.1; does = does }
-status-refused words ask faults faults' before after out out' err told err' (Err fault) status asked counts does ends is =
+status-refused Answers Does words ask faults faults' before after out out' err told err' (Err fault) status asked counts does ends is =
     record { ask = ask; asked = asked; answer = Err fault; is_refusal = λ e. cc; counts = counts; told_from = told; told = tt; does = does }

@@ -1,6 +1,6 @@
 -- What is done for what is asked, on files that tell what stands in them.
 -- The subcommands follow fw_printenv and fw_setenv (U-Boot, tools/env README); the rehearsal is ours.
-use Rattle.std.specs.Prelude.{◌≡◌, ◌++◌, ℕ, Bool, true, false, List, [], ◌∷◌, codes, length, map, Option, Result, Ok, Err, string_bytes}
+use Rattle.std.specs.Prelude.{◌≡◌, ◌++◌, ℕ, Bool, true, false, List, codes, length, map, Option, Result, Ok, Err, string_bytes}
 use Rattle.envimage.specs.Sink.{BrokeOff, Sink, Wrote}
 use Rattle.envimage.specs.declared.image.ByteOrder.{ByteOrder}
 use Rattle.ubtool_cli.specs.declared.ask.Ask.{Ask}
@@ -21,15 +21,21 @@ abbrev pub IsComplete : Ask → Type 0
 IsComplete (Print config what order) = what.header ≡ false → length what.names.items ≡ 1
 IsComplete ask = Unit {0}
 
--- the line that tells the version
-abbrev pub version_line : List ℕ
-version_line = codes "ubtool " ++ VERSION.now ++ 10 ∷ []
+-- the line that tells the version of a program of this name
+abbrev pub version_line : List ℕ → List ℕ
+version_line program = program ++ codes " " ++ VERSION.now ++ codes "\n"
 
 -- the text was written, of the help or the version, or its output failed inside it
 abbrev pub Helps : List ℕ → Sink → Sink → Result Bool Fault → Type 0
 Helps text old new (Ok all) = (all ≡ true) × Wrote old new text
 Helps text old new (Err (Tool Write)) = BrokeOff old new text
 Helps text old new (Err fault) = ⊥
+
+-- the text was written so, and nothing else was done
+abbrev pub Shows : List ℕ → Option Told → Option Told → Outputs → Result Bool Fault → Type 0
+Shows text before after outputs result =
+    Helps text outputs.out outputs.out' result
+    × ((after ≡ before) × (outputs.err' ≡ outputs.err))
 
 -- a change was made, which is all that the answer says
 abbrev pub SetsOf : ByteOrder → List ℕ → Change → Told → Told → Result Bool Fault → Type 0
@@ -50,9 +56,5 @@ Does (Rehearse config device_list what order) before after outputs result =
     RehearsesFrom order (string_bytes config) (string_bytes device_list) what outputs.out outputs.out' old new result)
     × LeavesOutput result outputs.out outputs.out'
     × (outputs.err' ≡ outputs.err)
-Does (Help text) before after outputs result =
-    Helps (string_bytes text) outputs.out outputs.out' result
-    × ((after ≡ before) × (outputs.err' ≡ outputs.err))
-Does Version before after outputs result =
-    Helps version_line outputs.out outputs.out' result
-    × ((after ≡ before) × (outputs.err' ≡ outputs.err))
+Does (Help text) before after outputs result = Shows (string_bytes text) before after outputs result
+Does Version before after outputs result = Shows (version_line (codes "ubtool")) before after outputs result

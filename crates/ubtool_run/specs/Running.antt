@@ -1,17 +1,16 @@
--- What the whole program has done when it ends with a status. The statuses are ours.
+-- What a whole program has done when it ends with a status, by what it answers to its words and what doing that comes
+-- to. The statuses are ours.
 use Rattle.std.specs.Prelude.{◌≡◌, ◌⊎◌, ℕ, Bool, true, false, List, Option, Result, Ok, Err, string_bytes}
 use Rattle.clap.specs.Words.{Text}
 use Rattle.envimage.specs.Sink.{BrokeOff, Sink, Wrote}
-use Rattle.ubtool_cli.specs.Answers.{Answers}
-use Rattle.ubtool_cli.specs.declared.ask.Ask.{Ask}
 use Rattle.ubtool_cli.specs.declared.ask.UseError.{UseError}
 use Rattle.ubtool_cli.specs.declared.ask.UseError.TheVariants.{Line}
 use Rattle.ubtool_core.specs.Printing.{Outputs}
 use Rattle.ubtool_core.specs.Told.{Told}
 use Rattle.ubtool_core.specs.declared.files.Files.{Ghosts}
 use Rattle.ubtool_core.specs.declared.fault.Fault.{Fault}
-use Rattle.ubtool_run.specs.Asking.{Does}
 use Rattle.ubtool_run.specs.Faults.{CountsTold}
+use Rattle.ubtool_run.specs.declared.starting.StartError.{StartError}
 
 -- What the files show at a moment: how often the device has failed, and, where they tell it, what
 -- stands in them.
@@ -24,21 +23,25 @@ abbrev pub files_seen : {F : Type 0} → Ghosts F → F → FilesSeen
 files_seen g files = record { faults = g.faults files; told = g.told files }
 
 -- Status 0: the words ask for something, and it was done; no call on files failed.
-pub record HasDone (words : List Text) (before after : FilesSeen) (outputs : Outputs) : Type 0 where
+pub record HasDone {Ask : Type 0} (Answers : List Text → Result Ask UseError → Type 0)
+    (Does : Ask → Option Told → Option Told → Outputs → Result Bool Fault → Type 0)
+    (words : List Text) (before after : FilesSeen) (outputs : Outputs) : Type 0 where
   pub ask : Ask
   pub asked : Answers words (Ok ask)
   pub sound : after.faults ≡ before.faults
   pub does : Does ask before.told after.told outputs (Ok true)
 
--- a missing variable is told already, and a fault is told last
+-- a fault is told last, and with any other answer nothing is
 abbrev pub TellsLast : Result Bool Fault → Sink → Sink → Type 0
 TellsLast (Ok all) old new = new ≡ old
 TellsLast (Err fault) old new = Unit {0}
 
--- Status 1: the words ask for something; a variable was missing, or it was refused, which is told on
--- the error output last. A failing file is told where one call failed, and no other answer is given
--- where one did.
-pub record HasRefused (words : List Text) (before after : FilesSeen) (outputs : Outputs) : Type 0 where
+-- Status 1: the words ask for something; the answer is no, as of a variable that is missing, or it was refused, which is
+-- told on the error output last. A failing file is told where one call failed, and no other answer is given where one
+-- did.
+pub record HasRefused {Ask : Type 0} (Answers : List Text → Result Ask UseError → Type 0)
+    (Does : Ask → Option Told → Option Told → Outputs → Result Bool Fault → Type 0)
+    (words : List Text) (before after : FilesSeen) (outputs : Outputs) : Type 0 where
   pub ask : Ask
   pub asked : Answers words (Ok ask)
   pub answer : Result Bool Fault
@@ -54,13 +57,19 @@ Tells (Line text) old new = Wrote old new (string_bytes text) ⊎ BrokeOff old n
 Tells error old new = Unit {0}
 
 -- Status 2: the words were refused; no file was touched and nothing printed.
-pub record IsMisused (words : List Text) (before after : FilesSeen) (outputs : Outputs) : Type 0 where
+pub record IsMisused {Ask : Type 0} (Answers : List Text → Result Ask UseError → Type 0)
+    (words : List Text) (before after : FilesSeen) (outputs : Outputs) : Type 0 where
   pub error : UseError
   pub refused : Answers words (Err error)
   pub sound : after.faults ≡ before.faults
   pub files : after.told ≡ before.told
   pub output : outputs.out' ≡ outputs.out
   pub tells : Tells error outputs.err outputs.err'
+
+-- the status of a program: the one that it came to, or 2 where it did not start
+abbrev pub EndsAs : Result ℕ StartError → ℕ → Type 0
+EndsAs (Ok came) status = status ≡ came
+EndsAs (Err error) status = status ≡ 2
 
 -- the status of an answer, which leaves the error output as it is where there is no fault
 abbrev pub Ends : Result Bool Fault → Sink → Sink → ℕ → Type 0

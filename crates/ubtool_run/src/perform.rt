@@ -1,38 +1,18 @@
 //! What is asked for, done.
-ghost use Rattle.std.specs.Prelude.{◌≡◌, IfErr, string_bytes};
 ghost use Rattle.ubtool_core.specs.Printing.{outputs};
 ghost use Rattle.ubtool_core.specs.Told.{IfTold};
-ghost use Rattle.ubtool_run.specs.Asking.{Does, Helps, IsComplete, version_line};
+ghost use Rattle.ubtool_run.specs.Asking.{Does, IsComplete};
 ghost use Rattle.ubtool_run.specs.Faults.{CountsTold};
 
-use crate::images::read_images;
 use crate::print::print;
 use crate::rehearsing::rehearse;
 use crate::set::set;
-use envimage::{Out, write_all, write_parts};
+use crate::showing::{show_help, show_version};
+use crate::tool::PROGRAM;
+use envimage::Out;
 use std::alloc::Global;
-use ubtool_cli::{Ask, VERSION};
-use ubtool_core::{Fault, Files, ToolError};
-
-/// Writes a help text.
-fn help<O: Out>(out: &mut O, text: &str) -> Result<bool, Fault>
-    ensures { Helps text.now (O.sink out.old) (O.sink out.new) result }
-{
-    match write_all(out, text.as_bytes()) {
-        Ok(()) => Ok(true),
-        Err(_) => Err(Fault::Tool(ToolError::Write)),
-    }
-}
-
-/// Writes the line that tells the version.
-fn tell_version<O: Out>(out: &mut O) -> Result<bool, Fault>
-    ensures { Helps version_line (O.sink out.old) (O.sink out.new) result }
-{
-    match write_parts(out, &[b"ubtool ", VERSION.as_bytes(), b"\n"]) {
-        Ok(()) => Ok(true),
-        Err(_) => Err(Fault::Tool(ToolError::Write)),
-    }
-}
+use ubtool_cli::Ask;
+use ubtool_core::{Fault, Files};
 
 /// Does what is asked for. The answer is false where a variable that was to be printed is missing.
 pub fn perform<F: Files, O: Out, E: Out>(
@@ -67,7 +47,7 @@ pub fn perform<F: Files, O: Out, E: Out>(
             what,
             order,
         } => rehearse(alloc, files, config, devices_file, what, order, out),
-        Ask::Help(text) => help(out, &text),
-        Ask::Version => tell_version(out),
+        Ask::Help(text) => show_help(out, &text),
+        Ask::Version => show_version(out, PROGRAM),
     }
 }

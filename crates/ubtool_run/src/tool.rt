@@ -3,41 +3,21 @@ ghost use Rattle.std.specs.Prelude.{◌≡◌, ◌<◌, ◌≤◌, [], length, m
 ghost use Rattle.envimage.specs.Sink.{Wrote};
 ghost use Rattle.ubtool_core.specs.Input.{PrintsInput};
 ghost use Rattle.ubtool_core.specs.Printing.{outputs};
-ghost use Rattle.ubtool_run.specs.Running.{Ends, HasDone, HasRefused, IsMisused, Tells, files_seen};
+ghost use Rattle.ubtool_cli.specs.Answers.{Answers};
+ghost use Rattle.ubtool_run.specs.Asking.{Does};
+ghost use Rattle.ubtool_run.specs.Running.{HasDone, HasRefused, IsMisused, files_seen};
 
+use crate::ending::{refuse, status_of};
 use crate::perform::perform;
-use envimage::{Out, write_all};
+use envimage::Out;
 use std::alloc::Global;
 use std::convert::AsStr;
 use std::io::Read;
-use ubtool_cli::{UseError, read_command};
-use ubtool_core::{Fault, Files, run_input, write_fault};
+use ubtool_cli::read_command;
+use ubtool_core::{Files, run_input};
 
-/// Tells why the words are refused. What `clap` says of them is written as it is.
-fn refuse<E: Out>(err: &mut E, error: &UseError)
-    ensures { Tells error.now (E.sink err.old) (E.sink err.new) }
-{
-    match error {
-        UseError::Line(text) => {
-            let _ = write_all(err, text.as_bytes());
-        }
-        error => write_fault(err, error),
-    }
-}
-
-/// The status of an answer. A fault is told by one line.
-fn status_of<E: Out>(err: &mut E, answer: Result<bool, Fault>) -> u8
-    ensures { Ends answer (E.sink err.old) (E.sink err.new) result }
-{
-    match answer {
-        Ok(true) => 0,
-        Ok(false) => 1,
-        Err(fault) => {
-            write_fault(err, &fault);
-            1
-        }
-    }
-}
+/// The name in front of what is told of a refusal.
+pub const PROGRAM: &str = "ubtool";
 
 /// Reads the words and does what they ask for.
 fn run_words<S: AsStr, F: Files, O: Out, E: Out>(
@@ -48,20 +28,20 @@ fn run_words<S: AsStr, F: Files, O: Out, E: Out>(
     err: &mut E,
 ) -> u8
     ensures status { result ≤ 2 }
-    ensures done { result ≡ 0 → HasDone (map S.text words.now) (files_seen F.Files files.old) (files_seen F.Files files.new)
+    ensures done { result ≡ 0 → HasDone Answers Does (map S.text words.now) (files_seen F.Files files.old) (files_seen F.Files files.new)
         (outputs (O.sink out.old) (O.sink out.new) (E.sink err.old) (E.sink err.new)) }
-    ensures refused { result ≡ 1 → HasRefused (map S.text words.now) (files_seen F.Files files.old) (files_seen F.Files files.new)
+    ensures refused { result ≡ 1 → HasRefused Answers Does (map S.text words.now) (files_seen F.Files files.old) (files_seen F.Files files.new)
         (outputs (O.sink out.old) (O.sink out.new) (E.sink err.old) (E.sink err.new)) }
-    ensures misused { result ≡ 2 → IsMisused (map S.text words.now) (files_seen F.Files files.old) (files_seen F.Files files.new)
+    ensures misused { result ≡ 2 → IsMisused Answers (map S.text words.now) (files_seen F.Files files.old) (files_seen F.Files files.new)
         (outputs (O.sink out.old) (O.sink out.new) (E.sink err.old) (E.sink err.new)) }
 {
     match read_command(alloc, words) {
         Ok(ask) => {
             let answer = perform(alloc, ask, files, out, err);
-            status_of(err, answer)
+            status_of(err, PROGRAM, answer)
         }
         Err(error) => {
-            refuse(err, &error);
+            refuse(err, PROGRAM, &error);
             2
         }
     }
@@ -83,11 +63,11 @@ pub fn run_tool<S: AsStr, R: Read, F: Files, O: Out, E: Out>(
     ensures printed { length words.now ≡ 0 → result ≡ 0 → PrintsInput (R.remaining input.old) (O.sink out.old) (O.sink out.new) }
     ensures quiet { length words.now ≡ 0 → result ≡ 0 → Wrote (E.sink err.old) (E.sink err.new) [] }
     ensures untouched { length words.now ≡ 0 → (F.told files.new ≡ F.told files.old) × (F.faults files.new ≡ F.faults files.old) }
-    ensures done { 0 < length words.now → result ≡ 0 → HasDone (map S.text words.now) (files_seen F.Files files.old) (files_seen F.Files files.new)
+    ensures done { 0 < length words.now → result ≡ 0 → HasDone Answers Does (map S.text words.now) (files_seen F.Files files.old) (files_seen F.Files files.new)
         (outputs (O.sink out.old) (O.sink out.new) (E.sink err.old) (E.sink err.new)) }
-    ensures refused { 0 < length words.now → result ≡ 1 → HasRefused (map S.text words.now) (files_seen F.Files files.old) (files_seen F.Files files.new)
+    ensures refused { 0 < length words.now → result ≡ 1 → HasRefused Answers Does (map S.text words.now) (files_seen F.Files files.old) (files_seen F.Files files.new)
         (outputs (O.sink out.old) (O.sink out.new) (E.sink err.old) (E.sink err.new)) }
-    ensures misused { result ≡ 2 → IsMisused (map S.text words.now) (files_seen F.Files files.old) (files_seen F.Files files.new)
+    ensures misused { result ≡ 2 → IsMisused Answers (map S.text words.now) (files_seen F.Files files.old) (files_seen F.Files files.new)
         (outputs (O.sink out.old) (O.sink out.new) (E.sink err.old) (E.sink err.new)) }
 {
     if words.is_empty() {

@@ -4,24 +4,24 @@ use envimage::{Out, OutFault};
 
 /// An output, and whether anything was written to it.
 #[derive(Drop)]
-pub(crate) struct Telling<E> {
+pub struct Telling<E> {
     out: E,
     told: bool,
 }
 
 impl<E> Telling<E> {
     /// The output, to which nothing was written so far.
-    pub(crate) fn new(out: E) -> Self {
+    pub fn new(out: E) -> Self {
         Telling { out, told: false }
     }
 
     /// Whether anything was written.
-    pub(crate) fn has_told(&self) -> bool {
+    pub fn has_told(&self) -> bool {
         self.told
     }
 
     /// The output.
-    pub(crate) fn into_out(self) -> E {
+    pub fn into_out(self) -> E {
         let Telling { out, told: _ } = self;
         out
     }

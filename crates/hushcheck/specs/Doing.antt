@@ -1,0 +1,20 @@
+-- What is done for what is asked, on files that tell what stands in them. Ours.
+use Rattle.std.specs.Prelude.{◌≡◌, Bool, map, Option, Result, codes, string_bytes}
+use Rattle.hushcheck.specs.Checking.{ChecksFrom, LeavesOutput}
+use Rattle.hushcheck.specs.declared.ask.Ask.{Ask}
+use Rattle.hushcheck.specs.declared.ask.Ask.TheVariants.{Check, Help, Version}
+use Rattle.ubtool_core.specs.Printing.{Outputs}
+use Rattle.ubtool_core.specs.Told.{IfTold, Told}
+use Rattle.ubtool_core.specs.declared.fault.Fault.{Fault}
+use Rattle.ubtool_run.specs.Asking.{Shows, version_line}
+
+-- What doing it comes to: with the files from before to after, and on the outputs. With status 0 each text is well-formed
+-- and each name that was asked for is set, or the help or the version was shown.
+abbrev pub Does : Ask → Option Told → Option Told → Outputs → Result Bool Fault → Type 0
+Does (Check config names order) before after outputs result =
+    IfTold before after (λ old new.
+    ChecksFrom order (string_bytes config) (map string_bytes names.items) outputs.out outputs.out' old new result)
+    × LeavesOutput result outputs.out outputs.out'
+    × (outputs.err' ≡ outputs.err)
+Does (Help text) before after outputs result = Shows (string_bytes text) before after outputs result
+Does Version before after outputs result = Shows (version_line (codes "hushcheck")) before after outputs result

@@ -1,0 +1,74 @@
+//! How the programs end: what is told of a refusal, and the status.
+ghost use Rattle.std.specs.Prelude.{◌≡◌, ◌⊎◌};
+ghost use Rattle.ubtool_run.specs.Running.{EndsAs, Ends, Tells};
+
+use crate::starting::{Buffered, StartError};
+use crate::telling::Telling;
+use envimage::{Out, write_all};
+use std::io::Write;
+use ubtool_cli::UseError;
+use ubtool_core::{Fault, ToolError, write_fault_of};
+
+/// Tells why the words of a program are refused. What `clap` says of them is written as it is.
+pub fn refuse<E: Out>(err: &mut E, program: &str, error: &UseError)
+    ensures { Tells error.now (E.sink err.old) (E.sink err.new) }
+{
+    match error {
+        UseError::Line(text) => {
+            let _ = write_all(err, text.as_bytes());
+        }
+        error => write_fault_of(err, program, error),
+    }
+}
+
+/// The status of an answer. A fault is told by one line.
+pub fn status_of<E: Out>(err: &mut E, program: &str, answer: Result<bool, Fault>) -> u8
+    ensures { Ends answer (E.sink err.old) (E.sink err.new) result }
+{
+    match answer {
+        Ok(true) => 0,
+        Ok(false) => 1,
+        Err(fault) => {
+            write_fault_of(err, program, &fault);
+            1
+        }
+    }
+}
+
+/// Lets the output of a program go, with all that its buffer still holds, and gives its status. Where that fails and
+/// nothing else was told, it is told, and the status is 1.
+pub fn finish<W: Write + Drop, E: Out>(
+    out: Buffered<W>,
+    err: &mut Telling<E>,
+    program: &str,
+    status: u8,
+) -> u8
+    ensures { (result ≡ status) ⊎ (result ≡ 1) }
+{
+    let mut writer = out.into_writer();
+    if writer.flush().is_err() && !err.has_told() {
+        write_fault_of(err, program, &Fault::Tool(ToolError::Write));
+        return 1;
+    }
+    status
+}
+
+/// Lets the error output of a program go. The status is the one that it came to, or 2 where it did not start, which is
+/// told.
+pub fn end<W: Write + Drop>(
+    mut err: Telling<Buffered<W>>,
+    program: &str,
+    status: Result<u8, StartError>,
+) -> u8
+    ensures { EndsAs status result }
+{
+    let status = match status {
+        Ok(status) => status,
+        Err(error) => {
+            write_fault_of(&mut err, program, &error);
+            2
+        }
+    };
+    let _ = err.into_out().into_writer().flush();
+    status
+}
