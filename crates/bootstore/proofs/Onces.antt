@@ -1,10 +1,10 @@
 -- What is kept of a name since the last mark is kept once.
-use Rattle.std.proofs.Common.{◌≡◌, ℕ, ◌+◌, ◌≤◌, ◌<◌, Bool, true, false, cond, eqb, List, [], ◌∷◌, ◌&&◌, ◌||◌, Option, Result, Ok, Err, OnOk, OnErr, length, refl, sym, ap, subst, ◌∙◌, arith}
+use Rattle.std.proofs.Common.{◌≡◌, ℕ, ◌+◌, ◌≤◌, ◌<◌, Bool, true, false, cond, eqb, List, [], ◌∷◌, ◌||◌, Option, Result, Ok, Err, OnOk, OnErr, length, refl, sym, ap, subst, ◌∙◌, arith}
 use Rattle.std.specs.declared.alloc.Global.{Global}
 use Rattle.std.specs.declared.vec.Vec.{Vec}
 use Rattle.std.specs.Ordering.{nat_cmp, is_eq}
 use Rattle.std.specs.Cmp.Lexicographic.{slice_cmp}
-use Rattle.std.proofs.lemmas.Bool.{eqb-true, eq-eqb}
+use Rattle.std.proofs.lemmas.Bool.{eqb-true, eq-eqb, and_parts, and_from, or_right}
 use Rattle.bootstore.specs.declared.table.Table.{Table}
 use Rattle.bootstore.specs.declared.table.Place.{Place}
 use Rattle.bootstore.specs.declared.inverse.Marked.{Marked}
@@ -18,17 +18,6 @@ use Rattle.bootstore.specs.Record.{assigned}
 use Rattle.bootstore.specs.Table.{AreEqual, IsWith, is_name, place_at, last_kept, kept_of, place_value, KeepsNothing}
 use Rattle.bootstore.specs.Inverse.{outermost, marked_before, last_left, local_last_left, is_of_environment, is_of_local, stands_as, is_kept, EachIsKept, tells_kept, all_tell_kept, up_to_mark, marks_tell, KeepsOnce}
 use Rattle.bootstore.proofs.Tables.{assigned-again, assigned-swap, same_name, compares_equal}
-
-both : (a b : Bool) → a && b ≡ true → (a ≡ true) × (b ≡ true)
-both true b h = (refl, h)
-both false b h = absurd (let e : false ≡ true = h in cc)
-
-and_true : (a b : Bool) → a ≡ true → b ≡ true → a && b ≡ true
-and_true a b h k = ap (λ x. x && b) h ∙ k
-
-or_right : (a b : Bool) → b ≡ true → a || b ≡ true
-or_right true b h = refl
-or_right false b h = h
 
 or_map : (a b c : Bool) → (b ≡ true → c ≡ true) → a || b ≡ true → a || c ≡ true
 or_map true b c f h = refl
@@ -99,7 +88,7 @@ left_local last new (Touched below frame) kept h tells e = λ name. subst (λ k.
 
 pub once_after : (p q : Present) (u : ℕ) (i : Inverse) (kept : List Kept) → KeepsOnce p u (Change i ∷ kept) → AreEqual (last_left i (last_kept p.environment)) (last_kept q.environment) → AreEqual (local_last_left i (last_kept p.locals)) (last_kept q.locals) → KeepsOnce q u kept
 once_after p q u i kept h environment locals =
-    let parts = both (tells_kept i kept) (all_tell_kept kept) h.before in
+    let parts = and_parts (tells_kept i kept) (all_tell_kept kept) h.before in
     record {
       environment = left_environment (last_kept p.environment) (last_kept q.environment) i kept h.environment parts.0 environment;
       locals = left_local (last_kept p.locals) (last_kept q.locals) i kept h.locals parts.0 locals;
@@ -110,7 +99,7 @@ once_after p q u i kept h environment locals =
 
 pub once_at_mark : (p q : Present) (u : ℕ) (mark : Marked) (kept : List Kept) → KeepsOnce p u (Mark mark ∷ kept) → q.environment ≡ p.environment → q.locals ≡ p.locals → KeepsOnce q mark.before.kept kept
 once_at_mark p q u mark kept h environment locals =
-    let parts = both (eqb (up_to_mark kept) mark.before.kept) (marks_tell kept) h.marks in
+    let parts = and_parts (eqb (up_to_mark kept) mark.before.kept) (marks_tell kept) h.marks in
     record {
       environment = λ name. ap (λ t. is_kept (is_of_environment name) (last_kept t name) kept) environment ∙ h.environment name;
       locals = λ name. ap (λ t. is_kept (is_of_local name) (last_kept t name) kept) locals ∙ h.locals name;
@@ -125,7 +114,7 @@ once_from_mark p n mark kept h count = record {
   locals = h.locals;
   before = h.before;
   last_mark = count;
-  marks = and_true (eqb (up_to_mark kept) mark.before.kept) (marks_tell kept) (eq-eqb (up_to_mark kept) mark.before.kept h.last_mark) h.marks;
+  marks = and_from (eqb (up_to_mark kept) mark.before.kept) (marks_tell kept) (eq-eqb (up_to_mark kept) mark.before.kept h.last_mark) h.marks;
 }
 
 pub once_touched : (p : Present) (u below : ℕ) (frame : RunningFrame) (kept : List Kept) → KeepsOnce p u kept → KeepsOnce p u (Change (Touched below frame) ∷ kept)
@@ -180,7 +169,7 @@ module _ (p : Present) (t : Table) (u : ℕ) (kept : List Kept) (once : KeepsOnc
           record {
             environment = with_here is_of_environment (last_kept p.environment) (last_kept t) name (Environment key before) kept (compares_equal name key.items (sym same)) e once.environment;
             locals = λ q. kept_more (is_of_local q) (last_kept p.locals q) (Change (Environment key before)) kept (once.locals q);
-            before = and_true (tells_kept (Environment key before) kept) (all_tell_kept kept) told once.before;
+            before = and_from (tells_kept (Environment key before) kept) (all_tell_kept kept) told once.before;
             last_mark = once.last_mark;
             marks = once.marks;
           }
@@ -191,7 +180,7 @@ module _ (p : Present) (t : Table) (u : ℕ) (kept : List Kept) (once : KeepsOnc
           record {
             environment = λ q. kept_more (is_of_environment q) (last_kept p.environment q) (Change (Local key before)) kept (once.environment q);
             locals = with_here is_of_local (last_kept p.locals) (last_kept t) name (Local key before) kept (compares_equal name key.items (sym same)) e once.locals;
-            before = and_true (tells_kept (Local key before) kept) (all_tell_kept kept) told once.before;
+            before = and_from (tells_kept (Local key before) kept) (all_tell_kept kept) told once.before;
             last_mark = once.last_mark;
             marks = once.marks;
           }

@@ -1,10 +1,10 @@
 -- Tables of variables: what a change of one place does to the variables.
-use Rattle.std.proofs.Common.{◌≡◌, ℕ, Bool, true, false, cond, List, [], ◌∷◌, Option, Some, None, is_some, refl, sym, ap, subst, ◌∙◌, length, arith}
+use Rattle.std.proofs.Common.{◌≡◌, ℕ, Bool, true, false, cond, List, [], ◌∷◌, Option, Some, None, is_some, refl, sym, ap, subst, ◌∙◌}
 use Rattle.std.specs.FinMap.{IsAntisymmetric, nat_cmp-IsAntisymmetric, slice_cmp-IsAntisymmetric, get, get-insert, get-remove, get-empty, same_map, entries, entries-insert, len-entries, len-empty, put}
 use Rattle.std.specs.declared.cmp.Ordering.{Ordering}
 use Rattle.std.specs.declared.cmp.Ordering.TheVariants.{Less, Equal, Greater}
 use Rattle.std.specs.Ordering.{nat_cmp, is_eq, eq_by_cmp, match_ordering}
-use Rattle.std.specs.Cmp.{eq_by_cmp_equiv}
+use Rattle.std.specs.Cmp.{eq_by_cmp_equiv, Equal-is}
 use Rattle.std.proofs.lemmas.Cmp.{nat_list_cmp_total}
 use Rattle.std.specs.Cmp.Lexicographic.{slice_cmp}
 use Rattle.std.specs.Map.{lookup, set_value, remove_entry, keys_of}
@@ -17,6 +17,7 @@ use Rattle.std.specs.declared.vec.Vec.{Vec}
 use Rattle.std.specs.List.{slice_get}
 use Rattle.std.proofs.Common.{drop, drop-cons, suc, ◌+◌, add-one}
 use Rattle.std.proofs.lemmas.Option.{slice_get_within, get_or_from_slice_get}
+use Rattle.std.proofs.lemmas.List.{nil_from_length}
 use Rattle.bootstore.specs.Moment.{Bytes, Variables, option_items, bytes_of_words, set_in_turn}
 use Rattle.bootstore.specs.Record.{assigned}
 use Rattle.bootstore.specs.declared.table.Place.{Place}
@@ -29,14 +30,9 @@ by_bytes = slice_cmp nat_cmp
 exact : IsAntisymmetric by_bytes
 exact = slice_cmp-IsAntisymmetric nat_cmp-IsAntisymmetric
 
-equal_of : (r : Ordering) → is_eq r ≡ true → r ≡ Equal
-equal_of Less e = cc
-equal_of Equal e = refl
-equal_of Greater e = cc
-
 -- names that compare alike are one
 pub same_name : (p q : Bytes) → eq_by_cmp by_bytes p q ≡ true → p ≡ q
-same_name p q e = exact p q (equal_of _ e)
+same_name p q e = exact p q ((Equal-is _).0 e)
 
 pub compares_equal : (p q : Bytes) → p ≡ q → is_eq (by_bytes p q) ≡ true
 compares_equal p q e = subst (λ r. is_eq (by_bytes p r) ≡ true) e ((eq_by_cmp_equiv nat_list_cmp_total).refl p)
@@ -113,7 +109,7 @@ variables-insert_entry (e ∷ es) k w = at (variables-insert_entry es k w) (key_
     at rest Equal t = subst (λ n. assigned (slot_variables es) e.0.items (option_items w.value) ≡ assigned (slot_variables (e ∷ es)) n (option_items w.value)) (sym (exact k.items e.0.items t))
         (sym (assigned-again (slot_variables es) e.0.items (option_items e.1.value) (option_items w.value)))
     at rest Greater t = ap (λ m. assigned m e.0.items (option_items e.1.value)) rest
-        ∙ sym (assigned-swap (slot_variables es) k.items e.0.items (option_items w.value) (option_items e.1.value) (λ s. let alike = equal_of _ (compares_equal k.items e.0.items s) in cc))
+        ∙ sym (assigned-swap (slot_variables es) k.items e.0.items (option_items w.value) (option_items e.1.value) (λ s. let alike = (Equal-is _).0 (compares_equal k.items e.0.items s) in cc))
 
 some_other : {X : Type 0} (b : Bool) (x y : X) (l : Option X) → is_some (cond b (Some x) l) ≡ is_some (cond b (Some y) l)
 some_other true x y l = refl
@@ -234,7 +230,7 @@ kept-insert_entry (e ∷ es) k w q = at (kept-insert_entry es k w q) (key_cmp k 
         → kept_of (lookup (is_name q) (match_ordering r ((k, w) ∷ e ∷ es) ((e.0, w) ∷ es) (e ∷ insert_entry key_cmp es k w))) ≡ cond (is_eq (by_bytes q k.items)) w.kept_at (kept_of (lookup (is_name q) (e ∷ es)))
     at rest Less t = here (is_name q k) (lookup (is_name q) (e ∷ es))
     at rest Equal t = inner (is_eq (by_bytes q k.items)) (is_name q e.0) w e.1 (lookup (is_name q) es) (ap (λ n. is_eq (by_bytes q n)) (sym (exact k.items e.0.items t)))
-    at rest Greater t = outer (is_eq (by_bytes q k.items)) (is_name q e.0) w.kept_at (Some e.1) (lookup (is_name q) es) _ (λ a b. let same = equal_of _ (compares_equal k.items e.0.items (sym (same_name q k.items a) ∙ same_name q e.0.items b)) in cc) rest
+    at rest Greater t = outer (is_eq (by_bytes q k.items)) (is_name q e.0) w.kept_at (Some e.1) (lookup (is_name q) es) _ (λ a b. let same = (Equal-is _).0 (compares_equal k.items e.0.items (sym (same_name q k.items a) ∙ same_name q e.0.items b)) in cc) rest
 
 pub written_kept : (es fs : List Slot) (name : Bytes) (old w : Place) → Some old ≡ lookup (is_name name) es → fs ≡ set_value (is_name name) es w → (q : Bytes) → kept_of (lookup (is_name q) fs) ≡ cond (is_eq (by_bytes q name)) w.kept_at (kept_of (lookup (is_name q) es))
 written_kept es fs name old w there e q = ap (λ xs. kept_of (lookup (is_name q) xs)) e ∙ kept-set_value es name w q (sym (ap is_some there))
@@ -272,10 +268,6 @@ clone_words C same [] (w ∷ ws) h = absurd h
 clone_words C same (v ∷ vs) [] h = absurd h
 clone_words C same (v ∷ vs) (w ∷ ws) h = let e = same v w h.0 in let f = clone_words C same vs ws h.1 in λ i. e i ∷ f i
 
-none_left : {A : Type 0} (xs : List A) → length xs ≡ 0 → xs ≡ []
-none_left [] h = refl
-none_left (x ∷ xs) h = absurd (omega arith)
-
 -- each key of the slots comes after k
 abbrev After : Vec ℕ Global → List Slot → Type 0
 After k es = AllByRecursion (λ y. key_cmp k y ≡ Less) (keys_of es)
@@ -295,7 +287,7 @@ put_before k v (e ∷ es) h = at (put_before k v es h.1) e.1.value
 -- the variables in order are the slots that have a value
 pub entries_live : (es : List Slot) → IsStrictlySortedBy key_cmp (keys_of es) → entries (slot_variables es) ≡ live es
 unfolding IsStrictlySortedBy
-entries_live [] h = none_left _ (sym (len-entries (slot_variables [])) ∙ len-empty by_bytes Bytes)
+entries_live [] h = nil_from_length _ (sym (len-entries (slot_variables [])) ∙ len-empty by_bytes Bytes)
 entries_live (e ∷ es) h = at (entries_live es h.1) e.1.value
   where
     at : entries (slot_variables es) ≡ live es → (o : Option (Vec ℕ Global)) → entries (assigned (slot_variables es) e.0.items (option_items o)) ≡ live_before e.0 o (live es)

@@ -4,8 +4,8 @@ use Rattle.std.specs.declared.alloc.Global.{Global}
 use Rattle.std.specs.declared.vec.Vec.{Vec}
 use Rattle.std.specs.Ordering.{nat_cmp, is_eq}
 use Rattle.std.specs.Cmp.Lexicographic.{slice_cmp}
-use Rattle.std.proofs.lemmas.List.{reverse-append, length-reverse, reverse-reverse, take-append-le, length-take-le, take_all}
-use Rattle.std.proofs.lemmas.Bool.{leb-true, le-leb, eqb-true, eq-eqb}
+use Rattle.std.proofs.lemmas.List.{reverse-append, length-reverse, reverse-reverse, take-append-le, length-take-le, take_all, nil_from_length}
+use Rattle.std.proofs.lemmas.Bool.{leb-true, le-leb, eqb-true, eq-eqb, and_parts, and_from}
 use Rattle.std.specs.Borrow.{Bor}
 use Rattle.std.specs.FinMap.{get}
 use Rattle.bootstore.specs.declared.table.Table.{Table}
@@ -24,7 +24,7 @@ use Rattle.bootstore.specs.Table.{Names, AreWithin, has_slot, names_before, stan
 use Rattle.bootstore.specs.Inverse.{outermost, undone, at_mark, marked_before, names_left, local_names_left, finds_its_place, find_places, room_for, text_reach, log_reach, frame_reach, leaves, nested, begins_with_mark, LeadsBack, CanGoBack}
 use Rattle.bootstore.proofs.Tables.{assigned-again, assigned-same, same_name}
 
--- where nothing is marked nothing is kept
+-- where nil_from_length is marked nil_from_length is kept
 pub nothing_marked : (m : Moment) (kept : List Kept) → begins_with_mark kept ≡ true → marked_before m kept ≡ [] → kept ≡ []
 nothing_marked m [] rooted none = refl
 nothing_marked m (Mark mark ∷ kept) rooted none = cc
@@ -35,23 +35,12 @@ nothing_marked m (Change i ∷ j ∷ kept) rooted none = let gone = nothing_mark
 pub reverse-push : {A : Type 0} (xs : List A) (x : A) → reverse (xs ++ x ∷ []) ≡ x ∷ reverse xs
 reverse-push xs x = reverse-append xs (x ∷ [])
 
-both : (a b : Bool) → a && b ≡ true → (a ≡ true) × (b ≡ true)
-both true b h = (refl, h)
-both false b h = absurd (let e : false ≡ true = h in cc)
-
-and_true : (a b : Bool) → a ≡ true → b ≡ true → a && b ≡ true
-and_true a b h k = ap (λ x. x && b) h ∙ k
-
 -- a list that ends in x, from the last element on
 pub reverse_last : {A : Type 0} (xs ys : List A) (x : A) → xs ≡ ys ++ x ∷ [] → reverse xs ≡ x ∷ reverse ys
 reverse_last xs ys x e = ap reverse e ∙ reverse-push ys x
 
-nothing : {A : Type 0} (xs : List A) → length xs ≡ 0 → xs ≡ []
-nothing [] h = refl
-nothing (x ∷ xs) h = absurd (omega arith)
-
 pub no_items : {A : Type 0} (v : Vec A Global) → vec_len v ≡ 0 → v.items ≡ []
-no_items v e = nothing v.items (sym v.ok.0 ∙ e)
+no_items v e = nil_from_length v.items (sym v.ok.0 ∙ e)
 
 pub none_of_reversed : {A : Type 0} (v : Vec A Global) → reverse v.items ≡ [] → vec_len v ≡ 0
 none_of_reversed v e = v.ok.0 ∙ sym (length-reverse v.items) ∙ ap length e
@@ -147,22 +136,22 @@ pub find_more : (kept : List Kept) (e f l k : Names) → AreWithin e f → AreWi
 find_more [] e f l k he hl h = refl
 find_more (Mark mark ∷ kept) e f l k he hl h = find_more kept e f l k he hl h
 find_more (Change (Environment name before) ∷ kept) e f l k he hl h =
-    let parts = both (stands_among e name.items before) (find_places (names_before name.items before e) l kept) h in
-    and_true _ _ (stands_more e f he name.items before parts.0) (find_more kept _ _ l k (before_more e f he name.items before) hl parts.1)
+    let parts = and_parts (stands_among e name.items before) (find_places (names_before name.items before e) l kept) h in
+    and_from _ _ (stands_more e f he name.items before parts.0) (find_more kept _ _ l k (before_more e f he name.items before) hl parts.1)
 find_more (Change (Local name before) ∷ kept) e f l k he hl h =
-    let parts = both (stands_among l name.items before) (find_places e (names_before name.items before l) kept) h in
-    and_true _ _ (stands_more l k hl name.items before parts.0) (find_more kept e f _ _ he (before_more l k hl name.items before) parts.1)
+    let parts = and_parts (stands_among l name.items before) (find_places e (names_before name.items before l) kept) h in
+    and_from _ _ (stands_more l k hl name.items before parts.0) (find_more kept e f _ _ he (before_more l k hl name.items before) parts.1)
 find_more (Change (Touched below frame) ∷ kept) e f l k he hl h = find_more kept e f l k he hl h
 
 -- The way back: what the last thing kept needs is there, and what is left after it can go on.
 pub can_last : (p : Present) (u : ℕ) (i : Inverse) (kept : List Kept) → CanGoBack p u (Change i ∷ kept) → record { place : finds_its_place (has_slot p.environment) (has_slot p.locals) i ≡ true; room : room_for i ≤ vec_capacity p.frames }
-can_last p u i kept can = record { place = (both (finds_its_place (has_slot p.environment) (has_slot p.locals) i) _ can.places).0; room = omega (arith, can.room) }
+can_last p u i kept can = record { place = (and_parts (finds_its_place (has_slot p.environment) (has_slot p.locals) i) _ can.places).0; room = omega (arith, can.room) }
 
 leads_on : (m : Moment) (u : ℕ) (i : Inverse) (kept : List Kept) → LeadsBack m u (Change i ∷ kept) → LeadsBack (undone i m) (frame_reach kept) kept
 leads_on m u (Environment name before) kept h = record { text = h.text; log = h.log; frames = refl; untouched_frames = omega (arith, h.frames, h.untouched_frames); nested = h.nested; rooted = rooted_rest (Change (Environment name before)) kept h.rooted }
 leads_on m u (Local name before) kept h = record { text = h.text; log = h.log; frames = refl; untouched_frames = omega (arith, h.frames, h.untouched_frames); nested = h.nested; rooted = rooted_rest (Change (Local name before)) kept h.rooted }
 leads_on m u (Touched below frame) kept h =
-    let parts = both (leaves (Touched below frame) (frame_reach kept)) (nested kept) h.nested in
+    let parts = and_parts (leaves (Touched below frame) (frame_reach kept)) (nested kept) h.nested in
     let there : below ≤ length m.frames = omega (arith, h.frames, h.untouched_frames) in
     let left = leb-true (frame_reach kept) (below + 1) parts.0 in
     record { text = h.text; log = h.log; frames = refl; untouched_frames = omega (arith, left, length-outermost below m.frames there); nested = parts.1; rooted = rooted_rest (Change (Touched below frame)) kept h.rooted }
@@ -172,16 +161,16 @@ pub can_after : (p q : Present) (u : ℕ) (i : Inverse) (kept : List Kept) → C
     → CanGoBack q (frame_reach kept) kept
 can_after p q u i kept can e environment locals capacity = record {
   leads = subst (λ n. LeadsBack n (frame_reach kept) kept) (sym e) (leads_on (moment_of p) u i kept can.leads);
-  places = find_more kept _ _ _ _ environment locals (both (finds_its_place (has_slot p.environment) (has_slot p.locals) i) _ can.places).1;
+  places = find_more kept _ _ _ _ environment locals (and_parts (finds_its_place (has_slot p.environment) (has_slot p.locals) i) _ can.places).1;
   room = omega (arith, can.room);
 }
 
 leads_at_mark : (m : Moment) (u : ℕ) (mark : Marked) (kept : List Kept) → LeadsBack m u (Mark mark ∷ kept) → LeadsBack (at_mark mark m) mark.before.untouched kept
 leads_at_mark m u mark kept h =
-    let last = both _ (nested kept) h.nested in
-    let frames = both _ (leb mark.before.untouched mark.frames) last.0 in
-    let untouched = both _ (eqb (frame_reach kept) mark.before.untouched) frames.0 in
-    let lengths = both (leb (text_reach kept) mark.text) (leb (log_reach kept) mark.log) untouched.0 in
+    let last = and_parts _ (nested kept) h.nested in
+    let frames = and_parts _ (leb mark.before.untouched mark.frames) last.0 in
+    let untouched = and_parts _ (eqb (frame_reach kept) mark.before.untouched) frames.0 in
+    let lengths = and_parts (leb (text_reach kept) mark.text) (leb (log_reach kept) mark.log) untouched.0 in
     record {
       text = omega (arith, leb-true _ _ lengths.0, length-take-le mark.text m.text h.text);
       log = omega (arith, leb-true _ _ lengths.1, length-take-le mark.log m.log h.log);
@@ -212,14 +201,14 @@ leads_from_mark m mark kept h text log frames =
     let b = leb (log_reach kept) mark.log in
     let c = eqb (frame_reach kept) mark.before.untouched in
     let d = leb mark.before.untouched mark.frames in
-    let lengths = and_true a b (le-leb (text_reach kept) mark.text (omega (arith, h.text))) (le-leb (log_reach kept) mark.log (omega (arith, h.log))) in
-    let untouched = and_true (a && b && c) d (and_true (a && b) c lengths (eq-eqb (frame_reach kept) mark.before.untouched h.frames)) (le-leb mark.before.untouched mark.frames (omega (arith, h.untouched_frames))) in
+    let lengths = and_from a b (le-leb (text_reach kept) mark.text (omega (arith, h.text))) (le-leb (log_reach kept) mark.log (omega (arith, h.log))) in
+    let untouched = and_from (a && b && c) d (and_from (a && b) c lengths (eq-eqb (frame_reach kept) mark.before.untouched h.frames)) (le-leb mark.before.untouched mark.frames (omega (arith, h.untouched_frames))) in
     record {
       text = omega arith;
       log = omega arith;
       frames = refl;
       untouched_frames = omega arith;
-      nested = and_true (a && b && c && d) (nested kept) untouched h.nested;
+      nested = and_from (a && b && c && d) (nested kept) untouched h.nested;
       rooted = rooted_mark kept h.rooted;
     }
   where
@@ -244,7 +233,7 @@ can_kept_top p u count frame kept can all low some =
         log = h.log;
         frames = refl;
         untouched_frames = omega arith;
-        nested = and_true (leb (frame_reach kept) (count - 1 + 1)) (nested kept) (le-leb (frame_reach kept) (count - 1 + 1) (omega (arith, h.frames, h.untouched_frames))) h.nested;
+        nested = and_from (leb (frame_reach kept) (count - 1 + 1)) (nested kept) (le-leb (frame_reach kept) (count - 1 + 1) (omega (arith, h.frames, h.untouched_frames))) h.nested;
         rooted = rooted_more (Change (Touched (count - 1) frame)) kept (λ none. absurd (let gone = ap frame_reach none in omega (arith, h.frames, gone))) h.rooted;
       };
       places = can.places;
@@ -291,7 +280,7 @@ module _ (p : Present) (t : Table) (u : ℕ) (kept : List Kept) (can : CanGoBack
     pub can_kept_environment : AreWithin (has_slot p.environment) (has_slot t) → has_slot p.environment name ≡ is_some before → CanGoBack (record p { environment = t }) u (Change (Environment key before) ∷ kept)
     can_kept_environment more there = record {
       leads = record { text = can.leads.text; log = can.leads.log; frames = can.leads.frames; untouched_frames = can.leads.untouched_frames; nested = can.leads.nested; rooted = rooted_more (Change (Environment key before)) kept some can.leads.rooted };
-      places = and_true (stands_among (has_slot t) key.items before) _ (stands_put (has_slot p.environment) (has_slot t) name key.items before more there same)
+      places = and_from (stands_among (has_slot t) key.items before) _ (stands_put (has_slot p.environment) (has_slot t) name key.items before more there same)
           (find_more kept (has_slot p.environment) (names_before key.items before (has_slot t)) (has_slot p.locals) (has_slot p.locals) (within_put (has_slot p.environment) (has_slot t) name key.items before more there same) (λ q h. h) can.places);
       room = omega (arith, can.room);
     }
@@ -299,7 +288,7 @@ module _ (p : Present) (t : Table) (u : ℕ) (kept : List Kept) (can : CanGoBack
     pub can_kept_local : AreWithin (has_slot p.locals) (has_slot t) → has_slot p.locals name ≡ is_some before → CanGoBack (record p { locals = t }) u (Change (Local key before) ∷ kept)
     can_kept_local more there = record {
       leads = record { text = can.leads.text; log = can.leads.log; frames = can.leads.frames; untouched_frames = can.leads.untouched_frames; nested = can.leads.nested; rooted = rooted_more (Change (Local key before)) kept some can.leads.rooted };
-      places = and_true (stands_among (has_slot t) key.items before) _ (stands_put (has_slot p.locals) (has_slot t) name key.items before more there same)
+      places = and_from (stands_among (has_slot t) key.items before) _ (stands_put (has_slot p.locals) (has_slot t) name key.items before more there same)
           (find_more kept (has_slot p.environment) (has_slot p.environment) (has_slot p.locals) (names_before key.items before (has_slot t)) (λ q h. h) (within_put (has_slot p.locals) (has_slot t) name key.items before more there same) can.places);
       room = omega (arith, can.room);
     }

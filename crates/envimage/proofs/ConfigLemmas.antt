@@ -1,6 +1,6 @@
 -- Text and lines of a configuration.
-use Rattle.std.proofs.Common.{◌≡◌, ◌<◌, ℕ, zero, suc, ◌&&◌, nat_lt, refl, Bool, true, false, List, [], ◌∷◌, length, Ok, Err, ap, ◌∙◌, arith, eq-eqb}
-use Rattle.std.proofs.lemmas.Bool.{false≢true, ltb-true}
+use Rattle.std.proofs.Common.{◌≡◌, ◌<◌, ℕ, zero, suc, nat_lt, true, false, List, [], ◌∷◌, length, Ok, Err, ap, ◌∙◌, arith, eq-eqb}
+use Rattle.std.proofs.lemmas.Bool.{ltb-true, and_parts}
 use Rattle.std.proofs.lemmas.Bool.Decides.{nat_tests}
 use Rattle.std.proofs.lemmas.Str.{utf8_valid_len-IsUtf8, IsUtf8-from_ascii}
 use Rattle.std.specs.Prelude.{IsUtf8, slice_index}
@@ -17,14 +17,10 @@ is_text-utf8 bytes h = eq-eqb (utf8_valid_len bytes) (length bytes) (utf8_valid_
 pub is_text-not : (bytes : List ℕ) (n : ℕ) → n ≡ utf8_valid_len bytes → n < length bytes → is_text bytes ≡ false
 is_text-not bytes n e h = grind (arith, nat_tests)
 
-both : (a b : Bool) → (a && b) ≡ true → (a ≡ true) × (b ≡ true)
-both true b e = (refl, e)
-both false b e = absurd (false≢true e)
-
 ascii : (bytes : List ℕ) → list_all (λ b. nat_lt b 128) bytes ≡ true → (i : ℕ) → slice_index bytes i < 128
 ascii [] e i = omega arith
-ascii (b ∷ bs) e zero = ltb-true b 128 (both (nat_lt b 128) (list_all (λ b. nat_lt b 128) bs) e).0
-ascii (b ∷ bs) e (suc i) = ascii bs (both (nat_lt b 128) (list_all (λ b. nat_lt b 128) bs) e).1 i
+ascii (b ∷ bs) e zero = ltb-true b 128 (and_parts (nat_lt b 128) (list_all (λ b. nat_lt b 128) bs) e).0
+ascii (b ∷ bs) e (suc i) = ascii bs (and_parts (nat_lt b 128) (list_all (λ b. nat_lt b 128) bs) e).1 i
 
 -- ASCII is text
 pub is_text-ascii : (bytes : List ℕ) → list_all (λ b. nat_lt b 128) bytes ≡ true → is_text bytes ≡ true

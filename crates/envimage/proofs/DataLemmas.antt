@@ -1,9 +1,9 @@
 -- The texts of the data, by the first NUL and the first `=`.
-use Rattle.std.proofs.Common.{◌≡◌, ℕ, zero, suc, ◌+◌, ◌<◌, Bool, true, false, ◌||◌, inl, inr, List, [], ◌∷◌, length, get_or, take, drop, None, Some, refl, sym, ap, ◌∙◌, arith, add-one}
+use Rattle.std.proofs.Common.{◌≡◌, ℕ, zero, suc, ◌+◌, ◌<◌, Bool, true, false, inl, inr, List, [], ◌∷◌, length, get_or, take, drop, None, Some, refl, sym, ap, ◌∙◌, arith, add-one}
 use Rattle.std.specs.List.{position, list_any}
 use Rattle.std.proofs.lemmas.List.Folds.{list_any_at}
 use Rattle.std.proofs.lemmas.List.Quantifiers.{position-Some}
-use Rattle.std.proofs.lemmas.Bool.{cases_Bool, false≢true}
+use Rattle.std.proofs.lemmas.Bool.{cases_Bool, false≢true, or_parts}
 use Rattle.text.proofs.SearchLemmas.{position-none}
 use Rattle.envimage.specs.Data.{texts_of, texts_fault, is_nul, is_equals}
 use Rattle.envimage.specs.declared.content.DataError.TheVariants.{NoEquals, EmptyName}
@@ -32,15 +32,11 @@ texts_of-cut bytes at e =
 pub texts_of-uncut : (bytes : List ℕ) → position is_nul bytes ≡ None → texts_of bytes ≡ []
 texts_of-uncut bytes e = texts_of-none bytes (position-none is_nul bytes e)
 
-or_false : (x y : Bool) → (x || y) ≡ false → (x ≡ false) × (y ≡ false)
-or_false true y e = absurd (false≢true (sym e))
-or_false false y e = (refl, e)
-
 -- the first `=` of a text, and what is wrong there
 pub texts_fault-none : (at : ℕ) (text : List ℕ) (texts : List (List ℕ)) → (length text ≡ 0 → ⊥) → position is_equals text ≡ None → texts_fault at (text ∷ texts) ≡ Some (NoEquals at)
 texts_fault-none at [] texts some e = absurd (some refl)
 texts_fault-none at (b ∷ bs) texts some e =
-    let none = or_false (is_equals b) (list_any is_equals bs) (position-none is_equals (b ∷ bs) e) in
+    let none = or_parts (is_equals b) (list_any is_equals bs) (position-none is_equals (b ∷ bs) e) in
     let head : is_equals b ≡ false = none.0 in
     let tail : list_any is_equals bs ≡ false = none.1 in
     rw (head, tail) refl

@@ -5,6 +5,7 @@ use Rattle.std.specs.List.{AllByRecursion, flat_map}
 use Rattle.std.proofs.lemmas.List.{append-nil}
 use Rattle.std.proofs.lemmas.Bool.{cases_Bool}
 use Rattle.std.specs.Cmp.Lexicographic.{bytes_decides, nat_list_eq_equiv}
+use Rattle.std.proofs.lemmas.Option.{none-some}
 use Rattle.envimage.specs.Data.{Pair, entry}
 use Rattle.envtools.specs.Environment.{value_of, dropped, assigned, env_of, same, HasDistinctNames}
 
@@ -111,10 +112,7 @@ fold-last_value name pairs = last_value-more name [] pairs ∙ ap (λ env. value
 -- ---- an environment that is copied
 
 pub all-at : (P : Pair → Type 0) (ps : List Pair) (at : ℕ) (p : Pair) → AllByRecursion P ps → slice_get ps at ≡ Some p → P p
-all-at P [] at p all e = absurd (none≢some e)
-  where
-    none≢some : {X : Type 0} {x : X} → None ≡ Some x → ⊥
-    none≢some e = cc
+all-at P [] at p all e = absurd (none-some p e)
 all-at P (q ∷ qs) zero p all e = let one : q ≡ p = cc in subst P one all.0
 all-at P (q ∷ qs) (suc at) p all e = all-at P qs at p all.1 e
 

@@ -2,7 +2,8 @@
 use Rattle.std.proofs.Common.{◌≡◌, ℕ, zero, suc, ◌+◌, ◌<◌, Bool, true, false, not, eqb, get_or, length, map, take, List, [], ◌∷◌, ◌++◌, refl, sym, ap, ◌∙◌, arith, add-one, append_assoc}
 use Rattle.std.specs.List.{list_any, list_all}
 use Rattle.std.proofs.lemmas.List.Folds.{list_all-map, list_all_more, list_all_at, list_any-append}
-use Rattle.envtools.proofs.EnvLemmas.{not-true, both-true}
+use Rattle.std.proofs.lemmas.Bool.{and_parts}
+use Rattle.envtools.proofs.EnvLemmas.{not-true}
 use Rattle.envtools.specs.Environment.{joined_words, is_value, are_values}
 
 abbrev joined_behind : List (List ℕ) → List ℕ → List ℕ
@@ -40,9 +41,9 @@ module _ {X : Type 0} (f : X → List ℕ) where
 -- words without NUL are joined to a value without NUL
 without_nul : (words : List (List ℕ)) → list_all is_value words ≡ true → list_any (λ b. eqb b 0) (joined_words words) ≡ false
 without_nul [] e = refl
-without_nul (w ∷ []) e = not-true _ (both-true (is_value w) true e).0
+without_nul (w ∷ []) e = not-true _ (and_parts (is_value w) true e).0
 without_nul (w ∷ v ∷ ws) e =
-    let parts = both-true (is_value w) (list_all is_value (v ∷ ws)) e in
+    let parts = and_parts (is_value w) (list_all is_value (v ∷ ws)) e in
     let first : list_any (λ b. eqb b 0) w ≡ false = not-true _ parts.0 in
     let rest : list_any (λ b. eqb b 0) (joined_words (v ∷ ws)) ≡ false = without_nul (v ∷ ws) parts.1 in
     list_any-append (λ b. eqb b 0) w (32 ∷ joined_words (v ∷ ws)) ∙ rw (first, rest) refl

@@ -12,14 +12,10 @@ use Rattle.hushlang.specs.declared.tree.Word.{Word}
 use Rattle.hushlang.specs.declared.tree.AndOr.{AndOr}
 use Rattle.hushlang.specs.declared.tree.Command.{Command, Simple, Assign, If, Loop, For}
 use Rattle.hushlang.specs.declared.tree.Script.{Script, out-Script, fold_out-Script}
-use Rattle.hushlang.proofs.ViewLemmas.{list_of, command_simple, command_assign, command_loop, command_for, command_if}
+use Rattle.hushlang.proofs.ViewLemmas.{script_out, list_of, command_simple, command_assign, command_loop, command_for, command_if}
 use Rattle.hushcheck_core.specs.Order.{with_names}
 use Rattle.hushcheck_core.proofs.OrderLemmas.{with_names-append}
 use Rattle.hushcheck_core.specs.Names.{Text, written_out, run_by_script, run_by_list, run_by_joined, run_by_command, run_by_arms, run_by_arm, run_by_words}
-
-script_out : (s : Script) → view.script s ≡ view.runs (map view.list (out-Script s).lists.items)
-unfolding view.script view.list
-script_out s = fold_out-Script tree.Command tree.AndOr tree.Script view.command_level view.list_level view.script_level s
 
 run_by_runs : (lists : List AndOr) → run_by_script (view.runs (map view.list lists)) ≡ flat_map (λ l. run_by_list (view.list l)) lists
 run_by_runs [] = refl

@@ -1,5 +1,7 @@
 -- What the reader finds is derived. The rule of commands is a parameter, as in the reader.
 use Rattle.std.proofs.Common.{◌≡◌, ℕ, zero, suc, ◌≤◌, Bool, true, false, if◌then◌else◌, List, [], ◌∷◌, ◌++◌, map, length, Option, Some, None, is_some, Result, Ok, Err, refl, ap, sym, ◌∙◌, subst, arith}
+use Rattle.std.proofs.lemmas.Bool.{false≢true}
+use Rattle.std.proofs.lemmas.Option.{none-some}
 use Rattle.hushlang.specs.Token.{Token, Part, End, Whole, Refused}
 use Rattle.hushlang.specs.Tree.{Script, Empty, Runs, AndOr, Starts, Joined, Alone, Joins, Command, If, Loop, For, Arms, NoElse, Else, Arm, Word}
 use Rattle.hushlang.specs.View.{runs, joins as joins_of, arms as arms_of}
@@ -45,22 +47,6 @@ script_same : (s t : Script) → ◌≡◌ {A = Result Script SyntaxError} (Ok s
 unfolding script_or
 script_same s t e = ap (script_or s) e
 
-IsASome : {A : Type 0} → Option A → Type 0
-IsASome (Some a) = Unit
-IsASome None = ⊥
-
-none_not_some : {A : Type 0} {a : A} → None ≡ Some a → ⊥
-unfolding IsASome
-none_not_some p = subst IsASome (sym p) tt
-
-IsTrueBool : Bool → Type 0
-IsTrueBool true = Unit
-IsTrueBool false = ⊥
-
-false_not_true : false ≡ true → ⊥
-unfolding IsTrueBool
-false_not_true p = subst IsTrueBool (sym p) tt
-
 pub and_then_ok : {A B : Type 0} (o : Outcome A) (f : A → Parser B) (b : B) (j : Input) → and_then o f ≡ Ok (b, j) → (a : A) × (i : Input) × (o ≡ Ok (a, i)) × (f a i ≡ Ok (b, j))
 and_then_ok (Ok p) f b j e = (p.0, p.1, refl, e)
 and_then_ok (Err x) f b j e = absurd (err_not_ok e)
@@ -80,7 +66,7 @@ is_keyword-sound r.While (Some r.While) e = refl
 is_keyword-sound r.Until (Some r.Until) e = refl
 is_keyword-sound r.Do (Some r.Do) e = refl
 is_keyword-sound r.Done (Some r.Done) e = refl
-is_keyword-sound word found e = absurd (false_not_true e)
+is_keyword-sound word found e = absurd (false≢true e)
 
 module _ (end : End) (size : ℕ) where
   abbrev at : List Token → Input
@@ -111,7 +97,7 @@ module _ (end : End) (size : ℕ) where
 
   expect_gives : (word : Reserved) → Gives (Takes word) (expect word)
   unfolding expect spec.sees keyword next
-  expect_gives word [] u j e = absurd (none_not_some (is_keyword-sound word None (if_ok (spec.is_keyword word None) tt (next (at [])) (spec.refusal (at [])) u j e).0))
+  expect_gives word [] u j e = absurd (none-some _ (is_keyword-sound word None (if_ok (spec.is_keyword word None) tt (next (at [])) (spec.refusal (at [])) u j e).0))
   expect_gives word (t ∷ tokens) u j e =
       let p = if_ok (spec.is_keyword word (reserved_of t)) tt (at tokens) (spec.refusal (at (t ∷ tokens))) u j e in
       (tokens, sym p.2, (t, refl, is_keyword-sound word (reserved_of t) p.0))
@@ -129,7 +115,7 @@ module _ (end : End) (size : ℕ) where
     joined_turn : (turns : ℕ) (ih : (found : List (Op × Command)) (tokens : List Token) → length tokens ≤ turns → (all : Joined) (j : Input) → joined rule turns found (at tokens) ≡ Ok (all, j) → (rest : List Token) × (j ≡ at rest) × JoinedFrom found tokens all rest) (found : List (Op × Command)) (tokens : List Token) → length tokens ≤ suc turns → (o : Option Op) → goes_on tokens ≡ o → (all : Joined) (j : Input) → joined_by rule (joined rule turns) found o (at tokens) ≡ Ok (all, j) → (rest : List Token) × (j ≡ at rest) × JoinedFrom found tokens all rest
     unfolding next behind
     joined_turn turns ih found tokens h None n all j e = joined_stops found tokens n all j e
-    joined_turn turns ih found [] h (Some op) n all j e = absurd (none_not_some n)
+    joined_turn turns ih found [] h (Some op) n all j e = absurd (none-some _ n)
     joined_turn turns ih found (t ∷ tokens) h (Some op) n all j e =
         let o = and_then_ok (rule (at (past is_newline tokens))) (λ c. joined rule turns (found ++ (op, c) ∷ [])) all j e in
         let c = ok (past is_newline tokens) o.0 o.1 o.2 in
@@ -174,7 +160,7 @@ module _ (end : End) (size : ℕ) where
     unfolding behind
     lists_turn turns ih found a tokens mid k sep true is ends all j e = list_ends (lists rule turns (found ++ a ∷ [])) found a tokens mid k ends sep all j e
     lists_turn turns ih found a tokens mid k false false is ends all j e = absurd (err_not_ok e)
-    lists_turn turns ih found a tokens [] k true false is ends all j e = absurd (false_not_true is)
+    lists_turn turns ih found a tokens [] k true false is ends all j e = absurd (false≢true is)
     lists_turn turns ih found a tokens (s ∷ mid) k true false is ends all j e =
         let from = λ (b : Bool). lists rule turns (found ++ a ∷ []) (at (past_if b (s ∷ mid) (past is_separator mid))) in
         let m = ih (found ++ a ∷ []) (past is_separator mid) all j (ap from (sym is) ∙ e) in
@@ -223,7 +209,7 @@ module _ (end : End) (size : ℕ) where
 
     more_turn : (turns : ℕ) (ih : (found : List (Script × Script)) → Gives (ArmsFrom found) (spec.arms rule turns found)) (found : List (Script × Script)) (tokens : List Token) (o : Option Reserved) → reserved_first tokens ≡ o → (all : Arms) (j : Input) → more_by rule (spec.arms rule turns) found o (at tokens) ≡ Ok (all, j) → (rest : List Token) × (j ≡ at rest) × MoreFrom found tokens all rest
     unfolding next
-    more_turn turns ih found [] (Some word) is all j e = absurd (none_not_some is)
+    more_turn turns ih found [] (Some word) is all j e = absurd (none-some _ is)
     more_turn turns ih found (t ∷ tokens) (Some r.Else) is all j e =
         let o = then_gives IsBlockHere (λ b. Pure (arms_of found (Some b))) (spec.block rule) (λ b. spec.pure (arms_of found (Some b))) block_gives (λ b. pure_gives (arms_of found (Some b))) tokens all j e in
         let b = o.2 in
@@ -376,7 +362,7 @@ module _ (end : End) (size : ℕ) where
 
   is_some-none : {A : Type 0} (o : Option A) → is_some o ≡ false → o ≡ None
   is_some-none None e = refl
-  is_some-none (Some a) e = absurd (false_not_true (sym e))
+  is_some-none (Some a) e = absurd (false≢true (sym e))
 
   simple_turn : (d : ℕ) (t : Token) (tokens : List Token) → reserved_of t ≡ None → (w a : Bool) → is_word t ≡ w → is_some (assignment t.parts) ≡ a → (c : Command) (j : Input) → spec.simple_by w a (at (t ∷ tokens)) ≡ Ok (c, j) → (rest : List Token) × (j ≡ at rest) × IsCommand d (t ∷ tokens) c rest
   unfolding behind
@@ -403,7 +389,7 @@ module _ (end : End) (size : ℕ) where
   compound_gives : (d : ℕ) (ok : (tokens : List Token) (c : Command) (j : Input) → command d (at tokens) ≡ Ok (c, j) → (rest : List Token) × (j ≡ at rest) × IsCommand d tokens c rest) (tokens : List Token) (o : Option Reserved) → reserved_first tokens ≡ o → (c : Command) (j : Input) → spec.compound (command d) o (at tokens) ≡ Ok (c, j) → (rest : List Token) × (j ≡ at rest) × IsCommand (suc d) tokens c rest
   unfolding next
   compound_gives d ok tokens None k c j e = simple_gives (suc d) tokens k c j e
-  compound_gives d ok [] (Some word) k c j e = absurd (none_not_some k)
+  compound_gives d ok [] (Some word) k c j e = absurd (none-some _ k)
   compound_gives d ok (t ∷ tokens) (Some r.If) k c j e =
       let m = if_gives (command d) d ok tokens c j e in
       (m.0, m.1, subst (λ x. IsCommand (suc d) (t ∷ tokens) x m.0) m.2.4 (g.«if» k m.2.2 m.2.3))

@@ -1,6 +1,6 @@
 -- What stands at the front of a text, as the program finds it.
 use Rattle.std.proofs.Common.{◌≡◌, ℕ, zero, suc, ◌+◌, ◌-◌, ◌<◌, ◌≤◌, Bool, true, not, ◌&&◌, ◌==◌, List, [], ◌∷◌, length, take, drop, get_or, refl, ap, sym, ◌∙◌, arith, Ok, Err}
-use Rattle.std.proofs.lemmas.List.{length-append, length-drop, drop-drop}
+use Rattle.std.proofs.lemmas.List.{length-append, length-drop, drop-drop, drop_more}
 use Rattle.std.proofs.Math.Seq.{take-append_seam}
 use Rattle.std.proofs.lemmas.Bool.{cond_both, false≢true, and_from, not_from_false}
 use Rattle.text.specs.Bytes.{newline}
@@ -15,7 +15,6 @@ use Rattle.hushlang.specs.declared.token.Kind.TheVariants as kinds
 use Rattle.hushlang.specs.declared.token.SyntaxError.{SyntaxError}
 use Rattle.hushlang.specs.declared.lexer.Front.TheVariants as code
 use Rattle.hushlang.proofs.Spelled.{row_step, bare_separator, lexed_step}
-use Rattle.hushlang.proofs.Steps.{at_place}
 use Rattle.hushlang.proofs.Alone.{takes, word_takes}
 
 -- a token stands where it is seen, and its own bytes have its parts
@@ -102,7 +101,7 @@ module _ (source : List ℕ) (at : ℕ) (inside : at < length source) where
 
   pub word_ok : BeginsWord first behind → (stop : ℕ) → Ok stop ≡ stop_of (row Bare at 0 at (drop at source)) → (Ok (code.Token kinds.Word stop) ≡ shown at (word_front at first behind)) × (at < stop) × (stop ≤ length source)
   unfolding word_front
-  word_ok begins stop e = word_seen begins stop (row Bare at 0 at (first ∷ behind)) refl (e ∙ ap (λ (x : List ℕ). stop_of (row Bare at 0 at x)) (at_place source at inside))
+  word_ok begins stop e = word_seen begins stop (row Bare at 0 at (first ∷ behind)) refl (e ∙ ap (λ (x : List ℕ). stop_of (row Bare at 0 at x)) (drop_more source at 0 inside))
 
   word_refused : (error : SyntaxError) (seen : Seen) → Err error ≡ stop_of seen → Err error ≡ shown at (word_at at seen)
   word_refused error (Refuses error') e = cc
@@ -110,13 +109,13 @@ module _ (source : List ℕ) (at : ℕ) (inside : at < length source) where
 
   pub word_err : (error : SyntaxError) → Err error ≡ stop_of (row Bare at 0 at (drop at source)) → Err error ≡ shown at (word_front at first behind)
   unfolding word_front
-  word_err error e = word_refused error (row Bare at 0 at (first ∷ behind)) (e ∙ ap (λ (x : List ℕ). stop_of (row Bare at 0 at x)) (at_place source at inside))
+  word_err error e = word_refused error (row Bare at 0 at (first ∷ behind)) (e ∙ ap (λ (x : List ℕ). stop_of (row Bare at 0 at x)) (drop_more source at 0 inside))
 
   on_from : (found : Front) (skip : ℕ) → front at first behind ≡ found → skip_of found ≡ skip → skip ≤ length behind → lexed at (drop at source) ≡ follow found (lexed (at + suc skip) (drop (at + suc skip) source))
   on_from found skip is s h =
       let n : suc at + skip ≡ at + suc skip = omega arith in
       let k : (at + 1) + skip ≡ at + suc skip = omega arith in
-      ap (λ (x : List ℕ). lexed at x) (at_place source at inside)
+      ap (λ (x : List ℕ). lexed at x) (drop_more source at 0 inside)
       ∙ lexed_step at first behind found is
       ∙ ap (λ k. follow found (lexed_from k (suc at) behind)) s
       ∙ ap (follow found) (lexed_drop skip (suc at) behind h
@@ -151,7 +150,7 @@ module _ (source : List ℕ) (at : ℕ) (inside : at < length source) where
       let k : token.kind ≡ kind = cc in
       let n : at + suc skip ≡ stop = cc in
       let size : stop - at ≡ suc skip = omega (arith, n) in
-      let same : first ∷ take skip behind ≡ slice stop = ap (take (suc skip)) (sym (at_place source at inside)) ∙ ap (λ n. take n (drop at source)) (sym size) in
+      let same : first ∷ take skip behind ≡ slice stop = ap (take (suc skip)) (sym (drop_more source at 0 inside)) ∙ ap (λ n. take n (drop at source)) (sym size) in
       let reads : row Bare 0 0 0 (slice stop) ≡ Takes s.3.0 token.parts = ap (λ (x : List ℕ). row Bare 0 0 0 x) (sym same) ∙ s.3.1 in
       let parts : token.parts ≡ parts_in (row Bare 0 0 0 (slice stop)) = sym (ap parts_in reads) in (
         on_from (Sees token skip) skip is refl s.2

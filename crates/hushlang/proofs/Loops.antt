@@ -4,8 +4,9 @@ use Rattle.hushlang.specs.Token.{Token}
 use Rattle.hushlang.specs.Tree.{Command, Script, AndOr, Arms}
 use Rattle.hushlang.specs.Parsing as spec
 use Rattle.hushlang.specs.Parsing.{Input, Parser, Outcome, and_then, keyword}
-use Rattle.hushlang.specs.Grammar.{is_separator, past, past_if}
+use Rattle.hushlang.specs.Grammar.{is_separator}
 use Rattle.hushlang.proofs.Converse.{is_keyword-sound}
+use Rattle.hushlang.proofs.Passing.{no_separators}
 use Rattle.hushlang.proofs.Agreement.{lists_once, arms_once}
 use Rattle.hushlang.specs.declared.words.Reserved.{Reserved}
 use Rattle.hushlang.specs.declared.token.SyntaxError.{SyntaxError}
@@ -58,14 +59,10 @@ lists_fail rule turns found i x some e =
     lists_once rule turns found i some
     ∙ ap (λ (x : Outcome AndOr). and_then x (λ one. λ i. spec.lists_by (spec.lists rule (turns - 1) (found ++ one ∷ [])) (found ++ one ∷ []) (spec.separator_next i) (spec.closes_next (spec.behind is_separator i)) i)) e
 
-past_unmoved : (tokens : List Token) → spec.separator_first tokens ≡ false → past is_separator tokens ≡ tokens
-past_unmoved [] e = refl
-past_unmoved (t ∷ tokens) e = ap (λ b. past_if b (t ∷ tokens) (past is_separator tokens)) e
-
 -- where no separator comes next, none is passed
 pub behind_unmoved : (i : Input) → spec.separator_next i ≡ false → spec.behind is_separator i ≡ i
 unfolding spec.separator_next spec.behind
-behind_unmoved i e = ap (λ l. record i { tokens = l }) (past_unmoved i.tokens e)
+behind_unmoved i e = ap (λ l. record i { tokens = l }) (no_separators i.tokens e)
 
 rest_shorter : (tokens : List Token) → length (spec.rest_of tokens) ≤ length tokens
 rest_shorter [] = omega arith

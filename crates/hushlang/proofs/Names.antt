@@ -3,6 +3,7 @@ use Rattle.std.proofs.Common.{◌≡◌, ℕ, suc, ◌+◌, length, ◌<◌, get
 use Rattle.std.specs.List.{prefix_len, list_all}
 use Rattle.std.proofs.lemmas.List.Folds.{list_all-append}
 use Rattle.std.proofs.Math.Dec.{eqb-suc-suc, eqb-zero-suc}
+use Rattle.std.proofs.lemmas.Option.{same_Some}
 use Rattle.hushlang.specs.Bytes.{begins_name, is_name_byte, continues_name, is_between}
 use Rattle.hushlang.specs.Token.{Part, Plain, Kept, Mark, Var, Status}
 use Rattle.hushlang.specs.Words.{plain_bytes, plain_byte}
@@ -77,11 +78,8 @@ found_equals : (front : List ℕ) (b : ℕ) (parts : List Part) → (b == 61) �
 unfolding found_behind
 found_equals front b parts e = rw e (ap (λ bytes. Some (bytes, parts)) (append-nil front))
 
-same_some : (a b : ℕ) → Some a ≡ Some b → a ≡ b
-same_some a b e = cc
-
 pub plain_is : (part : Part) (b : ℕ) → Some b ≡ plain_byte part → part ≡ Plain b
-plain_is (Plain c) b e = ap Plain (sym (same_some b c e))
+plain_is (Plain c) b e = ap Plain (sym (same_Some b c e))
 plain_is (Kept c) b e = absurd (cc)
 plain_is Mark b e = absurd (cc)
 plain_is (Var name split) b e = absurd (cc)

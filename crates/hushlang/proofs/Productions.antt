@@ -1,6 +1,7 @@
 -- The blocks and the scripts of the grammar are those of the productions.
 use Rattle.std.proofs.Common.{◌≡◌, ℕ, Bool, true, false, ◌&&◌, List, [], ◌∷◌, ◌++◌, Some, refl, ap, sym, ◌∙◌, subst, append-nil}
 use Rattle.std.specs.List.{list_all}
+use Rattle.std.proofs.lemmas.Bool.{and_parts}
 use Rattle.hushlang.specs.Token.{Token, Part}
 use Rattle.hushlang.specs.Tree.{Script, AndOr, Command, ends_compound}
 use Rattle.hushlang.specs.Grammar as g
@@ -17,15 +18,10 @@ use Rattle.hushlang.proofs.Closed.{blocks_are_closed, closes_word}
 past-first : (t : Token) (tokens : List Token) (b : Bool) → is_separator t ≡ b → past is_separator (t ∷ tokens) ≡ past_if b (t ∷ tokens) (past is_separator tokens)
 past-first t tokens b is = ap (λ b. past_if b (t ∷ tokens) (past is_separator tokens)) is
 
-both_true : (a b : Bool) → (a && b) ≡ true → (a ≡ true) × (b ≡ true)
-both_true true true e = (refl, refl)
-both_true true false e = cc
-both_true false b e = cc
-
 past-separators : (front tokens : List Token) → AreSeparators front → past is_separator (front ++ tokens) ≡ past is_separator tokens
 past-separators [] tokens all = refl
 past-separators (t ∷ front) tokens all =
-    let both = both_true (is_separator t) (list_all is_separator front) all in
+    let both = and_parts (is_separator t) (list_all is_separator front) all in
     past-first t (front ++ tokens) true both.0 ∙ past-separators front tokens both.1
 
 -- a word is no separator, and a command begins with one
@@ -70,7 +66,7 @@ row_stays (another sep separators s a r) = list_stays a
 row_derived : {d : ℕ} {tokens rest : List Token} {lists : Script} {final : AndOr} → IsRow d tokens lists final rest → ends_block (past is_separator rest) ≡ true → IsLists d tokens lists (past is_separator rest)
 row_derived {rest = rest} (one a) ends = last rest a ends
 row_derived {d = d} {rest = rest} (another {after = after} {lists = lists} sep separators s a r) ends =
-    let both = both_true (is_separator sep) (list_all is_separator separators) s in
+    let both = and_parts (is_separator sep) (list_all is_separator separators) s in
     let same : past is_separator (separators ++ after) ≡ after = past-separators separators after both.1 ∙ row_stays r in
     more a both.0 (subst (λ tokens. IsLists d tokens lists (past is_separator rest)) (sym same) (row_derived r ends))
 
@@ -150,7 +146,7 @@ each_derived_block_is_produced depth tokens behind t lists b = block_produced t 
 past-all : (tokens : List Token) → AreSeparators tokens → past is_separator tokens ≡ []
 past-all [] all = refl
 past-all (t ∷ tokens) all =
-    let both = both_true (is_separator t) (list_all is_separator tokens) all in
+    let both = and_parts (is_separator t) (list_all is_separator tokens) all in
     past-first t tokens true both.0 ∙ past-all tokens both.1
 
 all_front : (tokens : List Token) → past is_separator tokens ≡ [] → AreSeparators tokens

@@ -9,6 +9,7 @@ use Rattle.std.specs.Map.{lookup}
 use Rattle.std.specs.BTreeMap.{insert_entry}
 use Rattle.std.specs.declared.alloc.Global.{Global}
 use Rattle.std.specs.declared.vec.Vec.{Vec}
+use Rattle.std.specs.Cmp.{Equal-is}
 use Rattle.hushlang.specs.Expansion.{Setting, value_of}
 use Rattle.hushlang.specs.Expanding.{AreCutAlike, IsBrief, AreShort}
 
@@ -26,15 +27,10 @@ compared name key = slice_cmp nat_cmp name key.items
 same_name : (name other : List ℕ) → slice_cmp nat_cmp name other ≡ Equal → name ≡ other
 same_name name other is = slice_cmp-IsAntisymmetric nat_cmp-IsAntisymmetric name other is
 
-equal_of : (r : Ordering) → is_eq r ≡ true → r ≡ Equal
-equal_of Less e = cc
-equal_of Equal e = refl
-equal_of Greater e = cc
-
 found_at : (setting : Setting) (entry : Vec ℕ Global × Vec ℕ Global) (name : List ℕ) (short : Vec ℕ Global) (more : Option (Vec ℕ Global)) → IsShort setting entry.0.items entry.1.items → (Some short ≡ more → IsShort setting name short.items) → (b : Bool) → is_eq (compared name entry.0) ≡ b → Some short ≡ cond b (Some entry.1) more → IsShort setting name short.items
 found_at setting entry name short more here rest true same is =
     let value : entry.1 ≡ short = cc in
-    subst (λ n. IsShort setting n short.items) (sym (same_name name entry.0.items (equal_of _ same))) (subst (λ (v : Vec ℕ Global). IsShort setting entry.0.items v.items) value here)
+    subst (λ n. IsShort setting n short.items) (sym (same_name name entry.0.items ((Equal-is _).0 same))) (subst (λ (v : Vec ℕ Global). IsShort setting entry.0.items v.items) value here)
 found_at setting entry name short more here rest false same is = rest is
 
 pub short_found : (setting : Setting) (entries : Entries) (name : List ℕ) (short : Vec ℕ Global) → AreShort setting entries → Some short ≡ lookup (λ key. is_eq (compared name key)) entries → IsShort setting name short.items

@@ -1,6 +1,6 @@
 -- A value without separators side by side is cut as it was.
-use Rattle.std.proofs.Common.{◌≡◌, ◌∙◌, refl, sym, ap, ℕ, ◌+◌, ◌*◌, ◌<◌, ◌≤◌, Bool, true, false, cond, List, [], ◌∷◌, ◌++◌, length, map, drop, get_or, append-nil, arith, drop-cons, add-one, length-append}
-use Rattle.std.proofs.lemmas.List.{map-append}
+use Rattle.std.proofs.Common.{◌≡◌, ◌∙◌, refl, sym, ap, ℕ, ◌+◌, ◌*◌, ◌<◌, ◌≤◌, Bool, true, false, cond, List, [], ◌∷◌, ◌++◌, length, map, drop, get_or, append-nil, arith, length-append}
+use Rattle.std.proofs.lemmas.List.{map-append, drop_more}
 use Rattle.std.proofs.Math.ListN.{drop_of_length-le}
 use Rattle.hushlang.specs.Expansion.{Atom, Kept, Separator, Mark, separates, split_atom, kept_bytes}
 use Rattle.hushlang.specs.Expanding.{Gathered, closed, with_atom, with_atoms, AreCutAlike, IsBrief}
@@ -39,16 +39,13 @@ split_atom-is byte separator is = ap (λ separator. cond separator (Separator by
 closed_by : (g : Gathered) (byte : ℕ) → separates byte ≡ true → with_atom g (split_atom byte) ≡ closed g
 closed_by g byte is = ap (with_atom g) (split_atom-is byte true is)
 
-next_byte : (value : List ℕ) (at : ℕ) → at < length value → drop at value ≡ get_or value at 0 ∷ drop (at + 1) value
-next_byte value at inside = drop-cons value at 0 inside ∙ rw add-one refl
-
 -- a separator behind another is left out
 pub skipped : (value short : List ℕ) (at : ℕ) → at < length value → separates (get_or value at 0) ≡ true → IsShortSoFar value short at true → IsShortSoFar value short (at + 1) true
 skipped value short at inside separator so_far =
     let byte = get_or value at 0 in
     record {
       alike = λ g. ap (λ now. behind_value now (drop (at + 1) value)) (sym (so_far.ended refl g) ∙ sym (closed_by (behind_value g short) byte separator))
-          ∙ ap (behind_value (behind_value g short)) (sym (next_byte value at inside)) ∙ so_far.alike g;
+          ∙ ap (behind_value (behind_value g short)) (sym (drop_more value at 0 inside)) ∙ so_far.alike g;
       ended = so_far.ended;
       brief = so_far.brief;
     }
@@ -81,7 +78,7 @@ pushed value short at cut separator inside is apart so_far =
     let byte = get_or value at 0 in
     record {
       alike = λ g. ap (λ now. behind_value now (drop (at + 1) value)) (behind_value-push g short byte)
-          ∙ ap (behind_value (behind_value g short)) (sym (next_byte value at inside)) ∙ so_far.alike g;
+          ∙ ap (behind_value (behind_value g short)) (sym (drop_more value at 0 inside)) ∙ so_far.alike g;
       ended = λ e. ended_by short byte (is ∙ e);
       brief = brief_more short byte cut separator is apart so_far.brief;
     }

@@ -1,5 +1,7 @@
 -- The reader goes as the machine does: what a rule leaves to what follows is what the machine does with all.
 use Rattle.std.proofs.Common.{◌≡◌, ℕ, zero, suc, ◌<◌, ◌≤◌, Bool, true, false, if◌then◌else◌, List, [], ◌∷◌, ◌++◌, length, Option, Some, None, is_some, Result, Ok, Err, refl, ap, sym, ◌∙◌, subst, arith}
+use Rattle.std.proofs.lemmas.Bool.{false≢true, true≢false}
+use Rattle.std.proofs.lemmas.Option.{none-some}
 use Rattle.hushlang.specs.Token.{Token, Part, End, Whole, Refused}
 use Rattle.hushlang.specs.Tree.{Script, AndOr, Starts, Command, If, Loop, For, Word}
 use Rattle.hushlang.specs.View.{arms as arms_of}
@@ -18,6 +20,7 @@ use Rattle.hushlang.specs.declared.token.SyntaxError.{SyntaxError}
 use Rattle.hushlang.specs.declared.token.SyntaxError.TheVariants.{Unexpected, MissingWord}
 use Rattle.hushlang.specs.declared.words.Reserved.{Reserved}
 use Rattle.hushlang.specs.declared.words.Reserved.TheVariants as r
+use Rattle.hushlang.proofs.Passing.{past_first}
 
 abbrev Done : Type 0
 Done = Result (Unit {0}) SyntaxError
@@ -74,37 +77,10 @@ next_skips d k (t ∷ tokens) end size = next_if (is_separator t) d k t tokens e
 
 -- ---- tests of tokens
 
-holds : Bool → Type 0
-holds true = Unit
-holds false = ⊥
-
-not_true : false ≡ true → ⊥
-unfolding holds
-not_true e = subst holds (sym e) tt
-
-not_false : true ≡ false → ⊥
-unfolding holds
-not_false e = subst holds e tt
-
-some_none : {A : Type 0} {a : A} → None ≡ Some a → ⊥
-some_none e = not_true (ap is_some e)
-
-abbrev head_or : Token → List Token → Token
-head_or d [] = d
-head_or d (t ∷ tokens) = t
-
-past_first_if : (b : Bool) (s : Token) (tokens : List Token) (t : Token) (more : List Token) → is_separator s ≡ b → ((e : past is_separator tokens ≡ t ∷ more) → is_separator t ≡ false) → past_if b (s ∷ tokens) (past is_separator tokens) ≡ t ∷ more → is_separator t ≡ false
-past_first_if true s tokens t more is h e = h e
-past_first_if false s tokens t more is h e = let same : s ≡ t = ap (head_or s) e in ap is_separator (sym same) ∙ is
-
-past_first : (tokens : List Token) (t : Token) (more : List Token) → past is_separator tokens ≡ t ∷ more → is_separator t ≡ false
-past_first [] t more e = absurd (not_true (ap spec.is_empty (sym e)))
-past_first (s ∷ tokens) t more e = past_first_if (is_separator s) s tokens t more refl (past_first tokens t more) e
-
 closes_kind : (kind : Kind) (parts : List Part) → closes_at (g.reserved_if kind parts) ≡ true → g.separates kind ≡ false
 closes_kind kinds.Word parts e = refl
-closes_kind kinds.Semi parts e = absurd (not_true e)
-closes_kind kinds.Newline parts e = absurd (not_true e)
+closes_kind kinds.Semi parts e = absurd (false≢true e)
+closes_kind kinds.Newline parts e = absurd (false≢true e)
 closes_kind kinds.AndAnd parts e = refl
 closes_kind kinds.OrOr parts e = refl
 
@@ -147,8 +123,8 @@ must_next d k t tokens end size s e =
     ap (λ b. goes (m.another d k b t) (run tokens end size)) (sym e) ∙ ap (λ b. goes (if b then m.to d Next k else m.another d k (closes_at (reserved_of t)) t) (run tokens end size)) (sym s)
 
 must_row : (d : ℕ) (k : List Frame) (tokens row : List Token) (end : End) (size : ℕ) → past is_separator tokens ≡ row → ends_block row ≡ false → run row end size record { left = d; phase = Must; open_frames = k } ≡ run row end size record { left = d; phase = Next; open_frames = k }
-must_row d k tokens [] end size e b = absurd (not_false b)
-must_row d k tokens (t ∷ row) end size e b = must_next d k t row end size (past_first tokens t row e) b
+must_row d k tokens [] end size e b = absurd (true≢false b)
+must_row d k tokens (t ∷ row) end size e b = must_next d k t row end size (past_first is_separator tokens t row e) b
 
 -- behind an and-or list that is the last
 last_if : (b : Bool) (d : ℕ) (k : List Frame) (t : Token) (tokens : List Token) (end : End) (size : ℕ) → ends_block (past_if b (t ∷ tokens) (past is_separator tokens)) ≡ true → run (past_if b (t ∷ tokens) (past is_separator tokens)) end size record { left = d; phase = Close; open_frames = k } ≡ goes (m.behind_list d k b t) (run tokens end size)
@@ -392,7 +368,7 @@ module _ (d : ℕ) (leads : (k : List Frame) → Leads (command d) (on d After k
   joined_turn : (k : List Frame) (turns : ℕ) (ih : (found : List (Op × Command)) (i : Input) → length i.tokens ≤ turns → then_goes (joined rule turns found i) (on d Behind k) ≡ on d After k i) (found : List (Op × Command)) (tokens : List Token) (end : End) (size : ℕ) (o : Option Op) → goes_on tokens ≡ o → length tokens ≤ suc turns → then_goes (joined_by rule (joined rule turns) found o record { tokens = tokens; end = end; size = size }) (on d Behind k) ≡ run tokens end size record { left = d; phase = After; open_frames = k }
   unfolding run step next behind
   joined_turn k turns ih found tokens end size None e h = behind_after d k tokens end size e
-  joined_turn k turns ih found [] end size (Some op) e h = absurd (some_none e)
+  joined_turn k turns ih found [] end size (Some op) e h = absurd (none-some _ e)
   joined_turn k turns ih found (t ∷ tokens) end size (Some op) e h =
       let i : Input = record { tokens = past is_newline tokens; end = end; size = size } in
       let p = past-shorter is_newline tokens in
@@ -413,7 +389,7 @@ module _ (d : ℕ) (leads : (k : List Frame) → Leads (command d) (on d After k
   unfolding run step next behind spec.refusal
   lists_turn k turns ih found [] end size separated true s e h = ends_close k end size
   lists_turn k turns ih found (t ∷ tokens) end size separated true s e h = behind_last d k t tokens end size (is_separator t) refl e
-  lists_turn k turns ih found [] end size separated false s e h = absurd (not_false e)
+  lists_turn k turns ih found [] end size separated false s e h = absurd (true≢false e)
   lists_turn k turns ih found (t ∷ tokens) end size true false s e h =
       let p = past-shorter is_separator tokens in
       let row = past is_separator tokens in
@@ -447,7 +423,7 @@ module _ (d : ℕ) (leads : (k : List Frame) → Leads (command d) (on d After k
   more_turn : (k : List Frame) (turns : ℕ) (ih : (found : List (Script × Script)) (i : Input) → length i.tokens < turns → then_goes (spec.arms rule turns found i) (on d Close (Otherwise ∷ k)) ≡ on d Start (Condition ∷ k) i) (found : List (Script × Script)) (tokens : List Token) (end : End) (size : ℕ) (o : Option Reserved) → reserved_first tokens ≡ o → length tokens ≤ turns → then_goes (more_by rule (spec.arms rule turns) found o record { tokens = tokens; end = end; size = size }) (on d Close (Otherwise ∷ k)) ≡ run tokens end size record { left = d; phase = Close; open_frames = Consequence ∷ k }
   unfolding run step ends next spec.refusal
   more_turn k turns ih found [] end size None is h = refl
-  more_turn k turns ih found [] end size (Some word) is h = absurd (some_none is)
+  more_turn k turns ih found [] end size (Some word) is h = absurd (none-some _ is)
   more_turn k turns ih found (t ∷ tokens) end size (Some r.Else) is h =
       leads_then (spec.block rule) (λ b. spec.pure (arms_of found (Some b))) (on d Close (Otherwise ∷ k)) (on d Close (Otherwise ∷ k)) (on d Start (Otherwise ∷ k)) (block_leads Otherwise k) (λ b j. refl) record { tokens = tokens; end = end; size = size }
       ∙ ap (λ o. goes (m.close d (Consequence ∷ k) o t) (run tokens end size)) (sym is)
@@ -499,7 +475,7 @@ module _ (d : ℕ) (leads : (k : List Frame) → Leads (command d) (on d After k
 flat_turn : (k : List Frame) (tokens : List Token) (end : End) (size : ℕ) (o : Option Reserved) → reserved_first tokens ≡ o → then_goes (spec.flat o record { tokens = tokens; end = end; size = size }) (on 0 After k) ≡ run tokens end size record { left = 0; phase = Must; open_frames = k }
 unfolding run step spec.refusal
 flat_turn k tokens end size None e = simple_leads 0 k tokens end size e
-flat_turn k [] end size (Some word) e = absurd (some_none e)
+flat_turn k [] end size (Some word) e = absurd (none-some _ e)
 flat_turn k (t ∷ tokens) end size (Some r.If) e = ap (λ o. goes (m.begin 0 k o t) (run tokens end size)) (sym e)
 flat_turn k (t ∷ tokens) end size (Some r.While) e = ap (λ o. goes (m.begin 0 k o t) (run tokens end size)) (sym e)
 flat_turn k (t ∷ tokens) end size (Some r.Until) e = ap (λ o. goes (m.begin 0 k o t) (run tokens end size)) (sym e)
@@ -509,7 +485,7 @@ flat_turn k (t ∷ tokens) end size (Some word) e = ap (λ o. goes (m.begin 0 k 
 compound_turn : (d : ℕ) (leads : (k : List Frame) → Leads (command d) (on d After k) (on d Must k)) (k : List Frame) (tokens : List Token) (end : End) (size : ℕ) (o : Option Reserved) → reserved_first tokens ≡ o → then_goes (spec.compound (command d) o record { tokens = tokens; end = end; size = size }) (on (suc d) After k) ≡ run tokens end size record { left = suc d; phase = Must; open_frames = k }
 unfolding run step spec.refusal next
 compound_turn d leads k tokens end size None e = simple_leads (suc d) k tokens end size e
-compound_turn d leads k [] end size (Some word) e = absurd (some_none e)
+compound_turn d leads k [] end size (Some word) e = absurd (none-some _ e)
 compound_turn d leads k (t ∷ tokens) end size (Some r.If) e = if_leads d leads k record { tokens = tokens; end = end; size = size } ∙ ap (λ o. goes (m.begin (suc d) k o t) (run tokens end size)) (sym e)
 compound_turn d leads k (t ∷ tokens) end size (Some r.While) e = loop_leads d leads false k record { tokens = tokens; end = end; size = size } ∙ ap (λ o. goes (m.begin (suc d) k o t) (run tokens end size)) (sym e)
 compound_turn d leads k (t ∷ tokens) end size (Some r.Until) e = loop_leads d leads true k record { tokens = tokens; end = end; size = size } ∙ ap (λ o. goes (m.begin (suc d) k o t) (run tokens end size)) (sym e)
@@ -535,11 +511,11 @@ start_past d k (t ∷ tokens) end size = start_past_if (is_separator t) d k t to
 script_turn : (d : ℕ) (tokens row : List Token) (end : End) (size : ℕ) (b : Bool) → past is_separator tokens ≡ row → spec.is_empty row ≡ b → then_goes (spec.script_by d b record { tokens = row; end = end; size = size }) (on d Close []) ≡ run row end size record { left = d; phase = Start; open_frames = [] }
 unfolding run step ends spec.lists_all
 script_turn d tokens [] end size true e b = refl
-script_turn d tokens (t ∷ row) end size true e b = absurd (not_true b)
-script_turn d tokens [] end size false e b = absurd (not_false b)
+script_turn d tokens (t ∷ row) end size true e b = absurd (false≢true b)
+script_turn d tokens [] end size false e b = absurd (true≢false b)
 script_turn d tokens (t ∷ row) end size false e b =
     lists_lead d (command_leads d) [] (suc (length (t ∷ row))) [] record { tokens = t ∷ row; end = end; size = size } (omega arith)
-    ∙ ap (λ b. goes (if b then m.to d Start [] else m.begin d [] (reserved_of t) t) (run row end size)) (sym (past_first tokens t row e))
+    ∙ ap (λ b. goes (if b then m.to d Start [] else m.begin d [] (reserved_of t) t) (run row end size)) (sym (past_first is_separator tokens t row e))
 
 script_leads : (d : ℕ) → Leads (spec.script d) (on d Close []) (on d Start [])
 unfolding spec.script spec.at_last behind

@@ -1,5 +1,6 @@
 -- What an answer of the parser says of the text.
 use Rattle.std.proofs.Common.{◌≡◌, ◌≢◌, ℕ, ◌+◌, List, [], ◌∷◌, ◌++◌, length, Option, Some, None, Result, Ok, Err, IfOk, IfErr, refl, ap, sym, ◌∙◌, subst, append_assoc, append-nil}
+use Rattle.std.proofs.lemmas.Option.{same_Some}
 use Rattle.hushlang.specs.Token.{Token, End, Whole, Refused}
 use Rattle.hushlang.specs.Reading.{Lexed, lexed}
 use Rattle.hushlang.specs.Spelling.{Spells}
@@ -93,13 +94,10 @@ fault_lexical text tokens e s =
 some_not_none : {A : Type 0} (a : A) → Some a ≡ None → ⊥
 some_not_none a e = absurd (cc)
 
-some_same : (a b : ℕ) → Some a ≡ Some b → a ≡ b
-some_same a b e = cc
-
 placed : (text : List ℕ) (place : ℕ) (e : SyntaxError) (tokens : List Token) (end : End) (size : ℕ) → size ≡ length text → Spells 0 text tokens end → IsRefusal max_nesting tokens end size e → place_of e ≡ Some place → IsBlocked text place
-placed text place e tokens end size n s (at_token front t more v not at) is = subst (IsBlocked text) (some_same t.start place (sym at ∙ is)) (texts.at_token front t more s v not)
+placed text place e tokens end size n s (at_token front t more v not at) is = subst (IsBlocked text) (same_Some t.start place (sym at ∙ is)) (texts.at_token front t more s v not)
 placed text place e tokens end size n s (at_fault v) is = absurd (some_not_none place (sym is ∙ fault_lexical text tokens e s))
-placed text place e tokens end size n s (at_end v at) is = subst (IsBlocked text) (sym n ∙ some_same size place (sym at ∙ is)) (texts.at_end tokens s v)
+placed text place e tokens end size n s (at_end v at) is = subst (IsBlocked text) (sym n ∙ same_Some size place (sym at ∙ is)) (texts.at_end tokens s v)
 
 faulty : (text : List ℕ) (e : SyntaxError) (tokens : List Token) (end : End) (size : ℕ) → Spells 0 text tokens end → IsRefusal max_nesting tokens end size e → place_of e ≡ None → IsFaultOf text e
 faulty text e tokens end size s (at_token front t more v not at) is = absurd (some_not_none t.start (sym at ∙ is))
@@ -194,7 +192,7 @@ one_blocked_place text place other (texts.at_token {end = end} front t more s v 
 one_blocked_place text place other (texts.at_token {end = end} front t more s v n) (texts.at_fault e f is) = absurd (never text front t more f.0 end (Refused e) s n f.1 f.2)
 one_blocked_place text place other (texts.at_token {end = end} front t more s v n) (texts.at_end tokens u w) = absurd (never text front t more tokens end Whole s n u w)
 one_blocked_place text place other (texts.at_fault e f is) (texts.at_token {end = end} front t more s v n) = absurd (never text front t more f.0 end (Refused e) s n f.1 f.2)
-one_blocked_place text place other (texts.at_fault e f is) (texts.at_fault a g it) = some_same place other (sym is ∙ ap fault_place (same_fault e a (same_end text f.0 g.0 (Refused e) (Refused a) f.1 g.1)) ∙ it)
+one_blocked_place text place other (texts.at_fault e f is) (texts.at_fault a g it) = same_Some place other (sym is ∙ ap fault_place (same_fault e a (same_end text f.0 g.0 (Refused e) (Refused a) f.1 g.1)) ∙ it)
 one_blocked_place text place other (texts.at_fault e f is) (texts.at_end tokens s v) = absurd (not_whole (same_end text tokens f.0 Whole (Refused e) s f.1))
 one_blocked_place text place other (texts.at_end tokens u w) (texts.at_token {end = end} front t more s v n) = absurd (never text front t more tokens end Whole s n u w)
 one_blocked_place text place other (texts.at_end tokens s v) (texts.at_fault e f is) = absurd (not_whole (same_end text tokens f.0 Whole (Refused e) s f.1))

@@ -1,7 +1,9 @@
 -- What follows a run in the list of all runs.
-use Rattle.std.proofs.Common.{ℕ, zero, suc, Bool, true, false, cond, List, [], ◌∷◌, ◌++◌, map, filter, length, Option, Some, None, option_map, refl, sym, ap, subst, ◌∙◌, ◌≡◌, ◌≢◌, inl, inr, ◌≤◌, append_assoc, arith}
+use Rattle.std.proofs.Common.{ℕ, zero, suc, true, false, List, [], ◌∷◌, ◌++◌, length, Option, Some, None, option_map, refl, sym, ap, subst, ◌∙◌, ◌≡◌, ◌≢◌, inl, inr, ◌≤◌, append_assoc, arith}
 use Rattle.std.specs.Prelude.{⊤}
-use Rattle.rehearse.specs.Outcomes.{Word, Outcome, Success, Failure, Run, Long, is_run_kind, words, word_eq, after, common_prefix, Short, turned, has_success, beyond, runs_within, first_run, first_from, IsChoice}
+use Rattle.std.proofs.lemmas.Bool.{false≢true}
+use Rattle.rehearse.specs.Outcomes.{Word, Outcome, Success, Failure, Run, Long, is_run_kind, words, word_eq, comes_before, after, common_prefix, Short, turned, has_success, beyond, runs_within, first_run, first_from, IsChoice}
+use Rattle.rehearse.proofs.OrderOfWords.{AreOrdered, Before, ordered-filter, words_ordered}
 use Rattle.rehearse.proofs.Choice.{Kinds, next_run, IsFollowed, followed_by, begins_with_first}
 
 -- u is none of the words
@@ -18,57 +20,28 @@ word_eq-same [] = refl
 word_eq-same (Success ∷ w) = word_eq-same w
 word_eq-same (Failure ∷ w) = word_eq-same w
 
-word_eq-cons : (d : Outcome) (v w : Word) → word_eq (d ∷ v) (d ∷ w) ≡ word_eq v w
-word_eq-cons Success v w = refl
-word_eq-cons Failure v w = refl
+-- a word that comes before another is not that word
+word_eq-before : (u v : Word) → comes_before u v ≡ true → word_eq u v ≡ false
+word_eq-before [] [] h = absurd (false≢true h)
+word_eq-before [] (d ∷ v) h = refl
+word_eq-before (c ∷ u) [] h = refl
+word_eq-before (Success ∷ u) (Success ∷ v) h = word_eq-before u v h
+word_eq-before (Success ∷ u) (Failure ∷ v) h = refl
+word_eq-before (Failure ∷ u) (Success ∷ v) h = refl
+word_eq-before (Failure ∷ u) (Failure ∷ v) h = word_eq-before u v h
 
-Absent-map : (d : Outcome) (w : Word) (ws : List Word) → Absent w ws → Absent (d ∷ w) (map (λ v. d ∷ v) ws)
-Absent-map d w [] h = tt
-Absent-map d w (v ∷ ws) h = (word_eq-cons d w v ∙ h.0, Absent-map d w ws h.1)
+Before-Absent : (u : Word) (ws : List Word) → Before u ws → Absent u ws
+Before-Absent u [] h = tt
+Before-Absent u (v ∷ ws) h = (word_eq-before u v h.0, Before-Absent u ws h.1)
 
-Absent_failures : (w : Word) (ws : List Word) → Absent (Success ∷ w) (map (λ v. Failure ∷ v) ws)
-Absent_failures w [] = tt
-Absent_failures w (v ∷ ws) = (refl, Absent_failures w ws)
-
-Absent-append : (w : Word) (a b : List Word) → Absent w a → Absent w b → Absent w (a ++ b)
-Absent-append w [] b h k = k
-Absent-append w (v ∷ a) b h k = (h.0, Absent-append w a b h.1 k)
-
-empty_absent : (d : Outcome) (ws : List Word) → Absent [] (map (λ v. d ∷ v) ws)
-empty_absent d [] = tt
-empty_absent d (v ∷ ws) = (refl, empty_absent d ws)
-
-distinct-map : (d : Outcome) (ws : List Word) → AreDistinct ws → AreDistinct (map (λ v. d ∷ v) ws)
-distinct-map d [] h = tt
-distinct-map d (w ∷ ws) h = (Absent-map d w ws h.0, distinct-map d ws h.1)
-
-distinct_both : (a b : List Word) → AreDistinct a → AreDistinct b → AreDistinct (map (λ v. Success ∷ v) a ++ map (λ v. Failure ∷ v) b)
-distinct_both [] b h k = distinct-map Failure b k
-distinct_both (w ∷ a) b h k = (Absent-append (Success ∷ w) (map (λ v. Success ∷ v) a) (map (λ v. Failure ∷ v) b) (Absent-map Success w a h.0) (Absent_failures w b), distinct_both a b h.1 k)
-
-words_distinct : (n : ℕ) → AreDistinct (words n)
-words_distinct zero = (tt, tt)
-words_distinct (suc n) = (Absent-append [] (map (λ v. Success ∷ v) (words n)) (map (λ v. Failure ∷ v) (words n)) (empty_absent Success (words n)) (empty_absent Failure (words n)), distinct_both (words n) (words n) (words_distinct n) (words_distinct n))
-
-Absent-cond : (w v : Word) (b : Bool) (ws : List Word) → word_eq w v ≡ false → Absent w ws → Absent w (cond b (v ∷ ws) ws)
-Absent-cond w v true ws h k = (h, k)
-Absent-cond w v false ws h k = k
-
-Absent-filter : (p : Word → Bool) (w : Word) (ws : List Word) → Absent w ws → Absent w (filter p ws)
-Absent-filter p w [] h = tt
-Absent-filter p w (v ∷ ws) h = Absent-cond w v (p v) (filter p ws) h.0 (Absent-filter p w ws h.1)
-
-distinct-cond : (w : Word) (b : Bool) (ws : List Word) → Absent w ws → AreDistinct ws → AreDistinct (cond b (w ∷ ws) ws)
-distinct-cond w true ws h k = (h, k)
-distinct-cond w false ws h k = k
-
-distinct-filter : (p : Word → Bool) (ws : List Word) → AreDistinct ws → AreDistinct (filter p ws)
-distinct-filter p [] h = tt
-distinct-filter p (w ∷ ws) h = distinct-cond w (p w) (filter p ws) (Absent-filter p w ws h.0) (distinct-filter p ws h.1)
+-- words in their order are distinct
+AreOrdered-AreDistinct : (ws : List Word) → AreOrdered ws → AreDistinct ws
+AreOrdered-AreDistinct [] h = tt
+AreOrdered-AreDistinct (w ∷ ws) h = (Before-Absent w ws h.0, AreOrdered-AreDistinct ws h.1)
 
 -- no run stands twice
 pub runs_distinct : (kind : Kinds) (n : ℕ) → AreDistinct (runs_within kind n)
-runs_distinct kind n = distinct-filter (λ w. is_run_kind (kind w)) (words n) (words_distinct n)
+runs_distinct kind n = AreOrdered-AreDistinct (runs_within kind n) (ordered-filter (λ w. is_run_kind (kind w)) (words n) (words_ordered n))
 
 pub Absent_at : (w u : Word) (a b : List Word) → Absent w (a ++ u ∷ b) → word_eq w u ≡ false
 Absent_at w u [] b h = h.0

@@ -10,15 +10,12 @@ use Rattle.std.specs.List.{list_any, flat_map}
 use Rattle.std.specs.Result.{result_ok}
 use Rattle.std.specs.Str.{bytes_eq}
 use Rattle.text.specs.Lines.{numbered_lines}
+use Rattle.std.proofs.Math.Bool.{or-false}
 use Rattle.rehearse.specs.Verdict.{Text}
 use Rattle.rehearse.specs.DeviceList.{Effect, Devices, Listing, effect_of, joint, joined, device_words, begins_comment, heading_of, listing_of, with_listing, after_words, after_line, listed_lines}
 use Rattle.rehearse.specs.DeviceLaws.{line_listing, with_line, listings, lines_of, whole_effect, LinesAreJoined}
 use Rattle.rehearse.specs.declared.devices_error.DevicesError.{DevicesError}
 use Rattle.rehearse.specs.declared.devices_error.DevicesError.TheVariants.{BadLine}
-
-or-false : (b : Bool) → (b || false) ≡ b
-or-false true = refl
-or-false false = refl
 
 -- one effect more, behind those before
 abbrev with_effect : Option Effect → Effect → Option Effect
@@ -75,7 +72,8 @@ IsWhole-joined devices before one h name =
           ∙ sym (ap whole_effect (cut ∙ (ap (λ l. lines_of name before ++ l) none ∙ append-nil (lines_of name before)))))
     ]
 
-ok-same : {x y : Devices} → (let r : Result Devices DevicesError = Ok x in r) ≡ Ok y → x ≡ y
+-- what is accepted is one value
+pub ok-same : {T : Type 0} {x y : T} → (let r : Result T DevicesError = Ok x in r) ≡ Ok y → x ≡ y
 ok-same e = cc
 
 IsWhole-kept : (devices next : Devices) (before : List Listing) → devices ≡ next → IsWhole devices before → IsWhole next (before ++ [])

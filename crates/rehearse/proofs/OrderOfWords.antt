@@ -4,12 +4,12 @@ use Rattle.rehearse.specs.Outcomes.{Word, Outcome, Success, Failure, words, come
 use Rattle.rehearse.specs.Runs.{Task, kind, runs}
 
 -- u comes before all of these words
-abbrev Before : Word → List Word → Type 0
+abbrev pub Before : Word → List Word → Type 0
 Before u [] = Unit {0}
 Before u (v ∷ vs) = (comes_before u v ≡ true) × Before u vs
 
 -- each comes before those behind it
-abbrev AreOrdered : List Word → Type 0
+abbrev pub AreOrdered : List Word → Type 0
 AreOrdered [] = Unit {0}
 AreOrdered (w ∷ ws) = Before w ws × AreOrdered ws
 
@@ -41,7 +41,7 @@ ordered_both : (a b : List Word) → AreOrdered a → AreOrdered b → AreOrdere
 ordered_both [] b h k = ordered-map Failure b k
 ordered_both (w ∷ a) b h k = (Before-append (Success ∷ w) (map (λ v. Success ∷ v) a) (map (λ v. Failure ∷ v) b) (Before-map Success w a h.0) (Before_failures w b), ordered_both a b h.1 k)
 
-words_ordered : (n : ℕ) → AreOrdered (words n)
+pub words_ordered : (n : ℕ) → AreOrdered (words n)
 words_ordered zero = (tt, tt)
 words_ordered (suc n) = (Before-append [] (map (λ v. Success ∷ v) (words n)) (map (λ v. Failure ∷ v) (words n)) (empty_before Success (words n)) (empty_before Failure (words n)), ordered_both (words n) (words n) (words_ordered n) (words_ordered n))
 
@@ -57,7 +57,7 @@ ordered-cond : (w : Word) (b : Bool) (ws : List Word) → Before w ws → AreOrd
 ordered-cond w true ws h k = (h, k)
 ordered-cond w false ws h k = k
 
-ordered-filter : (p : Word → Bool) (ws : List Word) → AreOrdered ws → AreOrdered (filter p ws)
+pub ordered-filter : (p : Word → Bool) (ws : List Word) → AreOrdered ws → AreOrdered (filter p ws)
 ordered-filter p [] h = tt
 ordered-filter p (w ∷ ws) h = ordered-cond w (p w) (filter p ws) (Before-filter p w ws h.0) (ordered-filter p ws h.1)
 

@@ -1,6 +1,6 @@
 -- Device lists in their plain form.
 use Rattle.std.proofs.Common.{◌≡◌, ℕ, zero, suc, ◌||◌, not, Bool, true, false, cond, eqb, List, [], ◌∷◌, ◌++◌, map, length, filter, Result, Ok, Err, refl, sym, ap, ◌∙◌, inl, inr, eqb-true, arith}
-use Rattle.std.proofs.lemmas.Bool.{cases_Bool, false≢true}
+use Rattle.std.proofs.lemmas.Bool.{cases_Bool, or_parts}
 use Rattle.std.proofs.lemmas.Bool.Decides.{eqb_tells}
 use Rattle.std.proofs.lemmas.List.Splits.{slice_split-cons_no}
 use Rattle.std.specs.List.{list_any, slice_split, onto_first}
@@ -14,6 +14,7 @@ use Rattle.rehearse.specs.DeviceLaws.{quiet}
 use Rattle.rehearse.specs.PlainList.{with_name, plain_line, plain_lines, PlainListsStand}
 use Rattle.rehearse.specs.declared.devices_error.DevicesError.{DevicesError}
 use Rattle.rehearse.specs.declared.devices_error.DevicesError.TheVariants.{BadLine, BuiltIn}
+use Rattle.rehearse.proofs.JoinedLines.{ok-same}
 
 -- the commands of a list that says nothing but names
 abbrev quiet_names : List Text → Devices
@@ -68,21 +69,17 @@ trimmed-nul line = cut_behind-nul (cut_front is_blank line) ∙ cut_front-nul li
 
 -- ---- the words of a line
 
-neither : (a b : Bool) → (a || b) ≡ false → (a ≡ false) × (b ≡ false)
-neither true b e = absurd (false≢true (sym e))
-neither false b e = (refl, e)
-
 one_word : (line : Text) → list_any is_space line ≡ false → slice_split is_space line ≡ line ∷ []
 one_word [] e = refl
 one_word (b ∷ line) e =
-    let both = neither (is_space b) (list_any is_space line) e in
+    let both = or_parts (is_space b) (list_any is_space line) e in
     slice_split-cons_no is_space b line both.0 ∙ ap (onto_first b) (one_word line both.1)
 
 no_gap : (line : Text) → list_any (λ c. is_space c || eqb c 0) line ≡ false → (list_any is_space line ≡ false) × (holds_nul line ≡ false)
 no_gap [] e = (refl, refl)
 no_gap (b ∷ line) e =
-    let both = neither (is_space b || eqb b 0) (list_any (λ c. is_space c || eqb c 0) line) e in
-    let here = neither (is_space b) (eqb b 0) both.0 in
+    let both = or_parts (is_space b || eqb b 0) (list_any (λ c. is_space c || eqb c 0) line) e in
+    let here = or_parts (is_space b) (eqb b 0) both.0 in
     let rest = no_gap line both.1 in
     (rw (here.0, rest.0) refl, rw (here.1, rest.1) refl)
 
@@ -96,9 +93,6 @@ abbrev words_in : Text → List Text
 words_in word = full (slice_split is_space word)
 
 -- ---- one line more
-
-ok-same : {x y : List Text} → (let r : Result (List Text) DevicesError = Ok x in r) ≡ Ok y → x ≡ y
-ok-same e = cc
 
 abbrev accepted : List Text → Result Devices DevicesError
 accepted names = Ok (quiet_names names)

@@ -1,8 +1,8 @@
 -- Lists of names alone.
-use Rattle.std.proofs.Common.{◌≡◌, ℕ, ◌≤◌, ◌&&◌, Bool, true, false, cond, eqb, nat_le, List, [], ◌∷◌, length, Some, Result, Ok, Err, refl, sym, ap, subst, ◌∙◌, arith}
+use Rattle.std.proofs.Common.{◌≡◌, ℕ, ◌≤◌, Bool, true, false, cond, eqb, nat_le, List, [], ◌∷◌, length, Some, Result, Ok, Err, refl, sym, ap, subst, ◌∙◌, arith}
 use Rattle.std.specs.List.{list_any, list_all, AllByRecursion}
 use Rattle.std.specs.Str.{bytes_eq}
-use Rattle.std.proofs.lemmas.Bool.{false≢true}
+use Rattle.std.proofs.lemmas.Bool.{and_parts}
 use Rattle.std.proofs.lemmas.Bool.Decides.{nat_tests}
 use Rattle.text.specs.Lines.{numbered_lines}
 use Rattle.rehearse.specs.Verdict.{Text}
@@ -11,12 +11,10 @@ use Rattle.rehearse.specs.DeviceList.{Effect, Devices, effect_of, joint, joined,
 use Rattle.rehearse.specs.DeviceLaws.{quiet, is_name_alone, NamesAreQuiet}
 use Rattle.rehearse.specs.declared.devices_error.DevicesError.{DevicesError}
 use Rattle.rehearse.specs.declared.devices_error.DevicesError.TheVariants.{BadLine, BuiltIn}
+use Rattle.rehearse.proofs.JoinedLines.{ok-same}
 
 abbrev AreQuiet : Devices → Type 0
 AreQuiet = AllByRecursion (λ d. d.1 ≡ quiet)
-
-ok-same : {x y : Devices} → (let r : Result Devices DevicesError = Ok x in r) ≡ Ok y → x ≡ y
-ok-same e = cc
 
 joined-quiet : (devices : Devices) (name : Text) → AreQuiet devices → AreQuiet (joined devices (name, quiet))
 joined-quiet [] name all = (refl, tt)
@@ -47,14 +45,10 @@ words-quiet devices next number line (first ∷ []) short e all =
 words-quiet devices next number line (first ∷ second ∷ words) short e all =
     let few : length (first ∷ second ∷ words) ≤ 1 = grind (arith, nat_tests) in absurd (omega (arith, few))
 
-first-true : (a b : Bool) → (a && b) ≡ true → (a ≡ true) × (b ≡ true)
-first-true true b e = (refl, e)
-first-true false b e = absurd (false≢true e)
-
 lines-quiet : (lines : List (ℕ × Text)) (devices done : Devices) → list_all (λ l. is_name_alone l.1) lines ≡ true → listed_lines devices lines ≡ Ok done → AreQuiet devices → AreQuiet done
 lines-quiet [] devices done short e all = subst AreQuiet (ok-same e) all
 lines-quiet (l ∷ lines) devices done short e all =
-    let both = first-true (is_name_alone l.1) (list_all (λ l. is_name_alone l.1) lines) short in
+    let both = and_parts (is_name_alone l.1) (list_all (λ l. is_name_alone l.1) lines) short in
     by (after_line devices l.0 l.1) refl e (λ next. lines-quiet lines next done both.1) both.0
   where
     by : (r : Result Devices DevicesError) → after_line devices l.0 l.1 ≡ r → ◌≡◌ {A = Result Devices DevicesError} (elim r [ Ok next ↦ listed_lines next lines | Err fault ↦ Err fault ]) (Ok done)

@@ -176,10 +176,6 @@ past-record w s e names word point at ls =
     let four : point_in (Some (spelled w)) point (here + bytes_of inner) (last_line e ∷ ls) ≡ point_in (Some (spelled w)) (Some (record { word = spelled w; length_before = here + bytes_of inner + suc (length (last_line e)) })) (here + bytes_of inner + suc (length (last_line e))) ls = rw (l, point_in) refl in
     one ∙ two ∙ three ∙ four
 
-glyph-line : (d : ℕ) (b : Bool) → nat_eq (cond b (48 + d) (87 + d)) 10 ≡ false
-glyph-line d true = ne_eqb (48 + d) 10 (λ e. omega arith)
-glyph-line d false = ne_eqb (87 + d) 10 (λ e. omega arith)
-
 choice-line : (b : Bool) (x y : Text) → IsOneLine x → IsOneLine y → IsOneLine (cond b x y)
 choice-line true x y h k = h
 choice-line false x y h k = k
@@ -187,7 +183,7 @@ choice-line false x y h k = k
 digits_onto-line : (k n : ℕ) (acc : Text) → IsOneLine acc → IsOneLine (digits_onto k 10 false n acc)
 digits_onto-line zero n acc h = h
 digits_onto-line (suc k) n acc h =
-    let digit = glyph-line (n % 10) (nat_lt (n % 10) 10) in
+    let digit = hex-line (n % 10) (nat_lt (n % 10) 10) in
     choice-line (nat_eq (n / 10) 0) (digit_glyph false (n % 10) ∷ acc) (digits_onto k 10 false (n / 10) (digit_glyph false (n % 10) ∷ acc)) (digit, h) (digits_onto-line k (n / 10) (digit_glyph false (n % 10) ∷ acc) (digit, h))
 
 decimal-line : (n : ℕ) → IsOneLine (decimal n)

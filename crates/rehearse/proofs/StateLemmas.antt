@@ -1,5 +1,5 @@
 -- Variables as lists in byte order of the names are the entries of a store's map.
-use Rattle.std.proofs.Common.{◌≡◌, Bool, true, false, not, cond, T, [], ◌∷◌, Option, None, refl, sym, ap, ◌∙◌, length, arith}
+use Rattle.std.proofs.Common.{◌≡◌, Bool, true, false, not, cond, T, [], Option, None, refl, sym, ap, ◌∙◌}
 use Rattle.std.specs.FinMap as finite
 use Rattle.std.specs.FinMap.{IsAntisymmetric, nat_cmp-IsAntisymmetric, slice_cmp-IsAntisymmetric, get-entries, get-remove, get-from_sorted, from_sorted, same_map, entries, entries_sorted, entries-insert, entries-from_sorted, len-entries, len-empty, find}
 use Rattle.std.specs.FinMap.Entries.{find-where_key, is_sorted-where_key}
@@ -9,6 +9,7 @@ use Rattle.std.specs.Ordering.{nat_cmp, eq_by_cmp}
 use Rattle.std.specs.Cmp.{eq_by_cmp_equiv}
 use Rattle.std.proofs.lemmas.Cmp.{nat_list_cmp_total}
 use Rattle.std.specs.Cmp.Lexicographic.{slice_cmp}
+use Rattle.std.proofs.lemmas.List.{nil_from_length}
 use Rattle.bootstore.specs.Moment as stored
 use Rattle.rehearse.specs.State.{Text, Variables, without}
 use Rattle.rehearse.specs.Laws.{StoredValues, StoredChanges, StoredDeletions, StoredStarts}
@@ -58,12 +59,8 @@ module _ (variables : stored.Variables) (name : Text) where
 pub stored_deletions : StoredDeletions
 stored_deletions = left_entries
 
-no_length : (es : Variables) → length es ≡ 0 → es ≡ []
-no_length [] e = refl
-no_length (x ∷ es) e = absurd (omega arith)
-
 no_entries : entries (finite.empty {X = Text} {R = by_bytes}) ≡ []
-no_entries = no_length (entries finite.empty) (sym (len-entries finite.empty) ∙ len-empty by_bytes Text)
+no_entries = nil_from_length (entries finite.empty) (sym (len-entries finite.empty) ∙ len-empty by_bytes Text)
 
 pub stored_starts : StoredStarts
 stored_starts environment word = ap (λ (locals : Variables). record { memory = record { environment = entries environment; locals = locals; status = 0; text = [] }; log = []; steps = 0; word = word }) no_entries

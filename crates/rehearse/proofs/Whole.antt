@@ -1,7 +1,8 @@
 -- The whole records at the front of a listing.
-use Rattle.std.proofs.Common.{ℕ, zero, suc, Bool, true, false, List, [], ◌∷◌, ◌++◌, map, length, take, drop, None, refl, sym, ap, subst, ◌∙◌, ◌≡◌, ◌≢◌, ◌⊎◌, inl, inr, ◌↔◌, ◌≤◌, append_assoc, arith, ◌+◌, flat_map, take-append-drop, nat_eq, codes, eq-eqb, ◌&&◌, drop_at, eqb-true}
+use Rattle.std.proofs.Common.{ℕ, zero, suc, Bool, true, false, List, [], ◌∷◌, ◌++◌, map, length, take, drop, None, refl, sym, ap, subst, ◌∙◌, ◌≡◌, ◌≢◌, ◌⊎◌, inl, inr, ◌↔◌, ◌≤◌, append_assoc, arith, ◌+◌, flat_map, take-append-drop, nat_eq, codes, eq-eqb, drop_at, eqb-true}
 use Rattle.std.proofs.lemmas.List.Concat.{flat_map-append}
 use Rattle.std.specs.List.{starts_with}
+use Rattle.std.proofs.lemmas.Bool.{and_parts, and_from, and_right}
 use Rattle.rehearse.specs.Outcomes.{Word}
 use Rattle.rehearse.specs.State.{Text}
 use Rattle.rehearse.specs.Listing.{listing, line}
@@ -16,12 +17,9 @@ resumes written ws p =
     let g : flat_map written (take k ws) ++ flat_map written (drop k ws) ≡ flat_map written ws = sym b ∙ c in
     sym (append_assoc (flat_map written (take k ws)) (flat_map written (drop k ws)) (line (codes "done"))) ∙ ap (λ (x : Text). x ++ line (codes "done")) g
 
-both_true : (a b : Bool) → a ≡ true → b ≡ true → (a && b) ≡ true
-both_true a b e f = rw (e, f) refl
-
 begins_same : (r x : Text) → starts_with nat_eq (r ++ x) r ≡ true
 begins_same [] x = refl
-begins_same (b ∷ r) x = both_true (nat_eq b b) (starts_with nat_eq (r ++ x) r) (eq-eqb b b refl) (begins_same r x)
+begins_same (b ∷ r) x = and_from (nat_eq b b) (starts_with nat_eq (r ++ x) r) (eq-eqb b b refl) (begins_same r x)
 
 whole_one : (r : Text) (rs : List Text) (x : Text) → whole (r ∷ rs) (r ++ x) ≡ suc (whole rs x)
 whole_one r rs x = let e = begins_same r x in let d = drop_at r x (length r) refl in rw (whole, e, d) refl
@@ -35,19 +33,11 @@ whole-records (r ∷ rs) more q =
     let ih = whole-records rs more q in
     one ∙ two ∙ (omega arith)
 
-and_false : (a b : Bool) → b ≡ false → (a && b) ≡ false
-and_false true b e = e
-and_false false b e = refl
-
-and_both : (a b : Bool) → (a && b) ≡ true → (a ≡ true) × (b ≡ true)
-and_both true b e = (refl, e)
-and_both false b e = absurd (let f = e in cc)
-
 -- a text does not begin with a longer one
 too_short : (p r : Text) → r ≢ [] → starts_with nat_eq p (p ++ r) ≡ false
 too_short [] [] ne = absurd (ne refl)
 too_short [] (b ∷ r) ne = refl
-too_short (b ∷ p) r ne = and_false (nat_eq b b) (starts_with nat_eq p (p ++ r)) (too_short p r ne)
+too_short (b ∷ p) r ne = and_right (nat_eq b b) (starts_with nat_eq p (p ++ r)) (too_short p r ne)
 
 whole_none : (p r : Text) (rs : List Text) → r ≢ [] → whole ((p ++ r) ∷ rs) p ≡ 0
 whole_none p r rs ne = let e = too_short p r ne in rw (whole, e) refl
@@ -104,7 +94,7 @@ greater (r ∷ records) p (suc k) l h =
 begins_as : (p r : Text) → starts_with nat_eq p r ≡ true → p ≡ r ++ drop (length r) p
 begins_as p [] e = refl
 begins_as [] (b ∷ r) e = absurd (let f = e in cc)
-begins_as (c ∷ p) (b ∷ r) e = let h = and_both (nat_eq b c) (starts_with nat_eq p r) e in ap (λ (t : Text). c ∷ t) (begins_as p r h.1) ∙ ap (λ (z : ℕ). z ∷ r ++ drop (length r) p) (sym (eqb-true b c h.0))
+begins_as (c ∷ p) (b ∷ r) e = let h = and_parts (nat_eq b c) (starts_with nat_eq p r) e in ap (λ (t : Text). c ∷ t) (begins_as p r h.1) ∙ ap (λ (z : ℕ). z ∷ r ++ drop (length r) p) (sym (eqb-true b c h.0))
 
 smaller_at : (b : Bool) (r : Text) (records : List Text) (p : Text) (k : ℕ) → starts_with nat_eq p r ≡ b → suc k ≤ elim b [ true ↦ suc (whole records (drop (length r) p)) | false ↦ 0 ] → ((q : Text) → k ≤ whole records q → (part : Text) × (q ≡ flat_map (λ r. r) (take k records) ++ part)) → (part : Text) × (p ≡ (r ++ flat_map (λ r. r) (take k records)) ++ part)
 smaller_at true r records p k e l ih =

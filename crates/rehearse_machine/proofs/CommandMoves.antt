@@ -19,8 +19,9 @@ use Rattle.rehearse.specs.DeviceList.{Effect}
 use Rattle.rehearse.proofs.StateLemmas.{stored_changes, stored_deletions}
 use Rattle.rehearse_machine.specs.declared.ask.Step.{Step}
 use Rattle.rehearse_machine.specs.declared.ask.Step.TheVariants as steps
-use Rattle.rehearse_machine.specs.Places.{PlaceNext, GoOn, place_ask, place_called, place_fields}
+use Rattle.rehearse_machine.specs.Places.{GoOn, place_ask, place_called, place_fields}
 use Rattle.rehearse_machine.specs.Seen.{next_seen, Does, Comes, Changes, Changed}
+use Rattle.rehearse_machine.proofs.Beginnings.{chosen}
 
 -- ---- numbers
 
@@ -110,16 +111,12 @@ module _ (setting : Setting) (old new : Record) (name : Text) (words : List Text
   abbrev Asked : Step → Effect → Type 0
   Asked step effect = (w : Word) → next_seen step old.present w ≡ place_ask setting (request effect) old.present.frames (state_at old.present w)
 
-  taken : (b : Bool) (x y : PlaceNext) → b ≡ true → x ≡ elim b [ true ↦ x | false ↦ y ]
-  taken true x y e = refl
-  taken false x y e = absurd (let f = e in cc)
-
   pub device_does : (step : Step) (b : Called) (effect : Effect) → b ≡ Device effect → Asked step effect → Does step old old (place_called setting b name words script old.present.frames)
   device_does step b effect e h = (λ w. h w ∙ sym (ap (λ (x : Called). place_called setting x name words script frames (state_at old.present w)) e), record { marked = refl; begun = omega arith })
 
   pub test_does : (step : Step) (b : Called) → b ≡ BuiltIn Test → asks_device words ≡ true → Asked step no_effect → Does step old old (place_called setting b name words script old.present.frames)
   test_does step b e d h = (
-    λ w. h w ∙ taken (asks_device words) (place_ask setting (request no_effect) frames (state_at old.present w)) (GoOn frames (set_status (status_when (verdict words)) (state_at old.present w))) d
+    λ w. h w ∙ chosen (asks_device words) (place_ask setting (request no_effect) frames (state_at old.present w)) (GoOn frames (set_status (status_when (verdict words)) (state_at old.present w))) d
         ∙ sym (ap (λ (x : Called). place_called setting x name words script frames (state_at old.present w)) e),
     record { marked = refl; begun = omega arith },
   )

@@ -24,7 +24,7 @@ use Rattle.rehearse_machine.specs.Variables.{setting_at}
 use Rattle.rehearse_machine.specs.Seen.{Does}
 use Rattle.rehearse_machine.proofs.CommandLemmas.{says_if, says_loop, says_assign, says_for, Kind, AsSimple, AsAssign, AsIf, AsLoop, AsFor, kind_of}
 use Rattle.rehearse_machine.proofs.Settings.{same_setting}
-use Rattle.rehearse_machine.proofs.PartLemmas.{back}
+use Rattle.rehearse_machine.proofs.ListLemmas.{back}
 use Rattle.rehearse_machine.proofs.Beginnings.{chosen, passed}
 
 -- ---- the command in front of a place

@@ -1,5 +1,5 @@
 -- Lists of the program's tree, by what they say.
-use Rattle.std.proofs.Common.{ℕ, zero, suc, ◌-◌, Bool, true, false, List, [], ◌∷◌, map, length, get_or, Option, Some, None, refl, sym, ap, ◌∙◌, ◌≡◌, ◌<◌, ◌≤◌, arith}
+use Rattle.std.proofs.Common.{ℕ, zero, suc, ◌-◌, true, false, List, [], ◌∷◌, map, length, get_or, Option, Some, None, refl, sym, ap, ◌∙◌, ◌≡◌, ◌<◌, ◌≤◌, arith}
 use Rattle.std.specs.Prelude.{slice_get}
 use Rattle.std.proofs.lemmas.Option.{slice_get_read, slice_get_past}
 use Rattle.hushlang.specs.declared.tree.Op.{Op}
@@ -13,7 +13,8 @@ use Rattle.bootstore.specs.declared.frame.At.{At}
 use Rattle.bootstore.specs.Moment.{RunningFrame}
 use Rattle.rehearse.specs.State.{State}
 use Rattle.rehearse.specs.Execution.{Setting, goes}
-use Rattle.rehearse_machine.specs.Places.{PlaceNext, GoOn, joined_at, place, moved_to, behind, place_command, place_joined, place_begins}
+use Rattle.rehearse_machine.specs.Places.{GoOn, joined_at, place, moved_to, behind, place_command, place_joined, place_begins}
+use Rattle.rehearse_machine.proofs.Beginnings.{chosen, passed}
 
 abbrev pub Join : Type 0
 Join = Op × CommandCode
@@ -28,6 +29,11 @@ join_none [] j e = refl
 join_none (x ∷ xs) zero e = absurd (let f = e in cc)
 join_none (x ∷ xs) (suc j) e = join_none xs j e
 
+-- a place that is not the first, counted from the one before it
+pub back : (n : ℕ) → (n ≡ 0 → ⊥) → n ≡ suc (n - 1)
+back zero h = absurd (h refl)
+back (suc n) h = omega arith
+
 module _ (setting : Setting) (l : ListCode) (n : ℕ) (f : RunningFrame) (fs : List RunningFrame) (s : State) where
   says : view.list l ≡ tree.Starts (view.command l.first) (view.joins (map view.joined l.rest.items))
   says = list_of l.first l.rest
@@ -38,26 +44,11 @@ module _ (setting : Setting) (l : ListCode) (n : ℕ) (f : RunningFrame) (fs : L
   later : (m j : ℕ) → m ≡ suc j → place_begins setting (view.list l) m f fs s ≡ place_joined setting (joined_at (view.joins (map view.joined l.rest.items)) j) f fs s
   later m j e = ap (λ (k : ℕ). place_begins setting (view.list l) k f fs s) e ∙ ap (λ (x : AndOr). place_begins setting x (suc j) f fs s) says
 
-  back : (n ≡ 0 → ⊥) → n ≡ suc (n - 1)
-  back h = by n h
-    where
-      by : (m : ℕ) → (m ≡ 0 → ⊥) → m ≡ suc (m - 1)
-      by zero g = absurd (g refl)
-      by (suc m) g = omega arith
-
-  goes_on : (b : Bool) (x y : PlaceNext) → b ≡ true → x ≡ elim b [ true ↦ x | false ↦ y ]
-  goes_on true x y e = refl
-  goes_on false x y e = absurd (let g = e in cc)
-
-  stays : (b : Bool) (x y : PlaceNext) → b ≡ false → y ≡ elim b [ true ↦ x | false ↦ y ]
-  stays true x y e = absurd (let g = e in cc)
-  stays false x y e = refl
-
   -- what is joined, where the items are known by another name
   module _ (items : List Join) (same : items ≡ l.rest.items) (h : n ≡ 0 → ⊥) where
     joined_on : (o : Option (Op × Command)) → joined_at (view.joins (map view.joined items)) (n - 1) ≡ o → place_joined setting o f fs s ≡ place_begins setting (view.list l) n f fs s
     joined_on o e =
-        sym (later n (n - 1) (back h) ∙ ap (λ (x : List Join). place_joined setting (joined_at (view.joins (map view.joined x)) (n - 1)) f fs s) (sym same)
+        sym (later n (n - 1) (back n h) ∙ ap (λ (x : List Join). place_joined setting (joined_at (view.joins (map view.joined x)) (n - 1)) f fs s) (sym same)
         ∙ ap (λ (x : Option (Op × Command)). place_joined setting x f fs s) e)
 
     pub list_ends : (at : At) → length items ≤ n - 1 → at ≡ place (suc f.place.list) 0 0 0 → GoOn (moved_to at f ∷ fs) s ≡ place_begins setting (view.list l) n f fs s
@@ -68,10 +59,10 @@ module _ (setting : Setting) (l : ListCode) (n : ℕ) (f : RunningFrame) (fs : L
       found = joined_on (Some (p.0, view.command p.1)) (join_some items (n - 1) p (slice_get_read items (length items) (n - 1) p refl k e))
 
       pub join_begins : goes p.0 s.memory.status ≡ true → place_command setting (view.command p.1) f fs s ≡ place_begins setting (view.list l) n f fs s
-      join_begins t = goes_on (goes p.0 s.memory.status) (place_command setting (view.command p.1) f fs s) (GoOn (behind f ∷ fs) s) t ∙ found
+      join_begins t = chosen (goes p.0 s.memory.status) (place_command setting (view.command p.1) f fs s) (GoOn (behind f ∷ fs) s) t ∙ found
 
       pub join_skipped : (at : At) → goes p.0 s.memory.status ≡ false → at ≡ place f.place.list (suc f.place.command) 0 0 → GoOn (moved_to at f ∷ fs) s ≡ place_begins setting (view.list l) n f fs s
       join_skipped at t q =
           ap (λ (x : At). GoOn (moved_to x f ∷ fs) s) q
-          ∙ stays (goes p.0 s.memory.status) (place_command setting (view.command p.1) f fs s) (GoOn (behind f ∷ fs) s) t
+          ∙ passed (goes p.0 s.memory.status) (place_command setting (view.command p.1) f fs s) (GoOn (behind f ∷ fs) s) t
           ∙ found

@@ -1,5 +1,5 @@
 -- Parts of the program's scripts by their numbers.
-use Rattle.std.proofs.Common.{ℕ, zero, suc, ◌-◌, Bool, List, [], ◌∷◌, map, length, get_or, Option, Some, None, refl, sym, ap, ◌∙◌, ◌≡◌, ◌<◌, ◌≤◌, arith}
+use Rattle.std.proofs.Common.{ℕ, zero, suc, ◌-◌, Bool, List, [], ◌∷◌, map, length, get_or, Option, Some, None, refl, sym, ap, ◌∙◌, ◌≡◌, ◌<◌, ◌≤◌}
 use Rattle.std.specs.Prelude.{Vec, slice_get}
 use Rattle.std.proofs.lemmas.Option.{slice_get_read, slice_get_past}
 use Rattle.std.specs.declared.alloc.Global.{Global}
@@ -7,11 +7,11 @@ use Rattle.std.specs.declared.rc.Rc.{Rc}
 use Rattle.hushlang.specs.declared.tree.Word.{Word}
 use Rattle.hushlang.specs.declared.tree.AndOr.{AndOr as ListCode}
 use Rattle.hushlang.specs.declared.tree.Command.{Command as CommandCode, Simple, Assign, If, Loop, For}
-use Rattle.hushlang.specs.declared.tree.Script.{Script as Code, out-Script, fold_out-Script}
+use Rattle.hushlang.specs.declared.tree.Script.{Script as Code, out-Script}
 use Rattle.hushlang.specs.Tree as tree
 use Rattle.hushlang.specs.Tree.{Script, AndOr, Command}
 use Rattle.hushlang.specs.View as view
-use Rattle.hushlang.proofs.ViewLemmas.{list_of}
+use Rattle.hushlang.proofs.ViewLemmas.{script_out, list_of}
 use Rattle.bootstore.specs.declared.frame.At.{At}
 use Rattle.bootstore.specs.Moment.{RunningFrame}
 use Rattle.rehearse.specs.State.{Text, State}
@@ -19,11 +19,7 @@ use Rattle.rehearse.specs.Execution.{Setting}
 use Rattle.rehearse_machine.specs.Places.{GoOn, list_at, command_in, command_at, second, place_begins, place_turn, place_list, phase_move, for_turn, for_move}
 use Rattle.rehearse_machine.proofs.ArmLemmas.{Arm}
 use Rattle.rehearse_machine.proofs.CommandLemmas.{says_if, says_loop, says_simple, says_assign, says_for, Kind, AsSimple, AsAssign, AsIf, AsLoop, AsFor, kind_of}
-use Rattle.rehearse_machine.proofs.ListLemmas.{Join, join_some, join_none}
-
-pub script_out : (s : Code) → view.script s ≡ view.runs (map view.list (out-Script s).lists.items)
-unfolding view.script view.list
-script_out s = fold_out-Script Command AndOr Script view.command_level view.list_level view.script_level s
+use Rattle.rehearse_machine.proofs.ListLemmas.{Join, back, join_some, join_none}
 
 list_some : (items : List ListCode) (i : ℕ) (l : ListCode) → slice_get items i ≡ Some l → list_at (view.runs (map view.list items)) i ≡ Some (view.list l)
 list_some [] i l e = absurd (let f = e in cc)
@@ -46,10 +42,6 @@ module _ (s : Code) (items : List ListCode) (at : At) (f : RunningFrame) (says :
 
   pub list_missing : length items ≤ at.list → list_at f.script f.place.list ≡ None
   list_missing past = lists ∙ list_none items at.list (slice_get_past items at.list past)
-
-pub back : (n : ℕ) → (n ≡ 0 → ⊥) → n ≡ suc (n - 1)
-back zero h = absurd (h refl)
-back (suc n) h = omega arith
 
 module _ (l : ListCode) (n : ℕ) where
   opened : command_in (view.list l) n ≡ command_in (tree.Starts (view.command l.first) (view.joins (map view.joined l.rest.items))) n

@@ -20,6 +20,7 @@ use Rattle.rehearse.specs.Commands.{Called, BuiltIn, NoCommand, Device, called_b
 use Rattle.rehearse.specs.Execution.{Setting, End, CutDevices, CutSteps, Size, set_status, set_local, status_when, goes, holds, Request, no_effect, logged, set_environment}
 use Rattle.rehearse_machine.specs.Frames.{Frame, Lists, Linked, IfCondition, LoopCondition, LoopBody, ForBody, Next, Go, Ask, Stop, leave, boot_next, answered, begin_assign, begin_for, begin_arms, begun_text, begin_tree, begin_text, begin_names, begin_exit, fitting, ask, begin_called, begin_fields, counted, begin_command, move}
 use Rattle.rehearse_machine.specs.Places.{list_at, drop_lists, joined_at, drop_joined, second, command_in, command_at, drop_arms, place, from_command, condition_frame, phase, from_turn, script_frames, for_frame, run_frame, frames_by, frames_of, PlaceNext, GoOn, AskOn, StopOn, next_of, moved_to, behind, in_turn, text_frame, block_frame, is_run, to_run, left, place_exit, place_boot, place_answered, place_assign, place_tree, place_text, place_name, run_move, for_turn, for_move, for_begins, place_arms, condition_ends, phase_move, place_fitting, place_ask, place_called, place_fields, place_counted, place_command, place_joined, place_begins, place_turn, place_list, place_by, place_move}
+use Rattle.rehearse_machine.proofs.Beginnings.{chosen, passed}
 
 -- ---- parts by their numbers
 
@@ -139,14 +140,6 @@ leave-is : (fs : List RunningFrame) (s : State) → next_of (left (to_run fs) s)
 leave-is [] s = refl
 leave-is (f ∷ fs) s = leave_by f.kind f fs s refl (leave-is fs s)
 
-chosen : (b : Bool) (x y : PlaceNext) → b ≡ true → next_of (elim b [ true ↦ x | false ↦ y ]) ≡ next_of x
-chosen true x y e = refl
-chosen false x y e = absurd (let f = e in cc)
-
-passed : (b : Bool) (x y : PlaceNext) → b ≡ false → next_of (elim b [ true ↦ x | false ↦ y ]) ≡ next_of y
-passed true x y e = absurd (let f = e in cc)
-passed false x y e = refl
-
 exit-is : (o : Option ℕ) (ps : List RunningFrame) (s : State) → next_of (place_exit o ps s) ≡ begin_exit o (frames_of ps) s
 exit-is (Some status) ps s = leave-is ps (set_status status s)
 exit-is None ps s = refl
@@ -176,9 +169,9 @@ module _ (f : RunningFrame) (fs : List RunningFrame) (s : State) (k : f.kind ≡
   ended = elim (nat_eq s.memory.status 0) [ true ↦ named | false ↦ GoOn fs s ]
 
   run-turn-is : (setting : Setting) (turn : ℕ) → f.place.turn ≡ turn → next_of (run_move f fs s) ≡ move setting (run_frame turn f.words ∷ frames_of fs) s
-  run-turn-is setting zero e = chosen (nat_eq f.place.turn 0) named ended (ap (λ (x : ℕ). nat_eq x 0) e) ∙ (name-is (slice_get f.words f.place.turn) refl ∙ ap (λ (x : ℕ). begin_names (drop x f.words) (frames_of fs) s) e)
+  run-turn-is setting zero e = ap next_of (sym (chosen (nat_eq f.place.turn 0) named ended (ap (λ (x : ℕ). nat_eq x 0) e))) ∙ (name-is (slice_get f.words f.place.turn) refl ∙ ap (λ (x : ℕ). begin_names (drop x f.words) (frames_of fs) s) e)
   run-turn-is setting (suc j) e =
-      passed (nat_eq f.place.turn 0) named ended (ap (λ (x : ℕ). nat_eq x 0) e ∙ eqb-suc-zero j)
+      ap next_of (sym (passed (nat_eq f.place.turn 0) named ended (ap (λ (x : ℕ). nat_eq x 0) e ∙ eqb-suc-zero j)))
       ∙ if_next (nat_eq s.memory.status 0) named (GoOn fs s) (begin_names (drop (suc j) f.words) (frames_of fs) s) (Go (frames_of fs) s)
       (name-is (slice_get f.words f.place.turn) refl ∙ ap (λ (x : ℕ). begin_names (drop x f.words) (frames_of fs) s) e) refl
 

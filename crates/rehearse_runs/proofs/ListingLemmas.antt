@@ -14,9 +14,9 @@ use Rattle.rehearse.specs.Listing.{digit_of, record_text, record_of, shown, clos
 use Rattle.rehearse_runs.specs.Recording.{recorded, printed}
 use Rattle.rehearse_runs.specs.RunsShown.{RunsShown, last_given, has_words}
 use Rattle.rehearse_runs.specs.Viewed.{seen_word, seen_moment, seen_ending}
-use Rattle.std.proofs.Common.{Result, Ok, Err, ◌<◌, ◌≤◌, length-append}
+use Rattle.std.proofs.Common.{Result, Ok, Err, ◌≤◌, length-append}
 use Rattle.std.proofs.Math.Dec.{eqb-suc-zero}
-use Rattle.std.proofs.lemmas.Bool.Decides.{nat_tests}
+use Rattle.std.proofs.lemmas.Bool.{lt-leb, le-leb}
 use Rattle.rehearse_runs.specs.Giving.{ShowsRun, GivesWord, GivesNone, Gives}
 use Rattle.rehearse_runs.specs.Giving as giving
 use Rattle.rehearse_runs.specs.declared.run_error.RunError.{RunError}
@@ -167,12 +167,6 @@ BrokeOff-as a b xs ys e h = subst (λ (t : Text). BrokeOff a b t) e h
 
 -- ---- the line behind the records
 
-above : (a b : ℕ) → b < a → nat_le a b ≡ false
-above a b h = grind (arith, nat_tests)
-
-within : (a b : ℕ) → a ≤ b → nat_le a b ≡ true
-within a b h = grind (arith, nat_tests)
-
 abbrev closing_by : Bool → Text → Text
 closing_by b u = elim b [ true ↦ codes "done" | false ↦ codes "more " ++ u ]
 
@@ -211,7 +205,7 @@ at_limit (Some l) (Some (suc k)) ws (v ∷ vs) c over h = let e = over (eqb-suc-
 at_limit (Some l) (Some zero) ws (v ∷ vs) c over h =
     let all = ws ++ v ∷ vs in
     let s : take l all ≡ ws = take_past ws (v ∷ vs) l 0 c ∙ append-nil ws in
-    let b : nat_le (length all) l ≡ false = above (length all) l (let n = length-append ws (v ∷ vs) in omega arith) in
+    let b : nat_le (length all) l ≡ false = lt-leb (length all) l (let n = length-append ws (v ∷ vs) in omega arith) in
     record {
       shown_is = s;
       closing_is = ap (λ (t : Bool). closing_by t (spelled (last_of [] (take l all)))) b ∙ ap (λ (us : List Word). codes "more " ++ spelled (last_of [] us)) s;
@@ -226,7 +220,7 @@ at_end (Some l) None ws rest c e = absurd c
 at_end (Some l) (Some k) ws rest c e =
     let all = ws ++ rest in
     let n : length all ≡ length ws = ap length (ap (λ (vs : List Word). ws ++ vs) e ∙ append-nil ws) in
-    let b : nat_le (length all) l ≡ true = within (length all) l (omega arith) in
+    let b : nat_le (length all) l ≡ true = le-leb (length all) l (omega arith) in
     record {
       shown_is = take_past ws rest l k c ∙ ap (λ (vs : List Word). ws ++ vs) (take_none rest k e) ∙ append-nil ws;
       closing_is = ap (λ (t : Bool). closing_by t (spelled (last_of [] (take l all)))) b;

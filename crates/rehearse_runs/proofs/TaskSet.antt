@@ -6,6 +6,7 @@ use Rattle.std.specs.FinMap.{entries, get-insert, get-empty}
 use Rattle.std.specs.Ordering.{nat_cmp}
 use Rattle.std.specs.Cmp.Lexicographic.{slice_cmp, texts_ties}
 use Rattle.std.proofs.lemmas.Cmp.{nat_list_cmp_total}
+use Rattle.std.proofs.Math.Bool.{or-false}
 use Rattle.bootstore.specs.Moment as stored
 use Rattle.bootstore.specs.Moment.{set_in_turn, environment_of}
 use Rattle.envtools.specs.Environment.{value_of, same}
@@ -33,12 +34,8 @@ set_there m (p ∷ ps) name =
     ∙ ap (λ (b : Bool). is_there (value_of ps name) || is_there (cond b (Some p.1) (finite.get m name))) (sym (texts_ties name p.0))
     ∙ step (same name p.0) (value_of ps name) (finite.get m name) p.1
 
-none_more : (b : Bool) → (b || false) ≡ b
-none_more true = refl
-none_more false = refl
-
 stays_there : (env : List (Text × Text)) (name : Text) → is_there (get (entries (environment_of env)) name) ≡ is_there (value_of env name)
-stays_there env name = ap is_there (stored_values (environment_of env) name) ∙ set_there finite.empty env name ∙ ap (λ (o : Option Text). is_there (value_of env name) || is_there o) (get-empty (slice_cmp nat_cmp) name) ∙ none_more (is_there (value_of env name))
+stays_there env name = ap is_there (stored_values (environment_of env) name) ∙ set_there finite.empty env name ∙ ap (λ (o : Option Text). is_there (value_of env name) || is_there o) (get-empty (slice_cmp nat_cmp) name) ∙ or-false (is_there (value_of env name))
 
 made : (f : Text → Task) (value o : Option Text) → is_there o ≡ is_there value → IsSome value → option_map f o ≡ Some (f (unwrap_or o []))
 made f (Some v) (Some text) e h = refl

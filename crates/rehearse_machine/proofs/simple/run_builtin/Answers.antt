@@ -6,8 +6,6 @@ use Rattle.rehearse.specs.Commands as says
 use Rattle.rehearse_machine.specs.Seen.{setting_of}
 use Rattle.rehearse_machine.specs.Called.{builtin_called}
 use Rattle.rehearse_machine.proofs.CommandMoves.{setenv_does, echo_does, named_comes}
-use Rattle.rehearse_machine.specs.Places.{place_exit}
-use Rattle.rehearse_machine.proofs.Coming.{comes_as}
 use Rattle.rehearse_machine.proofs.simple.run_builtin.Goals as goal
 
 pub returns-in-SetEnv : goal.returns-in-SetEnv
