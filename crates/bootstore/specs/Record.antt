@@ -64,6 +64,10 @@ changed change r = record r { present = change r.present }
 abbrev pub started : Variables → Record → Record
 started environment r = record r { present = beginning environment; marked = [] }
 
+-- the most steps that a run may begin
+abbrev pub most_steps : ℕ
+most_steps = 1000000
+
 -- a step begins
 abbrev pub stepped : Record → Record
 stepped r = record { present = with_step r.present; marked = r.marked; begun = r.begun + 1 }

@@ -2,7 +2,7 @@
 ghost use Rattle.std.specs.Prelude.{◌≡◌, ◌+◌, ◌<◌, ◌^◌, OnOk, OnErr, Option, None, Some, option_map, slice_get, Bool};
 ghost use Rattle.std.specs.FinMap.{get, entries};
 ghost use Rattle.bootstore.specs.Moment.{Moment, environment_of, option_bytes};
-ghost use Rattle.bootstore.specs.Record.{Record, fresh, started, stepped, with_mark, gone_back, changed, with_environment, with_local, with_echo, with_device, with_status, with_frame, with_place, without_frame};
+ghost use Rattle.bootstore.specs.Record.{Record, fresh, most_steps, started, stepped, with_mark, gone_back, changed, with_environment, with_local, with_echo, with_device, with_status, with_frame, with_place, without_frame};
 
 use crate::frame::{At, Frame};
 use crate::log::LogEntry;
@@ -73,7 +73,7 @@ pub trait Store: Drop {
 
     /// A step begins: `steps` and `begun` grow by one. No other call changes `begun`.
     fn count_step(&mut self) -> Result<(), StoreError>
-        requires steps { (record_of self.old).present.steps < 1000000 }
+        requires steps { (record_of self.old).present.steps < most_steps }
         requires begun { (record_of self.old).begun + 1 < 2 ^ 64 }
         ensures ok { OnOk result (record_of self.new ≡ stepped (record_of self.old)) }
         ensures err { OnErr result (record_of self.new ≡ record_of self.old) };

@@ -1,17 +1,15 @@
--- The bounds of a rehearsal (ours).
+-- The bounds of a rehearsal (ours); that of the steps, `most_steps`, stands with what counts them.
 use Rattle.std.specs.Prelude.{ℕ, nat_le, Bool, ◌&&◌, Option, Some, None, if◌then◌else◌}
+pub use Rattle.bootstore.specs.Record.{most_steps}
 
 -- how many device commands a run may ask, and how many steps it may begin
 pub record BoundsShown : Type 0 where
   pub devices : ℕ
   pub steps : ℕ
 
--- the most device commands and steps that a rehearsal may allow to a run
+-- the most device commands that a rehearsal may allow to a run
 abbrev pub most_devices : ℕ
 most_devices = 32
-
-abbrev pub most_steps : ℕ
-most_steps = 1000000
 
 abbrev pub are_bounds : ℕ → ℕ → Bool
 are_bounds devices steps = nat_le devices most_devices && nat_le steps most_steps

@@ -1,6 +1,6 @@
 -- The commands that are built in: the one list of their names. What each of them does: `command` in Execution.antt.
 -- After the U-Boot documentation, doc/usage/cmd.
-use Rattle.std.specs.Prelude.{ℕ, Bool, List, [], ◌∷◌, Option, codes, is_some}
+use Rattle.std.specs.Prelude.{Bool, List, [], ◌∷◌, Option, codes, is_some}
 use Rattle.std.specs.Str.{bytes_eq}
 use Rattle.std.specs.Map.{lookup}
 use Rattle.rehearse.specs.Verdict.{Text}

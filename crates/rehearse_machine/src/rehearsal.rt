@@ -76,7 +76,7 @@ fn text_of<'s, S: Store>(store: &'s S, name: &[u8]) -> &'s [u8]
 /// Begins the text of the variable, and goes on until a device command asks, or the run ends. A variable that is not
 /// set is run as the empty text.
 pub fn begin<S: Store>(rehearsal: &Rehearsal<'_>, store: &mut S) -> Result<Stop, StoreError>
-    requires { (S.record_of store.old).begun + 1000001 < 2 ^ 64 }
+    requires { (S.record_of store.old).begun + most_steps + 1 < 2 ^ 64 }
     ensures stops { IfOk result (λ stop. Stops (task_in rehearsal.now).setting stop (λ w. settled (run_on (task_in rehearsal.now) w)) (S.record_of store.new).present) }
     ensures marks { OnOk result ((S.record_of store.new).marked ≡ []) }
     ensures begun { OnOk result ((S.record_of store.new).begun ≡ (S.record_of store.old).begun + (S.record_of store.new).present.steps) }
@@ -100,7 +100,7 @@ pub fn resume<S: Store>(
     success: bool,
 ) -> Result<Stop, StoreError>
     requires asks { IsAsking (task_in rehearsal.now).setting (S.record_of store.old).present }
-    requires begun { (S.record_of store.old).begun + 1000001 < 2 ^ 64 }
+    requires begun { (S.record_of store.old).begun + most_steps + 1 < 2 ^ 64 }
     ensures stops { IfOk result (λ stop. Stops (task_in rehearsal.now).setting stop (λ w. asked_at (task_in rehearsal.now).setting (S.record_of store.old).present (outcome_when success ∷ w)) (S.record_of store.new).present) }
     ensures marks { OnOk result ((S.record_of store.new).marked ≡ (S.record_of store.old).marked) }
     ensures begun { OnOk result ((S.record_of store.new).begun + (S.record_of store.old).present.steps ≡ (S.record_of store.old).begun + (S.record_of store.new).present.steps) }

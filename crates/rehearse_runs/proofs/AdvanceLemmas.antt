@@ -7,7 +7,7 @@ use Rattle.std.proofs.lemmas.Grind.{pow_more}
 use Rattle.std.proofs.Math.Pow.{pow_mono}
 use Rattle.bootstore.specs.Record.{Record, fresh}
 use Rattle.std.proofs.lemmas.List.Sums.{count_by-le-length}
-use Rattle.rehearse.specs.Bounds.{BoundsShown, are_bounds}
+use Rattle.rehearse.specs.Bounds.{BoundsShown, are_bounds, most_devices}
 use Rattle.rehearse.specs.Outcomes.{Word, Success, Failure, words, is_run_kind}
 use Rattle.rehearse.specs.State.{Text}
 use Rattle.rehearse.specs.Runs.{Task, kind, runs, steps}
@@ -34,13 +34,13 @@ words_length (suc n) =
 filter_less : (p : Word → Bool) (ws : List Word) → length (filter p ws) ≤ length ws
 filter_less p ws = rw (length-filter p ws) (count_by-le-length p ws)
 
-within_bound : (devices steps : ℕ) → are_bounds devices steps ≡ true → devices ≤ 32
+within_bound : (devices steps : ℕ) → are_bounds devices steps ≡ true → devices ≤ most_devices
 within_bound devices steps h = search rules
 
-pub are_within : (b : BoundsShown) → are_bounds b.devices b.steps ≡ true → b.devices ≤ 32
+pub are_within : (b : BoundsShown) → are_bounds b.devices b.steps ≡ true → b.devices ≤ most_devices
 are_within b h = within_bound b.devices b.steps h
 
-pub few_runs : (task : Task) → task.setting.device_bound ≤ 32 → length (runs task) ≤ 8589934591
+pub few_runs : (task : Task) → task.setting.device_bound ≤ most_devices → length (runs task) ≤ 8589934591
 few_runs task h =
     let f = filter_less (λ w. is_run_kind (kind task w)) (words task.setting.device_bound) in
     let l = words_length task.setting.device_bound in
@@ -49,8 +49,8 @@ few_runs task h =
     omega arith
 
 -- where no run was found yet
-pub stands_fresh : (task : Task) (digits : Text) (r : Record) → digits ≡ [] → r ≡ fresh → task.setting.device_bound ≤ 32
-    → AreDigits digits × Unit {0} × ((false ≡ false) × HasBudget r.begun (runs task)) × HasBegun task None None (runs task) r.begun × (task.setting.device_bound ≤ 32)
+pub stands_fresh : (task : Task) (digits : Text) (r : Record) → digits ≡ [] → r ≡ fresh → task.setting.device_bound ≤ most_devices
+    → AreDigits digits × Unit {0} × ((false ≡ false) × HasBudget r.begun (runs task)) × HasBegun task None None (runs task) r.begun × (task.setting.device_bound ≤ most_devices)
 stands_fresh task digits r d e h =
     let k = few_runs task h in
     let b = ap (λ (x : Record). x.begun) e in

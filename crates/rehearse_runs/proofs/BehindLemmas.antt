@@ -1,6 +1,7 @@
 -- The runs behind a word, and the kinds of texts.
 use Rattle.std.proofs.Common.{◌≡◌, ℕ, ◌+◌, ◌≤◌, true, List, [], ◌∷◌, length, map, refl, sym, ap, subst, ◌∙◌, length-append, zero-add, Some, arith}
 use Rattle.bootstore.specs.Record.{Record, fresh}
+use Rattle.rehearse.specs.Bounds.{most_devices}
 use Rattle.rehearse.specs.Outcomes.{Word, Success, Failure, Run, Short}
 use Rattle.rehearse.specs.State.{Text, State}
 use Rattle.rehearse.specs.Runs.{Task, kind, rest, steps}
@@ -42,15 +43,15 @@ walked_at task text all w reached at old new e h = subst (λ (x : Walked). Walks
 
 -- ---- the runs behind it
 
-rest_less : (task : Task) (w : Word) → kind task w ≡ Run → task.setting.device_bound ≤ 32 → length (rest task w) ≤ 8589934590
+rest_less : (task : Task) (w : Word) → kind task w ≡ Run → task.setting.device_bound ≤ most_devices → length (rest task w) ≤ 8589934590
 rest_less task w r b =
     let s = task_stands task w r in
     let l = ap length s.1 ∙ length-append s.0 (w ∷ rest task w) in
     let f = few_runs task b in
     omega arith
 
-pub stands_behind : (task : Task) (text all : Text) (halt : Halt) (old new : Record) → old ≡ fresh → task.setting.device_bound ≤ 32 → WalksTo task text all (outcomes all) (walked.Ends halt) old new
-    → AreDigits all × (kind task (outcomes all) ≡ Run) × ((true ≡ true) × StandsOn task (outcomes all) halt new) × HasBegun task (Some (outcomes all)) (Some (outcomes all)) (rest task (outcomes all)) new.begun × (task.setting.device_bound ≤ 32)
+pub stands_behind : (task : Task) (text all : Text) (halt : Halt) (old new : Record) → old ≡ fresh → task.setting.device_bound ≤ most_devices → WalksTo task text all (outcomes all) (walked.Ends halt) old new
+    → AreDigits all × (kind task (outcomes all) ≡ Run) × ((true ≡ true) × StandsOn task (outcomes all) halt new) × HasBegun task (Some (outcomes all)) (Some (outcomes all)) (rest task (outcomes all)) new.begun × (task.setting.device_bound ≤ most_devices)
 stands_behind task text all halt old new e b h =
     let f = h.2 in
     let n = f.begun in
@@ -60,8 +61,8 @@ stands_behind task text all halt old new e b h =
     (sym h.0 ∙ sym h.1, f.run, (refl, record { moment = f.moment; ending = f.ending; marks = f.marks; budget = omega arith }), begun_behind task (outcomes all) new.begun (n ∙ ap (λ (k : ℕ). k + new.present.steps) z ∙ zero-add new.present.steps ∙ ap (λ (s : State). s.steps) f.moment), b)
 
 -- the same, where the start word is kept as a copy of its digits
-pub stands_from : (task : Task) (text all copy : Text) (halt : Halt) (old new : Record) → copy ≡ all → old ≡ fresh → task.setting.device_bound ≤ 32 → WalksTo task text all (outcomes all) (walked.Ends halt) old new
-    → AreDigits all × (kind task (outcomes all) ≡ Run) × ((true ≡ true) × StandsOn task (outcomes all) halt new) × HasBegun task (Some (outcomes copy)) (Some (outcomes all)) (rest task (outcomes all)) new.begun × (task.setting.device_bound ≤ 32)
+pub stands_from : (task : Task) (text all copy : Text) (halt : Halt) (old new : Record) → copy ≡ all → old ≡ fresh → task.setting.device_bound ≤ most_devices → WalksTo task text all (outcomes all) (walked.Ends halt) old new
+    → AreDigits all × (kind task (outcomes all) ≡ Run) × ((true ≡ true) × StandsOn task (outcomes all) halt new) × HasBegun task (Some (outcomes copy)) (Some (outcomes all)) (rest task (outcomes all)) new.begun × (task.setting.device_bound ≤ most_devices)
 stands_from task text all copy halt old new c e b h =
     let s = stands_behind task text all halt old new e b h in
     (s.0, s.1, s.2, subst (λ (t : Text). HasBegun task (Some (outcomes t)) (Some (outcomes all)) (rest task (outcomes all)) new.begun) (sym c) s.3, s.4)

@@ -1,6 +1,7 @@
 -- A run that is given, and what a rehearsal keeps then.
 use Rattle.std.proofs.Common.{◌≡◌, ℕ, ◌+◌, ◌≤◌, Bool, true, false, ◌∷◌, length, Option, Some, refl, sym, ap, subst, ◌∙◌, arith}
 use Rattle.bootstore.specs.Record.{Record}
+use Rattle.rehearse.specs.Bounds.{most_devices}
 use Rattle.rehearse.specs.Outcomes.{Word, Run, common_prefix}
 use Rattle.rehearse.specs.State.{Text, State}
 use Rattle.rehearse.specs.Runs.{Task, kind, runs, rest, steps, asked}
@@ -64,8 +65,8 @@ module _ (task : Task) (start : Option Word) (has : Bool) (u : Word) (phase : Ph
       let k = found.within in
       omega arith
 
-  pub first_stands : AreDigits digits → task.setting.device_bound ≤ 32
-      → AreDigits digits × (kind task (outcomes digits) ≡ Run) × ((true ≡ true) × StandsOn task (outcomes digits) halt r') × HasBegun task start (Some (outcomes digits)) (rest task (outcomes digits)) r'.begun × (task.setting.device_bound ≤ 32)
+  pub first_stands : AreDigits digits → task.setting.device_bound ≤ most_devices
+      → AreDigits digits × (kind task (outcomes digits) ≡ Run) × ((true ≡ true) × StandsOn task (outcomes digits) halt r') × HasBegun task start (Some (outcomes digits)) (rest task (outcomes digits)) r'.begun × (task.setting.device_bound ≤ most_devices)
   first_stands d b = (
     d,
     found.run,
@@ -117,8 +118,8 @@ module _ (task : Task) (start : Option Word) (has : Bool) (all copy : Text) (pha
       let k = behind.within in
       omega arith
 
-  pub next_stands : AreDigits digits → task.setting.device_bound ≤ 32
-      → AreDigits digits × IsRunIf has task (outcomes digits) × ((has ≡ true) × StandsOn task (outcomes digits) halt r') × HasBegun task start (given_if has (outcomes digits)) (to_come_after has task (outcomes digits)) r'.begun × (task.setting.device_bound ≤ 32)
+  pub next_stands : AreDigits digits → task.setting.device_bound ≤ most_devices
+      → AreDigits digits × IsRunIf has task (outcomes digits) × ((has ≡ true) × StandsOn task (outcomes digits) halt r') × HasBegun task start (given_if has (outcomes digits)) (to_come_after has task (outcomes digits)) r'.begun × (task.setting.device_bound ≤ most_devices)
   next_stands d b = (
     d,
     subst (λ (x : Bool). IsRunIf x task (outcomes digits)) (sym stands_at.0) behind.run,

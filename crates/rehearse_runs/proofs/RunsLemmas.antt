@@ -3,6 +3,7 @@ use Rattle.std.proofs.Common.{◌≡◌, ◌≢◌, ◌↔◌, ◌≤◌, length
 use Rattle.bootstore.specs.Moment.{Moment}
 use Rattle.bootstore.specs.Record.{Record}
 use Rattle.bootstore.specs.declared.store.Store.{Ghosts}
+use Rattle.rehearse.specs.Bounds.{most_devices}
 use Rattle.rehearse.specs.Outcomes.{Word, Run, has_success}
 use Rattle.rehearse.specs.State.{Text, state_at}
 use Rattle.rehearse.specs.Runs.{Task, kind, rest, runs, run_on, state_of, ending_of}
@@ -22,7 +23,7 @@ use Rattle.rehearse.proofs.TaskChoices.{another_follows, runs_are_there}
 
 -- the run that stands in a store is the one that is shown
 pub stood : {S : Type 0} (g : Ghosts S) (task : Task) (digits : Text) (has : Bool) (r : Record) (phase : Phase) (halt : Halt) (v : RunView S)
-    → phase ≡ At halt → AreDigits digits → StandsAt task has (outcomes digits) r phase → seen_word v ≡ digits → seen_ending v ≡ halt_shown halt → seen_moment g v ≡ r.present → seen_marks g v ≡ r.marked → IsRunIf has task (outcomes digits) → task.setting.device_bound ≤ 32
+    → phase ≡ At halt → AreDigits digits → StandsAt task has (outcomes digits) r phase → seen_word v ≡ digits → seen_ending v ≡ halt_shown halt → seen_moment g v ≡ r.present → seen_marks g v ≡ r.marked → IsRunIf has task (outcomes digits) → task.setting.device_bound ≤ most_devices
     → (shows_run phase ≡ true) × ShowsRun g task (unwrap_or (given_if has (outcomes digits)) []) v
 stood g task digits has r phase halt v e d s sw se sm ss run bound =
     let h : StandsAt task has (outcomes digits) r (At halt) = subst (λ (p : Phase). StandsAt task has (outcomes digits) r p) e s in

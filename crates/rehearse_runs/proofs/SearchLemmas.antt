@@ -1,6 +1,7 @@
 -- The search for the next run, over the words of runs.
 use Rattle.std.proofs.Common.{◌≡◌, ℕ, zero, suc, ◌+◌, ◌<◌, ◌≤◌, Bool, true, false, List, [], ◌∷◌, ◌++◌, length, map, Option, Some, None, option_map, pred, refl, sym, ap, subst, ◌∙◌, append_assoc, append-nil, arith}
 use Rattle.bootstore.specs.Moment.{Moment}
+use Rattle.rehearse.specs.Bounds.{most_steps}
 use Rattle.rehearse.specs.Outcomes.{Word, Outcome, Success, Failure, WordKind, Run, Short, Long, turned, beyond, first_run, first_from, common_prefix}
 use Rattle.rehearse.specs.State.{Text, State, state_at}
 use Rattle.rehearse.specs.Execution.{Answer, Normal, Exit, Ended, Dry, Ending}
@@ -14,6 +15,7 @@ use Rattle.rehearse_machine.specs.Came.{Came, Over, Wants, settled}
 use Rattle.rehearse_machine.specs.Machine.{Stops, asked_at}
 use Rattle.std.proofs.Common.{Result, Ok, Err}
 use Rattle.std.specs.Prelude.{IfOk}
+use Rattle.std.proofs.lemmas.Option.{same_Some}
 use Rattle.bootstore.specs.Record.{Record, with_mark, gone_back, returned}
 use Rattle.bootstore.specs.declared.store.StoreError.{StoreError}
 use Rattle.rehearse_machine.specs.declared.halt.Halt.{Halt}
@@ -116,7 +118,7 @@ stopped_on task p m n d (Ends halt) h k = λ w. ap (λ (v : Word). settled (run_
 -- ---- what the search gives
 
 -- the run has ended
-pub found_end : (task : Task) (p : Word) (halt : Halt) (r : Record) → StoppedAt task p (Ends halt) r.present → AreMarks task p r.marked → r.present.steps ≤ 1000000 → Found task p p halt r r
+pub found_end : (task : Task) (p : Word) (halt : Halt) (r : Record) → StoppedAt task p (Ends halt) r.present → AreMarks task p r.marked → r.present.steps ≤ most_steps → Found task p p halt r r
 found_end task p halt r h k n =
     let a : IsAnswer (halt_shown halt) (state_at r.present []) (run_on task p) = is_over (run_on task p) (halt_shown halt) (state_at r.present []) (ap (λ (v : Word). settled (run_on task v)) (sym (append-nil p)) ∙ h []) in
     record {
@@ -241,12 +243,9 @@ pub record BackAt (task : Task) (q : Word) (r back : Record) : Type 0 where
   pub marks : AreMarks task parted back.marked
   pub begun : back.begun ≡ r.begun
 
-some_same : (q v : Word) → Some q ≡ Some v → q ≡ v
-some_same q v e = cc
-
 back_in : (task : Task) (u q : Word) (present : Moment) (begun : ℕ) (marked : List Moment) → AreMarks task u marked → turned u ≡ Some q → BackAt task q (record { present = present; marked = marked; begun = begun }) (returned present begun marked)
 back_in task u q present begun [] h e = let k = h in absurd cc
-back_in task u q present begun (m ∷ ms) h e = record { parted = h.0; word = some_same q (h.0 ++ Failure ∷ []) (sym e ∙ h.1); asks = h.2; marks = h.3; begun = refl }
+back_in task u q present begun (m ∷ ms) h e = record { parted = h.0; word = same_Some q (h.0 ++ Failure ∷ []) (sym e ∙ h.1); asks = h.2; marks = h.3; begun = refl }
 
 pub back_at : (task : Task) (u q : Word) (r back : Record) → AreMarks task u r.marked → turned u ≡ Some q → back ≡ gone_back r → BackAt task q r back
 back_at task u q r back h e b = subst (λ (x : Record). BackAt task q r x) (sym b) (back_in task u q r.present r.begun r.marked h e)

@@ -5,6 +5,7 @@ use Rattle.std.specs.Bool.{◌==◌}
 use Rattle.bootstore.specs.Moment.{Moment}
 use Rattle.bootstore.specs.Record.{Record}
 use Rattle.bootstore.specs.declared.store.StoreError.{StoreError}
+use Rattle.rehearse.specs.Bounds.{most_steps, most_devices}
 use Rattle.rehearse.specs.Outcomes.{Word, Outcome, Success, Failure, Run}
 use Rattle.rehearse.specs.State.{Text}
 use Rattle.rehearse.specs.Runs.{Task, kind}
@@ -26,7 +27,7 @@ use Rattle.rehearse_runs.proofs.SearchLemmas.{Asked, asked_here, asked_kind, fou
 pub asked_now : (task : Task) (digits : Text) (m : Moment) → StoppedAt task (outcomes digits) Asks m → Asked task digits Asks m
 asked_now task digits m h = asked_here task digits Asks m refl h
 
-pub room_here : (task : Task) (digits : Text) (m : Moment) → StoppedAt task (outcomes digits) Asks m → task.setting.device_bound ≤ 32 → length digits < 32
+pub room_here : (task : Task) (digits : Text) (m : Moment) → StoppedAt task (outcomes digits) Asks m → task.setting.device_bound ≤ most_devices → length digits < 32
 room_here task digits m h b = let a = (asked_now task digits m h).room in omega arith
 
 pub fails_on : (task : Task) (digits digits' : Text) (next : Stop) (r r₁ : Record) → StoppedAt task (outcomes digits) Asks r.present → digits' ≡ digits ++ 49 ∷ []
@@ -39,7 +40,7 @@ marks_fail_on task digits digits' r r₁ d m k =
 
 -- ---- where the walk ends
 
-pub reached_here : (task : Task) (digits text : Text) (stop : Stop) (halt : Halt) (r : Record) → stop ≡ Ends halt → StoppedAt task (outcomes digits) stop r.present → AreMarks task (outcomes digits) r.marked → r.present.steps ≤ 1000000 → text ≡ []
+pub reached_here : (task : Task) (digits text : Text) (stop : Stop) (halt : Halt) (r : Record) → stop ≡ Ends halt → StoppedAt task (outcomes digits) stop r.present → AreMarks task (outcomes digits) r.marked → r.present.steps ≤ most_steps → text ≡ []
     → IsWordBehind (outcomes digits) digits text digits (outcomes digits) × Reached task (outcomes digits) halt r r
 reached_here task digits text stop halt r s h k n e =
     let f = found_end task (outcomes digits) halt r (subst (λ (x : Stop). StoppedAt task (outcomes digits) x r.present) s h) k n in
@@ -50,7 +51,7 @@ ends_before task p text k ne [] e = absurd (ne e)
 ends_before task p text k ne (d ∷ w) e = longer_is_long task p d w k
 
 -- the run ends before the text
-pub ended_here : (task : Task) (digits text : Text) (stop : Stop) (halt : Halt) (r : Record) → stop ≡ Ends halt → StoppedAt task (outcomes digits) stop r.present → AreMarks task (outcomes digits) r.marked → r.present.steps ≤ 1000000 → (text ≡ [] → ⊥)
+pub ended_here : (task : Task) (digits text : Text) (stop : Stop) (halt : Halt) (r : Record) → stop ≡ Ends halt → StoppedAt task (outcomes digits) stop r.present → AreMarks task (outcomes digits) r.marked → r.present.steps ≤ most_steps → (text ≡ [] → ⊥)
     → IsLongBehind task (outcomes digits) text
 ended_here task digits text stop halt r s h k n ne =
     let f = found_end task (outcomes digits) halt r (subst (λ (x : Stop). StoppedAt task (outcomes digits) x r.present) s h) k n in

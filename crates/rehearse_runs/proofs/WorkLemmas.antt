@@ -1,6 +1,7 @@
 -- The work of the words that were given.
 use Rattle.std.proofs.Common.{◌≡◌, ℕ, ◌+◌, ◌-◌, ◌<◌, ◌≤◌, List, [], ◌∷◌, ◌++◌, length, take, Option, Some, None, refl, sym, ap, subst, ◌∙◌, append_assoc, length-append, arith}
 use Rattle.bootstore.specs.Moment.{Moment}
+use Rattle.rehearse.specs.Bounds.{most_devices}
 use Rattle.rehearse.specs.Outcomes.{Word, Success, Failure, Run, common_prefix}
 use Rattle.rehearse.specs.Runs.{Task, kind, runs, rest, steps, asked, work_from}
 use Rattle.rehearse_runs.specs.RunsShown.{words_made, in_front_of, work_of, steps_shared, successes}
@@ -102,7 +103,7 @@ few_successes [] = omega arith
 few_successes (Success ∷ w) = let h = few_successes w in omega (arith, h)
 few_successes (Failure ∷ w) = let h = few_successes w in omega (arith, h)
 
-pub marks_within : (task : Task) (w : Word) (ms : List Moment) → AreMarks task w ms → kind task w ≡ Run → task.setting.device_bound ≤ 32 → length ms ≤ 32
+pub marks_within : (task : Task) (w : Word) (ms : List Moment) → AreMarks task w ms → kind task w ≡ Run → task.setting.device_bound ≤ most_devices → length ms ≤ 32
 marks_within task w ms h r b =
     let l = few_marks task w ms h in
     let k = few_successes w in

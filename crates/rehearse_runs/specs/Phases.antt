@@ -1,5 +1,5 @@
 -- Where a rehearsal stands. Ours.
-use Rattle.std.specs.Prelude.{◌≡◌, ◌∷◌, ◌++◌, Option, Some, None, ℕ, ◌+◌, ◌*◌, ◌≤◌, Bool, true, false, List, [], length, map, ⊤}
+use Rattle.std.specs.Prelude.{◌≡◌, ◌∷◌, ◌++◌, Option, Some, None, ℕ, ◌+◌, ◌*◌, ◌^◌, ◌≤◌, Bool, true, false, List, [], length, map, ⊤}
 use Rattle.bootstore.specs.Record.{Record}
 use Rattle.rehearse.specs.Bounds.{most_steps}
 use Rattle.rehearse.specs.Outcomes.{Word, Run}
@@ -26,9 +26,9 @@ shows_run (At halt) = true
 shows_run Over = false
 shows_run Failed = false
 
--- each word to come begins at most 1,000,000 steps, and there are fewer than 2 ^ 33
+-- each word to come begins at most so many steps, and there are fewer than 2 ^ 33
 abbrev pub HasBudget : ℕ → List Word → Type 0
-HasBudget begun ws = begun + most_steps * length ws ≤ 8589934592000000
+HasBudget begun ws = begun + most_steps * length ws ≤ most_steps * 2 ^ 33
 
 -- the run on a word stands in the store
 pub record StandsOn (task : Task) (w : Word) (halt : Halt) (r : Record) : Type 0 where

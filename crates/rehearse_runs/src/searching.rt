@@ -1,5 +1,5 @@
 //! The search for the next run.
-ghost use Rattle.std.specs.Prelude.{◌≡◌, ◌+◌, ◌-◌, ◌<◌, ◌≤◌, ◌^◌, IfOk};
+ghost use Rattle.std.specs.Prelude.{◌≡◌, ◌+◌, ◌-◌, ◌*◌, ◌<◌, ◌≤◌, ◌^◌, IfOk};
 ghost use Rattle.rehearse_runs.specs.RunsShown.{outcomes};
 ghost use Rattle.rehearse_runs.specs.Phases.{AreDigits};
 ghost use Rattle.rehearse_runs.specs.Searching.{StoppedAt, AreMarks, Found, FoundFirst, FoundNext, Turns};
@@ -26,7 +26,7 @@ pub(crate) fn search<S: Store>(
     requires marks { AreMarks (task_in rehearsal.now) (outcomes digits.old.items) (S.record_of store.old).marked }
     requires digits { AreDigits digits.old.items }
     requires within { (S.record_of store.old).present.steps ≤ most_steps }
-    requires begun { (S.record_of store.old).begun + (most_steps - (S.record_of store.old).present.steps) + 1000001 < 2 ^ 64 }
+    requires begun { (S.record_of store.old).begun + (most_steps - (S.record_of store.old).present.steps) + most_steps + 1 < 2 ^ 64 }
     requires bound { (task_in rehearsal.now).setting.device_bound ≤ most_devices }
     ensures ok { IfOk result (λ halt. Found (task_in rehearsal.now) (outcomes digits.old.items) (outcomes digits.new.items) halt (S.record_of store.old) (S.record_of store.new)) }
     ensures digits { AreDigits digits.new.items }
@@ -48,7 +48,7 @@ pub(crate) fn first_run<S: Store>(
     store: &mut S,
     digits: &mut Digits,
 ) -> Result<Halt, StoreError>
-    requires begun { (S.record_of store.old).begun + 2000001 < 2 ^ 64 }
+    requires begun { (S.record_of store.old).begun + 2 * most_steps + 1 < 2 ^ 64 }
     requires bound { (task_in rehearsal.now).setting.device_bound ≤ most_devices }
     ensures ok { IfOk result (λ halt. FoundFirst (task_in rehearsal.now) (outcomes digits.new.items) halt (S.record_of store.old) (S.record_of store.new)) }
     ensures digits { AreDigits digits.new.items }
@@ -83,7 +83,7 @@ pub(crate) fn next_run<S: Store>(
     requires run { kind (task_in rehearsal.now) (outcomes digits.old.items) ≡ Run }
     requires marks { AreMarks (task_in rehearsal.now) (outcomes digits.old.items) (S.record_of store.old).marked }
     requires digits { AreDigits digits.old.items }
-    requires begun { (S.record_of store.old).begun + 2000001 < 2 ^ 64 }
+    requires begun { (S.record_of store.old).begun + 2 * most_steps + 1 < 2 ^ 64 }
     requires bound { (task_in rehearsal.now).setting.device_bound ≤ most_devices }
     ensures ok { IfOk result (λ found. FoundNext (task_in rehearsal.now) (outcomes digits.old.items) (outcomes digits.new.items) found (S.record_of store.old) (S.record_of store.new)) }
     ensures digits { AreDigits digits.new.items }

@@ -1,5 +1,5 @@
 //! The walk along the digits of a word.
-ghost use Rattle.std.specs.Prelude.{◌≡◌, ◌+◌, ◌-◌, ◌<◌, ◌≤◌, ◌^◌, ◌∷◌, [], ◌++◌, IfOk, OnOk};
+ghost use Rattle.std.specs.Prelude.{◌≡◌, ◌+◌, ◌-◌, ◌*◌, ◌<◌, ◌≤◌, ◌^◌, ◌∷◌, [], ◌++◌, IfOk, OnOk};
 ghost use Rattle.rehearse.specs.Bounds.{most_devices, most_steps};
 ghost use Rattle.rehearse.specs.Listing.{digit_of};
 ghost use Rattle.rehearse_runs.specs.RunsShown.{outcomes};
@@ -34,7 +34,7 @@ fn choose<S: Store>(
 ) -> Result<Stop, StoreError>
     requires asks { StoppedAt (task_in rehearsal.now) (outcomes digits.old.items) Asks (S.record_of store.old).present }
     requires marks { AreMarks (task_in rehearsal.now) (outcomes digits.old.items) (S.record_of store.old).marked }
-    requires begun { (S.record_of store.old).begun + 1000001 < 2 ^ 64 }
+    requires begun { (S.record_of store.old).begun + most_steps + 1 < 2 ^ 64 }
     requires bound { (task_in rehearsal.now).setting.device_bound ≤ most_devices }
     ensures stopped { IfOk result (λ stop. StoppedAt (task_in rehearsal.now) (outcomes digits.new.items) stop (S.record_of store.new).present) }
     ensures marks { OnOk result (AreMarks (task_in rehearsal.now) (outcomes digits.new.items) (S.record_of store.new).marked) }
@@ -76,7 +76,7 @@ fn walk<S: Store>(
     requires stopped { StoppedAt (task_in rehearsal.now) (outcomes digits.old.items) stop (S.record_of store.old).present }
     requires marks { AreMarks (task_in rehearsal.now) (outcomes digits.old.items) (S.record_of store.old).marked }
     requires within { (S.record_of store.old).present.steps ≤ most_steps }
-    requires begun { (S.record_of store.old).begun + (most_steps - (S.record_of store.old).present.steps) + 1000001 < 2 ^ 64 }
+    requires begun { (S.record_of store.old).begun + (most_steps - (S.record_of store.old).present.steps) + most_steps + 1 < 2 ^ 64 }
     requires bound { (task_in rehearsal.now).setting.device_bound ≤ most_devices }
     ensures ok { IfOk result (λ found. Walks (task_in rehearsal.now) (outcomes digits.old.items) digits.old.items text.now digits.new.items (outcomes digits.new.items) found (S.record_of store.old) (S.record_of store.new)) }
 {
@@ -108,7 +108,7 @@ pub(crate) fn walk_to<S: Store>(
     digits: &mut Digits,
     text: &[u8],
 ) -> Result<Walked, StoreError>
-    requires begun { (S.record_of store.old).begun + 2000001 < 2 ^ 64 }
+    requires begun { (S.record_of store.old).begun + 2 * most_steps + 1 < 2 ^ 64 }
     requires bound { (task_in rehearsal.now).setting.device_bound ≤ most_devices }
     ensures ok { IfOk result (λ found. WalksTo (task_in rehearsal.now) text.now digits.new.items (outcomes digits.new.items) found (S.record_of store.old) (S.record_of store.new)) }
 {

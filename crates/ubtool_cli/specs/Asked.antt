@@ -12,6 +12,7 @@ use Rattle.clap.specs.ValueTests.{is_numeral}
 use Rattle.envimage.specs.declared.image.ByteOrder.{ByteOrder}
 use Rattle.envimage.specs.declared.image.ByteOrder.TheVariants.{Big, Little}
 use Rattle.rehearse.specs.Bounds.{BoundsShown, bounds_of, most_devices, most_steps}
+use Rattle.ubtool_cli.specs.CommandLine.{most_records}
 
 -- what a rehearsal is asked for
 pub record Rehearsal : Type 0 where
@@ -96,11 +97,18 @@ set_asked rows =
 abbrev pub variable_of : List Row → Text
 variable_of rows = unwrap_or (first_of (codes "variable") rows) (codes "bootcmd")
 
--- 0 to 32 device commands and 0 to 1,000,000 steps; 16 and 10,000 where nothing is said
+-- the bounds where nothing is said
+abbrev pub usual_devices : ℕ
+usual_devices = 16
+
+abbrev pub usual_steps : ℕ
+usual_steps = 10000
+
+-- 0 to 32 device commands and 0 to 1,000,000 steps
 abbrev pub bounds_asked : List Row → Option BoundsShown
 bounds_asked rows =
     option_and_then (λ devices. option_and_then (λ steps.
-    bounds_of (unwrap_or devices 16) (unwrap_or steps 10000))
+    bounds_of (unwrap_or devices usual_devices) (unwrap_or steps usual_steps))
     (number_within 0 most_steps (codes "steps") rows))
     (number_within 0 most_devices (codes "devices") rows)
 
@@ -120,7 +128,7 @@ rehearsal_with _ _ _ rows = None
 -- the limit is at least 1
 abbrev pub rehearse_asked : List Row → Option Asked
 rehearse_asked rows = rehearsal_with (first_of (codes "device-list") rows) (bounds_asked rows)
-    (number_within 1 4294967295 (codes "limit") rows) rows
+    (number_within 1 most_records (codes "limit") rows) rows
 
 -- what the entries of the subcommand of this name ask for
 abbrev pub asked_of : Text → List Row → Option Asked

@@ -1,14 +1,18 @@
 -- The words that the program reads, by the name that it was called by. The names are those of U-Boot's
 -- tools (tools/env README); that the last part of the path decides is ours.
-use Rattle.std.specs.Prelude.{◌==◌, ◌++◌, List, [], ◌∷◌, Option, Some, None, codes, if◌then◌else◌}
+use Rattle.std.specs.Prelude.{◌==◌, ◌++◌, ℕ, List, [], ◌∷◌, Option, Some, None, codes, if◌then◌else◌}
 use Rattle.std.specs.Prelude.{option_to_list}
 use Rattle.std.specs.List.{after_last}
 use Rattle.std.specs.Str.{bytes_eq}
 use Rattle.clap.specs.Words.{Text}
 
+-- `/`
+abbrev pub slash : ℕ
+slash = 47
+
 -- what stands behind the last slash of a path, or all of it
 abbrev pub last_part : Text → Text
-last_part path = after_last (λ c. c == 47) path
+last_part path = after_last (λ c. c == slash) path
 
 -- the subcommand that a program of this name stands for
 abbrev pub subcommand_called : Text → Option Text

@@ -13,6 +13,10 @@ abbrev letter : Text → ℕ
 letter [] = 0
 letter (b ∷ text) = b
 
+-- the most records that a listing is limited to
+abbrev pub most_records : ℕ
+most_records = 4294967295
+
 -- `--word VALUE`
 abbrev pub long_option : Text → Rule
 long_option id = record (new_rule id) { long = Some id; value_names = 1 }
@@ -87,7 +91,7 @@ rehearse = with_rule
     (with_rule
     (with_rule rehearse_options
     (long_option (codes "after")))
-    (number_option (codes "limit") 1 4294967295))
+    (number_option (codes "limit") 1 most_records))
     (many (codes "names"))
 
 -- the program, which has no words of its own; its version can be asked for at each subcommand too

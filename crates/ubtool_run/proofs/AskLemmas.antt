@@ -9,7 +9,7 @@ use Rattle.envimage.specs.declared.image.ByteOrder.{ByteOrder}
 use Rattle.rehearse.specs.Bounds.{BoundsShown}
 use Rattle.ubtool_cli.specs.Answers.{Answers, asked, meaning_of}
 use Rattle.ubtool_cli.specs.Asked.{Asked, asked_of, bounds_asked, change_asked, config_of, header_needs_one, is_set, number_within, order_of, print_asked, printing, rehearsal_with, rehearse_asked, set_asked, values_of}
-use Rattle.ubtool_cli.specs.CommandLine.{ubtool}
+use Rattle.ubtool_cli.specs.CommandLine.{most_records, ubtool}
 use Rattle.ubtool_cli.specs.declared.ask.Ask.{Ask}
 use Rattle.ubtool_cli.specs.declared.ask.Ask.TheVariants.{Help, Print, Rehearse, Setenv, Version}
 use Rattle.ubtool_run.specs.Asking.{IsComplete}
@@ -49,7 +49,7 @@ asked-fit words = by (subcommand_of ubtool words)
         let names = values_of (codes "names") rows in
         let printed = print-fit (is_set (codes "noheader") rows) (length names == 1) (config_of rows) names (order_of rows) refl in
         let set = set-fit (first_of (codes "script") rows) (first_of (codes "name") rows) rows in
-        let rehearsed = rehearse-fit (first_of (codes "device-list") rows) (bounds_asked rows) (number_within 1 4294967295 (codes "limit") rows) rows in
+        let rehearsed = rehearse-fit (first_of (codes "device-list") rows) (bounds_asked rows) (number_within 1 most_records (codes "limit") rows) rows in
         let last = either (bytes_eq name (codes "rehearse")) (rehearse_asked rows) None rehearsed tt in
         let two = either (bytes_eq name (codes "setenv")) (Some (set_asked rows)) (if bytes_eq name (codes "rehearse") then rehearse_asked rows else None) set last in
         either (bytes_eq name (codes "printenv")) (Some (print_asked rows))
