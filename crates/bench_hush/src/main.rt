@@ -3,11 +3,9 @@
 #![tactic(auto)]
 
 mod shape;
-mod variable;
 
 use crate::shape::{Shape, blanks, many_names, nested_ifs};
-use crate::variable::Only;
-use hushlang::expand::{ExpandError, expand};
+use hushlang::expand::{ExpandError, OneVariable, expand};
 use hushlang::lexer::Lexer;
 use hushlang::parse::parse;
 use hushlang::token::SyntaxError;
@@ -42,7 +40,11 @@ fn count_lists(alloc: Global, text: &[u8]) -> Result<usize, SyntaxError> {
 }
 
 /// How many fields words have where one variable is set.
-fn count_fields(alloc: Global, words: &[Word], vars: Only<'_>) -> Result<usize, ExpandError> {
+fn count_fields(
+    alloc: Global,
+    words: &[Word],
+    vars: OneVariable<'_>,
+) -> Result<usize, ExpandError> {
     Ok(expand(alloc, words, &vars)?.len())
 }
 
@@ -101,7 +103,11 @@ fn time_expansion(
     let Ok(script) = parse(rt.alloc(), text) else {
         return println!(rt; "{name} of {size}: no command");
     };
-    let vars = Only { name: b"x", value };
+    let vars = OneVariable {
+        name: b"x",
+        value,
+        status: 0,
+    };
     let words = first_words(&script);
     time(rt, name, size, || count_fields(rt.alloc(), words, vars))
 }

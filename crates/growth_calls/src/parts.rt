@@ -1,43 +1,18 @@
 //! Calls that change no environment: whether each gives what it should, or none where memory was refused.
 
 use envimage::{ByteOrder, encode};
-use hushlang::expand::{Vars, expand, expand_one};
+use hushlang::expand::{OneVariable, expand, expand_one};
 use hushlang::parse::parse;
 use hushlang::tree::{Command, Script, Word};
 use std::alloc::Global;
 use ubtool_core::{Files, MemoryFiles};
 
-/// One variable alone is set, and the status is 0.
-#[derive(Clone, Copy)]
-struct Only<'a> {
-    name: &'a [u8],
-    value: &'a [u8],
-}
-
-impl Vars for Only<'_> {
-    ghost use Rattle.std.specs.FinMap.{empty, insert};
-    ghost use Rattle.hushlang.specs.Expansion.{setting_of};
-
-    ghost setting = { λ only. setting_of (insert empty only.name.now only.value.now) 0 };
-
-    fn get(&self, name: &[u8]) -> Option<&[u8]> {
-        if name.cmp(&self.name).is_eq() {
-            Some(self.value)
-        } else {
-            None
-        }
-    }
-
-    fn status(&self) -> u8 {
-        0
-    }
-}
-
 /// The variables that words are expanded by.
-fn variables() -> Only<'static> {
-    Only {
+fn variables() -> OneVariable<'static> {
+    OneVariable {
         name: b"x",
         value: b"1  2",
+        status: 0,
     }
 }
 

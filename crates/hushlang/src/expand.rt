@@ -13,8 +13,11 @@ use std::collections::BTreeMap;
 use std::mem;
 use thiserror::Error;
 
+mod one_variable;
 #[cfg(test)]
 mod tests;
+
+pub use one_variable::OneVariable;
 
 /// The most bytes that one expansion may hold.
 const MOST_BYTES: usize = 65_536;

@@ -1,37 +1,10 @@
 //! Worked examples of expansion, and the limit.
 
-use crate::expand::{ExpandError, Vars, expand, expand_one};
+use crate::expand::{ExpandError, OneVariable, Vars, expand, expand_one};
 use crate::parse::parse;
 use crate::tree::{Command, Piece, Word};
 use std::alloc::{AllocError, Global};
 use std::test::Fail;
-
-/// One variable alone is set.
-#[derive(Clone, Copy)]
-struct Only<'a> {
-    name: &'a [u8],
-    value: &'a [u8],
-    status: u8,
-}
-
-impl Vars for Only<'_> {
-    ghost use Rattle.std.specs.FinMap.{empty, insert};
-    ghost use Rattle.hushlang.specs.Expansion.{setting_of};
-
-    ghost setting = { λ only. setting_of (insert empty only.name.now only.value.now) only.status };
-
-    fn get(&self, name: &[u8]) -> Option<&[u8]> {
-        if name.cmp(&self.name).is_eq() {
-            Some(self.value)
-        } else {
-            None
-        }
-    }
-
-    fn status(&self) -> u8 {
-        self.status
-    }
-}
 
 /// One variable more.
 #[derive(Drop)]
@@ -88,7 +61,7 @@ fn shown(alloc: Global, fields: &[Vec<u8>]) -> Result<Vec<u8>, AllocError> {
 }
 
 fn fields_of(alloc: Global, words: &[Word], value: &[u8]) -> Result<Vec<u8>, Fail> {
-    let vars = Only {
+    let vars = OneVariable {
         name: b"x",
         value,
         status: 255,
@@ -198,7 +171,7 @@ fn expands_texts(rt: HostRuntime) -> Result<(), Fail> {
         others: With {
             name: b"y",
             value: b"2",
-            others: Only {
+            others: OneVariable {
                 name: b"x",
                 value: b" a  b ",
                 status: 7,
@@ -229,7 +202,7 @@ fn expands_texts(rt: HostRuntime) -> Result<(), Fail> {
 #[test]
 fn joins_without_cutting(rt: HostRuntime) -> Result<(), Fail> {
     let a = rt.alloc();
-    let vars = Only {
+    let vars = OneVariable {
         name: b"x",
         value: b" a  b ",
         status: 0,
@@ -248,7 +221,7 @@ fn joins_without_cutting(rt: HostRuntime) -> Result<(), Fail> {
 fn holds_65536_bytes_and_no_more(rt: HostRuntime) -> Result<(), Fail> {
     let a = rt.alloc();
     let letters = vec![in a; b'a'; 65_536]?;
-    let vars = Only {
+    let vars = OneVariable {
         name: b"x",
         value: &letters,
         status: 0,

@@ -1,19 +1,23 @@
-//! A variable that is set alone.
+//! One variable, for callers that have no store of them.
 
-use hushlang::expand::Vars;
+use crate::expand::Vars;
 
-/// One variable alone is set, and the status is 0.
+/// One variable alone is set.
 #[derive(Clone, Copy)]
-pub struct Only<'a> {
+pub struct OneVariable<'a> {
+    /// The variable.
     pub name: &'a [u8],
+    /// Its value.
     pub value: &'a [u8],
+    /// The status of the last command.
+    pub status: u8,
 }
 
-impl Vars for Only<'_> {
+impl Vars for OneVariable<'_> {
     ghost use Rattle.std.specs.FinMap.{empty, insert};
     ghost use Rattle.hushlang.specs.Expansion.{setting_of};
 
-    ghost setting = { λ only. setting_of (insert empty only.name.now only.value.now) 0 };
+    ghost setting = { λ one. setting_of (insert empty one.name.now one.value.now) one.status };
 
     fn get(&self, name: &[u8]) -> Option<&[u8]> {
         if name.cmp(&self.name).is_eq() {
@@ -24,6 +28,6 @@ impl Vars for Only<'_> {
     }
 
     fn status(&self) -> u8 {
-        0
+        self.status
     }
 }

@@ -2,7 +2,7 @@ use Rattle.std.proofs.Common.{◌≡◌, ◌∙◌, sym, ap, Bool, true, false, 
 use Rattle.std.specs.Ordering.{is_eq, nat_cmp}
 use Rattle.std.specs.Cmp.Lexicographic.{slice_cmp, nat_list_cmp_total}
 use Rattle.std.specs.FinMap.{empty, insert, get, get-insert, get-empty}
-use Rattle.hushlang.proofs.expand.tests.OnlyVars.get.Goals as goal
+use Rattle.hushlang.proofs.expand.one_variable.OneVariableVars.get.Goals as goal
 
 -- the value where the names are equal
 one_variable : (name value asked : List ℕ) (same : Bool) → is_eq (slice_cmp nat_cmp asked name) ≡ same → get (insert (empty {K = List ℕ} {X = List ℕ} {R = slice_cmp nat_cmp}) name value) asked ≡ cond same (Some value) None
