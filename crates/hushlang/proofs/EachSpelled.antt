@@ -4,7 +4,8 @@ use Rattle.std.proofs.lemmas.Bool.{cases_Bool, eqb-true, eqb-false, false≢true
 use Rattle.std.proofs.lemmas.List.{length-append}
 use Rattle.std.specs.List.{list_all}
 use Rattle.text.specs.Bytes.{newline}
-use Rattle.hushlang.specs.Bytes.{is_blank, is_separator, begins_name, is_name_byte, is_brace_byte, is_escapable, begins}
+use Rattle.text.specs.Words.{is_space}
+use Rattle.hushlang.specs.Bytes.{is_separator, begins_name, is_name_byte, is_brace_byte, is_escapable, begins}
 use Rattle.hushlang.specs.Token.{Part, Plain, Kept, Mark, Var, Status, Token, sign, word, End, Whole}
 use Rattle.hushlang.specs.Token as ends
 use Rattle.hushlang.specs.Spelling as spelling
@@ -243,7 +244,7 @@ module _ (turns : ℕ) (more : (later : ℕ) (text : List ℕ) → length text �
   behind_pair (b ∷ text) h e = subst (λ b. SpellsAnswer at (92 ∷ b ∷ text)) (sym (eqb-true b 10 e)) (further (λ (x : List Token). x) (λ _ _ s. spelling.joined s) (more (suc (suc at)) text (omega arith)))
 
   at_separator : (b : ℕ) (text : List ℕ) → length text ≤ turns → is_separator b ≡ true → SpellsAnswer at (b ∷ text)
-  at_separator b text h e = elim (cases_Bool (is_blank b)) [
+  at_separator b text h e = elim (cases_Bool (is_space b)) [
     | inl e ↦ further (λ (x : List Token). x) (λ _ _ s. spelling.blank e s) (more (suc at) text h)
     | inr no_blank ↦ elim (cases_Bool (b == 59)) [
       | inl e ↦ subst (λ b. SpellsAnswer at (b ∷ text)) (sym (eqb-true b 59 e)) (further (λ (x : List Token). sign kinds.Semi at (suc at) ∷ x) (λ _ _ s. spelling.semi s) (more (suc at) text h))
@@ -253,7 +254,7 @@ module _ (turns : ℕ) (more : (later : ℕ) (text : List ℕ) → length text �
           | inl e ↦ subst (λ b. SpellsAnswer at (b ∷ text)) (sym (eqb-true b 124 e)) (or_next text h)
           | inr no124 ↦ elim (cases_Bool (b == newline)) [
             | inl e ↦ subst (λ b. SpellsAnswer at (b ∷ text)) (sym (eqb-true b 10 e)) (further (λ (x : List Token). sign kinds.Newline at (suc at) ∷ x) (λ _ _ s. spelling.newline_token s) (more (suc at) text h))
-            | inr no10 ↦ absurd (false≢true (sym (or_from (is_blank b || b == 59 || b == 38 || b == 124) (b == newline) (or_from (is_blank b || b == 59 || b == 38) (b == 124) (or_from (is_blank b || b == 59) (b == 38) (or_from (is_blank b) (b == 59) no_blank no59) no38) no124) no10) ∙ e))
+            | inr no10 ↦ absurd (false≢true (sym (or_from (is_space b || b == 59 || b == 38 || b == 124) (b == newline) (or_from (is_space b || b == 59 || b == 38) (b == 124) (or_from (is_space b || b == 59) (b == 38) (or_from (is_space b) (b == 59) no_blank no59) no38) no124) no10) ∙ e))
           ]
         ]
       ]

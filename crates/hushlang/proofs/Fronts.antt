@@ -4,7 +4,8 @@ use Rattle.std.proofs.lemmas.List.{length-append, length-drop, drop-drop, drop_m
 use Rattle.std.proofs.Math.Seq.{take-append_seam}
 use Rattle.std.proofs.lemmas.Bool.{cond_both, false≢true, and_from, not_from_false}
 use Rattle.text.specs.Bytes.{newline}
-use Rattle.hushlang.specs.Bytes.{is_separator, is_blank, begins}
+use Rattle.text.specs.Words.{is_space}
+use Rattle.hushlang.specs.Bytes.{is_separator, begins}
 use Rattle.hushlang.specs.Token.{Part, Token, sign}
 use Rattle.hushlang.specs.Reading.{Seen, Takes, Refuses, row, Ends, Front, Gap, Sees, Stops, word_at, word_front, separator_front, front, skip_of, follow, Lexed, lexed, lexed_from}
 use Rattle.hushlang.specs.Cutting.{stop_of}
@@ -35,7 +36,7 @@ module _ (at b : ℕ) (text : List ℕ) where
       let P : Front → Type 0 = IsSound at b text in
       let one : (kind : Kind) → P (Sees (sign kind at (suc at)) 0) = λ kind. (refl, omega arith, omega arith, sign_parts b _ e) in
       let two : (kind : Kind) → 1 ≤ length text → P (Sees (sign kind at (suc (suc at))) 1) = λ kind h. (refl, omega arith, h, sign_parts b _ e) in
-      cond_both (is_blank b) _ _ P (λ _. tt)
+      cond_both (is_space b) _ _ P (λ _. tt)
       (λ _. cond_both (b == 59) _ _ P (λ _. one kinds.Semi)
       (λ _. cond_both (b == 38) _ _ P (λ _. cond_both (begins (λ c. c == 38) text) _ _ P (λ h. two kinds.AndAnd (begins_some _ text h)) (λ _. tt))
       (λ _. cond_both (b == 124) _ _ P (λ _. cond_both (begins (λ c. c == 124) text) _ _ P (λ h. two kinds.OrOr (begins_some _ text h)) (λ _. tt))

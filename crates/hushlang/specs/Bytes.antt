@@ -2,13 +2,11 @@
 -- After the hush shell of the U-Boot documentation, doc/usage/cmdline; which bytes may stand in braces is ours.
 use Rattle.std.specs.Prelude.{ℕ, Bool, false, not, ◌&&◌, ◌||◌, ◌==◌, nat_le, List, [], ◌∷◌}
 use Rattle.text.specs.Bytes as ascii
-
-abbrev pub is_blank : ℕ → Bool
-is_blank b = b == ascii.space || b == ascii.tab
+use Rattle.text.specs.Words.{is_space}
 
 -- what ends a word where it stands bare: a blank, `;`, `&`, `|` and a newline
 abbrev pub is_separator : ℕ → Bool
-is_separator b = is_blank b || b == ascii.semicolon || b == ascii.ampersand || b == ascii.bar || b == ascii.newline
+is_separator b = is_space b || b == ascii.semicolon || b == ascii.ampersand || b == ascii.bar || b == ascii.newline
 
 -- a byte that stands for itself: no separator, no quote, no backslash and no `$`
 abbrev pub is_ordinary : ℕ → Bool

@@ -3,7 +3,8 @@
 use Rattle.std.specs.Prelude.{ℕ, zero, suc, ◌+◌, ◌-◌, Bool, true, false, not, ◌&&◌, ◌==◌, if◌then◌else◌, List, [], ◌∷◌, ◌++◌, length, take, drop}
 use Rattle.std.specs.List.{prefix_len}
 use Rattle.text.specs.Bytes as ascii
-use Rattle.hushlang.specs.Bytes.{is_blank, is_separator, begins_name, is_name_byte, is_brace_byte, is_escapable, begins}
+use Rattle.text.specs.Words.{is_space}
+use Rattle.hushlang.specs.Bytes.{is_separator, begins_name, is_name_byte, is_brace_byte, is_escapable, begins}
 use Rattle.hushlang.specs.Token.{Part, Plain, Kept, Mark, Var, Status, Token, sign, word, End, Whole, Refused}
 use Rattle.hushlang.specs.Spelling.{dollar_itself}
 use Rattle.hushlang.specs.declared.parts.Mode.{Mode}
@@ -146,7 +147,7 @@ word_front at b text = word_at at (row Bare at 0 at (b ∷ text))
 -- a blank, or a token that separates words
 abbrev pub separator_front : (at : ℕ) → (b : ℕ) → (text : List ℕ) → Front
 separator_front at b text =
-    if is_blank b then Gap 0
+    if is_space b then Gap 0
     else (if b == ascii.semicolon then Sees (sign kinds.Semi at (suc at)) 0
     else (if b == ascii.ampersand then
     (if begins (λ c. c == ascii.ampersand) text then Sees (sign kinds.AndAnd at (suc (suc at))) 1

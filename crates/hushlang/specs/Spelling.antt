@@ -4,7 +4,8 @@
 use Rattle.std.specs.Prelude.{◌≡◌, ◌≢◌, ℕ, suc, ◌+◌, Bool, true, false, not, ◌&&◌, ◌==◌, IsTrue, List, [], ◌∷◌, ◌++◌, length, map, ◌⊎◌}
 use Rattle.std.specs.List.{list_all}
 use Rattle.text.specs.Bytes as ascii
-use Rattle.hushlang.specs.Bytes.{is_blank, is_separator, is_ordinary, begins_name, is_name_byte, is_brace_byte, is_escapable, begins}
+use Rattle.text.specs.Words.{is_space}
+use Rattle.hushlang.specs.Bytes.{is_separator, is_ordinary, begins_name, is_name_byte, is_brace_byte, is_escapable, begins}
 use Rattle.hushlang.specs.Token.{Part, Plain, Kept, Mark, Var, Status, Token, sign, word, End, Whole, Refused}
 use Rattle.hushlang.specs.declared.token.Kind.TheVariants as kinds
 use Rattle.hushlang.specs.declared.token.SyntaxError.{SyntaxError}
@@ -120,7 +121,7 @@ may_begin_word (b ∷ text) = not (b == ascii.hash) && not (b == ascii.backslash
 -- the text spells these tokens, and then is at its end or refused
 pub data Spells : (at : ℕ) → (text : List ℕ) → (tokens : List Token) → (end : End) → Type 0 where
   whole : {at : ℕ} → Spells at [] [] Whole
-  blank : {at b : ℕ} {text : List ℕ} {tokens : List Token} {end : End} → IsTrue (is_blank b) →
+  blank : {at b : ℕ} {text : List ℕ} {tokens : List Token} {end : End} → IsTrue (is_space b) →
       Spells (suc at) text tokens end → Spells at (b ∷ text) tokens end
   joined : {at : ℕ} {text : List ℕ} {tokens : List Token} {end : End} → Spells (suc (suc at)) text tokens end →
       Spells at (ascii.backslash ∷ ascii.newline ∷ text) tokens end

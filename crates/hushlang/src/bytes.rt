@@ -5,18 +5,13 @@ ghost use Rattle.std.specs.List.{prefix_len};
 ghost use Rattle.text.specs.Bytes as ascii;
 ghost use Rattle.hushlang.specs.Bytes as spec;
 
-/// Whether a byte is a space or a tab.
-pub fn is_blank(b: u8) -> bool
-    ensures { result ≡ spec.is_blank b }
-{
-    b == b' ' || b == b'\t'
-}
+use text::is_space;
 
 /// Whether a byte ends a word where it stands bare.
 pub fn is_separator(b: u8) -> bool
     ensures { result ≡ spec.is_separator b }
 {
-    is_blank(b) || b == b';' || b == b'&' || b == b'|' || b == b'\n'
+    is_space(b) || b == b';' || b == b'&' || b == b'|' || b == b'\n'
 }
 
 /// Whether a name may begin with a byte.

@@ -7,10 +7,11 @@ ghost use Rattle.hushlang.specs.Cutting.{stop_of};
 ghost use Rattle.hushlang.specs.Lexing.{shown, Gives, SpellsNext, GoesOn, BeginsWord};
 ghost use Rattle.hushlang.specs.declared.parts.Mode.TheVariants as modes;
 
-use crate::bytes::{begins, is_blank, is_separator, line_len};
+use crate::bytes::{begins, is_separator, line_len};
 use crate::parts::Parts;
 use crate::token::{Kind, SyntaxError, Token};
 use std::marker::Model;
+use text::is_space;
 
 /// The tokens of a text, one at a time. It takes no memory.
 #[derive(Drop)]
@@ -66,7 +67,7 @@ fn separator(at: usize, b: u8, behind: &[u8]) -> Result<Front, SyntaxError>
     ensures value { result ≡ shown at (spec.separator_front at b behind.now) }
     ensures within { GoesOn at (at + suc (length behind.now)) result }
 {
-    if is_blank(b) {
+    if is_space(b) {
         return Ok(Front::Gap(at + 1));
     }
     match b {
