@@ -1,6 +1,6 @@
 //! What a run still has to do: a stack of frames.
 ghost use Rattle.std.specs.Prelude.{◌≡◌, [], IfOk};
-ghost use Rattle.hushlang.specs.View as view;
+ghost use Rattle.hushlang.specs.TreesShown as view;
 ghost use Rattle.bootstore.specs.Moment.{bytes_of_words};
 
 use hushlang::tree::Script;
@@ -45,7 +45,7 @@ pub struct Frame {
 
 impl Model for Frame {
     ghost use Rattle.bootstore.specs.Moment.{RunningFrame, shared_words};
-    ghost use Rattle.hushlang.specs.View as says;
+    ghost use Rattle.hushlang.specs.TreesShown as says;
     ghost use Rattle.bootstore.specs.Moment.{coded_frame};
 
     ghost Value = { RunningFrame };

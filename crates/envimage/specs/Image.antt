@@ -61,36 +61,36 @@ chosen_of order first (Some second) =
     else or_bad_crc (current order first second)
 
 -- what an image says: the current copy, its flag, the byte order and the body
-pub record Shown : Type 0 where
+pub record LoadedShown : Type 0 where
   pub which : Which
   pub flag : Option ℕ
   pub order : ByteOrder
   pub body : List ℕ
 
-abbrev pub shown : Loaded → Shown
-shown l = record { which = l.which; flag = l.flag; order = l.order; body = l.body.now }
+abbrev pub loaded_shown : Loaded → LoadedShown
+loaded_shown l = record { which = l.which; flag = l.flag; order = l.order; body = l.body.now }
 
-abbrev pub checked : Shown → Option DataError → Result Shown ImageError
+abbrev pub checked : LoadedShown → Option DataError → Result LoadedShown ImageError
 checked s None = Ok s
 checked s (Some fault) = Err (Content fault)
 
-abbrev pub copy_shown : ByteOrder → Which → List ℕ → Shown
+abbrev pub copy_shown : ByteOrder → Which → List ℕ → LoadedShown
 copy_shown order which copy =
     record { which = which; flag = Some (slice_index copy 4); order = order; body = drop 5 copy }
 
-abbrev pub shown_of : ByteOrder → List ℕ → Option (List ℕ) → Which → Shown
-shown_of order first None which =
+abbrev pub loaded_shown_of : ByteOrder → List ℕ → Option (List ℕ) → Which → LoadedShown
+loaded_shown_of order first None which =
     record { which = First; flag = None; order = order; body = drop 4 first }
-shown_of order first (Some second) First = copy_shown order First first
-shown_of order first (Some second) Second = copy_shown order Second second
+loaded_shown_of order first (Some second) First = copy_shown order First first
+loaded_shown_of order first (Some second) Second = copy_shown order Second second
 
-abbrev pub then_checked : Result Which ImageError → (Which → Shown) → Result Shown ImageError
+abbrev pub then_checked : Result Which ImageError → (Which → LoadedShown) → Result LoadedShown ImageError
 then_checked (Err e) show = Err e
 then_checked (Ok which) show = checked (show which) (data_fault (show which).body)
 
 -- what loading an image answers
-abbrev pub load_of : ByteOrder → List ℕ → Option (List ℕ) → Result Shown ImageError
-load_of order first second = then_checked (chosen_of order first second) (shown_of order first second)
+abbrev pub load_of : ByteOrder → List ℕ → Option (List ℕ) → Result LoadedShown ImageError
+load_of order first second = then_checked (chosen_of order first second) (loaded_shown_of order first second)
 
 -- what a function answered, seen by view, is this answer
 abbrev pub Gives : {X Y E : Type 0} → (X → Y) → Result X E → Result Y E → Type 0

@@ -1,7 +1,7 @@
 ghost use Rattle.std.specs.Prelude.{◌≡◌, ◌≤◌, length, IfOk, IsOk, None};
 ghost use Rattle.std.specs.Option.{option_copied};
 ghost use Rattle.envimage.specs.Data.{data_fault};
-ghost use Rattle.envimage.specs.Image.{is_right, is_newer, is_size, stored, current, chosen_of, load_of, Gives, shown, copy_shown};
+ghost use Rattle.envimage.specs.Image.{is_right, is_newer, is_size, stored, current, chosen_of, load_of, Gives, loaded_shown, copy_shown};
 ghost use Rattle.envimage.specs.declared.image.ImageError.TheVariants.{Content, Memory};
 
 use crate::content::{DataError, check_data};
@@ -181,7 +181,7 @@ pub fn load<'a>(
     second: Option<&'a [u8]>,
     order: ByteOrder,
 ) -> Result<Loaded<'a>, ImageError>
-    ensures answer { Gives shown result (load_of order first.now (option_copied second.entry)) }
+    ensures answer { Gives loaded_shown result (load_of order first.now (option_copied second.entry)) }
     ensures faultless { IfOk result (λ loaded. data_fault loaded.body.now ≡ None) }
 {
     let which = choose(first, second, order)?;
@@ -201,7 +201,7 @@ pub fn load<'a>(
 
 fn copy_loaded(copy: &[u8], which: Which, order: ByteOrder) -> Loaded<'_>
     requires { 5 ≤ length copy.now }
-    ensures { shown result ≡ copy_shown order which copy.now }
+    ensures { loaded_shown result ≡ copy_shown order which copy.now }
 {
     Loaded {
         which,

@@ -7,7 +7,7 @@ use Rattle.std.proofs.lemmas.List.{length-append}
 use Rattle.std.specs.List.{AllByRecursion}
 use Rattle.envimage.specs.Data.{Pair, IsVariable, data_fault, pairs_of}
 use Rattle.envimage.specs.Encoding.{needed, image_of, data_bytes, is_image_size}
-use Rattle.envimage.specs.Image.{Shown, load_of, is_right, is_size, is_newer, checked}
+use Rattle.envimage.specs.Image.{LoadedShown, load_of, is_right, is_size, is_newer, checked}
 use Rattle.envimage.specs.declared.content.DataError.{DataError}
 use Rattle.envimage.specs.declared.image.ByteOrder.{ByteOrder}
 use Rattle.envimage.specs.declared.image.Which.TheVariants.{First, Second}
@@ -15,29 +15,29 @@ use Rattle.envimage.proofs.RoundTrip.{encoded_is_right, data_is_read_back, lengt
 use Rattle.envtools.specs.Saving.{FrontMayStand, SpareMayBreak, SavedIsLoaded, half_written, spare_of, with_spare, load_pair, size_of, next_flag, copy_to_write, other_copy, saved_image}
 
 -- what loading a pair says of it, by the copy that is current
-record LoadedFirst (order : ByteOrder) (first second : List ℕ) (s : Shown) : Type 0 where
+record LoadedFirst (order : ByteOrder) (first second : List ℕ) (s : LoadedShown) : Type 0 where
   size : is_size 6 (length first) ≡ true
   equal : (length first == length second) ≡ true
   right : is_right order 5 first ≡ true
   shown : s ≡ record { which = First; flag = Some (slice_index first 4); order = order; body = drop 5 first }
   sound : data_fault (drop 5 first) ≡ None
 
-record LoadedSecond (order : ByteOrder) (first second : List ℕ) (s : Shown) : Type 0 where
+record LoadedSecond (order : ByteOrder) (first second : List ℕ) (s : LoadedShown) : Type 0 where
   size : is_size 6 (length first) ≡ true
   equal : (length first == length second) ≡ true
   right : is_right order 5 second ≡ true
   shown : s ≡ record { which = Second; flag = Some (slice_index second 4); order = order; body = drop 5 second }
   sound : data_fault (drop 5 second) ≡ None
 
-data Loading (order : ByteOrder) (first second : List ℕ) (s : Shown) : Type 0 where
+data Loading (order : ByteOrder) (first second : List ℕ) (s : LoadedShown) : Type 0 where
   loaded_first : LoadedFirst order first second s → Loading order first second s
   loaded_second : LoadedSecond order first second s → Loading order first second s
 
-checked-ok : (shown s : Shown) (fault : Option DataError) → checked shown fault ≡ Ok s → (fault ≡ None) × (s ≡ shown)
+checked-ok : (shown s : LoadedShown) (fault : Option DataError) → checked shown fault ≡ Ok s → (fault ≡ None) × (s ≡ shown)
 checked-ok shown s None e = (refl, cc)
 checked-ok shown s (Some fault) e = cc
 
-module _ (order : ByteOrder) (first second : List ℕ) (s : Shown) where
+module _ (order : ByteOrder) (first second : List ℕ) (s : LoadedShown) where
   by_choice : (size equal : Bool) → is_size 6 (length first) ≡ size → (length first == length second) ≡ equal → (a b n : Bool) → is_right order 5 first ≡ a → is_right order 5 second ≡ b → is_newer (slice_index first 4) (slice_index second 4) ≡ n
       → load_of order first (Some second) ≡ Ok s → Loading order first second s
   by_choice false equal es ee a b n ea eb en h = let bad = rw es at h in cc
@@ -82,7 +82,7 @@ equal_second first second bytes equal len = ap (λ n. n == length second) len �
 
 pub spare_may_break : SpareMayBreak
 spare_may_break order first second bytes loaded h len broken =
-    let P : Shown → Type 0 = λ s. load_pair order (with_spare s.which first second bytes) ≡ Ok s in
+    let P : LoadedShown → Type 0 = λ s. load_pair order (with_spare s.which first second bytes) ≡ Ok s in
     elim (loading order first second loaded h) [
       | loaded_first p ↦ subst P (sym p.shown) (first_kept order first bytes p.size (equal_first first bytes len) p.right broken p.sound)
       | loaded_second p ↦ subst P (sym p.shown) (second_kept order bytes second (ap (is_size 6) len ∙ p.size) (equal_second first second bytes p.equal len) broken p.right p.sound)
@@ -144,7 +144,7 @@ module _ (order : ByteOrder) (flag size : ℕ) (env : List Pair) (all : AllByRec
       first_saved order saved second saved_body flag (ap (is_size 6) whole ∙ in_range) (eq-eqb (length saved) (length second) (whole ∙ sym len)) is.0 right
       (ap (λ f. is_newer f (slice_index second 4)) there ∙ older) there is.1 (data_is_read_back env (size - needed (Some flag) env) all).0
 
-abbrev Saved : ByteOrder → List ℕ → List ℕ → List Pair → Shown → Type 0
+abbrev Saved : ByteOrder → List ℕ → List ℕ → List Pair → LoadedShown → Type 0
 Saved order first second env loaded =
     (body : List ℕ) × (load_pair order (with_spare loaded.which first second (saved_image env loaded))
     ≡ Ok (record { which = copy_to_write loaded; flag = next_flag loaded.flag; order = order; body = body }))
@@ -153,7 +153,7 @@ Saved order first second env loaded =
 pub saved_is_loaded : SavedIsLoaded
 saved_is_loaded order first second loaded env h f g all fits = by loaded (loading order first second loaded h) fits
   where
-    by : (s : Shown) → Loading order first second s → needed (next_flag s.flag) env ≤ size_of s → Saved order first second env s
+    by : (s : LoadedShown) → Loading order first second s → needed (next_flag s.flag) env ≤ size_of s → Saved order first second env s
     by s (loaded_first p) room =
         let flag : ℕ = (slice_index first 4 + 1) % 256 in
         let enough = subst (λ t. needed (next_flag t.flag) env ≤ size_of t) p.shown room in
@@ -183,7 +183,7 @@ length-half_written copy bytes n same =
     omega (arith, same, length-append (take n bytes) (drop n copy), length-take n bytes, length-drop n copy)
 
 -- what is saved has the length of both copies
-saved-length : (order : ByteOrder) (first second : List ℕ) (s : Shown) (env : List Pair) → Loading order first second s → needed (next_flag s.flag) env ≤ size_of s
+saved-length : (order : ByteOrder) (first second : List ℕ) (s : LoadedShown) (env : List Pair) → Loading order first second s → needed (next_flag s.flag) env ≤ size_of s
     → (length (saved_image env s) ≡ length first) × (length (spare_of s.which first second) ≡ length first)
 saved-length order first second s env (loaded_first p) fits =
     let same : length first ≡ length second = eqb-true (length first) (length second) p.equal in
@@ -207,9 +207,9 @@ front_may_stand order first second loaded env n h fits =
     ]
 
 -- of a pair the copy that was not loaded is written
-pub spare-is-written : (order : ByteOrder) (first second : List ℕ) (s : Shown) → load_of order first (Some second) ≡ Ok s → copy_to_write s ≡ other_copy s.which
+pub spare-is-written : (order : ByteOrder) (first second : List ℕ) (s : LoadedShown) → load_of order first (Some second) ≡ Ok s → copy_to_write s ≡ other_copy s.which
 spare-is-written order first second s h =
-    let P : Shown → Type 0 = λ t. copy_to_write t ≡ other_copy t.which in
+    let P : LoadedShown → Type 0 = λ t. copy_to_write t ≡ other_copy t.which in
     elim (loading order first second s h) [
       | loaded_first p ↦ subst P (sym p.shown) refl
       | loaded_second p ↦ subst P (sym p.shown) refl
@@ -222,7 +222,7 @@ single_size first size =
     let least : 5 ≤ length first = grind (arith, nat_tests) in
     omega (arith, least, length-drop 4 first)
 
-single_loaded : (order : ByteOrder) (first : List ℕ) (s : Shown) (size right : Bool) → is_size 5 (length first) ≡ size → is_right order 4 first ≡ right → load_of order first None ≡ Ok s
+single_loaded : (order : ByteOrder) (first : List ℕ) (s : LoadedShown) (size right : Bool) → is_size 5 (length first) ≡ size → is_right order 4 first ≡ right → load_of order first None ≡ Ok s
     → (is_size 5 (length first) ≡ true) × (s ≡ record { which = First; flag = None; order = order; body = drop 4 first })
 single_loaded order first s false right es er h = let bad = rw es at h in cc
 single_loaded order first s true false es er h = let bad = rw (es, er) at h in cc
@@ -230,7 +230,7 @@ single_loaded order first s true true es er h =
     let good = rw (es, er) at h in (es, (checked-ok _ s (data_fault (drop 4 first)) good).1)
 
 -- what is loaded has a size that an image may have
-pub loaded-size : (order : ByteOrder) (first : List ℕ) (second : Option (List ℕ)) (s : Shown) → load_of order first second ≡ Ok s → is_image_size s.flag (size_of s) ≡ true
+pub loaded-size : (order : ByteOrder) (first : List ℕ) (second : Option (List ℕ)) (s : LoadedShown) → load_of order first second ≡ Ok s → is_image_size s.flag (size_of s) ≡ true
 loaded-size order first None s h =
     let is = single_loaded order first s _ _ refl refl h in
     ap (λ t. is_image_size t.flag (size_of t)) is.1 ∙ (ap (is_size 5) (single_size first is.0) ∙ is.0)

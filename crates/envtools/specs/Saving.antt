@@ -3,7 +3,7 @@ use Rattle.std.specs.Prelude.{◌≡◌, ◌≤◌, ◌<◌, ◌⊎◌, ℕ, ◌
 use Rattle.std.specs.List.{AllByRecursion}
 use Rattle.envimage.specs.Data.{Pair, IsVariable, pairs_of}
 use Rattle.envimage.specs.Encoding.{header_len, needed, image_of}
-use Rattle.envimage.specs.Image.{Shown, load_of, is_right}
+use Rattle.envimage.specs.Image.{LoadedShown, load_of, is_right}
 use Rattle.envimage.specs.declared.image.ByteOrder.{ByteOrder}
 use Rattle.envimage.specs.declared.image.ImageError.{ImageError}
 use Rattle.envimage.specs.declared.image.ImageError.TheVariants.{WrongSize, BadCrc, Content, TooLarge, Memory}
@@ -11,7 +11,7 @@ use Rattle.envimage.specs.declared.image.Which.{Which}
 use Rattle.envimage.specs.declared.image.Which.TheVariants.{First, Second}
 
 -- the size of the image that was loaded, its header counted
-abbrev pub size_of : Shown → ℕ
+abbrev pub size_of : LoadedShown → ℕ
 size_of loaded = header_len loaded.flag + length loaded.body
 
 -- the current flag plus one, modulo 256
@@ -24,7 +24,7 @@ other_copy First = Second
 other_copy Second = First
 
 -- the copy of a pair that is not current, and a single image itself
-abbrev pub copy_to_write : Shown → Which
+abbrev pub copy_to_write : LoadedShown → Which
 copy_to_write loaded = by loaded.flag
   where
     by : Option ℕ → Which
@@ -32,7 +32,7 @@ copy_to_write loaded = by loaded.flag
     by (Some flag) = other_copy loaded.which
 
 -- the bytes that are written there
-abbrev pub saved_image : List Pair → Shown → List ℕ
+abbrev pub saved_image : List Pair → LoadedShown → List ℕ
 saved_image env loaded = image_of loaded.order (next_flag loaded.flag) (size_of loaded) env
 
 -- what writing back may be refused for
@@ -50,12 +50,12 @@ abbrev pub with_spare : Which → List ℕ → List ℕ → List ℕ → List �
 with_spare First first second bytes = (first, bytes)
 with_spare Second first second bytes = (bytes, second)
 
-abbrev pub load_pair : ByteOrder → List ℕ × List ℕ → Result Shown ImageError
+abbrev pub load_pair : ByteOrder → List ℕ × List ℕ → Result LoadedShown ImageError
 load_pair order copies = load_of order copies.0 (Some copies.1)
 
 -- Any bytes of the size in the spare copy's place that are not right leave what was loaded current.
 abbrev pub SpareMayBreak : Type 0
-SpareMayBreak = (order : ByteOrder) (first second bytes : List ℕ) (loaded : Shown) →
+SpareMayBreak = (order : ByteOrder) (first second bytes : List ℕ) (loaded : LoadedShown) →
     load_of order first (Some second) ≡ Ok loaded → length bytes ≡ length first → is_right order 5 bytes ≡ false →
     load_pair order (with_spare loaded.which first second bytes) ≡ Ok loaded
 
@@ -69,20 +69,20 @@ abbrev pub half_written : List ℕ → ℕ → List ℕ → List ℕ
 half_written copy n bytes = take n bytes ++ drop n copy
 
 -- what loading a pair gave, it gives with these bytes in the place of the spare copy, or they are right
-abbrev pub OldOrRight : ByteOrder → List ℕ → List ℕ → Shown → List ℕ → Type 0
+abbrev pub OldOrRight : ByteOrder → List ℕ → List ℕ → LoadedShown → List ℕ → Type 0
 OldOrRight order first second loaded bytes =
     (load_pair order (with_spare loaded.which first second bytes) ≡ Ok loaded) ⊎ (is_right order 5 bytes ≡ true)
 
 -- Whatever front of the saved bytes stands in the spare copy's place, loading gives what it gave before, or that copy
 -- is right.
 abbrev pub FrontMayStand : Type 0
-FrontMayStand = (order : ByteOrder) (first second : List ℕ) (loaded : Shown) (env : List Pair) (n : ℕ) →
+FrontMayStand = (order : ByteOrder) (first second : List ℕ) (loaded : LoadedShown) (env : List Pair) (n : ℕ) →
     load_of order first (Some second) ≡ Ok loaded → needed (next_flag loaded.flag) env ≤ size_of loaded →
     OldOrRight order first second loaded (half_written (spare_of loaded.which first second) n (saved_image env loaded))
 
 -- The saved bytes in the spare copy's place make loading give the saved variables.
 abbrev pub SavedIsLoaded : Type 0
-SavedIsLoaded = (order : ByteOrder) (first second : List ℕ) (loaded : Shown) (env : List Pair) →
+SavedIsLoaded = (order : ByteOrder) (first second : List ℕ) (loaded : LoadedShown) (env : List Pair) →
     load_of order first (Some second) ≡ Ok loaded → slice_index first 4 < 256 → slice_index second 4 < 256 →
     AllByRecursion IsVariable env → needed (next_flag loaded.flag) env ≤ size_of loaded →
     (body : List ℕ) × (load_pair order (with_spare loaded.which first second (saved_image env loaded))

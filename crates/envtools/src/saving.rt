@@ -1,6 +1,6 @@
 ghost use Rattle.std.specs.Prelude.{◌≡◌, ◌↔◌, ◌<◌, length, true, IfOk, IfErr, Err};
 ghost use Rattle.envimage.specs.Encoding.{header_len, is_image_size, needed, ReadsBack};
-ghost use Rattle.envimage.specs.Image.{shown};
+ghost use Rattle.envimage.specs.Image.{loaded_shown};
 ghost use Rattle.envtools.specs.Saving.{size_of, next_flag, copy_to_write, saved_image, IsSaveRefusal};
 
 use crate::env::Env;
@@ -29,7 +29,7 @@ fn next_flag(flag: Option<u8>) -> Option<u8>
 
 /// The copy that is not current; of a single image the image itself.
 fn copy_to_write(loaded: &Loaded<'_>) -> Which
-    ensures { result ≡ copy_to_write (shown loaded.now) }
+    ensures { result ≡ copy_to_write (loaded_shown loaded.now) }
 {
     match (loaded.flag, loaded.which) {
         (None, _) => Which::First,
@@ -44,11 +44,11 @@ fn copy_to_write(loaded: &Loaded<'_>) -> Which
 ///
 /// Refusals in order: `TooLarge`, `Memory`.
 pub fn save(alloc: Global, env: &Env, loaded: &Loaded<'_>) -> Result<(Which, Vec<u8>), ImageError>
-    requires { is_image_size loaded.now.flag (size_of (shown loaded.now)) ≡ true }
-    ensures too_large { (result ≡ Err ImageError.TooLarge) ↔ (size_of (shown loaded.now) < needed (next_flag loaded.now.flag) env.now) }
+    requires { is_image_size loaded.now.flag (size_of (loaded_shown loaded.now)) ≡ true }
+    ensures too_large { (result ≡ Err ImageError.TooLarge) ↔ (size_of (loaded_shown loaded.now) < needed (next_flag loaded.now.flag) env.now) }
     ensures other { IfErr result IsSaveRefusal }
-    ensures which { IfOk result (λ w. w.0 ≡ copy_to_write (shown loaded.now)) }
-    ensures bytes { IfOk result (λ w. w.1.items ≡ saved_image env.now (shown loaded.now)) }
+    ensures which { IfOk result (λ w. w.0 ≡ copy_to_write (loaded_shown loaded.now)) }
+    ensures bytes { IfOk result (λ w. w.1.items ≡ saved_image env.now (loaded_shown loaded.now)) }
     ensures back { IfOk result (λ w. ReadsBack loaded.now.order (next_flag loaded.now.flag) w.1.items env.now) }
 {
     if env.entries_len() >= loaded.body.len() {

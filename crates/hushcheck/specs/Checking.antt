@@ -13,7 +13,7 @@ use Rattle.ubtool_core.specs.declared.error.ToolError.TheVariants.{Image, Memory
 use Rattle.ubtool_core.specs.declared.fault.Fault.{Fault}
 use Rattle.ubtool_core.specs.declared.fault.Fault.TheVariants.{Tool}
 use Rattle.ubtool_run.specs.Images.{IsImagesFault}
-use Rattle.ubtool_run.specs.Printing.{FromImages, environment}
+use Rattle.ubtool_run.specs.PrintingFiles.{FromImages, environment}
 
 -- the environment that was found, or why there is none
 abbrev pub Finds : Result (List Pair) ImageError → Result (List Pair) ToolError → Type 0

@@ -3,10 +3,10 @@ use Rattle.std.specs.Prelude.{◌≡◌, Bool, map, Option, Result, codes, strin
 use Rattle.hushcheck.specs.Checking.{ChecksFrom, LeavesOutput}
 use Rattle.hushcheck.specs.declared.ask.Ask.{Ask}
 use Rattle.hushcheck.specs.declared.ask.Ask.TheVariants.{Check, Help, Version}
-use Rattle.ubtool_core.specs.Printing.{Outputs}
+use Rattle.ubtool_core.specs.PrintingImages.{Outputs}
 use Rattle.ubtool_core.specs.Told.{IfTold, Told}
 use Rattle.ubtool_core.specs.declared.fault.Fault.{Fault}
-use Rattle.ubtool_run.specs.Asking.{Shows, version_line}
+use Rattle.ubtool_run.specs.Performing.{Shows, version_line}
 
 -- What doing it comes to: with the files from before to after, and on the outputs. With status 0 each text is well-formed
 -- and each name that was asked for is set, or the help or the version was shown.

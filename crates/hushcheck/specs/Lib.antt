@@ -1,5 +1,5 @@
 pub mod CommandLine
 pub mod Asked
-pub mod Answers
+pub mod CommandAnswers
 pub mod Checking
 pub mod Doing

@@ -1,11 +1,11 @@
 //! The whole program.
 ghost use Rattle.std.specs.Prelude.{◌≡◌, ◌≤◌, map};
 ghost use Rattle.envimage.specs.Sink.{Sink};
-ghost use Rattle.hushcheck.specs.Answers.{Answers};
+ghost use Rattle.hushcheck.specs.CommandAnswers.{Answers};
 ghost use Rattle.hushcheck.specs.Doing.{Does};
-ghost use Rattle.ubtool_core.specs.Printing.{outputs};
+ghost use Rattle.ubtool_core.specs.PrintingImages.{outputs};
 ghost use Rattle.ubtool_run.specs.Faults.{CountsTold};
-ghost use Rattle.ubtool_run.specs.Running.{HasDone, HasRefused, IsMisused, files_seen};
+ghost use Rattle.ubtool_run.specs.Running.{HasDone, HasRefused, IsMisused, files_shown};
 
 use crate::ask::Ask;
 use crate::texts::check_files;
@@ -52,11 +52,11 @@ pub fn run_check<S: AsStr, F: Files, O: Out, E: Out>(
     err: &mut E,
 ) -> u8
     ensures status { result ≤ 2 }
-    ensures done { result ≡ 0 → HasDone Answers Does (map S.text words.now) (files_seen F.Files files.old) (files_seen F.Files files.new)
+    ensures done { result ≡ 0 → HasDone Answers Does (map S.text words.now) (files_shown F.Files files.old) (files_shown F.Files files.new)
         (outputs (O.sink out.old) (O.sink out.new) (E.sink err.old) (E.sink err.new)) }
-    ensures refused { result ≡ 1 → HasRefused Answers Does (map S.text words.now) (files_seen F.Files files.old) (files_seen F.Files files.new)
+    ensures refused { result ≡ 1 → HasRefused Answers Does (map S.text words.now) (files_shown F.Files files.old) (files_shown F.Files files.new)
         (outputs (O.sink out.old) (O.sink out.new) (E.sink err.old) (E.sink err.new)) }
-    ensures misused { result ≡ 2 → IsMisused Answers (map S.text words.now) (files_seen F.Files files.old) (files_seen F.Files files.new)
+    ensures misused { result ≡ 2 → IsMisused Answers (map S.text words.now) (files_shown F.Files files.old) (files_shown F.Files files.new)
         (outputs (O.sink out.old) (O.sink out.new) (E.sink err.old) (E.sink err.new)) }
 {
     match read_words(alloc, words) {

@@ -2,11 +2,11 @@
 ghost use Rattle.std.specs.Prelude.{◌≡◌, map, string_bytes};
 ghost use Rattle.std.specs.Option.{option_copied};
 ghost use Rattle.hushcheck.specs.Checking.{ChecksFrom, ChecksText, Finds, LeavesOutput};
-ghost use Rattle.ubtool_core.specs.Printing.{environment_in};
+ghost use Rattle.ubtool_core.specs.PrintingImages.{environment_in};
 ghost use Rattle.ubtool_core.specs.Told.{IfTold};
 ghost use Rattle.ubtool_run.specs.Faults.{CountsTold};
 ghost use Rattle.ubtool_run.specs.Images.{copies};
-ghost use Rattle.ubtool_run.specs.Printing.{environment};
+ghost use Rattle.ubtool_run.specs.PrintingFiles.{environment};
 
 use envimage::{ByteOrder, Out, load, write_all};
 use envtools::Env;

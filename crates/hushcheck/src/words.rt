@@ -1,7 +1,7 @@
 //! Reading the words.
 ghost use Rattle.std.specs.Prelude.{◌≡◌, IfOk, codes, map, string_bytes};
 ghost use Rattle.clap.specs.Words.{found_of, kind_of, rows_of};
-ghost use Rattle.hushcheck.specs.Answers.{Answers, Reports, Says};
+ghost use Rattle.hushcheck.specs.CommandAnswers.{Answers, Reports, Says};
 ghost use Rattle.hushcheck.specs.Asked.{asked_of, or_bootcmd};
 ghost use Rattle.ubtool_cli.specs.Asked.{values_of};
 

@@ -6,7 +6,7 @@ use Rattle.std.specs.List.{cons_option, filter_map, flat_map}
 use Rattle.std.specs.declared.alloc.Global.{Global}
 use Rattle.std.specs.declared.rc.Rc.{Rc}
 use Rattle.hushlang.specs.Tree as tree
-use Rattle.hushlang.specs.View as view
+use Rattle.hushlang.specs.TreesShown as view
 use Rattle.hushlang.specs.declared.tree.Op.{Op}
 use Rattle.hushlang.specs.declared.tree.Word.{Word}
 use Rattle.hushlang.specs.declared.tree.AndOr.{AndOr}

@@ -4,11 +4,11 @@ use Rattle.std.specs.Prelude.{◌++◌, ◌∷◌, ℕ, Bool, false, List, [], O
 use Rattle.std.specs.List.{filter_map}
 use Rattle.envimage.specs.Data.{Pair}
 use Rattle.envtools.specs.Environment.{same, value_of}
-use Rattle.hushlang.specs.Cursor.{input_in}
+use Rattle.hushlang.specs.CursorShown.{input_in}
 use Rattle.hushlang.specs.Grammar.{max_nesting}
 use Rattle.hushlang.specs.Parsing.{whole}
 use Rattle.hushlang.specs.Tree.{Script, Empty, Runs, AndOr, Starts, Joined, Alone, Joins, Command, Simple, Assign, If, Loop, For, Arms, NoElse, Else, Arm, Word, Bytes, Mark, Var, Status}
-use Rattle.hushlang.specs.View as view
+use Rattle.hushlang.specs.TreesShown as view
 use Rattle.hushlang.specs.declared.tree.Script as code_script
 use Rattle.hushlang.specs.declared.token.SyntaxError.{SyntaxError}
 

@@ -1,7 +1,7 @@
 //! The names that a script runs.
 ghost use Rattle.std.specs.Prelude.{◌≡◌, map, IfOk, OnOk, option_map, option_to_list};
 ghost use Rattle.std.specs.List.{filter_map, flat_map};
-ghost use Rattle.hushlang.specs.View as view;
+ghost use Rattle.hushlang.specs.TreesShown as view;
 ghost use Rattle.hushcheck_core.specs.Names as spec;
 ghost use Rattle.hushcheck_core.specs.Order.{with_names};
 

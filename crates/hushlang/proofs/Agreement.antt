@@ -2,11 +2,11 @@
 use Rattle.std.proofs.Common.{◌≡◌, ℕ, zero, suc, ◌-◌, ◌<◌, ◌≤◌, Bool, true, false, List, [], ◌∷◌, ◌++◌, map, length, Option, Some, None, is_some, Result, Ok, Err, refl, ap, sym, ◌∙◌, arith}
 use Rattle.hushlang.specs.Token.{Token, Part, End, Whole}
 use Rattle.hushlang.specs.Tree.{Script, Empty, Runs, AndOr, Starts, Joined, Alone, Joins, Command, Simple, Assign, If, Loop, For, Arms, NoElse, Else, Arm, Word}
-use Rattle.hushlang.specs.View.{runs, joins as joins_of, arms as arms_of}
+use Rattle.hushlang.specs.TreesShown.{runs, joins as joins_of, arms as arms_of}
 use Rattle.hushlang.specs.Grammar.{AreAssignments, no_word, assigned, IsCommand, simple, assign, «if», «while», until, for_in, IsArms, arm, IsMore, arms_end, «else», elif, IsScript, no_command, commands, IsLoop, loop, IsBody, body, IsBlock, block, IsLists, last, more, IsAndOr, starts, IsJoined, alone, joins, is_word, is_separator, is_newline, words, word_of, past, reserved_of, assignment, ends_block, closes_at}
 use Rattle.hushlang.specs.Grammar as grammar
 use Rattle.hushlang.specs.Parsing as spec
-use Rattle.hushlang.specs.Parsing.{Input, Parser, Outcome, and_then, command, keyword, next, expect, sees, behind, op_next, joined, joined_all, and_or, lists, closes_next, separator_next, body_of, loop_command, if_command}
+use Rattle.hushlang.specs.Parsing.{Input, Parser, Parsed, and_then, command, keyword, next, expect, sees, behind, op_next, joined, joined_all, and_or, lists, closes_next, separator_next, body_of, loop_command, if_command}
 use Rattle.hushlang.proofs.Turns.{joined_more, joined_end, command_simple}
 use Rattle.hushlang.proofs.Shorter.{command_shorter, and_or_shorter, block_shorter, past-shorter}
 use Rattle.hushlang.specs.Laws.{EachTreeIsRead, OneTree}
@@ -122,28 +122,28 @@ module _ (end : End) (size : ℕ) where
         let some : 0 < turns = omega arith in
         let s = command_shorter k in
         let p = past-shorter is_newline tokens in
-        let onto = λ (x : Outcome Command). and_then x (λ one. joined rule (turns - 1) (found ++ (op, one) ∷ [])) in
+        let onto = λ (x : Parsed Command). and_then x (λ one. joined rule (turns - 1) (found ++ (op, one) ∷ [])) in
         joined_more rule turns found (at (t ∷ tokens)) op some o ∙ ap onto (ok _ _ _ k) ∙ joined_reads (turns - 1) (found ++ (op, c) ∷ []) (omega arith) m ∙ ap (λ (x : Joined). Ok (x, at rest)) (append_joined-push found op c j)
 
     and_or_reads : {tokens rest : List Token} {a : AndOr} → IsAndOr d tokens a rest → and_or rule (at tokens) ≡ Ok (a, at rest)
     unfolding and_or joined_all append_joined
     and_or_reads {rest = rest} (starts {after = after} {first = c} {joined = j} k m) =
-        let onto = λ (x : Outcome Command). and_then x (λ first. spec.◌>>=◌ (joined_all rule) (λ j. spec.pure (Starts first j))) in
-        let then_joined = λ (x : Outcome Joined). and_then x (λ j. spec.pure (Starts c j)) in
+        let onto = λ (x : Parsed Command). and_then x (λ first. spec.◌>>=◌ (joined_all rule) (λ j. spec.pure (Starts first j))) in
+        let then_joined = λ (x : Parsed Joined). and_then x (λ j. spec.pure (Starts c j)) in
         ap onto (ok _ _ _ k) ∙ ap then_joined (joined_reads (length after) [] (omega arith) m)
 
     lists_read : (turns : ℕ) (found : List AndOr) {tokens rest : List Token} {l : Script} → length tokens < turns → IsLists d tokens l rest → lists rule turns found (at tokens) ≡ Ok (append_runs found l, at rest)
     unfolding closes_next separator_next behind
     lists_read turns found {tokens = tokens} h (last after {list = a} k e) =
         let some : 0 < turns = omega arith in
-        let onto = λ (x : Outcome AndOr). and_then x (λ a. λ i. spec.lists_by (lists rule (turns - 1) (found ++ a ∷ [])) (found ++ a ∷ []) (separator_next i) (closes_next (behind is_separator i)) i) in
+        let onto = λ (x : Parsed AndOr). and_then x (λ a. λ i. spec.lists_by (lists rule (turns - 1) (found ++ a ∷ [])) (found ++ a ∷ []) (separator_next i) (closes_next (behind is_separator i)) i) in
         let closed = λ (b : Bool). spec.lists_by (lists rule (turns - 1) (found ++ a ∷ [])) (found ++ a ∷ []) (separator_next (at after)) b (at after) in
         lists_once rule turns found (at tokens) some ∙ ap onto (and_or_reads k) ∙ ap closed e ∙ ap (λ (x : Script). Ok (x, at (past is_separator after))) (runs-append found a)
     lists_read turns found {tokens = tokens} {rest = rest} h (more {sep = sep} {after = after} {list = a} {lists = l} k s m) =
         let some : 0 < turns = omega arith in
         let fewer = and_or_shorter k in
         let p = past-shorter is_separator after in
-        let onto = λ (x : Outcome AndOr). and_then x (λ a. λ i. spec.lists_by (lists rule (turns - 1) (found ++ a ∷ [])) (found ++ a ∷ []) (separator_next i) (closes_next (behind is_separator i)) i) in
+        let onto = λ (x : Parsed AndOr). and_then x (λ a. λ i. spec.lists_by (lists rule (turns - 1) (found ++ a ∷ [])) (found ++ a ∷ []) (separator_next i) (closes_next (behind is_separator i)) i) in
         let by = λ (s b : Bool). spec.lists_by (lists rule (turns - 1) (found ++ a ∷ [])) (found ++ a ∷ []) s b (at (sep ∷ after)) in
         let goes_on : ends_block (past is_separator (sep ∷ after)) ≡ false = rw s (lists_open m) in
         let from = λ (b : Bool). lists rule (turns - 1) (found ++ a ∷ []) (at (grammar.past_if b (sep ∷ after) (past is_separator after))) in
@@ -180,7 +180,7 @@ module _ (end : End) (size : ℕ) where
           let some : 0 < turns = omega arith in
           let p = block_shorter c in
           let q = block_shorter bl in
-          let onto = λ (x : Outcome (Script × Script)). and_then x (λ one. λ i. spec.more_by rule (spec.arms rule (turns - 1)) (found ++ one ∷ []) (keyword i) i) in
+          let onto = λ (x : Parsed (Script × Script)). and_then x (λ one. λ i. spec.more_by rule (spec.arms rule (turns - 1)) (found ++ one ∷ []) (keyword i) i) in
           arms_once rule turns found (at tokens) some ∙ ap onto (arm_reads c k bl)
           ∙ more_reads (turns - 1) (found ++ (cond, b) ∷ []) (omega arith) m ∙ ap (λ (x : Arms). Ok (x, at rest)) (append_arms-push found cond b a)
 
@@ -188,7 +188,7 @@ module _ (end : End) (size : ℕ) where
       more_reads turns found h (arms_end {fi = fi} {rest = rest} k) =
           ap (λ o. spec.more_by rule (spec.arms rule turns) found o (at (fi ∷ rest))) k ∙ ap (λ (x : Arms). Ok (x, at (fi ∷ rest))) (arms_of-none found)
       more_reads turns found {rest = rest} h («else» {t = t} {tokens = tokens} {body = b} k bl) =
-          let onto = λ (x : Outcome Script). and_then x (λ b. spec.pure (arms_of found (Some b))) in
+          let onto = λ (x : Parsed Script). and_then x (λ b. spec.pure (arms_of found (Some b))) in
           ap (λ o. spec.more_by rule (spec.arms rule turns) found o (at (t ∷ tokens))) k ∙ ap onto (block_reads bl) ∙ ap (λ (x : Arms). Ok (x, at rest)) (arms_of-else found b)
       more_reads turns found h (elif {t = t} {tokens = tokens} k a) =
           ap (λ o. spec.more_by rule (spec.arms rule turns) found o (at (t ∷ tokens))) k ∙ arms_read turns found (omega arith) a

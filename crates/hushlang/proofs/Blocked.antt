@@ -7,7 +7,7 @@ use Rattle.hushlang.specs.Words.{reserved}
 use Rattle.hushlang.specs.Parsing as spec
 use Rattle.hushlang.proofs.Machine as m
 use Rattle.hushlang.proofs.Machine.{Frame, Condition, Consequence, Otherwise, LoopCondition, LoopBody, Phase, Start, Joint, Must, Words, After, Behind, Next, Close, Name, In, Items, Separators, Separated, State, Step, step, ends, run, goes}
-use Rattle.hushlang.specs.Places.{IsViable, place_of, IsRefusal, at_token, at_fault, at_end}
+use Rattle.hushlang.specs.RefusalPlaces.{IsViable, place_of, IsRefusal, at_token, at_fault, at_end}
 use Rattle.std.specs.List.{list_all}
 use Rattle.hushlang.specs.Laws.{RefusalsArePlaced, FewTokensComplete, completes}
 use Rattle.hushlang.proofs.Completion.{frames_end, frames_ends, frame_end, true_word, in_word, semi, frames_few, semi_few, true_few, in_few, name_few}

@@ -4,11 +4,11 @@ use Rattle.std.proofs.lemmas.Bool.{false≢true}
 use Rattle.std.proofs.lemmas.Option.{none-some}
 use Rattle.hushlang.specs.Token.{Token, Part, End, Whole, Refused}
 use Rattle.hushlang.specs.Tree.{Script, Empty, Runs, AndOr, Starts, Joined, Alone, Joins, Command, If, Loop, For, Arms, NoElse, Else, Arm, Word}
-use Rattle.hushlang.specs.View.{runs, joins as joins_of, arms as arms_of}
+use Rattle.hushlang.specs.TreesShown.{runs, joins as joins_of, arms as arms_of}
 use Rattle.hushlang.specs.Grammar.{AreAssignments, no_word, assigned, IsCommand, IsArms, IsMore, IsLoop, IsBody, IsBlock, IsLists, IsAndOr, IsJoined, IsScript, no_command, commands, is_word, is_separator, is_newline, words, word_of, past, past_if, reserved_of, op_of, goes_on, assignment, value_of, ends_block, name_in, is_in_word}
 use Rattle.hushlang.specs.Grammar as g
 use Rattle.hushlang.specs.Parsing as spec
-use Rattle.hushlang.specs.Parsing.{Input, Parser, Outcome, and_then, ◌>>=◌, command, keyword, next, expect, behind, joined, joined_all, and_or, lists, lists_by, joined_by, more_by, separator_first, reserved_first}
+use Rattle.hushlang.specs.Parsing.{Input, Parser, Parsed, and_then, ◌>>=◌, command, keyword, next, expect, behind, joined, joined_all, and_or, lists, lists_by, joined_by, more_by, separator_first, reserved_first}
 use Rattle.hushlang.specs.Laws.{WhatIsReadIsATree}
 use Rattle.hushlang.proofs.Agreement.{append_joined, joins-append, append_joined-push, append_runs, runs-append, append_runs-push, append_arms, arms_of-none, arms_of-else, append_arms-push}
 use Rattle.hushlang.proofs.Shorter.{command_shorter, past-shorter}
@@ -31,7 +31,7 @@ ok_or_else : {A E : Type 0} → A → Result A E → A
 ok_or_else d (Ok a) = a
 ok_or_else d (Err e) = d
 
-pub ok_same : {A : Type 0} {a b : A × Input} (x : Outcome A) → x ≡ Ok a → x ≡ Ok b → a ≡ b
+pub ok_same : {A : Type 0} {a b : A × Input} (x : Parsed A) → x ≡ Ok a → x ≡ Ok b → a ≡ b
 unfolding ok_or_else
 ok_same {a = a} x p q = ap (ok_or_else a) (sym p ∙ q)
 
@@ -47,11 +47,11 @@ script_same : (s t : Script) → ◌≡◌ {A = Result Script SyntaxError} (Ok s
 unfolding script_or
 script_same s t e = ap (script_or s) e
 
-pub and_then_ok : {A B : Type 0} (o : Outcome A) (f : A → Parser B) (b : B) (j : Input) → and_then o f ≡ Ok (b, j) → (a : A) × (i : Input) × (o ≡ Ok (a, i)) × (f a i ≡ Ok (b, j))
+pub and_then_ok : {A B : Type 0} (o : Parsed A) (f : A → Parser B) (b : B) (j : Input) → and_then o f ≡ Ok (b, j) → (a : A) × (i : Input) × (o ≡ Ok (a, i)) × (f a i ≡ Ok (b, j))
 and_then_ok (Ok p) f b j e = (p.0, p.1, refl, e)
 and_then_ok (Err x) f b j e = absurd (err_not_ok e)
 
-if_ok : {A : Type 0} (b : Bool) (a : A) (i : Input) (x : SyntaxError) (c : A) (j : Input) → if◌then◌else◌ {A = Outcome A} b (Ok (a, i)) (Err x) ≡ Ok (c, j) → (b ≡ true) × (a ≡ c) × (i ≡ j)
+if_ok : {A : Type 0} (b : Bool) (a : A) (i : Input) (x : SyntaxError) (c : A) (j : Input) → if◌then◌else◌ {A = Parsed A} b (Ok (a, i)) (Err x) ≡ Ok (c, j) → (b ≡ true) × (a ≡ c) × (i ≡ j)
 if_ok true a i x c j e = let p = ok_same _ refl e in (refl, ap (λ q. q.0) p, ap (λ q. q.1) p)
 if_ok false a i x c j e = absurd (err_not_ok e)
 
@@ -429,7 +429,7 @@ finish_at_ok s [] Whole size t e = (refl, refl, script_same s t e)
 finish_at_ok s [] (Refused x) size t e = absurd (err_not_ok e)
 finish_at_ok s (x ∷ tokens) end size t e = absurd (err_not_ok e)
 
-finish_ok : (end : End) (size : ℕ) (d : ℕ) (tokens : List Token) (o : Outcome Script) → spec.script d (at end size tokens) ≡ o → (t : Script) → spec.finish o ≡ Ok t → (end ≡ Whole) × IsScript d tokens t
+finish_ok : (end : End) (size : ℕ) (d : ℕ) (tokens : List Token) (o : Parsed Script) → spec.script d (at end size tokens) ≡ o → (t : Script) → spec.finish o ≡ Ok t → (end ≡ Whole) × IsScript d tokens t
 finish_ok end size d tokens (Err x) is t e = absurd (err_not_ok e)
 finish_ok end size d tokens (Ok p) is t e =
     let f = finish_at_ok p.0 p.1.tokens p.1.end p.1.size t e in

@@ -5,7 +5,7 @@ use Rattle.std.proofs.lemmas.List.{length-append}
 use Rattle.std.specs.List.{list_all}
 use Rattle.text.specs.Bytes.{newline}
 use Rattle.text.specs.Words.{is_space}
-use Rattle.hushlang.specs.Bytes.{is_separator, begins_name, is_name_byte, is_brace_byte, is_escapable, begins}
+use Rattle.hushlang.specs.ByteClasses.{is_separator, begins_name, is_name_byte, is_brace_byte, is_escapable, begins}
 use Rattle.hushlang.specs.Token.{Part, Plain, Kept, Mark, Var, Status, Token, sign, word, End, Whole}
 use Rattle.hushlang.specs.Token as ends
 use Rattle.hushlang.specs.Spelling as spelling
@@ -13,7 +13,7 @@ use Rattle.hushlang.specs.Spelling.{is_bare, IsDollar, IsBadDollar, open_brace, 
 use Rattle.hushlang.specs.declared.token.SyntaxError.{SyntaxError}
 use Rattle.hushlang.specs.declared.token.SyntaxError.TheVariants.{SingleAmp, SinglePipe}
 use Rattle.hushlang.specs.declared.token.Kind.TheVariants as kinds
-use Rattle.hushlang.specs.Reading.{Lexed, lexed}
+use Rattle.hushlang.specs.Tokenizing.{Lexed, lexed}
 use Rattle.hushlang.specs.Laws.{EachSpelled, SpelledOnce}
 use Rattle.hushlang.proofs.Spelled.{row_span, tokens_read}
 

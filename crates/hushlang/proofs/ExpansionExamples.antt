@@ -3,14 +3,14 @@ use Rattle.std.specs.Prelude.{◌≡◌, ℕ, List, [], ◌∷◌, true, false, 
 use Rattle.std.proofs.Common.{refl, bytes_eq}
 use Rattle.std.specs.Fmt.{digits}
 use Rattle.hushlang.specs.Tree.{Word, Piece, Bytes, Mark, Var, Status}
-use Rattle.hushlang.specs.Expansion.{Setting, atoms, fields, joined}
+use Rattle.hushlang.specs.Expansion.{Parameters, atoms, fields, joined}
 
 -- one variable alone is set
-abbrev pub only : List ℕ → List ℕ → ℕ → Setting
+abbrev pub only : List ℕ → List ℕ → ℕ → Parameters
 only name value status = record { value = λ asked. (if bytes_eq asked name then Some value else None); status = status }
 
 -- `x` is ` a  b `, with a blank at each end
-abbrev pub blanks : Setting
+abbrev pub blanks : Parameters
 blanks = only (codes "x") (codes " a  b ") 0
 
 abbrev pub x : Piece

@@ -4,7 +4,7 @@ use Rattle.hushlang.specs.Token.{Token, End, Whole, Refused}
 use Rattle.hushlang.specs.Tree.{Script}
 use Rattle.hushlang.specs.Grammar.{IsScript}
 use Rattle.hushlang.specs.Parsing.{whole}
-use Rattle.hushlang.specs.Places.{IsViable, IsRefusal, at_token, at_fault, at_end}
+use Rattle.hushlang.specs.RefusalPlaces.{IsViable, IsRefusal, at_token, at_fault, at_end}
 use Rattle.hushlang.specs.Laws.{FaultsAreAnswered, PrefixIsViable}
 use Rattle.hushlang.proofs.Converse.{what_is_read_is_a_tree}
 use Rattle.hushlang.proofs.Blocked.{refusals_are_placed}

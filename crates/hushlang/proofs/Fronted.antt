@@ -4,8 +4,8 @@ use Rattle.std.proofs.Common.{◌≡◌, ℕ, nat_eq, ◌<◌, ◌≤◌, length
 use Rattle.std.proofs.lemmas.List.{map-append, length-append, length-map}
 use Rattle.hushlang.specs.Token.{Part, Plain, Kept, Mark, Var, Status}
 use Rattle.hushlang.specs.Words.{plain_byte, is_plain, reserved}
-use Rattle.hushlang.specs.Reading.{Seen, Takes, Refuses, in_front}
-use Rattle.hushlang.specs.Lexing.{parts_in}
+use Rattle.hushlang.specs.Tokenizing.{Seen, Takes, Refuses, in_front}
+use Rattle.hushlang.specs.LexerShown.{parts_in}
 use Rattle.hushlang.specs.declared.token.SyntaxError.{SyntaxError}
 use Rattle.hushlang.proofs.Names.{plain_is}
 

@@ -5,11 +5,11 @@ use Rattle.std.proofs.Math.Seq.{take-append_seam}
 use Rattle.std.proofs.lemmas.Bool.{cond_both, false≢true, and_from, not_from_false}
 use Rattle.text.specs.Bytes.{newline}
 use Rattle.text.specs.Words.{is_space}
-use Rattle.hushlang.specs.Bytes.{is_separator, begins}
+use Rattle.hushlang.specs.ByteClasses.{is_separator, begins}
 use Rattle.hushlang.specs.Token.{Part, Token, sign}
-use Rattle.hushlang.specs.Reading.{Seen, Takes, Refuses, row, Ends, Front, Gap, Sees, Stops, word_at, word_front, separator_front, front, skip_of, follow, Lexed, lexed, lexed_from}
-use Rattle.hushlang.specs.Cutting.{stop_of}
-use Rattle.hushlang.specs.Lexing.{shown, BeginsWord, parts_in}
+use Rattle.hushlang.specs.Tokenizing.{Seen, Takes, Refuses, row, Ends, Front, Gap, Sees, Stops, word_at, word_front, separator_front, front, skip_of, follow, Lexed, lexed, lexed_from}
+use Rattle.hushlang.specs.CuttersShown.{stop_of}
+use Rattle.hushlang.specs.LexerShown.{front_shown, BeginsWord, parts_in}
 use Rattle.hushlang.specs.declared.parts.Mode.TheVariants.{Bare}
 use Rattle.hushlang.specs.declared.token.Kind.{Kind}
 use Rattle.hushlang.specs.declared.token.Kind.TheVariants as kinds
@@ -91,7 +91,7 @@ module _ (source : List ℕ) (at : ℕ) (inside : at < length source) where
   behind_length : suc at + length behind ≡ length source
   behind_length = omega (arith, length-drop (at + 1) source)
 
-  word_seen : BeginsWord first behind → (stop : ℕ) (seen : Seen) → row Bare at 0 at (first ∷ behind) ≡ seen → Ok stop ≡ stop_of seen → (Ok (code.Token kinds.Word stop) ≡ shown at (word_at at seen)) × (at < stop) × (stop ≤ length source)
+  word_seen : BeginsWord first behind → (stop : ℕ) (seen : Seen) → row Bare at 0 at (first ∷ behind) ≡ seen → Ok stop ≡ stop_of seen → (Ok (code.Token kinds.Word stop) ≡ front_shown at (word_at at seen)) × (at < stop) × (stop ≤ length source)
   word_seen begins stop (Refuses error) is e = absurd (cc)
   word_seen begins stop (Takes stop' parts) is e =
       let same : stop ≡ stop' = cc in
@@ -100,15 +100,15 @@ module _ (source : List ℕ) (at : ℕ) (inside : at < length source) where
       let size = behind_length in
       (ap (λ n. Ok (code.Token kinds.Word n)) n, omega (arith, n), omega (arith, n, s.2, size))
 
-  pub word_ok : BeginsWord first behind → (stop : ℕ) → Ok stop ≡ stop_of (row Bare at 0 at (drop at source)) → (Ok (code.Token kinds.Word stop) ≡ shown at (word_front at first behind)) × (at < stop) × (stop ≤ length source)
+  pub word_ok : BeginsWord first behind → (stop : ℕ) → Ok stop ≡ stop_of (row Bare at 0 at (drop at source)) → (Ok (code.Token kinds.Word stop) ≡ front_shown at (word_front at first behind)) × (at < stop) × (stop ≤ length source)
   unfolding word_front
   word_ok begins stop e = word_seen begins stop (row Bare at 0 at (first ∷ behind)) refl (e ∙ ap (λ (x : List ℕ). stop_of (row Bare at 0 at x)) (drop_more source at 0 inside))
 
-  word_refused : (error : SyntaxError) (seen : Seen) → Err error ≡ stop_of seen → Err error ≡ shown at (word_at at seen)
+  word_refused : (error : SyntaxError) (seen : Seen) → Err error ≡ stop_of seen → Err error ≡ front_shown at (word_at at seen)
   word_refused error (Refuses error') e = cc
   word_refused error (Takes stop parts) e = absurd (cc)
 
-  pub word_err : (error : SyntaxError) → Err error ≡ stop_of (row Bare at 0 at (drop at source)) → Err error ≡ shown at (word_front at first behind)
+  pub word_err : (error : SyntaxError) → Err error ≡ stop_of (row Bare at 0 at (drop at source)) → Err error ≡ front_shown at (word_front at first behind)
   unfolding word_front
   word_err error e = word_refused error (row Bare at 0 at (first ∷ behind)) (e ∙ ap (λ (x : List ℕ). stop_of (row Bare at 0 at x)) (drop_more source at 0 inside))
 
@@ -123,7 +123,7 @@ module _ (source : List ℕ) (at : ℕ) (inside : at < length source) where
       ∙ ap (λ (x : List ℕ). lexed_from 0 (suc at + skip) x) (drop-drop skip (at + 1) source ∙ ap (λ n. drop n source) k)
       ∙ ap (λ n. lexed_from 0 n (drop (at + suc skip) source)) n)
 
-  gap_seen : (stop : ℕ) (found : Front) → front at first behind ≡ found → Ok (code.Gap stop) ≡ shown at found → stop ≤ length source → lexed at (drop at source) ≡ lexed stop (drop stop source)
+  gap_seen : (stop : ℕ) (found : Front) → front at first behind ≡ found → Ok (code.Gap stop) ≡ front_shown at found → stop ≤ length source → lexed at (drop at source) ≡ lexed stop (drop stop source)
   gap_seen stop (Gap skip) is e h =
       let n : stop ≡ at + suc skip = cc in
       let size = behind_length in
@@ -131,7 +131,7 @@ module _ (source : List ℕ) (at : ℕ) (inside : at < length source) where
   gap_seen stop (Sees token skip) is e h = absurd (cc)
   gap_seen stop (Stops error) is e h = absurd (cc)
 
-  pub gap_next : (stop : ℕ) → Ok (code.Gap stop) ≡ shown at (front at first behind) → stop ≤ length source → lexed at (drop at source) ≡ lexed stop (drop stop source)
+  pub gap_next : (stop : ℕ) → Ok (code.Gap stop) ≡ front_shown at (front at first behind) → stop ≤ length source → lexed at (drop at source) ≡ lexed stop (drop stop source)
   gap_next stop e h = gap_seen stop (front at first behind) refl e h
 
   abbrev slice : ℕ → List ℕ
@@ -144,7 +144,7 @@ module _ (source : List ℕ) (at : ℕ) (inside : at < length source) where
   abbrev IsNext : Kind → ℕ → Type 0
   IsNext kind stop = (lexed at (drop at source) ≡ with_token kind stop (lexed stop (drop stop source))) × ((end : ℕ) × (row Bare 0 0 0 (slice stop) ≡ Takes end (parts_in (row Bare 0 0 0 (slice stop)))))
 
-  token_seen : (kind : Kind) (stop : ℕ) (found : Front) → front at first behind ≡ found → IsSound at first behind found → Ok (code.Token kind stop) ≡ shown at found → IsNext kind stop
+  token_seen : (kind : Kind) (stop : ℕ) (found : Front) → front at first behind ≡ found → IsSound at first behind found → Ok (code.Token kind stop) ≡ front_shown at found → IsNext kind stop
   token_seen kind stop (Gap skip) is s e = absurd (cc)
   token_seen kind stop (Stops error) is s e = absurd (cc)
   token_seen kind stop (Sees token skip) is s e =
@@ -160,5 +160,5 @@ module _ (source : List ℕ) (at : ℕ) (inside : at < length source) where
         (s.3.0, reads ∙ ap (Takes s.3.0) parts),
       )
 
-  pub token_next : (kind : Kind) (stop : ℕ) → Ok (code.Token kind stop) ≡ shown at (front at first behind) → IsNext kind stop
+  pub token_next : (kind : Kind) (stop : ℕ) → Ok (code.Token kind stop) ≡ front_shown at (front at first behind) → IsNext kind stop
   token_next kind stop e = token_seen kind stop (front at first behind) refl (sound at first behind) e

@@ -4,7 +4,7 @@ use Rattle.std.specs.Prelude.{codes}
 use Rattle.hushlang.specs.Pieces.{pieces}
 use Rattle.hushlang.specs.Tree as tree
 use Rattle.hushlang.specs.Token.{Plain, Kept, Mark, Var, Status, Token, sign, word, End, Whole, Refused}
-use Rattle.hushlang.specs.Reading.{Lexed, lexed, step, bare, dollar, braced, inside, front, word_front}
+use Rattle.hushlang.specs.Tokenizing.{Lexed, lexed, step, bare, dollar, braced, inside, front, word_front}
 use Rattle.hushlang.specs.declared.token.Kind.TheVariants as kinds
 use Rattle.hushlang.specs.declared.token.SyntaxError.TheVariants.{OpenQuote, LoneBackslash, OpenBrace, BadVariable, SingleAmp, SinglePipe}
 

@@ -4,12 +4,12 @@ use Rattle.std.specs.List.{prefix_len, list_all}
 use Rattle.std.proofs.lemmas.List.Folds.{list_all-append}
 use Rattle.std.proofs.Math.Dec.{eqb-suc-suc, eqb-zero-suc}
 use Rattle.std.proofs.lemmas.Option.{same_Some}
-use Rattle.hushlang.specs.Bytes.{begins_name, is_name_byte, continues_name, is_between}
+use Rattle.hushlang.specs.ByteClasses.{begins_name, is_name_byte, continues_name, is_between}
 use Rattle.hushlang.specs.Token.{Part, Plain, Kept, Mark, Var, Status}
 use Rattle.hushlang.specs.Words.{plain_bytes, plain_byte}
-use Rattle.hushlang.specs.Reading.{Seen, Takes, Refuses, in_front, row}
-use Rattle.hushlang.specs.Cutting.{IsTaken}
-use Rattle.hushlang.specs.Lexing.{IsCut, parts_in}
+use Rattle.hushlang.specs.Tokenizing.{Seen, Takes, Refuses, in_front, row}
+use Rattle.hushlang.specs.CuttersShown.{IsTaken}
+use Rattle.hushlang.specs.LexerShown.{IsCut, parts_in}
 use Rattle.hushlang.specs.Grammar.{up_to_equals, with_front, is_name, name_of, name_at, assignment, named}
 use Rattle.hushlang.specs.declared.token.Token as code
 use Rattle.hushlang.specs.declared.parts.Mode.TheVariants.{Bare}

@@ -1,9 +1,9 @@
 -- The next token of the reader is the next by the rules.
 use Rattle.std.proofs.Common.{◌≡◌, [], ◌∷◌, drop, Option, Some, None, Result, Ok, Err, ap, ◌∙◌, subst}
 use Rattle.hushlang.specs.Token.{Whole, Refused}
-use Rattle.hushlang.specs.Reading.{Lexed}
+use Rattle.hushlang.specs.Tokenizing.{Lexed}
 use Rattle.hushlang.specs.Spelling.{Spells}
-use Rattle.hushlang.specs.Lexing.{Coming, tokens_to_come, token_of, StillSpells, Gives, SpellsNext}
+use Rattle.hushlang.specs.LexerShown.{Coming, tokens_to_come, token_of, StillSpells, Gives, SpellsNext}
 use Rattle.hushlang.proofs.EachSpelled.{each_spelled, spelled_once}
 use Rattle.hushlang.specs.declared.token.Token.{Token}
 use Rattle.hushlang.specs.declared.token.SyntaxError.{SyntaxError}

@@ -3,11 +3,11 @@ use Rattle.std.proofs.Common.{◌≡◌, ◌∙◌, refl, sym, ap, ℕ, ◌+◌,
 use Rattle.std.proofs.lemmas.List.{map-append, drop_more}
 use Rattle.std.proofs.Math.ListN.{drop_of_length-le}
 use Rattle.hushlang.specs.Expansion.{Atom, Kept, Separator, Mark, separates, split_atom, kept_bytes}
-use Rattle.hushlang.specs.Expanding.{Gathered, closed, with_atom, with_atoms, AreCutAlike, IsBrief}
+use Rattle.hushlang.specs.Splitting.{FieldsSoFar, closed, with_atom, with_atoms, AreCutAlike, IsBrief}
 use Rattle.hushlang.proofs.ExpandLemmas.{with_atoms-append}
 
 -- what is on the way behind a split value
-abbrev pub behind_value : Gathered → List ℕ → Gathered
+abbrev pub behind_value : FieldsSoFar → List ℕ → FieldsSoFar
 behind_value g value = with_atoms g (map split_atom value)
 
 -- a last separator stands in for no byte that is kept
@@ -17,14 +17,14 @@ for_cut false = 0
 
 -- the short value of the bytes that were read
 pub record IsShortSoFar (value short : List ℕ) (at : ℕ) (cut : Bool) : Type 0 where
-  pub alike : (g : Gathered) → behind_value (behind_value g short) (drop at value) ≡ behind_value g value
-  pub ended : cut ≡ true → (g : Gathered) → closed (behind_value g short) ≡ behind_value g short
+  pub alike : (g : FieldsSoFar) → behind_value (behind_value g short) (drop at value) ≡ behind_value g value
+  pub ended : cut ≡ true → (g : FieldsSoFar) → closed (behind_value g short) ≡ behind_value g short
   pub brief : length short ≤ 2 * length (kept_bytes (map split_atom short)) + for_cut cut
 
-closed-closed : (g : Gathered) → closed (closed g) ≡ closed g
+closed-closed : (g : FieldsSoFar) → closed (closed g) ≡ closed g
 closed-closed g = ap (λ whole. record { whole = whole; field = (closed g).field; begun = false }) (append-nil (closed g).whole)
 
-behind_value-push : (g : Gathered) (short : List ℕ) (byte : ℕ) → behind_value g (short ++ byte ∷ []) ≡ with_atom (behind_value g short) (split_atom byte)
+behind_value-push : (g : FieldsSoFar) (short : List ℕ) (byte : ℕ) → behind_value g (short ++ byte ∷ []) ≡ with_atom (behind_value g short) (split_atom byte)
 behind_value-push g short byte = ap (with_atoms g) (map-append split_atom short (byte ∷ [])) ∙ with_atoms-append g (map split_atom short) (split_atom byte ∷ [])
 
 kept_bytes-append : (a b : List Atom) → kept_bytes (a ++ b) ≡ kept_bytes a ++ kept_bytes b
@@ -36,7 +36,7 @@ kept_bytes-append (Mark ∷ a) b = kept_bytes-append a b
 split_atom-is : (byte : ℕ) (separator : Bool) → separates byte ≡ separator → split_atom byte ≡ cond separator (Separator byte) (Kept byte)
 split_atom-is byte separator is = ap (λ separator. cond separator (Separator byte) (Kept byte)) is
 
-closed_by : (g : Gathered) (byte : ℕ) → separates byte ≡ true → with_atom g (split_atom byte) ≡ closed g
+closed_by : (g : FieldsSoFar) (byte : ℕ) → separates byte ≡ true → with_atom g (split_atom byte) ≡ closed g
 closed_by g byte is = ap (with_atom g) (split_atom-is byte true is)
 
 -- a separator behind another is left out
@@ -50,7 +50,7 @@ skipped value short at inside separator so_far =
       brief = so_far.brief;
     }
 
-ended_by : (short : List ℕ) (byte : ℕ) → separates byte ≡ true → (g : Gathered) → closed (behind_value g (short ++ byte ∷ [])) ≡ behind_value g (short ++ byte ∷ [])
+ended_by : (short : List ℕ) (byte : ℕ) → separates byte ≡ true → (g : FieldsSoFar) → closed (behind_value g (short ++ byte ∷ [])) ≡ behind_value g (short ++ byte ∷ [])
 ended_by short byte separator g =
     let now : behind_value g (short ++ byte ∷ []) ≡ closed (behind_value g short) = behind_value-push g short byte ∙ closed_by (behind_value g short) byte separator in
     ap closed now ∙ closed-closed (behind_value g short) ∙ sym now

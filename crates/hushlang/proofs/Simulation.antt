@@ -4,7 +4,7 @@ use Rattle.std.proofs.lemmas.Bool.{false≢true, true≢false}
 use Rattle.std.proofs.lemmas.Option.{none-some}
 use Rattle.hushlang.specs.Token.{Token, Part, End, Whole, Refused}
 use Rattle.hushlang.specs.Tree.{Script, AndOr, Starts, Command, If, Loop, For, Word}
-use Rattle.hushlang.specs.View.{arms as arms_of}
+use Rattle.hushlang.specs.TreesShown.{arms as arms_of}
 use Rattle.hushlang.specs.Grammar.{is_word, is_separator, is_newline, words, words_if, word_of, past, past_if, reserved_of, op_of, goes_on, assignment, value_of, ends_block, closes_at, name_in, is_in_word}
 use Rattle.hushlang.specs.Grammar as g
 use Rattle.hushlang.specs.declared.token.Kind.{Kind}
@@ -12,7 +12,7 @@ use Rattle.hushlang.specs.declared.token.Kind.TheVariants as kinds
 use Rattle.hushlang.proofs.Converse.{command_gives, and_or_gives, arm_gives}
 use Rattle.hushlang.proofs.Shorter.{command_shorter, and_or_shorter, block_shorter, past-shorter}
 use Rattle.hushlang.specs.Parsing as spec
-use Rattle.hushlang.specs.Parsing.{Input, Parser, Outcome, and_then, command, keyword, next, expect, behind, joined, joined_all, and_or, lists, lists_by, joined_by, more_by, separator_first, reserved_first}
+use Rattle.hushlang.specs.Parsing.{Input, Parser, Parsed, and_then, command, keyword, next, expect, behind, joined, joined_all, and_or, lists, lists_by, joined_by, more_by, separator_first, reserved_first}
 use Rattle.hushlang.proofs.Machine as m
 use Rattle.hushlang.proofs.Machine.{Frame, Condition, Consequence, Otherwise, LoopCondition, LoopBody, Phase, Start, Joint, Must, Words, After, Behind, Next, Close, Name, In, Items, Separators, Separated, State, step, ends, run, goes}
 use Rattle.hushlang.specs.declared.tree.Op.{Op}
@@ -26,7 +26,7 @@ abbrev Done : Type 0
 Done = Result (Unit {0}) SyntaxError
 
 -- what follows a rule
-abbrev then_goes : {A : Type 0} → Outcome A → (Input → Done) → Done
+abbrev then_goes : {A : Type 0} → Parsed A → (Input → Done) → Done
 then_goes (Ok p) more = more p.1
 then_goes (Err e) more = Err e
 
@@ -36,7 +36,7 @@ on d p k i = run i.tokens i.end i.size record { left = d; phase = p; open_frames
 abbrev Leads : {A : Type 0} → Parser A → (last first : Input → Done) → Type 0
 Leads p last first = (i : Input) → then_goes (p i) last ≡ first i
 
-joins : {A B : Type 0} (o : Outcome A) (f : A → Parser B) (last mid : Input → Done) → ((a : A) → Leads (f a) last mid) → then_goes (and_then o f) last ≡ then_goes o mid
+joins : {A B : Type 0} (o : Parsed A) (f : A → Parser B) (last mid : Input → Done) → ((a : A) → Leads (f a) last mid) → then_goes (and_then o f) last ≡ then_goes o mid
 joins (Ok p) f last mid h = h p.0 p.1
 joins (Err e) f last mid h = refl
 
@@ -142,7 +142,7 @@ none_left (t ∷ tokens) h = absurd (omega (arith, h))
 
 -- ---- joined commands, and-or lists
 
-joins_ok : {A B : Type 0} (o : Outcome A) (f : A → Parser B) (last mid : Input → Done) → ((a : A) (j : Input) → o ≡ Ok (a, j) → then_goes (f a j) last ≡ mid j) → then_goes (and_then o f) last ≡ then_goes o mid
+joins_ok : {A B : Type 0} (o : Parsed A) (f : A → Parser B) (last mid : Input → Done) → ((a : A) (j : Input) → o ≡ Ok (a, j) → then_goes (f a j) last ≡ mid j) → then_goes (and_then o f) last ≡ then_goes o mid
 joins_ok (Ok p) f last mid h = h p.0 p.1 refl
 joins_ok (Err e) f last mid h = refl
 
@@ -535,7 +535,7 @@ finish_goes d s [] Whole size = refl
 finish_goes d s [] (Refused e) size = refl
 finish_goes d s (t ∷ tokens) end size = none_closes d (closes_at (reserved_of t)) (reserved_of t) t (run tokens end size)
 
-finishes : (d : ℕ) (o : Outcome Script) → forget (spec.finish o) ≡ then_goes o (on d Close [])
+finishes : (d : ℕ) (o : Parsed Script) → forget (spec.finish o) ≡ then_goes o (on d Close [])
 finishes d (Ok p) = finish_goes d p.0 p.1.tokens p.1.end p.1.size
 finishes d (Err e) = refl
 

@@ -5,11 +5,11 @@ use Rattle.std.proofs.Math.Seq.{take-append_seam, drop-append_seam}
 use Rattle.std.proofs.lemmas.List.{length-append}
 use Rattle.std.specs.List.{prefix_len, list_all}
 use Rattle.text.specs.Bytes.{newline}
-use Rattle.hushlang.specs.Bytes.{is_separator, is_ordinary, begins_name, is_name_byte, is_brace_byte, is_escapable, begins}
+use Rattle.hushlang.specs.ByteClasses.{is_separator, is_ordinary, begins_name, is_name_byte, is_brace_byte, is_escapable, begins}
 use Rattle.hushlang.specs.Token.{Part, Plain, Kept, Mark, Var, Status, Token, sign, word, End, Refused}
 use Rattle.hushlang.specs.Spelling as spelling
 use Rattle.hushlang.specs.Spelling.{dollar_itself, is_bare, IsDollar, IsBadDollar, open_brace, no_name, no_brace, Contents, Row, EndsWord, IsFaulty, may_begin_word, Spells}
-use Rattle.hushlang.specs.Reading.{Step, Goes, Ends, Fails, splits, variable, closed, braced, named, dollar, bare, inside, step, Seen, Takes, Refuses, in_front, mode_behind, skip_behind, stop_behind, onto, row, Front, Gap, Sees, Stops, word_at, word_front, front, skip_of, follow, lexed_from}
+use Rattle.hushlang.specs.Tokenizing.{Step, Goes, Ends, Fails, splits, variable, closed, braced, named, dollar, bare, inside, step, Seen, Takes, Refuses, in_front, mode_behind, skip_behind, stop_behind, onto, row, Front, Gap, Sees, Stops, word_at, word_front, front, skip_of, follow, lexed_from}
 use Rattle.hushlang.specs.declared.parts.Mode.{Mode}
 use Rattle.hushlang.specs.declared.parts.Mode.TheVariants.{Bare, Single, Double}
 use Rattle.hushlang.specs.declared.token.SyntaxError.{SyntaxError}

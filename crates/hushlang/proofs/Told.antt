@@ -2,15 +2,15 @@
 use Rattle.std.proofs.Common.{◌≡◌, ◌≢◌, ℕ, ◌+◌, List, [], ◌∷◌, ◌++◌, length, Option, Some, None, Result, Ok, Err, IfOk, IfErr, refl, ap, sym, ◌∙◌, subst, append_assoc, append-nil}
 use Rattle.std.proofs.lemmas.Option.{same_Some}
 use Rattle.hushlang.specs.Token.{Token, End, Whole, Refused}
-use Rattle.hushlang.specs.Reading.{Lexed, lexed}
+use Rattle.hushlang.specs.Tokenizing.{Lexed, lexed}
 use Rattle.hushlang.specs.Spelling.{Spells}
 use Rattle.hushlang.specs.Tree as tree
 use Rattle.hushlang.specs.Tree.{FullScript}
-use Rattle.hushlang.specs.View as view
+use Rattle.hushlang.specs.TreesShown as view
 use Rattle.hushlang.specs.Grammar.{Derives, max_nesting}
 use Rattle.hushlang.specs.Parsing.{Answers, whole}
-use Rattle.hushlang.specs.Cursor.{input_with, input_in}
-use Rattle.hushlang.specs.Places.{IsViable, IsRefusal, place_of, at_token, at_fault, at_end}
+use Rattle.hushlang.specs.CursorShown.{input_with, input_in}
+use Rattle.hushlang.specs.RefusalPlaces.{IsViable, IsRefusal, place_of, at_token, at_fault, at_end}
 use Rattle.hushlang.specs.Texts as texts
 use Rattle.hushlang.specs.Texts.{IsTreeOf, HasNoTree, IsFaultOf, IsBlocked, IsPlaced, IsFaultIf, AnswersFault, fault_place}
 use Rattle.hushlang.specs.Laws.{OneTreeOfText, OneBlockedPlace, EachTextIsBlocked, AreInOrder, StandsWithin}

@@ -2,9 +2,9 @@
 use Rattle.std.proofs.Common.{◌≡◌, ℕ, zero, suc, ◌-◌, ◌<◌, List, [], ◌∷◌, ◌++◌, Some, None, refl, ap, sym, ◌∙◌, arith}
 use Rattle.hushlang.specs.Tree.{Command}
 use Rattle.hushlang.specs.Parsing as spec
-use Rattle.hushlang.specs.Parsing.{Input, Parser, Outcome, ◌>>=◌, ◌>>◌, pure, and_then, joined, op_next, next, keyword, command, simple, if_command, loop_command}
+use Rattle.hushlang.specs.Parsing.{Input, Parser, Parsed, ◌>>=◌, ◌>>◌, pure, and_then, joined, op_next, next, keyword, command, simple, if_command, loop_command}
 use Rattle.hushlang.specs.Grammar.{is_newline}
-use Rattle.hushlang.specs.View.{joins}
+use Rattle.hushlang.specs.TreesShown.{joins}
 use Rattle.hushlang.specs.declared.tree.Op.{Op}
 use Rattle.hushlang.specs.declared.words.Reserved.{Reserved}
 

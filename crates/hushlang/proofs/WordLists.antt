@@ -4,7 +4,7 @@ use Rattle.hushlang.specs.Token.{Token, Part}
 use Rattle.hushlang.specs.Tree.{Word, Simple, Assign}
 use Rattle.hushlang.specs.Grammar.{is_word, word_of, words, words_if, past, past_if, assignment, value_of}
 use Rattle.hushlang.specs.Parsing as spec
-use Rattle.hushlang.specs.Parsing.{Input, Outcome, behind, next, word_ahead, all_words, all_values, values_by, assignments, simple, word_next, assignment_next}
+use Rattle.hushlang.specs.Parsing.{Input, Parsed, behind, next, word_ahead, all_words, all_values, values_by, assignments, simple, word_next, assignment_next}
 use Rattle.hushlang.proofs.Shorter.{past-shorter}
 use Rattle.hushlang.specs.declared.token.SyntaxError.{SyntaxError}
 use Rattle.hushlang.specs.declared.token.SyntaxError.TheVariants.{AssignmentBeforeCommand}
@@ -125,10 +125,10 @@ simple_is : (i : Input) (word assigns : Bool) → word_next i ≡ word → assig
 unfolding simple
 simple_is i word assigns w a = ap (λ b. spec.simple_by b (assignment_next i) i) w ∙ ap (λ b. spec.simple_by word b i) a
 
-ok_first : {A : Type 0} (p q : A × Input) → ◌≡◌ {A = Outcome A} (Ok p) (Ok q) → p.0 ≡ q.0
+ok_first : {A : Type 0} (p q : A × Input) → ◌≡◌ {A = Parsed A} (Ok p) (Ok q) → p.0 ≡ q.0
 ok_first {A = A} p q e = let same : p ≡ q = cc in ap (λ (x : A × Input). x.0) same
 
-ok_second : {A : Type 0} (p q : A × Input) → ◌≡◌ {A = Outcome A} (Ok p) (Ok q) → p.1 ≡ q.1
+ok_second : {A : Type 0} (p q : A × Input) → ◌≡◌ {A = Parsed A} (Ok p) (Ok q) → p.1 ≡ q.1
 ok_second {A = A} p q e = let same : p ≡ q = cc in ap (λ (x : A × Input). x.1) same
 
 words_same : (i j : Input) (all : List Word) → all_words i ≡ Ok (all, j) → (map word_of (words i.tokens) ≡ all) × (behind is_word i ≡ j)

@@ -15,25 +15,25 @@ pub data Atom : Type 0 where
   Separator : (byte : ℕ) → Atom
   Mark : Atom
 
--- what the variables and the status are
-pub record Setting : Type 0 where
+-- what words expand by: the values of the variables, and the status, which is `$?`
+pub record Parameters : Type 0 where
   pub value : List ℕ → Option (List ℕ)
   pub status : ℕ
 
--- the setting of a finite map of variables
-abbrev pub setting_of : FinMap (slice_cmp nat_cmp) (List ℕ) → ℕ → Setting
-setting_of variables status = record { value = finite.get variables; status = status }
+-- the parameters of a finite map of variables
+abbrev pub parameters_of : FinMap (slice_cmp nat_cmp) (List ℕ) → ℕ → Parameters
+parameters_of variables status = record { value = finite.get variables; status = status }
 
 -- one variable more is set, or has another value
-abbrev pub with_variable : Setting → (name value : List ℕ) → Setting
-with_variable setting name value = record {
-  value = λ other. if is_eq (slice_cmp nat_cmp other name) then Some value else setting.value other;
-  status = setting.status;
+abbrev pub with_variable : Parameters → (name value : List ℕ) → Parameters
+with_variable parameters name value = record {
+  value = λ other. if is_eq (slice_cmp nat_cmp other name) then Some value else parameters.value other;
+  status = parameters.status;
 }
 
 -- the value of a variable, empty where it is not set
-abbrev pub value_of : Setting → List ℕ → List ℕ
-value_of setting name = unwrap_or (setting.value name) []
+abbrev pub value_of : Parameters → List ℕ → List ℕ
+value_of parameters name = unwrap_or (parameters.value name) []
 
 -- a byte at which a split value is cut: a space, a tab or a newline
 abbrev pub separates : ℕ → Bool
@@ -42,16 +42,16 @@ separates byte = byte == ascii.space || byte == ascii.tab || byte == ascii.newli
 abbrev pub split_atom : ℕ → Atom
 split_atom byte = if separates byte then Separator byte else Kept byte
 
-abbrev pub atoms_of_piece : Setting → Piece → List Atom
-atoms_of_piece setting (tree.Bytes bytes) = map Kept bytes
-atoms_of_piece setting tree.Mark = Mark ∷ []
-atoms_of_piece setting (tree.Var name true) = map split_atom (value_of setting name)
-atoms_of_piece setting (tree.Var name false) = map Kept (value_of setting name)
-atoms_of_piece setting tree.Status = map Kept (decimal setting.status)
+abbrev pub atoms_of_piece : Parameters → Piece → List Atom
+atoms_of_piece parameters (tree.Bytes bytes) = map Kept bytes
+atoms_of_piece parameters tree.Mark = Mark ∷ []
+atoms_of_piece parameters (tree.Var name true) = map split_atom (value_of parameters name)
+atoms_of_piece parameters (tree.Var name false) = map Kept (value_of parameters name)
+atoms_of_piece parameters tree.Status = map Kept (decimal parameters.status)
 
 -- the atoms of a word, in order
-unfoldable pub atoms : Setting → Word → List Atom
-atoms setting word = flat_map (atoms_of_piece setting) word
+unfoldable pub atoms : Parameters → Word → List Atom
+atoms parameters word = flat_map (atoms_of_piece parameters) word
 
 -- an atom in front of the first of some parts
 abbrev pub onto_first : Atom → List (List Atom) → List (List Atom)
@@ -78,12 +78,12 @@ kept_bytes (Separator byte ∷ rest) = kept_bytes rest
 kept_bytes (Mark ∷ rest) = kept_bytes rest
 
 -- the fields of one word
-abbrev pub fields_of_word : Setting → Word → List (List ℕ)
-fields_of_word setting word = map kept_bytes (filter is_field (cut (atoms setting word)))
+abbrev pub fields_of_word : Parameters → Word → List (List ℕ)
+fields_of_word parameters word = map kept_bytes (filter is_field (cut (atoms parameters word)))
 
 -- the fields of all words, in order
-unfoldable pub fields : Setting → List Word → List (List ℕ)
-fields setting words = flat_map (fields_of_word setting) words
+unfoldable pub fields : Parameters → List Word → List (List ℕ)
+fields parameters words = flat_map (fields_of_word parameters) words
 
 -- the bytes of atoms that are not cut: a separator is then the byte that it was
 abbrev pub all_bytes : List Atom → List ℕ
@@ -93,8 +93,8 @@ all_bytes (Separator byte ∷ rest) = byte ∷ all_bytes rest
 all_bytes (Mark ∷ rest) = all_bytes rest
 
 -- all bytes of a word, uncut
-unfoldable pub joined : Setting → Word → List ℕ
-joined setting word = all_bytes (atoms setting word)
+unfoldable pub joined : Parameters → Word → List ℕ
+joined parameters word = all_bytes (atoms parameters word)
 
 -- how many bytes fields hold in all
 abbrev pub size : List (List ℕ) → ℕ

@@ -4,7 +4,7 @@
 use Rattle.std.specs.Prelude.{◌≡◌, ℕ, suc, Bool, true, false, List, [], ◌∷◌, map, Option, Some, None, ◌&&◌, ◌==◌, if◌then◌else◌, is_some, codes, option_map}
 use Rattle.std.specs.List.{list_all}
 use Rattle.text.specs.Bytes as ascii
-use Rattle.hushlang.specs.Bytes.{begins_name, is_name_byte}
+use Rattle.hushlang.specs.ByteClasses.{begins_name, is_name_byte}
 use Rattle.hushlang.specs.Token.{Part, Plain, Token}
 use Rattle.hushlang.specs.Words.{reserved, plain_bytes, is_plain}
 use Rattle.hushlang.specs.Pieces.{pieces}

@@ -7,11 +7,11 @@ use Rattle.hushlang.specs.declared.token.SyntaxError.TheVariants.{OpenQuote, Lon
 use Rattle.hushlang.specs.Tree.{Piece, Bytes, Script, AndOr, FullScript, ends_compound}
 use Rattle.hushlang.specs.Pieces.{pieces}
 use Rattle.hushlang.specs.Spelling.{Spells}
-use Rattle.hushlang.specs.Reading.{lexed}
+use Rattle.hushlang.specs.Tokenizing.{lexed}
 use Rattle.hushlang.specs.Words.{is_plain}
 use Rattle.hushlang.specs.Grammar.{IsScript, IsBlock, IsAndOr, closes_at, reserved_of, is_separator, is_word, is_in_word}
 use Rattle.hushlang.specs.Productions.{IsProduced, IsProducedScript}
-use Rattle.hushlang.specs.Places.{IsRefusal, IsViable}
+use Rattle.hushlang.specs.RefusalPlaces.{IsRefusal, IsViable}
 use Rattle.hushlang.specs.Texts.{IsTreeOf, IsBlocked}
 use Rattle.hushlang.specs.Parsing.{whole}
 

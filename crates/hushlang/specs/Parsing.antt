@@ -4,7 +4,7 @@ use Rattle.std.specs.Prelude.{◌≡◌, ◌≢◌, ℕ, zero, suc, Bool, true, 
 use Rattle.hushlang.specs.Token.{Part, Token, End, Whole, Refused}
 use Rattle.hushlang.specs.Grammar.{is_word, is_separator, is_newline, reserved_of, past, words, word_of, assignment, value_of, name_in, is_in_word, ends_block, goes_on}
 use Rattle.hushlang.specs.Tree.{Script, Empty, AndOr, Starts, Joined, Command, Simple, Assign, If, Loop, For, Arms, Word}
-use Rattle.hushlang.specs.View.{runs, joins as joins_of, arms as arms_of}
+use Rattle.hushlang.specs.TreesShown.{runs, joins as joins_of, arms as arms_of}
 use Rattle.hushlang.specs.declared.tree.Op.{Op}
 use Rattle.hushlang.specs.declared.words.Reserved.{Reserved}
 use Rattle.hushlang.specs.declared.words.Reserved.TheVariants as r
@@ -17,13 +17,13 @@ pub record Input : Type 0 where
   pub end : End
   pub size : ℕ
 
-abbrev pub Outcome : Type 0 → Type 0
-Outcome A = Result (A × Input) SyntaxError
+abbrev pub Parsed : Type 0 → Type 0
+Parsed A = Result (A × Input) SyntaxError
 
 abbrev pub Parser : Type 0 → Type 0
-Parser A = Input → Outcome A
+Parser A = Input → Parsed A
 
-abbrev pub and_then : {A B : Type 0} → Outcome A → (A → Parser B) → Outcome B
+abbrev pub and_then : {A B : Type 0} → Parsed A → (A → Parser B) → Parsed B
 and_then (Ok p) f = f p.0 p.1
 and_then (Err e) f = Err e
 
@@ -365,7 +365,7 @@ finished s (Ok u) = Ok s
 finished s (Err error) = Err error
 
 -- no token may be left, and no fault
-abbrev pub finish : Outcome Script → Result Script SyntaxError
+abbrev pub finish : Parsed Script → Result Script SyntaxError
 finish (Ok p) = finish_at p.0 p.1.tokens p.1.end p.1.size
 finish (Err error) = Err error
 
@@ -374,7 +374,7 @@ whole depth i = finish (script depth i)
 
 -- ---- what a function that parses ensures: the outcome of a rule, unless memory fails
 
-abbrev pub Reads : {X Y : Type 0} → (X → Y) → Outcome Y → Result X SyntaxError → Input → Type 0
+abbrev pub Reads : {X Y : Type 0} → (X → Y) → Parsed Y → Result X SyntaxError → Input → Type 0
 Reads view outcome (Ok x) new = outcome ≡ Ok (view x, new)
 Reads view outcome (Err e) new = e ≢ Memory → outcome ≡ Err e
 

@@ -4,9 +4,9 @@ use Rattle.std.specs.Prelude.{◌≡◌, ◌≢◌, ℕ, List, [], ◌∷◌, �
 use Rattle.std.specs.declared.vec.Vec.{Vec}
 use Rattle.std.specs.declared.alloc.Global.{Global}
 use Rattle.hushlang.specs.Token.{Part, Plain, Kept, Mark, Var, Status}
-use Rattle.hushlang.specs.Reading.{Seen, Takes, Refuses}
+use Rattle.hushlang.specs.Tokenizing.{Seen, Takes, Refuses}
 use Rattle.hushlang.specs.Tree as tree
-use Rattle.hushlang.specs.View as view
+use Rattle.hushlang.specs.TreesShown as view
 use Rattle.hushlang.specs.declared.tree.Piece.{Piece}
 use Rattle.hushlang.specs.declared.pieces.Gathering.{Gathering}
 use Rattle.hushlang.specs.declared.token.SyntaxError.{SyntaxError}
@@ -38,35 +38,35 @@ GivesPieces wanted (Err error) = error ≢ Memory → wanted ≡ Err error
 -- ---- on the way
 
 -- pieces that are whole, and the bytes of one that may still grow
-pub record Gathered : Type 0 where
+pub record PiecesSoFar : Type 0 where
   pub pieces : List tree.Piece
   pub bytes : List ℕ
 
-abbrev pub gathered : Gathering → Gathered
-gathered g = record { pieces = map view.piece g.pieces.items; bytes = g.bytes.items }
+abbrev pub pieces_so_far : Gathering → PiecesSoFar
+pieces_so_far g = record { pieces = map view.piece g.pieces.items; bytes = g.bytes.items }
 
 abbrev pub in_piece : List ℕ → List tree.Piece
 in_piece [] = []
 in_piece (b ∷ bytes) = tree.Bytes (b ∷ bytes) ∷ []
 
-abbrev pub closed : Gathered → Gathered
+abbrev pub closed : PiecesSoFar → PiecesSoFar
 closed g = record { pieces = g.pieces ++ in_piece g.bytes; bytes = [] }
 
-abbrev pub with_piece : Gathered → tree.Piece → Gathered
+abbrev pub with_piece : PiecesSoFar → tree.Piece → PiecesSoFar
 with_piece g piece = record { pieces = (closed g).pieces ++ piece ∷ []; bytes = [] }
 
-abbrev pub with_part : Gathered → Part → Gathered
+abbrev pub with_part : PiecesSoFar → Part → PiecesSoFar
 with_part g (Plain b) = record { pieces = g.pieces; bytes = g.bytes ++ b ∷ [] }
 with_part g (Kept b) = record { pieces = g.pieces; bytes = g.bytes ++ b ∷ [] }
 with_part g Mark = with_piece g tree.Mark
 with_part g (Var name split) = with_piece g (tree.Var name split)
 with_part g Status = with_piece g tree.Status
 
-abbrev pub with_parts : Gathered → List Part → Gathered
+abbrev pub with_parts : PiecesSoFar → List Part → PiecesSoFar
 with_parts g [] = g
 with_parts g (part ∷ parts) = with_parts (with_part g part) parts
 
 -- what is gathered behind pieces that are known, where these parts are to come
-abbrev pub pieces_behind : Gathered → Seen → Result (List tree.Piece) SyntaxError
+abbrev pub pieces_behind : PiecesSoFar → Seen → Result (List tree.Piece) SyntaxError
 pieces_behind g (Takes stop parts) = Ok (closed (with_parts g parts)).pieces
 pieces_behind g (Refuses error) = Err error

@@ -5,7 +5,7 @@ use Rattle.std.specs.Prelude.{◌≡◌, ◌≢◌, ℕ, suc, ◌+◌, Bool, tru
 use Rattle.std.specs.List.{list_all}
 use Rattle.text.specs.Bytes as ascii
 use Rattle.text.specs.Words.{is_space}
-use Rattle.hushlang.specs.Bytes.{is_separator, is_ordinary, begins_name, is_name_byte, is_brace_byte, is_escapable, begins}
+use Rattle.hushlang.specs.ByteClasses.{is_separator, is_ordinary, begins_name, is_name_byte, is_brace_byte, is_escapable, begins}
 use Rattle.hushlang.specs.Token.{Part, Plain, Kept, Mark, Var, Status, Token, sign, word, End, Whole, Refused}
 use Rattle.hushlang.specs.declared.token.Kind.TheVariants as kinds
 use Rattle.hushlang.specs.declared.token.SyntaxError.{SyntaxError}

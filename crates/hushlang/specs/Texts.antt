@@ -5,7 +5,7 @@ use Rattle.hushlang.specs.Token.{Token, End, Whole, Refused}
 use Rattle.hushlang.specs.Spelling.{Spells}
 use Rattle.hushlang.specs.Tree.{Script}
 use Rattle.hushlang.specs.Grammar.{Derives, max_nesting}
-use Rattle.hushlang.specs.Places.{IsViable}
+use Rattle.hushlang.specs.RefusalPlaces.{IsViable}
 use Rattle.hushlang.specs.declared.token.SyntaxError.{SyntaxError}
 use Rattle.hushlang.specs.declared.token.SyntaxError.TheVariants as error
 

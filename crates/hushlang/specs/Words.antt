@@ -2,7 +2,7 @@
 -- Ours: the reserved words are those of the hush shell of the U-Boot documentation, doc/usage/cmdline.
 use Rattle.std.specs.Prelude.{ℕ, Bool, true, false, ◌&&◌, ◌==◌, List, [], ◌∷◌, Option, Some, None, if◌then◌else◌, codes, option_map}
 use Rattle.hushlang.specs.Token.{Part, Plain}
-use Rattle.hushlang.specs.Reading.{Seen, Takes, Refuses}
+use Rattle.hushlang.specs.Tokenizing.{Seen, Takes, Refuses}
 use Rattle.hushlang.specs.declared.words.Reserved.{Reserved}
 use Rattle.hushlang.specs.declared.words.Reserved.TheVariants as r
 

@@ -3,7 +3,7 @@
 ghost use Rattle.std.specs.Prelude.{◌≡◌, ◌<◌, ◌≤◌, length, not, IsTrue, ◌==◌};
 ghost use Rattle.std.specs.List.{prefix_len};
 ghost use Rattle.text.specs.Bytes as ascii;
-ghost use Rattle.hushlang.specs.Bytes as spec;
+ghost use Rattle.hushlang.specs.ByteClasses as spec;
 
 use text::is_space;
 

@@ -4,8 +4,8 @@ ghost use Rattle.std.specs.Prelude.{◌≡◌, ◌<◌, ◌≤◌, length, IsSom
 ghost use Rattle.hushlang.specs.Parsing as spec;
 ghost use Rattle.hushlang.specs.Parsing.{Reads};
 ghost use Rattle.hushlang.specs.Grammar as grammar;
-ghost use Rattle.hushlang.specs.Lexing.{IsCut, token_of, tokens_to_come};
-ghost use Rattle.hushlang.specs.Cursor.{input_in, with_ahead, IsAhead};
+ghost use Rattle.hushlang.specs.LexerShown.{IsCut, token_of, tokens_to_come};
+ghost use Rattle.hushlang.specs.CursorShown.{input_in, with_ahead, IsAhead};
 ghost use Rattle.hushlang.specs.Tree as says;
 
 use crate::lexer::Lexer;
@@ -34,7 +34,7 @@ pub struct Tokens<'a> {
 
 impl<'a> Model for Tokens<'a> {
     ghost use Rattle.hushlang.specs.Parsing.{Input};
-    ghost use Rattle.hushlang.specs.Cursor.{input_of, IsAhead};
+    ghost use Rattle.hushlang.specs.CursorShown.{input_of, IsAhead};
 
     ghost Value = { Input };
 

@@ -3,8 +3,8 @@
 ghost use Rattle.std.specs.Prelude.{◌≡◌, ◌<◌, ◌≤◌, ◌+◌, ◌++◌, length, map, OnOk, IfOk, IfErr};
 ghost use Rattle.std.specs.Option.{option_copied};
 ghost use Rattle.hushlang.specs.Expansion as spec;
-ghost use Rattle.hushlang.specs.Expanding as way;
-ghost use Rattle.hushlang.specs.View as view;
+ghost use Rattle.hushlang.specs.Splitting as way;
+ghost use Rattle.hushlang.specs.TreesShown as view;
 
 use crate::tree::{Piece, Word};
 use itoa::Buffer;
@@ -58,23 +58,23 @@ impl<T: Drop> From<AllocFailed<T>> for ExpandError {
 /// The variables that are set, and the status of the last command.
 pub trait Vars {
     /// The values of the variables, and the status of the last command.
-    ghost setting: { Self → spec.Setting };
+    ghost parameters: { Self → spec.Parameters };
 
     /// The value of a variable, or None where it is not set.
     fn get(&self, name: &[u8]) -> Option<&[u8]>
-        ensures { option_copied result ≡ (setting self.now).value name.now };
+        ensures { option_copied result ≡ (parameters self.now).value name.now };
 
     /// The status of the last command.
     fn status(&self) -> u8
-        ensures { result ≡ (setting self.now).status };
+        ensures { result ≡ (parameters self.now).status };
 }
 
 /// The fields of all words, in order. The answer is TooLong exactly where they hold more than 65,536 bytes
 /// in all, and Memory only where a growth was refused.
 pub fn expand<V: Vars>(alloc: Global, words: &[Word], vars: &V) -> Result<Vec<Vec<u8>>, ExpandError>
-    ensures fields { IfOk result (λ found. map (λ field. field.items) found.items ≡ spec.fields (V.setting vars.now) (map view.word words.now)) }
-    ensures within_limit { OnOk result (spec.size (spec.fields (V.setting vars.now) (map view.word words.now)) ≤ spec.most_bytes) }
-    ensures too_long { IfErr result (λ error. error ≡ ExpandError.TooLong → spec.most_bytes < spec.size (spec.fields (V.setting vars.now) (map view.word words.now))) }
+    ensures fields { IfOk result (λ found. map (λ field. field.items) found.items ≡ spec.fields (V.parameters vars.now) (map view.word words.now)) }
+    ensures within_limit { OnOk result (spec.size (spec.fields (V.parameters vars.now) (map view.word words.now)) ≤ spec.most_bytes) }
+    ensures too_long { IfErr result (λ error. error ≡ ExpandError.TooLong → spec.most_bytes < spec.size (spec.fields (V.parameters vars.now) (map view.word words.now))) }
 {
     let mut fields = Gathering::new(alloc);
     let mut values = ShortValues::new(alloc);
@@ -87,9 +87,9 @@ pub fn expand<V: Vars>(alloc: Global, words: &[Word], vars: &V) -> Result<Vec<Ve
 /// All bytes of a word, without cutting it at separators. The answer is TooLong exactly where there are more
 /// than 65,536 of them, and Memory only where a growth was refused.
 pub fn expand_one<V: Vars>(alloc: Global, word: &Word, vars: &V) -> Result<Vec<u8>, ExpandError>
-    ensures bytes { IfOk result (λ value. value.items ≡ spec.joined (V.setting vars.now) (view.word word.now)) }
-    ensures within_limit { OnOk result (length (spec.joined (V.setting vars.now) (view.word word.now)) ≤ spec.most_bytes) }
-    ensures too_long { IfErr result (λ error. error ≡ ExpandError.TooLong → spec.most_bytes < length (spec.joined (V.setting vars.now) (view.word word.now))) }
+    ensures bytes { IfOk result (λ value. value.items ≡ spec.joined (V.parameters vars.now) (view.word word.now)) }
+    ensures within_limit { OnOk result (length (spec.joined (V.parameters vars.now) (view.word word.now)) ≤ spec.most_bytes) }
+    ensures too_long { IfErr result (λ error. error ≡ ExpandError.TooLong → spec.most_bytes < length (spec.joined (V.parameters vars.now) (view.word word.now))) }
 {
     let mut value = Vec::new(alloc);
     for piece in &word.pieces {
@@ -100,7 +100,7 @@ pub fn expand_one<V: Vars>(alloc: Global, word: &Word, vars: &V) -> Result<Vec<u
 
 /// The value of a variable, empty where it is not set.
 fn value_of<'v, V: Vars>(vars: &'v V, name: &[u8]) -> &'v [u8]
-    ensures { result.now ≡ spec.value_of (V.setting vars.now) name.now }
+    ensures { result.now ≡ spec.value_of (V.parameters vars.now) name.now }
 {
     match vars.get(name) {
         Some(value) => value,
@@ -155,9 +155,9 @@ fn append(value: &mut Vec<u8>, bytes: &[u8]) -> Result<(), ExpandError>
 #[tactic(auto, using(crate::proofs::ExpandLemmas::uncut))]
 fn append_piece<V: Vars>(value: &mut Vec<u8>, piece: &Piece, vars: &V) -> Result<(), ExpandError>
     requires { length value.old.items ≤ spec.most_bytes }
-    ensures appended { OnOk result (value.new.items ≡ value.old.items ++ spec.all_bytes (spec.atoms_of_piece (V.setting vars.now) (view.piece piece.now))) }
+    ensures appended { OnOk result (value.new.items ≡ value.old.items ++ spec.all_bytes (spec.atoms_of_piece (V.parameters vars.now) (view.piece piece.now))) }
     ensures within_limit { OnOk result (length value.new.items ≤ spec.most_bytes) }
-    ensures too_long { IfErr result (λ error. error ≡ ExpandError.TooLong → spec.most_bytes < length (value.old.items ++ spec.all_bytes (spec.atoms_of_piece (V.setting vars.now) (view.piece piece.now)))) }
+    ensures too_long { IfErr result (λ error. error ≡ ExpandError.TooLong → spec.most_bytes < length (value.old.items ++ spec.all_bytes (spec.atoms_of_piece (V.parameters vars.now) (view.piece piece.now)))) }
 {
     match piece {
         Piece::Bytes(bytes) => append(value, bytes),
@@ -180,7 +180,7 @@ struct Gathering {
 
 impl Gathering {
     fn new(alloc: Global) -> Gathering
-        ensures nothing { way.gathered result ≡ way.nothing_gathered }
+        ensures nothing { way.fields_so_far result ≡ way.nothing_gathered }
         ensures counted { way.IsCounted result }
     {
         Gathering {
@@ -194,7 +194,7 @@ impl Gathering {
 
     /// The fields that are whole.
     fn into_fields(self) -> Vec<Vec<u8>>
-        ensures { map (λ field. field.items) result.items ≡ (way.gathered self).whole }
+        ensures { map (λ field. field.items) result.items ≡ (way.fields_so_far self).whole }
     {
         let Gathering {
             alloc: _,
@@ -209,10 +209,10 @@ impl Gathering {
     /// Adds a byte to the field on the way.
     fn keep(&mut self, byte: u8) -> Result<(), ExpandError>
         requires { way.IsCounted self.old }
-        ensures added { OnOk result (way.gathered self.new ≡ way.with_atom (way.gathered self.old) (spec.Kept byte)) }
+        ensures added { OnOk result (way.fields_so_far self.new ≡ way.with_atom (way.fields_so_far self.old) (spec.Kept byte)) }
         ensures counted { OnOk result (way.IsCounted self.new) }
         ensures too_long { IfErr result (λ error. error ≡ ExpandError.TooLong →
-            spec.most_bytes < way.gathered_size (way.with_atom (way.gathered self.old) (spec.Kept byte))) }
+            spec.most_bytes < way.gathered_size (way.with_atom (way.fields_so_far self.old) (spec.Kept byte))) }
     {
         if self.room == 0 {
             return Err(ExpandError::TooLong);
@@ -226,7 +226,7 @@ impl Gathering {
     /// Ends the field on the way, if it has begun.
     fn close(&mut self) -> Result<(), ExpandError>
         requires { way.IsCounted self.old }
-        ensures closed { OnOk result (way.gathered self.new ≡ way.closed (way.gathered self.old)) }
+        ensures closed { OnOk result (way.fields_so_far self.new ≡ way.closed (way.fields_so_far self.old)) }
         ensures counted { OnOk result (way.IsCounted self.new) }
         ensures memory { IfErr result (λ error. error ≡ ExpandError.Memory) }
     {
@@ -242,10 +242,10 @@ impl Gathering {
     #[tactic(auto, using(crate::proofs::ExpandLemmas::kept_at_once))]
     fn keep_all(&mut self, bytes: &[u8]) -> Result<(), ExpandError>
         requires { way.IsCounted self.old }
-        ensures added { OnOk result (way.gathered self.new ≡ way.with_atoms (way.gathered self.old) (map spec.Kept bytes.now)) }
+        ensures added { OnOk result (way.fields_so_far self.new ≡ way.with_atoms (way.fields_so_far self.old) (map spec.Kept bytes.now)) }
         ensures counted { OnOk result (way.IsCounted self.new) }
         ensures too_long { IfErr result (λ error. error ≡ ExpandError.TooLong →
-            spec.most_bytes < way.gathered_size (way.with_atoms (way.gathered self.old) (map spec.Kept bytes.now))) }
+            spec.most_bytes < way.gathered_size (way.with_atoms (way.fields_so_far self.old) (map spec.Kept bytes.now))) }
     {
         if bytes.len() > self.room {
             return Err(ExpandError::TooLong);
@@ -259,10 +259,10 @@ impl Gathering {
     /// Adds the bytes of a value that is cut at its separators.
     fn split(&mut self, value: &[u8]) -> Result<(), ExpandError>
         requires { way.IsCounted self.old }
-        ensures added { OnOk result (way.gathered self.new ≡ way.with_atoms (way.gathered self.old) (map spec.split_atom value.now)) }
+        ensures added { OnOk result (way.fields_so_far self.new ≡ way.with_atoms (way.fields_so_far self.old) (map spec.split_atom value.now)) }
         ensures counted { OnOk result (way.IsCounted self.new) }
         ensures too_long { IfErr result (λ error. error ≡ ExpandError.TooLong →
-            spec.most_bytes < way.gathered_size (way.with_atoms (way.gathered self.old) (map spec.split_atom value.now))) }
+            spec.most_bytes < way.gathered_size (way.with_atoms (way.fields_so_far self.old) (map spec.split_atom value.now))) }
     {
         for byte in value {
             if separates(*byte) {
@@ -283,12 +283,12 @@ impl Gathering {
         values: &mut ShortValues,
     ) -> Result<(), ExpandError>
         requires counted { way.IsCounted self.old }
-        requires short { way.AreShort (V.setting vars.now) values.old.entries }
-        ensures added { OnOk result (way.gathered self.new ≡ way.with_atoms (way.gathered self.old) (map spec.split_atom (spec.value_of (V.setting vars.now) name.now))) }
+        requires short { way.AreShort (V.parameters vars.now) values.old.entries }
+        ensures added { OnOk result (way.fields_so_far self.new ≡ way.with_atoms (way.fields_so_far self.old) (map spec.split_atom (spec.value_of (V.parameters vars.now) name.now))) }
         ensures counted { OnOk result (way.IsCounted self.new) }
-        ensures short { OnOk result (way.AreShort (V.setting vars.now) values.new.entries) }
+        ensures short { OnOk result (way.AreShort (V.parameters vars.now) values.new.entries) }
         ensures too_long { IfErr result (λ error. error ≡ ExpandError.TooLong →
-            spec.most_bytes < way.gathered_size (way.with_atoms (way.gathered self.old) (map spec.split_atom (spec.value_of (V.setting vars.now) name.now)))) }
+            spec.most_bytes < way.gathered_size (way.with_atoms (way.fields_so_far self.old) (map spec.split_atom (spec.value_of (V.parameters vars.now) name.now)))) }
     {
         if let Some(short) = values.get(name) {
             return self.split(short);
@@ -307,12 +307,12 @@ impl Gathering {
         values: &mut ShortValues,
     ) -> Result<(), ExpandError>
         requires counted { way.IsCounted self.old }
-        requires short { way.AreShort (V.setting vars.now) values.old.entries }
-        ensures added { OnOk result (way.gathered self.new ≡ way.with_atoms (way.gathered self.old) (spec.atoms_of_piece (V.setting vars.now) (view.piece piece.now))) }
+        requires short { way.AreShort (V.parameters vars.now) values.old.entries }
+        ensures added { OnOk result (way.fields_so_far self.new ≡ way.with_atoms (way.fields_so_far self.old) (spec.atoms_of_piece (V.parameters vars.now) (view.piece piece.now))) }
         ensures counted { OnOk result (way.IsCounted self.new) }
-        ensures short { OnOk result (way.AreShort (V.setting vars.now) values.new.entries) }
+        ensures short { OnOk result (way.AreShort (V.parameters vars.now) values.new.entries) }
         ensures too_long { IfErr result (λ error. error ≡ ExpandError.TooLong →
-            spec.most_bytes < way.gathered_size (way.with_atoms (way.gathered self.old) (spec.atoms_of_piece (V.setting vars.now) (view.piece piece.now)))) }
+            spec.most_bytes < way.gathered_size (way.with_atoms (way.fields_so_far self.old) (spec.atoms_of_piece (V.parameters vars.now) (view.piece piece.now)))) }
     {
         match piece {
             Piece::Bytes(bytes) => self.keep_all(bytes),
@@ -334,12 +334,12 @@ impl Gathering {
         values: &mut ShortValues,
     ) -> Result<(), ExpandError>
         requires counted { way.IsCounted self.old }
-        requires short { way.AreShort (V.setting vars.now) values.old.entries }
-        ensures added { OnOk result (way.gathered self.new ≡ way.with_word (V.setting vars.now) (way.gathered self.old) (view.word word.now)) }
+        requires short { way.AreShort (V.parameters vars.now) values.old.entries }
+        ensures added { OnOk result (way.fields_so_far self.new ≡ way.with_word (V.parameters vars.now) (way.fields_so_far self.old) (view.word word.now)) }
         ensures counted { OnOk result (way.IsCounted self.new) }
-        ensures short { OnOk result (way.AreShort (V.setting vars.now) values.new.entries) }
+        ensures short { OnOk result (way.AreShort (V.parameters vars.now) values.new.entries) }
         ensures too_long { IfErr result (λ error. error ≡ ExpandError.TooLong →
-            spec.most_bytes < way.gathered_size (way.with_word (V.setting vars.now) (way.gathered self.old) (view.word word.now))) }
+            spec.most_bytes < way.gathered_size (way.with_word (V.parameters vars.now) (way.fields_so_far self.old) (view.word word.now))) }
     {
         for piece in &word.pieces {
             self.add_piece(piece, vars, values)?;

@@ -1,10 +1,10 @@
 //! Tokens, cut from a text one at a time.
 
 ghost use Rattle.std.specs.Prelude.{◌≡◌, ◌+◌, ◌<◌, ◌≤◌, ◌^◌, suc, length, drop, IsTrue, slice_index};
-ghost use Rattle.hushlang.specs.Bytes as bytes;
-ghost use Rattle.hushlang.specs.Reading as spec;
-ghost use Rattle.hushlang.specs.Cutting.{stop_of};
-ghost use Rattle.hushlang.specs.Lexing.{shown, Gives, SpellsNext, GoesOn, BeginsWord};
+ghost use Rattle.hushlang.specs.ByteClasses as bytes;
+ghost use Rattle.hushlang.specs.Tokenizing as spec;
+ghost use Rattle.hushlang.specs.CuttersShown.{stop_of};
+ghost use Rattle.hushlang.specs.LexerShown.{front_shown, Gives, SpellsNext, GoesOn, BeginsWord};
 ghost use Rattle.hushlang.specs.declared.parts.Mode.TheVariants as modes;
 
 use crate::bytes::{begins, is_separator, line_len};
@@ -22,7 +22,7 @@ pub struct Lexer<'a> {
 }
 
 impl<'a> Model for Lexer<'a> {
-    ghost use Rattle.hushlang.specs.Lexing.{Coming, IsKnown};
+    ghost use Rattle.hushlang.specs.LexerShown.{Coming, IsKnown};
     ghost use Rattle.std.specs.Prelude.{◌≤◌, length};
 
     ghost Value = { Coming };
@@ -53,7 +53,7 @@ fn word_end(text: &[u8], at: usize) -> Result<usize, SyntaxError>
 fn word(text: &[u8], at: usize) -> Result<Front, SyntaxError>
     requires inside { at < length text.now }
     requires begins { BeginsWord (slice_index text.now at) (drop (at + 1) text.now) }
-    ensures value { result ≡ shown at (spec.word_front at (slice_index text.now at) (drop (at + 1) text.now)) }
+    ensures value { result ≡ front_shown at (spec.word_front at (slice_index text.now at) (drop (at + 1) text.now)) }
     ensures within { GoesOn at (length text.now) result }
 {
     let stop = word_end(text, at)?;
@@ -64,7 +64,7 @@ fn word(text: &[u8], at: usize) -> Result<Front, SyntaxError>
 fn separator(at: usize, b: u8, behind: &[u8]) -> Result<Front, SyntaxError>
     requires separates { IsTrue (bytes.is_separator b) }
     requires room { at + suc (length behind.now) < 2 ^ 64 }
-    ensures value { result ≡ shown at (spec.separator_front at b behind.now) }
+    ensures value { result ≡ front_shown at (spec.separator_front at b behind.now) }
     ensures within { GoesOn at (at + suc (length behind.now)) result }
 {
     if is_space(b) {
@@ -81,10 +81,10 @@ fn separator(at: usize, b: u8, behind: &[u8]) -> Result<Front, SyntaxError>
 }
 
 /// What stands at a place.
-#[tactic(auto, using(crate::proofs::Steps::rest_is), unfolding(crate::specs::Reading::front))]
+#[tactic(auto, using(crate::proofs::Steps::rest_is), unfolding(crate::specs::Tokenizing::front))]
 fn front_at(text: &[u8], at: usize) -> Result<Front, SyntaxError>
     requires { at < length text.now }
-    ensures value { result ≡ shown at (spec.front at (slice_index text.now at) (drop (at + 1) text.now)) }
+    ensures value { result ≡ front_shown at (spec.front at (slice_index text.now at) (drop (at + 1) text.now)) }
     ensures within { GoesOn at (length text.now) result }
 {
     let b = text[at];

@@ -3,12 +3,12 @@
 ghost use Rattle.std.specs.Prelude.{◌≡◌, ◌≢◌, ◌<◌, ◌≤◌, length, IfOk, IfErr, OnOk};
 ghost use Rattle.hushlang.specs.Parsing as spec;
 ghost use Rattle.hushlang.specs.Parsing.{Reads, Answers};
-ghost use Rattle.hushlang.specs.View as view;
+ghost use Rattle.hushlang.specs.TreesShown as view;
 ghost use Rattle.hushlang.specs.Grammar as grammar;
-ghost use Rattle.hushlang.specs.Lexing.{token_of, parts_of, IsCut};
-ghost use Rattle.hushlang.specs.Cursor.{input_in, IsNoAssignment};
+ghost use Rattle.hushlang.specs.LexerShown.{token_of, parts_of, IsCut};
+ghost use Rattle.hushlang.specs.CursorShown.{input_in, IsNoAssignment};
 ghost use Rattle.hushlang.specs.Tree.{FullScript};
-ghost use Rattle.hushlang.specs.Places.{place_of};
+ghost use Rattle.hushlang.specs.RefusalPlaces.{place_of};
 ghost use Rattle.hushlang.specs.Texts.{IsTreeOf, HasNoTree, IsPlaced, IsFaultIf, IsFaultOf, AnswersFault, fault_place};
 ghost use Rattle.hushlang.specs.declared.token.SyntaxError.TheVariants.{Memory};
 

@@ -3,9 +3,9 @@
 ghost use Rattle.std.specs.Prelude.{◌≡◌, ◌+◌, ◌-◌, ◌<◌, ◌≤◌, ◌^◌, ℕ, suc, List, [], ◌∷◌, length, drop, slice_index};
 ghost use Rattle.std.specs.Prelude.{IfOk};
 ghost use Rattle.hushlang.specs.Spelling as spelling;
-ghost use Rattle.hushlang.specs.Reading as spec;
-ghost use Rattle.hushlang.specs.Cutting as cutting;
-ghost use Rattle.hushlang.specs.Cutting.{StaysWithin, Cuts, stop_of, to_come};
+ghost use Rattle.hushlang.specs.Tokenizing as spec;
+ghost use Rattle.hushlang.specs.CuttersShown as cutting;
+ghost use Rattle.hushlang.specs.CuttersShown.{StaysWithin, Cuts, stop_of, to_come};
 ghost use Rattle.hushlang.specs.declared.parts.Mode.TheVariants as modes;
 
 use crate::bytes::{begins_name, brace_len, is_escapable, is_separator, name_len};
@@ -82,7 +82,7 @@ fn variable<'a>(split: bool, name: &'a [u8]) -> Part<'a>
 }
 
 /// Behind `${`.
-#[tactic(auto, unfolding(crate::specs::Reading::braced))]
+#[tactic(auto, unfolding(crate::specs::Tokenizing::braced))]
 fn braced<'a>(mode: Mode, at: usize, text: &'a [u8]) -> Result<Step<'a>, SyntaxError>
     requires { suc (suc (length text.now)) < 2 ^ 64 }
     ensures value { cutting.step result ≡ spec.braced mode at text.now }
@@ -101,7 +101,7 @@ fn braced<'a>(mode: Mode, at: usize, text: &'a [u8]) -> Result<Step<'a>, SyntaxE
 }
 
 /// Behind `$`.
-#[tactic(auto, unfolding(crate::specs::Reading::dollar))]
+#[tactic(auto, unfolding(crate::specs::Tokenizing::dollar))]
 fn dollar<'a>(mode: Mode, at: usize, text: &'a [u8]) -> Result<Step<'a>, SyntaxError>
     requires { suc (length text.now) < 2 ^ 64 }
     ensures value { cutting.step result ≡ spec.dollar mode at text.now }
@@ -141,7 +141,7 @@ fn backslash<'a>(at: usize, text: &'a [u8]) -> Result<Step<'a>, SyntaxError>
     }
 }
 
-#[tactic(auto, unfolding(crate::specs::Reading::bare))]
+#[tactic(auto, unfolding(crate::specs::Tokenizing::bare))]
 fn bare<'a>(at: usize, b: u8, text: &'a [u8]) -> Result<Step<'a>, SyntaxError>
     requires { suc (length text.now) < 2 ^ 64 }
     ensures value { cutting.step result ≡ spec.bare at b text.now }
@@ -170,7 +170,7 @@ fn escape<'a>(mode: Mode, text: &'a [u8]) -> Step<'a>
     }
 }
 
-#[tactic(auto, unfolding(crate::specs::Reading::inside))]
+#[tactic(auto, unfolding(crate::specs::Tokenizing::inside))]
 fn inside<'a>(mode: Mode, at: usize, b: u8, text: &'a [u8]) -> Result<Step<'a>, SyntaxError>
     requires { suc (length text.now) < 2 ^ 64 }
     ensures value { cutting.step result ≡ spec.inside mode at b text.now }
@@ -184,7 +184,7 @@ fn inside<'a>(mode: Mode, at: usize, b: u8, text: &'a [u8]) -> Result<Step<'a>, 
     }
 }
 
-#[tactic(auto, unfolding(crate::specs::Reading::step))]
+#[tactic(auto, unfolding(crate::specs::Tokenizing::step))]
 fn look<'a>(mode: Mode, at: usize, b: u8, text: &'a [u8]) -> Result<Step<'a>, SyntaxError>
     requires { suc (length text.now) < 2 ^ 64 }
     ensures value { cutting.step result ≡ spec.step mode at b text.now }
@@ -208,7 +208,7 @@ pub struct Parts<'a> {
 }
 
 impl<'a> Model for Parts<'a> {
-    ghost use Rattle.hushlang.specs.Cutting.{Place};
+    ghost use Rattle.hushlang.specs.CuttersShown.{Place};
     ghost use Rattle.std.specs.Prelude.{◌≤◌, length};
 
     ghost Value = { Place };

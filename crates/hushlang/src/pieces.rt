@@ -1,9 +1,9 @@
 //! The pieces of a word.
 
 ghost use Rattle.std.specs.Prelude.{◌≡◌, ◌≢◌, ℕ, List, [], ◌∷◌, ◌++◌, map, length, OnOk, IfOk};
-ghost use Rattle.hushlang.specs.Reading as reading;
-ghost use Rattle.hushlang.specs.Cutting as cutting;
-ghost use Rattle.hushlang.specs.View as view;
+ghost use Rattle.hushlang.specs.Tokenizing as reading;
+ghost use Rattle.hushlang.specs.CuttersShown as cutting;
+ghost use Rattle.hushlang.specs.TreesShown as view;
 ghost use Rattle.hushlang.specs.Pieces as spec;
 ghost use Rattle.hushlang.specs.Pieces.{GivesPieces};
 ghost use Rattle.hushlang.specs.declared.parts.Mode.TheVariants as modes;
@@ -24,7 +24,7 @@ struct Gathering {
 impl Gathering {
     /// Makes a piece of the bytes.
     fn close(&mut self, alloc: Global) -> Result<(), AllocError>
-        ensures { OnOk result (spec.gathered self.new ≡ spec.closed (spec.gathered self.old)) }
+        ensures { OnOk result (spec.pieces_so_far self.new ≡ spec.closed (spec.pieces_so_far self.old)) }
     {
         if !self.bytes.is_empty() {
             let bytes = mem::replace(&mut self.bytes, Vec::new(alloc));
@@ -34,7 +34,7 @@ impl Gathering {
     }
 
     fn push(&mut self, alloc: Global, piece: Piece) -> Result<(), AllocError>
-        ensures { OnOk result (spec.gathered self.new ≡ spec.with_piece (spec.gathered self.old) (view.piece piece)) }
+        ensures { OnOk result (spec.pieces_so_far self.new ≡ spec.with_piece (spec.pieces_so_far self.old) (view.piece piece)) }
     {
         self.close(alloc)?;
         self.pieces.push(piece)?;
@@ -42,7 +42,7 @@ impl Gathering {
     }
 
     fn add(&mut self, alloc: Global, part: Part<'_>) -> Result<(), AllocError>
-        ensures { OnOk result (spec.gathered self.new ≡ spec.with_part (spec.gathered self.old) (cutting.part part.entry)) }
+        ensures { OnOk result (spec.pieces_so_far self.new ≡ spec.with_part (spec.pieces_so_far self.old) (cutting.part part.entry)) }
     {
         match part {
             Part::Plain(b) | Part::Kept(b) => {

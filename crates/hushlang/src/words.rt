@@ -3,14 +3,14 @@
 ghost use Rattle.std.specs.Prelude.{◌≡◌, ◌<◌, length, map, is_some, option_map, IfOk, IfErr, IfSome};
 ghost use Rattle.std.specs.List.{list_all};
 ghost use Rattle.hushlang.specs.Token.{Plain};
-ghost use Rattle.hushlang.specs.Bytes as bytes;
-ghost use Rattle.hushlang.specs.Reading as reading;
-ghost use Rattle.hushlang.specs.Lexing.{parts_of, token_of, IsCut};
+ghost use Rattle.hushlang.specs.ByteClasses as bytes;
+ghost use Rattle.hushlang.specs.Tokenizing as reading;
+ghost use Rattle.hushlang.specs.LexerShown.{parts_of, token_of, IsCut};
 ghost use Rattle.hushlang.specs.Words as spec;
 ghost use Rattle.hushlang.specs.Grammar as grammar;
-ghost use Rattle.hushlang.specs.Cursor.{name_and_value};
-ghost use Rattle.hushlang.specs.Cutting as cutting;
-ghost use Rattle.hushlang.specs.Cutting.{to_come, IsTaken};
+ghost use Rattle.hushlang.specs.CursorShown.{name_and_value};
+ghost use Rattle.hushlang.specs.CuttersShown as cutting;
+ghost use Rattle.hushlang.specs.CuttersShown.{to_come, IsTaken};
 ghost use Rattle.hushlang.specs.declared.parts.Mode.TheVariants as modes;
 ghost use Rattle.hushlang.specs.declared.token.SyntaxError.TheVariants.{Memory};
 
@@ -77,7 +77,7 @@ fn spells(text: &[u8], word: &[u8]) -> bool
 }
 
 /// The same of a token, for a word that is not empty.
-#[tactic(auto, using(crate::proofs::Plain::spells_parts), unfolding(crate::specs::Lexing::parts_of))]
+#[tactic(auto, using(crate::proofs::Plain::spells_parts), unfolding(crate::specs::LexerShown::parts_of))]
 fn spells_word(token: Token<'_>, word: &[u8]) -> bool
     requires { 0 < length word.now }
     ensures { result ≡ spec.is_plain word.now (parts_of token.entry) }

@@ -3,7 +3,7 @@ use Rattle.std.proofs.Common.{true, false, [], ◌∷◌, None, codes, refl, ◌
 use Rattle.rehearse.specs.State.{Text}
 use Rattle.rehearse.specs.DeviceList.{Effect, Devices}
 use Rattle.rehearse.specs.Runs.{Task}
-use Rattle.rehearse.proofs.Rehearsed.{setting, bootcmd, bootcmd_among, z, listed, works, ends_along, listed_along, works_along, along, working}
+use Rattle.rehearse.proofs.Rehearsed.{limits, bootcmd, bootcmd_among, z, listed, works, ends_along, listed_along, works_along, along, working}
 
 abbrev final : Effect
 final = record { ends = true; sets = [] }
@@ -16,7 +16,7 @@ abbrev loads_and_boots : Devices
 loads_and_boots = (codes "load", sets_one (codes "filesize") (codes "1000")) ∷ (codes "bootm", final) ∷ []
 
 abbrev boots : Task
-boots = bootcmd (setting loads_and_boots 16 10000) (codes "load && bootm; echo no")
+boots = bootcmd (limits loads_and_boots 16 10000) (codes "load && bootm; echo no")
 
 boots_listed : listed boots (codes "filesize" ∷ []) None ≡ codes "run 00\ndev 0 load\ndev 0 bootm\nvar filesize=1000\nbooted bootm\nrun 01\ndev 0 load\ndev 1 bootm\ntext no\\n\nvar filesize=1000\nend 0\nrun 1\ndev 1 load\ntext no\\n\nunset filesize\nend 0\ndone\n"
 unfolding listed_along ends_along
@@ -27,21 +27,21 @@ unfolding works_along ends_along
 boots_work = working 2 _ _ _ refl refl
 
 -- the device list `final bootm`; `t` is `bootm`
-boots_inside_run : listed (bootcmd_among (setting ((codes "bootm", final) ∷ []) 16 10000) ((codes "bootcmd", codes "run t; echo x") ∷ (codes "t", codes "bootm") ∷ []) (codes "run t; echo x")) z None ≡ codes "run 0\ndev 0 bootm\nunset z\nbooted bootm\nrun 1\ndev 1 bootm\ntext x\\n\nunset z\nend 0\ndone\n"
+boots_inside_run : listed (bootcmd_among (limits ((codes "bootm", final) ∷ []) 16 10000) ((codes "bootcmd", codes "run t; echo x") ∷ (codes "t", codes "bootm") ∷ []) (codes "run t; echo x")) z None ≡ codes "run 0\ndev 0 bootm\nunset z\nbooted bootm\nrun 1\ndev 1 bootm\ntext x\\n\nunset z\nend 0\ndone\n"
 unfolding listed_along ends_along
 boots_inside_run = along 1 _ _ _ _ refl refl
 
 -- the device list `load v=e`: an environment variable is set, which comes before the shell variable
-sets_before_shell : listed (bootcmd (setting ((codes "load", sets_one (codes "v") (codes "e")) ∷ []) 16 10000) (codes "v=s; load; echo $v")) (codes "v" ∷ []) None ≡ codes "run 0\ndev 0 load\ntext e\\n\nvar v=e\nend 0\nrun 1\ndev 1 load\ntext s\\n\nunset v\nend 0\ndone\n"
+sets_before_shell : listed (bootcmd (limits ((codes "load", sets_one (codes "v") (codes "e")) ∷ []) 16 10000) (codes "v=s; load; echo $v")) (codes "v" ∷ []) None ≡ codes "run 0\ndev 0 load\ntext e\\n\nvar v=e\nend 0\nrun 1\ndev 1 load\ntext s\\n\nunset v\nend 0\ndone\n"
 unfolding listed_along ends_along
 sets_before_shell = along 1 _ _ _ _ refl refl
 
 -- the device list `load a=1`, `final load`, `load a=2`: of two settings of a name the later one stands, and the run ends
-joined_lines : listed (bootcmd (setting ((codes "load", record { ends = true; sets = (codes "a", codes "1") ∷ (codes "a", codes "2") ∷ [] }) ∷ []) 16 10000) (codes "load; echo no")) (codes "a" ∷ []) None ≡ codes "run 0\ndev 0 load\nvar a=2\nbooted load\nrun 1\ndev 1 load\ntext no\\n\nunset a\nend 0\ndone\n"
+joined_lines : listed (bootcmd (limits ((codes "load", record { ends = true; sets = (codes "a", codes "1") ∷ (codes "a", codes "2") ∷ [] }) ∷ []) 16 10000) (codes "load; echo no")) (codes "a" ∷ []) None ≡ codes "run 0\ndev 0 load\nvar a=2\nbooted load\nrun 1\ndev 1 load\ntext no\\n\nunset a\nend 0\ndone\n"
 unfolding listed_along ends_along
 joined_lines = along 1 _ _ _ _ refl refl
 
 -- `test -e` has no effect, whatever the list says of a command of its name
-test_has_no_effect : listed (bootcmd (setting ((codes "test", final) ∷ []) 16 10000) (codes "test -e mmc 0:1 /a; echo $?")) z None ≡ codes "run 0\ndev 0 test -e mmc 0:1 /a\ntext 0\\n\nunset z\nend 0\nrun 1\ndev 1 test -e mmc 0:1 /a\ntext 1\\n\nunset z\nend 0\ndone\n"
+test_has_no_effect : listed (bootcmd (limits ((codes "test", final) ∷ []) 16 10000) (codes "test -e mmc 0:1 /a; echo $?")) z None ≡ codes "run 0\ndev 0 test -e mmc 0:1 /a\ntext 0\\n\nunset z\nend 0\nrun 1\ndev 1 test -e mmc 0:1 /a\ntext 1\\n\nunset z\nend 0\ndone\n"
 unfolding listed_along ends_along
 test_has_no_effect = along 1 _ _ _ _ refl refl

@@ -9,7 +9,7 @@ use Rattle.rehearse.specs.Execution.{End, CutSteps, Size}
 use Rattle.rehearse.specs.Runs.{steps, work}
 use Rattle.rehearse.specs.DeviceLaws.{is_name_alone}
 use Rattle.text.specs.Lines.{numbered_lines}
-use Rattle.rehearse.proofs.Rehearsed.{only_load, setting, bootcmd, bootcmd_among, z, listed, told_of, told, told_within, times}
+use Rattle.rehearse.proofs.Rehearsed.{only_load, limits, bootcmd, bootcmd_among, z, listed, told_of, told, told_within, times}
 
 -- a list whose comment has two words
 names_alone_beside_a_comment : map (λ l. is_name_alone l.1) (numbered_lines (codes "# d\nload\n\nmmc")) ≡ false ∷ true ∷ true ∷ true ∷ []
@@ -48,30 +48,30 @@ unfolding told_of
 loops_at_step_bound_0 = refl
 
 -- steps and work with a final command and settings: a setting is no step
-steps_of_a_final_command : map (steps (bootcmd (setting ((codes "go", record { ends = true; sets = (codes "a", codes "1") ∷ (codes "b", codes "2") ∷ [] }) ∷ []) 3 100) (codes "for i in 1 2; do x=1; go $i; done; true"))) ((Success ∷ []) ∷ (Failure ∷ Success ∷ []) ∷ (Failure ∷ Failure ∷ []) ∷ []) ≡ 3 ∷ 5 ∷ 6 ∷ []
+steps_of_a_final_command : map (steps (bootcmd (limits ((codes "go", record { ends = true; sets = (codes "a", codes "1") ∷ (codes "b", codes "2") ∷ [] }) ∷ []) 3 100) (codes "for i in 1 2; do x=1; go $i; done; true"))) ((Success ∷ []) ∷ (Failure ∷ Success ∷ []) ∷ (Failure ∷ Failure ∷ []) ∷ []) ≡ 3 ∷ 5 ∷ 6 ∷ []
 unfolding tree_of fields joined atoms digits
 steps_of_a_final_command = refl
 
-work_of_a_final_command : work (bootcmd (setting ((codes "go", record { ends = true; sets = [] }) ∷ []) 3 100) (codes "for i in 1 2; do x=1; go $i; done; true")) ((Success ∷ []) ∷ (Failure ∷ Success ∷ []) ∷ (Failure ∷ Failure ∷ []) ∷ []) ≡ 6
+work_of_a_final_command : work (bootcmd (limits ((codes "go", record { ends = true; sets = [] }) ∷ []) 3 100) (codes "for i in 1 2; do x=1; go $i; done; true")) ((Success ∷ []) ∷ (Failure ∷ Success ∷ []) ∷ (Failure ∷ Failure ∷ []) ∷ []) ≡ 6
 unfolding tree_of fields joined atoms digits
 work_of_a_final_command = refl
 
 -- steps of a size stop: the step is counted
-a_size_stop_counts_its_step : steps (bootcmd (setting only_load 0 10000) (codes "true; setenv a 0123456789abcdef; setenv a $a$a$a$a$a$a$a$a; setenv a $a$a$a$a$a$a$a$a; setenv a $a$a$a$a$a$a$a$a; setenv a $a$a$a$a$a$a$a$a; true")) [] ≡ 6
+a_size_stop_counts_its_step : steps (bootcmd (limits only_load 0 10000) (codes "true; setenv a 0123456789abcdef; setenv a $a$a$a$a$a$a$a$a; setenv a $a$a$a$a$a$a$a$a; setenv a $a$a$a$a$a$a$a$a; setenv a $a$a$a$a$a$a$a$a; true")) [] ≡ 6
 unfolding tree_of fields joined atoms digits
 a_size_stop_counts_its_step = refl
 
 -- wrapped listing: no names, log, text, `cut steps` after devices
-cut_steps_behind_devices : listed (bootcmd_among (setting only_load 3 3) ((codes "a", codes "x y") ∷ (codes "bootcmd", codes "load && echo $a; load; echo no") ∷ []) (codes "load && echo $a; load; echo no")) [] None ≡ codes "run 00\ndev 0 load\ndev 0 load\ntext x y\\n\nvar a=x y\nvar bootcmd=load && echo $a; load; echo no\ncut steps\nrun 01\ndev 0 load\ndev 1 load\ntext x y\\n\nvar a=x y\nvar bootcmd=load && echo $a; load; echo no\ncut steps\nrun 10\ndev 1 load\ndev 0 load\ntext no\\n\nvar a=x y\nvar bootcmd=load && echo $a; load; echo no\nend 0\nrun 11\ndev 1 load\ndev 1 load\ntext no\\n\nvar a=x y\nvar bootcmd=load && echo $a; load; echo no\nend 0\ndone\n"
+cut_steps_behind_devices : listed (bootcmd_among (limits only_load 3 3) ((codes "a", codes "x y") ∷ (codes "bootcmd", codes "load && echo $a; load; echo no") ∷ []) (codes "load && echo $a; load; echo no")) [] None ≡ codes "run 00\ndev 0 load\ndev 0 load\ntext x y\\n\nvar a=x y\nvar bootcmd=load && echo $a; load; echo no\ncut steps\nrun 01\ndev 0 load\ndev 1 load\ntext x y\\n\nvar a=x y\nvar bootcmd=load && echo $a; load; echo no\ncut steps\nrun 10\ndev 1 load\ndev 0 load\ntext no\\n\nvar a=x y\nvar bootcmd=load && echo $a; load; echo no\nend 0\nrun 11\ndev 1 load\ndev 1 load\ntext no\\n\nvar a=x y\nvar bootcmd=load && echo $a; load; echo no\nend 0\ndone\n"
 unfolding listed
 cut_steps_behind_devices = refl
 
 -- `true` alone
-true_alone : listed (bootcmd (setting only_load 2 10000) (codes "true")) z None ≡ codes "run .\nunset z\nend 0\ndone\n"
+true_alone : listed (bootcmd (limits only_load 2 10000) (codes "true")) z None ≡ codes "run .\nunset z\nend 0\ndone\n"
 unfolding listed
 true_alone = refl
 
 -- deleted, then a listing of all; `setenv a; echo $?` unsets
-deleted_is_unset : listed (bootcmd_among (setting only_load 0 10000) ((codes "a", codes "1") ∷ []) (codes "setenv a; echo $?")) (codes "a" ∷ []) None ≡ codes "run .\ntext 0\\n\nunset a\nend 0\ndone\n"
+deleted_is_unset : listed (bootcmd_among (limits only_load 0 10000) ((codes "a", codes "1") ∷ []) (codes "setenv a; echo $?")) (codes "a" ∷ []) None ≡ codes "run .\ntext 0\\n\nunset a\nend 0\ndone\n"
 unfolding listed
 deleted_is_unset = refl

@@ -5,7 +5,7 @@ use Rattle.rehearse.specs.State.{Text}
 use Rattle.rehearse.specs.DeviceList.{Devices}
 use Rattle.rehearse.specs.Execution.{End, CutSteps, Syntax, Size}
 use Rattle.rehearse.specs.Runs.{Task}
-use Rattle.rehearse.proofs.Rehearsed.{only_load, setting, bootcmd, bootcmd_among, z, listed, listed_after, Told, told_of, told, told_with, told_within, letters}
+use Rattle.rehearse.proofs.Rehearsed.{only_load, limits, bootcmd, bootcmd_among, z, listed, listed_after, Told, told_of, told, told_with, told_within, letters}
 
 abbrev v : Text → Text → Text × Text
 v name value = (name, value)
@@ -46,7 +46,7 @@ and_or_of_one_rank : map told (codes "true && false || true && echo a || echo b"
 unfolding told_of
 and_or_of_one_rank = refl
 
-test_e_is_cut_by_the_device_bound : listed (bootcmd (setting only_load 0 10000) (codes "test -e a b c; echo x")) z None ≡ codes "run .\nunset z\ncut devices\ndone\n"
+test_e_is_cut_by_the_device_bound : listed (bootcmd (limits only_load 0 10000) (codes "test -e a b c; echo x")) z None ≡ codes "run .\nunset z\ncut devices\ndone\n"
 unfolding listed
 test_e_is_cut_by_the_device_bound = refl
 
@@ -54,29 +54,29 @@ test_e_of_other_words : map told (codes "test -e a b; echo $?" ∷ codes "test -
 unfolding told_of
 test_e_of_other_words = refl
 
-test_e_before_a_comparison : listed (bootcmd (setting only_load 1 10000) (codes "test -e = -e -a")) z None ≡ codes "run 0\ndev 0 test -e = -e -a\nunset z\nend 0\nrun 1\ndev 1 test -e = -e -a\nunset z\nend 1\ndone\n"
+test_e_before_a_comparison : listed (bootcmd (limits only_load 1 10000) (codes "test -e = -e -a")) z None ≡ codes "run 0\ndev 0 test -e = -e -a\nunset z\nend 0\nrun 1\ndev 1 test -e = -e -a\nunset z\nend 1\ndone\n"
 unfolding listed
 test_e_before_a_comparison = refl
 
 abbrev going : Devices
 going = (codes "go", record { ends = true; sets = (codes "v", codes "1") ∷ [] }) ∷ []
 
-boot_in_the_condition_of_a_loop : listed (bootcmd_among (setting going 1 10000) ((codes "bootcmd", codes "while run t; do echo n; done; echo z") ∷ (codes "t", codes "if go; then echo y; fi; false") ∷ []) (codes "while run t; do echo n; done; echo z")) (codes "v" ∷ []) None ≡ codes "run 0\ndev 0 go\nvar v=1\nbooted go\nrun 1\ndev 1 go\ntext z\\n\nunset v\nend 0\ndone\n"
+boot_in_the_condition_of_a_loop : listed (bootcmd_among (limits going 1 10000) ((codes "bootcmd", codes "while run t; do echo n; done; echo z") ∷ (codes "t", codes "if go; then echo y; fi; false") ∷ []) (codes "while run t; do echo n; done; echo z")) (codes "v" ∷ []) None ≡ codes "run 0\ndev 0 go\nvar v=1\nbooted go\nrun 1\ndev 1 go\ntext z\\n\nunset v\nend 0\ndone\n"
 unfolding listed
 boot_in_the_condition_of_a_loop = refl
 
 abbrev loads_a : Text → Devices
 loads_a value = (codes "load", record { ends = false; sets = (codes "a", value) ∷ [] }) ∷ []
 
-settings_in_front_of_a_later_setenv : listed (bootcmd (setting (loads_a (codes "1")) 2 10000) (codes "setenv a 0; load; setenv a $a$a; load")) (codes "a" ∷ []) None ≡ codes "run 00\ndev 0 load\ndev 0 load\nvar a=1\nend 0\nrun 01\ndev 0 load\ndev 1 load\nvar a=11\nend 1\nrun 10\ndev 1 load\ndev 0 load\nvar a=1\nend 0\nrun 11\ndev 1 load\ndev 1 load\nvar a=00\nend 1\ndone\n"
+settings_in_front_of_a_later_setenv : listed (bootcmd (limits (loads_a (codes "1")) 2 10000) (codes "setenv a 0; load; setenv a $a$a; load")) (codes "a" ∷ []) None ≡ codes "run 00\ndev 0 load\ndev 0 load\nvar a=1\nend 0\nrun 01\ndev 0 load\ndev 1 load\nvar a=11\nend 1\nrun 10\ndev 1 load\ndev 0 load\nvar a=1\nend 0\nrun 11\ndev 1 load\ndev 1 load\nvar a=00\nend 1\ndone\n"
 unfolding listed
 settings_in_front_of_a_later_setenv = refl
 
-an_empty_setting : listed (bootcmd_among (setting (loads_a []) 1 10000) ((codes "a", codes "5") ∷ (codes "bootcmd", codes "load") ∷ []) (codes "load")) [] None ≡ codes "run 0\ndev 0 load\nvar a=\nvar bootcmd=load\nend 0\nrun 1\ndev 1 load\nvar a=5\nvar bootcmd=load\nend 1\ndone\n"
+an_empty_setting : listed (bootcmd_among (limits (loads_a []) 1 10000) ((codes "a", codes "5") ∷ (codes "bootcmd", codes "load") ∷ []) (codes "load")) [] None ≡ codes "run 0\ndev 0 load\nvar a=\nvar bootcmd=load\nend 0\nrun 1\ndev 1 load\nvar a=5\nvar bootcmd=load\nend 1\ndone\n"
 unfolding listed
 an_empty_setting = refl
 
-a_setting_of_the_running_text : listed (bootcmd (setting ((codes "load", record { ends = false; sets = (codes "bootcmd", codes "fi") ∷ [] }) ∷ []) 1 10000) (codes "load; echo a; run bootcmd")) (codes "bootcmd" ∷ []) None ≡ codes "run 0\ndev 0 load\ntext a\\n\nvar bootcmd=fi\nstop syntax bootcmd\nrun 1\ndev 1 load\ntext a\\n\nvar bootcmd=load; echo a; run bootcmd\ncut devices\ndone\n"
+a_setting_of_the_running_text : listed (bootcmd (limits ((codes "load", record { ends = false; sets = (codes "bootcmd", codes "fi") ∷ [] }) ∷ []) 1 10000) (codes "load; echo a; run bootcmd")) (codes "bootcmd" ∷ []) None ≡ codes "run 0\ndev 0 load\ntext a\\n\nvar bootcmd=fi\nstop syntax bootcmd\nrun 1\ndev 1 load\ntext a\\n\nvar bootcmd=load; echo a; run bootcmd\ncut devices\ndone\n"
 unfolding listed
 a_setting_of_the_running_text = refl
 
@@ -93,11 +93,11 @@ echo_of_a_word_behind_n : map told (codes "echo -nx" ∷ codes "echo -nx a" ∷ 
 unfolding told_of
 echo_of_a_word_behind_n = refl
 
-unknown_empty_name : listed (bootcmd (setting only_load 0 10000) (codes "'' x")) z None ≡ codes "run .\nunset z\nstop unknown \\e\ndone\n"
+unknown_empty_name : listed (bootcmd (limits only_load 0 10000) (codes "'' x")) z None ≡ codes "run .\nunset z\nstop unknown \\e\ndone\n"
 unfolding listed
 unknown_empty_name = refl
 
-syntax_of_a_name_with_a_space : listed (bootcmd_among (setting only_load 0 10000) ((codes "a b", codes "fi") ∷ []) (codes "run 'a b'")) z None ≡ codes "run .\nunset z\nstop syntax a\\x20b\ndone\n"
+syntax_of_a_name_with_a_space : listed (bootcmd_among (limits only_load 0 10000) ((codes "a b", codes "fi") ∷ []) (codes "run 'a b'")) z None ≡ codes "run .\nunset z\nstop syntax a\\x20b\ndone\n"
 unfolding listed
 syntax_of_a_name_with_a_space = refl
 
@@ -105,27 +105,27 @@ syntax_of_a_name_with_a_space = refl
 abbrev odd : Text
 odd = codes "a b\\" ++ 10 ∷ 255 ∷ []
 
-unknown_odd_name : listed (bootcmd (setting only_load 0 10000) (codes "'" ++ odd ++ codes "' x")) z None ≡ codes "run .\nunset z\nstop unknown a\\x20b\\\\\\n\\xff\ndone\n"
+unknown_odd_name : listed (bootcmd (limits only_load 0 10000) (codes "'" ++ odd ++ codes "' x")) z None ≡ codes "run .\nunset z\nstop unknown a\\x20b\\\\\\n\\xff\ndone\n"
 unfolding listed
 unknown_odd_name = refl
 
-syntax_of_an_odd_name : listed (bootcmd_among (setting only_load 0 10000) ((odd, codes "fi") ∷ []) (codes "run '" ++ odd ++ codes "'")) z None ≡ codes "run .\nunset z\nstop syntax a\\x20b\\\\\\n\\xff\ndone\n"
+syntax_of_an_odd_name : listed (bootcmd_among (limits only_load 0 10000) ((odd, codes "fi") ∷ []) (codes "run '" ++ odd ++ codes "'")) z None ≡ codes "run .\nunset z\nstop syntax a\\x20b\\\\\\n\\xff\ndone\n"
 unfolding listed
 syntax_of_an_odd_name = refl
 
-syntax_of_the_empty_name : listed (bootcmd_among (setting only_load 0 10000) (([], codes "fi") ∷ []) (codes "run ''")) z None ≡ codes "run .\nunset z\nstop syntax \\e\ndone\n"
+syntax_of_the_empty_name : listed (bootcmd_among (limits only_load 0 10000) (([], codes "fi") ∷ []) (codes "run ''")) z None ≡ codes "run .\nunset z\nstop syntax \\e\ndone\n"
 unfolding listed
 syntax_of_the_empty_name = refl
 
-odd_names_asked : listed (bootcmd_among (setting only_load 0 10000) ((odd, odd) ∷ []) []) (odd ∷ (0 ∷ odd) ∷ [] ∷ []) None ≡ codes "run .\nvar a\\x20b\\\\\\n\\xff=a b\\\\\\n\\xff\nunset \\x00a\\x20b\\\\\\n\\xff\nunset \\e\nend 0\ndone\n"
+odd_names_asked : listed (bootcmd_among (limits only_load 0 10000) ((odd, odd) ∷ []) []) (odd ∷ (0 ∷ odd) ∷ [] ∷ []) None ≡ codes "run .\nvar a\\x20b\\\\\\n\\xff=a b\\\\\\n\\xff\nunset \\x00a\\x20b\\\\\\n\\xff\nunset \\e\nend 0\ndone\n"
 unfolding listed
 odd_names_asked = refl
 
-booted_odd_name : listed (bootcmd (setting ((odd, record { ends = true; sets = (odd, codes "1") ∷ [] }) ∷ []) 1 10000) (codes "'" ++ odd ++ codes "'")) (odd ∷ []) None ≡ codes "run 0\ndev 0 a\\x20b\\\\\\n\\xff\nvar a\\x20b\\\\\\n\\xff=1\nbooted a\\x20b\\\\\\n\\xff\nrun 1\ndev 1 a\\x20b\\\\\\n\\xff\nunset a\\x20b\\\\\\n\\xff\nend 1\ndone\n"
+booted_odd_name : listed (bootcmd (limits ((odd, record { ends = true; sets = (odd, codes "1") ∷ [] }) ∷ []) 1 10000) (codes "'" ++ odd ++ codes "'")) (odd ∷ []) None ≡ codes "run 0\ndev 0 a\\x20b\\\\\\n\\xff\nvar a\\x20b\\\\\\n\\xff=1\nbooted a\\x20b\\\\\\n\\xff\nrun 1\ndev 1 a\\x20b\\\\\\n\\xff\nunset a\\x20b\\\\\\n\\xff\nend 1\ndone\n"
 unfolding listed
 booted_odd_name = refl
 
-size_at_its_limit : told_with ((codes "l", letters 65536) ∷ []) (codes "nosuch $l") ∷ told_of (bootcmd_among (setting only_load 2 0) ((codes "l", letters 65537) ∷ []) (codes "true $l")) ∷ told_with ((codes "l", letters 65537) ∷ []) (codes "$l") ∷ told_with ((codes "l", letters 65536) ∷ []) (codes "x=$l y=$l; echo a") ∷ [] ≡ ([], Size) ∷ ([], CutSteps) ∷ ([], Size) ∷ (codes "a\n", End 0) ∷ []
+size_at_its_limit : told_with ((codes "l", letters 65536) ∷ []) (codes "nosuch $l") ∷ told_of (bootcmd_among (limits only_load 2 0) ((codes "l", letters 65537) ∷ []) (codes "true $l")) ∷ told_with ((codes "l", letters 65537) ∷ []) (codes "$l") ∷ told_with ((codes "l", letters 65536) ∷ []) (codes "x=$l y=$l; echo a") ∷ [] ≡ ([], Size) ∷ ([], CutSteps) ∷ ([], Size) ∷ (codes "a\n", End 0) ∷ []
 unfolding told_of
 size_at_its_limit = refl
 
@@ -137,16 +137,16 @@ fields_and_quotes : map told (codes "x='1 2'; for i in $x; do x=; echo $i; done"
 unfolding told_of
 fields_and_quotes = refl
 
-names_asked_twice_and_escaped : listed (bootcmd (setting only_load 0 10000) (codes "setenv 'a b' c; setenv '' c; setenv d ''")) (codes "z" ∷ codes "a b" ∷ codes "z" ∷ codes "d" ∷ []) None ≡ codes "run .\nunset z\nvar a\\x20b=c\nunset z\nvar d=\nend 0\ndone\n"
+names_asked_twice_and_escaped : listed (bootcmd (limits only_load 0 10000) (codes "setenv 'a b' c; setenv '' c; setenv d ''")) (codes "z" ∷ codes "a b" ∷ codes "z" ∷ codes "d" ∷ []) None ≡ codes "run .\nunset z\nvar a\\x20b=c\nunset z\nvar d=\nend 0\ndone\n"
 unfolding listed
 names_asked_twice_and_escaped = refl
 
-bytes_escaped : listed (bootcmd_among (setting only_load 1 10000) ((97 ∷ 10 ∷ [], 127 ∷ 31 ∷ 9 ∷ 32 ∷ 126 ∷ 255 ∷ []) ∷ []) (codes "load \"a\nb\" '\\' \"\t\"")) [] None ≡ codes "run 0\ndev 0 load a\\nb \\\\ \\x09\nvar a\\n=\\x7f\\x1f\\x09 ~\\xff\nend 0\nrun 1\ndev 1 load a\\nb \\\\ \\x09\nvar a\\n=\\x7f\\x1f\\x09 ~\\xff\nend 1\ndone\n"
+bytes_escaped : listed (bootcmd_among (limits only_load 1 10000) ((97 ∷ 10 ∷ [], 127 ∷ 31 ∷ 9 ∷ 32 ∷ 126 ∷ 255 ∷ []) ∷ []) (codes "load \"a\nb\" '\\' \"\t\"")) [] None ≡ codes "run 0\ndev 0 load a\\nb \\\\ \\x09\nvar a\\n=\\x7f\\x1f\\x09 ~\\xff\nend 0\nrun 1\ndev 1 load a\\nb \\\\ \\x09\nvar a\\n=\\x7f\\x1f\\x09 ~\\xff\nend 1\ndone\n"
 unfolding listed
 bytes_escaped = refl
 
 abbrev two : Task
-two = bootcmd (setting only_load 2 10000) (codes "load a || load b")
+two = bootcmd (limits only_load 2 10000) (codes "load a || load b")
 
 limit_behind_a_word : listed_after two (Success ∷ []) z (Some 2) ≡ codes "run 10\ndev 1 load a\ndev 0 load b\nunset z\nend 0\nrun 11\ndev 1 load a\ndev 1 load b\nunset z\nend 1\ndone\n"
 unfolding listed_after
@@ -157,7 +157,7 @@ unfolding listed
 limit_in_front_of_the_last = refl
 
 abbrev stepped : ℕ → Told
-stepped n = told_of (bootcmd_among (setting only_load 2 n) ((codes "t", codes "true; x=1 y=2; echo $y") ∷ []) (codes "for i in a; do run t; done"))
+stepped n = told_of (bootcmd_among (limits only_load 2 n) ((codes "t", codes "true; x=1 y=2; echo $y") ∷ []) (codes "for i in a; do run t; done"))
 
 steps_of_a_for : map stepped (2 ∷ 3 ∷ 4 ∷ 5 ∷ []) ≡ ([], CutSteps) ∷ ([], CutSteps) ∷ ([], CutSteps) ∷ (codes "2\n", End 0) ∷ []
 unfolding told_of
@@ -167,7 +167,7 @@ texts_and_words_of_nothing : told_with ((codes "e", codes ";\n # x\n;") ∷ []) 
 unfolding told_of
 texts_and_words_of_nothing = refl
 
-cut_in_a_condition : listed (bootcmd (setting only_load 1 10000) (codes "if load && load; then echo a; else echo b; fi")) z None ≡ codes "run 0\ndev 0 load\nunset z\ncut devices\nrun 1\ndev 1 load\ntext b\\n\nunset z\nend 0\ndone\n"
+cut_in_a_condition : listed (bootcmd (limits only_load 1 10000) (codes "if load && load; then echo a; else echo b; fi")) z None ≡ codes "run 0\ndev 0 load\nunset z\ncut devices\nrun 1\ndev 1 load\ntext b\\n\nunset z\nend 0\ndone\n"
 unfolding listed
 cut_in_a_condition = refl
 
@@ -181,12 +181,12 @@ unfolding told_of
 exit_of_a_text_in_loops = refl
 
 -- a final command behind a bound is cut, a final one in a `for` inside `run` ends all
-boot_in_a_for_in_a_text : listed (bootcmd_among (setting going 1 10000) ((codes "bootcmd", codes "run t t") ∷ (codes "t", codes "for i in 1 2; do go $i; done") ∷ []) (codes "run t t")) z None ≡ codes "run 0\ndev 0 go 1\nunset z\nbooted go\nrun 1\ndev 1 go 1\nunset z\ncut devices\ndone\n"
+boot_in_a_for_in_a_text : listed (bootcmd_among (limits going 1 10000) ((codes "bootcmd", codes "run t t") ∷ (codes "t", codes "for i in 1 2; do go $i; done") ∷ []) (codes "run t t")) z None ≡ codes "run 0\ndev 0 go 1\nunset z\nbooted go\nrun 1\ndev 1 go 1\nunset z\ncut devices\ndone\n"
 unfolding listed
 boot_in_a_for_in_a_text = refl
 
 -- setting values are not expanded, `$` stays; no step
-settings_are_not_expanded : listed (bootcmd (setting (loads_a (codes "$x;")) 1 2) (codes "load; echo $a")) (codes "a" ∷ []) None ≡ codes "run 0\ndev 0 load\ntext $x;\\n\nvar a=$x;\nend 0\nrun 1\ndev 1 load\ntext \\n\nunset a\nend 0\ndone\n"
+settings_are_not_expanded : listed (bootcmd (limits (loads_a (codes "$x;")) 1 2) (codes "load; echo $a")) (codes "a" ∷ []) None ≡ codes "run 0\ndev 0 load\ntext $x;\\n\nvar a=$x;\nend 0\nrun 1\ndev 1 load\ntext \\n\nunset a\nend 0\ndone\n"
 unfolding listed
 settings_are_not_expanded = refl
 

@@ -2,7 +2,7 @@
 use Rattle.std.proofs.Common.{◌≡◌, ℕ, [], ◌∷◌, None, codes, refl, map}
 use Rattle.rehearse.specs.State.{Text, Variables}
 use Rattle.rehearse.specs.Execution.{End, CutSteps, Unknown, Syntax, Size}
-use Rattle.rehearse.proofs.Rehearsed.{only_load, setting, bootcmd, bootcmd_among, listed, Told, told_of, told, told_with, told_within, write, letters}
+use Rattle.rehearse.proofs.Rehearsed.{only_load, limits, bootcmd, bootcmd_among, listed, Told, told_of, told, told_with, told_within, write, letters}
 
 -- `&&` and `||` have one rank, and what is skipped leaves the status
 joined_commands : map told (codes "true || echo a && echo b" ∷ codes "false && echo a || echo b" ∷ codes "false && echo a; echo $?" ∷ codes "false || false || echo a" ∷ []) ≡ write (codes "b\n" ∷ codes "b\n" ∷ codes "1\n" ∷ codes "a\n" ∷ [])
@@ -25,7 +25,7 @@ unfolding told_of
 for_loops = refl
 
 -- its variable is one of the shell, and so is that of an assignment: neither is listed
-shell_variables : listed (bootcmd (setting only_load 0 10000) (codes "for i in a; do echo $i; done; x=1")) (codes "i" ∷ codes "x" ∷ []) None ≡ codes "run .\ntext a\\n\nunset i\nunset x\nend 0\ndone\n"
+shell_variables : listed (bootcmd (limits only_load 0 10000) (codes "for i in a; do echo $i; done; x=1")) (codes "i" ∷ codes "x" ∷ []) None ≡ codes "run .\ntext a\\n\nunset i\nunset x\nend 0\ndone\n"
 unfolding listed
 shell_variables = refl
 
@@ -55,7 +55,7 @@ unfolding told_of
 setenv_names = refl
 
 -- every variable is listed in byte order of the names, an empty one too and one set twice once, and a deleted one is not
-variables_in_order : listed (bootcmd_among (setting only_load 0 10000) ((codes "b", codes "0") ∷ []) (codes "setenv c 1; setenv a 1; setenv B ''; setenv b; setenv aa 3; setenv a 2")) [] None ≡ codes "run .\nvar B=\nvar a=2\nvar aa=3\nvar c=1\nend 0\ndone\n"
+variables_in_order : listed (bootcmd_among (limits only_load 0 10000) ((codes "b", codes "0") ∷ []) (codes "setenv c 1; setenv a 1; setenv B ''; setenv b; setenv aa 3; setenv a 2")) [] None ≡ codes "run .\nvar B=\nvar a=2\nvar aa=3\nvar c=1\nend 0\ndone\n"
 unfolding listed
 variables_in_order = refl
 

@@ -12,8 +12,8 @@ use Rattle.std.specs.Str.{bytes_eq}
 use Rattle.text.specs.Lines.{numbered_lines}
 use Rattle.std.proofs.Math.Bool.{or-false}
 use Rattle.rehearse.specs.Verdict.{Text}
-use Rattle.rehearse.specs.DeviceList.{Effect, Devices, Listing, effect_of, joint, joined, device_words, begins_comment, heading_of, listing_of, with_listing, after_words, after_line, listed_lines}
-use Rattle.rehearse.specs.DeviceLaws.{line_listing, with_line, listings, lines_of, whole_effect, LinesAreJoined}
+use Rattle.rehearse.specs.DeviceList.{Effect, Devices, DeviceEntry, effect_of, joint, joined, device_words, begins_comment, heading_of, entry_of, with_entry, after_words, after_line, listed_lines}
+use Rattle.rehearse.specs.DeviceLaws.{line_entry, with_line, line_entries, lines_of, whole_effect, LinesAreJoined}
 use Rattle.rehearse.specs.declared.devices_error.DevicesError.{DevicesError}
 use Rattle.rehearse.specs.declared.devices_error.DevicesError.TheVariants.{BadLine}
 
@@ -22,7 +22,7 @@ abbrev with_effect : Option Effect → Effect → Option Effect
 with_effect None more = Some more
 with_effect (Some before) more = Some (joint before more)
 
-effect_of-joined_same : (devices : Devices) (one : Listing) (name : Text) → bytes_eq name one.0 ≡ true → effect_of (joined devices one) name ≡ with_effect (effect_of devices name) one.1
+effect_of-joined_same : (devices : Devices) (one : DeviceEntry) (name : Text) → bytes_eq name one.0 ≡ true → effect_of (joined devices one) name ≡ with_effect (effect_of devices name) one.1
 effect_of-joined_same [] one name e = rw e refl
 effect_of-joined_same (d ∷ devices) one name e =
     let is : name ≡ one.0 = (bytes_decides name one.0).0 e in
@@ -32,7 +32,7 @@ effect_of-joined_same (d ∷ devices) one name e =
       | inr other ↦ rw (same ∙ other, other) (effect_of-joined_same devices one name e)
     ]
 
-effect_of-joined_other : (devices : Devices) (one : Listing) (name : Text) → bytes_eq name one.0 ≡ false → effect_of (joined devices one) name ≡ effect_of devices name
+effect_of-joined_other : (devices : Devices) (one : DeviceEntry) (name : Text) → bytes_eq name one.0 ≡ false → effect_of (joined devices one) name ≡ effect_of devices name
 effect_of-joined_other [] one name e = rw e refl
 effect_of-joined_other (d ∷ devices) one name e =
     elim (cases_Bool (bytes_eq one.0 d.0)) [
@@ -43,7 +43,7 @@ effect_of-joined_other (d ∷ devices) one name e =
       | inr other ↦ rw other (ap (λ o. cond (bytes_eq name d.0) (Some d.1) o) (effect_of-joined_other devices one name e))
     ]
 
-whole_effect-more : (before : List Listing) (one : Listing) → whole_effect (before ++ one ∷ []) ≡ with_effect (whole_effect before) one.1
+whole_effect-more : (before : List DeviceEntry) (one : DeviceEntry) → whole_effect (before ++ one ∷ []) ≡ with_effect (whole_effect before) one.1
 whole_effect-more [] one =
     ap (λ b. let e : Effect = record { ends = b; sets = one.1.sets ++ [] } in Some e) (or-false one.1.ends)
     ∙ ap (λ s. let e : Effect = record { ends = one.1.ends; sets = s } in Some e) (append-nil one.1.sets)
@@ -55,10 +55,10 @@ whole_effect-more (l ∷ before) one =
     cc
 
 -- each name does what the lines so far say
-abbrev IsWhole : Devices → List Listing → Type 0
+abbrev IsWhole : Devices → List DeviceEntry → Type 0
 IsWhole devices before = (name : Text) → effect_of devices name ≡ whole_effect (lines_of name before)
 
-IsWhole-joined : (devices : Devices) (before : List Listing) (one : Listing) → IsWhole devices before → IsWhole (joined devices one) (before ++ one ∷ [])
+IsWhole-joined : (devices : Devices) (before : List DeviceEntry) (one : DeviceEntry) → IsWhole devices before → IsWhole (joined devices one) (before ++ one ∷ [])
 IsWhole-joined devices before one h name =
     let cut = filter-append (λ l. bytes_eq name l.0) before (one ∷ []) in
     elim (cases_Bool (bytes_eq name one.0)) [
@@ -76,44 +76,44 @@ IsWhole-joined devices before one h name =
 pub ok-same : {T : Type 0} {x y : T} → (let r : Result T DevicesError = Ok x in r) ≡ Ok y → x ≡ y
 ok-same e = cc
 
-IsWhole-kept : (devices next : Devices) (before : List Listing) → devices ≡ next → IsWhole devices before → IsWhole next (before ++ [])
+IsWhole-kept : (devices next : Devices) (before : List DeviceEntry) → devices ≡ next → IsWhole devices before → IsWhole next (before ++ [])
 IsWhole-kept devices next before e h name =
     ap (λ d. effect_of d name) (sym e) ∙ (h name ∙ ap (λ ls. whole_effect (lines_of name ls)) (sym (append-nil before)))
 
-IsWhole-next : (devices next : Devices) (before : List Listing) (one : Listing) → joined devices one ≡ next → IsWhole devices before → IsWhole next (before ++ one ∷ [])
+IsWhole-next : (devices next : Devices) (before : List DeviceEntry) (one : DeviceEntry) → joined devices one ≡ next → IsWhole devices before → IsWhole next (before ++ one ∷ [])
 IsWhole-next devices next before one e h name = ap (λ d. effect_of d name) (sym e) ∙ IsWhole-joined devices before one h name
 
 -- one line more
-IsWhole-words : (devices next : Devices) (before : List Listing) (number : ℕ) (line : Text) (words : List Text) → after_words devices number line words ≡ Ok next
-    → IsWhole devices before → IsWhole next (before ++ with_line (line_listing number words) [])
+IsWhole-words : (devices next : Devices) (before : List DeviceEntry) (number : ℕ) (line : Text) (words : List Text) → after_words devices number line words ≡ Ok next
+    → IsWhole devices before → IsWhole next (before ++ with_line (line_entry number words) [])
 IsWhole-words devices next before number line [] e h = IsWhole-kept devices next before (ok-same e) h
 IsWhole-words devices next before number line (first ∷ words) e h =
-    by (begins_comment first) (list_any (λ b. eqb b 0) line) (listing_of number (heading_of first words)) e
+    by (begins_comment first) (list_any (λ b. eqb b 0) line) (entry_of number (heading_of first words)) e
   where
-    by : (comment nul : Bool) (r : Result Listing DevicesError) → cond comment (Ok devices) (cond nul (Err (BadLine number)) (with_listing devices r)) ≡ Ok next
+    by : (comment nul : Bool) (r : Result DeviceEntry DevicesError) → cond comment (Ok devices) (cond nul (Err (BadLine number)) (with_entry devices r)) ≡ Ok next
         → IsWhole next (before ++ with_line (cond comment None (result_ok r)) [])
     by true nul r e = IsWhole-kept devices next before (ok-same e) h
     by false true r e = cc
     by false false (Err fault) e = cc
     by false false (Ok one) e = IsWhole-next devices next before one (ok-same e) h
 
-with_line-append : (o : Option Listing) (more : List Listing) → with_line o [] ++ more ≡ with_line o more
+with_line-append : (o : Option DeviceEntry) (more : List DeviceEntry) → with_line o [] ++ more ≡ with_line o more
 with_line-append None more = refl
 with_line-append (Some one) more = refl
 
-IsWhole-lines : (lines : List (ℕ × Text)) (devices done : Devices) (before : List Listing) → listed_lines devices lines ≡ Ok done → IsWhole devices before → IsWhole done (before ++ listings lines)
+IsWhole-lines : (lines : List (ℕ × Text)) (devices done : Devices) (before : List DeviceEntry) → listed_lines devices lines ≡ Ok done → IsWhole devices before → IsWhole done (before ++ line_entries lines)
 IsWhole-lines [] devices done before e h = IsWhole-kept devices done before (ok-same e) h
 IsWhole-lines (l ∷ lines) devices done before e h =
-    by (after_line devices l.0 l.1) refl e (λ next. IsWhole-lines lines next done (before ++ with_line (line_listing l.0 (device_words l.1)) []))
+    by (after_line devices l.0 l.1) refl e (λ next. IsWhole-lines lines next done (before ++ with_line (line_entry l.0 (device_words l.1)) []))
   where
     by : (r : Result Devices DevicesError) → after_line devices l.0 l.1 ≡ r → ◌≡◌ {A = Result Devices DevicesError} (elim r [ Ok next ↦ listed_lines next lines | Err fault ↦ Err fault ]) (Ok done)
-        → ((next : Devices) → listed_lines next lines ≡ Ok done → IsWhole next (before ++ with_line (line_listing l.0 (device_words l.1)) []) → IsWhole done ((before ++ with_line (line_listing l.0 (device_words l.1)) []) ++ listings lines))
-        → IsWhole done (before ++ with_line (line_listing l.0 (device_words l.1)) (listings lines))
+        → ((next : Devices) → listed_lines next lines ≡ Ok done → IsWhole next (before ++ with_line (line_entry l.0 (device_words l.1)) []) → IsWhole done ((before ++ with_line (line_entry l.0 (device_words l.1)) []) ++ line_entries lines))
+        → IsWhole done (before ++ with_line (line_entry l.0 (device_words l.1)) (line_entries lines))
     by (Err fault) is e later = cc
     by (Ok next) is e later =
-        let o = line_listing l.0 (device_words l.1) in
-        let regroup : (before ++ with_line o []) ++ listings lines ≡ before ++ with_line o (listings lines) =
-        append_assoc before (with_line o []) (listings lines) ∙ ap (λ ls. before ++ ls) (with_line-append o (listings lines)) in
+        let o = line_entry l.0 (device_words l.1) in
+        let regroup : (before ++ with_line o []) ++ line_entries lines ≡ before ++ with_line o (line_entries lines) =
+        append_assoc before (with_line o []) (line_entries lines) ∙ ap (λ ls. before ++ ls) (with_line-append o (line_entries lines)) in
         subst (λ ls. IsWhole done ls) regroup (later next e (IsWhole-words devices next before l.0 l.1 (device_words l.1) is h))
 
 pub lines_are_joined : LinesAreJoined

@@ -3,16 +3,16 @@ use Rattle.std.proofs.Common.{◌≡◌, [], ◌∷◌, None, Result, Ok, Err, c
 use Rattle.rehearse.specs.State.{Text}
 use Rattle.rehearse.specs.DeviceList.{Devices, listed as devices_listed}
 use Rattle.rehearse.specs.declared.devices_error.DevicesError.{DevicesError}
-use Rattle.rehearse.specs.Execution.{Setting}
-use Rattle.rehearse.proofs.Rehearsed.{setting, bootcmd, bootcmd_among, z, listed, ends_along, listed_along, along}
+use Rattle.rehearse.specs.Execution.{Limits}
+use Rattle.rehearse.proofs.Rehearsed.{limits, bootcmd, bootcmd_among, z, listed, ends_along, listed_along, along}
 
 abbrev devices_in : Result Devices DevicesError → Devices
 devices_in (Ok devices) = devices
 devices_in (Err fault) = []
 
 -- with the usual bounds
-abbrev with_list : Text → Setting
-with_list text = setting (devices_in (devices_listed text)) 16 10000
+abbrev with_list : Text → Limits
+with_list text = limits (devices_in (devices_listed text)) 16 10000
 
 -- the environment variable is set on success alone, and a boot ends the run
 sets_and_boots : listed (bootcmd (with_list (codes "load filesize=1000\nfinal bootm\n")) (codes "load && bootm; echo no")) (codes "filesize" ∷ []) None ≡ codes "run 00\ndev 0 load\ndev 0 bootm\nvar filesize=1000\nbooted bootm\nrun 01\ndev 0 load\ndev 1 bootm\ntext no\\n\nvar filesize=1000\nend 0\nrun 1\ndev 1 load\ntext no\\n\nunset filesize\nend 0\ndone\n"

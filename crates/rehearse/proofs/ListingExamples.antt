@@ -6,18 +6,18 @@ use Rattle.hushlang.specs.Expansion.{fields, joined, atoms}
 use Rattle.rehearse.specs.Outcomes.{Success, Failure, Run, Short, Long}
 use Rattle.rehearse.specs.Trees.{tree_of}
 use Rattle.rehearse.specs.State.{Text, get}
-use Rattle.rehearse.specs.Execution.{Setting}
+use Rattle.rehearse.specs.Execution.{Limits}
 use Rattle.rehearse.specs.Runs.{Task, task_of, run_on, state_of, kind, runs, work}
-use Rattle.rehearse.proofs.Rehearsed.{only_load, setting, bootcmd, bootcmd_among, z, listed, listed_after, works, times, ends_along, ends_behind, listed_along, listed_behind, works_along, along, behind, working}
+use Rattle.rehearse.proofs.Rehearsed.{only_load, limits, bootcmd, bootcmd_among, z, listed, listed_after, works, times, ends_along, ends_behind, listed_along, listed_behind, works_along, along, behind, working}
 
 -- `load` alone is listed, and both bounds are the usual ones
-abbrev usual : Setting
-usual = setting only_load 16 10000
+abbrev usual : Limits
+usual = limits only_load 16 10000
 
 -- ---- two attempts to load, and the status of the last: every variable is listed
 
 abbrev two_attempts : ℕ → Task
-two_attempts devices = bootcmd (setting only_load devices 10000) (codes "load a || load b; echo $?")
+two_attempts devices = bootcmd (limits only_load devices 10000) (codes "load a || load b; echo $?")
 
 abbrev first_record : Text
 first_record = codes "run 0\ndev 0 load a\ntext 0\\n\nvar bootcmd=load a || load b; echo $?\nend 0\n"
@@ -87,7 +87,7 @@ no_runs = refl
 -- ---- bounds
 
 abbrev loop_of_loads : Task
-loop_of_loads = bootcmd (setting only_load 2 10000) (codes "while load; do true; done")
+loop_of_loads = bootcmd (limits only_load 2 10000) (codes "while load; do true; done")
 
 loop_of_loads_listed : listed loop_of_loads z None ≡ codes "run 00\ndev 0 load\ndev 0 load\nunset z\ncut devices\nrun 01\ndev 0 load\ndev 1 load\nunset z\nend 0\nrun 1\ndev 1 load\nunset z\nend 0\ndone\n"
 unfolding listed
@@ -106,7 +106,7 @@ abbrev cut_listing : Text
 cut_listing = codes "run .\nunset z\ncut steps\ndone\n"
 
 abbrev endless : ℕ → Task
-endless steps = bootcmd (setting only_load 16 steps) (codes "while true; do true; done")
+endless steps = bootcmd (limits only_load 16 steps) (codes "while true; do true; done")
 
 endless_loop : listed (endless 5) z None ≡ cut_listing
 unfolding listed_along ends_along
@@ -116,19 +116,19 @@ behind_the_empty_word : listed_after (endless 5) [] z None ≡ codes "done\n"
 unfolding listed_behind ends_behind
 behind_the_empty_word = behind 0 _ _ _ _ _ refl refl
 
-endless_for : listed (bootcmd (setting only_load 16 4) (codes "while for x in; do true; done; do for y in; do true; done; done")) z None ≡ cut_listing
+endless_for : listed (bootcmd (limits only_load 16 4) (codes "while for x in; do true; done; do for y in; do true; done; done")) z None ≡ cut_listing
 unfolding listed_along ends_along
 endless_for = along 0 _ _ _ _ refl refl
 
 abbrev runs_itself : ℕ → Task
-runs_itself steps = bootcmd (setting only_load 16 steps) (codes "run bootcmd")
+runs_itself steps = bootcmd (limits only_load 16 steps) (codes "run bootcmd")
 
 itself_run : listed (runs_itself 3) z None ≡ cut_listing
 unfolding listed_along ends_along
 itself_run = along 0 _ _ _ _ refl refl
 
 abbrev run_in_turns : ℕ → Task
-run_in_turns steps = bootcmd_among (setting only_load 16 steps) ((codes "a", codes "run b") ∷ (codes "b", codes "run a") ∷ (codes "bootcmd", codes "run a") ∷ []) (codes "run a")
+run_in_turns steps = bootcmd_among (limits only_load 16 steps) ((codes "a", codes "run b") ∷ (codes "b", codes "run a") ∷ (codes "bootcmd", codes "run a") ∷ []) (codes "run a")
 
 run_in_turns_listed : listed (run_in_turns 9) z None ≡ cut_listing
 unfolding listed_along ends_along
@@ -143,12 +143,12 @@ usual_bound_of_texts : listed (bootcmd usual (codes "run bootcmd")) z None ≡ c
 unfolding listed_along ends_along
 usual_bound_of_texts = along 0 (bootcmd usual (codes "run bootcmd")) z None cut_listing refl refl
 
-empty_text : listed (bootcmd (setting only_load 16 0) []) z None ≡ codes "run .\nunset z\nend 0\ndone\n"
+empty_text : listed (bootcmd (limits only_load 16 0) []) z None ≡ codes "run .\nunset z\nend 0\ndone\n"
 unfolding listed_along ends_along
 empty_text = along 0 _ _ _ _ refl refl
 
 abbrev one_load : ℕ → Task
-one_load devices = bootcmd (setting only_load devices 10000) (codes "load")
+one_load devices = bootcmd (limits only_load devices 10000) (codes "load")
 
 no_device_allowed : listed (one_load 0) z None ≡ codes "run .\nunset z\ncut devices\ndone\n"
 unfolding listed
@@ -167,7 +167,7 @@ unfolding tree_of fields joined atoms digits
 no_device_work = refl
 
 abbrev two_steps : ℕ → Task
-two_steps steps = bootcmd (setting only_load 16 steps) (codes "true; true")
+two_steps steps = bootcmd (limits only_load 16 steps) (codes "true; true")
 
 second_step_cut : listed (two_steps 1) z None ≡ cut_listing
 unfolding listed_along ends_along
@@ -239,7 +239,7 @@ arms : listed (bootcmd usual (codes "if test -e mmc 0:1 /a; then echo y; elif lo
 unfolding listed_along ends_along
 arms = along 2 _ _ _ _ refl refl
 
-until_loaded : listed (bootcmd (setting only_load 2 10000) (codes "until load; do echo n; done")) z None ≡ codes "run 0\ndev 0 load\nunset z\nend 0\nrun 10\ndev 1 load\ndev 0 load\ntext n\\n\nunset z\nend 0\nrun 11\ndev 1 load\ndev 1 load\ntext n\\nn\\n\nunset z\ncut devices\ndone\n"
+until_loaded : listed (bootcmd (limits only_load 2 10000) (codes "until load; do echo n; done")) z None ≡ codes "run 0\ndev 0 load\nunset z\nend 0\nrun 10\ndev 1 load\ndev 0 load\ntext n\\n\nunset z\nend 0\nrun 11\ndev 1 load\ndev 1 load\ntext n\\nn\\n\nunset z\ncut devices\ndone\n"
 unfolding listed
 until_loaded = refl
 
@@ -271,7 +271,7 @@ doubled_in_assignment = along 0 _ _ _ _ refl refl
 
 -- what stands before the first device command is begun once, however many runs there are
 abbrev seven_loads : Task
-seven_loads = bootcmd (setting only_load 7 10000) (times 10 (codes "true; ") ++ codes "load; load; load; load; load; load; load")
+seven_loads = bootcmd (limits only_load 7 10000) (times 10 (codes "true; ") ++ codes "load; load; load; load; load; load; load")
 
 many_runs : length (runs seven_loads) ∷ work seven_loads (runs seven_loads) ∷ [] ≡ 128 ∷ 137 ∷ []
 unfolding tree_of fields joined atoms digits
@@ -280,7 +280,7 @@ many_runs = refl
 -- ---- nesting
 
 abbrev nested : ℕ → Task
-nested levels = bootcmd (setting only_load 16 100) (times levels (codes "if true; then ") ++ (codes "echo x; " ++ times levels (codes "fi; ")))
+nested levels = bootcmd (limits only_load 16 100) (times levels (codes "if true; then ") ++ (codes "echo x; " ++ times levels (codes "fi; ")))
 
 deepest : listed (nested 64) z None ≡ codes "run .\ntext x\\n\nunset z\nend 0\ndone\n"
 unfolding listed_along ends_along

@@ -9,7 +9,7 @@ use Rattle.text.specs.Lines.{numbered_lines}
 use Rattle.text.specs.Words.{is_blank, is_space, cut_front, onto_line, cut_behind, trimmed}
 use Rattle.rehearse.specs.Verdict.{Text}
 use Rattle.rehearse.specs.Builtins.{is_built_in}
-use Rattle.rehearse.specs.DeviceList.{Devices, joined, with_listing, after_words, after_line, listed_lines}
+use Rattle.rehearse.specs.DeviceList.{Devices, joined, with_entry, after_words, after_line, listed_lines}
 use Rattle.rehearse.specs.DeviceLaws.{quiet}
 use Rattle.rehearse.specs.PlainList.{with_name, plain_line, plain_lines, PlainListsStand}
 use Rattle.rehearse.specs.declared.devices_error.DevicesError.{DevicesError}
@@ -116,7 +116,7 @@ module _ (names : List Text) (number : ℕ) (line : Text) where
       ap (λ ws. after_words (quiet_names names) number line (full ws)) (one_word (b ∷ bytes) no_space)
       ∙ rw (full-some b bytes [], no_comment, no_nul) (by (is_built_in (b ∷ bytes)) e)
     where
-      by : (built_in : Bool) → cond built_in (Err (BuiltIn number)) (Ok (with_name names (b ∷ bytes))) ≡ Ok next → with_listing (quiet_names names) (cond built_in (Err (BuiltIn number)) (Ok (b ∷ bytes, quiet))) ≡ accepted next
+      by : (built_in : Bool) → cond built_in (Err (BuiltIn number)) (Ok (with_name names (b ∷ bytes))) ≡ Ok next → with_entry (quiet_names names) (cond built_in (Err (BuiltIn number)) (Ok (b ∷ bytes, quiet))) ≡ accepted next
       by true e = cc
       by false e = ap (λ ds. let r : Result Devices DevicesError = Ok ds in r) (joined-name names (b ∷ bytes)) ∙ ap accepted (ok-same e)
 

@@ -7,7 +7,7 @@ use Rattle.std.proofs.lemmas.Bool.Decides.{nat_tests}
 use Rattle.text.specs.Lines.{numbered_lines}
 use Rattle.rehearse.specs.Verdict.{Text}
 use Rattle.rehearse.specs.Builtins.{is_built_in}
-use Rattle.rehearse.specs.DeviceList.{Effect, Devices, effect_of, joint, joined, device_words, begins_comment, with_listing, after_words, after_line, listed_lines}
+use Rattle.rehearse.specs.DeviceList.{Effect, Devices, effect_of, joint, joined, device_words, begins_comment, with_entry, after_words, after_line, listed_lines}
 use Rattle.rehearse.specs.DeviceLaws.{quiet, is_name_alone, NamesAreQuiet}
 use Rattle.rehearse.specs.declared.devices_error.DevicesError.{DevicesError}
 use Rattle.rehearse.specs.declared.devices_error.DevicesError.TheVariants.{BadLine, BuiltIn}
@@ -37,7 +37,7 @@ words-quiet devices next number line [] short e all = subst AreQuiet (ok-same e)
 words-quiet devices next number line (first ∷ []) short e all =
     by (begins_comment first) (list_any (λ b. eqb b 0) line) (is_built_in first) e
   where
-    by : (comment nul built_in : Bool) → cond comment (Ok devices) (cond nul (Err (BadLine number)) (with_listing devices (cond built_in (Err (BuiltIn number)) (Ok (first, quiet))))) ≡ Ok next → AreQuiet next
+    by : (comment nul built_in : Bool) → cond comment (Ok devices) (cond nul (Err (BadLine number)) (with_entry devices (cond built_in (Err (BuiltIn number)) (Ok (first, quiet))))) ≡ Ok next → AreQuiet next
     by true nul built_in e = subst AreQuiet (ok-same e) all
     by false true built_in e = cc
     by false false true e = cc

@@ -3,7 +3,7 @@ use Rattle.std.proofs.Common.{ℕ, zero, suc, Bool, true, false, cond, List, [],
 use Rattle.std.specs.Prelude.{⊤}
 use Rattle.std.specs.List.{join_with_byte}
 use Rattle.std.specs.Fmt.{digits, digits_onto, digit_glyph}
-use Rattle.rehearse.specs.Outcomes.{Word, Success, Failure}
+use Rattle.rehearse.specs.Outcomes.{OutcomeWord, Success, Failure}
 use Rattle.bootstore.specs.Moment.{LoggedCommand}
 use Rattle.rehearse.specs.State.{Text, Variables, get, State}
 use Rattle.rehearse.specs.Execution.{Ending, End, CutDevices, CutSteps, Unknown, Syntax, Size, Booted}
@@ -81,12 +81,12 @@ words-lines : (ws : List Text) → AreLines (map word_form ws)
 words-lines [] = tt
 words-lines (w ∷ ws) = (word-line w, words-lines ws)
 
-digits-line : (w : Word) → IsOneLine (map digit_of w)
+digits-line : (w : OutcomeWord) → IsOneLine (map digit_of w)
 digits-line [] = tt
 digits-line (Success ∷ w) = (refl, digits-line w)
 digits-line (Failure ∷ w) = (refl, digits-line w)
 
-pub spelled-line : (w : Word) → IsOneLine (spelled w)
+pub spelled-line : (w : OutcomeWord) → IsOneLine (spelled w)
 spelled-line [] = (refl, tt)
 spelled-line (d ∷ w) = digits-line (d ∷ w)
 
@@ -164,7 +164,7 @@ past-inner (m ∷ ms) word point at ls h =
     pick-inner m word point at (ms ++ ls) h.0 ∙ past-inner ms word point (at + suc (length m)) ls h.1 ∙ ap (λ (n : ℕ). point_in word point n ls) f
 
 -- a whole record gives its word, and the place after it
-pub past-record : (w : Word) (s : State) (e : Ending) (names : List Text) (word : Option Text) (point : Option Point) (at : ℕ) (ls : List Text) → let n = at + suc (length (codes "run " ++ spelled w)) + bytes_of (inner_lines s names) + suc (length (last_line e)) in point_in word point at (record_lines w s e names ++ ls) ≡ point_in (Some (spelled w)) (Some (record { word = spelled w; length_before = n })) n ls
+pub past-record : (w : OutcomeWord) (s : State) (e : Ending) (names : List Text) (word : Option Text) (point : Option Point) (at : ℕ) (ls : List Text) → let n = at + suc (length (codes "run " ++ spelled w)) + bytes_of (inner_lines s names) + suc (length (last_line e)) in point_in word point at (record_lines w s e names ++ ls) ≡ point_in (Some (spelled w)) (Some (record { word = spelled w; length_before = n })) n ls
 past-record w s e names word point at ls =
     let start : Text = codes "run " ++ spelled w in
     let inner : List Text = inner_lines s names in
@@ -204,12 +204,12 @@ inner-lines [] l h k = (k, tt)
 inner-lines (m ∷ ms) l h k = (h.0.0, inner-lines ms l h.1 k)
 
 -- every line of a record is one line, so the lines are found again in its bytes
-pub record-lines : (w : Word) (s : State) (e : Ending) (names : List Text) → AreLines (record_lines w s e names)
+pub record-lines : (w : OutcomeWord) (s : State) (e : Ending) (names : List Text) → AreLines (record_lines w s e names)
 record-lines w s e names = ((refl, (refl, (refl, (refl, spelled-line w)))), inner-lines (inner_lines s names) (last_line e) (inner-inner s names) (last-line e))
 
 -- what a run's record is made of
 pub record Told : Type 0 where
-  pub word : Word
+  pub word : OutcomeWord
   pub state : State
   pub ending : Ending
 
@@ -278,7 +278,7 @@ open-inner ms l zero h k = tt
 open-inner [] l (suc j) h k = absurd (omega arith)
 open-inner (m ∷ ms) l (suc j) h k = (h.0.1, open-inner ms l j h.1 (omega arith))
 
-open-record : (w : Word) (s : State) (e : Ending) (names : List Text) (j : ℕ) → j ≤ suc (length (inner_lines s names)) → AreOpen (take j (record_lines w s e names))
+open-record : (w : OutcomeWord) (s : State) (e : Ending) (names : List Text) (j : ℕ) → j ≤ suc (length (inner_lines s names)) → AreOpen (take j (record_lines w s e names))
 open-record w s e names zero k = tt
 open-record w s e names (suc j) k = (refl, open-inner (inner_lines s names) (last_line e) j (inner-inner s names) (omega arith))
 

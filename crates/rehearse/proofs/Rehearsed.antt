@@ -2,11 +2,11 @@
 use Rattle.std.proofs.Common.{◌≡◌, ℕ, zero, suc, ◌&&◌, Bool, true, false, List, [], ◌∷◌, ◌++◌, Option, Some, None, codes, refl, ap, ◌∙◌, map, take}
 use Rattle.std.specs.Fmt.{digits}
 use Rattle.hushlang.specs.Expansion.{fields, joined, atoms}
-use Rattle.rehearse.specs.Outcomes.{Word, WordKind, Run, Short, Long, is_run_kind, turned, first_run, first_from}
+use Rattle.rehearse.specs.Outcomes.{OutcomeWord, WordKind, Run, Short, Long, is_run_kind, turned, first_run, first_from}
 use Rattle.rehearse.specs.Trees.{tree_of}
 use Rattle.rehearse.specs.State.{Text, Variables}
 use Rattle.rehearse.specs.DeviceList.{Devices}
-use Rattle.rehearse.specs.Execution.{Setting, Ending, End, no_effect}
+use Rattle.rehearse.specs.Execution.{Limits, Ending, End, no_effect}
 use Rattle.rehearse.specs.Runs.{Task, run_on, state_of, ending_of, kind, runs, rest, work}
 use Rattle.rehearse.specs.Listing.{listing, record_of}
 use Rattle.rehearse.proofs.TaskChoices.{task_begins, task_ends, task_goes_on}
@@ -15,14 +15,14 @@ use Rattle.rehearse.proofs.TaskChoices.{task_begins, task_ends, task_goes_on}
 abbrev pub only_load : Devices
 only_load = (codes "load", no_effect) ∷ []
 
-abbrev pub setting : Devices → ℕ → ℕ → Setting
-setting devices device_bound step_bound = record { devices = devices; device_bound = device_bound; step_bound = step_bound }
+abbrev pub limits : Devices → ℕ → ℕ → Limits
+limits devices device_bound step_bound = record { devices = devices; device_bound = device_bound; step_bound = step_bound }
 
 -- the rehearsal of a text as `bootcmd`, among other variables, which stand in byte order before and behind it
-abbrev pub bootcmd_among : Setting → Variables → Text → Task
-bootcmd_among s environment text = record { setting = s; environment = environment; name = codes "bootcmd"; text = text }
+abbrev pub bootcmd_among : Limits → Variables → Text → Task
+bootcmd_among s environment text = record { limits = s; environment = environment; name = codes "bootcmd"; text = text }
 
-abbrev pub bootcmd : Setting → Text → Task
+abbrev pub bootcmd : Limits → Text → Task
 bootcmd s text = bootcmd_among s ((codes "bootcmd", text) ∷ []) text
 
 -- a name that is not set
@@ -35,7 +35,7 @@ unfolding tree_of fields joined atoms digits
 listed task names limit = listing (record_of task names) (runs task) limit
 
 -- that of the runs behind a word
-unfoldable pub listed_after : Task → Word → List Text → Option ℕ → Text
+unfoldable pub listed_after : Task → OutcomeWord → List Text → Option ℕ → Text
 unfolding tree_of fields joined atoms digits
 listed_after task w names limit = listing (record_of task names) (rest task w) limit
 
@@ -54,13 +54,13 @@ unfolding tree_of fields joined atoms digits
 told_of task = ((state_of (run_on task [])).memory.text, ending_of (run_on task []))
 
 abbrev pub told : Text → Told
-told text = told_of (bootcmd (setting only_load 2 10000) text)
+told text = told_of (bootcmd (limits only_load 2 10000) text)
 
 abbrev pub told_with : Variables → Text → Told
-told_with variables text = told_of (bootcmd_among (setting only_load 2 10000) variables text)
+told_with variables text = told_of (bootcmd_among (limits only_load 2 10000) variables text)
 
 abbrev pub told_within : ℕ → Text → Told
-told_within steps text = told_of (bootcmd (setting only_load 2 steps) text)
+told_within steps text = told_of (bootcmd (limits only_load 2 steps) text)
 
 -- the texts write this and end with status 0
 abbrev pub write : List Text → List Told
@@ -78,47 +78,47 @@ letters (suc n) = 97 ∷ letters n
 
 -- ---- without trying all words: the first run, and what follows each run, by the laws
 
-abbrev pub begins : Task → Word
-begins task = first_run (kind task) task.setting.device_bound
+abbrev pub begins : Task → OutcomeWord
+begins task = first_run (kind task) task.limits.device_bound
 
 -- the runs behind u, at most n of them
-abbrev pub followers : ℕ → Task → Word → List Word
+abbrev pub followers : ℕ → Task → OutcomeWord → List OutcomeWord
 followers zero task u = []
-followers (suc n) task u = elim (turned u) [ None ↦ [] | Some p ↦ first_from (kind task) task.setting.device_bound p ∷ followers n task (first_from (kind task) task.setting.device_bound p) ]
+followers (suc n) task u = elim (turned u) [ None ↦ [] | Some p ↦ first_from (kind task) task.limits.device_bound p ∷ followers n task (first_from (kind task) task.limits.device_bound p) ]
 
 -- whether u is a run, and has no more runs behind it
-abbrev pub are_all : ℕ → Task → Word → Bool
+abbrev pub are_all : ℕ → Task → OutcomeWord → Bool
 are_all zero task u = is_run_kind (kind task u) && elim (turned u) [ None ↦ true | Some p ↦ false ]
-are_all (suc n) task u = is_run_kind (kind task u) && elim (turned u) [ None ↦ true | Some p ↦ are_all n task (first_from (kind task) task.setting.device_bound p) ]
+are_all (suc n) task u = is_run_kind (kind task u) && elim (turned u) [ None ↦ true | Some p ↦ are_all n task (first_from (kind task) task.limits.device_bound p) ]
 
 is_run : (k : WordKind) (b : Bool) → (is_run_kind k && b) ≡ true → (k ≡ Run) × (b ≡ true)
 is_run Run b e = (refl, e)
 is_run Short b e = cc
 is_run Long b e = cc
 
-rest-followers : (n : ℕ) (task : Task) (u : Word) → are_all n task u ≡ true → rest task u ≡ followers n task u
+rest-followers : (n : ℕ) (task : Task) (u : OutcomeWord) → are_all n task u ≡ true → rest task u ≡ followers n task u
 rest-followers zero task u e = by (turned u) refl e
   where
-    by : (t : Option Word) → turned u ≡ t → (is_run_kind (kind task u) && elim t [ None ↦ true | Some p ↦ false ]) ≡ true → rest task u ≡ []
+    by : (t : Option OutcomeWord) → turned u ≡ t → (is_run_kind (kind task u) && elim t [ None ↦ true | Some p ↦ false ]) ≡ true → rest task u ≡ []
     by None is e = task_ends task u (is_run (kind task u) true e).0 is
     by (Some p) is e = let h = (is_run (kind task u) false e).1 in cc
 rest-followers (suc n) task u e = by (turned u) refl e (λ v. rest-followers n task v)
   where
-    by : (t : Option Word) → turned u ≡ t → (is_run_kind (kind task u) && elim t [ None ↦ true | Some p ↦ are_all n task (first_from (kind task) task.setting.device_bound p) ]) ≡ true
-        → ((v : Word) → are_all n task v ≡ true → rest task v ≡ followers n task v)
-        → rest task u ≡ elim t [ None ↦ [] | Some p ↦ first_from (kind task) task.setting.device_bound p ∷ followers n task (first_from (kind task) task.setting.device_bound p) ]
+    by : (t : Option OutcomeWord) → turned u ≡ t → (is_run_kind (kind task u) && elim t [ None ↦ true | Some p ↦ are_all n task (first_from (kind task) task.limits.device_bound p) ]) ≡ true
+        → ((v : OutcomeWord) → are_all n task v ≡ true → rest task v ≡ followers n task v)
+        → rest task u ≡ elim t [ None ↦ [] | Some p ↦ first_from (kind task) task.limits.device_bound p ∷ followers n task (first_from (kind task) task.limits.device_bound p) ]
     by None is e later = task_ends task u (is_run (kind task u) true e).0 is
     by (Some p) is e later =
-        let v : Word = first_from (kind task) task.setting.device_bound p in
+        let v : OutcomeWord = first_from (kind task) task.limits.device_bound p in
         let h = is_run (kind task u) (are_all n task v) e in
-        task_goes_on task u p h.0 is ∙ ap (λ (vs : List Word). v ∷ vs) (later v h.1)
+        task_goes_on task u p h.0 is ∙ ap (λ (vs : List OutcomeWord). v ∷ vs) (later v h.1)
 
 -- whether the first run and at most n behind it, or those behind u, are all
 unfoldable pub ends_along : ℕ → Task → Bool
 unfolding tree_of fields joined atoms digits
 ends_along n task = are_all n task (begins task)
 
-unfoldable pub ends_behind : ℕ → Task → Word → Bool
+unfoldable pub ends_behind : ℕ → Task → OutcomeWord → Bool
 unfolding tree_of fields joined atoms digits
 ends_behind n task u = are_all n task u
 
@@ -127,7 +127,7 @@ unfoldable pub listed_along : ℕ → Task → List Text → Option ℕ → Text
 unfolding tree_of fields joined atoms digits
 listed_along n task names limit = listing (record_of task names) (begins task ∷ followers n task (begins task)) limit
 
-unfoldable pub listed_behind : ℕ → Task → Word → List Text → Option ℕ → Text
+unfoldable pub listed_behind : ℕ → Task → OutcomeWord → List Text → Option ℕ → Text
 unfolding tree_of fields joined atoms digits
 listed_behind n task u names limit = listing (record_of task names) (followers n task u) limit
 
@@ -137,16 +137,16 @@ works_along n task counts = map (λ k. work task (take k (begins task ∷ follow
 
 runs-along : (n : ℕ) (task : Task) → ends_along n task ≡ true → runs task ≡ begins task ∷ followers n task (begins task)
 unfolding ends_along
-runs-along n task e = task_begins task ∙ ap (λ (ws : List Word). begins task ∷ ws) (rest-followers n task (begins task) e)
+runs-along n task e = task_begins task ∙ ap (λ (ws : List OutcomeWord). begins task ∷ ws) (rest-followers n task (begins task) e)
 
 pub along : (n : ℕ) (task : Task) (names : List Text) (limit : Option ℕ) (text : Text) → ends_along n task ≡ true → listed_along n task names limit ≡ text → listed task names limit ≡ text
 unfolding listed listed_along
-along n task names limit text e h = ap (λ (ws : List Word). listing (record_of task names) ws limit) (runs-along n task e) ∙ h
+along n task names limit text e h = ap (λ (ws : List OutcomeWord). listing (record_of task names) ws limit) (runs-along n task e) ∙ h
 
-pub behind : (n : ℕ) (task : Task) (u : Word) (names : List Text) (limit : Option ℕ) (text : Text) → ends_behind n task u ≡ true → listed_behind n task u names limit ≡ text → listed_after task u names limit ≡ text
+pub behind : (n : ℕ) (task : Task) (u : OutcomeWord) (names : List Text) (limit : Option ℕ) (text : Text) → ends_behind n task u ≡ true → listed_behind n task u names limit ≡ text → listed_after task u names limit ≡ text
 unfolding listed_after listed_behind ends_behind
-behind n task u names limit text e h = ap (λ (ws : List Word). listing (record_of task names) ws limit) (rest-followers n task u e) ∙ h
+behind n task u names limit text e h = ap (λ (ws : List OutcomeWord). listing (record_of task names) ws limit) (rest-followers n task u e) ∙ h
 
 pub working : (n : ℕ) (task : Task) (counts numbers : List ℕ) → ends_along n task ≡ true → works_along n task counts ≡ numbers → works task counts ≡ numbers
 unfolding works works_along
-working n task counts numbers e h = ap (λ (ws : List Word). map (λ k. work task (take k ws)) counts) (runs-along n task e) ∙ h
+working n task counts numbers e h = ap (λ (ws : List OutcomeWord). map (λ k. work task (take k ws)) counts) (runs-along n task e) ∙ h

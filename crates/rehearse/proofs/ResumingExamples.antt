@@ -8,10 +8,10 @@ use Rattle.rehearse.specs.Trees.{tree_of}
 use Rattle.rehearse.specs.Listing.{record_of}
 use Rattle.rehearse.specs.Runs.{Task, runs}
 use Rattle.rehearse.specs.Resuming.{Point, whole, resume_point_of}
-use Rattle.rehearse.proofs.Rehearsed.{only_load, setting, bootcmd, listed, listed_after}
+use Rattle.rehearse.proofs.Rehearsed.{only_load, limits, bootcmd, listed, listed_after}
 
 abbrev two_attempts : Task
-two_attempts = bootcmd (setting only_load 2 10000) (codes "load a || load b; echo $?")
+two_attempts = bootcmd (limits only_load 2 10000) (codes "load a || load b; echo $?")
 
 abbrev broken_at : ℕ → Option Point
 broken_at n = resume_point_of (take n (listed two_attempts [] None))
@@ -40,7 +40,7 @@ broken_page = refl
 
 -- listings of a run that is cut, stopped or booted
 abbrev ends : List Text
-ends = listed (bootcmd (setting only_load 0 10000) (codes "load")) (codes "z" ∷ []) None ∷ listed (bootcmd (setting only_load 0 10000) (codes "foo")) (codes "z" ∷ []) None ∷ listed (bootcmd (setting ((codes "go", record { ends = true; sets = [] }) ∷ []) 1 10000) (codes "go")) (codes "z" ∷ []) (Some 1) ∷ []
+ends = listed (bootcmd (limits only_load 0 10000) (codes "load")) (codes "z" ∷ []) None ∷ listed (bootcmd (limits only_load 0 10000) (codes "foo")) (codes "z" ∷ []) None ∷ listed (bootcmd (limits ((codes "go", record { ends = true; sets = [] }) ∷ []) 1 10000) (codes "go")) (codes "z" ∷ []) (Some 1) ∷ []
 
 points_at_ends : map resume_point_of ends ≡ point (codes ".") 26 ∷ point (codes ".") 31 ∷ point (codes "0") 33 ∷ []
 unfolding listed

@@ -4,10 +4,10 @@ use Rattle.rehearse.specs.Outcomes.{Success, Failure}
 use Rattle.rehearse.specs.State.{Text}
 use Rattle.rehearse.specs.Execution.{End, CutSteps, Unknown, Syntax, Size}
 use Rattle.rehearse.specs.Runs.{Task}
-use Rattle.rehearse.proofs.Rehearsed.{only_load, setting, bootcmd, bootcmd_among, z, listed, listed_after, told_of, told, told_with, told_within, write}
+use Rattle.rehearse.proofs.Rehearsed.{only_load, limits, bootcmd, bootcmd_among, z, listed, listed_after, told_of, told, told_with, told_within, write}
 
 abbrev listing_with : ℕ → Text → Text
-listing_with devices text = listed (bootcmd (setting only_load devices 10000) text) z None
+listing_with devices text = listed (bootcmd (limits only_load devices 10000) text) z None
 
 -- ---- what a run has
 
@@ -75,11 +75,11 @@ setenv_writes : map told (codes "setenv a 1  2; echo \"$a\"" ∷ codes "setenv a
 unfolding told_of
 setenv_writes = refl
 
-setenv_empty : listed (bootcmd (setting only_load 0 10000) (codes "setenv a ''")) (codes "a" ∷ []) None ≡ codes "run .\nvar a=\nend 0\ndone\n"
+setenv_empty : listed (bootcmd (limits only_load 0 10000) (codes "setenv a ''")) (codes "a" ∷ []) None ≡ codes "run .\nvar a=\nend 0\ndone\n"
 unfolding listed
 setenv_empty = refl
 
-run_in_turn : listed (bootcmd_among (setting only_load 2 10000) ((codes "a", codes "load") ∷ (codes "b", codes "echo b") ∷ []) (codes "run a b; echo $?")) z None ≡ codes "run 0\ndev 0 load\ntext b\\n0\\n\nunset z\nend 0\nrun 1\ndev 1 load\ntext 1\\n\nunset z\nend 0\ndone\n"
+run_in_turn : listed (bootcmd_among (limits only_load 2 10000) ((codes "a", codes "load") ∷ (codes "b", codes "echo b") ∷ []) (codes "run a b; echo $?")) z None ≡ codes "run 0\ndev 0 load\ntext b\\n0\\n\nunset z\nend 0\nrun 1\ndev 1 load\ntext 1\\n\nunset z\nend 0\ndone\n"
 unfolding listed
 run_in_turn = refl
 
@@ -95,7 +95,7 @@ exits : map told (codes "exit 7; echo a" ∷ codes "exit -1" ∷ codes "exit 300
 unfolding told_of
 exits = refl
 
-exit_in_run : listed (bootcmd_among (setting only_load 2 10000) ((codes "t", codes "load; exit 3; load") ∷ []) (codes "run t; echo $?")) z None ≡ codes "run 0\ndev 0 load\ntext 3\\n\nunset z\nend 0\nrun 1\ndev 1 load\ntext 3\\n\nunset z\nend 0\ndone\n"
+exit_in_run : listed (bootcmd_among (limits only_load 2 10000) ((codes "t", codes "load; exit 3; load") ∷ []) (codes "run t; echo $?")) z None ≡ codes "run 0\ndev 0 load\ntext 3\\n\nunset z\nend 0\nrun 1\ndev 1 load\ntext 3\\n\nunset z\nend 0\ndone\n"
 unfolding listed
 exit_in_run = refl
 
@@ -112,7 +112,7 @@ words_of_a_command = refl
 -- ---- pages
 
 abbrev two_loads : Task
-two_loads = bootcmd (setting only_load 2 10000) (codes "load a || load b")
+two_loads = bootcmd (limits only_load 2 10000) (codes "load a || load b")
 
 first_page : listed two_loads z (Some 1) ≡ codes "run 0\ndev 0 load a\nunset z\nend 0\nmore 0\n"
 unfolding listed

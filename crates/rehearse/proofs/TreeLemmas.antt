@@ -1,12 +1,12 @@
 -- The tree that is computed is the text's tree.
 use Rattle.std.proofs.Common.{◌≡◌, ℕ, List, length, Option, Some, None, Result, Ok, Err, refl, ap, sym, ◌∙◌, subst}
 use Rattle.hushlang.specs.Token.{Whole}
-use Rattle.hushlang.specs.Reading.{Lexed, lexed}
+use Rattle.hushlang.specs.Tokenizing.{Lexed, lexed}
 use Rattle.hushlang.specs.Spelling.{Spells}
 use Rattle.hushlang.specs.Tree.{Script}
 use Rattle.hushlang.specs.Grammar.{max_nesting}
 use Rattle.hushlang.specs.Parsing.{whole}
-use Rattle.hushlang.specs.Cursor.{input_with, input_in}
+use Rattle.hushlang.specs.CursorShown.{input_with, input_in}
 use Rattle.hushlang.specs.Texts.{IsTreeOf}
 use Rattle.hushlang.specs.declared.token.SyntaxError.{SyntaxError}
 use Rattle.hushlang.proofs.EachSpelled.{each_spelled, spelled_once}

@@ -4,7 +4,7 @@ use Rattle.std.specs.Prelude.{Vec, option_map}
 use Rattle.std.specs.Str.{bytes_eq}
 use Rattle.std.specs.declared.alloc.Global.{Global}
 use Rattle.rehearse.specs.Verdict.{Text, Term, negated, compared, measured, comparison, opposite, term, combined, chain, verdict}
-use Rattle.rehearse.specs.Words.{texts}
+use Rattle.rehearse.specs.TextsShown.{texts}
 
 least : (m n : ℕ) → m ≡ min n (2 ^ 64 - 1) → min m 9223372036854775808 ≡ min n 9223372036854775808
 least m n e = omega (arith, e)

@@ -3,13 +3,13 @@ use Rattle.std.proofs.Common.{ℕ, zero, suc, Bool, true, false, List, [], ◌�
 use Rattle.std.proofs.lemmas.List.Concat.{flat_map-append}
 use Rattle.std.specs.List.{starts_with}
 use Rattle.std.proofs.lemmas.Bool.{and_parts, and_from, and_right}
-use Rattle.rehearse.specs.Outcomes.{Word}
+use Rattle.rehearse.specs.Outcomes.{OutcomeWord}
 use Rattle.rehearse.specs.State.{Text}
 use Rattle.rehearse.specs.Listing.{listing, line}
 use Rattle.rehearse.specs.Resuming.{whole, next_text}
 
 -- a listing that was broken off goes on from its whole records
-pub resumes : (written : Word → Text) (ws : List Word) (p : Text) → let k = whole (map written ws) p in flat_map written (take k ws) ++ listing written (drop k ws) None ≡ listing written ws None
+pub resumes : (written : OutcomeWord → Text) (ws : List OutcomeWord) (p : Text) → let k = whole (map written ws) p in flat_map written (take k ws) ++ listing written (drop k ws) None ≡ listing written ws None
 resumes written ws p =
     let k = whole (map written ws) p in
     let b = flat_map-append written (take k ws) (drop k ws) in
@@ -55,15 +55,15 @@ overlap (x ∷ a) b (y ∷ p) q e =
     ]
 
 -- p is k records and an open part of what follows
-abbrev pub IsSplit : (Word → Text) → List Word → Text → Text → ℕ → Type 0
+abbrev pub IsSplit : (OutcomeWord → Text) → List OutcomeWord → Text → Text → ℕ → Type 0
 IsSplit written us last p k = (part : Text) × (missing : Text) × (p ≡ flat_map written (take k us) ++ part) × (next_text written (drop k us) last ≡ part ++ missing) × (drop k us ≢ [] → missing ≢ [])
 
-split_here : (written : Word → Text) (u : Word) (us : List Word) (last p missing : Text) → written u ≡ p ++ missing → missing ≢ [] → IsSplit written (u ∷ us) last p (whole (map written (u ∷ us)) p)
+split_here : (written : OutcomeWord → Text) (u : OutcomeWord) (us : List OutcomeWord) (last p missing : Text) → written u ≡ p ++ missing → missing ≢ [] → IsSplit written (u ∷ us) last p (whole (map written (u ∷ us)) p)
 split_here written u us last p missing e ne =
     let none : whole (map written (u ∷ us)) p ≡ 0 = ap (λ (r : Text). whole (r ∷ map written us) p) e ∙ whole_none p missing (map written us) ne in
     subst (IsSplit written (u ∷ us) last p) (sym none) (p, missing, refl, e, λ some. ne)
 
-split_after : (written : Word → Text) (u : Word) (us : List Word) (last p part : Text) → p ≡ written u ++ part → IsSplit written us last part (whole (map written us) part) → IsSplit written (u ∷ us) last p (whole (map written (u ∷ us)) p)
+split_after : (written : OutcomeWord → Text) (u : OutcomeWord) (us : List OutcomeWord) (last p part : Text) → p ≡ written u ++ part → IsSplit written us last part (whole (map written us) part) → IsSplit written (u ∷ us) last p (whole (map written (u ∷ us)) p)
 split_after written u us last p part e h =
     let k = whole (map written us) part in
     let one : whole (map written (u ∷ us)) p ≡ suc k = ap (whole (map written (u ∷ us))) e ∙ whole_one (written u) (map written us) part in
@@ -71,7 +71,7 @@ split_after written u us last p part e h =
     subst (IsSplit written (u ∷ us) last p) (sym one) (h.0, h.1, text, h.3, h.4)
 
 -- the front of a listing is its whole records and an open part
-pub split_whole : (written : Word → Text) (us : List Word) (last p q : Text) → flat_map written us ++ last ≡ p ++ q → IsSplit written us last p (whole (map written us) p)
+pub split_whole : (written : OutcomeWord → Text) (us : List OutcomeWord) (last p q : Text) → flat_map written us ++ last ≡ p ++ q → IsSplit written us last p (whole (map written us) p)
 split_whole written [] last p q e = (p, q, refl, e, λ some. absurd (some refl))
 split_whole written (u ∷ us) last p q e =
     let f : written u ++ (flat_map written us ++ last) ≡ p ++ q = sym (append_assoc (written u) (flat_map written us) last) ∙ e in

@@ -5,28 +5,28 @@ use Rattle.std.specs.List.{list_any, list_all, flat_map}
 use Rattle.std.specs.Result.{result_ok}
 use Rattle.text.specs.Lines.{numbered_lines}
 use Rattle.rehearse.specs.Verdict.{Text}
-use Rattle.rehearse.specs.DeviceList.{Effect, Devices, Listing, effect_of, device_words, begins_comment, heading_of, listing_of, listed}
+use Rattle.rehearse.specs.DeviceList.{Effect, Devices, DeviceEntry, effect_of, device_words, begins_comment, heading_of, entry_of, listed}
 
 -- the command that a line names, if it names one, in a list without a faulty line
-abbrev pub line_listing : ℕ → List Text → Option Listing
-line_listing number [] = None
-line_listing number (first ∷ words) = if begins_comment first then None
-    else result_ok (listing_of number (heading_of first words))
+abbrev pub line_entry : ℕ → List Text → Option DeviceEntry
+line_entry number [] = None
+line_entry number (first ∷ words) = if begins_comment first then None
+    else result_ok (entry_of number (heading_of first words))
 
-abbrev pub with_line : Option Listing → List Listing → List Listing
+abbrev pub with_line : Option DeviceEntry → List DeviceEntry → List DeviceEntry
 with_line None more = more
 with_line (Some one) more = one ∷ more
 
 -- the lines that name a command, in order
-abbrev pub listings : List (ℕ × Text) → List Listing
-listings [] = []
-listings (l ∷ lines) = with_line (line_listing l.0 (device_words l.1)) (listings lines)
+abbrev pub line_entries : List (ℕ × Text) → List DeviceEntry
+line_entries [] = []
+line_entries (l ∷ lines) = with_line (line_entry l.0 (device_words l.1)) (line_entries lines)
 
-abbrev pub lines_of : Text → List Listing → List Listing
+abbrev pub lines_of : Text → List DeviceEntry → List DeviceEntry
 lines_of name = filter (λ one. bytes_eq name one.0)
 
 -- some lines of one name together: final where one of them is, with all settings in their order
-abbrev pub whole_effect : List Listing → Option Effect
+abbrev pub whole_effect : List DeviceEntry → Option Effect
 whole_effect [] = None
 whole_effect (one ∷ more) = Some (record {
   ends = list_any (λ l. l.1.ends) (one ∷ more);
@@ -36,7 +36,7 @@ whole_effect (one ∷ more) = Some (record {
 -- A name is listed where a line names it, and does what all lines of that name say.
 abbrev pub LinesAreJoined : Type 0
 LinesAreJoined = (text : Text) (devices : Devices) → listed text ≡ Ok devices
-    → (name : Text) → effect_of devices name ≡ whole_effect (lines_of name (listings (numbered_lines text)))
+    → (name : Text) → effect_of devices name ≡ whole_effect (lines_of name (line_entries (numbered_lines text)))
 
 -- ---- lists of names alone
 

@@ -71,16 +71,16 @@ heading_of first (second ∷ words) =
     else record { name = first; ends = false; words = second ∷ words }
 
 -- one line of a command
-abbrev pub Listing : Type 0
-Listing = Text × Effect
+abbrev pub DeviceEntry : Type 0
+DeviceEntry = Text × Effect
 
-abbrev pub listing_with : ℕ → Heading → Option (List (Text × Text)) → Result Listing DevicesError
-listing_with number h None = Err (BadLine number)
-listing_with number h (Some sets) = if is_built_in h.name then Err (BuiltIn number)
+abbrev pub entry_with : ℕ → Heading → Option (List (Text × Text)) → Result DeviceEntry DevicesError
+entry_with number h None = Err (BadLine number)
+entry_with number h (Some sets) = if is_built_in h.name then Err (BuiltIn number)
     else Ok (h.name, record { ends = h.ends; sets = sets })
 
-abbrev pub listing_of : ℕ → Heading → Result Listing DevicesError
-listing_of number h = listing_with number h (settings h.words)
+abbrev pub entry_of : ℕ → Heading → Result DeviceEntry DevicesError
+entry_of number h = entry_with number h (settings h.words)
 
 abbrev pub begins_comment : Text → Bool
 begins_comment [] = false
@@ -92,13 +92,13 @@ begins_comment (b ∷ bytes) = b == ascii.hash
 abbrev pub joint : Effect → Effect → Effect
 joint before more = record { ends = before.ends || more.ends; sets = before.sets ++ more.sets }
 
-abbrev pub joined : Devices → Listing → Devices
+abbrev pub joined : Devices → DeviceEntry → Devices
 joined [] more = more ∷ []
 joined (d ∷ devices) more = if bytes_eq more.0 d.0 then (d.0, joint d.1 more.1) ∷ devices else d ∷ joined devices more
 
-abbrev pub with_listing : Devices → Result Listing DevicesError → Result Devices DevicesError
-with_listing devices (Ok more) = Ok (joined devices more)
-with_listing devices (Err fault) = Err fault
+abbrev pub with_entry : Devices → Result DeviceEntry DevicesError → Result Devices DevicesError
+with_entry devices (Ok more) = Ok (joined devices more)
+with_entry devices (Err fault) = Err fault
 
 -- The list after the words of one more line, or the line's fault. A line without a word, and one that begins with `#`,
 -- says nothing.
@@ -107,7 +107,7 @@ after_words devices number line [] = Ok devices
 after_words devices number line (first ∷ words) =
     if begins_comment first then Ok devices
     else (if list_any (λ b. b == ascii.nul) line then Err (BadLine number)
-    else with_listing devices (listing_of number (heading_of first words)))
+    else with_entry devices (entry_of number (heading_of first words)))
 
 abbrev pub after_line : Devices → ℕ → Text → Result Devices DevicesError
 after_line devices number line = after_words devices number line (device_words line)

@@ -6,16 +6,16 @@ use Rattle.hushlang.specs.Tree.{Script, AndOr, Joined, Command, Arms}
 use Rattle.hushlang.specs.Expansion.{fields, joined, size, most_bytes}
 use Rattle.hushlang.specs.declared.tree.Op.{Op}
 use Rattle.hushlang.specs.declared.tree.Op.TheVariants.{And, Or}
-use Rattle.rehearse.specs.Outcomes.{Outcome, Success, Failure, Word}
+use Rattle.rehearse.specs.Outcomes.{Outcome, Success, Failure, OutcomeWord}
 use Rattle.rehearse.specs.Trees.{tree_of}
-use Rattle.rehearse.specs.State.{Text, Variables, get, with_value, Memory, State, setting_in}
+use Rattle.rehearse.specs.State.{Text, Variables, get, with_value, Memory, State, parameters_in}
 use Rattle.rehearse.specs.DeviceList.{Effect, Devices}
 use Rattle.rehearse.specs.Verdict.{verdict}
 use Rattle.rehearse.specs.Builtins.{SetEnv, Run, Test, Echo, True, False, Leave}
 use Rattle.rehearse.specs.Commands.{Called, BuiltIn, NoCommand, Device, called_by, asks_device, setenv, echo, exit_status}
 
 -- the device list, how many device commands a run may ask, and how many steps it may begin
-pub record Setting : Type 0 where
+pub record Limits : Type 0 where
   pub devices : Devices
   pub device_bound : ℕ
   pub step_bound : ℕ
@@ -114,7 +114,7 @@ boot true name s = Ended (Booted name) s
 boot false name s = Normal s
 
 -- a device command takes the next outcome of the word
-abbrev pub take_outcome : Request → Word → State → Answer
+abbrev pub take_outcome : Request → OutcomeWord → State → Answer
 take_outcome request [] s = Dry s
 take_outcome request (Success ∷ rest) s =
     boot request.effect.ends request.name
@@ -137,7 +137,7 @@ sized fs next s = elim (nat_le (size fs) most_bytes) [ true ↦ next fs s | fals
 -- assignments, from the left; those before one that ends the run stand
 abbrev pub assign : List (Text × tree.Word) → State → Answer
 assign [] s = Normal (set_status 0 s)
-assign (pair ∷ pairs) s = let value = joined (setting_in s.memory) pair.1 in elim (nat_le (length value) most_bytes) [
+assign (pair ∷ pairs) s = let value = joined (parameters_in s.memory) pair.1 in elim (nat_le (length value) most_bytes) [
   | true ↦ assign pairs (set_local pair.0 value s)
   | false ↦ Ended Size s
 ]
@@ -158,11 +158,11 @@ for_each name body last (f ∷ fs) s = go_on (body (set_local name f s)) (λ t. 
 
 -- ---- execution, where `script` is what the tree of a text does to a state
 
-module _ (setting : Setting) where
+module _ (limits : Limits) where
   -- a step is begun and counted where the bound allows one more
   abbrev pub begin : (State → Answer) → State → Answer
   begin body s =
-      elim (nat_lt s.steps setting.step_bound) [
+      elim (nat_lt s.steps limits.step_bound) [
         | true ↦ body (record s { steps = suc s.steps })
         | false ↦ Ended CutSteps s
       ]
@@ -170,7 +170,7 @@ module _ (setting : Setting) where
   -- a device command is asked where the bound allows one more
   abbrev pub device : Request → State → Answer
   device request s =
-      elim (nat_lt (length s.log) setting.device_bound) [
+      elim (nat_lt (length s.log) limits.device_bound) [
         | true ↦ take_outcome request s.word s
         | false ↦ Ended CutDevices s
       ]
@@ -217,7 +217,7 @@ module _ (setting : Setting) where
   -- words that expand to no field do nothing, with status 0
   abbrev pub simple : (script : Script → State → Answer) → List Text → State → Answer
   simple script [] s = Normal (set_status 0 s)
-  simple script (name ∷ words) s = command script (called_by setting.devices name) name words s
+  simple script (name ∷ words) s = command script (called_by limits.devices name) name words s
 
   -- over the tree, with so many steps left, where `text` is what the texts do that `run` starts
   module _ (left : ℕ) (text : Script → State → Answer) where
@@ -239,12 +239,12 @@ module _ (setting : Setting) where
           ]
 
       pub exec_command : Command → State → Answer
-      exec_command (tree.Simple words) s = begin (λ t. sized (fields (setting_in t.memory) words) (simple text) t) s
+      exec_command (tree.Simple words) s = begin (λ t. sized (fields (parameters_in t.memory) words) (simple text) t) s
       exec_command (tree.Assign values) s = begin (assign values) s
       exec_command (tree.If arms) s = exec_arms arms s
       exec_command (tree.Loop until cond body) s = turns left until (exec_script cond) (exec_script body) 0 s
       exec_command (tree.For name words body) s =
-          begin (λ t. sized (fields (setting_in t.memory) words) (for_each name (exec_script body) 0) t) s
+          begin (λ t. sized (fields (parameters_in t.memory) words) (for_each name (exec_script body) 0) t) s
 
       -- the block behind the first condition that ends with status 0, else the `else` block; where none is run, status
       -- 0

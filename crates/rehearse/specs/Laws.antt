@@ -6,13 +6,13 @@ use Rattle.hushlang.specs.Tree.{Script}
 use Rattle.hushlang.specs.Texts.{IsTreeOf, HasNoTree}
 use Rattle.bootstore.specs.Moment as stored
 use Rattle.bootstore.specs.Record.{beginning}
-use Rattle.rehearse.specs.Outcomes.{Word, Outcome, Run, Short, common_prefix, comes_before, has_success, turned, first_run, first_from}
+use Rattle.rehearse.specs.Outcomes.{OutcomeWord, Outcome, Run, Short, common_prefix, comes_before, has_success, turned, first_run, first_from}
 use Rattle.rehearse.specs.Trees.{tree_of}
 use Rattle.rehearse.specs.State.{Text, get, with_value, without, State, start, state_at}
 use Rattle.rehearse.specs.Proper.{IsProper}
 use Rattle.rehearse.specs.Execution.{Ended, Dry, CutSteps, CutDevices, succeeds}
 use Rattle.rehearse.specs.Runs.{Task, run_on, state_of, steps, asked, kind, runs, rest}
-use Rattle.rehearse.specs.Listing.{listing, line, spelled, record_of, shown, closing}
+use Rattle.rehearse.specs.Listing.{listing, line, spelled, record_of, words_listed, closing}
 use Rattle.rehearse.specs.Resuming.{whole, next_text, Point, resume_point_of, point_after}
 
 -- ---- texts
@@ -47,24 +47,24 @@ StoredDeletions = (variables : stored.Variables) (name : Text) →
 
 -- the moment at which a store begins a run is the state at its start
 abbrev pub StoredStarts : Type 0
-StoredStarts = (environment : stored.Variables) (word : Word) →
+StoredStarts = (environment : stored.Variables) (word : OutcomeWord) →
     state_at (beginning environment) word ≡ start (entries environment) word
 
 -- ---- words
 
 -- no run stands twice in the runs
 abbrev pub NoRunTwice : Type 0
-NoRunTwice = (task : Task) (w : Word) (before between behind : List Word) →
+NoRunTwice = (task : Task) (w : OutcomeWord) (before between behind : List OutcomeWord) →
     runs task ≢ before ++ w ∷ between ++ w ∷ behind
 
 -- no run is a prefix of another
 abbrev pub NoRunBeginsAnother : Type 0
-NoRunBeginsAnother = (task : Task) (u : Word) (d : Outcome) (v : Word) → kind task u ≡ Run →
+NoRunBeginsAnother = (task : Task) (u : OutcomeWord) (d : Outcome) (v : OutcomeWord) → kind task u ≡ Run →
     kind task (u ++ d ∷ v) ≢ Run
 
 -- no run is longer than the device bound
 abbrev pub NoRunIsLonger : Type 0
-NoRunIsLonger = (task : Task) (u : Word) → kind task u ≡ Run → length u ≤ task.setting.device_bound
+NoRunIsLonger = (task : Task) (u : OutcomeWord) → kind task u ≡ Run → length u ≤ task.limits.device_bound
 
 -- there is a run
 abbrev pub RunsAreThere : Type 0
@@ -72,93 +72,93 @@ RunsAreThere = (task : Task) → runs task ≢ []
 
 -- a run is followed by another exactly where it holds a success
 abbrev pub AnotherFollows : Type 0
-AnotherFollows = (task : Task) (u : Word) → kind task u ≡ Run → (rest task u ≢ []) ↔ (has_success u ≡ true)
+AnotherFollows = (task : Task) (u : OutcomeWord) → kind task u ≡ Run → (rest task u ≢ []) ↔ (has_success u ≡ true)
 
 -- two runs part where a device command asks for an outcome
 abbrev pub RunsPartWhereAsked : Type 0
-RunsPartWhereAsked = (task : Task) (u v : Word) → kind task u ≡ Run → kind task v ≡ Run → u ≢ v →
+RunsPartWhereAsked = (task : Task) (u v : OutcomeWord) → kind task u ≡ Run → kind task v ≡ Run → u ≢ v →
     kind task (common_prefix u v) ≡ Short
 
 -- the outcomes in the log of a run are its word
 abbrev pub LogIsWord : Type 0
-LogIsWord = (task : Task) (w : Word) → kind task w ≡ Run →
+LogIsWord = (task : Task) (w : OutcomeWord) → kind task w ≡ Run →
     map (λ e. e.success) (state_of (run_on task w)).log ≡ map succeeds w
 
 -- ---- bounds
 
 -- no more steps are begun than the bound allows
 abbrev pub StepsAreBounded : Type 0
-StepsAreBounded = (task : Task) (w : Word) → steps task w ≤ task.setting.step_bound
+StepsAreBounded = (task : Task) (w : OutcomeWord) → steps task w ≤ task.limits.step_bound
 
 -- a run is cut for its steps only where the bound is reached
 abbrev pub CutAtStepBound : Type 0
-CutAtStepBound = (task : Task) (w : Word) (s : State) → run_on task w ≡ Ended CutSteps s →
-    s.steps ≡ task.setting.step_bound
+CutAtStepBound = (task : Task) (w : OutcomeWord) (s : State) → run_on task w ≡ Ended CutSteps s →
+    s.steps ≡ task.limits.step_bound
 
 -- and for its device commands only where that bound is reached
 abbrev pub CutAtDeviceBound : Type 0
-CutAtDeviceBound = (task : Task) (w : Word) (s : State) → run_on task w ≡ Ended CutDevices s →
-    length s.log ≡ task.setting.device_bound
+CutAtDeviceBound = (task : Task) (w : OutcomeWord) (s : State) → run_on task w ≡ Ended CutDevices s →
+    length s.log ≡ task.limits.device_bound
 
 -- a word is too short only where a device command is asked below the bound, and all its outcomes are taken
 abbrev pub AskedBelowBound : Type 0
-AskedBelowBound = (task : Task) (w : Word) (s : State) → run_on task w ≡ Dry s →
-    (length s.log < task.setting.device_bound) × (s.word ≡ [])
+AskedBelowBound = (task : Task) (w : OutcomeWord) (s : State) → run_on task w ≡ Dry s →
+    (length s.log < task.limits.device_bound) × (s.word ≡ [])
 
 -- ---- work
 
 -- no more steps are begun where a device command asks than with a word that goes on there
 abbrev pub AskedInFront : Type 0
-AskedInFront = (task : Task) (p x : Word) → asked task p ≤ steps task (p ++ x)
+AskedInFront = (task : Task) (p x : OutcomeWord) → asked task p ≤ steps task (p ++ x)
 
 -- so the steps that two words share are steps of the second, and work subtracts no more than is there
 abbrev pub SharedIsWithin : Type 0
-SharedIsWithin = (task : Task) (u v : Word) → asked task (common_prefix u v) ≤ steps task v
+SharedIsWithin = (task : Task) (u v : OutcomeWord) → asked task (common_prefix u v) ≤ steps task v
 
 -- ---- what follows a run
 
 -- the runs stand in dictionary order
 abbrev pub RunsAreOrdered : Type 0
-RunsAreOrdered = (task : Task) (u v : Word) (before between behind : List Word) →
+RunsAreOrdered = (task : Task) (u v : OutcomeWord) (before between behind : List OutcomeWord) →
     runs task ≡ before ++ u ∷ between ++ v ∷ behind → comes_before u v ≡ true
 
 -- the first run has success at each device command
 abbrev pub RunsBegin : Type 0
-RunsBegin = (task : Task) → let w = first_run (kind task) task.setting.device_bound in runs task ≡ w ∷ rest task w
+RunsBegin = (task : Task) → let w = first_run (kind task) task.limits.device_bound in runs task ≡ w ∷ rest task w
 
 -- behind u comes the first run that begins with u cut behind its last success, which became a failure
 abbrev pub RunsFollow : Type 0
-RunsFollow = (task : Task) (u p : Word) → kind task u ≡ Run → turned u ≡ Some p → let w =
-    first_from (kind task) task.setting.device_bound p in rest task u ≡ w ∷ rest task w
+RunsFollow = (task : Task) (u p : OutcomeWord) → kind task u ≡ Run → turned u ≡ Some p → let w =
+    first_from (kind task) task.limits.device_bound p in rest task u ≡ w ∷ rest task w
 
 -- what stands in the runs is a run
 abbrev pub RunsAreRuns : Type 0
-RunsAreRuns = (task : Task) (w : Word) (front behind : List Word) → runs task ≡ front ++ w ∷ behind → kind task w ≡ Run
+RunsAreRuns = (task : Task) (w : OutcomeWord) (front behind : List OutcomeWord) → runs task ≡ front ++ w ∷ behind → kind task w ≡ Run
 
 -- each run stands in the runs, in front of what follows it
 abbrev pub RunsStand : Type 0
-RunsStand = (task : Task) (u : Word) → kind task u ≡ Run → (front : List Word) × (runs task ≡ front ++ u ∷ rest task u)
+RunsStand = (task : Task) (u : OutcomeWord) → kind task u ≡ Run → (front : List OutcomeWord) × (runs task ≡ front ++ u ∷ rest task u)
 
 -- ---- pages
 
 -- a listing with a limit ends in `more` exactly where words are left out
 abbrev pub MoreIsLeft : Type 0
-MoreIsLeft = (task : Task) (names : List Text) (ws : List Word) (limit : ℕ) →
-    ((page : Text) × (w : Word)
+MoreIsLeft = (task : Task) (names : List Text) (ws : List OutcomeWord) (limit : ℕ) →
+    ((page : Text) × (w : OutcomeWord)
     × (listing (record_of task names) ws (Some limit) ≡ page ++ line (codes "more " ++ spelled w))) ↔
     (limit < length ws)
 
 -- a listing of all runs that ends in `more`, less that line, and the listing of the runs behind its word, are the whole
 -- listing
 abbrev pub PagesOfRuns : Type 0
-PagesOfRuns = (task : Task) (names : List Text) (limit : ℕ) (page : Text) (w : Word) → let written =
+PagesOfRuns = (task : Task) (names : List Text) (limit : ℕ) (page : Text) (w : OutcomeWord) → let written =
     record_of task names in 0 < limit →
     listing written (runs task) (Some limit) ≡ page ++ line (codes "more " ++ spelled w) →
     page ++ listing written (rest task w) None ≡ listing written (runs task) None
 
 -- and so is one of the runs behind u
 abbrev pub PagesOfRest : Type 0
-PagesOfRest = (task : Task) (names : List Text) (u : Word) (limit : ℕ) (page : Text) (w : Word) → let written =
+PagesOfRest = (task : Task) (names : List Text) (u : OutcomeWord) (limit : ℕ) (page : Text) (w : OutcomeWord) → let written =
     record_of task names in 0 < limit →
     listing written (rest task u) (Some limit) ≡ page ++ line (codes "more " ++ spelled w) →
     page ++ listing written (rest task w) None ≡ listing written (rest task u) None
@@ -172,34 +172,34 @@ WholeIsGreatest = (records : List Text) (p : Text) (k : ℕ) → k ≤ length re
 
 -- p is its whole records and a part of what is written next; of a record less than all of it
 abbrev pub WholeRecords : Type 0
-WholeRecords = (task : Task) (names : List Text) (ws : List Word) (limit : Option ℕ) (p q : Text) → let written =
-    record_of task names in let us = shown ws limit in let k = whole (map written us) p in
+WholeRecords = (task : Task) (names : List Text) (ws : List OutcomeWord) (limit : Option ℕ) (p q : Text) → let written =
+    record_of task names in let us = words_listed ws limit in let k = whole (map written us) p in
     listing written ws limit ≡ p ++ q → (part : Text) × (missing : Text) × (p ≡ flat_map written (take k us) ++ part)
     × (next_text written (drop k us) (line (closing ws limit)) ≡ part ++ missing) × (drop k us ≢ [] → missing ≢ [])
 
 -- the whole records of p, and the listing of the words behind them, are the listing
 abbrev pub Resuming : Type 0
-Resuming = (task : Task) (names : List Text) (ws : List Word) (p q : Text) → let written = record_of task names in
+Resuming = (task : Task) (names : List Text) (ws : List OutcomeWord) (p q : Text) → let written = record_of task names in
     let k = whole (map written ws) p in listing written ws None ≡ p ++ q →
     flat_map written (take k ws) ++ listing written (drop k ws) None ≡ listing written ws None
 
 -- the point to resume at, of every front p of a listing, is that behind its whole records; there is none where none is
 -- whole
 abbrev pub ResumePoint : Type 0
-ResumePoint = (task : Task) (names : List Text) (ws : List Word) (limit : Option ℕ) (p q : Text) → let written =
-    record_of task names in let us = shown ws limit in listing written ws limit ≡ p ++ q →
+ResumePoint = (task : Task) (names : List Text) (ws : List OutcomeWord) (limit : Option ℕ) (p q : Text) → let written =
+    record_of task names in let us = words_listed ws limit in listing written ws limit ≡ p ++ q →
     resume_point_of p ≡ point_after written (take (whole (map written us) p) us)
 
 -- what stands before the point, and the listing of the runs behind its word, are the listing of all runs
 abbrev pub ResumedAtPoint : Type 0
-ResumedAtPoint = (task : Task) (names : List Text) (p q : Text) (point : Point) (w : Word) → let written =
+ResumedAtPoint = (task : Task) (names : List Text) (p q : Text) (point : Point) (w : OutcomeWord) → let written =
     record_of task names in listing written (runs task) None ≡ p ++ q → resume_point_of p ≡ Some point →
     point.word ≡ spelled w →
     take point.length_before p ++ listing written (rest task w) None ≡ listing written (runs task) None
 
 -- and so for a listing of the runs behind u
 abbrev pub ResumedRest : Type 0
-ResumedRest = (task : Task) (names : List Text) (u : Word) (p q : Text) (point : Point) (w : Word) → let written =
+ResumedRest = (task : Task) (names : List Text) (u : OutcomeWord) (p q : Text) (point : Point) (w : OutcomeWord) → let written =
     record_of task names in listing written (rest task u) None ≡ p ++ q → resume_point_of p ≡ Some point →
     point.word ≡ spelled w →
     take point.length_before p ++ listing written (rest task w) None ≡ listing written (rest task u) None

@@ -17,5 +17,5 @@ pub mod CommandsShown
 pub mod DeviceLaws
 pub mod DevicesShown
 pub mod PlainList
-pub mod Reading
-pub mod Words
+pub mod DeviceListAnswers
+pub mod TextsShown

@@ -4,7 +4,7 @@ use Rattle.std.specs.List.{join_with_byte}
 use Rattle.text.specs.Bytes as ascii
 use Rattle.text.specs.Escapes.{text_form, word_form}
 use Rattle.bootstore.specs.Moment.{LoggedCommand}
-use Rattle.rehearse.specs.Outcomes.{Outcome, Word}
+use Rattle.rehearse.specs.Outcomes.{Outcome, OutcomeWord}
 use Rattle.rehearse.specs.State.{Text, Variables, get, State}
 use Rattle.rehearse.specs.Execution.{Ending, End, CutDevices, CutSteps, Unknown, Syntax, Size, Booted, succeeds}
 use Rattle.rehearse.specs.Runs.{Task, run_on, state_of, ending_of}
@@ -19,7 +19,7 @@ abbrev pub digit_of : Outcome → ℕ
 digit_of outcome = digit_when (succeeds outcome)
 
 -- a word is printed by its digits, the empty one as a dot
-abbrev pub spelled : Word → Text
+abbrev pub spelled : OutcomeWord → Text
 spelled [] = codes "."
 spelled (d ∷ w) = map digit_of (d ∷ w)
 
@@ -64,29 +64,29 @@ last_line (Booted name) = codes "booted " ++ word_form name
 abbrev pub inner_lines : State → (names : List Text) → List Text
 inner_lines s names = map device_line s.log ++ text_lines s.memory.text ++ variable_lines s.memory.environment names
 
-abbrev pub record_lines : Word → State → Ending → (names : List Text) → List Text
+abbrev pub record_lines : OutcomeWord → State → Ending → (names : List Text) → List Text
 record_lines w s ending names = (codes "run " ++ spelled w) ∷ inner_lines s names ++ last_line ending ∷ []
 
-abbrev pub record_text : Word → State → Ending → (names : List Text) → Text
+abbrev pub record_text : OutcomeWord → State → Ending → (names : List Text) → Text
 record_text w s ending names = flat_map line (record_lines w s ending names)
 
 -- the record of the run on a word
-abbrev pub record_of : Task → (names : List Text) → Word → Text
+abbrev pub record_of : Task → (names : List Text) → OutcomeWord → Text
 record_of task names w = record_text w (state_of (run_on task w)) (ending_of (run_on task w)) names
 
 -- ---- the listing
 
-abbrev pub last_of : Word → List Word → Word
+abbrev pub last_of : OutcomeWord → List OutcomeWord → OutcomeWord
 last_of w [] = w
 last_of w (v ∷ vs) = last_of v vs
 
 -- the words whose records stand in a listing
-abbrev pub shown : List Word → (limit : Option ℕ) → List Word
-shown ws None = ws
-shown ws (Some limit) = take limit ws
+abbrev pub words_listed : List OutcomeWord → (limit : Option ℕ) → List OutcomeWord
+words_listed ws None = ws
+words_listed ws (Some limit) = take limit ws
 
 -- the line behind the records: `more` with the last one's word where words are left out, else `done`
-abbrev pub closing : List Word → (limit : Option ℕ) → Text
+abbrev pub closing : List OutcomeWord → (limit : Option ℕ) → Text
 closing ws None = codes "done"
 closing ws (Some limit) =
     elim (nat_le (length ws) limit) [
@@ -95,5 +95,5 @@ closing ws (Some limit) =
     ]
 
 -- the records of words, each written as it is told, and the closing line
-abbrev pub listing : (written : Word → Text) → List Word → (limit : Option ℕ) → Text
-listing written ws limit = flat_map written (shown ws limit) ++ line (closing ws limit)
+abbrev pub listing : (written : OutcomeWord → Text) → List OutcomeWord → (limit : Option ℕ) → Text
+listing written ws limit = flat_map written (words_listed ws limit) ++ line (closing ws limit)

@@ -5,11 +5,11 @@ use Rattle.std.specs.Prelude.{ℕ, zero, suc, pred, Bool, true, false, cond, ◌
 pub data Outcome : Type 0 where
   Success Failure : Outcome
 
-abbrev pub Word : Type 0
-Word = List Outcome
+abbrev pub OutcomeWord : Type 0
+OutcomeWord = List Outcome
 
 -- the words of at most n outcomes in dictionary order, success before failure
-abbrev pub words : ℕ → List Word
+abbrev pub words : ℕ → List OutcomeWord
 words zero = [] ∷ []
 words (suc n) = [] ∷ map (λ w. Success ∷ w) (words n) ++ map (λ w. Failure ∷ w) (words n)
 
@@ -23,7 +23,7 @@ is_run_kind Short = false
 is_run_kind Long = false
 
 -- the words of at most n outcomes that are runs, in dictionary order
-abbrev pub runs_within : (Word → WordKind) → ℕ → List Word
+abbrev pub runs_within : (OutcomeWord → WordKind) → ℕ → List OutcomeWord
 runs_within kind n = filter (λ w. is_run_kind (kind w)) (words n)
 
 abbrev pub outcome_eq : Outcome → Outcome → Bool
@@ -32,30 +32,30 @@ outcome_eq Failure Failure = true
 outcome_eq Success Failure = false
 outcome_eq Failure Success = false
 
-abbrev pub word_eq : Word → Word → Bool
+abbrev pub word_eq : OutcomeWord → OutcomeWord → Bool
 word_eq [] [] = true
 word_eq [] (d ∷ w) = false
 word_eq (c ∷ v) [] = false
 word_eq (c ∷ v) (d ∷ w) = outcome_eq c d && word_eq v w
 
 -- what stands behind w in a list
-abbrev pub after : Word → List Word → List Word
+abbrev pub after : OutcomeWord → List OutcomeWord → List OutcomeWord
 after w [] = []
 after w (v ∷ vs) = cond (word_eq v w) vs (after w vs)
 
 -- what two words begin with alike
-abbrev pub common_prefix : Word → Word → Word
+abbrev pub common_prefix : OutcomeWord → OutcomeWord → OutcomeWord
 common_prefix [] w = []
 common_prefix (c ∷ v) [] = []
 common_prefix (c ∷ v) (d ∷ w) = cond (outcome_eq c d) (c ∷ common_prefix v w) []
 
-abbrev pub has_success : Word → Bool
+abbrev pub has_success : OutcomeWord → Bool
 has_success [] = false
 has_success (Success ∷ w) = true
 has_success (Failure ∷ w) = has_success w
 
 -- dictionary order, success before failure
-abbrev pub comes_before : Word → Word → Bool
+abbrev pub comes_before : OutcomeWord → OutcomeWord → Bool
 comes_before [] [] = false
 comes_before [] (d ∷ w) = true
 comes_before (c ∷ v) [] = false
@@ -67,28 +67,28 @@ comes_before (Failure ∷ v) (Failure ∷ w) = comes_before v w
 -- ---- in which words the laws say what follows a run
 
 -- the word cut behind its last success, which becomes a failure; none without a success
-abbrev pub turned : Word → Option Word
+abbrev pub turned : OutcomeWord → Option OutcomeWord
 turned [] = None
 turned (Success ∷ w) = elim (turned w) [ Some v ↦ Some (Success ∷ v) | None ↦ Some (Failure ∷ []) ]
 turned (Failure ∷ w) = option_map (λ v. Failure ∷ v) (turned w)
 
 -- the kinds of words, past one outcome
-abbrev pub beyond : Outcome → (Word → WordKind) → Word → WordKind
+abbrev pub beyond : Outcome → (OutcomeWord → WordKind) → OutcomeWord → WordKind
 beyond outcome kind w = kind (outcome ∷ w)
 
 -- success at each device command
-abbrev pub first_run : (Word → WordKind) → ℕ → Word
+abbrev pub first_run : (OutcomeWord → WordKind) → ℕ → OutcomeWord
 first_run kind zero = []
 first_run kind (suc n) = elim (kind []) [ Run ↦ [] | Long ↦ [] | Short ↦ Success ∷ first_run (beyond Success kind) n ]
 
 -- p, and success at each further device command
-abbrev pub first_from : (Word → WordKind) → ℕ → Word → Word
+abbrev pub first_from : (OutcomeWord → WordKind) → ℕ → OutcomeWord → OutcomeWord
 first_from kind n [] = first_run kind n
 first_from kind n (d ∷ p) = d ∷ first_from (beyond d kind) (pred n) p
 
 -- kinds of words that come from choices, at most n of them one behind another: here the run ends, or each outcome leads
 -- on
-abbrev pub IsChoice : ℕ → (Word → WordKind) → Type 0
-IsChoice zero kind = (kind [] ≡ Run) × ((d : Outcome) (w : Word) → kind (d ∷ w) ≡ Long)
-IsChoice (suc n) kind = ((kind [] ≡ Run) × ((d : Outcome) (w : Word) → kind (d ∷ w) ≡ Long))
+abbrev pub IsChoice : ℕ → (OutcomeWord → WordKind) → Type 0
+IsChoice zero kind = (kind [] ≡ Run) × ((d : Outcome) (w : OutcomeWord) → kind (d ∷ w) ≡ Long)
+IsChoice (suc n) kind = ((kind [] ≡ Run) × ((d : Outcome) (w : OutcomeWord) → kind (d ∷ w) ≡ Long))
     ⊎ ((kind [] ≡ Short) × ((d : Outcome) → IsChoice n (beyond d kind)))

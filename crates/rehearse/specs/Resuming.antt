@@ -2,7 +2,7 @@
 use Rattle.std.specs.Prelude.{ℕ, suc, ◌+◌, nat_eq, Bool, true, false, ◌||◌, option_map, List, [], ◌∷◌, ◌++◌, flat_map, length, drop, Option, Some, None, codes}
 use Rattle.std.specs.List.{starts_with}
 use Rattle.text.specs.Bytes as ascii
-use Rattle.rehearse.specs.Outcomes.{Word}
+use Rattle.rehearse.specs.Outcomes.{OutcomeWord}
 use Rattle.rehearse.specs.State.{Text}
 use Rattle.rehearse.specs.Listing.{spelled, last_of}
 
@@ -12,7 +12,7 @@ whole [] p = 0
 whole (r ∷ rs) p = elim (starts_with nat_eq p r) [ true ↦ suc (whole rs (drop (length r) p)) | false ↦ 0 ]
 
 -- what is written next: a record, or the closing line
-abbrev pub next_text : (written : Word → Text) → List Word → (last : Text) → Text
+abbrev pub next_text : (written : OutcomeWord → Text) → List OutcomeWord → (last : Text) → Text
 next_text written [] last = last
 next_text written (v ∷ vs) last = written v
 
@@ -59,7 +59,7 @@ abbrev pub resume_point_of : (written : Text) → Option Point
 resume_point_of written = point_in None None 0 (ended_lines [] written)
 
 -- the point behind these records
-abbrev pub point_after : (written : Word → Text) → List Word → Option Point
+abbrev pub point_after : (written : OutcomeWord → Text) → List OutcomeWord → Option Point
 point_after written [] = None
 point_after written (v ∷ vs) =
     Some (record { word = spelled (last_of v vs); length_before = length (flat_map written (v ∷ vs)) })

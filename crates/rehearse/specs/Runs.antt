@@ -1,29 +1,29 @@
 -- The runs of the text of a variable. Ours.
 use Rattle.std.specs.Prelude.{ℕ, ◌+◌, ◌-◌, List, [], ◌∷◌, Option, option_map}
-use Rattle.rehearse.specs.Outcomes.{Word, WordKind, Run, Short, Long, runs_within, after, common_prefix}
+use Rattle.rehearse.specs.Outcomes.{OutcomeWord, WordKind, Run, Short, Long, runs_within, after, common_prefix}
 use Rattle.rehearse.specs.State.{Text, Variables, get, State, start}
-use Rattle.rehearse.specs.Execution.{Setting, Answer, Normal, Exit, Ended, Dry, Ending, End, exec, run_text}
+use Rattle.rehearse.specs.Execution.{Limits, Answer, Normal, Exit, Ended, Dry, Ending, End, exec, run_text}
 
 -- a variable and its text, rehearsed from an environment
 pub record Task : Type 0 where
-  pub setting : Setting
+  pub limits : Limits
   pub environment : Variables
   pub name : Text
   pub text : Text
 
 -- the rehearsal of a variable, where it is set
-abbrev pub task_of : Setting → Variables → Text → Option Task
-task_of setting environment name =
+abbrev pub task_of : Limits → Variables → Text → Option Task
+task_of limits environment name =
     option_map (λ text. record {
-      setting = setting;
+      limits = limits;
       environment = environment;
       name = name;
       text = text;
     }) (get environment name)
 
 -- what the text comes to with the outcomes of a word
-abbrev pub run_on : Task → Word → Answer
-run_on task w = run_text task.setting (exec task.setting task.setting.step_bound) task.name task.text
+abbrev pub run_on : Task → OutcomeWord → Answer
+run_on task w = run_text task.limits (exec task.limits task.limits.step_bound) task.name task.text
     (start task.environment w)
 
 -- the state that an answer comes to
@@ -50,33 +50,33 @@ kind_of (Ended ending s) = taken_kind s
 kind_of (Dry s) = Short
 
 -- whether a word is a run, too short or too long
-abbrev pub kind : Task → Word → WordKind
+abbrev pub kind : Task → OutcomeWord → WordKind
 kind task w = kind_of (run_on task w)
 
 -- all runs, in dictionary order
-abbrev pub runs : Task → List Word
-runs task = runs_within (kind task) task.setting.device_bound
+abbrev pub runs : Task → List OutcomeWord
+runs task = runs_within (kind task) task.limits.device_bound
 
 -- those behind w
-abbrev pub rest : Task → Word → List Word
+abbrev pub rest : Task → OutcomeWord → List OutcomeWord
 rest task w = after w (runs task)
 
 -- ---- work
 
 -- how many steps are begun with the outcomes of a word
-abbrev pub steps : Task → Word → ℕ
+abbrev pub steps : Task → OutcomeWord → ℕ
 steps task w = (state_of (run_on task w)).steps
 
 -- the same of a word behind which a device command asks for one more outcome
-abbrev pub asked : Task → Word → ℕ
+abbrev pub asked : Task → OutcomeWord → ℕ
 asked task p = steps task p
 
 -- the steps begun for these words behind u, each from the last command that it shares with the word before it
-abbrev pub work_from : Task → Word → List Word → ℕ
+abbrev pub work_from : Task → OutcomeWord → List OutcomeWord → ℕ
 work_from task u [] = 0
 work_from task u (v ∷ vs) = (steps task v - asked task (common_prefix u v)) + work_from task v vs
 
 -- the steps begun for these words where each command of their tree of choices is begun once
-abbrev pub work : Task → List Word → ℕ
+abbrev pub work : Task → List OutcomeWord → ℕ
 work task [] = 0
 work task (w ∷ ws) = steps task w + work_from task w ws

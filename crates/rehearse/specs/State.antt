@@ -6,7 +6,7 @@ use Rattle.std.specs.Cmp.Lexicographic.{slice_cmp}
 use Rattle.std.specs.Ordering.{nat_cmp, eq_by_cmp}
 use Rattle.hushlang.specs.Expansion as expansion
 use Rattle.bootstore.specs.Moment.{LoggedCommand, Moment}
-use Rattle.rehearse.specs.Outcomes.{Word}
+use Rattle.rehearse.specs.Outcomes.{OutcomeWord}
 
 abbrev pub Text : Type 0
 Text = List ℕ
@@ -36,10 +36,10 @@ pub record State : Type 0 where
   pub memory : Memory
   pub log : List LoggedCommand
   pub steps : ℕ
-  pub word : Word
+  pub word : OutcomeWord
 
 -- the state at the start of a run
-abbrev pub start : Variables → Word → State
+abbrev pub start : Variables → OutcomeWord → State
 start environment word =
     record {
       memory = record { environment = environment; locals = []; status = 0; text = [] };
@@ -53,11 +53,11 @@ abbrev pub value_in : Memory → Text → Option Text
 value_in m name = elim (get m.environment name) [ Some value ↦ Some value | None ↦ get m.locals name ]
 
 -- what words expand by
-abbrev pub setting_in : Memory → expansion.Setting
-setting_in m = record { value = value_in m; status = m.status }
+abbrev pub parameters_in : Memory → expansion.Parameters
+parameters_in m = record { value = value_in m; status = m.status }
 
 -- the state that a store's moment is, with the rest of a word
-abbrev pub state_at : Moment → Word → State
+abbrev pub state_at : Moment → OutcomeWord → State
 state_at m word = record {
   memory =
       record { environment = entries m.environment; locals = entries m.locals; status = m.status; text = m.text };

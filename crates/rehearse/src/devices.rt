@@ -44,7 +44,7 @@ impl Model for Devices {
 
 impl Devices {
     ghost use Rattle.rehearse.specs.CommandsShown.{lent_effect, listed_shown};
-    ghost use Rattle.rehearse.specs.Reading.{AddsLine, IsListed};
+    ghost use Rattle.rehearse.specs.DeviceListAnswers.{AddsLine, IsListed};
 
     /// A list of no command. It takes no memory.
     fn new(alloc: Global) -> Self

@@ -1,7 +1,7 @@
 //! The truth of the words after `test`.
 ghost use Rattle.std.specs.Prelude.{◌≡◌, ◌==◌, length, IfSome};
 ghost use Rattle.rehearse.specs.Verdict.{text_comparisons, number_comparisons, answer_in, comparison, compared, measured, term, combined, verdict};
-ghost use Rattle.rehearse.specs.Words.{texts, term_seen};
+ghost use Rattle.rehearse.specs.TextsShown.{texts, term_shown};
 
 use crate::number::number;
 
@@ -56,7 +56,7 @@ fn compare(operator: &[u8], left: &[u8], right: &[u8]) -> Option<bool>
 /// A comparison of three words, and the words behind it.
 #[tactic(auto, using(crate::proofs::VerdictLemmas::terms))]
 fn compared(words: &[Vec<u8>]) -> Option<(bool, &[Vec<u8>])>
-    ensures { term_seen result ≡ compared (texts words.now) }
+    ensures { term_shown result ≡ compared (texts words.now) }
 {
     match words {
         [left, operator, right, rest @ ..] => {
@@ -69,7 +69,7 @@ fn compared(words: &[Vec<u8>]) -> Option<(bool, &[Vec<u8>])>
 
 /// A test of whether one word is empty, and the words behind it.
 fn measured(words: &[Vec<u8>]) -> Option<(bool, &[Vec<u8>])>
-    ensures { term_seen result ≡ measured (texts words.now) }
+    ensures { term_shown result ≡ measured (texts words.now) }
 {
     let [test, word, rest @ ..] = words else {
         return None;
@@ -86,7 +86,7 @@ fn measured(words: &[Vec<u8>]) -> Option<(bool, &[Vec<u8>])>
 /// The truth of the term that the words begin with, and the words behind it.
 #[tactic(auto, using(crate::proofs::VerdictLemmas::terms))]
 fn term(words: &[Vec<u8>]) -> Option<(bool, &[Vec<u8>])>
-    ensures { term_seen result ≡ term (texts words.now) }
+    ensures { term_shown result ≡ term (texts words.now) }
 {
     let mut is_opposite = false;
     let mut rest = words;

@@ -10,12 +10,12 @@ use Rattle.bootstore.specs.declared.frame.FrameKind.TheVariants as kinds
 use Rattle.std.specs.Prelude.{slice_get}
 use Rattle.rehearse.specs.Trees.{tree_of}
 use Rattle.rehearse.specs.Verdict.{verdict}
-use Rattle.rehearse.specs.State.{Text, get, State, setting_in}
+use Rattle.rehearse.specs.State.{Text, get, State, parameters_in}
 use Rattle.rehearse.specs.Builtins.{SetEnv, Run, Test, Echo, True, False, Leave}
 use Rattle.rehearse.specs.Commands.{Called, BuiltIn, NoCommand, Device, called_by, asks_device, exit_status}
-use Rattle.rehearse.specs.Execution.{Setting, CutDevices, CutSteps, Size, set_status, set_local, status_when, goes, holds, Request, no_effect}
+use Rattle.rehearse.specs.Execution.{Limits, CutDevices, CutSteps, Size, set_status, set_local, status_when, goes, holds, Request, no_effect}
 use Rattle.rehearse_machine.specs.Places.{PlaceNext, GoOn, AskOn, StopOn, list_at, joined_at, second, command_in, command_at, drop_arms, block_frame, behind, in_turn, left, to_run, place_exit, place_assign, place_tree, place_text, place_name, run_move, for_turn, for_move, for_begins, place_arms, condition_ends, phase_move, place_fitting, place_ask, place_called, place_fields, place_counted, place_command, place_joined, place_begins, place_turn, place_list, place_by, place_move}
-use Rattle.rehearse_machine.specs.Asking.{words_of, fields_again, found_again, AsksAgain}
+use Rattle.rehearse_machine.specs.AskingCommand.{words_of, fields_again, found_again, AsksAgain}
 
 -- a command that asks does so with these frames, in this state
 abbrev AsksHere : List RunningFrame → State → PlaceNext → Type 0
@@ -29,15 +29,15 @@ NeverAsks (GoOn qs t) = Unit {0}
 NeverAsks (AskOn request qs t) = ⊥
 NeverAsks (StopOn ending t) = Unit {0}
 
-module _ (setting : Setting) where
-  never_again : (next : PlaceNext) → NeverAsks next → AsksAgain setting next
+module _ (limits : Limits) where
+  never_again : (next : PlaceNext) → NeverAsks next → AsksAgain limits next
   never_again (GoOn qs t) h = tt
   never_again (AskOn request qs t) h = absurd h
   never_again (StopOn ending t) h = tt
 
-  found : (ps : List RunningFrame) (s : State) (next : PlaceNext) → found_again setting ps s ≡ next → AsksHere ps s next → AsksAgain setting next
+  found : (ps : List RunningFrame) (s : State) (next : PlaceNext) → found_again limits ps s ≡ next → AsksHere ps s next → AsksAgain limits next
   found ps s (GoOn qs t) e h = tt
-  found ps s (AskOn request qs t) e h = ap (λ (rs : List RunningFrame). found_again setting rs t) h.0 ∙ ap (λ (u : State). found_again setting ps u) h.1 ∙ e
+  found ps s (AskOn request qs t) e h = ap (λ (rs : List RunningFrame). found_again limits rs t) h.0 ∙ ap (λ (u : State). found_again limits ps u) h.1 ∙ e
   found ps s (StopOn ending t) e h = tt
 
   either_here : (ps : List RunningFrame) (s : State) (b : Bool) (x y : PlaceNext) → AsksHere ps s x → AsksHere ps s y → AsksHere ps s (elim b [ true ↦ x | false ↦ y ])
@@ -48,7 +48,7 @@ module _ (setting : Setting) where
   either_never true x y h k = h
   either_never false x y h k = k
 
-  either_again : (b : Bool) (x y : PlaceNext) → AsksAgain setting x → AsksAgain setting y → AsksAgain setting (elim b [ true ↦ x | false ↦ y ])
+  either_again : (b : Bool) (x y : PlaceNext) → AsksAgain limits x → AsksAgain limits y → AsksAgain limits (elim b [ true ↦ x | false ↦ y ])
   either_again true x y h k = h
   either_again false x y h k = k
 
@@ -62,16 +62,16 @@ module _ (setting : Setting) where
   exit_here ps s None = tt
   exit_here ps s (Some status) = left_here ps (to_run ps) s (set_status status s)
 
-  ask_here : (r : Request) (ps : List RunningFrame) (s : State) → AsksHere ps s (place_ask setting r ps s)
-  ask_here r ps s = either_here ps s (nat_lt (length s.log) setting.device_bound) (AskOn r ps s) (StopOn CutDevices s) (refl, refl) tt
+  ask_here : (r : Request) (ps : List RunningFrame) (s : State) → AsksHere ps s (place_ask limits r ps s)
+  ask_here r ps s = either_here ps s (nat_lt (length s.log) limits.device_bound) (AskOn r ps s) (StopOn CutDevices s) (refl, refl) tt
 
-  builtin_here : (b : Called) (name : Text) (ws : List Text) (script : Script) (ps : List RunningFrame) (s : State) → AsksHere ps s (place_called setting b name ws script ps s)
+  builtin_here : (b : Called) (name : Text) (ws : List Text) (script : Script) (ps : List RunningFrame) (s : State) → AsksHere ps s (place_called limits b name ws script ps s)
   builtin_here (BuiltIn SetEnv) name ws script ps s = tt
   builtin_here (BuiltIn Run) name [] script ps s = tt
   builtin_here (BuiltIn Run) name (w ∷ ws) script ps s = tt
   builtin_here (BuiltIn Test) name ws script ps s =
       let r : Request = record { name = name; words = ws; effect = no_effect } in
-      either_here ps s (asks_device ws) (place_ask setting r ps s) (GoOn ps (set_status (status_when (verdict ws)) s)) (ask_here r ps s) tt
+      either_here ps s (asks_device ws) (place_ask limits r ps s) (GoOn ps (set_status (status_when (verdict ws)) s)) (ask_here r ps s) tt
   builtin_here (BuiltIn Echo) name ws script ps s = tt
   builtin_here (BuiltIn True) name ws script ps s = tt
   builtin_here (BuiltIn False) name ws script ps s = tt
@@ -79,16 +79,16 @@ module _ (setting : Setting) where
   builtin_here (Device effect) name ws script ps s = ask_here (record { name = name; words = ws; effect = effect }) ps s
   builtin_here NoCommand name ws script ps s = tt
 
-  fields_here : (fs : List Text) (script : Script) (ps : List RunningFrame) (s : State) → AsksHere ps s (place_fields setting fs script ps s)
+  fields_here : (fs : List Text) (script : Script) (ps : List RunningFrame) (s : State) → AsksHere ps s (place_fields limits fs script ps s)
   fields_here [] script ps s = tt
-  fields_here (name ∷ ws) script ps s = builtin_here (called_by setting.devices name) name ws script ps s
+  fields_here (name ∷ ws) script ps s = builtin_here (called_by limits.devices name) name ws script ps s
 
   -- ---- what never asks
 
   assign_never : (pairs : List (Text × tree.Word)) (ps : List RunningFrame) (s : State) → NeverAsks (place_assign pairs ps s)
   assign_never [] ps s = tt
   assign_never (pair ∷ pairs) ps s =
-      let value : Text = joined (setting_in s.memory) pair.1 in
+      let value : Text = joined (parameters_in s.memory) pair.1 in
       either_never (nat_le (length value) most_bytes) (place_assign pairs ps (set_local pair.0 value s)) (StopOn Size s) (assign_never pairs ps (set_local pair.0 value s)) tt
 
   for_never : (fs : List Text) (f : RunningFrame) (ps : List RunningFrame) (s : State) → NeverAsks (for_begins fs f ps s)
@@ -98,8 +98,8 @@ module _ (setting : Setting) where
   fitting_never : (fs : List Text) (next : List Text → State → PlaceNext) (s : State) → NeverAsks (next fs s) → NeverAsks (place_fitting fs next s)
   fitting_never fs next s h = either_never (nat_le (size fs) most_bytes) (next fs s) (StopOn Size s) h tt
 
-  counted_never : (next : State → PlaceNext) (s : State) → NeverAsks (next (record s { steps = suc s.steps })) → NeverAsks (place_counted setting next s)
-  counted_never next s h = either_never (nat_lt s.steps setting.step_bound) (next (record s { steps = suc s.steps })) (StopOn CutSteps s) h tt
+  counted_never : (next : State → PlaceNext) (s : State) → NeverAsks (next (record s { steps = suc s.steps })) → NeverAsks (place_counted limits next s)
+  counted_never next s h = either_never (nat_lt s.steps limits.step_bound) (next (record s { steps = suc s.steps })) (StopOn CutSteps s) h tt
 
   arms_never : (arms : Arms) (a : ℕ) (f : RunningFrame) (ps : List RunningFrame) (s : State) → NeverAsks (place_arms arms a f ps s)
   arms_never (tree.Arm c b more) a f ps s = tt
@@ -153,52 +153,52 @@ module _ (setting : Setting) where
   -- ---- a move
 
   module _ (f : RunningFrame) (fs : List RunningFrame) where
-    simple_again : (words : List tree.Word) (s : State) → command_at (list_at f.script f.place.list) f.place.command ≡ Some (tree.Simple words) → AsksAgain setting (place_command setting (tree.Simple words) f fs s)
+    simple_again : (words : List tree.Word) (s : State) → command_at (list_at f.script f.place.list) f.place.command ≡ Some (tree.Simple words) → AsksAgain limits (place_command limits (tree.Simple words) f fs s)
     simple_again words s e =
         let t : State = record s { steps = suc s.steps } in
-        let found_fields : List Text = fields (setting_in t.memory) words in
+        let found_fields : List Text = fields (parameters_in t.memory) words in
         let ps : List RunningFrame = behind f ∷ fs in
-        let next : PlaceNext = place_fields setting found_fields f.script ps t in
-        let whole : PlaceNext = place_fitting found_fields (λ fs'. place_fields setting fs' f.script ps) t in
-        let same : found_again setting ps t ≡ whole = ap (λ (o : Option Command). fields_again setting (words_of o) (behind f) fs t) e in
+        let next : PlaceNext = place_fields limits found_fields f.script ps t in
+        let whole : PlaceNext = place_fitting found_fields (λ fs'. place_fields limits fs' f.script ps) t in
+        let same : found_again limits ps t ≡ whole = ap (λ (o : Option Command). fields_again limits (words_of o) (behind f) fs t) e in
         let here : AsksHere ps t whole = either_here ps t (nat_le (size found_fields) most_bytes) next (StopOn Size t) (fields_here found_fields f.script ps t) tt in
-        either_again (nat_lt s.steps setting.step_bound) whole (StopOn CutSteps s) (found ps t whole same here) tt
+        either_again (nat_lt s.steps limits.step_bound) whole (StopOn CutSteps s) (found ps t whole same here) tt
 
-    command_again : (c : Command) (s : State) → command_at (list_at f.script f.place.list) f.place.command ≡ Some c → AsksAgain setting (place_command setting c f fs s)
+    command_again : (c : Command) (s : State) → command_at (list_at f.script f.place.list) f.place.command ≡ Some c → AsksAgain limits (place_command limits c f fs s)
     command_again (tree.Simple words) s e = simple_again words s e
-    command_again (tree.Assign pairs) s e = never_again (place_command setting (tree.Assign pairs) f fs s) (counted_never (place_assign pairs (behind f ∷ fs)) s (assign_never pairs (behind f ∷ fs) (record s { steps = suc s.steps })))
+    command_again (tree.Assign pairs) s e = never_again (place_command limits (tree.Assign pairs) f fs s) (counted_never (place_assign pairs (behind f ∷ fs)) s (assign_never pairs (behind f ∷ fs) (record s { steps = suc s.steps })))
     command_again (tree.If arms) s e = never_again (place_arms arms 0 f fs s) (arms_never arms 0 f fs s)
     command_again (tree.Loop until c b) s e = tt
     command_again (tree.For name words body) s e =
         let t : State = record s { steps = suc s.steps } in
-        let found_fields : List Text = fields (setting_in t.memory) words in
-        never_again (place_command setting (tree.For name words body) f fs s)
-        (counted_never (λ u. place_fitting (fields (setting_in u.memory) words) (λ fs'. for_begins fs' f fs) u) s (fitting_never found_fields (λ fs'. for_begins fs' f fs) t (for_never found_fields f fs t)))
+        let found_fields : List Text = fields (parameters_in t.memory) words in
+        never_again (place_command limits (tree.For name words body) f fs s)
+        (counted_never (λ u. place_fitting (fields (parameters_in u.memory) words) (λ fs'. for_begins fs' f fs) u) s (fitting_never found_fields (λ fs'. for_begins fs' f fs) t (for_never found_fields f fs t)))
 
-    joined_again : (o : Option (Op × Command)) (s : State) → ((pair : Op × Command) → o ≡ Some pair → command_at (list_at f.script f.place.list) f.place.command ≡ Some pair.1) → AsksAgain setting (place_joined setting o f fs s)
+    joined_again : (o : Option (Op × Command)) (s : State) → ((pair : Op × Command) → o ≡ Some pair → command_at (list_at f.script f.place.list) f.place.command ≡ Some pair.1) → AsksAgain limits (place_joined limits o f fs s)
     joined_again None s e = tt
-    joined_again (Some pair) s e = either_again (goes pair.0 s.memory.status) (place_command setting pair.1 f fs s) (GoOn (behind f ∷ fs) s) (command_again pair.1 s (e pair refl)) tt
+    joined_again (Some pair) s e = either_again (goes pair.0 s.memory.status) (place_command limits pair.1 f fs s) (GoOn (behind f ∷ fs) s) (command_again pair.1 s (e pair refl)) tt
 
-    begins_again : (list : AndOr) (n : ℕ) (s : State) → f.place.command ≡ n → list_at f.script f.place.list ≡ Some list → AsksAgain setting (place_begins setting list n f fs s)
+    begins_again : (list : AndOr) (n : ℕ) (s : State) → f.place.command ≡ n → list_at f.script f.place.list ≡ Some list → AsksAgain limits (place_begins limits list n f fs s)
     begins_again (tree.Starts c joins) zero s n e = command_again c s (ap (λ (o : Option AndOr). command_at o f.place.command) e ∙ ap (command_in (tree.Starts c joins)) n)
     begins_again (tree.Starts c joins) (suc j) s n e =
         joined_again (joined_at joins j) s (λ pair k. ap (λ (o : Option AndOr). command_at o f.place.command) e ∙ ap (command_in (tree.Starts c joins)) n ∙ ap second k)
 
-    turn_again : (list : AndOr) (turn : ℕ) (s : State) → list_at f.script f.place.list ≡ Some list → AsksAgain setting (place_turn setting list turn f fs s)
+    turn_again : (list : AndOr) (turn : ℕ) (s : State) → list_at f.script f.place.list ≡ Some list → AsksAgain limits (place_turn limits list turn f fs s)
     turn_again list zero s e = begins_again list f.place.command s refl e
     turn_again list (suc a) s e = never_again (phase_move (command_in list f.place.command) a f fs s) (phase_never (command_in list f.place.command) a f fs s)
 
-    list_again : (o : Option AndOr) (s : State) → list_at f.script f.place.list ≡ o → AsksAgain setting (place_list setting o f fs s)
+    list_again : (o : Option AndOr) (s : State) → list_at f.script f.place.list ≡ o → AsksAgain limits (place_list limits o f fs s)
     list_again None s e = tt
     list_again (Some list) s e = turn_again list f.place.turn s e
 
-    by_again : (kind : FrameKind) (s : State) → AsksAgain setting (place_by setting kind f fs s)
+    by_again : (kind : FrameKind) (s : State) → AsksAgain limits (place_by limits kind f fs s)
     by_again kinds.Text s = list_again (list_at f.script f.place.list) s refl
     by_again kinds.Block s = list_again (list_at f.script f.place.list) s refl
-    by_again kinds.For s = never_again (place_by setting kinds.For f fs s) (values_never (command_at (list_at f.script f.place.list) f.place.command) f fs s)
+    by_again kinds.For s = never_again (place_by limits kinds.For f fs s) (values_never (command_at (list_at f.script f.place.list) f.place.command) f fs s)
     by_again kinds.Run s = never_again (run_move f fs s) (run_never f fs s)
 
   -- a move to a command that asks leaves the frames where it is found again
-  pub asks_again : (ps : List RunningFrame) (s : State) → AsksAgain setting (place_move setting ps s)
+  pub asks_again : (ps : List RunningFrame) (s : State) → AsksAgain limits (place_move limits ps s)
   asks_again [] s = tt
   asks_again (f ∷ fs) s = by_again f fs f.kind s

@@ -5,7 +5,7 @@ use Rattle.std.proofs.Math.ListN.{drop_of_length-le}
 use Rattle.std.specs.declared.alloc.Global.{Global}
 use Rattle.hushlang.specs.declared.tree.Word.{Word as WordCode}
 use Rattle.hushlang.specs.Tree as tree
-use Rattle.hushlang.specs.View as view
+use Rattle.hushlang.specs.TreesShown as view
 use Rattle.hushlang.specs.Expansion as expansion
 use Rattle.hushlang.specs.Expansion.{joined, most_bytes}
 use Rattle.hushlang.proofs.ExpandLemmas.{drop_next}
@@ -13,16 +13,16 @@ use Rattle.bootstore.specs.declared.store.StoreError.{StoreError}
 use Rattle.bootstore.specs.declared.frame.At.{At}
 use Rattle.bootstore.specs.Moment.{RunningFrame}
 use Rattle.bootstore.specs.Record.{Record, changed, stepped, with_local, without_first}
-use Rattle.rehearse.specs.Outcomes.{Word}
-use Rattle.rehearse.specs.State.{Text, State, state_at, setting_in}
-use Rattle.rehearse.specs.Execution.{Setting, Size, CutSteps, set_local, set_status}
+use Rattle.rehearse.specs.Outcomes.{OutcomeWord}
+use Rattle.rehearse.specs.State.{Text, State, state_at, parameters_in}
+use Rattle.rehearse.specs.Execution.{Limits, Size, CutSteps, set_local, set_status}
 use Rattle.rehearse_machine.specs.declared.halt.Halt.TheVariants as halts
 use Rattle.rehearse_machine.specs.declared.ask.Step.{Step}
 use Rattle.rehearse_machine.specs.declared.ask.Step.TheVariants as steps
 use Rattle.rehearse_machine.specs.Places.{PlaceNext, GoOn, StopOn, place, moved_to, behind, place_assign, place_command}
-use Rattle.rehearse_machine.specs.Variables.{setting_at}
-use Rattle.rehearse_machine.specs.Seen.{under, Keeps, Does, Comes}
-use Rattle.rehearse_machine.proofs.Settings.{same_setting}
+use Rattle.rehearse_machine.specs.Variables.{parameters_at}
+use Rattle.rehearse_machine.specs.MovesShown.{under, Keeps, Does, Comes}
+use Rattle.rehearse_machine.proofs.Settings.{same_parameters}
 use Rattle.rehearse_machine.proofs.Coming.{comes_at, comes_after, keeps_both, keeps_change}
 use Rattle.rehearse_machine.proofs.WordLemmas.{local_state}
 use Rattle.rehearse_machine.proofs.Beginnings.{chosen, passed, counted_state, stepped_state, stepped_keeps}
@@ -32,7 +32,7 @@ Value = Vec ℕ Global × WordCode
 
 -- the first i values are assigned
 pub record AreAssigned (values : List Value) (i : ℕ) (ps : List RunningFrame) (old now : Record) : Type 0 where
-  pub same : (w : Word) → place_assign (map view.value (drop i values)) ps (state_at now.present w) ≡ place_assign (map view.value values) ps (state_at old.present w)
+  pub same : (w : OutcomeWord) → place_assign (map view.value (drop i values)) ps (state_at now.present w) ≡ place_assign (map view.value values) ps (state_at old.present w)
   pub frames : now.present.frames ≡ old.present.frames
   pub kept : Keeps old now
 
@@ -41,10 +41,10 @@ none_assigned values ps old = record { same = λ w. refl; frames = refl; kept = 
 
 module _ (values : List Value) (i : ℕ) (ps : List RunningFrame) (old now : Record) (d : Value) (within : i < length values) (is : d ≡ get_or values i d) (before : AreAssigned values i ps old now) where
   abbrev value_at : State → Text
-  value_at s = joined (setting_in s.memory) (view.word d.1)
+  value_at s = joined (parameters_in s.memory) (view.word d.1)
 
-  same_value : (w : Word) → joined (setting_at now.present) (view.word d.1) ≡ value_at (state_at now.present w)
-  same_value w = ap (λ (x : expansion.Setting). joined x (view.word d.1)) (same_setting now.present w)
+  same_value : (w : OutcomeWord) → joined (parameters_at now.present) (view.word d.1) ≡ value_at (state_at now.present w)
+  same_value w = ap (λ (x : expansion.Parameters). joined x (view.word d.1)) (same_parameters now.present w)
 
   abbrev here : State → PlaceNext
   here s = elim (nat_le (length (value_at s)) most_bytes) [ true ↦ place_assign (map view.value (drop (i + 1) values)) ps (set_local d.0.items (value_at s) s) | false ↦ StopOn Size s ]
@@ -52,7 +52,7 @@ module _ (values : List Value) (i : ℕ) (ps : List RunningFrame) (old now : Rec
   opened : (s : State) → place_assign (map view.value (drop i values)) ps s ≡ here s
   opened s = ap (λ (x : List Value). place_assign (map view.value x) ps s) (drop_next values i d within is)
 
-  pub next_assigned : (new : Record) (name found : Text) → name ≡ d.0.items → found ≡ joined (setting_at now.present) (view.word d.1) → nat_le (length (joined (setting_at now.present) (view.word d.1))) most_bytes ≡ true → new ≡ changed (with_local name found) now → AreAssigned values (i + 1) ps old new
+  pub next_assigned : (new : Record) (name found : Text) → name ≡ d.0.items → found ≡ joined (parameters_at now.present) (view.word d.1) → nat_le (length (joined (parameters_at now.present) (view.word d.1))) most_bytes ≡ true → new ≡ changed (with_local name found) now → AreAssigned values (i + 1) ps old new
   next_assigned new name found n f fits e = record {
     same = λ w.
         ap (place_assign (map view.value (drop (i + 1) values)) ps) (local_state now new name found w e)
@@ -65,7 +65,7 @@ module _ (values : List Value) (i : ℕ) (ps : List RunningFrame) (old now : Rec
     kept = keeps_both old now new before.kept (subst (Keeps now) (sym e) (keeps_change (with_local name found) now refl));
   }
 
-  pub value_too_long : nat_le (length (joined (setting_at now.present) (view.word d.1))) most_bytes ≡ false → Does (steps.Ends halts.Size) old now (place_assign (map view.value values) ps)
+  pub value_too_long : nat_le (length (joined (parameters_at now.present) (view.word d.1))) most_bytes ≡ false → Does (steps.Ends halts.Size) old now (place_assign (map view.value values) ps)
   value_too_long h = (
     λ w. passed (nat_le (length (value_at (state_at now.present w))) most_bytes) (place_assign (map view.value (drop (i + 1) values)) ps (set_local d.0.items (value_at (state_at now.present w)) (state_at now.present w))) (StopOn Size (state_at now.present w)) (ap (λ (x : Text). nat_le (length x) most_bytes) (sym (same_value w)) ∙ h)
         ∙ sym (opened (state_at now.present w))
@@ -74,7 +74,7 @@ module _ (values : List Value) (i : ℕ) (ps : List RunningFrame) (old now : Rec
   )
 
 -- a move from where others have come to, which is the same as one from the start
-comes_before : (r : Result Step StoreError) (old mid new : Record) (f g : State → PlaceNext) → ((w : Word) → f (state_at mid.present w) ≡ g (state_at old.present w)) → Keeps old mid → Comes r mid new f → Comes r old new g
+comes_before : (r : Result Step StoreError) (old mid new : Record) (f g : State → PlaceNext) → ((w : OutcomeWord) → f (state_at mid.present w) ≡ g (state_at old.present w)) → Keeps old mid → Comes r mid new f → Comes r old new g
 comes_before (Ok step) old mid new f g e k h = (λ w. h.0 w ∙ e w, keeps_both old mid new k h.1)
 comes_before (Err x) old mid new f g e k h = tt
 
@@ -87,9 +87,9 @@ all_assigned r values i f old now new at past before place_is comes =
     ∙ before.same w)
     before.kept comes
 
-pub assign_begins : (setting : Setting) (r : Result Step StoreError) (values : List Value) (f : RunningFrame) (old mid new : Record) → nat_lt old.present.steps setting.step_bound ≡ true → mid ≡ stepped old → Comes r mid new (place_assign (map view.value values) (behind f ∷ under mid.present)) → Comes r old new (place_command setting (tree.Assign (map view.value values)) f (under old.present))
-assign_begins setting r values f old mid new below e comes =
-    comes_at r old new (λ s. place_assign (map view.value values) (behind f ∷ under mid.present) (counted_state s)) (place_command setting (tree.Assign (map view.value values)) f (under old.present))
+pub assign_begins : (limits : Limits) (r : Result Step StoreError) (values : List Value) (f : RunningFrame) (old mid new : Record) → nat_lt old.present.steps limits.step_bound ≡ true → mid ≡ stepped old → Comes r mid new (place_assign (map view.value values) (behind f ∷ under mid.present)) → Comes r old new (place_command limits (tree.Assign (map view.value values)) f (under old.present))
+assign_begins limits r values f old mid new below e comes =
+    comes_at r old new (λ s. place_assign (map view.value values) (behind f ∷ under mid.present) (counted_state s)) (place_command limits (tree.Assign (map view.value values)) f (under old.present))
     (λ w. ap (λ (x : Record). place_assign (map view.value values) (behind f ∷ under x.present) (counted_state (state_at old.present w))) e
-    ∙ chosen (nat_lt old.present.steps setting.step_bound) (place_assign (map view.value values) (behind f ∷ under old.present) (counted_state (state_at old.present w))) (StopOn CutSteps (state_at old.present w)) below)
+    ∙ chosen (nat_lt old.present.steps limits.step_bound) (place_assign (map view.value values) (behind f ∷ under old.present) (counted_state (state_at old.present w))) (StopOn CutSteps (state_at old.present w)) below)
     (comes_after r old mid new counted_state (place_assign (map view.value values) (behind f ∷ under mid.present)) (λ w. stepped_state old mid w e) (stepped_keeps old mid e) comes)

@@ -8,16 +8,16 @@ use Rattle.bootstore.specs.declared.store.StoreError.{StoreError}
 use Rattle.bootstore.specs.declared.frame.At.{At}
 use Rattle.bootstore.specs.Moment.{RunningFrame}
 use Rattle.bootstore.specs.Record.{Record, stepped, moved}
-use Rattle.rehearse.specs.Outcomes.{Word}
-use Rattle.rehearse.specs.State.{Text, State, state_at, setting_in}
-use Rattle.rehearse.specs.Execution.{Setting, Size, CutSteps}
+use Rattle.rehearse.specs.Outcomes.{OutcomeWord}
+use Rattle.rehearse.specs.State.{Text, State, state_at, parameters_in}
+use Rattle.rehearse.specs.Execution.{Limits, Size, CutSteps}
 use Rattle.rehearse_machine.specs.declared.halt.Halt.TheVariants as halts
 use Rattle.rehearse_machine.specs.declared.ask.Step.{Step}
 use Rattle.rehearse_machine.specs.declared.ask.Step.TheVariants as steps
 use Rattle.rehearse_machine.specs.Places.{PlaceNext, StopOn, place, moved_to, behind, place_counted, place_fitting}
-use Rattle.rehearse_machine.specs.Variables.{setting_at}
-use Rattle.rehearse_machine.specs.Seen.{under, IsTop, Keeps, Does, Comes}
-use Rattle.rehearse_machine.proofs.Settings.{same_setting}
+use Rattle.rehearse_machine.specs.Variables.{parameters_at}
+use Rattle.rehearse_machine.specs.MovesShown.{under, IsTop, Keeps, Does, Comes}
+use Rattle.rehearse_machine.proofs.Settings.{same_parameters}
 use Rattle.rehearse_machine.proofs.Coming.{comes_at, comes_after, keeps_both, top_moved}
 
 pub chosen : (b : Bool) (x y : PlaceNext) → b ≡ true → x ≡ elim b [ true ↦ x | false ↦ y ]
@@ -31,7 +31,7 @@ passed false x y e = refl
 abbrev pub counted_state : State → State
 counted_state s = record s { steps = suc s.steps }
 
-pub stepped_state : (old mid : Record) (w : Word) → mid ≡ stepped old → state_at mid.present w ≡ counted_state (state_at old.present w)
+pub stepped_state : (old mid : Record) (w : OutcomeWord) → mid ≡ stepped old → state_at mid.present w ≡ counted_state (state_at old.present w)
 stepped_state old mid w e = ap (λ (r : Record). state_at r.present w) e ∙ ap (λ (n : ℕ). record (state_at old.present w) { steps = n }) (add-one old.present.steps)
 
 pub stepped_keeps : (old mid : Record) → mid ≡ stepped old → Keeps old mid
@@ -40,20 +40,20 @@ stepped_keeps old mid e = subst (Keeps old) (sym e) (record { marked = refl; beg
 pub behind_top : (f : RunningFrame) (old : Record) (at : At) → IsTop f old.present → at ≡ place f.place.list (suc f.place.command) 0 0 → moved at old.present.frames ≡ behind f ∷ under old.present
 behind_top f old at t e = top_moved old.present.frames (under old.present) f at t ∙ ap (λ (x : At). moved_to x f ∷ under old.present) e
 
-module _ (setting : Setting) (old mid : Record) (words : List tree.Word) (n : List Text → State → PlaceNext) (below : nat_lt old.present.steps setting.step_bound ≡ true) (begun : mid ≡ stepped old) where
-  abbrev expanded : Word → List Text
-  expanded w = fields (setting_in (state_at old.present w).memory) words
+module _ (limits : Limits) (old mid : Record) (words : List tree.Word) (n : List Text → State → PlaceNext) (below : nat_lt old.present.steps limits.step_bound ≡ true) (begun : mid ≡ stepped old) where
+  abbrev expanded : OutcomeWord → List Text
+  expanded w = fields (parameters_in (state_at old.present w).memory) words
 
-  same_fields : (w : Word) → fields (setting_at mid.present) words ≡ expanded w
-  same_fields w = ap (λ (x : expansion.Setting). fields x words) (same_setting mid.present w ∙ ap (λ (s : State). setting_in s.memory) (stepped_state old mid w begun))
+  same_fields : (w : OutcomeWord) → fields (parameters_at mid.present) words ≡ expanded w
+  same_fields w = ap (λ (x : expansion.Parameters). fields x words) (same_parameters mid.present w ∙ ap (λ (s : State). parameters_in s.memory) (stepped_state old mid w begun))
 
   abbrev whole : State → PlaceNext
-  whole s = place_counted setting (λ t. place_fitting (fields (setting_in t.memory) words) n t) s
+  whole s = place_counted limits (λ t. place_fitting (fields (parameters_in t.memory) words) n t) s
 
-  counted_is : (w : Word) → place_fitting (expanded w) n (counted_state (state_at old.present w)) ≡ whole (state_at old.present w)
-  counted_is w = chosen (nat_lt old.present.steps setting.step_bound) (place_fitting (expanded w) n (counted_state (state_at old.present w))) (StopOn CutSteps (state_at old.present w)) below
+  counted_is : (w : OutcomeWord) → place_fitting (expanded w) n (counted_state (state_at old.present w)) ≡ whole (state_at old.present w)
+  counted_is w = chosen (nat_lt old.present.steps limits.step_bound) (place_fitting (expanded w) n (counted_state (state_at old.present w))) (StopOn CutSteps (state_at old.present w)) below
 
-  pub too_long : nat_le (size (fields (setting_at mid.present) words)) most_bytes ≡ false → Does (steps.Ends halts.Size) old mid whole
+  pub too_long : nat_le (size (fields (parameters_at mid.present) words)) most_bytes ≡ false → Does (steps.Ends halts.Size) old mid whole
   too_long h = (
     λ w. ap (StopOn Size) (stepped_state old mid w begun)
         ∙ passed (nat_le (size (expanded w)) most_bytes) (n (expanded w) (counted_state (state_at old.present w))) (StopOn Size (counted_state (state_at old.present w))) (ap (λ (fs : List Text). nat_le (size fs) most_bytes) (sym (same_fields w)) ∙ h)
@@ -62,13 +62,13 @@ module _ (setting : Setting) (old mid : Record) (words : List tree.Word) (n : Li
   )
 
   -- what follows with the fields that were found
-  pub goes_with : (found : List Text) → found ≡ fields (setting_at mid.present) words → nat_le (size (fields (setting_at mid.present) words)) most_bytes ≡ true → (w : Word) → n found (counted_state (state_at old.present w)) ≡ whole (state_at old.present w)
+  pub goes_with : (found : List Text) → found ≡ fields (parameters_at mid.present) words → nat_le (size (fields (parameters_at mid.present) words)) most_bytes ≡ true → (w : OutcomeWord) → n found (counted_state (state_at old.present w)) ≡ whole (state_at old.present w)
   goes_with found e h w =
       ap (λ (fs : List Text). n fs (counted_state (state_at old.present w))) (e ∙ same_fields w)
       ∙ chosen (nat_le (size (expanded w)) most_bytes) (n (expanded w) (counted_state (state_at old.present w))) (StopOn Size (counted_state (state_at old.present w))) (ap (λ (fs : List Text). nat_le (size fs) most_bytes) (sym (same_fields w)) ∙ h)
       ∙ counted_is w
 
-  pub comes_with : (r : Result Step StoreError) (late new : Record) (found : List Text) (m : State → PlaceNext) → found ≡ fields (setting_at mid.present) words → nat_le (size (fields (setting_at mid.present) words)) most_bytes ≡ true → ((w : Word) → state_at late.present w ≡ state_at mid.present w) → Keeps mid late → ((s : State) → m s ≡ n found s) → Comes r late new m → Comes r old new whole
+  pub comes_with : (r : Result Step StoreError) (late new : Record) (found : List Text) (m : State → PlaceNext) → found ≡ fields (parameters_at mid.present) words → nat_le (size (fields (parameters_at mid.present) words)) most_bytes ≡ true → ((w : OutcomeWord) → state_at late.present w ≡ state_at mid.present w) → Keeps mid late → ((s : State) → m s ≡ n found s) → Comes r late new m → Comes r old new whole
   comes_with r late new found m e h same keeps says comes =
       comes_at r old new (λ s. m (counted_state s)) whole (λ w. says (counted_state (state_at old.present w)) ∙ goes_with found e h w)
       (comes_after r old late new counted_state m (λ w. same w ∙ stepped_state old mid w begun) (keeps_both old mid late (stepped_keeps old mid begun) keeps) comes)

@@ -4,11 +4,11 @@ use Rattle.bootstore.specs.declared.frame.At.{At}
 use Rattle.bootstore.specs.declared.store.StoreError.{StoreError}
 use Rattle.bootstore.specs.Moment.{Moment, RunningFrame}
 use Rattle.bootstore.specs.Record.{Record, changed, with_place, with_frame, without_frame, with_status, moved}
-use Rattle.rehearse.specs.Outcomes.{Word}
+use Rattle.rehearse.specs.Outcomes.{OutcomeWord}
 use Rattle.rehearse.specs.State.{State, state_at}
 use Rattle.rehearse.specs.Execution.{set_status}
 use Rattle.rehearse_machine.specs.Places.{PlaceNext, GoOn, moved_to}
-use Rattle.rehearse_machine.specs.Seen.{under, IsTop, Keeps, Does, Comes}
+use Rattle.rehearse_machine.specs.MovesShown.{under, IsTop, Keeps, Does, Comes}
 use Rattle.rehearse_machine.specs.declared.ask.Step.{Step}
 use Rattle.rehearse_machine.specs.declared.ask.Step.TheVariants as steps
 
@@ -24,7 +24,7 @@ comes_as (Ok step) old new f g e h = (λ w. h.0 w ∙ e (state_at old.present w)
 comes_as (Err x) old new f g e h = tt
 
 -- a move behind a change of the state
-pub comes_after : (r : Result Step StoreError) (old mid new : Record) (change : State → State) (f : State → PlaceNext) → ((w : Word) → state_at mid.present w ≡ change (state_at old.present w)) → Keeps old mid → Comes r mid new f → Comes r old new (λ s. f (change s))
+pub comes_after : (r : Result Step StoreError) (old mid new : Record) (change : State → State) (f : State → PlaceNext) → ((w : OutcomeWord) → state_at mid.present w ≡ change (state_at old.present w)) → Keeps old mid → Comes r mid new f → Comes r old new (λ s. f (change s))
 comes_after (Ok step) old mid new change f e k h = (λ w. h.0 w ∙ ap f (e w), keeps_both old mid new k h.1)
 comes_after (Err x) old mid new change f e k h = tt
 
@@ -52,6 +52,6 @@ finished_does old mid new f at status t e d =
     (λ w. ap (λ (x : List RunningFrame). GoOn x (set_status status (state_at old.present w))) (top_moved old.present.frames (under old.present) f at t), record { marked = refl; begun = omega arith })
 
 -- the same move, said otherwise at this state
-pub comes_at : (r : Result Step StoreError) (old new : Record) (f g : State → PlaceNext) → ((w : Word) → f (state_at old.present w) ≡ g (state_at old.present w)) → Comes r old new f → Comes r old new g
+pub comes_at : (r : Result Step StoreError) (old new : Record) (f g : State → PlaceNext) → ((w : OutcomeWord) → f (state_at old.present w) ≡ g (state_at old.present w)) → Comes r old new f → Comes r old new g
 comes_at (Ok step) old new f g e h = (λ w. h.0 w ∙ e w, h.1)
 comes_at (Err x) old new f g e h = tt

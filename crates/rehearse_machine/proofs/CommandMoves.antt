@@ -9,18 +9,18 @@ use Rattle.bootstore.specs.declared.store.StoreError.{StoreError}
 use Rattle.bootstore.specs.Moment.{Moment, RunningFrame, bytes_of_words}
 use Rattle.bootstore.specs.Record.{Record, changed, with_environment, with_status}
 use Rattle.hushlang.specs.Tree.{Script}
-use Rattle.rehearse.specs.Outcomes.{Word}
+use Rattle.rehearse.specs.Outcomes.{OutcomeWord}
 use Rattle.rehearse.specs.State.{Text, Variables, State, state_at, with_value, without}
 use Rattle.rehearse.specs.Builtins.{SetEnv, Test, Echo}
 use Rattle.rehearse.specs.Commands.{Called, BuiltIn, Device, called_by, asks_device, is_bad_name, setenv, echo, is_digit, decimal_from}
-use Rattle.rehearse.specs.Execution.{Setting, Request, no_effect, remember, set_status, status_when}
+use Rattle.rehearse.specs.Execution.{Limits, Request, no_effect, remember, set_status, status_when}
 use Rattle.rehearse.specs.Verdict.{verdict}
 use Rattle.rehearse.specs.DeviceList.{Effect}
 use Rattle.rehearse.proofs.StateLemmas.{stored_changes, stored_deletions}
 use Rattle.rehearse_machine.specs.declared.ask.Step.{Step}
 use Rattle.rehearse_machine.specs.declared.ask.Step.TheVariants as steps
 use Rattle.rehearse_machine.specs.Places.{GoOn, place_ask, place_called, place_fields}
-use Rattle.rehearse_machine.specs.Seen.{next_seen, Does, Comes, Changes, Changed}
+use Rattle.rehearse_machine.specs.MovesShown.{next_shown, Does, Comes, Changes, Changed}
 use Rattle.rehearse_machine.proofs.Beginnings.{chosen}
 
 -- ---- numbers
@@ -60,20 +60,20 @@ removed_first (y ∷ ys) x rest h e k = ap (λ z. z ∷ ys) (sym e) ∙ ap (λ z
 abbrev with_memory : State → Variables → State
 with_memory s variables = record s { memory = record { environment = variables; locals = s.memory.locals; status = 0; text = s.memory.text } }
 
-pub deleted : (old : Moment) (name : Text) (words : List Text) (w : Word) → words ≡ name ∷ [] → is_bad_name name ≡ false → state_at (with_status 0 (with_environment name None old)) w ≡ remember (setenv words) (state_at old w)
+pub deleted : (old : Moment) (name : Text) (words : List Text) (w : OutcomeWord) → words ≡ name ∷ [] → is_bad_name name ≡ false → state_at (with_status 0 (with_environment name None old)) w ≡ remember (setenv words) (state_at old w)
 deleted old name words w e b =
     ap (with_memory (state_at old w)) (stored_deletions old.environment name)
     ∙ ap (λ (x : Bool). remember (λ m. cond x (record m { status = 1 }) (record m { environment = without m.environment name; status = 0 })) (state_at old w)) (sym b)
     ∙ ap (λ (x : List Text). remember (setenv x) (state_at old w)) (sym e)
 
-pub assigned : (old : Moment) (name value v : Text) (vs words : List Text) (w : Word) → words ≡ name ∷ v ∷ vs → value ≡ join_with_byte 32 (v ∷ vs) → is_bad_name name ≡ false → state_at (with_status 0 (with_environment name (Some value) old)) w ≡ remember (setenv words) (state_at old w)
+pub assigned : (old : Moment) (name value v : Text) (vs words : List Text) (w : OutcomeWord) → words ≡ name ∷ v ∷ vs → value ≡ join_with_byte 32 (v ∷ vs) → is_bad_name name ≡ false → state_at (with_status 0 (with_environment name (Some value) old)) w ≡ remember (setenv words) (state_at old w)
 assigned old name value v vs words w e k b =
     ap (with_memory (state_at old w)) (stored_changes old.environment name value)
     ∙ ap (λ (x : Text). with_memory (state_at old w) (with_value (state_at old w).memory.environment name x)) k
     ∙ ap (λ (x : Bool). remember (λ m. cond x (record m { status = 1 }) (record m { environment = with_value m.environment name (join_with_byte 32 (v ∷ vs)); status = 0 })) (state_at old w)) (sym b)
     ∙ ap (λ (x : List Text). remember (setenv x) (state_at old w)) (sym e)
 
-set_changed : (r : Result (Unit {0}) StoreError) (old mid new : Record) (name : Text) (o : Option Text) (words : List Text) → ((w : Word) → state_at (with_status 0 (with_environment name o old.present)) w ≡ remember (setenv words) (state_at old.present w)) → mid ≡ changed (with_environment name o) old → OnOk r (new ≡ changed (with_status 0) mid) → Changed r old new (setenv words)
+set_changed : (r : Result (Unit {0}) StoreError) (old mid new : Record) (name : Text) (o : Option Text) (words : List Text) → ((w : OutcomeWord) → state_at (with_status 0 (with_environment name o old.present)) w ≡ remember (setenv words) (state_at old.present w)) → mid ≡ changed (with_environment name o) old → OnOk r (new ≡ changed (with_status 0) mid) → Changed r old new (setenv words)
 set_changed (Ok done) old mid new name o words h e k =
     subst (λ (x : Record). Changes old x (setenv words)) (sym (k ∙ ap (changed (with_status 0)) e)) (h, refl, record { marked = refl; begun = omega arith })
 set_changed (Err x) old mid new name o words h e k = tt
@@ -87,21 +87,21 @@ assigns r old mid new name value (v ∷ vs) words p l j b e k = set_changed r ol
 
 -- ---- built-in commands
 
-module _ (setting : Setting) (old new : Record) (name : Text) (words : List Text) (script : Script) where
+module _ (limits : Limits) (old new : Record) (name : Text) (words : List Text) (script : Script) where
   abbrev frames : List RunningFrame
   frames = old.present.frames
 
-  pub setenv_does : (b : Called) (list : List Text) → b ≡ BuiltIn SetEnv → list ≡ words → Changes old new (setenv list) → Does steps.Going old new (place_called setting b name words script old.present.frames)
+  pub setenv_does : (b : Called) (list : List Text) → b ≡ BuiltIn SetEnv → list ≡ words → Changes old new (setenv list) → Does steps.Going old new (place_called limits b name words script old.present.frames)
   setenv_does b list e l h = (
     λ w. ap (λ (x : List RunningFrame). GoOn x (state_at new.present w)) h.1 ∙ ap (GoOn frames) (h.0 w) ∙ ap (λ (x : List Text). GoOn frames (remember (setenv x) (state_at old.present w))) l
-        ∙ sym (ap (λ (x : Called). place_called setting x name words script frames (state_at old.present w)) e),
+        ∙ sym (ap (λ (x : Called). place_called limits x name words script frames (state_at old.present w)) e),
     h.2,
   )
 
-  pub echo_does : (b : Called) (list : List Text) → b ≡ BuiltIn Echo → list ≡ words → Changes old new (echo list) → Does steps.Going old new (place_called setting b name words script old.present.frames)
+  pub echo_does : (b : Called) (list : List Text) → b ≡ BuiltIn Echo → list ≡ words → Changes old new (echo list) → Does steps.Going old new (place_called limits b name words script old.present.frames)
   echo_does b list e l h = (
     λ w. ap (λ (x : List RunningFrame). GoOn x (state_at new.present w)) h.1 ∙ ap (GoOn frames) (h.0 w) ∙ ap (λ (x : List Text). GoOn frames (remember (echo x) (state_at old.present w))) l
-        ∙ sym (ap (λ (x : Called). place_called setting x name words script frames (state_at old.present w)) e),
+        ∙ sym (ap (λ (x : Called). place_called limits x name words script frames (state_at old.present w)) e),
     h.2,
   )
 
@@ -109,20 +109,20 @@ module _ (setting : Setting) (old new : Record) (name : Text) (words : List Text
   request effect = record { name = name; words = words; effect = effect }
 
   abbrev Asked : Step → Effect → Type 0
-  Asked step effect = (w : Word) → next_seen step old.present w ≡ place_ask setting (request effect) old.present.frames (state_at old.present w)
+  Asked step effect = (w : OutcomeWord) → next_shown step old.present w ≡ place_ask limits (request effect) old.present.frames (state_at old.present w)
 
-  pub device_does : (step : Step) (b : Called) (effect : Effect) → b ≡ Device effect → Asked step effect → Does step old old (place_called setting b name words script old.present.frames)
-  device_does step b effect e h = (λ w. h w ∙ sym (ap (λ (x : Called). place_called setting x name words script frames (state_at old.present w)) e), record { marked = refl; begun = omega arith })
+  pub device_does : (step : Step) (b : Called) (effect : Effect) → b ≡ Device effect → Asked step effect → Does step old old (place_called limits b name words script old.present.frames)
+  device_does step b effect e h = (λ w. h w ∙ sym (ap (λ (x : Called). place_called limits x name words script frames (state_at old.present w)) e), record { marked = refl; begun = omega arith })
 
-  pub test_does : (step : Step) (b : Called) → b ≡ BuiltIn Test → asks_device words ≡ true → Asked step no_effect → Does step old old (place_called setting b name words script old.present.frames)
+  pub test_does : (step : Step) (b : Called) → b ≡ BuiltIn Test → asks_device words ≡ true → Asked step no_effect → Does step old old (place_called limits b name words script old.present.frames)
   test_does step b e d h = (
-    λ w. h w ∙ chosen (asks_device words) (place_ask setting (request no_effect) frames (state_at old.present w)) (GoOn frames (set_status (status_when (verdict words)) (state_at old.present w))) d
-        ∙ sym (ap (λ (x : Called). place_called setting x name words script frames (state_at old.present w)) e),
+    λ w. h w ∙ chosen (asks_device words) (place_ask limits (request no_effect) frames (state_at old.present w)) (GoOn frames (set_status (status_when (verdict words)) (state_at old.present w))) d
+        ∙ sym (ap (λ (x : Called). place_called limits x name words script frames (state_at old.present w)) e),
     record { marked = refl; begun = omega arith },
   )
 
-pub fields_named : (setting : Setting) (fields : List (Vec ℕ Global)) (name : Vec ℕ Global) (rest : List (Vec ℕ Global)) (script : Script) (ps : List RunningFrame) (s : State) → fields ≡ name ∷ rest → place_called setting (called_by setting.devices name.items) name.items (bytes_of_words rest) script ps s ≡ place_fields setting (bytes_of_words fields) script ps s
-fields_named setting fields name rest script ps s e = sym (ap (λ (x : List (Vec ℕ Global)). place_fields setting (bytes_of_words x) script ps s) e)
+pub fields_named : (limits : Limits) (fields : List (Vec ℕ Global)) (name : Vec ℕ Global) (rest : List (Vec ℕ Global)) (script : Script) (ps : List RunningFrame) (s : State) → fields ≡ name ∷ rest → place_called limits (called_by limits.devices name.items) name.items (bytes_of_words rest) script ps s ≡ place_fields limits (bytes_of_words fields) script ps s
+fields_named limits fields name rest script ps s e = sym (ap (λ (x : List (Vec ℕ Global)). place_fields limits (bytes_of_words x) script ps s) e)
 
 pub empty_rest : (ys : List (Vec ℕ Global)) → true ≡ eqb (length ys) 0 → ys ≡ []
 empty_rest [] e = refl
@@ -137,5 +137,5 @@ some_length zero e = absurd (let f = e in cc)
 some_length (suc n) e = omega arith
 
 -- what the command does that a name is the name of, that name does
-pub named_comes : (setting : Setting) (name : Text) (words : List Text) (script : Script) (frames : List RunningFrame) (r : Result Step StoreError) (old new : Record) (b k : Called) → b ≡ k → Comes r old new (place_called setting k name words script frames) → Comes r old new (place_called setting b name words script frames)
-named_comes setting name words script frames r old new b k e h = subst (λ (x : Called). Comes r old new (place_called setting x name words script frames)) (sym e) h
+pub named_comes : (limits : Limits) (name : Text) (words : List Text) (script : Script) (frames : List RunningFrame) (r : Result Step StoreError) (old new : Record) (b k : Called) → b ≡ k → Comes r old new (place_called limits k name words script frames) → Comes r old new (place_called limits b name words script frames)
+named_comes limits name words script frames r old new b k e h = subst (λ (x : Called). Comes r old new (place_called limits x name words script frames)) (sym e) h

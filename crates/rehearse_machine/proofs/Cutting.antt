@@ -3,34 +3,34 @@ use Rattle.std.proofs.Common.{ℕ, zero, suc, Bool, false, refl, ◌≡◌, ◌�
 use Rattle.hushlang.specs.Tree as tree
 use Rattle.hushlang.specs.Tree.{Script, AndOr, Command, Arms}
 use Rattle.hushlang.specs.Expansion.{fields}
-use Rattle.rehearse.specs.State.{State, setting_in}
+use Rattle.rehearse.specs.State.{State, parameters_in}
 use Rattle.rehearse.specs.Proper.{IsProperList, IsProperCommand, IsBlock}
-use Rattle.rehearse.specs.Execution.{Setting, Answer, Ended, CutSteps, begin, simple, sized, assign, turns, for_each, exec_script, exec_list, exec_command, exec_arms}
+use Rattle.rehearse.specs.Execution.{Limits, Answer, Ended, CutSteps, begin, simple, sized, assign, turns, for_each, exec_script, exec_list, exec_command, exec_arms}
 
-module _ (setting : Setting) (left : ℕ) (text : Script → State → Answer) where
-  pub Cut-begin : (s : State) (f : State → Answer) → setting.step_bound ≤ s.steps → begin setting f s ≡ Ended CutSteps s
-  Cut-begin s f h = let e : nat_lt s.steps setting.step_bound ≡ false = le-ltb s.steps setting.step_bound h in rw (e, begin) refl
+module _ (limits : Limits) (left : ℕ) (text : Script → State → Answer) where
+  pub Cut-begin : (s : State) (f : State → Answer) → limits.step_bound ≤ s.steps → begin limits f s ≡ Ended CutSteps s
+  Cut-begin s f h = let e : nat_lt s.steps limits.step_bound ≡ false = le-ltb s.steps limits.step_bound h in rw (e, begin) refl
 
   pub Cut-turns : (k : ℕ) (until : Bool) (c b : State → Answer) (last : ℕ) (s : State) → c s ≡ Ended CutSteps s → turns k until c b last s ≡ Ended CutSteps s
   Cut-turns zero until c b last s e = refl
   Cut-turns (suc k) until c b last s e = rw e refl
 
   mutual
-    pub Cut-command : (a : Command) → IsProperCommand a → (s : State) → setting.step_bound ≤ s.steps → exec_command setting left text a s ≡ Ended CutSteps s
-    Cut-command (tree.Simple words) p s h = Cut-begin s (λ t. sized (fields (setting_in t.memory) words) (simple setting text) t) h
+    pub Cut-command : (a : Command) → IsProperCommand a → (s : State) → limits.step_bound ≤ s.steps → exec_command limits left text a s ≡ Ended CutSteps s
+    Cut-command (tree.Simple words) p s h = Cut-begin s (λ t. sized (fields (parameters_in t.memory) words) (simple limits text) t) h
     Cut-command (tree.Assign pairs) p s h = Cut-begin s (assign pairs) h
     Cut-command (tree.If arms) p s h = Cut-if arms p s h
-    Cut-command (tree.Loop until c b) p s h = Cut-turns left until (exec_script setting left text c) (exec_script setting left text b) 0 s (Cut-block c p.0 s h)
-    Cut-command (tree.For name words b) p s h = Cut-begin s (λ t. sized (fields (setting_in t.memory) words) (for_each name (exec_script setting left text b) 0) t) h
+    Cut-command (tree.Loop until c b) p s h = Cut-turns left until (exec_script limits left text c) (exec_script limits left text b) 0 s (Cut-block c p.0 s h)
+    Cut-command (tree.For name words b) p s h = Cut-begin s (λ t. sized (fields (parameters_in t.memory) words) (for_each name (exec_script limits left text b) 0) t) h
 
-    pub Cut-block : (a : Script) → IsBlock a → (s : State) → setting.step_bound ≤ s.steps → exec_script setting left text a s ≡ Ended CutSteps s
+    pub Cut-block : (a : Script) → IsBlock a → (s : State) → limits.step_bound ≤ s.steps → exec_script limits left text a s ≡ Ended CutSteps s
     Cut-block tree.Empty p s h = absurd p
     Cut-block (tree.Runs l ls) p s h = let e = Cut-list l p.0 s h in rw e refl
 
-    Cut-list : (a : AndOr) → IsProperList a → (s : State) → setting.step_bound ≤ s.steps → exec_list setting left text a s ≡ Ended CutSteps s
+    Cut-list : (a : AndOr) → IsProperList a → (s : State) → limits.step_bound ≤ s.steps → exec_list limits left text a s ≡ Ended CutSteps s
     Cut-list (tree.Starts c links) p s h = let e = Cut-command c p.0 s h in rw e refl
 
-    Cut-if : (a : Arms) → IsProperCommand (tree.If a) → (s : State) → setting.step_bound ≤ s.steps → exec_arms setting left text a s ≡ Ended CutSteps s
+    Cut-if : (a : Arms) → IsProperCommand (tree.If a) → (s : State) → limits.step_bound ≤ s.steps → exec_arms limits left text a s ≡ Ended CutSteps s
     Cut-if (tree.Arm c b arms) p s h = let e = Cut-block c p.0 s h in rw e refl
     Cut-if (tree.Else b) p s h = absurd p
     Cut-if tree.NoElse p s h = absurd p

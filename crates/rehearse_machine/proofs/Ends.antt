@@ -5,16 +5,16 @@ use Rattle.hushlang.specs.Tree.{Script, AndOr, Joined, Command, Arms}
 use Rattle.hushlang.specs.Expansion.{fields, joined, size, most_bytes}
 use Rattle.rehearse.specs.Trees.{tree_of}
 use Rattle.rehearse.specs.Verdict.{verdict}
-use Rattle.rehearse.specs.State.{Text, get, State, setting_in}
+use Rattle.rehearse.specs.State.{Text, get, State, parameters_in}
 use Rattle.rehearse.specs.Builtins.{SetEnv, Run, Test, Echo, True, False, Leave}
 use Rattle.rehearse.specs.Commands.{Called, BuiltIn, NoCommand, Device, called_by, asks_device, exit_status}
 use Rattle.rehearse.specs.Proper.{IsProperCommand, AreProperArms, IsBlock}
-use Rattle.rehearse.specs.Execution.{Setting, CutDevices, CutSteps, Size, set_status, set_local, status_when, goes, holds, Request, no_effect}
+use Rattle.rehearse.specs.Execution.{Limits, CutDevices, CutSteps, Size, set_status, set_local, status_when, goes, holds, Request, no_effect}
 use Rattle.rehearse_machine.specs.Frames.{Frame, Lists, Linked, IfCondition, LoopCondition, LoopBody, ForBody, RunNames, RunText, Next, Go, Ask, Stop, leave, begin_assign, begin_for, begin_arms, begin_tree, begin_text, begin_names, begin_exit, fitting, ask, begin_called, begin_fields, begin_command, move}
-use Rattle.rehearse_machine.specs.Turns.{command_depth, arms_depth, script_depth, block_weight, links_weight, arms_weight, tree_weight, text_weight, names_weight, weight}
+use Rattle.rehearse_machine.specs.MoveCounts.{command_depth, arms_depth, script_depth, block_weight, links_weight, arms_weight, tree_weight, text_weight, names_weight, weight}
 use Rattle.rehearse_machine.specs.Meaning.{AreProperFrames}
 
-module _ (setting : Setting) where
+module _ (limits : Limits) where
   -- no step was begun since t
   abbrev pub IsQuiet : State → Next → Type 0
   IsQuiet t (Go fs u) = u.steps ≡ t.steps
@@ -29,9 +29,9 @@ module _ (setting : Setting) where
 
   -- a step was begun, or the end is reached
   abbrev pub IsFurther : State → Next → Type 0
-  IsFurther s (Go fs t) = (s.steps < t.steps) × (t.steps ≤ setting.step_bound)
-  IsFurther s (Ask r fs t) = (s.steps < t.steps) × (t.steps ≤ setting.step_bound)
-  IsFurther s (Stop ending u) = (s.steps ≤ u.steps) × (s.steps ≤ setting.step_bound → u.steps ≤ setting.step_bound)
+  IsFurther s (Go fs t) = (s.steps < t.steps) × (t.steps ≤ limits.step_bound)
+  IsFurther s (Ask r fs t) = (s.steps < t.steps) × (t.steps ≤ limits.step_bound)
+  IsFurther s (Stop ending u) = (s.steps ≤ u.steps) × (s.steps ≤ limits.step_bound → u.steps ≤ limits.step_bound)
 
   either-quiet : (t : State) (b : Bool) (x y : Next) → IsQuiet t x → IsQuiet t y → IsQuiet t (elim b [ true ↦ x | false ↦ y ])
   either-quiet t true x y h k = h
@@ -50,7 +50,7 @@ module _ (setting : Setting) where
 
   assign-quiet : (pairs : List (Text × tree.Word)) (fs : List Frame) (t s : State) → s.steps ≡ t.steps → IsQuiet t (begin_assign pairs fs s)
   assign-quiet [] fs t s e = e
-  assign-quiet (pair ∷ pairs) fs t s e = let value : Text = joined (setting_in s.memory) pair.1 in either-quiet t (nat_le (length value) most_bytes) (begin_assign pairs fs (set_local pair.0 value s)) (Stop Size s) (assign-quiet pairs fs t (set_local pair.0 value s) e) e
+  assign-quiet (pair ∷ pairs) fs t s e = let value : Text = joined (parameters_in s.memory) pair.1 in either-quiet t (nat_le (length value) most_bytes) (begin_assign pairs fs (set_local pair.0 value s)) (Stop Size s) (assign-quiet pairs fs t (set_local pair.0 value s) e) e
 
   tree-quiet : (o : Option Script) (name : Text) (names : List Text) (fs : List Frame) (s : State) → IsQuiet s (begin_tree o name names fs s)
   tree-quiet None name names fs s = refl
@@ -65,18 +65,18 @@ module _ (setting : Setting) where
   names-quiet [] fs s = refl
   names-quiet (name ∷ names) fs s = text-quiet (get s.memory.environment name) name names fs s
 
-  ask-quiet : (r : Request) (fs : List Frame) (s : State) → IsQuiet s (ask setting r fs s)
-  ask-quiet r fs s = either-quiet s (nat_lt (length s.log) setting.device_bound) (Ask r fs s) (Stop CutDevices s) refl refl
+  ask-quiet : (r : Request) (fs : List Frame) (s : State) → IsQuiet s (ask limits r fs s)
+  ask-quiet r fs s = either-quiet s (nat_lt (length s.log) limits.device_bound) (Ask r fs s) (Stop CutDevices s) refl refl
 
   exit-quiet : (o : Option ℕ) (fs : List Frame) (s : State) → IsQuiet s (begin_exit o fs s)
   exit-quiet (Some n) fs s = leave-quiet fs (set_status n s)
   exit-quiet None fs s = refl
 
-  builtin-quiet : (b : Called) (name : Text) (ws : List Text) (fs : List Frame) (s : State) → IsQuiet s (begin_called setting b name ws fs s)
+  builtin-quiet : (b : Called) (name : Text) (ws : List Text) (fs : List Frame) (s : State) → IsQuiet s (begin_called limits b name ws fs s)
   builtin-quiet (BuiltIn SetEnv) name ws fs s = refl
   builtin-quiet (BuiltIn Run) name [] fs s = refl
   builtin-quiet (BuiltIn Run) name (w ∷ ws) fs s = refl
-  builtin-quiet (BuiltIn Test) name ws fs s = either-quiet s (asks_device ws) (ask setting (record { name = name; words = ws; effect = no_effect }) fs s) (Go fs (set_status (status_when (verdict ws)) s)) (ask-quiet (record { name = name; words = ws; effect = no_effect }) fs s) refl
+  builtin-quiet (BuiltIn Test) name ws fs s = either-quiet s (asks_device ws) (ask limits (record { name = name; words = ws; effect = no_effect }) fs s) (Go fs (set_status (status_when (verdict ws)) s)) (ask-quiet (record { name = name; words = ws; effect = no_effect }) fs s) refl
   builtin-quiet (BuiltIn Echo) name ws fs s = refl
   builtin-quiet (BuiltIn True) name ws fs s = refl
   builtin-quiet (BuiltIn False) name ws fs s = refl
@@ -84,22 +84,22 @@ module _ (setting : Setting) where
   builtin-quiet (Device effect) name ws fs s = ask-quiet (record { name = name; words = ws; effect = effect }) fs s
   builtin-quiet NoCommand name ws fs s = refl
 
-  fields-quiet : (ws : List Text) (fs : List Frame) (s : State) → IsQuiet s (begin_fields setting ws fs s)
+  fields-quiet : (ws : List Text) (fs : List Frame) (s : State) → IsQuiet s (begin_fields limits ws fs s)
   fields-quiet [] fs s = refl
-  fields-quiet (name ∷ ws) fs s = builtin-quiet (called_by setting.devices name) name ws fs s
+  fields-quiet (name ∷ ws) fs s = builtin-quiet (called_by limits.devices name) name ws fs s
 
   for-quiet : (name : Text) (values : List Text) (body : Script) (fs : List Frame) (s : State) → IsQuiet s (begin_for name values body fs s)
   for-quiet name [] body fs s = refl
   for-quiet name (f ∷ values) body fs s = refl
 
   -- what a step that was begun leads to
-  counted_further : (s : State) (next : Next) → s.steps < setting.step_bound → IsQuiet (record s { steps = suc s.steps }) next → IsFurther s next
+  counted_further : (s : State) (next : Next) → s.steps < limits.step_bound → IsQuiet (record s { steps = suc s.steps }) next → IsFurther s next
   counted_further s (Go fs u) l q = (omega arith, omega arith)
   counted_further s (Ask r fs u) l q = (omega arith, omega arith)
   counted_further s (Stop ending u) l q = (omega arith, λ h. omega arith)
 
-  counted_at : (b : Bool) (s : State) (next : Next) → nat_lt s.steps setting.step_bound ≡ b → IsQuiet (record s { steps = suc s.steps }) next → IsFurther s (elim b [ true ↦ next | false ↦ Stop CutSteps s ])
-  counted_at true s next e q = counted_further s next (ltb-true s.steps setting.step_bound e) q
+  counted_at : (b : Bool) (s : State) (next : Next) → nat_lt s.steps limits.step_bound ≡ b → IsQuiet (record s { steps = suc s.steps }) next → IsFurther s (elim b [ true ↦ next | false ↦ Stop CutSteps s ])
+  counted_at true s next e q = counted_further s next (ltb-true s.steps limits.step_bound e) q
   counted_at false s next e q = (omega arith, λ h. h)
 
   -- a move begins a step, or comes closer to one
@@ -136,12 +136,12 @@ module _ (setting : Setting) where
   loop_progress until tree.Empty b last fs s p = absurd p
   loop_progress until (tree.Runs l ls) b last fs s p = inr (refl, refl, omega arith)
 
-  command_progress : (c : Command) (fs : List Frame) (s : State) → IsProperCommand c → Progress s (suc (command_depth c)) (begin_command setting c fs s)
-  command_progress (tree.Simple words) fs s p = let t : State = record s { steps = suc s.steps } in inl (counted_at (nat_lt s.steps setting.step_bound) s (fitting (fields (setting_in t.memory) words) (λ f. begin_fields setting f fs) t) refl (either-quiet t (nat_le (size (fields (setting_in t.memory) words)) most_bytes) (begin_fields setting (fields (setting_in t.memory) words) fs t) (Stop Size t) (fields-quiet (fields (setting_in t.memory) words) fs t) refl))
-  command_progress (tree.Assign pairs) fs s p = let t : State = record s { steps = suc s.steps } in inl (counted_at (nat_lt s.steps setting.step_bound) s (begin_assign pairs fs t) refl (assign-quiet pairs fs t t refl))
+  command_progress : (c : Command) (fs : List Frame) (s : State) → IsProperCommand c → Progress s (suc (command_depth c)) (begin_command limits c fs s)
+  command_progress (tree.Simple words) fs s p = let t : State = record s { steps = suc s.steps } in inl (counted_at (nat_lt s.steps limits.step_bound) s (fitting (fields (parameters_in t.memory) words) (λ f. begin_fields limits f fs) t) refl (either-quiet t (nat_le (size (fields (parameters_in t.memory) words)) most_bytes) (begin_fields limits (fields (parameters_in t.memory) words) fs t) (Stop Size t) (fields-quiet (fields (parameters_in t.memory) words) fs t) refl))
+  command_progress (tree.Assign pairs) fs s p = let t : State = record s { steps = suc s.steps } in inl (counted_at (nat_lt s.steps limits.step_bound) s (begin_assign pairs fs t) refl (assign-quiet pairs fs t t refl))
   command_progress (tree.If arms) fs s p = if_progress arms fs s p
   command_progress (tree.Loop until c b) fs s p = loop_progress until c b 0 fs s p.0
-  command_progress (tree.For name words body) fs s p = let t : State = record s { steps = suc s.steps } in inl (counted_at (nat_lt s.steps setting.step_bound) s (fitting (fields (setting_in t.memory) words) (λ f. begin_for name f body fs) t) refl (either-quiet t (nat_le (size (fields (setting_in t.memory) words)) most_bytes) (begin_for name (fields (setting_in t.memory) words) body fs t) (Stop Size t) (for-quiet name (fields (setting_in t.memory) words) body fs t) refl))
+  command_progress (tree.For name words body) fs s p = let t : State = record s { steps = suc s.steps } in inl (counted_at (nat_lt s.steps limits.step_bound) s (fitting (fields (parameters_in t.memory) words) (λ f. begin_for name f body fs) t) refl (either-quiet t (nat_le (size (fields (parameters_in t.memory) words)) most_bytes) (begin_for name (fields (parameters_in t.memory) words) body fs t) (Stop Size t) (for-quiet name (fields (parameters_in t.memory) words) body fs t) refl))
 
   tree_progress : (o : Option Script) (name : Text) (names : List Text) (fs : List Frame) (s : State) → Progress s (suc (tree_weight o (suc (names_weight s.memory.environment names (weight s.memory.environment fs) + weight s.memory.environment fs)))) (begin_tree o name names fs s)
   tree_progress None name names fs s = inr refl
@@ -161,15 +161,15 @@ module _ (setting : Setting) where
   looped (tree.Runs l ls) until b fs s p = inr (refl, refl, omega arith)
 
   -- THE MEASURE: each move begins a step, or leaves less to a step
-  pub move_progress : (fs : List Frame) (s : State) → AreProperFrames fs → Progress s (weight s.memory.environment fs) (move setting fs s)
+  pub move_progress : (fs : List Frame) (s : State) → AreProperFrames fs → Progress s (weight s.memory.environment fs) (move limits fs s)
   move_progress [] s p = inl (omega arith, λ h. h)
   move_progress (Lists tree.Empty ∷ fs) s p = inr (refl, refl, omega arith)
   move_progress (Lists (tree.Runs (tree.Starts c links) lists) ∷ fs) s p = command_progress c (Linked links ∷ Lists lists ∷ fs) s p.0.0.0
   move_progress (Linked tree.Alone ∷ fs) s p = inr (refl, refl, omega arith)
   move_progress (Linked (tree.Joins op c links) ∷ fs) s p =
       let m = weight s.memory.environment fs in
-      either_progress s (suc (command_depth c + links_weight links m)) (goes op s.memory.status) (begin_command setting c (Linked links ∷ fs) s) (Go (Linked links ∷ fs) s)
-      (progress_more s (suc (command_depth c)) (suc (command_depth c + links_weight links m)) (begin_command setting c (Linked links ∷ fs) s) (omega arith) (command_progress c (Linked links ∷ fs) s p.0.0))
+      either_progress s (suc (command_depth c + links_weight links m)) (goes op s.memory.status) (begin_command limits c (Linked links ∷ fs) s) (Go (Linked links ∷ fs) s)
+      (progress_more s (suc (command_depth c)) (suc (command_depth c + links_weight links m)) (begin_command limits c (Linked links ∷ fs) s) (omega arith) (command_progress c (Linked links ∷ fs) s p.0.0))
       (inr (refl, refl, omega arith))
   move_progress (IfCondition b arms ∷ fs) s p =
       let m = weight s.memory.environment fs in

@@ -2,7 +2,7 @@
 use Rattle.std.proofs.Common.{ℕ, ◌-◌, true, false, List, ◌∷◌, Option, Some, None, refl, sym, ap, ◌∙◌, ◌≡◌, nat_le}
 use Rattle.hushlang.specs.Tree as tree
 use Rattle.hushlang.specs.Tree.{AndOr, Command}
-use Rattle.hushlang.specs.View as view
+use Rattle.hushlang.specs.TreesShown as view
 use Rattle.std.specs.declared.alloc.Global.{Global}
 use Rattle.std.specs.declared.vec.Vec.{Vec}
 use Rattle.hushlang.specs.declared.tree.AndOr.{AndOr as ListCode}
@@ -14,16 +14,16 @@ use Rattle.bootstore.specs.declared.frame.At.{At}
 use Rattle.bootstore.specs.Moment.{RunningFrame}
 use Rattle.bootstore.specs.Record.{Record}
 use Rattle.rehearse.specs.Outcomes as outcomes
-use Rattle.rehearse.specs.State.{Text, state_at, setting_in}
-use Rattle.rehearse.specs.Execution.{Setting, Size}
+use Rattle.rehearse.specs.State.{Text, state_at, parameters_in}
+use Rattle.rehearse.specs.Execution.{Limits, Size}
 use Rattle.rehearse_machine.specs.declared.halt.Halt.TheVariants as halts
 use Rattle.rehearse_machine.specs.declared.ask.Step.TheVariants as steps
 use Rattle.rehearse_machine.specs.Places.{StopOn, list_at, command_in, command_at, place_fields}
-use Rattle.rehearse_machine.specs.Asking.{command_in_front, words_of, words_in_front, fields_again}
-use Rattle.rehearse_machine.specs.Variables.{setting_at}
-use Rattle.rehearse_machine.specs.Seen.{Does}
+use Rattle.rehearse_machine.specs.AskingCommand.{command_in_front, words_of, words_in_front, fields_again}
+use Rattle.rehearse_machine.specs.Variables.{parameters_at}
+use Rattle.rehearse_machine.specs.MovesShown.{Does}
 use Rattle.rehearse_machine.proofs.CommandLemmas.{says_if, says_loop, says_assign, says_for, Kind, AsSimple, AsAssign, AsIf, AsLoop, AsFor, kind_of}
-use Rattle.rehearse_machine.proofs.Settings.{same_setting}
+use Rattle.rehearse_machine.proofs.Settings.{same_parameters}
 use Rattle.rehearse_machine.proofs.ListLemmas.{back}
 use Rattle.rehearse_machine.proofs.Beginnings.{chosen, passed}
 
@@ -57,28 +57,28 @@ module _ (c : CommandCode) where
 
 -- ---- what its words come to
 
-module _ (setting : Setting) (old : Record) (f : RunningFrame) (fs : List RunningFrame) where
-  pub nothing_again : None ≡ words_in_front f → Does (steps.Ends (halts.End old.present.status)) old old (fields_again setting (words_in_front f) f fs)
-  nothing_again e = (λ w. ap (λ (o : Option (List tree.Word)). fields_again setting o f fs (state_at old.present w)) e, record { marked = refl; begun = refl })
+module _ (limits : Limits) (old : Record) (f : RunningFrame) (fs : List RunningFrame) where
+  pub nothing_again : None ≡ words_in_front f → Does (steps.Ends (halts.End old.present.status)) old old (fields_again limits (words_in_front f) f fs)
+  nothing_again e = (λ w. ap (λ (o : Option (List tree.Word)). fields_again limits o f fs (state_at old.present w)) e, record { marked = refl; begun = refl })
 
   module _ (words : List tree.Word) (in_front : Some words ≡ words_in_front f) where
-    again : (w : outcomes.Word) → fields_again setting (Some words) f fs (state_at old.present w) ≡ fields_again setting (words_in_front f) f fs (state_at old.present w)
-    again w = ap (λ (o : Option (List tree.Word)). fields_again setting o f fs (state_at old.present w)) in_front
+    again : (w : outcomes.OutcomeWord) → fields_again limits (Some words) f fs (state_at old.present w) ≡ fields_again limits (words_in_front f) f fs (state_at old.present w)
+    again w = ap (λ (o : Option (List tree.Word)). fields_again limits o f fs (state_at old.present w)) in_front
 
-    abbrev expanded : outcomes.Word → List Text
-    expanded w = fields (setting_in (state_at old.present w).memory) words
+    abbrev expanded : outcomes.OutcomeWord → List Text
+    expanded w = fields (parameters_in (state_at old.present w).memory) words
 
-    same_fields : (w : outcomes.Word) → fields (setting_at old.present) words ≡ expanded w
-    same_fields w = ap (λ (x : expansion.Setting). fields x words) (same_setting old.present w)
+    same_fields : (w : outcomes.OutcomeWord) → fields (parameters_at old.present) words ≡ expanded w
+    same_fields w = ap (λ (x : expansion.Parameters). fields x words) (same_parameters old.present w)
 
-    pub too_long_again : nat_le (size (fields (setting_at old.present) words)) most_bytes ≡ false → Does (steps.Ends halts.Size) old old (fields_again setting (words_in_front f) f fs)
+    pub too_long_again : nat_le (size (fields (parameters_at old.present) words)) most_bytes ≡ false → Does (steps.Ends halts.Size) old old (fields_again limits (words_in_front f) f fs)
     too_long_again h = (
-      λ w. passed (nat_le (size (expanded w)) most_bytes) (place_fields setting (expanded w) f.script (f ∷ fs) (state_at old.present w)) (StopOn Size (state_at old.present w)) (ap (λ (x : List Text). nat_le (size x) most_bytes) (sym (same_fields w)) ∙ h) ∙ again w,
+      λ w. passed (nat_le (size (expanded w)) most_bytes) (place_fields limits (expanded w) f.script (f ∷ fs) (state_at old.present w)) (StopOn Size (state_at old.present w)) (ap (λ (x : List Text). nat_le (size x) most_bytes) (sym (same_fields w)) ∙ h) ∙ again w,
       record { marked = refl; begun = refl },
     )
 
-    pub fields_found : (found : List Text) → found ≡ fields (setting_at old.present) words → nat_le (size (fields (setting_at old.present) words)) most_bytes ≡ true → (w : outcomes.Word) → place_fields setting found f.script (f ∷ fs) (state_at old.present w) ≡ fields_again setting (words_in_front f) f fs (state_at old.present w)
+    pub fields_found : (found : List Text) → found ≡ fields (parameters_at old.present) words → nat_le (size (fields (parameters_at old.present) words)) most_bytes ≡ true → (w : outcomes.OutcomeWord) → place_fields limits found f.script (f ∷ fs) (state_at old.present w) ≡ fields_again limits (words_in_front f) f fs (state_at old.present w)
     fields_found found e h w =
-        ap (λ (x : List Text). place_fields setting x f.script (f ∷ fs) (state_at old.present w)) (e ∙ same_fields w)
-        ∙ chosen (nat_le (size (expanded w)) most_bytes) (place_fields setting (expanded w) f.script (f ∷ fs) (state_at old.present w)) (StopOn Size (state_at old.present w)) (ap (λ (x : List Text). nat_le (size x) most_bytes) (sym (same_fields w)) ∙ h)
+        ap (λ (x : List Text). place_fields limits x f.script (f ∷ fs) (state_at old.present w)) (e ∙ same_fields w)
+        ∙ chosen (nat_le (size (expanded w)) most_bytes) (place_fields limits (expanded w) f.script (f ∷ fs) (state_at old.present w)) (StopOn Size (state_at old.present w)) (ap (λ (x : List Text). nat_le (size x) most_bytes) (sym (same_fields w)) ∙ h)
         ∙ again w

@@ -4,11 +4,11 @@ use Rattle.hushlang.specs.Tree as tree
 use Rattle.hushlang.specs.Tree.{Script, AndOr, Joined, Command, Arms}
 use Rattle.hushlang.specs.Expansion.{fields, size, most_bytes}
 use Rattle.rehearse.specs.Trees.{tree_of}
-use Rattle.rehearse.specs.State.{Text, get, State, setting_in}
+use Rattle.rehearse.specs.State.{Text, get, State, parameters_in}
 use Rattle.rehearse.specs.Builtins.{SetEnv, Run, Test, Echo, True, False, Leave}
 use Rattle.rehearse.specs.Commands.{Called, BuiltIn, NoCommand, Device, called_by}
 use Rattle.rehearse.specs.Proper.{IsProper, IsProperList, IsProperJoined, IsProperCommand, AreProperArms, IsBlock}
-use Rattle.rehearse.specs.Execution.{Setting, Answer, Normal, Exit, Ended, Dry, CutSteps, Syntax, Size, go_on, set_status, set_local, goes, holds, begin, text_end, run_text, run_all, command, simple, sized, turns, for_each, exec_script, exec_list, exec_joined, exec_command, exec_arms, exec}
+use Rattle.rehearse.specs.Execution.{Limits, Answer, Normal, Exit, Ended, Dry, CutSteps, Syntax, Size, go_on, set_status, set_local, goes, holds, begin, text_end, run_text, run_all, command, simple, sized, turns, for_each, exec_script, exec_list, exec_joined, exec_command, exec_arms, exec}
 use Rattle.rehearse.proofs.Growing.{AtLeast, Grew, AtLeast-track, Grew-block}
 use Rattle.rehearse.proofs.Keeping.{KeepsAll, after_condition, Keeps-script, Keeps-list, Keeps-one, Keeps-exec, Keeps-text}
 use Rattle.rehearse.proofs.ProperLemmas.{trees_are_proper}
@@ -30,8 +30,8 @@ pick b x y = elim b [ true ↦ x | false ↦ y ]
 abbrev pub tree_answer : (Script → State → Answer) → Option Script → Text → State → Answer
 tree_answer text o name t = elim o [ None ↦ Ended (Syntax name) t | Some a ↦ text a (elim a [ tree.Empty ↦ set_status 0 t | tree.Runs l ls ↦ t ]) ]
 
-abbrev named_answer : Setting → (Script → State → Answer) → Option Text → Text → (State → Answer) → State → Answer
-named_answer setting text o name f t = elim o [ None ↦ Normal (set_status 1 t) | Some v ↦ text_end (run_text setting text name v t) f ]
+abbrev named_answer : Limits → (Script → State → Answer) → Option Text → Text → (State → Answer) → State → Answer
+named_answer limits text o name f t = elim o [ None ↦ Normal (set_status 1 t) | Some v ↦ text_end (run_text limits text name v t) f ]
 
 pub same_if : (b : Bool) (x y u v : Answer) → x ≡ u → y ≡ v → pick b x y ≡ pick b u v
 same_if true x y u v e k = e
@@ -43,25 +43,25 @@ same_text_end n (Exit t) b f g l e h = rw (← e) (same_if (nat_eq t.memory.stat
 same_text_end n (Ended ending t) b f g l e h = rw (← e) refl
 same_text_end n (Dry t) b f g l e h = rw (← e) refl
 
-module _ (setting : Setting) where
-  module _ (n m : ℕ) (below : n ≤ m) (text text' : Script → State → Answer) (kept : (tree : Script) → KeepsAll setting (text tree)) (same : (tree : Script) → IsProper tree → (t : State) → setting.step_bound < n + t.steps → text tree t ≡ text' tree t) where
-    same_tree : (o : Option Script) (name : Text) → ((tree : Script) → o ≡ Some tree → IsProper tree) → (t : State) → setting.step_bound < n + t.steps → tree_answer text o name t ≡ tree_answer text' o name t
+module _ (limits : Limits) where
+  module _ (n m : ℕ) (below : n ≤ m) (text text' : Script → State → Answer) (kept : (tree : Script) → KeepsAll limits (text tree)) (same : (tree : Script) → IsProper tree → (t : State) → limits.step_bound < n + t.steps → text tree t ≡ text' tree t) where
+    same_tree : (o : Option Script) (name : Text) → ((tree : Script) → o ≡ Some tree → IsProper tree) → (t : State) → limits.step_bound < n + t.steps → tree_answer text o name t ≡ tree_answer text' o name t
     same_tree None name p t h = refl
     same_tree (Some tree.Empty) name p t h = same tree.Empty tt (set_status 0 t) h
     same_tree (Some (tree.Runs l ls)) name p t h = same (tree.Runs l ls) (p (tree.Runs l ls) refl) t h
 
-    same_text : (name v : Text) (t : State) → setting.step_bound < n + t.steps → run_text setting text name v t ≡ run_text setting text' name v t
+    same_text : (name v : Text) (t : State) → limits.step_bound < n + t.steps → run_text limits text name v t ≡ run_text limits text' name v t
     same_text name v t h = same_tree (tree_of v) name (trees_are_proper v) t h
 
-    same_named : (o : Option Text) (name : Text) (f g : State → Answer) (t : State) → setting.step_bound < n + t.steps → ((u : State) → t.steps ≤ u.steps → f u ≡ g u) → named_answer setting text o name f t ≡ named_answer setting text' o name g t
+    same_named : (o : Option Text) (name : Text) (f g : State → Answer) (t : State) → limits.step_bound < n + t.steps → ((u : State) → t.steps ≤ u.steps → f u ≡ g u) → named_answer limits text o name f t ≡ named_answer limits text' o name g t
     same_named None name f g t h k = refl
-    same_named (Some v) name f g t h k = same_text_end t.steps (run_text setting text name v t) (run_text setting text' name v t) f g (AtLeast-track setting.device_bound t (run_text setting text name v t) (Keeps-text setting text kept name v t).0) (same_text name v t h) k
+    same_named (Some v) name f g t h k = same_text_end t.steps (run_text limits text name v t) (run_text limits text' name v t) f g (AtLeast-track limits.device_bound t (run_text limits text name v t) (Keeps-text limits text kept name v t).0) (same_text name v t h) k
 
-    same_run : (names : List Text) (t : State) → setting.step_bound < n + t.steps → run_all setting text names t ≡ run_all setting text' names t
+    same_run : (names : List Text) (t : State) → limits.step_bound < n + t.steps → run_all limits text names t ≡ run_all limits text' names t
     same_run [] t h = refl
-    same_run (name ∷ names) t h = same_named (get t.memory.environment name) name (run_all setting text names) (run_all setting text' names) t h (λ u l. same_run names u (omega arith))
+    same_run (name ∷ names) t h = same_named (get t.memory.environment name) name (run_all limits text names) (run_all limits text' names) t h (λ u l. same_run names u (omega arith))
 
-    same_command : (b : Called) (name : Text) (ws : List Text) (t : State) → setting.step_bound < n + t.steps → command setting text b name ws t ≡ command setting text' b name ws t
+    same_command : (b : Called) (name : Text) (ws : List Text) (t : State) → limits.step_bound < n + t.steps → command limits text b name ws t ≡ command limits text' b name ws t
     same_command (BuiltIn SetEnv) name ws t h = refl
     same_command (BuiltIn Run) name [] t h = refl
     same_command (BuiltIn Run) name (w ∷ ws) t h = same_run (w ∷ ws) t h
@@ -73,70 +73,70 @@ module _ (setting : Setting) where
     same_command (Device effect) name ws t h = refl
     same_command NoCommand name ws t h = refl
 
-    same_simple : (fs : List Text) (t : State) → setting.step_bound < n + t.steps → simple setting text fs t ≡ simple setting text' fs t
+    same_simple : (fs : List Text) (t : State) → limits.step_bound < n + t.steps → simple limits text fs t ≡ simple limits text' fs t
     same_simple [] t h = refl
-    same_simple (name ∷ ws) t h = same_command (called_by setting.devices name) name ws t h
+    same_simple (name ∷ ws) t h = same_command (called_by limits.devices name) name ws t h
 
-    same_begin : (f g : State → Answer) (s : State) → setting.step_bound ≤ n + s.steps → ((t : State) → setting.step_bound < n + t.steps → f t ≡ g t) → begin setting f s ≡ begin setting g s
-    same_begin f g s h k = same_if (nat_lt s.steps setting.step_bound) (f (record s { steps = suc s.steps })) (Ended CutSteps s) (g (record s { steps = suc s.steps })) (Ended CutSteps s) (k (record s { steps = suc s.steps }) (omega arith)) refl
+    same_begin : (f g : State → Answer) (s : State) → limits.step_bound ≤ n + s.steps → ((t : State) → limits.step_bound < n + t.steps → f t ≡ g t) → begin limits f s ≡ begin limits g s
+    same_begin f g s h k = same_if (nat_lt s.steps limits.step_bound) (f (record s { steps = suc s.steps })) (Ended CutSteps s) (g (record s { steps = suc s.steps })) (Ended CutSteps s) (k (record s { steps = suc s.steps }) (omega arith)) refl
 
     same_sized : (fs : List Text) (f g : List Text → State → Answer) (t : State) → f fs t ≡ g fs t → sized fs f t ≡ sized fs g t
     same_sized fs f g t e = same_if (nat_le (size fs) most_bytes) (f fs t) (Ended Size t) (g fs t) (Ended Size t) e refl
 
-    pub same_turns : (k j : ℕ) → k ≤ j → (until : Bool) (c c' b b' : State → Answer) → ((t : State) → setting.step_bound ≤ n + t.steps → c t ≡ c' t) → ((t : State) → setting.step_bound ≤ n + t.steps → b t ≡ b' t) → ((t : State) → Grew t.steps (c t)) → KeepsAll setting b → ((t : State) → setting.step_bound ≤ t.steps → c' t ≡ Ended CutSteps t) → (last : ℕ) (s : State) → setting.step_bound ≤ k + s.steps → setting.step_bound ≤ n + s.steps → turns k until c b last s ≡ turns j until c' b' last s
-    same_turns zero j le until c c' b b' ec eb grew kb cut last s h l = sym (Cut-turns setting m text' j until c' b' last s (cut s (omega arith)))
+    pub same_turns : (k j : ℕ) → k ≤ j → (until : Bool) (c c' b b' : State → Answer) → ((t : State) → limits.step_bound ≤ n + t.steps → c t ≡ c' t) → ((t : State) → limits.step_bound ≤ n + t.steps → b t ≡ b' t) → ((t : State) → Grew t.steps (c t)) → KeepsAll limits b → ((t : State) → limits.step_bound ≤ t.steps → c' t ≡ Ended CutSteps t) → (last : ℕ) (s : State) → limits.step_bound ≤ k + s.steps → limits.step_bound ≤ n + s.steps → turns k until c b last s ≡ turns j until c' b' last s
+    same_turns zero j le until c c' b b' ec eb grew kb cut last s h l = sym (Cut-turns limits m text' j until c' b' last s (cut s (omega arith)))
     same_turns (suc k) zero le until c c' b b' ec eb grew kb cut last s h l = absurd (omega arith)
     same_turns (suc k) (suc j) le until c c' b b' ec eb grew kb cut last s h l =
-        same_go_on (suc s.steps) (c s) (c' s) (after_condition setting until b (λ u. turns k until c b u.memory.status u) last) (after_condition setting until b' (λ u. turns j until c' b' u.memory.status u) last) (grew s) (ec s l)
+        same_go_on (suc s.steps) (c s) (c' s) (after_condition limits until b (λ u. turns k until c b u.memory.status u) last) (after_condition limits until b' (λ u. turns j until c' b' u.memory.status u) last) (grew s) (ec s l)
         (λ t g. same_if (holds until t.memory.status) (go_on (b t) (λ u. turns k until c b u.memory.status u)) (Normal (set_status last t)) (go_on (b' t) (λ u. turns j until c' b' u.memory.status u)) (Normal (set_status last t))
-        (same_go_on t.steps (b t) (b' t) (λ u. turns k until c b u.memory.status u) (λ u. turns j until c' b' u.memory.status u) (AtLeast-track setting.device_bound t (b t) (kb t).0) (eb t (omega arith)) (λ u r. same_turns k j (omega arith) until c c' b b' ec eb grew kb cut u.memory.status u (omega arith) (omega arith)))
+        (same_go_on t.steps (b t) (b' t) (λ u. turns k until c b u.memory.status u) (λ u. turns j until c' b' u.memory.status u) (AtLeast-track limits.device_bound t (b t) (kb t).0) (eb t (omega arith)) (λ u r. same_turns k j (omega arith) until c c' b b' ec eb grew kb cut u.memory.status u (omega arith) (omega arith)))
         refl)
 
-    same_for : (name : Text) (b b' : State → Answer) → ((t : State) → setting.step_bound ≤ n + t.steps → b t ≡ b' t) → KeepsAll setting b → (last : ℕ) (fs : List Text) (s : State) → setting.step_bound ≤ n + s.steps → for_each name b last fs s ≡ for_each name b' last fs s
+    same_for : (name : Text) (b b' : State → Answer) → ((t : State) → limits.step_bound ≤ n + t.steps → b t ≡ b' t) → KeepsAll limits b → (last : ℕ) (fs : List Text) (s : State) → limits.step_bound ≤ n + s.steps → for_each name b last fs s ≡ for_each name b' last fs s
     same_for name b b' eb kb last [] s l = refl
-    same_for name b b' eb kb last (f ∷ fs) s l = same_go_on s.steps (b (set_local name f s)) (b' (set_local name f s)) (λ t. for_each name b t.memory.status fs t) (λ t. for_each name b' t.memory.status fs t) (AtLeast-track setting.device_bound (set_local name f s) (b (set_local name f s)) (kb (set_local name f s)).0) (eb (set_local name f s) l) (λ t r. same_for name b b' eb kb t.memory.status fs t (omega arith))
+    same_for name b b' eb kb last (f ∷ fs) s l = same_go_on s.steps (b (set_local name f s)) (b' (set_local name f s)) (λ t. for_each name b t.memory.status fs t) (λ t. for_each name b' t.memory.status fs t) (AtLeast-track limits.device_bound (set_local name f s) (b (set_local name f s)) (kb (set_local name f s)).0) (eb (set_local name f s) l) (λ t r. same_for name b b' eb kb t.memory.status fs t (omega arith))
 
     mutual
-      pub same_script : (a : Script) → IsProper a → (s : State) → setting.step_bound ≤ n + s.steps → exec_script setting n text a s ≡ exec_script setting m text' a s
+      pub same_script : (a : Script) → IsProper a → (s : State) → limits.step_bound ≤ n + s.steps → exec_script limits n text a s ≡ exec_script limits m text' a s
       same_script tree.Empty p s h = refl
-      same_script (tree.Runs l ls) p s h = same_go_on s.steps (exec_list setting n text l s) (exec_list setting m text' l s) (exec_script setting n text ls) (exec_script setting m text' ls) (AtLeast-track setting.device_bound s (exec_list setting n text l s) (Keeps-list setting n text kept l s).0) (same_list l p.0 s h) (λ t r. same_script ls p.1 t (omega arith))
+      same_script (tree.Runs l ls) p s h = same_go_on s.steps (exec_list limits n text l s) (exec_list limits m text' l s) (exec_script limits n text ls) (exec_script limits m text' ls) (AtLeast-track limits.device_bound s (exec_list limits n text l s) (Keeps-list limits n text kept l s).0) (same_list l p.0 s h) (λ t r. same_script ls p.1 t (omega arith))
 
-      same_list : (a : AndOr) → IsProperList a → (s : State) → setting.step_bound ≤ n + s.steps → exec_list setting n text a s ≡ exec_list setting m text' a s
-      same_list (tree.Starts c links) p s h = same_go_on s.steps (exec_command setting n text c s) (exec_command setting m text' c s) (exec_joined setting n text links) (exec_joined setting m text' links) (AtLeast-track setting.device_bound s (exec_command setting n text c s) (Keeps-one setting n text kept c s).0) (same_one c p.0 s h) (λ t r. same_links links p.1 t (omega arith))
+      same_list : (a : AndOr) → IsProperList a → (s : State) → limits.step_bound ≤ n + s.steps → exec_list limits n text a s ≡ exec_list limits m text' a s
+      same_list (tree.Starts c links) p s h = same_go_on s.steps (exec_command limits n text c s) (exec_command limits m text' c s) (exec_joined limits n text links) (exec_joined limits m text' links) (AtLeast-track limits.device_bound s (exec_command limits n text c s) (Keeps-one limits n text kept c s).0) (same_one c p.0 s h) (λ t r. same_links links p.1 t (omega arith))
 
-      same_links : (a : Joined) → IsProperJoined a → (s : State) → setting.step_bound ≤ n + s.steps → exec_joined setting n text a s ≡ exec_joined setting m text' a s
+      same_links : (a : Joined) → IsProperJoined a → (s : State) → limits.step_bound ≤ n + s.steps → exec_joined limits n text a s ≡ exec_joined limits m text' a s
       same_links tree.Alone p s h = refl
-      same_links (tree.Joins op c links) p s h = same_if (goes op s.memory.status) (go_on (exec_command setting n text c s) (exec_joined setting n text links)) (exec_joined setting n text links s) (go_on (exec_command setting m text' c s) (exec_joined setting m text' links)) (exec_joined setting m text' links s)
-          (same_go_on s.steps (exec_command setting n text c s) (exec_command setting m text' c s) (exec_joined setting n text links) (exec_joined setting m text' links) (AtLeast-track setting.device_bound s (exec_command setting n text c s) (Keeps-one setting n text kept c s).0) (same_one c p.0 s h) (λ t r. same_links links p.1 t (omega arith)))
+      same_links (tree.Joins op c links) p s h = same_if (goes op s.memory.status) (go_on (exec_command limits n text c s) (exec_joined limits n text links)) (exec_joined limits n text links s) (go_on (exec_command limits m text' c s) (exec_joined limits m text' links)) (exec_joined limits m text' links s)
+          (same_go_on s.steps (exec_command limits n text c s) (exec_command limits m text' c s) (exec_joined limits n text links) (exec_joined limits m text' links) (AtLeast-track limits.device_bound s (exec_command limits n text c s) (Keeps-one limits n text kept c s).0) (same_one c p.0 s h) (λ t r. same_links links p.1 t (omega arith)))
           (same_links links p.1 s h)
 
-      same_one : (a : Command) → IsProperCommand a → (s : State) → setting.step_bound ≤ n + s.steps → exec_command setting n text a s ≡ exec_command setting m text' a s
-      same_one (tree.Simple words) p s h = same_begin (λ t. sized (fields (setting_in t.memory) words) (simple setting text) t) (λ t. sized (fields (setting_in t.memory) words) (simple setting text') t) s h (λ t r. same_sized (fields (setting_in t.memory) words) (simple setting text) (simple setting text') t (same_simple (fields (setting_in t.memory) words) t r))
+      same_one : (a : Command) → IsProperCommand a → (s : State) → limits.step_bound ≤ n + s.steps → exec_command limits n text a s ≡ exec_command limits m text' a s
+      same_one (tree.Simple words) p s h = same_begin (λ t. sized (fields (parameters_in t.memory) words) (simple limits text) t) (λ t. sized (fields (parameters_in t.memory) words) (simple limits text') t) s h (λ t r. same_sized (fields (parameters_in t.memory) words) (simple limits text) (simple limits text') t (same_simple (fields (parameters_in t.memory) words) t r))
       same_one (tree.Assign pairs) p s h = refl
       same_one (tree.If arms) p s h = same_if_arms arms p s h
-      same_one (tree.Loop until c b) p s h = same_turns n m below until (exec_script setting n text c) (exec_script setting m text' c) (exec_script setting n text b) (exec_script setting m text' b) (same_script c (block_proper c p.0)) (same_script b (block_proper b p.1)) (Grew-block setting n text kept c p.0) (Keeps-script setting n text kept b) (Cut-block setting m text' c p.0) 0 s h h
-      same_one (tree.For name words b) p s h = same_begin (λ t. sized (fields (setting_in t.memory) words) (for_each name (exec_script setting n text b) 0) t) (λ t. sized (fields (setting_in t.memory) words) (for_each name (exec_script setting m text' b) 0) t) s h (λ t r. same_sized (fields (setting_in t.memory) words) (for_each name (exec_script setting n text b) 0) (for_each name (exec_script setting m text' b) 0) t (same_for name (exec_script setting n text b) (exec_script setting m text' b) (same_script b (block_proper b p)) (Keeps-script setting n text kept b) 0 (fields (setting_in t.memory) words) t (omega arith)))
+      same_one (tree.Loop until c b) p s h = same_turns n m below until (exec_script limits n text c) (exec_script limits m text' c) (exec_script limits n text b) (exec_script limits m text' b) (same_script c (block_proper c p.0)) (same_script b (block_proper b p.1)) (Grew-block limits n text kept c p.0) (Keeps-script limits n text kept b) (Cut-block limits m text' c p.0) 0 s h h
+      same_one (tree.For name words b) p s h = same_begin (λ t. sized (fields (parameters_in t.memory) words) (for_each name (exec_script limits n text b) 0) t) (λ t. sized (fields (parameters_in t.memory) words) (for_each name (exec_script limits m text' b) 0) t) s h (λ t r. same_sized (fields (parameters_in t.memory) words) (for_each name (exec_script limits n text b) 0) (for_each name (exec_script limits m text' b) 0) t (same_for name (exec_script limits n text b) (exec_script limits m text' b) (same_script b (block_proper b p)) (Keeps-script limits n text kept b) 0 (fields (parameters_in t.memory) words) t (omega arith)))
 
-      same_if_arms : (a : Arms) → IsProperCommand (tree.If a) → (s : State) → setting.step_bound ≤ n + s.steps → exec_arms setting n text a s ≡ exec_arms setting m text' a s
-      same_if_arms (tree.Arm c b arms) p s h = same_go_on s.steps (exec_script setting n text c s) (exec_script setting m text' c s) (λ t. elim (nat_eq t.memory.status 0) [ true ↦ exec_script setting n text b t | false ↦ exec_arms setting n text arms t ]) (λ t. elim (nat_eq t.memory.status 0) [ true ↦ exec_script setting m text' b t | false ↦ exec_arms setting m text' arms t ]) (AtLeast-track setting.device_bound s (exec_script setting n text c s) (Keeps-script setting n text kept c s).0) (same_script c (block_proper c p.0) s h) (λ t r. same_if (nat_eq t.memory.status 0) (exec_script setting n text b t) (exec_arms setting n text arms t) (exec_script setting m text' b t) (exec_arms setting m text' arms t) (same_script b (block_proper b p.1) t (omega arith)) (same_arms arms p.2 t (omega arith)))
+      same_if_arms : (a : Arms) → IsProperCommand (tree.If a) → (s : State) → limits.step_bound ≤ n + s.steps → exec_arms limits n text a s ≡ exec_arms limits m text' a s
+      same_if_arms (tree.Arm c b arms) p s h = same_go_on s.steps (exec_script limits n text c s) (exec_script limits m text' c s) (λ t. elim (nat_eq t.memory.status 0) [ true ↦ exec_script limits n text b t | false ↦ exec_arms limits n text arms t ]) (λ t. elim (nat_eq t.memory.status 0) [ true ↦ exec_script limits m text' b t | false ↦ exec_arms limits m text' arms t ]) (AtLeast-track limits.device_bound s (exec_script limits n text c s) (Keeps-script limits n text kept c s).0) (same_script c (block_proper c p.0) s h) (λ t r. same_if (nat_eq t.memory.status 0) (exec_script limits n text b t) (exec_arms limits n text arms t) (exec_script limits m text' b t) (exec_arms limits m text' arms t) (same_script b (block_proper b p.1) t (omega arith)) (same_arms arms p.2 t (omega arith)))
       same_if_arms (tree.Else b) p s h = absurd p
       same_if_arms tree.NoElse p s h = absurd p
 
-      same_arms : (a : Arms) → AreProperArms a → (s : State) → setting.step_bound ≤ n + s.steps → exec_arms setting n text a s ≡ exec_arms setting m text' a s
-      same_arms (tree.Arm c b arms) p s h = same_go_on s.steps (exec_script setting n text c s) (exec_script setting m text' c s) (λ t. elim (nat_eq t.memory.status 0) [ true ↦ exec_script setting n text b t | false ↦ exec_arms setting n text arms t ]) (λ t. elim (nat_eq t.memory.status 0) [ true ↦ exec_script setting m text' b t | false ↦ exec_arms setting m text' arms t ]) (AtLeast-track setting.device_bound s (exec_script setting n text c s) (Keeps-script setting n text kept c s).0) (same_script c (block_proper c p.0) s h) (λ t r. same_if (nat_eq t.memory.status 0) (exec_script setting n text b t) (exec_arms setting n text arms t) (exec_script setting m text' b t) (exec_arms setting m text' arms t) (same_script b (block_proper b p.1) t (omega arith)) (same_arms arms p.2 t (omega arith)))
+      same_arms : (a : Arms) → AreProperArms a → (s : State) → limits.step_bound ≤ n + s.steps → exec_arms limits n text a s ≡ exec_arms limits m text' a s
+      same_arms (tree.Arm c b arms) p s h = same_go_on s.steps (exec_script limits n text c s) (exec_script limits m text' c s) (λ t. elim (nat_eq t.memory.status 0) [ true ↦ exec_script limits n text b t | false ↦ exec_arms limits n text arms t ]) (λ t. elim (nat_eq t.memory.status 0) [ true ↦ exec_script limits m text' b t | false ↦ exec_arms limits m text' arms t ]) (AtLeast-track limits.device_bound s (exec_script limits n text c s) (Keeps-script limits n text kept c s).0) (same_script c (block_proper c p.0) s h) (λ t r. same_if (nat_eq t.memory.status 0) (exec_script limits n text b t) (exec_arms limits n text arms t) (exec_script limits m text' b t) (exec_arms limits m text' arms t) (same_script b (block_proper b p.1) t (omega arith)) (same_arms arms p.2 t (omega arith)))
       same_arms (tree.Else b) p s h = same_script b (block_proper b p) s h
       same_arms tree.NoElse p s h = refl
 
   -- more steps than are left make no difference
-  pub same_exec : (n m : ℕ) → n ≤ m → (a : Script) → IsProper a → (s : State) → setting.step_bound ≤ n + s.steps → exec setting n a s ≡ exec setting m a s
+  pub same_exec : (n m : ℕ) → n ≤ m → (a : Script) → IsProper a → (s : State) → limits.step_bound ≤ n + s.steps → exec limits n a s ≡ exec limits m a s
   same_exec zero zero le a p s h = refl
   same_exec zero (suc m) le tree.Empty p s h = refl
-  same_exec zero (suc m) le (tree.Runs l ls) p s h = Cut-block setting zero (λ b t. Ended CutSteps t) (tree.Runs l ls) p s (omega arith) ∙ sym (Cut-block setting (suc m) (exec setting m) (tree.Runs l ls) p s (omega arith))
+  same_exec zero (suc m) le (tree.Runs l ls) p s h = Cut-block limits zero (λ b t. Ended CutSteps t) (tree.Runs l ls) p s (omega arith) ∙ sym (Cut-block limits (suc m) (exec limits m) (tree.Runs l ls) p s (omega arith))
   same_exec (suc n) zero le a p s h = absurd (omega arith)
-  same_exec (suc n) (suc m) le a p s h = same_script (suc n) (suc m) le (exec setting n) (exec setting m) (Keeps-exec setting n) (λ tree q t r. same_exec n m (omega arith) tree q t (omega arith)) a p s h
+  same_exec (suc n) (suc m) le a p s h = same_script (suc n) (suc m) le (exec limits n) (exec limits m) (Keeps-exec limits n) (λ tree q t r. same_exec n m (omega arith) tree q t (omega arith)) a p s h
 
   -- so a text that is run means what the script means
-  pub closed_exec : (n : ℕ) (a : Script) → IsProper a → (s : State) → setting.step_bound ≤ n + s.steps → exec setting n a s ≡ exec_script setting n (exec setting n) a s
+  pub closed_exec : (n : ℕ) (a : Script) → IsProper a → (s : State) → limits.step_bound ≤ n + s.steps → exec limits n a s ≡ exec_script limits n (exec limits n) a s
   closed_exec zero tree.Empty p s h = refl
-  closed_exec zero (tree.Runs l ls) p s h = Cut-block setting zero (λ b t. Ended CutSteps t) (tree.Runs l ls) p s (omega arith) ∙ sym (Cut-block setting zero (exec setting zero) (tree.Runs l ls) p s (omega arith))
-  closed_exec (suc n) a p s h = same_script (suc n) (suc n) (omega arith) (exec setting n) (exec setting (suc n)) (Keeps-exec setting n) (λ tree q t r. same_exec n (suc n) (omega arith) tree q t (omega arith)) a p s h
+  closed_exec zero (tree.Runs l ls) p s h = Cut-block limits zero (λ b t. Ended CutSteps t) (tree.Runs l ls) p s (omega arith) ∙ sym (Cut-block limits zero (exec limits zero) (tree.Runs l ls) p s (omega arith))
+  closed_exec (suc n) a p s h = same_script (suc n) (suc n) (omega arith) (exec limits n) (exec limits (suc n)) (Keeps-exec limits n) (λ tree q t r. same_exec n (suc n) (omega arith) tree q t (omega arith)) a p s h

@@ -5,21 +5,21 @@ use Rattle.std.proofs.Math.Dec.{eqb, eqb-suc-zero}
 use Rattle.std.specs.FinMap as finite
 use Rattle.std.specs.FinMap.{entries}
 use Rattle.hushlang.specs.Tree.{Script}
-use Rattle.hushlang.specs.View as view
+use Rattle.hushlang.specs.TreesShown as view
 use Rattle.hushlang.specs.declared.tree.AndOr.{AndOr as ListCode}
 use Rattle.hushlang.specs.declared.tree.Script.{Script as Code, out-Script}
 use Rattle.bootstore.specs.declared.store.StoreError.{StoreError}
 use Rattle.bootstore.specs.declared.frame.At.{At}
 use Rattle.bootstore.specs.Moment.{RunningFrame}
 use Rattle.bootstore.specs.Record.{Record, changed, with_status, without_frame}
-use Rattle.rehearse.specs.Outcomes.{Word}
+use Rattle.rehearse.specs.Outcomes.{OutcomeWord}
 use Rattle.rehearse.specs.Trees.{tree_of}
 use Rattle.rehearse.specs.State.{Text, State, get, state_at}
 use Rattle.rehearse.specs.Execution.{set_status, Syntax}
 use Rattle.rehearse.proofs.StateLemmas.{stored_values}
 use Rattle.rehearse_machine.specs.Frames.{begun_text}
 use Rattle.rehearse_machine.specs.Places.{PlaceNext, GoOn, StopOn, place, moved_to, in_turn, text_frame, place_name, place_text, place_tree}
-use Rattle.rehearse_machine.specs.Seen.{under, Keeps, Does, Comes}
+use Rattle.rehearse_machine.specs.MovesShown.{under, Keeps, Does, Comes}
 use Rattle.rehearse_machine.specs.declared.ask.Step.{Step}
 use Rattle.rehearse_machine.specs.declared.ask.Step.TheVariants as steps
 use Rattle.rehearse_machine.proofs.Coming.{comes_at, comes_as, comes_after, keeps_change}
@@ -65,7 +65,7 @@ module _ (old : Record) (f : RunningFrame) (name bytes : Text) (found : slice_ge
   abbrev named : State → PlaceNext
   named = place_name (slice_get f.words f.place.turn) f (under old.present)
 
-  with_text : (o : Option Text) (w : Word) → o ≡ finite.get old.present.environment bytes → place_text o name f (under old.present) (state_at old.present w) ≡ named (state_at old.present w)
+  with_text : (o : Option Text) (w : OutcomeWord) → o ≡ finite.get old.present.environment bytes → place_text o name f (under old.present) (state_at old.present w) ≡ named (state_at old.present w)
   with_text o w e =
       sym (ap (λ (x : Option Text). place_name x f (under old.present) (state_at old.present w)) found
       ∙ ap (λ (x : Option Text). place_text x name f (under old.present) (state_at old.present w)) (value_is o e))
@@ -75,7 +75,7 @@ module _ (old : Record) (f : RunningFrame) (name bytes : Text) (found : slice_ge
       subst (λ (x : Record). Does steps.Going old x named) (sym (d ∙ ap (changed (with_status 1)) e))
       (λ w. with_text None w none, record { marked = refl; begun = omega arith })
 
-  pub no_script : (copy text : Text) → copy ≡ name → Some text ≡ finite.get old.present.environment bytes → tree_of text ≡ None → (w : Word) → StopOn (Syntax copy) (state_at old.present w) ≡ named (state_at old.present w)
+  pub no_script : (copy text : Text) → copy ≡ name → Some text ≡ finite.get old.present.environment bytes → tree_of text ≡ None → (w : OutcomeWord) → StopOn (Syntax copy) (state_at old.present w) ≡ named (state_at old.present w)
   no_script copy text c e t w =
       ap (λ (x : Text). StopOn (Syntax x) (state_at old.present w)) c
       ∙ sym (ap (λ (x : Option Script). place_tree x name f (under old.present) (state_at old.present w)) t)

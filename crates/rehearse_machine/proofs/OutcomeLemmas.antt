@@ -7,14 +7,14 @@ use Rattle.std.specs.declared.alloc.Global.{Global}
 use Rattle.hushlang.proofs.ExpandLemmas.{drop_next}
 use Rattle.bootstore.specs.Moment.{LoggedCommand, RunningFrame}
 use Rattle.bootstore.specs.Record.{Record, changed, with_environment, with_device, with_status}
-use Rattle.rehearse.specs.Outcomes.{Word, Outcome, Success, Failure}
+use Rattle.rehearse.specs.Outcomes.{OutcomeWord, Outcome, Success, Failure}
 use Rattle.rehearse.specs.DevicesShown.{setting_shown}
 use Rattle.rehearse.specs.State.{Text, Variables, State, state_at}
 use Rattle.rehearse.specs.Execution.{Request, Booted, remember, succeeds, status_when, logged, with_all, set_environment}
 use Rattle.rehearse.proofs.StateLemmas.{stored_changes}
 use Rattle.rehearse_machine.specs.declared.ask.Step.{Step}
 use Rattle.rehearse_machine.specs.Places.{GoOn, StopOn, place_boot, place_answered}
-use Rattle.rehearse_machine.specs.Seen.{Keeps, Changes, Does, next_seen}
+use Rattle.rehearse_machine.specs.MovesShown.{Keeps, Changes, Does, next_shown}
 use Rattle.rehearse_machine.proofs.Coming.{keeps_both, keeps_change}
 
 abbrev pub Pair : Type 0
@@ -26,7 +26,7 @@ sets_of = map setting_shown
 -- the first i of the variables are set
 pub record AreSet (sets : List Pair) (i : ℕ) (old now : Record) : Type 0 where
   pub same : with_all (sets_of (drop i sets)) (entries now.present.environment) ≡ with_all (sets_of sets) (entries old.present.environment)
-  pub others : (w : Word) → state_at now.present w ≡ remember (λ m. record m { environment = entries now.present.environment }) (state_at old.present w)
+  pub others : (w : OutcomeWord) → state_at now.present w ≡ remember (λ m. record m { environment = entries now.present.environment }) (state_at old.present w)
   pub frames : now.present.frames ≡ old.present.frames
   pub kept : Keeps old now
 
@@ -65,7 +65,7 @@ module _ (outcome : Outcome) (request : Request) (old mid late : Record) (entry 
   late_is : late ≡ changed (with_status (status_when (succeeds outcome))) (changed (with_device (record { success = succeeds outcome; words = request.name ∷ request.words })) old)
   late_is = status ∙ ap (λ (x : ℕ). changed (with_status x) mid) code ∙ ap (changed (with_status (status_when (succeeds outcome)))) (device ∙ ap (λ (x : LoggedCommand). changed (with_device x) old) entry_is)
 
-  pub logged_state : (w : Word) → state_at late.present w ≡ logged outcome request (state_at old.present w)
+  pub logged_state : (w : OutcomeWord) → state_at late.present w ≡ logged outcome request (state_at old.present w)
   logged_state w = ap (λ (x : Record). state_at x.present w) late_is
 
   pub logged_frames : late.present.frames ≡ old.present.frames
@@ -91,7 +91,7 @@ stayed true name ps s e = absurd (let f = e in cc)
 stayed false name ps s e = refl
 
 -- what a success does, once it is logged
-pub success_does : (outcome : Outcome) (request : Request) (step : Step) (old late new : Record) (sets : List (Text × Text)) → sets ≡ request.effect.sets → succeeds outcome ≡ true → ((w : Word) → state_at late.present w ≡ logged outcome request (state_at old.present w)) → late.present.frames ≡ old.present.frames → Keeps old late → Changes late new (λ m. record m { environment = with_all sets m.environment }) → ((w : Word) → next_seen step new.present w ≡ place_boot request.effect.ends request.name new.present.frames (state_at new.present w)) → Does step old new (place_answered outcome request old.present.frames)
+pub success_does : (outcome : Outcome) (request : Request) (step : Step) (old late new : Record) (sets : List (Text × Text)) → sets ≡ request.effect.sets → succeeds outcome ≡ true → ((w : OutcomeWord) → state_at late.present w ≡ logged outcome request (state_at old.present w)) → late.present.frames ≡ old.present.frames → Keeps old late → Changes late new (λ m. record m { environment = with_all sets m.environment }) → ((w : OutcomeWord) → next_shown step new.present w ≡ place_boot request.effect.ends request.name new.present.frames (state_at new.present w)) → Does step old new (place_answered outcome request old.present.frames)
 success_does outcome request step old late new sets s e here frames keeps changes does = (
   λ w. does w
       ∙ ap (λ (x : List RunningFrame). place_boot request.effect.ends request.name x (state_at new.present w)) (changes.1 ∙ frames)

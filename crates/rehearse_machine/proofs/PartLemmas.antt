@@ -10,12 +10,12 @@ use Rattle.hushlang.specs.declared.tree.Command.{Command as CommandCode, Simple,
 use Rattle.hushlang.specs.declared.tree.Script.{Script as Code, out-Script}
 use Rattle.hushlang.specs.Tree as tree
 use Rattle.hushlang.specs.Tree.{Script, AndOr, Command}
-use Rattle.hushlang.specs.View as view
+use Rattle.hushlang.specs.TreesShown as view
 use Rattle.hushlang.proofs.ViewLemmas.{script_out, list_of}
 use Rattle.bootstore.specs.declared.frame.At.{At}
 use Rattle.bootstore.specs.Moment.{RunningFrame}
 use Rattle.rehearse.specs.State.{Text, State}
-use Rattle.rehearse.specs.Execution.{Setting}
+use Rattle.rehearse.specs.Execution.{Limits}
 use Rattle.rehearse_machine.specs.Places.{GoOn, list_at, command_in, command_at, second, place_begins, place_turn, place_list, phase_move, for_turn, for_move}
 use Rattle.rehearse_machine.proofs.ArmLemmas.{Arm}
 use Rattle.rehearse_machine.proofs.CommandLemmas.{says_if, says_loop, says_simple, says_assign, says_for, Kind, AsSimple, AsAssign, AsIf, AsLoop, AsFor, kind_of}
@@ -70,15 +70,15 @@ module _ (l : ListCode) (o : Option AndOr) (at : At) (f : RunningFrame) (found :
   pub command_there : (c : Option Command) → c ≡ command_in (view.list l) at.command → command_at o f.place.command ≡ c
   command_there c e = ap (λ (x : Option AndOr). command_at x f.place.command) found ∙ command_here c e
 
-  pub list_goes : (setting : Setting) (fs : List RunningFrame) → at.turn ≡ 0 → (s : State) → place_begins setting (view.list l) f.place.command f fs s ≡ place_list setting o f fs s
-  list_goes setting fs z s =
-      sym (ap (λ (x : Option AndOr). place_list setting x f fs s) found
-      ∙ ap (λ (n : ℕ). place_turn setting (view.list l) n f fs s) (ap (λ (x : At). x.turn) (sym here) ∙ z))
+  pub list_goes : (limits : Limits) (fs : List RunningFrame) → at.turn ≡ 0 → (s : State) → place_begins limits (view.list l) f.place.command f fs s ≡ place_list limits o f fs s
+  list_goes limits fs z s =
+      sym (ap (λ (x : Option AndOr). place_list limits x f fs s) found
+      ∙ ap (λ (n : ℕ). place_turn limits (view.list l) n f fs s) (ap (λ (x : At). x.turn) (sym here) ∙ z))
 
-  pub block_ends : (setting : Setting) (fs : List RunningFrame) (c : Option Command) → (at.turn ≡ 0 → ⊥) → c ≡ command_in (view.list l) at.command → (s : State) → phase_move c (at.turn - 1) f fs s ≡ place_list setting o f fs s
-  block_ends setting fs c h e s =
-      sym (ap (λ (x : Option AndOr). place_list setting x f fs s) found
-      ∙ ap (λ (n : ℕ). place_turn setting (view.list l) n f fs s) (ap (λ (x : At). x.turn) (sym here) ∙ back at.turn h)
+  pub block_ends : (limits : Limits) (fs : List RunningFrame) (c : Option Command) → (at.turn ≡ 0 → ⊥) → c ≡ command_in (view.list l) at.command → (s : State) → phase_move c (at.turn - 1) f fs s ≡ place_list limits o f fs s
+  block_ends limits fs c h e s =
+      sym (ap (λ (x : Option AndOr). place_list limits x f fs s) found
+      ∙ ap (λ (n : ℕ). place_turn limits (view.list l) n f fs s) (ap (λ (x : At). x.turn) (sym here) ∙ back at.turn h)
       ∙ ap (λ (x : Option Command). phase_move x (at.turn - 1) f fs s) (command_here c e))
 
 module _ (o : Option Command) (c : CommandCode) (f : RunningFrame) (fs : List RunningFrame) (s : State) (found : o ≡ Some (view.command c)) where

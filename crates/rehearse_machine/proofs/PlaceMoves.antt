@@ -13,11 +13,11 @@ use Rattle.bootstore.specs.Moment.{RunningFrame}
 use Rattle.bootstore.specs.Record.{without_first}
 use Rattle.rehearse.specs.Outcomes.{Outcome, Success, Failure}
 use Rattle.rehearse.specs.Trees.{tree_of}
-use Rattle.rehearse.specs.State.{Text, get, State, setting_in}
+use Rattle.rehearse.specs.State.{Text, get, State, parameters_in}
 use Rattle.rehearse.specs.Verdict.{verdict}
 use Rattle.rehearse.specs.Builtins.{SetEnv, Run, Test, Echo, True, False, Leave}
 use Rattle.rehearse.specs.Commands.{Called, BuiltIn, NoCommand, Device, called_by, asks_device, exit_status}
-use Rattle.rehearse.specs.Execution.{Setting, End, CutDevices, CutSteps, Size, set_status, set_local, status_when, goes, holds, Request, no_effect, logged, set_environment}
+use Rattle.rehearse.specs.Execution.{Limits, End, CutDevices, CutSteps, Size, set_status, set_local, status_when, goes, holds, Request, no_effect, logged, set_environment}
 use Rattle.rehearse_machine.specs.Frames.{Frame, Lists, Linked, IfCondition, LoopCondition, LoopBody, ForBody, Next, Go, Ask, Stop, leave, boot_next, answered, begin_assign, begin_for, begin_arms, begun_text, begin_tree, begin_text, begin_names, begin_exit, fitting, ask, begin_called, begin_fields, counted, begin_command, move}
 use Rattle.rehearse_machine.specs.Places.{list_at, drop_lists, joined_at, drop_joined, second, command_in, command_at, drop_arms, place, from_command, condition_frame, phase, from_turn, script_frames, for_frame, run_frame, frames_by, frames_of, PlaceNext, GoOn, AskOn, StopOn, next_of, moved_to, behind, in_turn, text_frame, block_frame, is_run, to_run, left, place_exit, place_boot, place_answered, place_assign, place_tree, place_text, place_name, run_move, for_turn, for_move, for_begins, place_arms, condition_ends, phase_move, place_fitting, place_ask, place_called, place_fields, place_counted, place_command, place_joined, place_begins, place_turn, place_list, place_by, place_move}
 use Rattle.rehearse_machine.proofs.Beginnings.{chosen, passed}
@@ -168,9 +168,9 @@ module _ (f : RunningFrame) (fs : List RunningFrame) (s : State) (k : f.kind ≡
   abbrev ended : PlaceNext
   ended = elim (nat_eq s.memory.status 0) [ true ↦ named | false ↦ GoOn fs s ]
 
-  run-turn-is : (setting : Setting) (turn : ℕ) → f.place.turn ≡ turn → next_of (run_move f fs s) ≡ move setting (run_frame turn f.words ∷ frames_of fs) s
-  run-turn-is setting zero e = ap next_of (sym (chosen (nat_eq f.place.turn 0) named ended (ap (λ (x : ℕ). nat_eq x 0) e))) ∙ (name-is (slice_get f.words f.place.turn) refl ∙ ap (λ (x : ℕ). begin_names (drop x f.words) (frames_of fs) s) e)
-  run-turn-is setting (suc j) e =
+  run-turn-is : (limits : Limits) (turn : ℕ) → f.place.turn ≡ turn → next_of (run_move f fs s) ≡ move limits (run_frame turn f.words ∷ frames_of fs) s
+  run-turn-is limits zero e = ap next_of (sym (chosen (nat_eq f.place.turn 0) named ended (ap (λ (x : ℕ). nat_eq x 0) e))) ∙ (name-is (slice_get f.words f.place.turn) refl ∙ ap (λ (x : ℕ). begin_names (drop x f.words) (frames_of fs) s) e)
+  run-turn-is limits (suc j) e =
       ap next_of (sym (passed (nat_eq f.place.turn 0) named ended (ap (λ (x : ℕ). nat_eq x 0) e ∙ eqb-suc-zero j)))
       ∙ if_next (nat_eq s.memory.status 0) named (GoOn fs s) (begin_names (drop (suc j) f.words) (frames_of fs) s) (Go (frames_of fs) s)
       (name-is (slice_get f.words f.place.turn) refl ∙ ap (λ (x : ℕ). begin_names (drop x f.words) (frames_of fs) s) e) refl
@@ -182,26 +182,26 @@ module _ (f : RunningFrame) (fs : List RunningFrame) (s : State) (k : f.kind ≡
   went : (o : Option Command) → command_at (list_at f.script f.place.list) f.place.command ≡ o → (turn last : ℕ) → frames_of (in_turn turn last f ∷ fs) ≡ for_frame o turn f.words ∷ frames_of fs
   went o e turn last = ap (λ (x : FrameKind). frames_by x (in_turn turn last f) ++ frames_of fs) k ∙ ap (λ (x : Option Command). for_frame x turn f.words ∷ frames_of fs) e
 
-  for-turn-is : (setting : Setting) (name : Text) (words : List tree.Word) (body : Script) (o : Option Text) → command_at (list_at f.script f.place.list) f.place.command ≡ Some (tree.For name words body) → slice_get f.words f.place.turn ≡ o → next_of (for_turn o name body f fs s) ≡ move setting (ForBody name (drop f.place.turn f.words) body ∷ frames_of fs) s
-  for-turn-is setting name words body None c e = ap (λ (x : List Text). move setting (ForBody name x body ∷ frames_of fs) s) (sym (text_none f.words f.place.turn e))
-  for-turn-is setting name words body (Some value) c e =
+  for-turn-is : (limits : Limits) (name : Text) (words : List tree.Word) (body : Script) (o : Option Text) → command_at (list_at f.script f.place.list) f.place.command ≡ Some (tree.For name words body) → slice_get f.words f.place.turn ≡ o → next_of (for_turn o name body f fs s) ≡ move limits (ForBody name (drop f.place.turn f.words) body ∷ frames_of fs) s
+  for-turn-is limits name words body None c e = ap (λ (x : List Text). move limits (ForBody name x body ∷ frames_of fs) s) (sym (text_none f.words f.place.turn e))
+  for-turn-is limits name words body (Some value) c e =
       ap (λ (x : List Frame). Go x (set_local name value s)) (blocked body (in_turn (suc f.place.turn) 0 f ∷ fs) ∙ ap (λ (x : List Frame). Lists body ∷ x) (went (Some (tree.For name words body)) c (suc f.place.turn) 0))
-      ∙ ap (λ (x : List Text). move setting (ForBody name x body ∷ frames_of fs) s) (sym (text_some f.words f.place.turn value e))
+      ∙ ap (λ (x : List Text). move limits (ForBody name x body ∷ frames_of fs) s) (sym (text_some f.words f.place.turn value e))
 
-  for-is : (setting : Setting) (o : Option Command) → command_at (list_at f.script f.place.list) f.place.command ≡ o → next_of (for_move o f fs s) ≡ move setting (for_frame o f.place.turn f.words ∷ frames_of fs) s
-  for-is setting None e = refl
-  for-is setting (Some (tree.Simple words)) e = refl
-  for-is setting (Some (tree.Assign pairs)) e = refl
-  for-is setting (Some (tree.If arms)) e = refl
-  for-is setting (Some (tree.Loop until c b)) e = refl
-  for-is setting (Some (tree.For name words body)) e = for-turn-is setting name words body (slice_get f.words f.place.turn) e refl
+  for-is : (limits : Limits) (o : Option Command) → command_at (list_at f.script f.place.list) f.place.command ≡ o → next_of (for_move o f fs s) ≡ move limits (for_frame o f.place.turn f.words ∷ frames_of fs) s
+  for-is limits None e = refl
+  for-is limits (Some (tree.Simple words)) e = refl
+  for-is limits (Some (tree.Assign pairs)) e = refl
+  for-is limits (Some (tree.If arms)) e = refl
+  for-is limits (Some (tree.Loop until c b)) e = refl
+  for-is limits (Some (tree.For name words body)) e = for-turn-is limits name words body (slice_get f.words f.place.turn) e refl
 
 -- ---- commands, where the frame of their script stands for `below` behind them
 
 assign-is : (pairs : List (Text × tree.Word)) (ps : List RunningFrame) (s : State) → next_of (place_assign pairs ps s) ≡ begin_assign pairs (frames_of ps) s
 assign-is [] ps s = refl
 assign-is (pair ∷ pairs) ps s =
-    let value : Text = joined (setting_in s.memory) pair.1 in
+    let value : Text = joined (parameters_in s.memory) pair.1 in
     if_next (nat_le (length value) most_bytes) (place_assign pairs ps (set_local pair.0 value s)) (StopOn Size s) (begin_assign pairs (frames_of ps) (set_local pair.0 value s)) (Stop Size s) (assign-is pairs ps (set_local pair.0 value s)) refl
 
 fitting-is : (ws : List Text) (n : List Text → State → PlaceNext) (m : List Text → State → Next) (s : State) → next_of (n ws s) ≡ m ws s → next_of (place_fitting ws n s) ≡ fitting ws m s
@@ -222,21 +222,21 @@ past_command : (list : AndOr) (n : ℕ) (rest : Script) → command_in list n �
 past_command (tree.Starts c joins) zero rest e = absurd (let k = e in cc)
 past_command (tree.Starts c joins) (suc j) rest e = ap (λ (x : Joined). Linked x ∷ Lists rest ∷ []) (past_joined joins j (no_second (joined_at joins j) e))
 
-module _ (setting : Setting) where
-  counted-is : (n : State → PlaceNext) (m : State → Next) (s : State) → ((t : State) → next_of (n t) ≡ m t) → next_of (place_counted setting n s) ≡ counted setting m s
-  counted-is n m s e = let t : State = record s { steps = suc s.steps } in if_next (nat_lt s.steps setting.step_bound) (n t) (StopOn CutSteps s) (m t) (Stop CutSteps s) (e t) refl
+module _ (limits : Limits) where
+  counted-is : (n : State → PlaceNext) (m : State → Next) (s : State) → ((t : State) → next_of (n t) ≡ m t) → next_of (place_counted limits n s) ≡ counted limits m s
+  counted-is n m s e = let t : State = record s { steps = suc s.steps } in if_next (nat_lt s.steps limits.step_bound) (n t) (StopOn CutSteps s) (m t) (Stop CutSteps s) (e t) refl
 
-  ask-is : (r : Request) (ps : List RunningFrame) (s : State) → next_of (place_ask setting r ps s) ≡ ask setting r (frames_of ps) s
-  ask-is r ps s = if_next (nat_lt (length s.log) setting.device_bound) (AskOn r ps s) (StopOn CutDevices s) (Ask r (frames_of ps) s) (Stop CutDevices s) refl refl
+  ask-is : (r : Request) (ps : List RunningFrame) (s : State) → next_of (place_ask limits r ps s) ≡ ask limits r (frames_of ps) s
+  ask-is r ps s = if_next (nat_lt (length s.log) limits.device_bound) (AskOn r ps s) (StopOn CutDevices s) (Ask r (frames_of ps) s) (Stop CutDevices s) refl refl
 
-  builtin-is : (b : Called) (name : Text) (ws : List Text) (script : Script) (ps : List RunningFrame) (s : State) → next_of (place_called setting b name ws script ps s) ≡ begin_called setting b name ws (frames_of ps) s
+  builtin-is : (b : Called) (name : Text) (ws : List Text) (script : Script) (ps : List RunningFrame) (s : State) → next_of (place_called limits b name ws script ps s) ≡ begin_called limits b name ws (frames_of ps) s
   builtin-is (BuiltIn SetEnv) name ws script ps s = refl
   builtin-is (BuiltIn Run) name [] script ps s = refl
   builtin-is (BuiltIn Run) name (w ∷ ws) script ps s = refl
   builtin-is (BuiltIn Test) name ws script ps s =
       let r : Request = record { name = name; words = ws; effect = no_effect } in
       let t : State = set_status (status_when (verdict ws)) s in
-      if_next (asks_device ws) (place_ask setting r ps s) (GoOn ps t) (ask setting r (frames_of ps) s) (Go (frames_of ps) t) (ask-is r ps s) refl
+      if_next (asks_device ws) (place_ask limits r ps s) (GoOn ps t) (ask limits r (frames_of ps) s) (Go (frames_of ps) t) (ask-is r ps s) refl
   builtin-is (BuiltIn Echo) name ws script ps s = refl
   builtin-is (BuiltIn True) name ws script ps s = refl
   builtin-is (BuiltIn False) name ws script ps s = refl
@@ -244,9 +244,9 @@ module _ (setting : Setting) where
   builtin-is (Device effect) name ws script ps s = ask-is (record { name = name; words = ws; effect = effect }) ps s
   builtin-is NoCommand name ws script ps s = refl
 
-  fields-is : (ws : List Text) (script : Script) (ps : List RunningFrame) (s : State) → next_of (place_fields setting ws script ps s) ≡ begin_fields setting ws (frames_of ps) s
+  fields-is : (ws : List Text) (script : Script) (ps : List RunningFrame) (s : State) → next_of (place_fields limits ws script ps s) ≡ begin_fields limits ws (frames_of ps) s
   fields-is [] script ps s = refl
-  fields-is (name ∷ ws) script ps s = builtin-is (called_by setting.devices name) name ws script ps s
+  fields-is (name ∷ ws) script ps s = builtin-is (called_by limits.devices name) name ws script ps s
 
   -- at a list of a script that is running
   module _ (f : RunningFrame) (fs : List RunningFrame) (list : AndOr) (at_list : list_at f.script f.place.list ≡ Some list) (scripted : (p : At) → frames_by f.kind (moved_to p f) ≡ script_frames (list_at f.script p.list) p (drop_lists (suc p.list) f.script)) where
@@ -282,16 +282,16 @@ module _ (setting : Setting) where
     looped-is : (until : Bool) (c b : Script) → command_in list f.place.command ≡ Some (tree.Loop until c b) → (last : ℕ) (s : State) → next_of (GoOn (block_frame c ∷ in_turn 1 last f ∷ fs) s) ≡ Go (Lists c ∷ LoopCondition until c b last ∷ below) s
     looped-is until c b e last s = ap (λ (x : List Frame). Go x s) (blocked c (in_turn 1 last f ∷ fs) ∙ ap (λ (x : List Frame). Lists c ∷ x) (turned f.place.command 1 last ∙ ap (λ (x : Option Command). phase x 0 last ∷ below) e))
 
-    command-is : (c : Command) → command_in list f.place.command ≡ Some c → (s : State) → next_of (place_command setting c f fs s) ≡ begin_command setting c below s
-    command-is (tree.Simple words) e s = counted-is (λ t. place_fitting (fields (setting_in t.memory) words) (λ found. place_fields setting found f.script (behind f ∷ fs)) t) (λ t. fitting (fields (setting_in t.memory) words) (λ found. begin_fields setting found below) t) s
-        (λ t. fitting-is (fields (setting_in t.memory) words) (λ found. place_fields setting found f.script (behind f ∷ fs)) (λ found. begin_fields setting found below) t (fields-is (fields (setting_in t.memory) words) f.script (behind f ∷ fs) t ∙ ap (λ (x : List Frame). begin_fields setting (fields (setting_in t.memory) words) x t) behind-is))
+    command-is : (c : Command) → command_in list f.place.command ≡ Some c → (s : State) → next_of (place_command limits c f fs s) ≡ begin_command limits c below s
+    command-is (tree.Simple words) e s = counted-is (λ t. place_fitting (fields (parameters_in t.memory) words) (λ found. place_fields limits found f.script (behind f ∷ fs)) t) (λ t. fitting (fields (parameters_in t.memory) words) (λ found. begin_fields limits found below) t) s
+        (λ t. fitting-is (fields (parameters_in t.memory) words) (λ found. place_fields limits found f.script (behind f ∷ fs)) (λ found. begin_fields limits found below) t (fields-is (fields (parameters_in t.memory) words) f.script (behind f ∷ fs) t ∙ ap (λ (x : List Frame). begin_fields limits (fields (parameters_in t.memory) words) x t) behind-is))
     command-is (tree.Assign pairs) e s = counted-is (place_assign pairs (behind f ∷ fs)) (begin_assign pairs below) s (λ t. assign-is pairs (behind f ∷ fs) t ∙ ap (λ (x : List Frame). begin_assign pairs x t) behind-is)
     command-is (tree.If arms) e s = arms-is arms arms 0 e refl s
     command-is (tree.Loop until c b) e s = looped-is until c b e 0 s
-    command-is (tree.For name words body) e s = counted-is (λ t. place_fitting (fields (setting_in t.memory) words) (λ found. for_begins found f fs) t) (λ t. fitting (fields (setting_in t.memory) words) (λ found. begin_for name found body below) t) s
-        (λ t. fitting-is (fields (setting_in t.memory) words) (λ found. for_begins found f fs) (λ found. begin_for name found body below) t (begins-for-is name words body e (fields (setting_in t.memory) words) t))
+    command-is (tree.For name words body) e s = counted-is (λ t. place_fitting (fields (parameters_in t.memory) words) (λ found. for_begins found f fs) t) (λ t. fitting (fields (parameters_in t.memory) words) (λ found. begin_for name found body below) t) s
+        (λ t. fitting-is (fields (parameters_in t.memory) words) (λ found. for_begins found f fs) (λ found. begin_for name found body below) t (begins-for-is name words body e (fields (parameters_in t.memory) words) t))
 
-    condition-is : (all arms : Arms) (a : ℕ) → command_in list f.place.command ≡ Some (tree.If all) → drop_arms a all ≡ arms → (s : State) → next_of (condition_ends arms a f fs s) ≡ move setting (condition_frame arms ∷ below) s
+    condition-is : (all arms : Arms) (a : ℕ) → command_in list f.place.command ≡ Some (tree.If all) → drop_arms a all ≡ arms → (s : State) → next_of (condition_ends arms a f fs s) ≡ move limits (condition_frame arms ∷ below) s
     condition-is all (tree.Arm c b more) a e d s =
         if_next (nat_eq s.memory.status 0) (GoOn (block_frame b ∷ behind f ∷ fs) s) (place_arms more (suc a) f fs s) (Go (Lists b ∷ below) s) (begin_arms more below s)
         (ap (λ (x : List Frame). Go x s) (blocked b (behind f ∷ fs) ∙ ap (λ (x : List Frame). Lists b ∷ x) behind-is))
@@ -299,7 +299,7 @@ module _ (setting : Setting) where
     condition-is all (tree.Else b) a e d s = went_on s
     condition-is all tree.NoElse a e d s = went_on s
 
-    phase-is : (o : Option Command) (a : ℕ) → command_in list f.place.command ≡ o → (s : State) → next_of (phase_move o a f fs s) ≡ move setting (phase o a f.place.last ∷ below) s
+    phase-is : (o : Option Command) (a : ℕ) → command_in list f.place.command ≡ o → (s : State) → next_of (phase_move o a f fs s) ≡ move limits (phase o a f.place.last ∷ below) s
     phase-is None a e s = ap (λ (x : List Frame). Go x s) (turned f.place.command 0 0 ∙ ap (λ (x : List Frame). x ++ frames_of fs) (past_command list f.place.command rest e))
     phase-is (Some (tree.Simple words)) a e s = went_on s
     phase-is (Some (tree.Assign pairs)) a e s = went_on s
@@ -314,42 +314,42 @@ module _ (setting : Setting) where
     next_list-is : (s : State) → next_of (GoOn (moved_to (place (suc f.place.list) 0 0 0) f ∷ fs) s) ≡ Go (Lists rest ∷ frames_of fs) s
     next_list-is s = ap (λ (x : List Frame). Go (x ++ frames_of fs) s) (scripted (place (suc f.place.list) 0 0 0) ∙ from_start (list_at f.script (suc f.place.list)) f.script (suc f.place.list) refl)
 
-    joined-is : (c : Command) (joins : Joined) (j : ℕ) (o : Option (Op × Command)) → list ≡ tree.Starts c joins → f.place.command ≡ suc j → joined_at joins j ≡ o → (s : State) → next_of (place_joined setting o f fs s) ≡ move setting (Linked (drop_joined j joins) ∷ Lists rest ∷ frames_of fs) s
-    joined-is c joins j None l p e s = next_list-is s ∙ ap (λ (x : Joined). move setting (Linked x ∷ Lists rest ∷ frames_of fs) s) (sym (joined_none joins j e))
+    joined-is : (c : Command) (joins : Joined) (j : ℕ) (o : Option (Op × Command)) → list ≡ tree.Starts c joins → f.place.command ≡ suc j → joined_at joins j ≡ o → (s : State) → next_of (place_joined limits o f fs s) ≡ move limits (Linked (drop_joined j joins) ∷ Lists rest ∷ frames_of fs) s
+    joined-is c joins j None l p e s = next_list-is s ∙ ap (λ (x : Joined). move limits (Linked x ∷ Lists rest ∷ frames_of fs) s) (sym (joined_none joins j e))
     joined-is c joins j (Some pair) l p e s =
         let known : command_in list f.place.command ≡ Some pair.1 = ap (λ (x : AndOr). command_in x f.place.command) l ∙ ap (λ (x : ℕ). command_in (tree.Starts c joins) x) p ∙ ap second e in
         let there : below ≡ Linked (drop_joined (suc j) joins) ∷ Lists rest ∷ frames_of fs = ap (λ (x : AndOr). from_command x (suc f.place.command) rest ++ frames_of fs) l ∙ ap (λ (x : ℕ). Linked (drop_joined x joins) ∷ Lists rest ∷ frames_of fs) p in
-        if_next (goes pair.0 s.memory.status) (place_command setting pair.1 f fs s) (GoOn (behind f ∷ fs) s) (begin_command setting pair.1 (Linked (drop_joined (suc j) joins) ∷ Lists rest ∷ frames_of fs) s) (Go (Linked (drop_joined (suc j) joins) ∷ Lists rest ∷ frames_of fs) s)
-        (command-is pair.1 known s ∙ ap (λ (x : List Frame). begin_command setting pair.1 x s) there)
+        if_next (goes pair.0 s.memory.status) (place_command limits pair.1 f fs s) (GoOn (behind f ∷ fs) s) (begin_command limits pair.1 (Linked (drop_joined (suc j) joins) ∷ Lists rest ∷ frames_of fs) s) (Go (Linked (drop_joined (suc j) joins) ∷ Lists rest ∷ frames_of fs) s)
+        (command-is pair.1 known s ∙ ap (λ (x : List Frame). begin_command limits pair.1 x s) there)
         (went_on s ∙ ap (λ (x : List Frame). Go x s) there)
-        ∙ ap (λ (x : Joined). move setting (Linked x ∷ Lists rest ∷ frames_of fs) s) (sym (joined_some joins j pair e))
+        ∙ ap (λ (x : Joined). move limits (Linked x ∷ Lists rest ∷ frames_of fs) s) (sym (joined_some joins j pair e))
 
-    begins-is : (c : Command) (joins : Joined) (n : ℕ) → list ≡ tree.Starts c joins → f.place.command ≡ n → (s : State) → next_of (place_begins setting (tree.Starts c joins) n f fs s) ≡ move setting (from_command (tree.Starts c joins) n rest ++ frames_of fs) s
+    begins-is : (c : Command) (joins : Joined) (n : ℕ) → list ≡ tree.Starts c joins → f.place.command ≡ n → (s : State) → next_of (place_begins limits (tree.Starts c joins) n f fs s) ≡ move limits (from_command (tree.Starts c joins) n rest ++ frames_of fs) s
     begins-is c joins zero l p s =
         let known : command_in list f.place.command ≡ Some c = ap (λ (x : AndOr). command_in x f.place.command) l ∙ ap (λ (x : ℕ). command_in (tree.Starts c joins) x) p in
         let there : below ≡ Linked joins ∷ Lists rest ∷ frames_of fs = ap (λ (x : AndOr). from_command x (suc f.place.command) rest ++ frames_of fs) l ∙ ap (λ (x : ℕ). Linked (drop_joined x joins) ∷ Lists rest ∷ frames_of fs) p in
-        command-is c known s ∙ ap (λ (x : List Frame). begin_command setting c x s) there
+        command-is c known s ∙ ap (λ (x : List Frame). begin_command limits c x s) there
     begins-is c joins (suc j) l p s = joined-is c joins j (joined_at joins j) l p refl s
 
-    begins-any : (l : AndOr) → list ≡ l → (s : State) → next_of (place_begins setting l f.place.command f fs s) ≡ move setting (from_command l f.place.command rest ++ frames_of fs) s
+    begins-any : (l : AndOr) → list ≡ l → (s : State) → next_of (place_begins limits l f.place.command f fs s) ≡ move limits (from_command l f.place.command rest ++ frames_of fs) s
     begins-any (tree.Starts c joins) l s = begins-is c joins f.place.command l refl s
 
-    turn-is : (turn : ℕ) (s : State) → f.place.turn ≡ turn → next_of (place_turn setting list turn f fs s) ≡ move setting (from_turn list f.place turn rest ++ frames_of fs) s
+    turn-is : (turn : ℕ) (s : State) → f.place.turn ≡ turn → next_of (place_turn limits list turn f fs s) ≡ move limits (from_turn list f.place turn rest ++ frames_of fs) s
     turn-is zero s e = begins-any list refl s
     turn-is (suc a) s e = phase-is (command_in list f.place.command) a refl s
 
-  script-is : (f : RunningFrame) (fs : List RunningFrame) (o : Option AndOr) → list_at f.script f.place.list ≡ o → ((p : At) → frames_by f.kind (moved_to p f) ≡ script_frames (list_at f.script p.list) p (drop_lists (suc p.list) f.script)) → (s : State) → next_of (place_list setting o f fs s) ≡ move setting (script_frames o f.place (drop_lists (suc f.place.list) f.script) ++ frames_of fs) s
+  script-is : (f : RunningFrame) (fs : List RunningFrame) (o : Option AndOr) → list_at f.script f.place.list ≡ o → ((p : At) → frames_by f.kind (moved_to p f) ≡ script_frames (list_at f.script p.list) p (drop_lists (suc p.list) f.script)) → (s : State) → next_of (place_list limits o f fs s) ≡ move limits (script_frames o f.place (drop_lists (suc f.place.list) f.script) ++ frames_of fs) s
   script-is f fs None e h s = refl
   script-is f fs (Some list) e h s = turn-is f fs list e h f.place.turn s refl
 
-  by-is : (k : FrameKind) (f : RunningFrame) (fs : List RunningFrame) (s : State) → f.kind ≡ k → next_of (place_by setting k f fs s) ≡ move setting (frames_by k f ++ frames_of fs) s
+  by-is : (k : FrameKind) (f : RunningFrame) (fs : List RunningFrame) (s : State) → f.kind ≡ k → next_of (place_by limits k f fs s) ≡ move limits (frames_by k f ++ frames_of fs) s
   by-is kinds.Text f fs s e = script-is f fs (list_at f.script f.place.list) refl (λ p. ap (λ (x : FrameKind). frames_by x (moved_to p f)) e) s
   by-is kinds.Block f fs s e = script-is f fs (list_at f.script f.place.list) refl (λ p. ap (λ (x : FrameKind). frames_by x (moved_to p f)) e) s
-  by-is kinds.For f fs s e = for-is f fs s e setting (command_at (list_at f.script f.place.list) f.place.command) refl
-  by-is kinds.Run f fs s e = run-turn-is f fs s e setting f.place.turn refl
+  by-is kinds.For f fs s e = for-is f fs s e limits (command_at (list_at f.script f.place.list) f.place.command) refl
+  by-is kinds.Run f fs s e = run-turn-is f fs s e limits f.place.turn refl
 
   -- each move at places is the move of their frames
-  pub place_move-is : (ps : List RunningFrame) (s : State) → next_of (place_move setting ps s) ≡ move setting (frames_of ps) s
+  pub place_move-is : (ps : List RunningFrame) (s : State) → next_of (place_move limits ps s) ≡ move limits (frames_of ps) s
   place_move-is [] s = refl
   place_move-is (f ∷ fs) s = by-is f.kind f fs s refl
 

@@ -5,17 +5,17 @@ use Rattle.hushlang.specs.Tree.{Script, AndOr, Joined, Command, Arms}
 use Rattle.hushlang.specs.Expansion.{fields, joined, size, most_bytes}
 use Rattle.rehearse.specs.Trees.{tree_of}
 use Rattle.rehearse.specs.Verdict.{verdict}
-use Rattle.rehearse.specs.State.{Text, get, State, setting_in}
+use Rattle.rehearse.specs.State.{Text, get, State, parameters_in}
 use Rattle.rehearse.specs.Builtins.{SetEnv, Run, Test, Echo, True, False, Leave}
 use Rattle.rehearse.specs.Commands.{Called, BuiltIn, NoCommand, Device, called_by, asks_device, exit_status}
 use Rattle.rehearse.specs.Proper.{IsProper, IsProperCommand, AreProperArms, IsBlock}
-use Rattle.rehearse.specs.Execution.{Setting, CutDevices, CutSteps, Size, set_status, set_local, status_when, goes, holds, Request, no_effect}
+use Rattle.rehearse.specs.Execution.{Limits, CutDevices, CutSteps, Size, set_status, set_local, status_when, goes, holds, Request, no_effect}
 use Rattle.rehearse_machine.specs.Frames.{Frame, Lists, Linked, IfCondition, LoopCondition, LoopBody, ForBody, RunNames, RunText, Next, Go, Ask, Stop, leave, begin_assign, begin_for, begin_arms, begin_tree, begin_text, begin_names, begin_exit, fitting, ask, begin_called, begin_fields, begin_command, move}
 use Rattle.rehearse.proofs.ProperLemmas.{trees_are_proper}
 use Rattle.rehearse_machine.proofs.Fuel.{block_proper}
 use Rattle.rehearse_machine.specs.Meaning.{AreProperFrames, IsProperNext}
 
-module _ (setting : Setting) where
+module _ (limits : Limits) where
   either : (b : Bool) (x y : Next) → IsProperNext x → IsProperNext y → IsProperNext (elim b [ true ↦ x | false ↦ y ])
   either true x y h k = h
   either false x y h k = k
@@ -43,18 +43,18 @@ module _ (setting : Setting) where
   names-proper [] fs s p = p
   names-proper (name ∷ names) fs s p = text-proper (get s.memory.environment name) name names fs s p
 
-  ask-proper : (request : Request) (fs : List Frame) (s : State) → AreProperFrames fs → IsProperNext (ask setting request fs s)
-  ask-proper request fs s p = either (nat_lt (length s.log) setting.device_bound) (Ask request fs s) (Stop CutDevices s) p tt
+  ask-proper : (request : Request) (fs : List Frame) (s : State) → AreProperFrames fs → IsProperNext (ask limits request fs s)
+  ask-proper request fs s p = either (nat_lt (length s.log) limits.device_bound) (Ask request fs s) (Stop CutDevices s) p tt
 
   exit-proper : (o : Option ℕ) (fs : List Frame) (s : State) → AreProperFrames fs → IsProperNext (begin_exit o fs s)
   exit-proper (Some n) fs s p = leave-proper fs (set_status n s) p
   exit-proper None fs s p = p
 
-  builtin-proper : (b : Called) (name : Text) (ws : List Text) (fs : List Frame) (s : State) → AreProperFrames fs → IsProperNext (begin_called setting b name ws fs s)
+  builtin-proper : (b : Called) (name : Text) (ws : List Text) (fs : List Frame) (s : State) → AreProperFrames fs → IsProperNext (begin_called limits b name ws fs s)
   builtin-proper (BuiltIn SetEnv) name ws fs s p = p
   builtin-proper (BuiltIn Run) name [] fs s p = p
   builtin-proper (BuiltIn Run) name (w ∷ ws) fs s p = (tt, p)
-  builtin-proper (BuiltIn Test) name ws fs s p = either (asks_device ws) (ask setting (record { name = name; words = ws; effect = no_effect }) fs s) (Go fs (set_status (status_when (verdict ws)) s)) (ask-proper (record { name = name; words = ws; effect = no_effect }) fs s p) p
+  builtin-proper (BuiltIn Test) name ws fs s p = either (asks_device ws) (ask limits (record { name = name; words = ws; effect = no_effect }) fs s) (Go fs (set_status (status_when (verdict ws)) s)) (ask-proper (record { name = name; words = ws; effect = no_effect }) fs s p) p
   builtin-proper (BuiltIn Echo) name ws fs s p = p
   builtin-proper (BuiltIn True) name ws fs s p = p
   builtin-proper (BuiltIn False) name ws fs s p = p
@@ -62,9 +62,9 @@ module _ (setting : Setting) where
   builtin-proper (Device effect) name ws fs s p = ask-proper (record { name = name; words = ws; effect = effect }) fs s p
   builtin-proper NoCommand name ws fs s p = tt
 
-  fields-proper : (ws : List Text) (fs : List Frame) (s : State) → AreProperFrames fs → IsProperNext (begin_fields setting ws fs s)
+  fields-proper : (ws : List Text) (fs : List Frame) (s : State) → AreProperFrames fs → IsProperNext (begin_fields limits ws fs s)
   fields-proper [] fs s p = p
-  fields-proper (name ∷ ws) fs s p = builtin-proper (called_by setting.devices name) name ws fs s p
+  fields-proper (name ∷ ws) fs s p = builtin-proper (called_by limits.devices name) name ws fs s p
 
   for-proper : (name : Text) (values : List Text) (body : Script) (fs : List Frame) (s : State) → IsBlock body → AreProperFrames fs → IsProperNext (begin_for name values body fs s)
   for-proper name [] body fs s q p = p
@@ -82,21 +82,21 @@ module _ (setting : Setting) where
 
   assign-proper : (pairs : List (Text × tree.Word)) (fs : List Frame) (s : State) → AreProperFrames fs → IsProperNext (begin_assign pairs fs s)
   assign-proper [] fs s p = p
-  assign-proper (pair ∷ pairs) fs s p = let value : Text = joined (setting_in s.memory) pair.1 in either (nat_le (length value) most_bytes) (begin_assign pairs fs (set_local pair.0 value s)) (Stop Size s) (assign-proper pairs fs (set_local pair.0 value s) p) tt
+  assign-proper (pair ∷ pairs) fs s p = let value : Text = joined (parameters_in s.memory) pair.1 in either (nat_le (length value) most_bytes) (begin_assign pairs fs (set_local pair.0 value s)) (Stop Size s) (assign-proper pairs fs (set_local pair.0 value s) p) tt
 
-  command-proper : (c : Command) (fs : List Frame) (s : State) → IsProperCommand c → AreProperFrames fs → IsProperNext (begin_command setting c fs s)
-  command-proper (tree.Simple words) fs s q p = let t : State = record s { steps = suc s.steps } in either (nat_lt s.steps setting.step_bound) (fitting (fields (setting_in t.memory) words) (λ f. begin_fields setting f fs) t) (Stop CutSteps s) (either (nat_le (size (fields (setting_in t.memory) words)) most_bytes) (begin_fields setting (fields (setting_in t.memory) words) fs t) (Stop Size t) (fields-proper (fields (setting_in t.memory) words) fs t p) tt) tt
-  command-proper (tree.Assign pairs) fs s q p = let t : State = record s { steps = suc s.steps } in either (nat_lt s.steps setting.step_bound) (begin_assign pairs fs t) (Stop CutSteps s) (assign-proper pairs fs t p) tt
+  command-proper : (c : Command) (fs : List Frame) (s : State) → IsProperCommand c → AreProperFrames fs → IsProperNext (begin_command limits c fs s)
+  command-proper (tree.Simple words) fs s q p = let t : State = record s { steps = suc s.steps } in either (nat_lt s.steps limits.step_bound) (fitting (fields (parameters_in t.memory) words) (λ f. begin_fields limits f fs) t) (Stop CutSteps s) (either (nat_le (size (fields (parameters_in t.memory) words)) most_bytes) (begin_fields limits (fields (parameters_in t.memory) words) fs t) (Stop Size t) (fields-proper (fields (parameters_in t.memory) words) fs t p) tt) tt
+  command-proper (tree.Assign pairs) fs s q p = let t : State = record s { steps = suc s.steps } in either (nat_lt s.steps limits.step_bound) (begin_assign pairs fs t) (Stop CutSteps s) (assign-proper pairs fs t p) tt
   command-proper (tree.If arms) fs s q p = arms-proper arms fs s (if-proper arms q) p
   command-proper (tree.Loop until c b) fs s q p = (block_proper c q.0, (q, p))
-  command-proper (tree.For name words body) fs s q p = let t : State = record s { steps = suc s.steps } in either (nat_lt s.steps setting.step_bound) (fitting (fields (setting_in t.memory) words) (λ f. begin_for name f body fs) t) (Stop CutSteps s) (either (nat_le (size (fields (setting_in t.memory) words)) most_bytes) (begin_for name (fields (setting_in t.memory) words) body fs t) (Stop Size t) (for-proper name (fields (setting_in t.memory) words) body fs t q p) tt) tt
+  command-proper (tree.For name words body) fs s q p = let t : State = record s { steps = suc s.steps } in either (nat_lt s.steps limits.step_bound) (fitting (fields (parameters_in t.memory) words) (λ f. begin_for name f body fs) t) (Stop CutSteps s) (either (nat_le (size (fields (parameters_in t.memory) words)) most_bytes) (begin_for name (fields (parameters_in t.memory) words) body fs t) (Stop Size t) (for-proper name (fields (parameters_in t.memory) words) body fs t q p) tt) tt
 
-  pub move-proper : (fs : List Frame) (s : State) → AreProperFrames fs → IsProperNext (move setting fs s)
+  pub move-proper : (fs : List Frame) (s : State) → AreProperFrames fs → IsProperNext (move limits fs s)
   move-proper [] s p = tt
   move-proper (Lists tree.Empty ∷ fs) s p = p.1
   move-proper (Lists (tree.Runs (tree.Starts c links) lists) ∷ fs) s p = command-proper c (Linked links ∷ Lists lists ∷ fs) s p.0.0.0 (p.0.0.1, (p.0.1, p.1))
   move-proper (Linked tree.Alone ∷ fs) s p = p.1
-  move-proper (Linked (tree.Joins op c links) ∷ fs) s p = either (goes op s.memory.status) (begin_command setting c (Linked links ∷ fs) s) (Go (Linked links ∷ fs) s) (command-proper c (Linked links ∷ fs) s p.0.0 (p.0.1, p.1)) (p.0.1, p.1)
+  move-proper (Linked (tree.Joins op c links) ∷ fs) s p = either (goes op s.memory.status) (begin_command limits c (Linked links ∷ fs) s) (Go (Linked links ∷ fs) s) (command-proper c (Linked links ∷ fs) s p.0.0 (p.0.1, p.1)) (p.0.1, p.1)
   move-proper (IfCondition b arms ∷ fs) s p = either (nat_eq s.memory.status 0) (Go (Lists b ∷ fs) s) (begin_arms arms fs s) (p.0.0, p.1) (arms-proper arms fs s p.0.1 p.1)
   move-proper (LoopCondition until c b last ∷ fs) s p = either (holds until s.memory.status) (Go (Lists b ∷ LoopBody until c b ∷ fs) s) (Go fs (set_status last s)) (block_proper b p.0.1, p) p.1
   move-proper (LoopBody until c b ∷ fs) s p = (block_proper c p.0.0, p)

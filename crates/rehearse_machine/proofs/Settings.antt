@@ -11,8 +11,8 @@ use Rattle.std.proofs.lemmas.Cmp.{nat_list_cmp_total}
 use Rattle.std.specs.Cmp.Lexicographic.{slice_cmp}
 use Rattle.hushlang.specs.Expansion as expansion
 use Rattle.bootstore.specs.Moment.{Bytes, Variables, Moment}
-use Rattle.rehearse.specs.Outcomes.{Word}
-use Rattle.rehearse.specs.State.{Text, value_in, setting_in, state_at}
+use Rattle.rehearse.specs.Outcomes.{OutcomeWord}
+use Rattle.rehearse.specs.State.{Text, value_in, parameters_in, state_at}
 use Rattle.rehearse_machine.specs.Variables.{in_front, all_variables}
 
 abbrev pub over : Option Bytes → Option Bytes → Option Bytes
@@ -38,13 +38,13 @@ over-is : (a b : Option Bytes) → over a b ≡ elim a [ Some value ↦ Some val
 over-is (Some value) b = refl
 over-is None b = refl
 
-same_value : (m : Moment) (w : Word) (name : Text) → finite.get (all_variables m) name ≡ value_in (state_at m w).memory name
+same_value : (m : Moment) (w : OutcomeWord) (name : Text) → finite.get (all_variables m) name ≡ value_in (state_at m w).memory name
 same_value m w name =
     front_value (entries m.environment) m.locals name ∙ ap (over (find (slice_cmp nat_cmp) name (entries m.environment))) (get-entries m.locals name)
     ∙ over-is (find (slice_cmp nat_cmp) name (entries m.environment)) (find (slice_cmp nat_cmp) name (entries m.locals))
 
-pub same_setting : (m : Moment) (w : Word) → expansion.setting_of (all_variables m) m.status ≡ setting_in (state_at m w).memory
-same_setting m w = λ i. record { value = λ name. same_value m w name i; status = m.status }
+pub same_parameters : (m : Moment) (w : OutcomeWord) → expansion.parameters_of (all_variables m) m.status ≡ parameters_in (state_at m w).memory
+same_parameters m w = λ i. record { value = λ name. same_value m w name i; status = m.status }
 
 pub copied_bytes : (o : Option (Bor (List ℕ))) → option_copied o ≡ option_bytes o
 copied_bytes None = refl

@@ -2,7 +2,7 @@
 use Rattle.std.proofs.Common.{Bool, true, false, List, [], ◌∷◌, ◌++◌, Option, Some, None, refl, sym, ap, ◌∙◌, ◌≡◌, append_assoc, arith}
 use Rattle.hushlang.specs.Tree as tree
 use Rattle.hushlang.specs.Tree.{Script}
-use Rattle.rehearse.specs.Outcomes.{Word, Outcome, Success, Failure}
+use Rattle.rehearse.specs.Outcomes.{OutcomeWord, Outcome, Success, Failure}
 use Rattle.rehearse.specs.Trees.{tree_of}
 use Rattle.rehearse.specs.State.{Text, State, start}
 use Rattle.rehearse.specs.Proper.{IsProper}
@@ -16,39 +16,39 @@ use Rattle.rehearse_machine.proofs.Fuel.{closed_exec, tree_answer}
 use Rattle.rehearse_machine.proofs.Moves.{continue-ended, move-is}
 
 module _ (task : Task) where
-  pub after-is : (p : Word) (next : Next) → ((w : Word) → settled (run_on task (p ++ w)) ≡ comes_to task.setting w next) → AfterMove task p next
+  pub after-is : (p : OutcomeWord) (next : Next) → ((w : OutcomeWord) → settled (run_on task (p ++ w)) ≡ comes_to task.limits w next) → AfterMove task p next
   after-is p (Go fs s) h = h
   after-is p (Ask request fs s) h = h
   after-is p (Stop ending s) h = h
 
   -- a move keeps the place
-  pub moves : (p : Word) (fs : List Frame) (s : State) → AreProperFrames fs → StandsAt task p fs s → AfterMove task p (move task.setting fs s)
-  moves p fs s proper h = after-is p (move task.setting fs s) (λ w. h w ∙ sym (move-is task.setting w fs proper s))
+  pub moves : (p : OutcomeWord) (fs : List Frame) (s : State) → AreProperFrames fs → StandsAt task p fs s → AfterMove task p (move task.limits fs s)
+  moves p fs s proper h = after-is p (move task.limits fs s) (λ w. h w ∙ sym (move-is task.limits w fs proper s))
 
   -- where a run begins
   abbrev pub begun : Option Script → Next
   begun None = Stop (Syntax task.name) (start task.environment [])
   begun (Some t) = Go (Lists t ∷ []) (begun_text t (start task.environment []))
 
-  read_as : (o : Option Script) → tree_of task.text ≡ o → (w : Word) → run_on task w ≡ tree_answer (full task.setting) o task.name (start task.environment w)
-  read_as o e w = ap (λ (x : Option Script). tree_answer (full task.setting) x task.name (start task.environment w)) e
+  read_as : (o : Option Script) → tree_of task.text ≡ o → (w : OutcomeWord) → run_on task w ≡ tree_answer (full task.limits) o task.name (start task.environment w)
+  read_as o e w = ap (λ (x : Option Script). tree_answer (full task.limits) x task.name (start task.environment w)) e
 
-  begins_by : (o : Option Script) → ((t : Script) → o ≡ Some t → IsProper t) → (w : Word) → settled (tree_answer (full task.setting) o task.name (start task.environment w)) ≡ comes_to task.setting w (begun o)
+  begins_by : (o : Option Script) → ((t : Script) → o ≡ Some t → IsProper t) → (w : OutcomeWord) → settled (tree_answer (full task.limits) o task.name (start task.environment w)) ≡ comes_to task.limits w (begun o)
   begins_by None p w = refl
-  begins_by (Some tree.Empty) p w = ap settled (closed_exec task.setting task.setting.step_bound tree.Empty tt (with w (begun_text tree.Empty (start task.environment []))) (omega arith))
-  begins_by (Some (tree.Runs l ls)) p w = ap settled (closed_exec task.setting task.setting.step_bound (tree.Runs l ls) (p (tree.Runs l ls) refl) (with w (start task.environment [])) (omega arith))
+  begins_by (Some tree.Empty) p w = ap settled (closed_exec task.limits task.limits.step_bound tree.Empty tt (with w (begun_text tree.Empty (start task.environment []))) (omega arith))
+  begins_by (Some (tree.Runs l ls)) p w = ap settled (closed_exec task.limits task.limits.step_bound (tree.Runs l ls) (p (tree.Runs l ls) refl) (with w (start task.environment [])) (omega arith))
 
   pub begins : (o : Option Script) → tree_of task.text ≡ o → AfterMove task [] (begun o)
   begins o e = after-is [] (begun o) (λ w. ap settled (read_as o e w) ∙ begins_by o (λ t f. trees_are_proper task.text t (e ∙ f)) w)
 
-  boots-is : (w : Word) (b : Bool) (name : Text) (fs : List Frame) (s : State) → continue task.setting fs (boot b name (with w s)) ≡ comes_to task.setting w (boot_next b name fs s)
-  boots-is w true name fs s = continue-ended task.setting fs (Booted name) (with w s)
+  boots-is : (w : OutcomeWord) (b : Bool) (name : Text) (fs : List Frame) (s : State) → continue task.limits fs (boot b name (with w s)) ≡ comes_to task.limits w (boot_next b name fs s)
+  boots-is w true name fs s = continue-ended task.limits fs (Booted name) (with w s)
   boots-is w false name fs s = refl
 
-  pub answered-is : (w : Word) (outcome : Outcome) (r : Request) (fs : List Frame) (s : State) → continue task.setting fs (take_outcome r (outcome ∷ w) (with (outcome ∷ w) s)) ≡ comes_to task.setting w (answered outcome r fs s)
+  pub answered-is : (w : OutcomeWord) (outcome : Outcome) (r : Request) (fs : List Frame) (s : State) → continue task.limits fs (take_outcome r (outcome ∷ w) (with (outcome ∷ w) s)) ≡ comes_to task.limits w (answered outcome r fs s)
   answered-is w Success r fs s = boots-is w r.effect.ends r.name fs (set_environment r.effect.sets (logged Success r s))
   answered-is w Failure r fs s = refl
 
   -- an outcome for the command that asks
-  pub takes : (p : Word) (r : Request) (fs : List Frame) (s : State) (outcome : Outcome) → AsksAt task p r fs s → AfterMove task (p ++ outcome ∷ []) (answered outcome r fs s)
-  takes p r fs s outcome h = after-is (p ++ outcome ∷ []) (answered outcome r fs s) (λ w. ap (λ (v : Word). settled (run_on task v)) (append_assoc p (outcome ∷ []) w) ∙ h (outcome ∷ w) ∙ answered-is w outcome r fs s)
+  pub takes : (p : OutcomeWord) (r : Request) (fs : List Frame) (s : State) (outcome : Outcome) → AsksAt task p r fs s → AfterMove task (p ++ outcome ∷ []) (answered outcome r fs s)
+  takes p r fs s outcome h = after-is (p ++ outcome ∷ []) (answered outcome r fs s) (λ w. ap (λ (v : OutcomeWord). settled (run_on task v)) (append_assoc p (outcome ∷ []) w) ∙ h (outcome ∷ w) ∙ answered-is w outcome r fs s)

@@ -4,9 +4,9 @@ use Rattle.std.specs.Prelude.{IfOk, OnOk}
 use Rattle.bootstore.specs.declared.store.StoreError.{StoreError}
 use Rattle.bootstore.specs.Moment.{RunningFrame, Moment}
 use Rattle.bootstore.specs.Record.{Record}
-use Rattle.rehearse.specs.Outcomes.{Word, Outcome, Success, Failure}
+use Rattle.rehearse.specs.Outcomes.{OutcomeWord, Outcome, Success, Failure}
 use Rattle.rehearse.specs.State.{State, state_at}
-use Rattle.rehearse.specs.Execution.{Setting, Request, logged, set_environment, succeeds}
+use Rattle.rehearse.specs.Execution.{Limits, Request, logged, set_environment, succeeds}
 use Rattle.rehearse.specs.Runs.{Task}
 use Rattle.rehearse_machine.specs.declared.ask.Ask.{Ask}
 use Rattle.rehearse_machine.specs.declared.halt.Halt.{Halt}
@@ -15,10 +15,10 @@ use Rattle.rehearse_machine.specs.declared.ask.Step.TheVariants as steps
 use Rattle.rehearse_machine.specs.declared.rehearsal.Stop.{Stop}
 use Rattle.rehearse_machine.specs.declared.rehearsal.Stop.TheVariants.{Asks, Ends}
 use Rattle.rehearse_machine.specs.Places.{PlaceNext, GoOn, AskOn, StopOn, next_of, frames_of, place_boot, place_answered}
-use Rattle.rehearse_machine.specs.Asking.{found_again}
+use Rattle.rehearse_machine.specs.AskingCommand.{found_again}
 use Rattle.rehearse_machine.specs.Came.{Came}
 use Rattle.rehearse_machine.specs.Meaning.{comes_to, IsProperNext, AreProperFrames}
-use Rattle.rehearse_machine.specs.Seen.{next_seen, request_seen, Keeps, Does}
+use Rattle.rehearse_machine.specs.MovesShown.{next_shown, request_shown, Keeps, Does}
 use Rattle.rehearse_machine.specs.Turning.{to_come, step_comes, IsSound, IsSoundStep, Drives}
 use Rattle.rehearse_machine.specs.Machine.{Asking, IsAsking, asked_at, Stops, outcome_when}
 use Rattle.rehearse_machine.proofs.Moves.{continue-dry}
@@ -27,29 +27,29 @@ use Rattle.rehearse_machine.proofs.Standing.{answered-is}
 
 -- ---- where the machine stops
 
-module _ (setting : Setting) (old new : Record) where
+module _ (limits : Limits) (old new : Record) where
   -- a device command asks
-  pub stops_asking : (ask : Ask) (step : Step) → step ≡ steps.Asks ask → Drives setting step old new → Stops setting Asks (to_come setting old.present) new.present
+  pub stops_asking : (ask : Ask) (step : Step) → step ≡ steps.Asks ask → Drives limits step old new → Stops limits Asks (to_come limits old.present) new.present
   unfolding asked_at IsAsking
   stops_asking ask step is drives =
-      let d : Drives setting (steps.Asks ask) old new = subst (λ (x : Step). Drives setting x old new) is drives in
-      let asking : Asking setting new.present = record { request = request_seen ask; again = d.again; sound = d.sound; within = d.within } in
-      (asking, λ w. sym (d.means w) ∙ ap (λ (x : PlaceNext). comes_to setting w (next_of x)) (sym (d.again w)), sym (d.means []) ∙ continue-dry setting (frames_of new.present.frames) (state_at new.present []))
+      let d : Drives limits (steps.Asks ask) old new = subst (λ (x : Step). Drives limits x old new) is drives in
+      let asking : Asking limits new.present = record { request = request_shown ask; again = d.again; sound = d.sound; within = d.within } in
+      (asking, λ w. sym (d.means w) ∙ ap (λ (x : PlaceNext). comes_to limits w (next_of x)) (sym (d.again w)), sym (d.means []) ∙ continue-dry limits (frames_of new.present.frames) (state_at new.present []))
 
   -- the run has ended
-  pub stops_ended : (halt : Halt) (step : Step) → step ≡ steps.Ends halt → Drives setting step old new → Stops setting (Ends halt) (to_come setting old.present) new.present
-  stops_ended halt step is drives = λ w. sym (drives.means w) ∙ ap (λ (x : Step). step_comes setting x new.present w) is
+  pub stops_ended : (halt : Halt) (step : Step) → step ≡ steps.Ends halt → Drives limits step old new → Stops limits (Ends halt) (to_come limits old.present) new.present
+  stops_ended halt step is drives = λ w. sym (drives.means w) ∙ ap (λ (x : Step). step_comes limits x new.present w) is
 
   -- no more steps were begun than the bound
-  pub stops_within : (step : Step) → (step ≡ steps.Going → ⊥) → Drives setting step old new → new.present.steps ≤ setting.step_bound
+  pub stops_within : (step : Step) → (step ≡ steps.Going → ⊥) → Drives limits step old new → new.present.steps ≤ limits.step_bound
   stops_within steps.Going other drives = absurd (other refl)
   stops_within (steps.Asks ask) other drives = drives.within
   stops_within (steps.Ends halt) other drives = drives.within
 
 -- what comes to the same stops there too
-pub stops_as : (setting : Setting) (stop : Stop) (f g : Word → Came) (m : Moment) → ((w : Word) → g w ≡ f w) → Stops setting stop f m → Stops setting stop g m
-stops_as setting Asks f g m e h = (h.0, λ w. e w ∙ h.1 w, e [] ∙ h.2)
-stops_as setting (Ends halt) f g m e h = λ w. e w ∙ h w
+pub stops_as : (limits : Limits) (stop : Stop) (f g : OutcomeWord → Came) (m : Moment) → ((w : OutcomeWord) → g w ≡ f w) → Stops limits stop f m → Stops limits stop g m
+stops_as limits Asks f g m e h = (h.0, λ w. e w ∙ h.1 w, e [] ∙ h.2)
+stops_as limits (Ends halt) f g m e h = λ w. e w ∙ h w
 
 -- ---- an outcome
 
@@ -93,19 +93,19 @@ module _ (r : Request) (ps : List RunningFrame) where
   answered_sound Failure s h = h
 
 -- a command that asks is found again
-module _ (setting : Setting) (old mid : Record) (step : Step) (asking : IsAsking setting old.present) (finds : Does step old mid (found_again setting old.present.frames)) where
-  asking_at : Asking setting old.present
+module _ (limits : Limits) (old mid : Record) (step : Step) (asking : IsAsking limits old.present) (finds : Does step old mid (found_again limits old.present.frames)) where
+  asking_at : Asking limits old.present
   unfolding IsAsking
   asking_at = asking
 
-  found : (w : Word) → next_seen step mid.present w ≡ AskOn asking_at.request old.present.frames (state_at old.present w)
+  found : (w : OutcomeWord) → next_shown step mid.present w ≡ AskOn asking_at.request old.present.frames (state_at old.present w)
   found w = finds.0 w ∙ asking_at.again w
 
   pub never_goes : step ≡ steps.Going → ⊥
-  never_goes e = let f : GoOn mid.present.frames (state_at mid.present []) ≡ AskOn asking_at.request old.present.frames (state_at old.present []) = sym (ap (λ (x : Step). next_seen x mid.present []) e) ∙ found [] in cc
+  never_goes e = let f : GoOn mid.present.frames (state_at mid.present []) ≡ AskOn asking_at.request old.present.frames (state_at old.present []) = sym (ap (λ (x : Step). next_shown x mid.present []) e) ∙ found [] in cc
 
   pub never_ends : (halt : Halt) → step ≡ steps.Ends halt → ⊥
-  never_ends halt e = let f = sym (ap (λ (x : Step). next_seen x mid.present []) e) ∙ found [] in cc
+  never_ends halt e = let f = sym (ap (λ (x : Step). next_shown x mid.present []) e) ∙ found [] in cc
 
   never_other : (x : Step) → x ≡ step → ((ask : Ask) → step ≡ steps.Asks ask → ⊥) → ⊥
   never_other steps.Going e other = never_goes (sym e)
@@ -116,20 +116,20 @@ module _ (setting : Setting) (old mid : Record) (step : Step) (asking : IsAsking
   never_found other = never_other step refl other
 
   -- and takes an outcome
-  module _ (ask : Ask) (is : step ≡ steps.Asks ask) (outcome : Outcome) (new : Record) (next : Step) (does : Does next mid new (place_answered outcome (request_seen ask) mid.present.frames)) where
-    asks_so : (w : Word) → AskOn (request_seen ask) mid.present.frames (state_at mid.present w) ≡ AskOn asking_at.request old.present.frames (state_at old.present w)
-    asks_so w = sym (ap (λ (x : Step). next_seen x mid.present w) is) ∙ found w
+  module _ (ask : Ask) (is : step ≡ steps.Asks ask) (outcome : Outcome) (new : Record) (next : Step) (does : Does next mid new (place_answered outcome (request_shown ask) mid.present.frames)) where
+    asks_so : (w : OutcomeWord) → AskOn (request_shown ask) mid.present.frames (state_at mid.present w) ≡ AskOn asking_at.request old.present.frames (state_at old.present w)
+    asks_so w = sym (ap (λ (x : Step). next_shown x mid.present w) is) ∙ found w
 
-    same_request : request_seen ask ≡ asking_at.request
+    same_request : request_shown ask ≡ asking_at.request
     same_request = let e = asks_so [] in cc
 
     same_frames : mid.present.frames ≡ old.present.frames
     same_frames = let e = asks_so [] in cc
 
-    same_state : (w : Word) → state_at mid.present w ≡ state_at old.present w
+    same_state : (w : OutcomeWord) → state_at mid.present w ≡ state_at old.present w
     same_state w = let e = asks_so w in cc
 
-    answers : (w : Word) → next_seen next new.present w ≡ place_answered outcome asking_at.request old.present.frames (state_at old.present w)
+    answers : (w : OutcomeWord) → next_shown next new.present w ≡ place_answered outcome asking_at.request old.present.frames (state_at old.present w)
     answers w =
         does.0 w
         ∙ ap (λ (r : Request). place_answered outcome r mid.present.frames (state_at mid.present w)) same_request
@@ -137,33 +137,33 @@ module _ (setting : Setting) (old mid : Record) (step : Step) (asking : IsAsking
         ∙ ap (place_answered outcome asking_at.request old.present.frames) (same_state w)
 
     abbrev task : Task
-    task = record { setting = setting; environment = []; name = []; text = [] }
+    task = record { limits = limits; environment = []; name = []; text = [] }
 
-    pub resumed : (w : Word) → asked_at setting old.present (outcome ∷ w) ≡ step_comes setting next new.present w
+    pub resumed : (w : OutcomeWord) → asked_at limits old.present (outcome ∷ w) ≡ step_comes limits next new.present w
     unfolding asked_at
     resumed w =
-        ap (λ (x : PlaceNext). comes_to setting (outcome ∷ w) (next_of x)) (asking_at.again (outcome ∷ w))
+        ap (λ (x : PlaceNext). comes_to limits (outcome ∷ w) (next_of x)) (asking_at.again (outcome ∷ w))
         ∙ answered-is task w outcome asking_at.request (frames_of old.present.frames) (state_at old.present w)
-        ∙ sym (ap (comes_to setting w) (ap next_of (answers w) ∙ place_answered-is outcome asking_at.request old.present.frames (state_at old.present w)))
+        ∙ sym (ap (comes_to limits w) (ap next_of (answers w) ∙ place_answered-is outcome asking_at.request old.present.frames (state_at old.present w)))
 
     pub never_asks : (more : Ask) → next ≡ steps.Asks more → ⊥
     unfolding asks
     never_asks more e =
-        let f : true ≡ false = ap (λ (x : Step). asks (next_seen x new.present [])) (sym e) ∙ ap asks (answers []) ∙ answered_asks asking_at.request old.present.frames outcome (state_at old.present []) in
+        let f : true ≡ false = ap (λ (x : Step). asks (next_shown x new.present [])) (sym e) ∙ ap asks (answers []) ∙ answered_asks asking_at.request old.present.frames outcome (state_at old.present []) in
         absurd (let g = f in cc)
 
     -- the run has ended
-    pub booted : (halt : Halt) → next ≡ steps.Ends halt → Stops setting (Ends halt) (λ w. asked_at setting old.present (outcome ∷ w)) new.present
-    booted halt e = λ w. resumed w ∙ ap (λ (x : Step). step_comes setting x new.present w) e
+    pub booted : (halt : Halt) → next ≡ steps.Ends halt → Stops limits (Ends halt) (λ w. asked_at limits old.present (outcome ∷ w)) new.present
+    booted halt e = λ w. resumed w ∙ ap (λ (x : Step). step_comes limits x new.present w) e
 
     -- it goes on
-    pub goes_on : next ≡ steps.Going → (w : Word) → asked_at setting old.present (outcome ∷ w) ≡ to_come setting new.present w
-    goes_on e w = resumed w ∙ ap (λ (x : Step). step_comes setting x new.present w) e
+    pub goes_on : next ≡ steps.Going → (w : OutcomeWord) → asked_at limits old.present (outcome ∷ w) ≡ to_come limits new.present w
+    goes_on e w = resumed w ∙ ap (λ (x : Step). step_comes limits x new.present w) e
 
     pub goes_soundly : next ≡ steps.Going → IsSound new.present
     goes_soundly e = subst (λ (x : Step). IsSoundStep x new.present) e (subst IsProperNext (sym (ap next_of (answers []))) (answered_sound asking_at.request old.present.frames outcome (state_at old.present []) asking_at.sound))
 
-    seen_steps : (x : Step) → steps_of (next_seen x new.present []) ≡ new.present.steps
+    seen_steps : (x : Step) → steps_of (next_shown x new.present []) ≡ new.present.steps
     unfolding steps_of
     seen_steps steps.Going = refl
     seen_steps (steps.Asks more) = refl
@@ -172,8 +172,8 @@ module _ (setting : Setting) (old mid : Record) (step : Step) (asking : IsAsking
     pub same_steps : new.present.steps ≡ old.present.steps
     same_steps = sym (seen_steps next) ∙ ap steps_of (answers []) ∙ answered_steps asking_at.request old.present.frames outcome (state_at old.present [])
 
-    pub still_within : new.present.steps ≤ setting.step_bound
-    still_within = subst (λ (n : ℕ). n ≤ setting.step_bound) (sym same_steps) asking_at.within
+    pub still_within : new.present.steps ≤ limits.step_bound
+    still_within = subst (λ (n : ℕ). n ≤ limits.step_bound) (sym same_steps) asking_at.within
 
     pub same_marks : new.marked ≡ old.marked
     same_marks = does.1.marked ∙ finds.1.marked
@@ -192,9 +192,9 @@ outcome_succeeds false = refl
 
 -- ---- a text that went on
 
-pub all_stop_as : (r : Result Stop StoreError) (setting : Setting) (f g : Word → Came) (new : Record) → ((w : Word) → g w ≡ f w) → IfOk r (λ stop. Stops setting stop f new.present) → IfOk r (λ stop. Stops setting stop g new.present)
-all_stop_as (Ok stop) setting f g new e h = stops_as setting stop f g new.present e h
-all_stop_as (Err x) setting f g new e h = h
+pub all_stop_as : (r : Result Stop StoreError) (limits : Limits) (f g : OutcomeWord → Came) (new : Record) → ((w : OutcomeWord) → g w ≡ f w) → IfOk r (λ stop. Stops limits stop f new.present) → IfOk r (λ stop. Stops limits stop g new.present)
+all_stop_as (Ok stop) limits f g new e h = stops_as limits stop f g new.present e h
+all_stop_as (Err x) limits f g new e h = h
 
 pub marks_on : (r : Result Stop StoreError) (old mid new : Record) → mid.marked ≡ old.marked → OnOk r (Keeps mid new) → OnOk r (new.marked ≡ old.marked)
 marks_on (Ok stop) old mid new e h = h.marked ∙ e

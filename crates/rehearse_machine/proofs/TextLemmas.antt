@@ -5,14 +5,14 @@ use Rattle.std.specs.FinMap as finite
 use Rattle.std.specs.FinMap.{entries}
 use Rattle.hushlang.specs.Tree as tree
 use Rattle.hushlang.specs.Tree.{Script}
-use Rattle.hushlang.specs.View as view
+use Rattle.hushlang.specs.TreesShown as view
 use Rattle.hushlang.specs.declared.tree.Script.{Script as Code}
 use Rattle.bootstore.specs.Moment as stored
 use Rattle.bootstore.specs.Record.{Record, beginning, started, changed, with_frame}
-use Rattle.rehearse.specs.Outcomes.{Word}
+use Rattle.rehearse.specs.Outcomes.{OutcomeWord}
 use Rattle.rehearse.specs.Trees.{tree_of}
 use Rattle.rehearse.specs.State.{Text, Variables, get, State, start}
-use Rattle.rehearse.specs.Execution.{Setting, Normal, Syntax}
+use Rattle.rehearse.specs.Execution.{Limits, Normal, Syntax}
 use Rattle.rehearse.specs.Runs.{Task, run_on}
 use Rattle.rehearse.proofs.StateLemmas.{stored_values, stored_starts}
 use Rattle.rehearse.proofs.ProperLemmas.{trees_are_proper}
@@ -24,15 +24,15 @@ use Rattle.rehearse_machine.specs.Turning.{IsSound, to_come}
 use Rattle.rehearse_machine.proofs.PlaceMoves.{text_begins}
 use Rattle.rehearse_machine.proofs.Standing.{begins}
 
-begun_start : (t : Script) (environment : Variables) (w : Word) → with w (begun_text t (start environment [])) ≡ start environment w
+begun_start : (t : Script) (environment : Variables) (w : OutcomeWord) → with w (begun_text t (start environment [])) ≡ start environment w
 begun_start tree.Empty environment w = refl
 begun_start (tree.Runs l ls) environment w = refl
 
 -- the frame of a text means the run on it
-pub text_runs : (task : Task) (t : Script) (w : Word) → tree_of task.text ≡ Some t → continue task.setting (frames_of (text_frame t ∷ [])) (Normal (start task.environment w)) ≡ settled (run_on task w)
+pub text_runs : (task : Task) (t : Script) (w : OutcomeWord) → tree_of task.text ≡ Some t → continue task.limits (frames_of (text_frame t ∷ [])) (Normal (start task.environment w)) ≡ settled (run_on task w)
 text_runs task t w e =
-    ap (λ (x : List Frame). continue task.setting x (Normal (start task.environment w))) (text_begins t)
-    ∙ ap (λ (x : State). continue task.setting (Lists t ∷ []) (Normal x)) (sym (begun_start t task.environment w))
+    ap (λ (x : List Frame). continue task.limits x (Normal (start task.environment w))) (text_begins t)
+    ∙ ap (λ (x : State). continue task.limits (Lists t ∷ []) (Normal x)) (sym (begun_start t task.environment w))
     ∙ sym (begins task (Some t) e w)
 
 pub text_sound : (text : Text) (t : Script) → tree_of text ≡ Some t → AreProperFrames (frames_of (text_frame t ∷ []))
@@ -51,14 +51,14 @@ module _ (old mid new : Record) (variables : stored.Variables) (child : stored.R
   pub stands_sound : IsSound new.present
   stands_sound = subst IsSound (sym stands) (text_sound text (view.script code) read)
 
-  pub stands_runs : (setting : Setting) (name : Text) (w : Word) → to_come setting new.present w ≡ settled (run_on (record { setting = setting; environment = entries variables; name = name; text = text }) w)
-  stands_runs setting name w =
-      ap (λ (m : stored.Moment). to_come setting m w) stands
-      ∙ ap (λ (x : State). continue setting (frames_of (text_frame (view.script code) ∷ [])) (Normal x)) (stored_starts variables w)
-      ∙ text_runs (record { setting = setting; environment = entries variables; name = name; text = text }) (view.script code) w read
+  pub stands_runs : (limits : Limits) (name : Text) (w : OutcomeWord) → to_come limits new.present w ≡ settled (run_on (record { limits = limits; environment = entries variables; name = name; text = text }) w)
+  stands_runs limits name w =
+      ap (λ (m : stored.Moment). to_come limits m w) stands
+      ∙ ap (λ (x : State). continue limits (frames_of (text_frame (view.script code) ∷ [])) (Normal x)) (stored_starts variables w)
+      ∙ text_runs (record { limits = limits; environment = entries variables; name = name; text = text }) (view.script code) w read
 
 -- a text that is no script
-pub refused_runs : (task : Task) (w : Word) → tree_of task.text ≡ None → settled (run_on task w) ≡ Over (Syntax task.name) (start task.environment w)
+pub refused_runs : (task : Task) (w : OutcomeWord) → tree_of task.text ≡ None → settled (run_on task w) ≡ Over (Syntax task.name) (start task.environment w)
 refused_runs task w e = begins task None e w
 
 -- the text that a rehearsal reads

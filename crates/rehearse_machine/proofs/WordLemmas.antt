@@ -8,13 +8,13 @@ use Rattle.bootstore.specs.declared.store.StoreError.{StoreError}
 use Rattle.bootstore.specs.Moment.{RunningFrame, bytes_of_words}
 use Rattle.bootstore.specs.Record.{Record, changed, with_local}
 use Rattle.hushlang.specs.Tree.{Script}
-use Rattle.rehearse.specs.Outcomes.{Word}
+use Rattle.rehearse.specs.Outcomes.{OutcomeWord}
 use Rattle.rehearse.specs.State.{Text, Variables, state_at}
 use Rattle.rehearse.specs.Execution.{set_local}
 use Rattle.rehearse.proofs.StateLemmas.{stored_changes}
 use Rattle.rehearse_machine.specs.declared.ask.Step.{Step}
 use Rattle.rehearse_machine.specs.Places.{GoOn, place, moved_to, block_frame, for_turn}
-use Rattle.rehearse_machine.specs.Seen.{Comes, Keeps, under}
+use Rattle.rehearse_machine.specs.MovesShown.{Comes, Keeps, under}
 use Rattle.rehearse_machine.proofs.Coming.{comes_at, comes_after, keeps_change}
 
 abbrev items_of : Vec ℕ Global → Text
@@ -26,7 +26,7 @@ word_none items words k j e kj h = ap (λ (x : List Text). slice_get x j) (sym e
 pub word_some : (items : List (Vec ℕ Global)) (words : List Text) (k j : ℕ) (v : Vec ℕ Global) → bytes_of_words items ≡ words → k ≡ j → k < length items → v ≡ get_or items k v → slice_get words j ≡ Some v.items
 word_some items words k j v e kj h r = ap (λ (x : List Text). slice_get x j) (sym e) ∙ ap (slice_get (bytes_of_words items)) (sym kj) ∙ slice_get-map items_of items k ∙ ap (option_map items_of) (slice_get_read items (length items) k v refl h r)
 
-pub local_state : (old mid : Record) (name value : Text) (w : Word) → mid ≡ changed (with_local name value) old → state_at mid.present w ≡ set_local name value (state_at old.present w)
+pub local_state : (old mid : Record) (name value : Text) (w : OutcomeWord) → mid ≡ changed (with_local name value) old → state_at mid.present w ≡ set_local name value (state_at old.present w)
 local_state old mid name value w e =
     ap (λ (r : Record). state_at r.present w) e
     ∙ ap (λ (x : Variables). record (state_at old.present w) { memory = record (state_at old.present w).memory { locals = x } }) (stored_changes old.present.locals name value)

@@ -3,11 +3,11 @@ pub mod Variables
 pub mod Places
 pub mod Came
 pub mod Meaning
-pub mod Turns
-pub mod Asking
-pub mod Halted
-pub mod Seen
-pub mod Called
+pub mod MoveCounts
+pub mod AskingCommand
+pub mod EndingsShown
+pub mod MovesShown
+pub mod CalledShown
 pub mod Turning
 pub mod Machine
 pub mod Tasks

@@ -1,38 +1,38 @@
 -- What the machine promises: where a text stops, and what is still to come there for every rest of the word. Ours.
 use Rattle.std.specs.Prelude.{◌≡◌, ◌≤◌, Bool, true, false, []}
 use Rattle.bootstore.specs.Moment.{Moment}
-use Rattle.rehearse.specs.Outcomes.{Word, Outcome, Success, Failure}
+use Rattle.rehearse.specs.Outcomes.{OutcomeWord, Outcome, Success, Failure}
 use Rattle.rehearse.specs.State.{state_at}
-use Rattle.rehearse.specs.Execution.{Setting, Request}
+use Rattle.rehearse.specs.Execution.{Limits, Request}
 use Rattle.rehearse_machine.specs.Places.{AskOn, next_of}
-use Rattle.rehearse_machine.specs.Asking.{found_again}
+use Rattle.rehearse_machine.specs.AskingCommand.{found_again}
 use Rattle.rehearse_machine.specs.Came.{Came, Over, Wants}
 use Rattle.rehearse_machine.specs.Meaning.{comes_to}
 use Rattle.rehearse_machine.specs.Turning.{IsSound}
-use Rattle.rehearse_machine.specs.Halted.{halt_shown}
+use Rattle.rehearse_machine.specs.EndingsShown.{halt_shown}
 use Rattle.rehearse_machine.specs.declared.rehearsal.Stop.{Stop}
 use Rattle.rehearse_machine.specs.declared.rehearsal.Stop.TheVariants.{Asks, Ends}
 
 -- what a moment at which a device command asks comes to with the outcomes of a word
-unfoldable pub asked_at : Setting → Moment → Word → Came
-asked_at setting m w = comes_to setting w (next_of (found_again setting m.frames (state_at m w)))
+unfoldable pub asked_at : Limits → Moment → OutcomeWord → Came
+asked_at limits m w = comes_to limits w (next_of (found_again limits m.frames (state_at m w)))
 
 -- the device command that asks stands in the frames of the moment
-pub record Asking (setting : Setting) (m : Moment) : Type 0 where
+pub record Asking (limits : Limits) (m : Moment) : Type 0 where
   pub request : Request
-  pub again : (w : Word) → found_again setting m.frames (state_at m w) ≡ AskOn request m.frames (state_at m w)
+  pub again : (w : OutcomeWord) → found_again limits m.frames (state_at m w) ≡ AskOn request m.frames (state_at m w)
   pub sound : IsSound m
-  pub within : m.steps ≤ setting.step_bound
+  pub within : m.steps ≤ limits.step_bound
 
 -- whether a device command asks for an outcome at a moment
-unfoldable pub IsAsking : Setting → Moment → Type 0
-IsAsking setting m = Asking setting m
+unfoldable pub IsAsking : Limits → Moment → Type 0
+IsAsking limits m = Asking limits m
 
 abbrev pub outcome_when : (success : Bool) → Outcome
 outcome_when true = Success
 outcome_when false = Failure
 
 -- a text that comes to f stopped at a moment: a device command asks, or the run has ended, whatever outcomes are left
-abbrev pub Stops : Setting → Stop → (f : Word → Came) → Moment → Type 0
-Stops setting Asks f m = IsAsking setting m × ((w : Word) → f w ≡ asked_at setting m w) × (f [] ≡ Wants (state_at m []))
-Stops setting (Ends halt) f m = (w : Word) → f w ≡ Over (halt_shown halt) (state_at m w)
+abbrev pub Stops : Limits → Stop → (f : OutcomeWord → Came) → Moment → Type 0
+Stops limits Asks f m = IsAsking limits m × ((w : OutcomeWord) → f w ≡ asked_at limits m w) × (f [] ≡ Wants (state_at m []))
+Stops limits (Ends halt) f m = (w : OutcomeWord) → f w ≡ Over (halt_shown halt) (state_at m w)

@@ -1,16 +1,16 @@
 -- What frames still make of a run: the machine's frames as a continuation of the meaning of scripts. Ours.
 use Rattle.std.specs.Prelude.{◌≡◌, nat_eq, Bool, true, false, List, [], ◌∷◌, ◌++◌}
 use Rattle.hushlang.specs.Tree.{Script, Joined, Command, Arms}
-use Rattle.rehearse.specs.Outcomes.{Word}
+use Rattle.rehearse.specs.Outcomes.{OutcomeWord}
 use Rattle.rehearse.specs.State.{State}
 use Rattle.rehearse.specs.Proper.{IsProper, IsProperJoined, AreProperArms, IsBlock}
-use Rattle.rehearse.specs.Execution.{Setting, Answer, Normal, Exit, Ended, Dry, Ending, Request, go_on, set_status, holds, text_end, take_outcome, run_all, turns, for_each, exec_script, exec_joined, exec_command, exec_arms, exec}
+use Rattle.rehearse.specs.Execution.{Limits, Answer, Normal, Exit, Ended, Dry, Ending, Request, go_on, set_status, holds, text_end, take_outcome, run_all, turns, for_each, exec_script, exec_joined, exec_command, exec_arms, exec}
 use Rattle.rehearse.specs.Runs.{Task, run_on}
 use Rattle.rehearse_machine.specs.Came.{Came, Over, settled}
 use Rattle.rehearse_machine.specs.Frames.{Frame, Lists, Linked, IfCondition, LoopCondition, LoopBody, ForBody, RunNames, RunText, Next, Go, Ask, Stop}
 
 -- the state with this word left
-abbrev pub with : Word → State → State
+abbrev pub with : OutcomeWord → State → State
 with w s = record s { word = w }
 
 -- a text that `run` started has ended, or is the first: the next one follows where its status is 0, or it is the first
@@ -20,25 +20,25 @@ first_or_next (Exit s) next = next s
 first_or_next (Ended ending s) next = Ended ending s
 first_or_next (Dry s) next = Dry s
 
-module _ (setting : Setting) where
+module _ (limits : Limits) where
   -- what a script means: its texts have all the steps too
   abbrev pub full : Script → State → Answer
-  full = exec setting setting.step_bound
+  full = exec limits limits.step_bound
 
   abbrev pub script : Script → State → Answer
-  script = exec_script setting setting.step_bound full
+  script = exec_script limits limits.step_bound full
 
   abbrev pub one : Command → State → Answer
-  one = exec_command setting setting.step_bound full
+  one = exec_command limits limits.step_bound full
 
   abbrev pub joined_of : Joined → State → Answer
-  joined_of = exec_joined setting setting.step_bound full
+  joined_of = exec_joined limits limits.step_bound full
 
   abbrev pub arms_of : Arms → State → Answer
-  arms_of = exec_arms setting setting.step_bound full
+  arms_of = exec_arms limits limits.step_bound full
 
   abbrev pub again : Bool → Script → Script → State → Answer
-  again until c b u = turns setting.step_bound until (script c) (script b) u.memory.status u
+  again until c b u = turns limits.step_bound until (script c) (script b) u.memory.status u
 
   -- what a frame makes of the answer of those above it
   abbrev pub resume : Frame → Answer → Answer
@@ -48,8 +48,8 @@ module _ (setting : Setting) where
   resume (LoopCondition until c b last) a = go_on a (λ t. elim (holds until t.memory.status) [ true ↦ go_on (script b t) (again until c b) | false ↦ Normal (set_status last t) ])
   resume (LoopBody until c b) a = go_on a (again until c b)
   resume (ForBody name values body) a = go_on a (λ t. for_each name (script body) t.memory.status values t)
-  resume (RunNames names) a = first_or_next a (run_all setting full names)
-  resume (RunText names) a = text_end a (run_all setting full names)
+  resume (RunNames names) a = first_or_next a (run_all limits full names)
+  resume (RunText names) a = text_end a (run_all limits full names)
 
   -- what all the frames make of it
   abbrev pub continue : List Frame → Answer → Came
@@ -57,7 +57,7 @@ module _ (setting : Setting) where
   continue (f ∷ fs) a = continue fs (resume f a)
 
   -- what a move comes to, with this word left
-  abbrev pub comes_to : Word → Next → Came
+  abbrev pub comes_to : OutcomeWord → Next → Came
   comes_to w (Go fs s) = continue fs (Normal (with w s))
   comes_to w (Ask request fs s) = continue fs (take_outcome request w (with w s))
   comes_to w (Stop ending s) = Over ending (with w s)
@@ -84,18 +84,18 @@ IsProperNext (Stop ending s) = Unit {0}
 
 module _ (task : Task) where
   -- the machine stands where a run of the task stands that has taken p
-  abbrev pub StandsAt : Word → List Frame → State → Type 0
-  StandsAt p fs s = (w : Word) → settled (run_on task (p ++ w)) ≡ continue task.setting fs (Normal (with w s))
+  abbrev pub StandsAt : OutcomeWord → List Frame → State → Type 0
+  StandsAt p fs s = (w : OutcomeWord) → settled (run_on task (p ++ w)) ≡ continue task.limits fs (Normal (with w s))
 
   -- a command stands asked: whatever follows p, it takes the next outcome
-  abbrev pub AsksAt : Word → Request → List Frame → State → Type 0
-  AsksAt p request fs s = (w : Word) → settled (run_on task (p ++ w)) ≡ continue task.setting fs (take_outcome request w (with w s))
+  abbrev pub AsksAt : OutcomeWord → Request → List Frame → State → Type 0
+  AsksAt p request fs s = (w : OutcomeWord) → settled (run_on task (p ++ w)) ≡ continue task.limits fs (take_outcome request w (with w s))
 
   -- the run is over: whatever follows p is left over
-  abbrev pub EndsAt : Word → Ending → State → Type 0
-  EndsAt p ending s = (w : Word) → settled (run_on task (p ++ w)) ≡ Over ending (with w s)
+  abbrev pub EndsAt : OutcomeWord → Ending → State → Type 0
+  EndsAt p ending s = (w : OutcomeWord) → settled (run_on task (p ++ w)) ≡ Over ending (with w s)
 
-  abbrev pub AfterMove : Word → Next → Type 0
+  abbrev pub AfterMove : OutcomeWord → Next → Type 0
   AfterMove p (Go fs s) = StandsAt p fs s
   AfterMove p (Ask request fs s) = AsksAt p request fs s
   AfterMove p (Stop ending s) = EndsAt p ending s

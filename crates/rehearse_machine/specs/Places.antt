@@ -10,11 +10,11 @@ use Rattle.bootstore.specs.declared.frame.FrameKind.TheVariants as kinds
 use Rattle.bootstore.specs.Moment.{RunningFrame}
 use Rattle.rehearse.specs.Outcomes.{Outcome, Success, Failure}
 use Rattle.rehearse.specs.Trees.{tree_of}
-use Rattle.rehearse.specs.State.{Text, get, State, setting_in}
+use Rattle.rehearse.specs.State.{Text, get, State, parameters_in}
 use Rattle.rehearse.specs.Verdict.{verdict}
 use Rattle.rehearse.specs.Builtins.{SetEnv, Run, Test, Echo, True, False, Leave}
 use Rattle.rehearse.specs.Commands.{Called, BuiltIn, NoCommand, Device, called_by, asks_device, setenv, echo, exit_status}
-use Rattle.rehearse.specs.Execution.{Setting, Ending, End, CutDevices, CutSteps, Unknown, Syntax, Size, Booted, remember, set_status, set_local, status_when, goes, holds, Request, no_effect, logged, set_environment}
+use Rattle.rehearse.specs.Execution.{Limits, Ending, End, CutDevices, CutSteps, Unknown, Syntax, Size, Booted, remember, set_status, set_local, status_when, goes, holds, Request, no_effect, logged, set_environment}
 use Rattle.rehearse_machine.specs.Frames.{Frame, Lists, Linked, IfCondition, LoopCondition, LoopBody, ForBody, RunNames, RunText, Next, Go, Ask, Stop, begun_text}
 
 -- ---- parts of a script by their numbers
@@ -173,7 +173,7 @@ place_answered Failure request ps s = GoOn ps (logged Failure request s)
 
 abbrev pub place_assign : List (Text × tree.Word) → List RunningFrame → State → PlaceNext
 place_assign [] ps s = GoOn ps (set_status 0 s)
-place_assign (pair ∷ pairs) ps s = let value = joined (setting_in s.memory) pair.1 in elim (nat_le (length value) most_bytes) [ true ↦ place_assign pairs ps (set_local pair.0 value s) | false ↦ StopOn Size s ]
+place_assign (pair ∷ pairs) ps s = let value = joined (parameters_in s.memory) pair.1 in elim (nat_le (length value) most_bytes) [ true ↦ place_assign pairs ps (set_local pair.0 value s) | false ↦ StopOn Size s ]
 
 -- the text of a name of a `run`, which is f
 abbrev pub place_tree : Option Script → Text → RunningFrame → List RunningFrame → State → PlaceNext
@@ -230,9 +230,9 @@ phase_move o a f fs s = GoOn (behind f ∷ fs) s
 abbrev pub place_fitting : List Text → (List Text → State → PlaceNext) → State → PlaceNext
 place_fitting fs next s = elim (nat_le (size fs) most_bytes) [ true ↦ next fs s | false ↦ StopOn Size s ]
 
-module _ (setting : Setting) where
+module _ (limits : Limits) where
   abbrev pub place_ask : Request → List RunningFrame → State → PlaceNext
-  place_ask request ps s = elim (nat_lt (length s.log) setting.device_bound) [ true ↦ AskOn request ps s | false ↦ StopOn CutDevices s ]
+  place_ask request ps s = elim (nat_lt (length s.log) limits.device_bound) [ true ↦ AskOn request ps s | false ↦ StopOn CutDevices s ]
 
   -- the frames stand behind the command, which stands in a script
   abbrev pub place_called : Called → Text → List Text → Script → List RunningFrame → State → PlaceNext
@@ -249,17 +249,17 @@ module _ (setting : Setting) where
 
   abbrev pub place_fields : List Text → Script → List RunningFrame → State → PlaceNext
   place_fields [] script ps s = GoOn ps (set_status 0 s)
-  place_fields (name ∷ ws) script ps s = place_called (called_by setting.devices name) name ws script ps s
+  place_fields (name ∷ ws) script ps s = place_called (called_by limits.devices name) name ws script ps s
 
   abbrev pub place_counted : (State → PlaceNext) → State → PlaceNext
-  place_counted next s = elim (nat_lt s.steps setting.step_bound) [ true ↦ next (record s { steps = suc s.steps }) | false ↦ StopOn CutSteps s ]
+  place_counted next s = elim (nat_lt s.steps limits.step_bound) [ true ↦ next (record s { steps = suc s.steps }) | false ↦ StopOn CutSteps s ]
 
   abbrev pub place_command : Command → RunningFrame → List RunningFrame → State → PlaceNext
-  place_command (tree.Simple words) f fs s = place_counted (λ t. place_fitting (fields (setting_in t.memory) words) (λ found. place_fields found f.script (behind f ∷ fs)) t) s
+  place_command (tree.Simple words) f fs s = place_counted (λ t. place_fitting (fields (parameters_in t.memory) words) (λ found. place_fields found f.script (behind f ∷ fs)) t) s
   place_command (tree.Assign pairs) f fs s = place_counted (place_assign pairs (behind f ∷ fs)) s
   place_command (tree.If arms) f fs s = place_arms arms 0 f fs s
   place_command (tree.Loop until c b) f fs s = GoOn (block_frame c ∷ in_turn 1 0 f ∷ fs) s
-  place_command (tree.For name words body) f fs s = place_counted (λ t. place_fitting (fields (setting_in t.memory) words) (λ found. for_begins found f fs) t) s
+  place_command (tree.For name words body) f fs s = place_counted (λ t. place_fitting (fields (parameters_in t.memory) words) (λ found. for_begins found f fs) t) s
 
   -- a command behind `&&` or `||`, or the end of the list
   abbrev pub place_joined : Option (Op × Command) → RunningFrame → List RunningFrame → State → PlaceNext

@@ -13,7 +13,7 @@ abbrev pub task_shown : List (Text × Text) → Devices → Text → BoundsShown
 task_shown env devices name bounds =
     let environment = entries (environment_of env) in
     record {
-      setting = record { devices = devices; device_bound = bounds.devices; step_bound = bounds.steps };
+      limits = record { devices = devices; device_bound = bounds.devices; step_bound = bounds.steps };
       environment = environment;
       name = name;
       text = unwrap_or (get environment name) [];

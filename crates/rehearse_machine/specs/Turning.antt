@@ -3,33 +3,33 @@ use Rattle.std.specs.Prelude.{◌≡◌, ℕ, ◌<◌, ◌≤◌, []}
 use Rattle.std.specs.FinMap.{entries}
 use Rattle.bootstore.specs.Moment.{Moment}
 use Rattle.bootstore.specs.Record.{Record}
-use Rattle.rehearse.specs.Outcomes.{Word}
+use Rattle.rehearse.specs.Outcomes.{OutcomeWord}
 use Rattle.rehearse.specs.State.{state_at}
-use Rattle.rehearse.specs.Execution.{Setting, Normal}
+use Rattle.rehearse.specs.Execution.{Limits, Normal}
 use Rattle.rehearse_machine.specs.declared.ask.Step.{Step}
 use Rattle.rehearse_machine.specs.declared.ask.Step.TheVariants as steps
 use Rattle.rehearse_machine.specs.Frames.{Next, Go, Ask, Stop}
 use Rattle.rehearse_machine.specs.Places.{next_of, frames_of}
-use Rattle.rehearse_machine.specs.Asking.{AsksAgain}
+use Rattle.rehearse_machine.specs.AskingCommand.{AsksAgain}
 use Rattle.rehearse_machine.specs.Came.{Came}
 use Rattle.rehearse_machine.specs.Meaning.{continue, comes_to, AreProperFrames, IsProperNext}
-use Rattle.rehearse_machine.specs.Turns.{weight}
-use Rattle.rehearse_machine.specs.Seen.{next_seen, Keeps}
+use Rattle.rehearse_machine.specs.MoveCounts.{weight}
+use Rattle.rehearse_machine.specs.MovesShown.{next_shown, Keeps}
 
 -- what a moment of a store still comes to, with this word
-abbrev pub to_come : Setting → Moment → Word → Came
-to_come setting m w = continue setting (frames_of m.frames) (Normal (state_at m w))
+abbrev pub to_come : Limits → Moment → OutcomeWord → Came
+to_come limits m w = continue limits (frames_of m.frames) (Normal (state_at m w))
 
 -- what a move that has come to a moment comes to
-abbrev pub step_comes : Setting → Step → Moment → Word → Came
-step_comes setting step m w = comes_to setting w (next_of (next_seen step m w))
+abbrev pub step_comes : Limits → Step → Moment → OutcomeWord → Came
+step_comes limits step m w = comes_to limits w (next_of (next_shown step m w))
 
 -- the frames hold proper scripts
 abbrev pub IsSound : Moment → Type 0
 IsSound m = AreProperFrames (frames_of m.frames)
 
 abbrev pub IsSoundStep : Step → Moment → Type 0
-IsSoundStep step m = IsProperNext (next_of (next_seen step m []))
+IsSoundStep step m = IsProperNext (next_of (next_shown step m []))
 
 -- more steps were begun where the run is not over, and no more than the bound
 abbrev pub IsFurtherOn : (bound steps : ℕ) → Next → Type 0
@@ -48,34 +48,34 @@ abbrev pub moves_left : Moment → ℕ
 moves_left m = weight (entries m.environment) (frames_of m.frames)
 
 -- a turn: what is to come stays, and a step is begun or the run is over
-pub record Turns (setting : Setting) (step : Step) (old new : Record) : Type 0 where
-  pub means : (w : Word) → step_comes setting step new.present w ≡ to_come setting old.present w
+pub record Turns (limits : Limits) (step : Step) (old new : Record) : Type 0 where
+  pub means : (w : OutcomeWord) → step_comes limits step new.present w ≡ to_come limits old.present w
   pub sound : IsSoundStep step new.present
   pub kept : Keeps old new
-  pub further : IsFurtherOn setting.step_bound old.present.steps (next_of (next_seen step new.present []))
-  pub again : (w : Word) → AsksAgain setting (next_seen step new.present w)
+  pub further : IsFurtherOn limits.step_bound old.present.steps (next_of (next_shown step new.present []))
+  pub again : (w : OutcomeWord) → AsksAgain limits (next_shown step new.present w)
 
 -- moves that began no step
-pub record Waits (setting : Setting) (old new : Record) : Type 0 where
-  pub means : (w : Word) → to_come setting new.present w ≡ to_come setting old.present w
+pub record Waits (limits : Limits) (old new : Record) : Type 0 where
+  pub means : (w : OutcomeWord) → to_come limits new.present w ≡ to_come limits old.present w
   pub sound : IsSound new.present
   pub kept : Keeps old new
   pub steps : new.present.steps ≡ old.present.steps
 
 -- turns up to an outcome that is asked for, or to the end
-pub record Drives (setting : Setting) (step : Step) (old new : Record) : Type 0 where
-  pub means : (w : Word) → step_comes setting step new.present w ≡ to_come setting old.present w
+pub record Drives (limits : Limits) (step : Step) (old new : Record) : Type 0 where
+  pub means : (w : OutcomeWord) → step_comes limits step new.present w ≡ to_come limits old.present w
   pub sound : IsSoundStep step new.present
   pub kept : Keeps old new
   pub stopped : step ≡ steps.Going → ⊥
-  pub within : IsWithin setting.step_bound (next_of (next_seen step new.present []))
+  pub within : IsWithin limits.step_bound (next_of (next_shown step new.present []))
   pub grows : old.present.steps ≤ new.present.steps
-  pub again : (w : Word) → AsksAgain setting (next_seen step new.present w)
+  pub again : (w : OutcomeWord) → AsksAgain limits (next_shown step new.present w)
 
 -- turns on the way
-pub record Comes_on (setting : Setting) (old new : Record) : Type 0 where
-  pub means : (w : Word) → to_come setting new.present w ≡ to_come setting old.present w
+pub record Comes_on (limits : Limits) (old new : Record) : Type 0 where
+  pub means : (w : OutcomeWord) → to_come limits new.present w ≡ to_come limits old.present w
   pub sound : IsSound new.present
   pub kept : Keeps old new
-  pub within : new.present.steps ≤ setting.step_bound
+  pub within : new.present.steps ≤ limits.step_bound
   pub grows : old.present.steps ≤ new.present.steps

@@ -1,8 +1,8 @@
 //! A device command that asks, found again.
 ghost use Rattle.std.specs.Prelude.{◌≡◌, map, option_map};
-ghost use Rattle.hushlang.specs.View as view;
-ghost use Rattle.rehearse_machine.specs.Asking as asking;
-ghost use Rattle.rehearse_machine.specs.Seen.{Comes, IsTop, setting_of, under};
+ghost use Rattle.hushlang.specs.TreesShown as view;
+ghost use Rattle.rehearse_machine.specs.AskingCommand as asking;
+ghost use Rattle.rehearse_machine.specs.MovesShown.{Comes, IsTop, limits_of, under};
 
 use crate::ask::Step;
 use crate::halt::Halt;
@@ -45,7 +45,7 @@ fn find_behind<'d, S: Store>(
 ) -> Result<Step<'d>, StoreError>
     requires { IsTop frame.now (S.record_of store.old).present }
     ensures { Comes result (S.record_of store.old) (S.record_of store.new)
-        (asking.fields_again (setting_of devices.now bounds) (asking.words_in_front frame.now) frame.now (under (S.record_of store.old).present)) }
+        (asking.fields_again (limits_of devices.now bounds) (asking.words_in_front frame.now) frame.now (under (S.record_of store.old).present)) }
 {
     let Some(words) = words_in_front(frame) else {
         return Ok(Step::Ends(Halt::End(store.get_status())));
@@ -64,7 +64,7 @@ pub(crate) fn find_again<'d, S: Store>(
     devices: &'d Devices,
     bounds: Bounds,
 ) -> Result<Step<'d>, StoreError>
-    ensures { Comes result (S.record_of store.old) (S.record_of store.new) (asking.found_again (setting_of devices.now bounds) (S.record_of store.old).present.frames) }
+    ensures { Comes result (S.record_of store.old) (S.record_of store.new) (asking.found_again (limits_of devices.now bounds) (S.record_of store.old).present.frames) }
 {
     let Some(top) = store.top() else {
         return Ok(Step::Ends(Halt::End(store.get_status())));

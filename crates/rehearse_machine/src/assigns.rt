@@ -1,10 +1,10 @@
 //! Assignments of shell variables.
 ghost use Rattle.std.specs.Prelude.{◌∷◌, ◌+◌, ◌<◌, ◌^◌, map};
-ghost use Rattle.hushlang.specs.View as view;
+ghost use Rattle.hushlang.specs.TreesShown as view;
 ghost use Rattle.hushlang.specs.Tree as tree;
 ghost use Rattle.rehearse.specs.DeviceList.{Devices as ListedDevices};
 ghost use Rattle.rehearse_machine.specs.Places as places;
-ghost use Rattle.rehearse_machine.specs.Seen.{Comes, IsTop, under, setting_of};
+ghost use Rattle.rehearse_machine.specs.MovesShown.{Comes, IsTop, under, limits_of};
 
 use crate::ask::Step;
 use crate::frames::{behind, finish};
@@ -27,7 +27,7 @@ pub(crate) fn begin_assign<'d, S: Store>(
     requires command { frame.now.place.command + 1 < 2 ^ 64 }
     requires begun { (S.record_of store.old).begun + 1 < 2 ^ 64 }
     ensures { (devices : ListedDevices) → Comes result (S.record_of store.old) (S.record_of store.new)
-        (places.place_command (setting_of devices bounds) (tree.Assign (map view.value values.now)) frame.now (under (S.record_of store.old).present)) }
+        (places.place_command (limits_of devices bounds) (tree.Assign (map view.value values.now)) frame.now (under (S.record_of store.old).present)) }
 {
     let counted = count(store, bounds)?;
     if !counted {

@@ -1,8 +1,8 @@
 //! The commands that hold blocks.
 ghost use Rattle.std.specs.Prelude.{◌∷◌, ◌+◌, ◌<◌, ◌^◌, map};
-ghost use Rattle.hushlang.specs.View as view;
+ghost use Rattle.hushlang.specs.TreesShown as view;
 ghost use Rattle.rehearse_machine.specs.Places.{place_arms, drop_arms, condition_ends, loop_ends, block_frame, GoOn, in_turn};
-ghost use Rattle.rehearse_machine.specs.Seen.{Comes, IsTop, under};
+ghost use Rattle.rehearse_machine.specs.MovesShown.{Comes, IsTop, under};
 
 use crate::ask::Step;
 use crate::frames::{behind, block, enter, finish, go_on, in_turn};

@@ -6,11 +6,11 @@ ghost use Rattle.bootstore.specs.Moment.{bytes_of_words};
 ghost use Rattle.rehearse.specs.Commands as says;
 ghost use Rattle.rehearse.specs.CommandsShown.{lent_effect};
 ghost use Rattle.rehearse.specs.State.{state_at};
-ghost use Rattle.rehearse.specs.Outcomes.{Word};
+ghost use Rattle.rehearse.specs.Outcomes.{OutcomeWord};
 ghost use Rattle.rehearse.specs.DeviceList.{Devices as ListedDevices};
 ghost use Rattle.rehearse_machine.specs.Places.{place_ask};
-ghost use Rattle.rehearse_machine.specs.Seen.{next_seen, Changed, Comes, setting_of};
-ghost use Rattle.rehearse_machine.specs.Called.{called_seen};
+ghost use Rattle.rehearse_machine.specs.MovesShown.{next_shown, Changed, Comes, limits_of};
+ghost use Rattle.rehearse_machine.specs.CalledShown.{called_shown};
 
 use crate::ask::{Ask, Step};
 use crate::halt::Halt;
@@ -28,7 +28,7 @@ pub(crate) enum Called<'a> {
 
 /// What a name calls: a built-in command, else one of the device list.
 pub(crate) fn called_by<'a>(devices: &'a Devices, name: &[u8]) -> Called<'a>
-    ensures { called_seen result ≡ says.called_by devices.now name.now }
+    ensures { called_shown result ≡ says.called_by devices.now name.now }
 {
     if let Some(builtin) = builtin_of(name) {
         return Called::BuiltIn(builtin);
@@ -47,8 +47,8 @@ pub(crate) fn ask<'d, S: Store>(
     words: Vec<Vec<u8>>,
     effect: Effect<'d>,
 ) -> Step<'d>
-    ensures { (devices : ListedDevices) (w : Word) → next_seen result (S.record_of store.now).present w
-        ≡ place_ask (setting_of devices bounds) (record { name = name.items; words = bytes_of_words words.items; effect = lent_effect effect.entry }) (S.record_of store.now).present.frames (state_at (S.record_of store.now).present w) }
+    ensures { (devices : ListedDevices) (w : OutcomeWord) → next_shown result (S.record_of store.now).present w
+        ≡ place_ask (limits_of devices bounds) (record { name = name.items; words = bytes_of_words words.items; effect = lent_effect effect.entry }) (S.record_of store.now).present.frames (state_at (S.record_of store.now).present w) }
 {
     let asked = store.log().len();
     if asked < bounds.devices() as usize {

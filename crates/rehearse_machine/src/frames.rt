@@ -1,9 +1,9 @@
 //! Places in scripts.
 ghost use Rattle.std.specs.Prelude.{◌≡◌, suc, ◌∷◌, ◌+◌, ◌<◌, ◌^◌};
-ghost use Rattle.hushlang.specs.View as view;
+ghost use Rattle.hushlang.specs.TreesShown as view;
 ghost use Rattle.rehearse.specs.Execution.{set_status};
 ghost use Rattle.rehearse_machine.specs.Places.{place, block_frame, text_frame, moved_to, GoOn};
-ghost use Rattle.rehearse_machine.specs.Seen.{Comes, IsTop, under};
+ghost use Rattle.rehearse_machine.specs.MovesShown.{Comes, IsTop, under};
 
 use crate::ask::Step;
 use bootstore::{At, Frame, FrameKind, Store, StoreError};

@@ -40,7 +40,7 @@ pub enum Ending<'v> {
 }
 
 impl Halt {
-    ghost use Rattle.rehearse_machine.specs.Halted.{ending_shown, halt_shown};
+    ghost use Rattle.rehearse_machine.specs.EndingsShown.{ending_shown, halt_shown};
 
     /// The same, borrowed.
     pub fn ending(&self) -> Ending<'_>

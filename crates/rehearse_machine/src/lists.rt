@@ -1,8 +1,8 @@
 //! One move in a list of a script.
 ghost use Rattle.std.specs.Prelude.{◌≡◌, ◌+◌, ◌<◌, ◌^◌};
-ghost use Rattle.hushlang.specs.View as view;
+ghost use Rattle.hushlang.specs.TreesShown as view;
 ghost use Rattle.rehearse_machine.specs.Places.{place_begins};
-ghost use Rattle.rehearse_machine.specs.Seen.{Comes, IsTop, under, setting_of};
+ghost use Rattle.rehearse_machine.specs.MovesShown.{Comes, IsTop, under, limits_of};
 ghost use Rattle.rehearse.specs.Execution.{goes};
 
 use crate::ask::Step;
@@ -36,7 +36,7 @@ pub fn begin_in_list<'d, S: Store>(
     requires list { frame.now.place.list + 1 < 2 ^ 64 }
     requires begun { (S.record_of store.old).begun + 1 < 2 ^ 64 }
     ensures { Comes result (S.record_of store.old) (S.record_of store.new)
-        (place_begins (setting_of devices.now bounds) (view.list list.now) frame.now.place.command frame.now (under (S.record_of store.old).present)) }
+        (place_begins (limits_of devices.now bounds) (view.list list.now) frame.now.place.command frame.now (under (S.record_of store.old).present)) }
 {
     let at = frame.at();
     if at.command == 0 {

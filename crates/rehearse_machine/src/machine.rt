@@ -1,7 +1,7 @@
 //! The machine: moves over a store, up to an outcome that is asked for or to the end.
 ghost use Rattle.std.specs.Prelude.{◌≡◌, ◌+◌, ◌<◌, ◌≤◌, ◌^◌, IfOk};
 ghost use Rattle.rehearse_machine.specs.Places.{place_move};
-ghost use Rattle.rehearse_machine.specs.Seen.{Comes, setting_of};
+ghost use Rattle.rehearse_machine.specs.MovesShown.{Comes, limits_of};
 ghost use Rattle.rehearse_machine.specs.Turning.{IsSound, Turns, Drives};
 
 use crate::ask::Step;
@@ -19,7 +19,7 @@ pub(crate) fn step<'d, S: Store>(
     bounds: Bounds,
 ) -> Result<Step<'d>, StoreError>
     requires { (S.record_of store.old).begun + 1 < 2 ^ 64 }
-    ensures { Comes result (S.record_of store.old) (S.record_of store.new) (place_move (setting_of devices.now bounds) (S.record_of store.old).present.frames) }
+    ensures { Comes result (S.record_of store.old) (S.record_of store.new) (place_move (limits_of devices.now bounds) (S.record_of store.old).present.frames) }
 {
     let Some(top) = store.top() else {
         return Ok(Step::Ends(Halt::End(store.get_status())));
@@ -42,7 +42,7 @@ pub(crate) fn turn<'d, S: Store>(
 ) -> Result<Step<'d>, StoreError>
     requires sound { IsSound (S.record_of store.old).present }
     requires begun { (S.record_of store.old).begun + 1 < 2 ^ 64 }
-    ensures { IfOk result (λ step. Turns (setting_of devices.now bounds) step (S.record_of store.old) (S.record_of store.new)) }
+    ensures { IfOk result (λ step. Turns (limits_of devices.now bounds) step (S.record_of store.old) (S.record_of store.new)) }
 {
     let before = store.steps();
     'moves: loop {
@@ -68,7 +68,7 @@ pub(crate) fn drive<'d, S: Store>(
     requires sound { IsSound (S.record_of store.old).present }
     requires steps { (S.record_of store.old).present.steps ≤ bounds.steps }
     requires begun { (S.record_of store.old).begun + bounds.steps + 1 < 2 ^ 64 }
-    ensures { IfOk result (λ step. Drives (setting_of devices.now bounds) step (S.record_of store.old) (S.record_of store.new)) }
+    ensures { IfOk result (λ step. Drives (limits_of devices.now bounds) step (S.record_of store.old) (S.record_of store.new)) }
 {
     'turns: loop {
         match turn(alloc, store, devices, bounds)? {

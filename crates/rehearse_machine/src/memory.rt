@@ -12,9 +12,9 @@ pub(crate) struct Memory<'a, S> {
 }
 
 impl<'a, S: Store> Vars for Memory<'a, S> {
-    ghost use Rattle.rehearse_machine.specs.Variables.{setting_at};
+    ghost use Rattle.rehearse_machine.specs.Variables.{parameters_at};
 
-    ghost setting = { λ m. setting_at (S.record_of m.store.now).present };
+    ghost parameters = { λ m. parameters_at (S.record_of m.store.now).present };
 
     fn get(&self, name: &[u8]) -> Option<&[u8]> {
         match self.store.get_env(name) {

@@ -1,8 +1,8 @@
 //! One move of a frame of a `run` or of a `for`.
 ghost use Rattle.std.specs.Prelude.{slice_get};
-ghost use Rattle.hushlang.specs.View as view;
+ghost use Rattle.hushlang.specs.TreesShown as view;
 ghost use Rattle.rehearse_machine.specs.Places.{for_turn};
-ghost use Rattle.rehearse_machine.specs.Seen.{Comes, IsTop, under};
+ghost use Rattle.rehearse_machine.specs.MovesShown.{Comes, IsTop, under};
 
 use crate::ask::Step;
 use crate::frames::{block, enter, in_turn, leave};

@@ -4,7 +4,7 @@ ghost use Rattle.rehearse.specs.DevicesShown.{setting_shown};
 ghost use Rattle.rehearse.specs.Outcomes.{Outcome};
 ghost use Rattle.rehearse.specs.Execution.{succeeds, with_all};
 ghost use Rattle.rehearse_machine.specs.Places.{place_answered};
-ghost use Rattle.rehearse_machine.specs.Seen.{Changed, Comes, request_seen};
+ghost use Rattle.rehearse_machine.specs.MovesShown.{Changed, Comes, request_shown};
 
 use crate::ask::{Ask, Step};
 use crate::halt::Halt;
@@ -18,7 +18,7 @@ pub(crate) fn answer<'d, S: Store>(
     success: bool,
 ) -> Result<Step<'d>, StoreError>
     ensures { (outcome : Outcome) → succeeds outcome ≡ success → Comes result (S.record_of store.old) (S.record_of store.new)
-        (place_answered outcome (request_seen ask.entry) (S.record_of store.old).present.frames) }
+        (place_answered outcome (request_shown ask.entry) (S.record_of store.old).present.frames) }
 {
     let Ask {
         name,

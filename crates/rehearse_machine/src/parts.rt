@@ -1,6 +1,6 @@
 //! Parts of a script by their numbers.
 ghost use Rattle.std.specs.Prelude.{◌≡◌, ◌+◌, ◌<◌, ◌^◌, IsSome, option_map};
-ghost use Rattle.hushlang.specs.View as view;
+ghost use Rattle.hushlang.specs.TreesShown as view;
 ghost use Rattle.rehearse_machine.specs.Places.{command_in};
 
 use hushlang::tree::{AndOr, Command};

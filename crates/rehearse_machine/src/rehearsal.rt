@@ -4,7 +4,7 @@ ghost use Rattle.std.specs.FinMap.{get};
 ghost use Rattle.rehearse.specs.Bounds.{most_steps};
 ghost use Rattle.rehearse.specs.Runs.{run_on};
 ghost use Rattle.rehearse_machine.specs.Came.{settled};
-ghost use Rattle.rehearse_machine.specs.Seen.{Keeps, setting_of};
+ghost use Rattle.rehearse_machine.specs.MovesShown.{Keeps, limits_of};
 ghost use Rattle.rehearse_machine.specs.Turning.{IsSound, to_come};
 ghost use Rattle.rehearse_machine.specs.Machine.{Stops, IsAsking, asked_at, outcome_when};
 ghost use Rattle.rehearse_machine.specs.Tasks.{task_in};
@@ -51,7 +51,7 @@ fn go_on<S: Store>(rehearsal: &Rehearsal<'_>, store: &mut S) -> Result<Stop, Sto
     requires sound { IsSound (S.record_of store.old).present }
     requires steps { (S.record_of store.old).present.steps ≤ rehearsal.now.bounds.steps }
     requires begun { (S.record_of store.old).begun + rehearsal.now.bounds.steps + 1 < 2 ^ 64 }
-    ensures stops { IfOk result (λ stop. Stops (setting_of rehearsal.now.devices.now rehearsal.now.bounds) stop (to_come (setting_of rehearsal.now.devices.now rehearsal.now.bounds) (S.record_of store.old).present) (S.record_of store.new).present) }
+    ensures stops { IfOk result (λ stop. Stops (limits_of rehearsal.now.devices.now rehearsal.now.bounds) stop (to_come (limits_of rehearsal.now.devices.now rehearsal.now.bounds) (S.record_of store.old).present) (S.record_of store.new).present) }
     ensures kept { OnOk result (Keeps (S.record_of store.old) (S.record_of store.new)) }
     ensures within { OnOk result ((S.record_of store.new).present.steps ≤ rehearsal.now.bounds.steps) }
     ensures grows { OnOk result ((S.record_of store.old).present.steps ≤ (S.record_of store.new).present.steps) }
@@ -77,7 +77,7 @@ fn text_of<'s, S: Store>(store: &'s S, name: &[u8]) -> &'s [u8]
 /// set is run as the empty text.
 pub fn begin<S: Store>(rehearsal: &Rehearsal<'_>, store: &mut S) -> Result<Stop, StoreError>
     requires { (S.record_of store.old).begun + most_steps + 1 < 2 ^ 64 }
-    ensures stops { IfOk result (λ stop. Stops (task_in rehearsal.now).setting stop (λ w. settled (run_on (task_in rehearsal.now) w)) (S.record_of store.new).present) }
+    ensures stops { IfOk result (λ stop. Stops (task_in rehearsal.now).limits stop (λ w. settled (run_on (task_in rehearsal.now) w)) (S.record_of store.new).present) }
     ensures marks { OnOk result ((S.record_of store.new).marked ≡ []) }
     ensures begun { OnOk result ((S.record_of store.new).begun ≡ (S.record_of store.old).begun + (S.record_of store.new).present.steps) }
     ensures within { OnOk result ((S.record_of store.new).present.steps ≤ most_steps) }
@@ -99,9 +99,9 @@ pub fn resume<S: Store>(
     store: &mut S,
     success: bool,
 ) -> Result<Stop, StoreError>
-    requires asks { IsAsking (task_in rehearsal.now).setting (S.record_of store.old).present }
+    requires asks { IsAsking (task_in rehearsal.now).limits (S.record_of store.old).present }
     requires begun { (S.record_of store.old).begun + most_steps + 1 < 2 ^ 64 }
-    ensures stops { IfOk result (λ stop. Stops (task_in rehearsal.now).setting stop (λ w. asked_at (task_in rehearsal.now).setting (S.record_of store.old).present (outcome_when success ∷ w)) (S.record_of store.new).present) }
+    ensures stops { IfOk result (λ stop. Stops (task_in rehearsal.now).limits stop (λ w. asked_at (task_in rehearsal.now).limits (S.record_of store.old).present (outcome_when success ∷ w)) (S.record_of store.new).present) }
     ensures marks { OnOk result ((S.record_of store.new).marked ≡ (S.record_of store.old).marked) }
     ensures begun { OnOk result ((S.record_of store.new).begun + (S.record_of store.old).present.steps ≡ (S.record_of store.old).begun + (S.record_of store.new).present.steps) }
     ensures within { OnOk result ((S.record_of store.new).present.steps ≤ most_steps) }

@@ -1,9 +1,9 @@
 //! One move of a frame of each kind.
 ghost use Rattle.std.specs.Prelude.{◌∷◌, ◌+◌, ◌<◌, ◌^◌, suc, slice_get};
-ghost use Rattle.hushlang.specs.View as view;
+ghost use Rattle.hushlang.specs.TreesShown as view;
 ghost use Rattle.rehearse_machine.specs.Frames.{begun_text};
 ghost use Rattle.rehearse_machine.specs.Places as places;
-ghost use Rattle.rehearse_machine.specs.Seen.{Comes, IsTop, under, setting_of};
+ghost use Rattle.rehearse_machine.specs.MovesShown.{Comes, IsTop, under, limits_of};
 
 use crate::ask::Step;
 use crate::frames::{enter, go_on, in_turn, leave, place, text};
@@ -30,7 +30,7 @@ pub(crate) fn move_in_script<'d, S: Store>(
     requires top { IsTop frame.now (S.record_of store.old).present }
     requires begun { (S.record_of store.old).begun + 1 < 2 ^ 64 }
     ensures { Comes result (S.record_of store.old) (S.record_of store.new)
-        (places.place_list (setting_of devices.now bounds) (places.list_at frame.now.script frame.now.place.list) frame.now (under (S.record_of store.old).present)) }
+        (places.place_list (limits_of devices.now bounds) (places.list_at frame.now.script frame.now.place.list) frame.now (under (S.record_of store.old).present)) }
 {
     let at = frame.at();
     let script = frame.script();

@@ -1,8 +1,8 @@
 //! One move of a frame that runs a script.
 ghost use Rattle.std.specs.Prelude.{◌+◌, ◌<◌, ◌^◌, Some};
-ghost use Rattle.hushlang.specs.View as view;
+ghost use Rattle.hushlang.specs.TreesShown as view;
 ghost use Rattle.rehearse_machine.specs.Places.{phase_move, place_command};
-ghost use Rattle.rehearse_machine.specs.Seen.{Comes, IsTop, under, setting_of};
+ghost use Rattle.rehearse_machine.specs.MovesShown.{Comes, IsTop, under, limits_of};
 
 use crate::ask::Step;
 use crate::assigns::begin_assign;
@@ -54,7 +54,7 @@ pub fn begin_command<'d, S: Store>(
     requires command { frame.now.place.command + 1 < 2 ^ 64 }
     requires begun { (S.record_of store.old).begun + 1 < 2 ^ 64 }
     ensures { Comes result (S.record_of store.old) (S.record_of store.new)
-        (place_command (setting_of devices.now bounds) (view.command command.now) frame.now (under (S.record_of store.old).present)) }
+        (place_command (limits_of devices.now bounds) (view.command command.now) frame.now (under (S.record_of store.old).present)) }
 {
     match command {
         Command::Simple(words) => begin_simple(alloc, store, frame, devices, bounds, words),

@@ -1,17 +1,17 @@
 //! Simple commands.
 ghost use Rattle.std.specs.Prelude.{◌+◌, ◌<◌, ◌^◌, map};
-ghost use Rattle.hushlang.specs.View as view;
+ghost use Rattle.hushlang.specs.TreesShown as view;
 ghost use Rattle.hushlang.specs.Tree as tree;
 ghost use Rattle.hushlang.specs.Expansion.{fields};
-ghost use Rattle.rehearse.specs.State.{Text, setting_in};
-ghost use Rattle.rehearse.specs.Execution.{Setting, set_status};
+ghost use Rattle.rehearse.specs.State.{Text, parameters_in};
+ghost use Rattle.rehearse.specs.Execution.{Limits, set_status};
 ghost use Rattle.rehearse.specs.Builtins as builtins;
 ghost use Rattle.rehearse.specs.Commands as says;
 ghost use Rattle.bootstore.specs.Moment.{bytes_of_words};
 ghost use Rattle.rehearse.specs.DeviceList.{Devices as ListedDevices};
 ghost use Rattle.rehearse_machine.specs.Places.{place_fields, place_called, place_exit, place_command, place_counted, place_fitting, for_begins, GoOn};
-ghost use Rattle.rehearse_machine.specs.Seen.{Comes, IsTop, under, setting_of};
-ghost use Rattle.rehearse_machine.specs.Called.{builtin_called, called_seen};
+ghost use Rattle.rehearse_machine.specs.MovesShown.{Comes, IsTop, under, limits_of};
+ghost use Rattle.rehearse_machine.specs.CalledShown.{builtin_called, called_shown};
 
 use crate::ask::Step;
 use crate::commands::{Called, ask, asks_device, called_by, echo, exit_status, setenv};
@@ -40,8 +40,8 @@ fn run_names<'d, S: Store>(
     script: &Rc<Script>,
     names: Vec<Vec<u8>>,
 ) -> Result<Step<'d>, StoreError>
-    ensures { (setting : Setting) (name : Text) → Comes result (S.record_of store.old) (S.record_of store.new)
-        (place_called setting (says.BuiltIn builtins.Run) name (bytes_of_words names.items) (view.script script.now.value) (S.record_of store.old).present.frames) }
+    ensures { (limits : Limits) (name : Text) → Comes result (S.record_of store.old) (S.record_of store.new)
+        (place_called limits (says.BuiltIn builtins.Run) name (bytes_of_words names.items) (view.script script.now.value) (S.record_of store.old).present.frames) }
 {
     if names.is_empty() {
         done(store, 1)
@@ -58,7 +58,7 @@ fn run_test<'d, S: Store>(
     words: Vec<Vec<u8>>,
 ) -> Result<Step<'d>, StoreError>
     ensures { (devices : ListedDevices) (script : tree.Script) → Comes result (S.record_of store.old) (S.record_of store.new)
-        (place_called (setting_of devices bounds) (says.BuiltIn builtins.Test) name.items (bytes_of_words words.items) script (S.record_of store.old).present.frames) }
+        (place_called (limits_of devices bounds) (says.BuiltIn builtins.Test) name.items (bytes_of_words words.items) script (S.record_of store.old).present.frames) }
 {
     if asks_device(&words) {
         let effect = Effect {
@@ -98,7 +98,7 @@ fn run_builtin<'d, S: Store>(
     words: Vec<Vec<u8>>,
 ) -> Result<Step<'d>, StoreError>
     ensures { (devices : ListedDevices) → Comes result (S.record_of store.old) (S.record_of store.new)
-        (place_called (setting_of devices bounds) (builtin_called builtin) name.items (bytes_of_words words.items) (view.script script.now.value) (S.record_of store.old).present.frames) }
+        (place_called (limits_of devices bounds) (builtin_called builtin) name.items (bytes_of_words words.items) (view.script script.now.value) (S.record_of store.old).present.frames) }
 {
     match builtin {
         Builtin::SetEnv => {
@@ -128,7 +128,7 @@ fn run_called<'d, S: Store>(
     words: Vec<Vec<u8>>,
 ) -> Result<Step<'d>, StoreError>
     ensures { (devices : ListedDevices) → Comes result (S.record_of store.old) (S.record_of store.new)
-        (place_called (setting_of devices bounds) (called_seen called.entry) name.items (bytes_of_words words.items) (view.script script.now.value) (S.record_of store.old).present.frames) }
+        (place_called (limits_of devices bounds) (called_shown called.entry) name.items (bytes_of_words words.items) (view.script script.now.value) (S.record_of store.old).present.frames) }
 {
     match called {
         Called::BuiltIn(builtin) => {
@@ -149,7 +149,7 @@ pub(crate) fn run_fields<'d, S: Store>(
     mut fields: Vec<Vec<u8>>,
 ) -> Result<Step<'d>, StoreError>
     ensures { Comes result (S.record_of store.old) (S.record_of store.new)
-        (place_fields (setting_of devices.now bounds) (bytes_of_words fields.items) (view.script script.now.value) (S.record_of store.old).present.frames) }
+        (place_fields (limits_of devices.now bounds) (bytes_of_words fields.items) (view.script script.now.value) (S.record_of store.old).present.frames) }
 {
     if fields.as_slice().is_empty() {
         return done(store, 0);
@@ -172,7 +172,7 @@ pub(crate) fn begin_simple<'d, S: Store>(
     requires command { frame.now.place.command + 1 < 2 ^ 64 }
     requires begun { (S.record_of store.old).begun + 1 < 2 ^ 64 }
     ensures { Comes result (S.record_of store.old) (S.record_of store.new)
-        (place_command (setting_of devices.now bounds) (tree.Simple (map view.word words.now)) frame.now (under (S.record_of store.old).present)) }
+        (place_command (limits_of devices.now bounds) (tree.Simple (map view.word words.now)) frame.now (under (S.record_of store.old).present)) }
 {
     let counted = count(store, bounds)?;
     if !counted {
@@ -197,7 +197,7 @@ pub(crate) fn begin_for<'d, S: Store>(
     requires command { frame.now.place.command + 1 < 2 ^ 64 }
     requires begun { (S.record_of store.old).begun + 1 < 2 ^ 64 }
     ensures { (devices : ListedDevices) → Comes result (S.record_of store.old) (S.record_of store.new)
-        (place_counted (setting_of devices bounds) (λ t. place_fitting (fields (setting_in t.memory) (map view.word words.now)) (λ found. for_begins found frame.now (under (S.record_of store.old).present)) t)) }
+        (place_counted (limits_of devices bounds) (λ t. place_fitting (fields (parameters_in t.memory) (map view.word words.now)) (λ found. for_begins found frame.now (under (S.record_of store.old).present)) t)) }
 {
     let counted = count(store, bounds)?;
     if !counted {

@@ -1,11 +1,11 @@
 //! Steps that are begun, and words that are expanded.
 ghost use Rattle.std.specs.Prelude.{◌≡◌, ◌+◌, ◌<◌, ◌≤◌, ◌^◌, IfOk, map, nat_le, true, false, Option, Some, None};
-ghost use Rattle.hushlang.specs.View as view;
+ghost use Rattle.hushlang.specs.TreesShown as view;
 ghost use Rattle.hushlang.specs.Expansion as expansion;
 ghost use Rattle.bootstore.specs.Record.{stepped};
 ghost use Rattle.rehearse.specs.Bounds.{are_bounds};
-ghost use Rattle.rehearse_machine.specs.Variables.{setting_at};
-ghost use Rattle.rehearse_machine.specs.Seen.{IsExpanded, IsExpandedOne, IsCounted};
+ghost use Rattle.rehearse_machine.specs.Variables.{parameters_at};
+ghost use Rattle.rehearse_machine.specs.MovesShown.{IsExpanded, IsExpandedOne, IsCounted};
 
 use crate::memory::Memory;
 use bootstore::{Store, StoreError};
@@ -32,7 +32,7 @@ pub(crate) fn expanded<S: Store>(
     store: &S,
     words: &[Word],
 ) -> Result<Option<Vec<Vec<u8>>>, StoreError>
-    ensures { IfOk result (λ found. IsExpanded found (expansion.fields (setting_at (S.record_of store.now).present) (map view.word words.now))) }
+    ensures { IfOk result (λ found. IsExpanded found (expansion.fields (parameters_at (S.record_of store.now).present) (map view.word words.now))) }
 {
     match expand(alloc, words, &Memory { store }) {
         Ok(fields) => Ok(Some(fields)),
@@ -47,7 +47,7 @@ pub(crate) fn expanded_one<S: Store>(
     store: &S,
     word: &Word,
 ) -> Result<Option<Vec<u8>>, StoreError>
-    ensures { IfOk result (λ found. IsExpandedOne found (expansion.joined (setting_at (S.record_of store.now).present) (view.word word.now))) }
+    ensures { IfOk result (λ found. IsExpandedOne found (expansion.joined (parameters_at (S.record_of store.now).present) (view.word word.now))) }
 {
     match expand_one(alloc, word, &Memory { store }) {
         Ok(value) => Ok(Some(value)),

@@ -8,7 +8,7 @@ use Rattle.std.proofs.Math.Pow.{pow_mono}
 use Rattle.bootstore.specs.Record.{Record, fresh}
 use Rattle.std.proofs.lemmas.List.Sums.{count_by-le-length}
 use Rattle.rehearse.specs.Bounds.{BoundsShown, are_bounds, most_devices}
-use Rattle.rehearse.specs.Outcomes.{Word, Success, Failure, words, is_run_kind}
+use Rattle.rehearse.specs.Outcomes.{OutcomeWord, Success, Failure, words, is_run_kind}
 use Rattle.rehearse.specs.State.{Text}
 use Rattle.rehearse.specs.Runs.{Task, kind, runs, steps}
 use Rattle.rehearse_runs.specs.Phases.{AreDigits, HasBudget, HasBegun}
@@ -16,11 +16,11 @@ use Rattle.rehearse_runs.proofs.WorkLemmas.{begun_first}
 
 -- ---- there are few runs
 
-both_length : (ws : List Word) → length (map (λ w. Success ∷ w) ws ++ map (λ w. Failure ∷ w) ws) ≡ length ws + length ws
+both_length : (ws : List OutcomeWord) → length (map (λ w. Success ∷ w) ws ++ map (λ w. Failure ∷ w) ws) ≡ length ws + length ws
 both_length ws =
-    length-append (map (λ (w : Word). Success ∷ w) ws) (map (λ (w : Word). Failure ∷ w) ws)
-    ∙ ap (λ (k : ℕ). k + length (map (λ (w : Word). Failure ∷ w) ws)) (length-map ws (λ (w : Word). Success ∷ w))
-    ∙ ap (λ (k : ℕ). length ws + k) (length-map ws (λ (w : Word). Failure ∷ w))
+    length-append (map (λ (w : OutcomeWord). Success ∷ w) ws) (map (λ (w : OutcomeWord). Failure ∷ w) ws)
+    ∙ ap (λ (k : ℕ). k + length (map (λ (w : OutcomeWord). Failure ∷ w) ws)) (length-map ws (λ (w : OutcomeWord). Success ∷ w))
+    ∙ ap (λ (k : ℕ). length ws + k) (length-map ws (λ (w : OutcomeWord). Failure ∷ w))
 
 words_length : (n : ℕ) → length (words n) + 1 ≡ 2 ^ (n + 1)
 words_length zero = refl
@@ -31,7 +31,7 @@ words_length (suc n) =
     let p : 2 ^ (suc n + 1) ≡ 2 ^ (n + 1) * 2 = ap (λ (k : ℕ). 2 ^ k) e ∙ pow_more 2 (n + 1) in
     omega arith
 
-filter_less : (p : Word → Bool) (ws : List Word) → length (filter p ws) ≤ length ws
+filter_less : (p : OutcomeWord → Bool) (ws : List OutcomeWord) → length (filter p ws) ≤ length ws
 filter_less p ws = rw (length-filter p ws) (count_by-le-length p ws)
 
 within_bound : (devices steps : ℕ) → are_bounds devices steps ≡ true → devices ≤ most_devices
@@ -40,17 +40,17 @@ within_bound devices steps h = search rules
 pub are_within : (b : BoundsShown) → are_bounds b.devices b.steps ≡ true → b.devices ≤ most_devices
 are_within b h = within_bound b.devices b.steps h
 
-pub few_runs : (task : Task) → task.setting.device_bound ≤ most_devices → length (runs task) ≤ 8589934591
+pub few_runs : (task : Task) → task.limits.device_bound ≤ most_devices → length (runs task) ≤ 8589934591
 few_runs task h =
-    let f = filter_less (λ w. is_run_kind (kind task w)) (words task.setting.device_bound) in
-    let l = words_length task.setting.device_bound in
-    let k : task.setting.device_bound + 1 ≤ 33 = omega arith in
-    let m : 2 ^ (task.setting.device_bound + 1) ≤ 8589934592 = pow_mono {i = task.setting.device_bound + 1} {j = 33} k in
+    let f = filter_less (λ w. is_run_kind (kind task w)) (words task.limits.device_bound) in
+    let l = words_length task.limits.device_bound in
+    let k : task.limits.device_bound + 1 ≤ 33 = omega arith in
+    let m : 2 ^ (task.limits.device_bound + 1) ≤ 8589934592 = pow_mono {i = task.limits.device_bound + 1} {j = 33} k in
     omega arith
 
 -- where no run was found yet
-pub stands_fresh : (task : Task) (digits : Text) (r : Record) → digits ≡ [] → r ≡ fresh → task.setting.device_bound ≤ most_devices
-    → AreDigits digits × Unit {0} × ((false ≡ false) × HasBudget r.begun (runs task)) × HasBegun task None None (runs task) r.begun × (task.setting.device_bound ≤ most_devices)
+pub stands_fresh : (task : Task) (digits : Text) (r : Record) → digits ≡ [] → r ≡ fresh → task.limits.device_bound ≤ most_devices
+    → AreDigits digits × Unit {0} × ((false ≡ false) × HasBudget r.begun (runs task)) × HasBegun task None None (runs task) r.begun × (task.limits.device_bound ≤ most_devices)
 stands_fresh task digits r d e h =
     let k = few_runs task h in
     let b = ap (λ (x : Record). x.begun) e in

@@ -2,7 +2,7 @@
 use Rattle.std.proofs.Common.{◌≡◌, ℕ, ◌+◌, ◌≤◌, true, List, [], ◌∷◌, length, map, refl, sym, ap, subst, ◌∙◌, length-append, zero-add, Some, arith}
 use Rattle.bootstore.specs.Record.{Record, fresh}
 use Rattle.rehearse.specs.Bounds.{most_devices}
-use Rattle.rehearse.specs.Outcomes.{Word, Success, Failure, Run, Short}
+use Rattle.rehearse.specs.Outcomes.{OutcomeWord, Success, Failure, Run, Short}
 use Rattle.rehearse.specs.State.{Text, State}
 use Rattle.rehearse.specs.Runs.{Task, kind, rest, steps}
 use Rattle.rehearse.specs.Listing.{digit_of}
@@ -18,12 +18,12 @@ use Rattle.rehearse_runs.specs.declared.walking.Walked.TheVariants as walked
 use Rattle.rehearse_runs.proofs.AdvanceLemmas.{few_runs}
 use Rattle.rehearse.proofs.TaskChoices.{task_stands}
 
-read_word : (w : Word) → outcomes (map digit_of w) ≡ w
+read_word : (w : OutcomeWord) → outcomes (map digit_of w) ≡ w
 read_word [] = refl
-read_word (Success ∷ w) = ap (λ (v : Word). Success ∷ v) (read_word w)
-read_word (Failure ∷ w) = ap (λ (v : Word). Failure ∷ v) (read_word w)
+read_word (Success ∷ w) = ap (λ (v : OutcomeWord). Success ∷ v) (read_word w)
+read_word (Failure ∷ w) = ap (λ (v : OutcomeWord). Failure ∷ v) (read_word w)
 
-same_word : (text : Text) (v w : Word) → text ≡ map digit_of v → text ≡ map digit_of w → v ≡ w
+same_word : (text : Text) (v w : OutcomeWord) → text ≡ map digit_of v → text ≡ map digit_of w → v ≡ w
 same_word text v w e f = sym (read_word v) ∙ ap outcomes (sym e ∙ f) ∙ read_word w
 
 -- ---- what the walk says of a text
@@ -38,20 +38,20 @@ pub short_no_run : (task : Task) (text : Text) → IsShortBehind task [] text �
 short_no_run task text h w e r = let k = (kind_short task text h).digits w e in cc
 
 -- of where it comes to
-pub walked_at : (task : Task) (text all : Text) (w : Word) (reached : Walked) (at : Walked) (old new : Record) → reached ≡ at → WalksTo task text all w reached old new → WalksTo task text all w at old new
+pub walked_at : (task : Task) (text all : Text) (w : OutcomeWord) (reached : Walked) (at : Walked) (old new : Record) → reached ≡ at → WalksTo task text all w reached old new → WalksTo task text all w at old new
 walked_at task text all w reached at old new e h = subst (λ (x : Walked). WalksTo task text all w x old new) e h
 
 -- ---- the runs behind it
 
-rest_less : (task : Task) (w : Word) → kind task w ≡ Run → task.setting.device_bound ≤ most_devices → length (rest task w) ≤ 8589934590
+rest_less : (task : Task) (w : OutcomeWord) → kind task w ≡ Run → task.limits.device_bound ≤ most_devices → length (rest task w) ≤ 8589934590
 rest_less task w r b =
     let s = task_stands task w r in
     let l = ap length s.1 ∙ length-append s.0 (w ∷ rest task w) in
     let f = few_runs task b in
     omega arith
 
-pub stands_behind : (task : Task) (text all : Text) (halt : Halt) (old new : Record) → old ≡ fresh → task.setting.device_bound ≤ most_devices → WalksTo task text all (outcomes all) (walked.Ends halt) old new
-    → AreDigits all × (kind task (outcomes all) ≡ Run) × ((true ≡ true) × StandsOn task (outcomes all) halt new) × HasBegun task (Some (outcomes all)) (Some (outcomes all)) (rest task (outcomes all)) new.begun × (task.setting.device_bound ≤ most_devices)
+pub stands_behind : (task : Task) (text all : Text) (halt : Halt) (old new : Record) → old ≡ fresh → task.limits.device_bound ≤ most_devices → WalksTo task text all (outcomes all) (walked.Ends halt) old new
+    → AreDigits all × (kind task (outcomes all) ≡ Run) × ((true ≡ true) × StandsOn task (outcomes all) halt new) × HasBegun task (Some (outcomes all)) (Some (outcomes all)) (rest task (outcomes all)) new.begun × (task.limits.device_bound ≤ most_devices)
 stands_behind task text all halt old new e b h =
     let f = h.2 in
     let n = f.begun in
@@ -61,13 +61,13 @@ stands_behind task text all halt old new e b h =
     (sym h.0 ∙ sym h.1, f.run, (refl, record { moment = f.moment; ending = f.ending; marks = f.marks; budget = omega arith }), begun_behind task (outcomes all) new.begun (n ∙ ap (λ (k : ℕ). k + new.present.steps) z ∙ zero-add new.present.steps ∙ ap (λ (s : State). s.steps) f.moment), b)
 
 -- the same, where the start word is kept as a copy of its digits
-pub stands_from : (task : Task) (text all copy : Text) (halt : Halt) (old new : Record) → copy ≡ all → old ≡ fresh → task.setting.device_bound ≤ most_devices → WalksTo task text all (outcomes all) (walked.Ends halt) old new
-    → AreDigits all × (kind task (outcomes all) ≡ Run) × ((true ≡ true) × StandsOn task (outcomes all) halt new) × HasBegun task (Some (outcomes copy)) (Some (outcomes all)) (rest task (outcomes all)) new.begun × (task.setting.device_bound ≤ most_devices)
+pub stands_from : (task : Task) (text all copy : Text) (halt : Halt) (old new : Record) → copy ≡ all → old ≡ fresh → task.limits.device_bound ≤ most_devices → WalksTo task text all (outcomes all) (walked.Ends halt) old new
+    → AreDigits all × (kind task (outcomes all) ≡ Run) × ((true ≡ true) × StandsOn task (outcomes all) halt new) × HasBegun task (Some (outcomes copy)) (Some (outcomes all)) (rest task (outcomes all)) new.begun × (task.limits.device_bound ≤ most_devices)
 stands_from task text all copy halt old new c e b h =
     let s = stands_behind task text all halt old new e b h in
     (s.0, s.1, s.2, subst (λ (t : Text). HasBegun task (Some (outcomes t)) (Some (outcomes all)) (rest task (outcomes all)) new.begun) (sym c) s.3, s.4)
 
-steps_begun : (task : Task) (w : Word) (old new : Record) (halt : Halt) → old ≡ fresh → ReachedFirst task w halt old new → new.begun ≡ steps task w
+steps_begun : (task : Task) (w : OutcomeWord) (old new : Record) (halt : Halt) → old ≡ fresh → ReachedFirst task w halt old new → new.begun ≡ steps task w
 steps_begun task w old new halt e f =
     let z : old.begun ≡ 0 = ap (λ (x : Record). x.begun) e in
     f.begun ∙ ap (λ (k : ℕ). k + new.present.steps) z ∙ zero-add new.present.steps ∙ ap (λ (s : State). s.steps) f.moment
@@ -79,5 +79,5 @@ goes_on_from task text all copy halt old new c e h =
     let same : shown_at task (Some (outcomes copy)) true w new.begun (At halt) ≡ runs_behind task w =
     ap (λ (t : Text). shown_at task (Some (outcomes t)) true w new.begun (At halt)) c
     ∙ ap (λ (n : ℕ). shown_at task (Some w) true w n (At halt)) (steps_begun task w old new halt e h.2)
-    ∙ ap (λ (ws : List Word). record (runs_behind task w) { answers = ws }) (none_in_front (rest task w)) in
+    ∙ ap (λ (ws : List OutcomeWord). record (runs_behind task w) { answers = ws }) (none_in_front (rest task w)) in
     record { word = w; digits = h.0; run = h.2.run; behind = same }

@@ -2,7 +2,7 @@
 use Rattle.std.proofs.Common.{◌≡◌, ℕ, ◌+◌, ◌≤◌, Bool, true, false, ◌∷◌, length, Option, Some, refl, sym, ap, subst, ◌∙◌, arith}
 use Rattle.bootstore.specs.Record.{Record}
 use Rattle.rehearse.specs.Bounds.{most_devices}
-use Rattle.rehearse.specs.Outcomes.{Word, Run, common_prefix}
+use Rattle.rehearse.specs.Outcomes.{OutcomeWord, Run, common_prefix}
 use Rattle.rehearse.specs.State.{Text, State}
 use Rattle.rehearse.specs.Runs.{Task, kind, runs, rest, steps, asked}
 use Rattle.rehearse_machine.specs.declared.halt.Halt.{Halt}
@@ -14,7 +14,7 @@ use Rattle.rehearse_runs.specs.Searching.{FoundFirst, FoundBehind, FoundNext}
 use Rattle.rehearse_runs.specs.Giving.{GivesWord}
 use Rattle.rehearse_runs.proofs.WorkLemmas.{answers_more, begun_more}
 
-module _ (task : Task) (start : Option Word) (has : Bool) (u : Word) (phase : Phase) (halt : Halt) (w : Word) (begun begun' : ℕ) (live : is_failed phase ≡ false) (has_begun : HasBegun task start (given_if has u) (to_come_after has task u) begun) (first : to_come_after has task u ≡ w ∷ rest task w) (e : begun' + steps_shared task (given_if has u) w ≡ begun + steps task w) (l : steps_shared task (given_if has u) w ≤ steps task w) where
+module _ (task : Task) (start : Option OutcomeWord) (has : Bool) (u : OutcomeWord) (phase : Phase) (halt : Halt) (w : OutcomeWord) (begun begun' : ℕ) (live : is_failed phase ≡ false) (has_begun : HasBegun task start (given_if has u) (to_come_after has task u) begun) (first : to_come_after has task u ≡ w ∷ rest task w) (e : begun' + steps_shared task (given_if has u) w ≡ begun + steps task w) (l : steps_shared task (given_if has u) w ≤ steps task w) where
   gives : GivesWord (shown_at task start has u begun phase) (shown_at task start true w begun' (At halt))
   gives = record {
     sound = live;
@@ -32,7 +32,7 @@ module _ (task : Task) (start : Option Word) (has : Bool) (u : Word) (phase : Ph
 
 -- ---- the first run
 
-module _ (task : Task) (start : Option Word) (has : Bool) (u : Word) (phase : Phase) (r r' : Record) (digits : Text) (halt : Halt) (fresh : phase ≡ Fresh) (stands : StandsAt task has u r phase) (begun : HasBegunIf phase task start (given_if has u) (to_come_after has task u) r.begun) (found : FoundFirst task (outcomes digits) halt r r') where
+module _ (task : Task) (start : Option OutcomeWord) (has : Bool) (u : OutcomeWord) (phase : Phase) (r r' : Record) (digits : Text) (halt : Halt) (fresh : phase ≡ Fresh) (stands : StandsAt task has u r phase) (begun : HasBegunIf phase task start (given_if has u) (to_come_after has task u) r.begun) (found : FoundFirst task (outcomes digits) halt r r') where
   stands_fresh : (has ≡ false) × HasBudget r.begun (runs task)
   stands_fresh = subst (λ (p : Phase). StandsAt task has u r p) fresh stands
 
@@ -65,8 +65,8 @@ module _ (task : Task) (start : Option Word) (has : Bool) (u : Word) (phase : Ph
       let k = found.within in
       omega arith
 
-  pub first_stands : AreDigits digits → task.setting.device_bound ≤ most_devices
-      → AreDigits digits × (kind task (outcomes digits) ≡ Run) × ((true ≡ true) × StandsOn task (outcomes digits) halt r') × HasBegun task start (Some (outcomes digits)) (rest task (outcomes digits)) r'.begun × (task.setting.device_bound ≤ most_devices)
+  pub first_stands : AreDigits digits → task.limits.device_bound ≤ most_devices
+      → AreDigits digits × (kind task (outcomes digits) ≡ Run) × ((true ≡ true) × StandsOn task (outcomes digits) halt r') × HasBegun task start (Some (outcomes digits)) (rest task (outcomes digits)) r'.begun × (task.limits.device_bound ≤ most_devices)
   first_stands d b = (
     d,
     found.run,
@@ -77,10 +77,10 @@ module _ (task : Task) (start : Option Word) (has : Bool) (u : Word) (phase : Ph
 
 -- ---- the next run
 
-found_here : (task : Task) (u w : Word) (found : Option Halt) (halt : Halt) (r r' : Record) → found ≡ Some halt → FoundNext task u w found r r' → FoundBehind task u w halt r r'
+found_here : (task : Task) (u w : OutcomeWord) (found : Option Halt) (halt : Halt) (r r' : Record) → found ≡ Some halt → FoundNext task u w found r r' → FoundBehind task u w halt r r'
 found_here task u w found halt r r' e h = subst (λ (o : Option Halt). FoundNext task u w o r r') e h
 
-module _ (task : Task) (start : Option Word) (has : Bool) (all copy : Text) (phase : Phase) (before : Halt) (r r' : Record) (digits : Text) (found : Option Halt) (halt : Halt) (at : phase ≡ At before) (stands : StandsAt task has (outcomes all) r phase) (begun : HasBegunIf phase task start (given_if has (outcomes all)) (to_come_after has task (outcomes all)) r.begun) (same : copy ≡ all) (is : found ≡ Some halt) (next : FoundNext task (outcomes copy) (outcomes digits) found r r') where
+module _ (task : Task) (start : Option OutcomeWord) (has : Bool) (all copy : Text) (phase : Phase) (before : Halt) (r r' : Record) (digits : Text) (found : Option Halt) (halt : Halt) (at : phase ≡ At before) (stands : StandsAt task has (outcomes all) r phase) (begun : HasBegunIf phase task start (given_if has (outcomes all)) (to_come_after has task (outcomes all)) r.begun) (same : copy ≡ all) (is : found ≡ Some halt) (next : FoundNext task (outcomes copy) (outcomes digits) found r r') where
   behind : FoundBehind task (outcomes all) (outcomes digits) halt r r'
   behind = subst (λ (t : Text). FoundBehind task (outcomes t) (outcomes digits) halt r r') same (found_here task (outcomes copy) (outcomes digits) found halt r r' is next)
 
@@ -118,8 +118,8 @@ module _ (task : Task) (start : Option Word) (has : Bool) (all copy : Text) (pha
       let k = behind.within in
       omega arith
 
-  pub next_stands : AreDigits digits → task.setting.device_bound ≤ most_devices
-      → AreDigits digits × IsRunIf has task (outcomes digits) × ((has ≡ true) × StandsOn task (outcomes digits) halt r') × HasBegun task start (given_if has (outcomes digits)) (to_come_after has task (outcomes digits)) r'.begun × (task.setting.device_bound ≤ most_devices)
+  pub next_stands : AreDigits digits → task.limits.device_bound ≤ most_devices
+      → AreDigits digits × IsRunIf has task (outcomes digits) × ((has ≡ true) × StandsOn task (outcomes digits) halt r') × HasBegun task start (given_if has (outcomes digits)) (to_come_after has task (outcomes digits)) r'.begun × (task.limits.device_bound ≤ most_devices)
   next_stands d b = (
     d,
     subst (λ (x : Bool). IsRunIf x task (outcomes digits)) (sym stands_at.0) behind.run,

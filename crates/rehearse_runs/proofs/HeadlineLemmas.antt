@@ -6,7 +6,7 @@ use Rattle.rehearse.specs.DeviceList.{Devices}
 use Rattle.rehearse_machine.specs.Tasks.{task_shown, task_set}
 use Rattle.rehearse.specs.Bounds.{BoundsShown}
 use Rattle.rehearse_runs.specs.Behind.{RefusesWord}
-use Rattle.rehearse_runs.specs.Headline.{RefusesRuns}
+use Rattle.rehearse_runs.specs.RehearsedEnvironment.{RefusesRuns}
 use Rattle.rehearse_runs.specs.declared.run_error.RunError.{RunError}
 use Rattle.rehearse_runs.specs.declared.run_error.RunError.TheVariants.{NoSuchVariable, Memory, NotARun, Failed}
 use Rattle.rehearse_runs.proofs.TaskSet.{task_is_set}

@@ -6,14 +6,14 @@ use Rattle.std.proofs.lemmas.List.Concat.{flat_map-append}
 use Rattle.envimage.specs.Sink.{Sink, Wrote, BrokeOff}
 use Rattle.envimage.proofs.SinkLemmas.{Wrote-none, Wrote-append, BrokeOff-after, BrokeOff-before}
 use Rattle.bootstore.specs.declared.store.Store.{Ghosts}
-use Rattle.rehearse.specs.Outcomes.{Word}
+use Rattle.rehearse.specs.Outcomes.{OutcomeWord}
 use Rattle.rehearse.specs.State.{Text, State, state_at}
 use Rattle.rehearse.specs.Execution.{Ending}
 use Rattle.rehearse.specs.Runs.{Task, run_on, state_of, ending_of}
-use Rattle.rehearse.specs.Listing.{digit_of, record_text, record_of, shown, closing, listing, last_of, line, spelled}
+use Rattle.rehearse.specs.Listing.{digit_of, record_text, record_of, words_listed, closing, listing, last_of, line, spelled}
 use Rattle.rehearse_runs.specs.Recording.{recorded, printed}
 use Rattle.rehearse_runs.specs.RunsShown.{RunsShown, last_given, has_words}
-use Rattle.rehearse_runs.specs.Viewed.{seen_word, seen_moment, seen_ending}
+use Rattle.rehearse_runs.specs.ViewShown.{shown_word, shown_moment, shown_ending}
 use Rattle.std.proofs.Common.{Result, Ok, Err, ◌≤◌, length-append}
 use Rattle.std.proofs.Math.Dec.{eqb-suc-zero}
 use Rattle.std.proofs.lemmas.Bool.{lt-leb, le-leb}
@@ -26,15 +26,15 @@ use Rattle.rehearse_runs.specs.declared.listing.Finish.TheVariants.{Done, More}
 use Rattle.rehearse_runs.specs.ListingRuns.{list_error, Breaks, Lists, left_out, finish_of, IsLeft, Recorded, WroteRecords, LacksMemory, BreaksOff, reached, lowered}
 use Rattle.rehearse_runs.specs.declared.view.RunView.{RunView}
 
-recorded_spelled : (w : Word) (s : State) (e : Ending) (names : List Text) → recorded (map digit_of w) (record s { word = [] }) e names ≡ record_text w s e names
+recorded_spelled : (w : OutcomeWord) (s : State) (e : Ending) (names : List Text) → recorded (map digit_of w) (record s { word = [] }) e names ≡ record_text w s e names
 recorded_spelled [] s e names = refl
 recorded_spelled (d ∷ w) s e names = refl
 
 -- what is written of a run that is shown is its record
-pub record_shown : {S : Type 0} (g : Ghosts S) (task : Task) (w : Word) (v : RunView S) (names : List Text) → ShowsRun g task w v → recorded (seen_word v) (state_at (seen_moment g v) []) (seen_ending v) names ≡ record_of task names w
+pub record_shown : {S : Type 0} (g : Ghosts S) (task : Task) (w : OutcomeWord) (v : RunView S) (names : List Text) → ShowsRun g task w v → recorded (shown_word v) (state_at (shown_moment g v) []) (shown_ending v) names ≡ record_of task names w
 record_shown g task w v names h =
-    ap (λ (d : Text). recorded d (state_at (seen_moment g v) []) (seen_ending v) names) h.word
-    ∙ ap (λ (s : State). recorded (map digit_of w) s (seen_ending v) names) h.moment
+    ap (λ (d : Text). recorded d (state_at (shown_moment g v) []) (shown_ending v) names) h.word
+    ∙ ap (λ (s : State). recorded (map digit_of w) s (shown_ending v) names) h.moment
     ∙ ap (λ (e : Ending). recorded (map digit_of w) (record (state_of (run_on task w)) { word = [] }) e names) h.ending
     ∙ recorded_spelled w (state_of (run_on task w)) (ending_of (run_on task w)) names
 
@@ -46,7 +46,7 @@ left_first (Some l) = omega arith
 pub recorded_none : (s : Sink) (old : RunsShown) (names : List Text) (limit : Option ℕ) → Recorded s s old old names limit limit []
 recorded_none s old names limit = record { words = refl; wrote = Wrote-none s; count = left_first limit; last = λ h. absurd (h refl); task = refl; failed = refl }
 
-last_is : (u w : Word) (ws : List Word) → last_of u (ws ++ w ∷ []) ≡ w
+last_is : (u w : OutcomeWord) (ws : List OutcomeWord) → last_of u (ws ++ w ∷ []) ≡ w
 last_is u w [] = refl
 last_is u w (v ∷ ws) = last_is v w ws
 
@@ -57,18 +57,18 @@ left_next (Some l) None n r h = absurd h
 left_next (Some l) (Some zero) n r h = absurd cc
 left_next (Some l) (Some (suc k)) n r h = omega arith
 
-length_next : (ws : List Word) (w : Word) → length (ws ++ w ∷ []) ≡ suc (length ws)
+length_next : (ws : List OutcomeWord) (w : OutcomeWord) → length (ws ++ w ∷ []) ≡ suc (length ws)
 length_next [] w = refl
 length_next (v ∷ ws) w = ap suc (length_next ws w)
 
 -- one more record
-pub recorded_more : {start now : Sink} {old mid : RunsShown} {names : List Text} {limit left : Option ℕ} {ws : List Word} (end : Sink) (new : RunsShown)
+pub recorded_more : {start now : Sink} {old mid : RunsShown} {names : List Text} {limit left : Option ℕ} {ws : List OutcomeWord} (end : Sink) (new : RunsShown)
     → Recorded start now old mid names limit left ws → reached left ≡ false → GivesWord mid new → Wrote now end (record_of old.task names (last_given new)) → Recorded start end old new names limit (lowered left) (ws ++ last_given new ∷ [])
 recorded_more {start} {now} {old} {mid} {names} {limit} {left} {ws} end new r n m q =
     let w = last_given new in
     let f = record_of old.task names in
     record {
-      words = r.words ∙ ap (λ (vs : List Word). ws ++ vs) m.first ∙ sym (append_assoc ws (w ∷ []) new.to_come);
+      words = r.words ∙ ap (λ (vs : List OutcomeWord). ws ++ vs) m.first ∙ sym (append_assoc ws (w ∷ []) new.to_come);
       wrote = subst (λ (t : Text). Wrote start end t) (ap (λ (t : Text). flat_map f ws ++ t) (sym (append-nil (f w))) ∙ sym (flat_map-append f ws (w ∷ []))) (Wrote-append r.wrote q);
       count = subst (λ (k : ℕ). IsLeft limit (lowered left) k) (sym (length_next ws w)) (left_next limit left (length ws) n r.count);
       last = λ h. m.given ∙ ap Some (sym (last_is [] w ws));
@@ -77,85 +77,85 @@ recorded_more {start} {now} {old} {mid} {names} {limit} {left} {ws} end new r n 
     }
 
 -- the same, where the rehearsal changed in what does not count here
-recorded_same : {start now : Sink} {old mid new : RunsShown} {names : List Text} {limit left : Option ℕ} {ws : List Word}
+recorded_same : {start now : Sink} {old mid new : RunsShown} {names : List Text} {limit left : Option ℕ} {ws : List OutcomeWord}
     → Recorded start now old mid names limit left ws → new ≡ record mid { shows = false } → Recorded start now old new names limit left ws
 recorded_same {start} {now} {old} {mid} {new} {names} {limit} {left} {ws} r e =
     let same : Recorded start now old (record mid { shows = false }) names limit left ws = record { words = r.words; wrote = r.wrote; count = r.count; last = r.last; task = r.task; failed = r.failed } in
     subst (λ (n : RunsShown). Recorded start now old n names limit left ws) (sym e) same
 
 -- no further word
-pub wrote_to_end : {start now : Sink} {old mid new : RunsShown} {names : List Text} {limit left : Option ℕ} {ws : List Word} → Recorded start now old mid names limit left ws → GivesNone mid new → WroteRecords start now old new names limit
+pub wrote_to_end : {start now : Sink} {old mid new : RunsShown} {names : List Text} {limit left : Option ℕ} {ws : List OutcomeWord} → Recorded start now old mid names limit left ws → GivesNone mid new → WroteRecords start now old new names limit
 wrote_to_end {left = left} {ws = ws} r m = record { left = left; ws = ws; recorded = recorded_same r m.same; over = λ _. ap (λ (n : RunsShown). n.to_come) m.same ∙ m.none }
 
 -- the limit
-pub wrote_to_limit : {start now : Sink} {old new : RunsShown} {names : List Text} {limit left : Option ℕ} {ws : List Word} → Recorded start now old new names limit left ws → reached left ≡ true → WroteRecords start now old new names limit
+pub wrote_to_limit : {start now : Sink} {old new : RunsShown} {names : List Text} {limit left : Option ℕ} {ws : List OutcomeWord} → Recorded start now old new names limit left ws → reached left ≡ true → WroteRecords start now old new names limit
 wrote_to_limit {left = left} {ws = ws} r e = record { left = left; ws = ws; recorded = r; over = λ h. absurd cc }
 
-take_past : (ws rest : List Word) (n k : ℕ) → n ≡ length ws + k → take n (ws ++ rest) ≡ ws ++ take k rest
+take_past : (ws rest : List OutcomeWord) (n k : ℕ) → n ≡ length ws + k → take n (ws ++ rest) ≡ ws ++ take k rest
 take_past [] rest n k e = let h : n ≡ k = omega arith in ap (λ (i : ℕ). take i rest) h
 take_past (w ∷ ws) rest zero k e = absurd (omega arith)
-take_past (w ∷ ws) rest (suc n) k e = ap (λ (vs : List Word). w ∷ vs) (take_past ws rest n k (omega arith))
+take_past (w ∷ ws) rest (suc n) k e = ap (λ (vs : List OutcomeWord). w ∷ vs) (take_past ws rest n k (omega arith))
 
-shown_past : (limit left : Option ℕ) (ws rest : List Word) → IsLeft limit left (length ws) → shown (ws ++ rest) limit ≡ ws ++ shown rest left
+shown_past : (limit left : Option ℕ) (ws rest : List OutcomeWord) → IsLeft limit left (length ws) → words_listed (ws ++ rest) limit ≡ ws ++ words_listed rest left
 shown_past None None ws rest h = refl
 shown_past None (Some k) ws rest h = absurd h
 shown_past (Some l) None ws rest h = absurd h
 shown_past (Some l) (Some k) ws rest h = take_past ws rest l k h
 
 -- want of memory
-pub lacked : {start now : Sink} {old mid new : RunsShown} {names : List Text} {limit left : Option ℕ} {ws : List Word} → Recorded start now old mid names limit left ws → giving.LacksMemory mid new → LacksMemory start now old new names limit
+pub lacked : {start now : Sink} {old mid new : RunsShown} {names : List Text} {limit left : Option ℕ} {ws : List OutcomeWord} → Recorded start now old mid names limit left ws → giving.LacksMemory mid new → LacksMemory start now old new names limit
 lacked {start} {now} {old} {mid} {new} {names} {limit} {left} {ws} r m =
     let to_come = ap (λ (n : RunsShown). n.to_come) m.failed in
     record {
       ws = ws;
-      us = shown mid.to_come left;
-      words = r.words ∙ ap (λ (vs : List Word). ws ++ vs) (sym to_come);
-      front = ap (λ (vs : List Word). shown vs limit) r.words ∙ shown_past limit left ws mid.to_come r.count;
+      us = words_listed mid.to_come left;
+      words = r.words ∙ ap (λ (vs : List OutcomeWord). ws ++ vs) (sym to_come);
+      front = ap (λ (vs : List OutcomeWord). words_listed vs limit) r.words ∙ shown_past limit left ws mid.to_come r.count;
       wrote = r.wrote;
       given = λ h. ap (λ (n : RunsShown). n.given) m.failed ∙ r.last h;
       failed = ap (λ (n : RunsShown). n.failed) m.failed;
     }
 
-shown_next : (left : Option ℕ) (w : Word) (rest : List Word) → reached left ≡ false → shown (w ∷ rest) left ≡ w ∷ shown rest (lowered left)
+shown_next : (left : Option ℕ) (w : OutcomeWord) (rest : List OutcomeWord) → reached left ≡ false → words_listed (w ∷ rest) left ≡ w ∷ words_listed rest (lowered left)
 shown_next None w rest h = refl
 shown_next (Some zero) w rest h = absurd cc
 shown_next (Some (suc k)) w rest h = let e : k ≡ suc k - 1 = omega arith in ap (λ (i : ℕ). w ∷ take i rest) e
 
 -- the output failed inside a record
-pub broke_record : {start now : Sink} {old mid : RunsShown} {names : List Text} {limit left : Option ℕ} {ws : List Word} (end : Sink) (new : RunsShown)
+pub broke_record : {start now : Sink} {old mid : RunsShown} {names : List Text} {limit left : Option ℕ} {ws : List OutcomeWord} (end : Sink) (new : RunsShown)
     → Recorded start now old mid names limit left ws → reached left ≡ false → GivesWord mid new → BrokeOff now end (record_of old.task names (last_given new)) → BreaksOff start end old new names limit
 broke_record {start} {now} {old} {mid} {names} {limit} {left} {ws} end new r n m q =
     let w = last_given new in
     let f = record_of old.task names in
-    let us = shown new.to_come (lowered left) in
+    let us = words_listed new.to_come (lowered left) in
     let z = line (closing old.to_come limit) in
-    let e : shown old.to_come limit ≡ ws ++ (w ∷ us) = ap (λ (vs : List Word). shown vs limit) r.words ∙ shown_past limit left ws mid.to_come r.count ∙ ap (λ (vs : List Word). ws ++ shown vs left) m.first ∙ ap (λ (vs : List Word). ws ++ vs) (shown_next left w new.to_come n) in
+    let e : words_listed old.to_come limit ≡ ws ++ (w ∷ us) = ap (λ (vs : List OutcomeWord). words_listed vs limit) r.words ∙ shown_past limit left ws mid.to_come r.count ∙ ap (λ (vs : List OutcomeWord). ws ++ words_listed vs left) m.first ∙ ap (λ (vs : List OutcomeWord). ws ++ vs) (shown_next left w new.to_come n) in
     let whole : flat_map f ws ++ (f w ++ (flat_map f us ++ z)) ≡ listing f old.to_come limit =
-    ap (λ (t : Text). flat_map f ws ++ t) (sym (append_assoc (f w) (flat_map f us) z)) ∙ sym (append_assoc (flat_map f ws) (f w ++ flat_map f us) z) ∙ ap (λ (t : Text). t ++ z) (sym (flat_map-append f ws (w ∷ us))) ∙ ap (λ (vs : List Word). flat_map f vs ++ z) (sym e) in
+    ap (λ (t : Text). flat_map f ws ++ t) (sym (append_assoc (f w) (flat_map f us) z)) ∙ sym (append_assoc (flat_map f ws) (f w ++ flat_map f us) z) ∙ ap (λ (t : Text). t ++ z) (sym (flat_map-append f ws (w ∷ us))) ∙ ap (λ (vs : List OutcomeWord). flat_map f vs ++ z) (sym e) in
     record {
       ws = ws ++ w ∷ [];
-      words = r.words ∙ ap (λ (vs : List Word). ws ++ vs) m.first ∙ sym (append_assoc ws (w ∷ []) new.to_come);
+      words = r.words ∙ ap (λ (vs : List OutcomeWord). ws ++ vs) m.first ∙ sym (append_assoc ws (w ∷ []) new.to_come);
       wrote = subst (λ (t : Text). BrokeOff start end t) whole (BrokeOff-after r.wrote (BrokeOff-before (flat_map f us ++ z) q));
       sound = m.still;
     }
 
 -- a call of `next` that refuses
-pub refused : {start now : Sink} {old mid : RunsShown} {names : List Text} {limit left : Option ℕ} {ws : List Word} (new : RunsShown) (e : RunError) → giving.Refuses mid e new → Recorded start now old mid names limit left ws → old.failed ≡ false → Breaks start now old new names limit (list_error e)
+pub refused : {start now : Sink} {old mid : RunsShown} {names : List Text} {limit left : Option ℕ} {ws : List OutcomeWord} (new : RunsShown) (e : RunError) → giving.Refuses mid e new → Recorded start now old mid names limit left ws → old.failed ≡ false → Breaks start now old new names limit (list_error e)
 refused new NoSuchVariable h r f = absurd h
 refused new Memory h r f = lacked r h
 refused new NotARun h r f = absurd h
 refused new Failed h r f = let t = h.failed in let s = r.failed in absurd cc
 
 module _ {S : Type 0} (g : Ghosts S) where
-  pub refused_by : {start now : Sink} {old mid : RunsShown} {names : List Text} {limit left : Option ℕ} {ws : List Word} (new : RunsShown) (result : Result (Option (RunView S)) RunError) (e : RunError) → result ≡ Err e → Gives g mid result new → Recorded start now old mid names limit left ws → old.failed ≡ false → Breaks start now old new names limit (list_error e)
+  pub refused_by : {start now : Sink} {old mid : RunsShown} {names : List Text} {limit left : Option ℕ} {ws : List OutcomeWord} (new : RunsShown) (result : Result (Option (RunView S)) RunError) (e : RunError) → result ≡ Err e → Gives g mid result new → Recorded start now old mid names limit left ws → old.failed ≡ false → Breaks start now old new names limit (list_error e)
   refused_by {mid = mid} new result e is h r f = refused new e (subst (λ (o : Result (Option (RunView S)) RunError). Gives g mid o new) is h) r f
 
   pub given_by : (mid new : RunsShown) (result : Result (Option (RunView S)) RunError) (o : Option (RunView S)) (v : RunView S) → result ≡ Ok o → o ≡ Some v → Gives g mid result new → GivesWord mid new × ShowsRun g new.task (last_given new) v
   given_by mid new result o v is some h = subst (λ (r : Result (Option (RunView S)) RunError). Gives g mid r new) (is ∙ ap (λ (p : Option (RunView S)). Ok p) some) h
 
   -- the text of the record that is written
-  pub record_written : {start now : Sink} {old mid new : RunsShown} {names : List Text} {limit left : Option ℕ} {ws : List Word} (v : RunView S) → Recorded start now old mid names limit left ws → GivesWord mid new × ShowsRun g new.task (last_given new) v
-      → recorded (seen_word v) (state_at (seen_moment g v) []) (seen_ending v) names ≡ record_of old.task names (last_given new)
+  pub record_written : {start now : Sink} {old mid new : RunsShown} {names : List Text} {limit left : Option ℕ} {ws : List OutcomeWord} (v : RunView S) → Recorded start now old mid names limit left ws → GivesWord mid new × ShowsRun g new.task (last_given new) v
+      → recorded (shown_word v) (state_at (shown_moment g v) []) (shown_ending v) names ≡ record_of old.task names (last_given new)
   record_written {new = new} {names = names} v r m = record_shown g new.task (last_given new) v names m.1 ∙ ap (λ (t : Task). record_of t names (last_given new)) (m.0.task ∙ r.task)
 
 -- the texts of equal bytes are written and broken off alike
@@ -174,29 +174,29 @@ abbrev finish_by : Bool → Finish
 finish_by b = elim b [ true ↦ Done | false ↦ More ]
 
 -- how a listing ends behind the records of ws, where rest is left
-record EndsBehind (all : List Word) (limit : Option ℕ) (ws rest : List Word) (last : Text) (finish : Finish) : Type 0 where
-  pub shown_is : shown all limit ≡ ws
+record EndsBehind (all : List OutcomeWord) (limit : Option ℕ) (ws rest : List OutcomeWord) (last : Text) (finish : Finish) : Type 0 where
+  pub shown_is : words_listed all limit ≡ ws
   pub closing_is : closing all limit ≡ last
   pub finish_is : finish ≡ finish_of all limit
   pub rest_is : rest ≡ left_out all limit
 
-drop_past : (ws rest : List Word) (n : ℕ) → n ≡ length ws → drop n (ws ++ rest) ≡ rest
+drop_past : (ws rest : List OutcomeWord) (n : ℕ) → n ≡ length ws → drop n (ws ++ rest) ≡ rest
 drop_past [] rest n e = ap (λ (i : ℕ). drop i rest) e
 drop_past (w ∷ ws) rest zero e = absurd (omega arith)
 drop_past (w ∷ ws) rest (suc n) e = drop_past ws rest n (omega arith)
 
-drop_beyond : (ws : List Word) (n : ℕ) → length ws ≤ n → [] ≡ drop n ws
+drop_beyond : (ws : List OutcomeWord) (n : ℕ) → length ws ≤ n → [] ≡ drop n ws
 drop_beyond [] zero h = refl
 drop_beyond [] (suc n) h = refl
 drop_beyond (w ∷ ws) zero h = absurd (omega arith)
 drop_beyond (w ∷ ws) (suc n) h = drop_beyond ws n (omega arith)
 
-take_none : (vs : List Word) (k : ℕ) → vs ≡ [] → take k vs ≡ []
+take_none : (vs : List OutcomeWord) (k : ℕ) → vs ≡ [] → take k vs ≡ []
 take_none [] zero e = refl
 take_none [] (suc k) e = refl
 take_none (v ∷ vs) k e = absurd cc
 
-at_limit : (limit left : Option ℕ) (ws rest : List Word) → IsLeft limit left (length ws) → (reached left ≡ false → rest ≡ []) → has_words rest ≡ true → EndsBehind (ws ++ rest) limit ws rest (codes "more " ++ spelled (last_of [] ws)) More
+at_limit : (limit left : Option ℕ) (ws rest : List OutcomeWord) → IsLeft limit left (length ws) → (reached left ≡ false → rest ≡ []) → has_words rest ≡ true → EndsBehind (ws ++ rest) limit ws rest (codes "more " ++ spelled (last_of [] ws)) More
 at_limit limit left ws [] c over h = absurd cc
 at_limit None None ws (v ∷ vs) c over h = let e = over refl in absurd cc
 at_limit None (Some k) ws (v ∷ vs) c over h = absurd c
@@ -208,61 +208,61 @@ at_limit (Some l) (Some zero) ws (v ∷ vs) c over h =
     let b : nat_le (length all) l ≡ false = lt-leb (length all) l (let n = length-append ws (v ∷ vs) in omega arith) in
     record {
       shown_is = s;
-      closing_is = ap (λ (t : Bool). closing_by t (spelled (last_of [] (take l all)))) b ∙ ap (λ (us : List Word). codes "more " ++ spelled (last_of [] us)) s;
+      closing_is = ap (λ (t : Bool). closing_by t (spelled (last_of [] (take l all)))) b ∙ ap (λ (us : List OutcomeWord). codes "more " ++ spelled (last_of [] us)) s;
       finish_is = sym (ap finish_by b);
       rest_is = sym (drop_past ws (v ∷ vs) l (omega arith));
     }
 
-at_end : (limit left : Option ℕ) (ws rest : List Word) → IsLeft limit left (length ws) → rest ≡ [] → EndsBehind (ws ++ rest) limit ws rest (codes "done") Done
-at_end None None ws rest c e = record { shown_is = ap (λ (vs : List Word). ws ++ vs) e ∙ append-nil ws; closing_is = refl; finish_is = refl; rest_is = e }
+at_end : (limit left : Option ℕ) (ws rest : List OutcomeWord) → IsLeft limit left (length ws) → rest ≡ [] → EndsBehind (ws ++ rest) limit ws rest (codes "done") Done
+at_end None None ws rest c e = record { shown_is = ap (λ (vs : List OutcomeWord). ws ++ vs) e ∙ append-nil ws; closing_is = refl; finish_is = refl; rest_is = e }
 at_end None (Some k) ws rest c e = absurd c
 at_end (Some l) None ws rest c e = absurd c
 at_end (Some l) (Some k) ws rest c e =
     let all = ws ++ rest in
-    let n : length all ≡ length ws = ap length (ap (λ (vs : List Word). ws ++ vs) e ∙ append-nil ws) in
+    let n : length all ≡ length ws = ap length (ap (λ (vs : List OutcomeWord). ws ++ vs) e ∙ append-nil ws) in
     let b : nat_le (length all) l ≡ true = le-leb (length all) l (omega arith) in
     record {
-      shown_is = take_past ws rest l k c ∙ ap (λ (vs : List Word). ws ++ vs) (take_none rest k e) ∙ append-nil ws;
+      shown_is = take_past ws rest l k c ∙ ap (λ (vs : List OutcomeWord). ws ++ vs) (take_none rest k e) ∙ append-nil ws;
       closing_is = ap (λ (t : Bool). closing_by t (spelled (last_of [] (take l all)))) b;
       finish_is = sym (ap finish_by b);
       rest_is = e ∙ drop_beyond all l (omega arith);
     }
 
-ends_as : (f : Word → Text) (all : List Word) (limit : Option ℕ) (ws rest : List Word) (last : Text) (finish : Finish) → EndsBehind all limit ws rest last finish → flat_map f ws ++ line last ≡ listing f all limit
-ends_as f all limit ws rest last finish e = ap (λ (vs : List Word). flat_map f vs ++ line last) (sym e.shown_is) ∙ ap (λ (t : Text). flat_map f (shown all limit) ++ line t) (sym e.closing_is)
+ends_as : (f : OutcomeWord → Text) (all : List OutcomeWord) (limit : Option ℕ) (ws rest : List OutcomeWord) (last : Text) (finish : Finish) → EndsBehind all limit ws rest last finish → flat_map f ws ++ line last ≡ listing f all limit
+ends_as f all limit ws rest last finish e = ap (λ (vs : List OutcomeWord). flat_map f vs ++ line last) (sym e.shown_is) ∙ ap (λ (t : Text). flat_map f (words_listed all limit) ++ line t) (sym e.closing_is)
 
 -- the line behind the records was written
-listed : {start now : Sink} {old new : RunsShown} {names : List Text} {limit left : Option ℕ} {ws : List Word} (end : Sink) (last : Text) (finish : Finish)
+listed : {start now : Sink} {old new : RunsShown} {names : List Text} {limit left : Option ℕ} {ws : List OutcomeWord} (end : Sink) (last : Text) (finish : Finish)
     → Recorded start now old new names limit left ws → EndsBehind (ws ++ new.to_come) limit ws new.to_come last finish → old.failed ≡ false → Wrote now end (line last) → Lists start end old new names limit finish
 listed {start} {now} {old} {new} {names} {limit} {left} {ws} end last finish r e f q =
     let all = sym r.words in
     record {
-      wrote = subst (λ (vs : List Word). Wrote start end (listing (record_of old.task names) vs limit)) all (Wrote-as start end _ _ (ends_as (record_of old.task names) (ws ++ new.to_come) limit ws new.to_come last finish e) (Wrote-append r.wrote q));
-      finish_is = subst (λ (vs : List Word). finish ≡ finish_of vs limit) all e.finish_is;
-      rest = subst (λ (vs : List Word). new.to_come ≡ left_out vs limit) all e.rest_is;
+      wrote = subst (λ (vs : List OutcomeWord). Wrote start end (listing (record_of old.task names) vs limit)) all (Wrote-as start end _ _ (ends_as (record_of old.task names) (ws ++ new.to_come) limit ws new.to_come last finish e) (Wrote-append r.wrote q));
+      finish_is = subst (λ (vs : List OutcomeWord). finish ≡ finish_of vs limit) all e.finish_is;
+      rest = subst (λ (vs : List OutcomeWord). new.to_come ≡ left_out vs limit) all e.rest_is;
       task = r.task;
       sound = r.failed ∙ f;
     }
 
 -- and broke off
-unlisted : {start now : Sink} {old new : RunsShown} {names : List Text} {limit left : Option ℕ} {ws : List Word} (end : Sink) (last : Text) (finish : Finish)
+unlisted : {start now : Sink} {old new : RunsShown} {names : List Text} {limit left : Option ℕ} {ws : List OutcomeWord} (end : Sink) (last : Text) (finish : Finish)
     → Recorded start now old new names limit left ws → EndsBehind (ws ++ new.to_come) limit ws new.to_come last finish → old.failed ≡ false → BrokeOff now end (line last) → BreaksOff start end old new names limit
 unlisted {start} {now} {old} {new} {names} {limit} {left} {ws} end last finish r e f q = record {
   ws = ws;
   words = r.words;
-  wrote = subst (λ (vs : List Word). BrokeOff start end (listing (record_of old.task names) vs limit)) (sym r.words) (BrokeOff-as start end _ _ (ends_as (record_of old.task names) (ws ++ new.to_come) limit ws new.to_come last finish e) (BrokeOff-after r.wrote q));
+  wrote = subst (λ (vs : List OutcomeWord). BrokeOff start end (listing (record_of old.task names) vs limit)) (sym r.words) (BrokeOff-as start end _ _ (ends_as (record_of old.task names) (ws ++ new.to_come) limit ws new.to_come last finish e) (BrokeOff-after r.wrote q));
   sound = r.failed ∙ f;
 }
 
-printed_spelled : (w : Word) → printed (map digit_of w) ≡ spelled w
+printed_spelled : (w : OutcomeWord) → printed (map digit_of w) ≡ spelled w
 printed_spelled [] = refl
 printed_spelled (d ∷ w) = refl
 
-no_words : (ws : List Word) → has_words ws ≡ false → ws ≡ []
+no_words : (ws : List OutcomeWord) → has_words ws ≡ false → ws ≡ []
 no_words [] h = refl
 no_words (w ∷ ws) h = absurd cc
 
-some_left : (limit left : Option ℕ) (ws rest : List Word) → limit ≢ Some 0 → IsLeft limit left (length ws) → (reached left ≡ false → rest ≡ []) → has_words rest ≡ true → ws ≢ []
+some_left : (limit left : Option ℕ) (ws rest : List OutcomeWord) → limit ≢ Some 0 → IsLeft limit left (length ws) → (reached left ≡ false → rest ≡ []) → has_words rest ≡ true → ws ≢ []
 some_left limit left ws [] n c over h e = absurd cc
 some_left None None ws (v ∷ vs) n c over h e = let o = over refl in absurd cc
 some_left None (Some k) ws (v ∷ vs) n c over h e = absurd c
@@ -274,7 +274,7 @@ some_left (Some l) (Some zero) ws (v ∷ vs) n c over h e = let z : l ≡ 0 = (l
 last_line_is : {start now : Sink} {old new : RunsShown} {names : List Text} {limit : Option ℕ} (digits : Text) (r : WroteRecords start now old new names limit) → limit ≢ Some 0 → has_words new.to_come ≡ true → digits ≡ map digit_of (last_given new) → line (codes "more " ++ printed digits) ≡ line (codes "more " ++ spelled (last_of [] r.ws))
 last_line_is {new = new} {limit = limit} digits r n h d =
     let some = some_left limit r.left r.ws new.to_come n r.recorded.count r.over h in
-    let given : last_given new ≡ last_of [] r.ws = ap (λ (o : Option Word). unwrap_or o []) (r.recorded.last some) in
+    let given : last_given new ≡ last_of [] r.ws = ap (λ (o : Option OutcomeWord). unwrap_or o []) (r.recorded.last some) in
     ap (λ (t : Text). line (codes "more " ++ printed t)) (d ∙ ap (map digit_of) given) ∙ ap (λ (t : Text). line (codes "more " ++ t)) (printed_spelled (last_of [] r.ws))
 
 module _ {start now : Sink} {old new : RunsShown} {names : List Text} {limit : Option ℕ} (end : Sink) (r : WroteRecords start now old new names limit) (f : old.failed ≡ false) where

@@ -2,14 +2,14 @@
 use Rattle.std.proofs.Common.{◌≡◌, ℕ, zero, suc, ◌+◌, ◌<◌, ◌≤◌, Bool, true, false, List, [], ◌∷◌, ◌++◌, length, map, Option, Some, None, option_map, pred, refl, sym, ap, subst, ◌∙◌, append_assoc, append-nil, arith}
 use Rattle.bootstore.specs.Moment.{Moment}
 use Rattle.rehearse.specs.Bounds.{most_steps}
-use Rattle.rehearse.specs.Outcomes.{Word, Outcome, Success, Failure, WordKind, Run, Short, Long, turned, beyond, first_run, first_from, common_prefix}
+use Rattle.rehearse.specs.Outcomes.{OutcomeWord, Outcome, Success, Failure, WordKind, Run, Short, Long, turned, beyond, first_run, first_from, common_prefix}
 use Rattle.rehearse.specs.State.{Text, State, state_at}
 use Rattle.rehearse.specs.Execution.{Answer, Normal, Exit, Ended, Dry, Ending}
 use Rattle.rehearse.specs.Runs.{Task, run_on, kind, kind_of, taken_kind, state_of, ending_of, runs, rest, asked}
 use Rattle.std.proofs.lemmas.Bool.{ne_eqb}
 use Rattle.rehearse.specs.Listing.{digit_of}
 use Rattle.rehearse_runs.specs.RunsShown.{outcomes, outcome_of}
-use Rattle.rehearse_machine.specs.Halted.{halt_shown}
+use Rattle.rehearse_machine.specs.EndingsShown.{halt_shown}
 use Rattle.rehearse_runs.specs.Phases.{AreDigits}
 use Rattle.rehearse_machine.specs.Came.{Came, Over, Wants, settled}
 use Rattle.rehearse_machine.specs.Machine.{Stops, asked_at}
@@ -25,42 +25,42 @@ use Rattle.rehearse_machine.specs.declared.rehearsal.Stop.{Stop}
 use Rattle.rehearse_machine.specs.declared.rehearsal.Stop.TheVariants.{Asks, Ends}
 use Rattle.rehearse.proofs.TaskChoices.{dry_within, no_run_is_longer, task_begins, task_goes_on}
 
-pub turned_by_success : (p : Word) → turned (p ++ Success ∷ []) ≡ Some (p ++ Failure ∷ [])
+pub turned_by_success : (p : OutcomeWord) → turned (p ++ Success ∷ []) ≡ Some (p ++ Failure ∷ [])
 turned_by_success [] = refl
 turned_by_success (Success ∷ p) = let e = turned_by_success p in rw e refl
 turned_by_success (Failure ∷ p) = let e = turned_by_success p in rw e refl
 
-pub turned_by_failure : (p : Word) → turned (p ++ Failure ∷ []) ≡ turned p
+pub turned_by_failure : (p : OutcomeWord) → turned (p ++ Failure ∷ []) ≡ turned p
 turned_by_failure [] = refl
 turned_by_failure (Success ∷ p) = let e = turned_by_failure p in rw e refl
 turned_by_failure (Failure ∷ p) = let e = turned_by_failure p in rw e refl
 
-abbrev first_pick : WordKind → Word → Word
+abbrev first_pick : WordKind → OutcomeWord → OutcomeWord
 first_pick k w = elim k [ Run ↦ [] | Long ↦ [] | Short ↦ w ]
 
 -- a device command asks behind p
-pub first_from_asked : (kinds : Word → WordKind) (n : ℕ) (p : Word) → length p < n → kinds p ≡ Short → first_from kinds n p ≡ first_from kinds n (p ++ Success ∷ [])
+pub first_from_asked : (kinds : OutcomeWord → WordKind) (n : ℕ) (p : OutcomeWord) → length p < n → kinds p ≡ Short → first_from kinds n p ≡ first_from kinds n (p ++ Success ∷ [])
 first_from_asked kinds zero p h k = absurd (omega arith)
 first_from_asked kinds (suc n) [] h k = ap (λ (t : WordKind). first_pick t (Success ∷ first_run (beyond Success kinds) n)) k
-first_from_asked kinds (suc n) (d ∷ p) h k = ap (λ (w : Word). d ∷ w) (first_from_asked (beyond d kinds) n p (omega arith) k)
+first_from_asked kinds (suc n) (d ∷ p) h k = ap (λ (w : OutcomeWord). d ∷ w) (first_from_asked (beyond d kinds) n p (omega arith) k)
 
 -- the run ends
-pub first_from_run : (kinds : Word → WordKind) (n : ℕ) (p : Word) → length p ≤ n → kinds p ≡ Run → first_from kinds n p ≡ p
+pub first_from_run : (kinds : OutcomeWord → WordKind) (n : ℕ) (p : OutcomeWord) → length p ≤ n → kinds p ≡ Run → first_from kinds n p ≡ p
 first_from_run kinds zero [] h k = refl
 first_from_run kinds (suc n) [] h k = ap (λ (t : WordKind). first_pick t (Success ∷ first_run (beyond Success kinds) n)) k
 first_from_run kinds zero (d ∷ p) h k = absurd (omega arith)
-first_from_run kinds (suc n) (d ∷ p) h k = ap (λ (w : Word). d ∷ w) (first_from_run (beyond d kinds) n p (omega arith) k)
+first_from_run kinds (suc n) (d ∷ p) h k = ap (λ (w : OutcomeWord). d ∷ w) (first_from_run (beyond d kinds) n p (omega arith) k)
 
 -- with one more success
 pub outcomes_success : (digits : Text) → outcomes (digits ++ 48 ∷ []) ≡ outcomes digits ++ Success ∷ []
 outcomes_success [] = refl
-outcomes_success (b ∷ digits) = ap (λ (w : Word). outcomes (b ∷ []) ++ w) (outcomes_success digits)
+outcomes_success (b ∷ digits) = ap (λ (w : OutcomeWord). outcomes (b ∷ []) ++ w) (outcomes_success digits)
 
 pub outcomes_length : (digits : Text) → length (outcomes digits) ≡ length digits
 outcomes_length [] = refl
 outcomes_length (b ∷ digits) = ap suc (outcomes_length digits)
 
-map_digits : (v w : Word) → map digit_of (v ++ w) ≡ map digit_of v ++ map digit_of w
+map_digits : (v w : OutcomeWord) → map digit_of (v ++ w) ≡ map digit_of v ++ map digit_of w
 map_digits [] w = refl
 map_digits (d ∷ v) w = ap (λ (t : Text). digit_of d ∷ t) (map_digits v w)
 
@@ -96,51 +96,51 @@ is_over (Ended other t) ending s e = let f : t ≡ s = ap (λ c. over_state c s)
 is_over (Dry t) ending s e = absurd (let f = e in cc)
 
 -- a run that stopped where a device command asks found no outcome left
-dry_there : (task : Task) (p : Word) (m : Moment) → StoppedAt task p Asks m → run_on task p ≡ Dry (state_at m [])
-dry_there task p m h = wants (run_on task p) (state_at m []) (ap (λ (v : Word). settled (run_on task v)) (sym (append-nil p)) ∙ h.2)
+dry_there : (task : Task) (p : OutcomeWord) (m : Moment) → StoppedAt task p Asks m → run_on task p ≡ Dry (state_at m [])
+dry_there task p m h = wants (run_on task p) (state_at m []) (ap (λ (v : OutcomeWord). settled (run_on task v)) (sym (append-nil p)) ∙ h.2)
 
 -- a device command that asks stands below the device bound
-pub asked_within : (task : Task) (p : Word) (m : Moment) → StoppedAt task p Asks m → length p < task.setting.device_bound
+pub asked_within : (task : Task) (p : OutcomeWord) (m : Moment) → StoppedAt task p Asks m → length p < task.limits.device_bound
 asked_within task p m h = dry_within task p (state_at m []) (dry_there task p m h)
 
-pub asked_kind : (task : Task) (p : Word) (m : Moment) → StoppedAt task p Asks m → kind task p ≡ Short
+pub asked_kind : (task : Task) (p : OutcomeWord) (m : Moment) → StoppedAt task p Asks m → kind task p ≡ Short
 asked_kind task p m h = ap kind_of (dry_there task p m h)
 
 -- the marks behind a success
-pub marked_success : (task : Task) (p : Word) (m : Moment) (ms : List Moment) → StoppedAt task p Asks m → AreMarks task p ms → AreMarks task (p ++ Success ∷ []) (m ∷ ms)
+pub marked_success : (task : Task) (p : OutcomeWord) (m : Moment) (ms : List Moment) → StoppedAt task p Asks m → AreMarks task p ms → AreMarks task (p ++ Success ∷ []) (m ∷ ms)
 marked_success task p m ms h k = (p, turned_by_success p, h, k)
 
 -- where the command that asks takes an outcome, the text means what follows it
-pub stopped_on : (task : Task) (p : Word) (m n : Moment) (d : Outcome) (stop : Stop) → StoppedAt task p Asks m → Stops task.setting stop (λ w. asked_at task.setting m (d ∷ w)) n → StoppedAt task (p ++ d ∷ []) stop n
-stopped_on task p m n d Asks h k = (k.0, λ w. ap (λ (v : Word). settled (run_on task v)) (append_assoc p (d ∷ []) w) ∙ h.1 (d ∷ w) ∙ k.1 w, ap (λ (v : Word). settled (run_on task v)) (append_assoc p (d ∷ []) []) ∙ h.1 (d ∷ []) ∙ k.2)
-stopped_on task p m n d (Ends halt) h k = λ w. ap (λ (v : Word). settled (run_on task v)) (append_assoc p (d ∷ []) w) ∙ h.1 (d ∷ w) ∙ k w
+pub stopped_on : (task : Task) (p : OutcomeWord) (m n : Moment) (d : Outcome) (stop : Stop) → StoppedAt task p Asks m → Stops task.limits stop (λ w. asked_at task.limits m (d ∷ w)) n → StoppedAt task (p ++ d ∷ []) stop n
+stopped_on task p m n d Asks h k = (k.0, λ w. ap (λ (v : OutcomeWord). settled (run_on task v)) (append_assoc p (d ∷ []) w) ∙ h.1 (d ∷ w) ∙ k.1 w, ap (λ (v : OutcomeWord). settled (run_on task v)) (append_assoc p (d ∷ []) []) ∙ h.1 (d ∷ []) ∙ k.2)
+stopped_on task p m n d (Ends halt) h k = λ w. ap (λ (v : OutcomeWord). settled (run_on task v)) (append_assoc p (d ∷ []) w) ∙ h.1 (d ∷ w) ∙ k w
 
 -- ---- what the search gives
 
 -- the run has ended
-pub found_end : (task : Task) (p : Word) (halt : Halt) (r : Record) → StoppedAt task p (Ends halt) r.present → AreMarks task p r.marked → r.present.steps ≤ most_steps → Found task p p halt r r
+pub found_end : (task : Task) (p : OutcomeWord) (halt : Halt) (r : Record) → StoppedAt task p (Ends halt) r.present → AreMarks task p r.marked → r.present.steps ≤ most_steps → Found task p p halt r r
 found_end task p halt r h k n =
-    let a : IsAnswer (halt_shown halt) (state_at r.present []) (run_on task p) = is_over (run_on task p) (halt_shown halt) (state_at r.present []) (ap (λ (v : Word). settled (run_on task v)) (sym (append-nil p)) ∙ h []) in
+    let a : IsAnswer (halt_shown halt) (state_at r.present []) (run_on task p) = is_over (run_on task p) (halt_shown halt) (state_at r.present []) (ap (λ (v : OutcomeWord). settled (run_on task v)) (sym (append-nil p)) ∙ h []) in
     record {
       run = a.kind_is;
       moment = sym a.state_is;
       ending = sym a.ending_is;
       marks = k;
-      first = first_from_run (kind task) task.setting.device_bound p (no_run_is_longer task p a.kind_is) a.kind_is;
+      first = first_from_run (kind task) task.limits.device_bound p (no_run_is_longer task p a.kind_is) a.kind_is;
       begun = refl;
       within = n;
       grows = omega arith;
     }
 
 -- a device command asked, and the search went on with its success
-found_more : (task : Task) (p q w : Word) (halt : Halt) (r₀ r₁ r₂ : Record) → Found task q w halt r₁ r₂ → first_from (kind task) task.setting.device_bound p ≡ first_from (kind task) task.setting.device_bound q
+found_more : (task : Task) (p q w : OutcomeWord) (halt : Halt) (r₀ r₁ r₂ : Record) → Found task q w halt r₁ r₂ → first_from (kind task) task.limits.device_bound p ≡ first_from (kind task) task.limits.device_bound q
     → r₁.begun + r₀.present.steps ≡ r₀.begun + r₁.present.steps → r₀.present.steps ≤ r₁.present.steps → Found task p w halt r₀ r₂
 found_more task p q w halt r₀ r₁ r₂ f e b l =
     let c = f.begun in
     let k = f.grows in
     record { run = f.run; moment = f.moment; ending = f.ending; marks = f.marks; first = e ∙ f.first; begun = omega arith; within = f.within; grows = omega arith }
 
-pub all_more : (result : Result Halt StoreError) (task : Task) (p q w : Word) (r₀ r₁ r₂ : Record) → first_from (kind task) task.setting.device_bound p ≡ first_from (kind task) task.setting.device_bound q
+pub all_more : (result : Result Halt StoreError) (task : Task) (p q w : OutcomeWord) (r₀ r₁ r₂ : Record) → first_from (kind task) task.limits.device_bound p ≡ first_from (kind task) task.limits.device_bound q
     → r₁.begun + r₀.present.steps ≡ r₀.begun + r₁.present.steps → r₀.present.steps ≤ r₁.present.steps → IfOk result (λ halt. Found task q w halt r₁ r₂) → IfOk result (λ halt. Found task p w halt r₀ r₂)
 all_more (Ok halt) task p q w r₀ r₁ r₂ e b l f = found_more task p q w halt r₀ r₁ r₂ f e b l
 all_more (Err x) task p q w r₀ r₁ r₂ e b l f = f
@@ -148,8 +148,8 @@ all_more (Err x) task p q w r₀ r₁ r₂ e b l f = f
 -- what is known where a device command asks
 pub record Asked (task : Task) (digits : Text) (stop : Stop) (m : Moment) : Type 0 where
   pub asks : StoppedAt task (outcomes digits) Asks m
-  pub room : length digits < task.setting.device_bound
-  pub first : first_from (kind task) task.setting.device_bound (outcomes digits) ≡ first_from (kind task) task.setting.device_bound (outcomes (digits ++ 48 ∷ []))
+  pub room : length digits < task.limits.device_bound
+  pub first : first_from (kind task) task.limits.device_bound (outcomes digits) ≡ first_from (kind task) task.limits.device_bound (outcomes (digits ++ 48 ∷ []))
 
 pub asked_here : (task : Task) (digits : Text) (stop : Stop) (m : Moment) → stop ≡ Asks → StoppedAt task (outcomes digits) stop m → Asked task digits stop m
 asked_here task digits stop m e h =
@@ -160,29 +160,29 @@ asked_here task digits stop m e h =
     record {
       asks = a;
       room = omega arith;
-      first = first_from_asked (kind task) task.setting.device_bound p k (asked_kind task p m a) ∙ ap (first_from (kind task) task.setting.device_bound) (sym (outcomes_success digits));
+      first = first_from_asked (kind task) task.limits.device_bound p k (asked_kind task p m a) ∙ ap (first_from (kind task) task.limits.device_bound) (sym (outcomes_success digits));
     }
 
 -- where the search goes on
 pub goes_on : (task : Task) (digits : Text) (stop next : Stop) (r₀ r r₁ : Record) (digits' : Text) → Asked task digits stop r₀.present → r ≡ with_mark r₀ → digits' ≡ digits ++ 48 ∷ []
-    → Stops task.setting next (λ w. asked_at task.setting r.present (outcome_when true ∷ w)) r₁.present → StoppedAt task (outcomes digits') next r₁.present
+    → Stops task.limits next (λ w. asked_at task.limits r.present (outcome_when true ∷ w)) r₁.present → StoppedAt task (outcomes digits') next r₁.present
 goes_on task digits stop next r₀ r r₁ digits' a e d k =
-    let k' : Stops task.setting next (λ w. asked_at task.setting r₀.present (Success ∷ w)) r₁.present = subst (λ (x : Record). Stops task.setting next (λ w. asked_at task.setting x.present (Success ∷ w)) r₁.present) e k in
-    subst (λ (p : Word). StoppedAt task p next r₁.present) (sym (ap outcomes d ∙ outcomes_success digits)) (stopped_on task (outcomes digits) r₀.present r₁.present Success next a.asks k')
+    let k' : Stops task.limits next (λ w. asked_at task.limits r₀.present (Success ∷ w)) r₁.present = subst (λ (x : Record). Stops task.limits next (λ w. asked_at task.limits x.present (Success ∷ w)) r₁.present) e k in
+    subst (λ (p : OutcomeWord). StoppedAt task p next r₁.present) (sym (ap outcomes d ∙ outcomes_success digits)) (stopped_on task (outcomes digits) r₀.present r₁.present Success next a.asks k')
 
 pub marks_go_on : (task : Task) (digits : Text) (stop : Stop) (r₀ r r₁ : Record) (digits' : Text) → Asked task digits stop r₀.present → r ≡ with_mark r₀ → digits' ≡ digits ++ 48 ∷ []
     → r₁.marked ≡ r.marked → AreMarks task (outcomes digits) r₀.marked → AreMarks task (outcomes digits') r₁.marked
 marks_go_on task digits stop r₀ r r₁ digits' a e d m k =
     let ms : r₁.marked ≡ r₀.present ∷ r₀.marked = m ∙ ap (λ (x : Record). x.marked) e in
     let all : AreMarks task (outcomes digits ++ Success ∷ []) (r₀.present ∷ r₀.marked) = marked_success task (outcomes digits) r₀.present r₀.marked a.asks k in
-    subst (λ (p : Word). AreMarks task p r₁.marked) (sym (ap outcomes d ∙ outcomes_success digits)) (subst (λ (xs : List Moment). AreMarks task (outcomes digits ++ Success ∷ []) xs) (sym ms) all)
+    subst (λ (p : OutcomeWord). AreMarks task p r₁.marked) (sym (ap outcomes d ∙ outcomes_success digits)) (subst (λ (xs : List Moment). AreMarks task (outcomes digits ++ Success ∷ []) xs) (sym ms) all)
 
 pub digits_go_on : (digits digits' : Text) → digits' ≡ digits ++ 48 ∷ [] → AreDigits digits → AreDigits digits'
 digits_go_on digits digits' d h = subst AreDigits (sym d) (digits_success digits h)
 
 -- ---- the first run
 
-pub first_found : (result : Result Halt StoreError) (task : Task) (w : Word) (r₀ r₁ r₂ : Record) → r₁.begun ≡ r₀.begun + r₁.present.steps → IfOk result (λ halt. Found task [] w halt r₁ r₂) → IfOk result (λ halt. FoundFirst task w halt r₀ r₂)
+pub first_found : (result : Result Halt StoreError) (task : Task) (w : OutcomeWord) (r₀ r₁ r₂ : Record) → r₁.begun ≡ r₀.begun + r₁.present.steps → IfOk result (λ halt. Found task [] w halt r₁ r₂) → IfOk result (λ halt. FoundFirst task w halt r₀ r₂)
 first_found (Ok halt) task w r₀ r₁ r₂ b f =
     let c = f.begun in
     record {
@@ -190,7 +190,7 @@ first_found (Ok halt) task w r₀ r₁ r₂ b f =
       moment = f.moment;
       ending = f.ending;
       marks = f.marks;
-      begins = subst (λ (v : Word). runs task ≡ v ∷ rest task v) f.first (task_begins task);
+      begins = subst (λ (v : OutcomeWord). runs task ≡ v ∷ rest task v) f.first (task_begins task);
       begun = omega arith;
       within = f.within;
     }
@@ -207,7 +207,7 @@ cut_digits all digits b e h = front_digits digits b (subst AreDigits e h)
 
 pub outcomes_more : (digits : Text) (b : ℕ) → outcomes (digits ++ b ∷ []) ≡ outcomes digits ++ outcome_of b ∷ []
 outcomes_more [] b = refl
-outcomes_more (d ∷ digits) b = ap (λ (w : Word). outcome_of d ∷ w) (outcomes_more digits b)
+outcomes_more (d ∷ digits) b = ap (λ (w : OutcomeWord). outcome_of d ∷ w) (outcomes_more digits b)
 
 failure_of : (b : ℕ) → (b ≡ 48 → ⊥) → outcome_of b ≡ Failure
 failure_of b h = ap (λ (t : Bool). elim t [ true ↦ Success | false ↦ Failure ]) (ne_eqb b 48 h)
@@ -231,94 +231,94 @@ digits_failure digits new n h = subst AreDigits (sym n) (ap (map digit_of) (outc
 
 -- ---- the next run
 
-pub marked_failure : (task : Task) (p : Word) (ms : List Moment) → AreMarks task p ms → AreMarks task (p ++ Failure ∷ []) ms
+pub marked_failure : (task : Task) (p : OutcomeWord) (ms : List Moment) → AreMarks task p ms → AreMarks task (p ++ Failure ∷ []) ms
 marked_failure task p [] h = turned_by_failure p ∙ h
 marked_failure task p (m ∷ ms) h = (h.0, turned_by_failure p ∙ h.1, h.2, h.3)
 
 -- the last mark
-pub record BackAt (task : Task) (q : Word) (r back : Record) : Type 0 where
-  pub parted : Word
+pub record BackAt (task : Task) (q : OutcomeWord) (r back : Record) : Type 0 where
+  pub parted : OutcomeWord
   pub word : q ≡ parted ++ Failure ∷ []
   pub asks : StoppedAt task parted Asks back.present
   pub marks : AreMarks task parted back.marked
   pub begun : back.begun ≡ r.begun
 
-back_in : (task : Task) (u q : Word) (present : Moment) (begun : ℕ) (marked : List Moment) → AreMarks task u marked → turned u ≡ Some q → BackAt task q (record { present = present; marked = marked; begun = begun }) (returned present begun marked)
+back_in : (task : Task) (u q : OutcomeWord) (present : Moment) (begun : ℕ) (marked : List Moment) → AreMarks task u marked → turned u ≡ Some q → BackAt task q (record { present = present; marked = marked; begun = begun }) (returned present begun marked)
 back_in task u q present begun [] h e = let k = h in absurd cc
 back_in task u q present begun (m ∷ ms) h e = record { parted = h.0; word = same_Some q (h.0 ++ Failure ∷ []) (sym e ∙ h.1); asks = h.2; marks = h.3; begun = refl }
 
-pub back_at : (task : Task) (u q : Word) (r back : Record) → AreMarks task u r.marked → turned u ≡ Some q → back ≡ gone_back r → BackAt task q r back
+pub back_at : (task : Task) (u q : OutcomeWord) (r back : Record) → AreMarks task u r.marked → turned u ≡ Some q → back ≡ gone_back r → BackAt task q r back
 back_at task u q r back h e b = subst (λ (x : Record). BackAt task q r x) (sym b) (back_in task u q r.present r.begun r.marked h e)
 
 -- the steps at the mark
-asked_steps : (task : Task) (p : Word) (m : Moment) → StoppedAt task p Asks m → asked task p ≡ m.steps
+asked_steps : (task : Task) (p : OutcomeWord) (m : Moment) → StoppedAt task p Asks m → asked task p ≡ m.steps
 asked_steps task p m h = ap (λ (a : Answer). (state_of a).steps) (dry_there task p m h)
 
-pub goes_behind : (task : Task) (q : Word) (stop : Stop) (r back r₁ : Record) → BackAt task q r back → Stops task.setting stop (λ w. asked_at task.setting back.present (outcome_when false ∷ w)) r₁.present → StoppedAt task q stop r₁.present
-goes_behind task q stop r back r₁ a k = subst (λ (p : Word). StoppedAt task p stop r₁.present) (sym a.word) (stopped_on task a.parted back.present r₁.present Failure stop a.asks k)
+pub goes_behind : (task : Task) (q : OutcomeWord) (stop : Stop) (r back r₁ : Record) → BackAt task q r back → Stops task.limits stop (λ w. asked_at task.limits back.present (outcome_when false ∷ w)) r₁.present → StoppedAt task q stop r₁.present
+goes_behind task q stop r back r₁ a k = subst (λ (p : OutcomeWord). StoppedAt task p stop r₁.present) (sym a.word) (stopped_on task a.parted back.present r₁.present Failure stop a.asks k)
 
-pub marks_behind : (task : Task) (q : Word) (r back r₁ : Record) → BackAt task q r back → r₁.marked ≡ back.marked → AreMarks task q r₁.marked
-marks_behind task q r back r₁ a m = subst (λ (p : Word). AreMarks task p r₁.marked) (sym a.word) (subst (λ (ms : List Moment). AreMarks task (a.parted ++ Failure ∷ []) ms) (sym m) (marked_failure task a.parted back.marked a.marks))
+pub marks_behind : (task : Task) (q : OutcomeWord) (r back r₁ : Record) → BackAt task q r back → r₁.marked ≡ back.marked → AreMarks task q r₁.marked
+marks_behind task q r back r₁ a m = subst (λ (p : OutcomeWord). AreMarks task p r₁.marked) (sym a.word) (subst (λ (ms : List Moment). AreMarks task (a.parted ++ Failure ∷ []) ms) (sym m) (marked_failure task a.parted back.marked a.marks))
 
 -- ---- where two runs part
 
-none_empty : (p : Word) → [] ≡ p ++ Failure ∷ [] → ⊥
+none_empty : (p : OutcomeWord) → [] ≡ p ++ Failure ∷ [] → ⊥
 none_empty [] e = cc
 none_empty (d ∷ p) e = cc
 
-turned_success_some : (t : Option Word) (v : Word) → elim t [ Some w ↦ Some (Success ∷ w) | None ↦ Some (Failure ∷ []) ] ≡ Some v → [] ≡ v → ⊥
+turned_success_some : (t : Option OutcomeWord) (v : OutcomeWord) → elim t [ Some w ↦ Some (Success ∷ w) | None ↦ Some (Failure ∷ []) ] ≡ Some v → [] ≡ v → ⊥
 turned_success_some (Some w) v e h = cc
 turned_success_some None v e h = cc
 
-turned_failure_some : (t : Option Word) (v : Word) → option_map (λ w. Failure ∷ w) t ≡ Some v → [] ≡ v → ⊥
+turned_failure_some : (t : Option OutcomeWord) (v : OutcomeWord) → option_map (λ w. Failure ∷ w) t ≡ Some v → [] ≡ v → ⊥
 turned_failure_some (Some w) v e h = cc
 turned_failure_some None v e h = cc
 
-turned_some : (u v : Word) → turned u ≡ Some v → [] ≡ v → ⊥
+turned_some : (u v : OutcomeWord) → turned u ≡ Some v → [] ≡ v → ⊥
 turned_some [] v e h = cc
 turned_some (Success ∷ u) v e h = turned_success_some (turned u) v e h
 turned_some (Failure ∷ u) v e h = turned_failure_some (turned u) v e h
 
-cut_success : (t : Option Word) (u p : Word) → elim t [ Some v ↦ Some (Success ∷ v) | None ↦ Some (Failure ∷ []) ] ≡ Some (p ++ Failure ∷ []) → ((q : Word) → t ≡ Some (q ++ Failure ∷ []) → (x : Word) × (u ≡ q ++ Success ∷ x)) → (x : Word) × (Success ∷ u ≡ p ++ Success ∷ x)
+cut_success : (t : Option OutcomeWord) (u p : OutcomeWord) → elim t [ Some v ↦ Some (Success ∷ v) | None ↦ Some (Failure ∷ []) ] ≡ Some (p ++ Failure ∷ []) → ((q : OutcomeWord) → t ≡ Some (q ++ Failure ∷ []) → (x : OutcomeWord) × (u ≡ q ++ Success ∷ x)) → (x : OutcomeWord) × (Success ∷ u ≡ p ++ Success ∷ x)
 cut_success (Some v) u [] e next = absurd cc
 cut_success None u [] e next = (u, refl)
-cut_success (Some v) u (Success ∷ p) e next = let f : v ≡ p ++ Failure ∷ [] = cc in let n = next p (ap Some f) in (n.0, ap (λ (w : Word). Success ∷ w) n.1)
+cut_success (Some v) u (Success ∷ p) e next = let f : v ≡ p ++ Failure ∷ [] = cc in let n = next p (ap Some f) in (n.0, ap (λ (w : OutcomeWord). Success ∷ w) n.1)
 cut_success None u (Success ∷ p) e next = absurd cc
 cut_success (Some v) u (Failure ∷ p) e next = absurd cc
 cut_success None u (Failure ∷ p) e next = absurd (none_empty p cc)
 
-cut_failure : (t : Option Word) (u p : Word) → ((v : Word) → t ≡ Some v → [] ≡ v → ⊥) → option_map (λ v. Failure ∷ v) t ≡ Some (p ++ Failure ∷ []) → ((q : Word) → t ≡ Some (q ++ Failure ∷ []) → (x : Word) × (u ≡ q ++ Success ∷ x)) → (x : Word) × (Failure ∷ u ≡ p ++ Success ∷ x)
+cut_failure : (t : Option OutcomeWord) (u p : OutcomeWord) → ((v : OutcomeWord) → t ≡ Some v → [] ≡ v → ⊥) → option_map (λ v. Failure ∷ v) t ≡ Some (p ++ Failure ∷ []) → ((q : OutcomeWord) → t ≡ Some (q ++ Failure ∷ []) → (x : OutcomeWord) × (u ≡ q ++ Success ∷ x)) → (x : OutcomeWord) × (Failure ∷ u ≡ p ++ Success ∷ x)
 cut_failure None u p some e next = absurd cc
 cut_failure (Some v) u [] some e next = absurd (some v refl cc)
 cut_failure (Some v) u (Success ∷ p) some e next = absurd cc
-cut_failure (Some v) u (Failure ∷ p) some e next = let f : v ≡ p ++ Failure ∷ [] = cc in let n = next p (ap Some f) in (n.0, ap (λ (w : Word). Failure ∷ w) n.1)
+cut_failure (Some v) u (Failure ∷ p) some e next = let f : v ≡ p ++ Failure ∷ [] = cc in let n = next p (ap Some f) in (n.0, ap (λ (w : OutcomeWord). Failure ∷ w) n.1)
 
 -- a word that is cut goes on with a success there
-pub cut_of : (u p : Word) → turned u ≡ Some (p ++ Failure ∷ []) → (x : Word) × (u ≡ p ++ Success ∷ x)
+pub cut_of : (u p : OutcomeWord) → turned u ≡ Some (p ++ Failure ∷ []) → (x : OutcomeWord) × (u ≡ p ++ Success ∷ x)
 cut_of [] p e = absurd cc
 cut_of (Success ∷ u) p e = cut_success (turned u) u p e (λ q h. cut_of u q h)
 cut_of (Failure ∷ u) p e = cut_failure (turned u) u p (λ v h. turned_some u v h) e (λ q h. cut_of u q h)
 
-begins_with : (kinds : Word → WordKind) (n : ℕ) (q : Word) → (y : Word) × (first_from kinds n q ≡ q ++ y)
+begins_with : (kinds : OutcomeWord → WordKind) (n : ℕ) (q : OutcomeWord) → (y : OutcomeWord) × (first_from kinds n q ≡ q ++ y)
 begins_with kinds n [] = (first_run kinds n, refl)
-begins_with kinds n (d ∷ q) = let r = begins_with (beyond d kinds) (pred n) q in (r.0, ap (λ (w : Word). d ∷ w) r.1)
+begins_with kinds n (d ∷ q) = let r = begins_with (beyond d kinds) (pred n) q in (r.0, ap (λ (w : OutcomeWord). d ∷ w) r.1)
 
-shared : (p x y : Word) → common_prefix (p ++ Success ∷ x) (p ++ Failure ∷ y) ≡ p
+shared : (p x y : OutcomeWord) → common_prefix (p ++ Success ∷ x) (p ++ Failure ∷ y) ≡ p
 shared [] x y = refl
-shared (Success ∷ p) x y = ap (λ (w : Word). Success ∷ w) (shared p x y)
-shared (Failure ∷ p) x y = ap (λ (w : Word). Failure ∷ w) (shared p x y)
+shared (Success ∷ p) x y = ap (λ (w : OutcomeWord). Success ∷ w) (shared p x y)
+shared (Failure ∷ p) x y = ap (λ (w : OutcomeWord). Failure ∷ w) (shared p x y)
 
-parts_there : (kinds : Word → WordKind) (n : ℕ) (u p w : Word) → turned u ≡ Some (p ++ Failure ∷ []) → first_from kinds n (p ++ Failure ∷ []) ≡ w → common_prefix u w ≡ p
+parts_there : (kinds : OutcomeWord → WordKind) (n : ℕ) (u p w : OutcomeWord) → turned u ≡ Some (p ++ Failure ∷ []) → first_from kinds n (p ++ Failure ∷ []) ≡ w → common_prefix u w ≡ p
 parts_there kinds n u p w e f =
     let x = cut_of u p e in
     let y = begins_with kinds n (p ++ Failure ∷ []) in
     let w' : w ≡ p ++ Failure ∷ y.0 = sym f ∙ y.1 ∙ append_assoc p (Failure ∷ []) y.0 in
-    ap (λ (v : Word). common_prefix v w) x.1 ∙ ap (λ (v : Word). common_prefix (p ++ Success ∷ x.0) v) w' ∙ shared p x.0 y.0
+    ap (λ (v : OutcomeWord). common_prefix v w) x.1 ∙ ap (λ (v : OutcomeWord). common_prefix (p ++ Success ∷ x.0) v) w' ∙ shared p x.0 y.0
 
-pub found_behind : (task : Task) (u q w : Word) (halt : Halt) (r back r₁ r₂ : Record) → kind task u ≡ Run → turned u ≡ Some q → BackAt task q r back → r₁.begun + back.present.steps ≡ back.begun + r₁.present.steps → back.present.steps ≤ r₁.present.steps → Found task q w halt r₁ r₂ → FoundBehind task u w halt r r₂
+pub found_behind : (task : Task) (u q w : OutcomeWord) (halt : Halt) (r back r₁ r₂ : Record) → kind task u ≡ Run → turned u ≡ Some q → BackAt task q r back → r₁.begun + back.present.steps ≡ back.begun + r₁.present.steps → back.present.steps ≤ r₁.present.steps → Found task q w halt r₁ r₂ → FoundBehind task u w halt r r₂
 found_behind task u q w halt r back r₁ r₂ run t a b l f =
     let g = f.grows in
-    let parted = parts_there (kind task) task.setting.device_bound u a.parted w (t ∙ ap Some a.word) (ap (first_from (kind task) task.setting.device_bound) (sym a.word) ∙ f.first) in
+    let parted = parts_there (kind task) task.limits.device_bound u a.parted w (t ∙ ap Some a.word) (ap (first_from (kind task) task.limits.device_bound) (sym a.word) ∙ f.first) in
     let c = f.begun in
     let d = a.begun in
     let k = asked_steps task a.parted back.present a.asks in
@@ -327,8 +327,8 @@ found_behind task u q w halt r back r₁ r₂ run t a b l f =
       moment = f.moment;
       ending = f.ending;
       marks = f.marks;
-      follows = subst (λ (v : Word). rest task u ≡ v ∷ rest task v) f.first (task_goes_on task u q run t);
-      begun = ap (λ (p : Word). r₂.begun + asked task p) parted ∙ (let z : r₂.begun + asked task a.parted ≡ r.begun + r₂.present.steps = omega arith in z);
+      follows = subst (λ (v : OutcomeWord). rest task u ≡ v ∷ rest task v) f.first (task_goes_on task u q run t);
+      begun = ap (λ (p : OutcomeWord). r₂.begun + asked task p) parted ∙ (let z : r₂.begun + asked task a.parted ≡ r.begun + r₂.present.steps = omega arith in z);
       within = f.within;
-      shared = subst (λ (p : Word). asked task p ≤ r₂.present.steps) (sym parted) (let z : asked task a.parted ≤ r₂.present.steps = omega arith in z);
+      shared = subst (λ (p : OutcomeWord). asked task p ≤ r₂.present.steps) (sym parted) (let z : asked task a.parted ≤ r₂.present.steps = omega arith in z);
     }

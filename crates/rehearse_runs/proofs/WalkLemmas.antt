@@ -6,7 +6,7 @@ use Rattle.bootstore.specs.Moment.{Moment}
 use Rattle.bootstore.specs.Record.{Record}
 use Rattle.bootstore.specs.declared.store.StoreError.{StoreError}
 use Rattle.rehearse.specs.Bounds.{most_steps, most_devices}
-use Rattle.rehearse.specs.Outcomes.{Word, Outcome, Success, Failure, Run}
+use Rattle.rehearse.specs.Outcomes.{OutcomeWord, Outcome, Success, Failure, Run}
 use Rattle.rehearse.specs.State.{Text}
 use Rattle.rehearse.specs.Runs.{Task, kind}
 use Rattle.rehearse.specs.Listing.{digit_of}
@@ -27,16 +27,16 @@ use Rattle.rehearse_runs.proofs.SearchLemmas.{Asked, asked_here, asked_kind, fou
 pub asked_now : (task : Task) (digits : Text) (m : Moment) → StoppedAt task (outcomes digits) Asks m → Asked task digits Asks m
 asked_now task digits m h = asked_here task digits Asks m refl h
 
-pub room_here : (task : Task) (digits : Text) (m : Moment) → StoppedAt task (outcomes digits) Asks m → task.setting.device_bound ≤ most_devices → length digits < 32
+pub room_here : (task : Task) (digits : Text) (m : Moment) → StoppedAt task (outcomes digits) Asks m → task.limits.device_bound ≤ most_devices → length digits < 32
 room_here task digits m h b = let a = (asked_now task digits m h).room in omega arith
 
 pub fails_on : (task : Task) (digits digits' : Text) (next : Stop) (r r₁ : Record) → StoppedAt task (outcomes digits) Asks r.present → digits' ≡ digits ++ 49 ∷ []
-    → Stops task.setting next (λ w. asked_at task.setting r.present (outcome_when false ∷ w)) r₁.present → StoppedAt task (outcomes digits') next r₁.present
-fails_on task digits digits' next r r₁ h d k = subst (λ (p : Word). StoppedAt task p next r₁.present) (sym (ap outcomes d ∙ outcomes_more digits 49)) (stopped_on task (outcomes digits) r.present r₁.present Failure next h k)
+    → Stops task.limits next (λ w. asked_at task.limits r.present (outcome_when false ∷ w)) r₁.present → StoppedAt task (outcomes digits') next r₁.present
+fails_on task digits digits' next r r₁ h d k = subst (λ (p : OutcomeWord). StoppedAt task p next r₁.present) (sym (ap outcomes d ∙ outcomes_more digits 49)) (stopped_on task (outcomes digits) r.present r₁.present Failure next h k)
 
 pub marks_fail_on : (task : Task) (digits digits' : Text) (r r₁ : Record) → digits' ≡ digits ++ 49 ∷ [] → r₁.marked ≡ r.marked → AreMarks task (outcomes digits) r.marked → AreMarks task (outcomes digits') r₁.marked
 marks_fail_on task digits digits' r r₁ d m k =
-    subst (λ (p : Word). AreMarks task p r₁.marked) (sym (ap outcomes d ∙ outcomes_more digits 49)) (subst (λ (ms : List Moment). AreMarks task (outcomes digits ++ Failure ∷ []) ms) (sym m) (marked_failure task (outcomes digits) r.marked k))
+    subst (λ (p : OutcomeWord). AreMarks task p r₁.marked) (sym (ap outcomes d ∙ outcomes_more digits 49)) (subst (λ (ms : List Moment). AreMarks task (outcomes digits ++ Failure ∷ []) ms) (sym m) (marked_failure task (outcomes digits) r.marked k))
 
 -- ---- where the walk ends
 
@@ -46,7 +46,7 @@ reached_here task digits text stop halt r s h k n e =
     let f = found_end task (outcomes digits) halt r (subst (λ (x : Stop). StoppedAt task (outcomes digits) x r.present) s h) k n in
     (([], e, sym (append-nil (outcomes digits)), sym (append-nil digits) ∙ ap (λ (t : Text). digits ++ t) (sym e)), record { run = f.run; moment = f.moment; ending = f.ending; marks = f.marks; begun = f.begun; within = f.within })
 
-ends_before : (task : Task) (p : Word) (text : Text) → kind task p ≡ Run → (text ≡ [] → ⊥) → IsLongBehind task p text
+ends_before : (task : Task) (p : OutcomeWord) (text : Text) → kind task p ≡ Run → (text ≡ [] → ⊥) → IsLongBehind task p text
 ends_before task p text k ne [] e = absurd (ne e)
 ends_before task p text k ne (d ∷ w) e = longer_is_long task p d w k
 
@@ -63,7 +63,7 @@ asks_here task digits text stop r s h e =
     ([], e, ap (kind task) (append-nil (outcomes digits)) ∙ asked_kind task (outcomes digits) r.present (subst (λ (x : Stop). StoppedAt task (outcomes digits) x r.present) s h))
 
 -- a byte is no digit
-pub no_digit_here : (task : Task) (p : Word) (text : Text) → (text ≡ [] → ⊥) → ((d : Outcome) (w : Word) → text ≢ digit_of d ∷ map digit_of w) → IsLongBehind task p text
+pub no_digit_here : (task : Task) (p : OutcomeWord) (text : Text) → (text ≡ [] → ⊥) → ((d : Outcome) (w : OutcomeWord) → text ≢ digit_of d ∷ map digit_of w) → IsLongBehind task p text
 no_digit_here task p text ne n [] e = absurd (ne e)
 no_digit_here task p text ne n (d ∷ w) e = absurd (n d w e)
 
@@ -76,7 +76,7 @@ read_digit Failure = refl
 same_outcome : (c d : Outcome) → digit_of c ≡ digit_of d → c ≡ d
 same_outcome c d e = sym (read_digit c) ∙ ap outcome_of e ∙ read_digit d
 
-long_on : (task : Task) (p : Word) (d : Outcome) (behind : Text) → IsLongBehind task (p ++ d ∷ []) behind → IsLongBehind task p (digit_of d ∷ behind)
+long_on : (task : Task) (p : OutcomeWord) (d : Outcome) (behind : Text) → IsLongBehind task (p ++ d ∷ []) behind → IsLongBehind task p (digit_of d ∷ behind)
 long_on task p d behind h [] e = absurd cc
 long_on task p d behind h (c ∷ w) e =
     let f : digit_of d ≡ digit_of c = cc in
@@ -96,16 +96,16 @@ walked_on (Ok (walked.Ends halt)) task digits digits' text behind all d r₀ r�
       (
         d ∷ v,
         t ∙ ap (λ (x : Text). digit_of d ∷ x) h.0.1,
-        h.0.2 ∙ ap (λ (p : Word). p ++ v) o ∙ append_assoc (outcomes digits) (d ∷ []) v,
+        h.0.2 ∙ ap (λ (p : OutcomeWord). p ++ v) o ∙ append_assoc (outcomes digits) (d ∷ []) v,
         h.0.3 ∙ ap (λ (x : Text). x ++ behind) e ∙ append_assoc digits (digit_of d ∷ []) behind ∙ ap (λ (x : Text). digits ++ x) (sym t),
       ),
       record { run = f.run; moment = f.moment; ending = f.ending; marks = f.marks; begun = omega arith; within = f.within },
     )
 walked_on (Ok walked.Short) task digits digits' text behind all d r₀ r₁ r₂ e t b h =
     let o = outcomes_on digits digits' d e in
-    (d ∷ h.0, t ∙ ap (λ (x : Text). digit_of d ∷ x) h.1, sym (ap (kind task) (ap (λ (p : Word). p ++ h.0) o ∙ append_assoc (outcomes digits) (d ∷ []) h.0)) ∙ h.2)
+    (d ∷ h.0, t ∙ ap (λ (x : Text). digit_of d ∷ x) h.1, sym (ap (kind task) (ap (λ (p : OutcomeWord). p ++ h.0) o ∙ append_assoc (outcomes digits) (d ∷ []) h.0)) ∙ h.2)
 walked_on (Ok walked.Long) task digits digits' text behind all d r₀ r₁ r₂ e t b h =
-    subst (IsLongBehind task (outcomes digits)) (sym t) (long_on task (outcomes digits) d behind (subst (λ (p : Word). IsLongBehind task p behind) (outcomes_on digits digits' d e) h))
+    subst (IsLongBehind task (outcomes digits)) (sym t) (long_on task (outcomes digits) d behind (subst (λ (p : OutcomeWord). IsLongBehind task p behind) (outcomes_on digits digits' d e) h))
 walked_on (Err x) task digits digits' text behind all d r₀ r₁ r₂ e t b h = h
 
 -- from the beginning

@@ -1,7 +1,7 @@
 -- The runs behind a word, and what kind of word a text is. Ours.
 use Rattle.std.specs.Prelude.{◌≡◌, ◌≢◌, [], true, false, map, Option, Some, None, IsSome}
 use Rattle.rehearse.specs.Outcomes as outcomes
-use Rattle.rehearse.specs.Outcomes.{Word}
+use Rattle.rehearse.specs.Outcomes.{OutcomeWord}
 use Rattle.rehearse.specs.State.{Text}
 use Rattle.rehearse.specs.Runs.{Task, kind, rest, steps}
 use Rattle.rehearse.specs.Listing.{digit_of}
@@ -12,7 +12,7 @@ use Rattle.rehearse_runs.specs.declared.trying.WordKind.{WordKind}
 use Rattle.rehearse_runs.specs.declared.trying.WordKind.TheVariants.{Run, Short, Long}
 
 -- where the runs behind w are to come: its steps are begun
-abbrev pub runs_behind : Task → Word → RunsShown
+abbrev pub runs_behind : Task → OutcomeWord → RunsShown
 runs_behind task w = record {
   task = task;
   start = Some w;
@@ -26,14 +26,14 @@ runs_behind task w = record {
 
 -- the text is the digits of a run, and the runs behind it are to come
 pub record GoesOnBehind (task : Task) (text : Text) (runs : RunsShown) : Type 0 where
-  pub word : Word
+  pub word : OutcomeWord
   pub digits : text ≡ map digit_of word
   pub run : kind task word ≡ outcomes.Run
   pub behind : runs ≡ runs_behind task word
 
 -- a text is not the digits of a run
 abbrev pub IsNoRun : Task → Text → Type 0
-IsNoRun task text = (w : Word) → text ≡ map digit_of w → kind task w ≢ outcomes.Run
+IsNoRun task text = (w : OutcomeWord) → text ≡ map digit_of w → kind task w ≢ outcomes.Run
 
 -- why there are no runs behind a text, where the variable has this value
 abbrev pub RefusesWord : Task → (value : Option Text) → Text → RunError → Type 0
@@ -49,8 +49,8 @@ kind_shown Long = outcomes.Long
 
 -- the kind of the word that a text is the digits of; a text with a byte that is no digit is too long
 pub record HasKind (task : Task) (text : Text) (k : outcomes.WordKind) : Type 0 where
-  pub digits : (w : Word) → text ≡ map digit_of w → kind task w ≡ k
-  pub others : k ≢ outcomes.Long → (w : Word) × (text ≡ map digit_of w)
+  pub digits : (w : OutcomeWord) → text ≡ map digit_of w → kind task w ≡ k
+  pub others : k ≢ outcomes.Long → (w : OutcomeWord) × (text ≡ map digit_of w)
 
 -- why a text is not tried
 abbrev pub RefusesTry : (value : Option Text) → RunError → Type 0

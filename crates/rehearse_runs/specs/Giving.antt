@@ -5,12 +5,12 @@ use Rattle.std.specs.Io.BufRead.{Rests}
 use mir.Syntax.{named}
 use Rattle.bootstore.specs.declared.store.Store.{Ghosts}
 use Rattle.rehearse.specs.Bounds.{most_devices}
-use Rattle.rehearse.specs.Outcomes.{Word}
+use Rattle.rehearse.specs.Outcomes.{OutcomeWord}
 use Rattle.rehearse.specs.State.{state_at}
 use Rattle.rehearse.specs.Runs.{Task, run_on, state_of, ending_of, steps}
 use Rattle.rehearse.specs.Listing.{digit_of}
 use Rattle.rehearse_runs.specs.RunsShown.{RunsShown, last_given, steps_shared, successes}
-use Rattle.rehearse_runs.specs.Viewed.{seen_word, seen_moment, seen_ending, seen_marks}
+use Rattle.rehearse_runs.specs.ViewShown.{shown_word, shown_moment, shown_ending, shown_marks}
 use Rattle.rehearse_runs.specs.declared.view.RunView.{RunView}
 use Rattle.rehearse_runs.specs.declared.run_error.RunError.{RunError}
 use Rattle.rehearse_runs.specs.declared.run_error.RunError.TheVariants.{NoSuchVariable, Memory, NotARun, Failed}
@@ -57,13 +57,13 @@ Advances old (Err e) new = Refuses old e new
 
 module _ {S : Type 0} (g : Ghosts S) where
   -- the run on a word is shown
-  pub record ShowsRun (task : Task) (w : Word) (view : RunView S) : Type 0 where
-    pub word : seen_word view ≡ map digit_of w
-    pub moment : state_at (seen_moment g view) [] ≡ state_of (run_on task w)
-    pub ending : seen_ending view ≡ ending_of (run_on task w)
+  pub record ShowsRun (task : Task) (w : OutcomeWord) (view : RunView S) : Type 0 where
+    pub word : shown_word view ≡ map digit_of w
+    pub moment : state_at (shown_moment g view) [] ≡ state_of (run_on task w)
+    pub ending : shown_ending view ≡ ending_of (run_on task w)
     -- no more moments are marked than device commands succeeded, so never more than a run may ask
-    pub marks : length (seen_marks g view) ≤ successes w
-    pub few : length (seen_marks g view) ≤ most_devices
+    pub marks : length (shown_marks g view) ≤ successes w
+    pub few : length (shown_marks g view) ≤ most_devices
 
   abbrev pub IsView : RunsShown → Option (RunView S) → Type 0
   IsView shown None = shown.shows ≡ false

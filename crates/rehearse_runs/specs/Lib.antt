@@ -1,8 +1,8 @@
-pub mod Held
+pub mod BytesShown
 pub mod Paging
 pub mod Pieces
 pub mod PointShown
-pub mod Viewed
+pub mod ViewShown
 pub mod Recording
 pub mod RunsShown
 pub mod Phases
@@ -11,4 +11,4 @@ pub mod ListingRuns
 pub mod Searching
 pub mod Walking
 pub mod Behind
-pub mod Headline
+pub mod RehearsedEnvironment

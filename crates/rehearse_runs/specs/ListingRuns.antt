@@ -2,9 +2,9 @@
 use Rattle.std.specs.Prelude.{◌≡◌, ◌≢◌, ℕ, ◌+◌, ◌-◌, nat_le, nat_eq, Bool, true, false, List, [], ◌++◌, length, drop, Option, Some, None}
 use Rattle.std.specs.List.{flat_map}
 use Rattle.envimage.specs.Sink.{Sink, Wrote, BrokeOff}
-use Rattle.rehearse.specs.Outcomes.{Word}
+use Rattle.rehearse.specs.Outcomes.{OutcomeWord}
 use Rattle.rehearse.specs.State.{Text}
-use Rattle.rehearse.specs.Listing.{record_of, shown, listing, last_of}
+use Rattle.rehearse.specs.Listing.{record_of, words_listed, listing, last_of}
 use Rattle.rehearse_runs.specs.RunsShown.{RunsShown}
 use Rattle.rehearse_runs.specs.declared.run_error.RunError.{RunError}
 use Rattle.rehearse_runs.specs.declared.run_error.RunError.TheVariants as run
@@ -38,7 +38,7 @@ IsLeft (Some l) (Some k) n = l ≡ n + k
 
 -- the records of these words were written, one behind another
 pub record Recorded (start now : Sink) (old new : RunsShown) (names : List Text) (limit left : Option ℕ)
-    (ws : List Word) : Type 0 where
+    (ws : List OutcomeWord) : Type 0 where
   pub words : old.to_come ≡ ws ++ new.to_come
   pub wrote : Wrote start now (flat_map (record_of old.task names) ws)
   pub count : IsLeft limit left (length ws)
@@ -49,17 +49,17 @@ pub record Recorded (start now : Sink) (old new : RunsShown) (names : List Text)
 -- all records that are wanted were written
 pub record WroteRecords (start now : Sink) (old new : RunsShown) (names : List Text) (limit : Option ℕ) : Type 0 where
   pub left : Option ℕ
-  pub ws : List Word
+  pub ws : List OutcomeWord
   pub recorded : Recorded start now old new names limit left ws
   pub over : (reached left ≡ false) → new.to_come ≡ []
 
 -- the words that are left out
-abbrev pub left_out : List Word → Option ℕ → List Word
+abbrev pub left_out : List OutcomeWord → Option ℕ → List OutcomeWord
 left_out ws None = []
 left_out ws (Some limit) = drop limit ws
 
 -- how a listing finishes: as its last line says
-abbrev pub finish_of : List Word → Option ℕ → Finish
+abbrev pub finish_of : List OutcomeWord → Option ℕ → Finish
 finish_of ws None = Done
 finish_of ws (Some limit) = elim (nat_le (length ws) limit) [ true ↦ Done | false ↦ More ]
 
@@ -74,17 +74,17 @@ pub record Lists (start now : Sink) (old new : RunsShown) (names : List Text) (l
 
 -- want of memory: whole records stand written, of the words that were taken off
 pub record LacksMemory (start now : Sink) (old new : RunsShown) (names : List Text) (limit : Option ℕ) : Type 0 where
-  pub ws : List Word
-  pub us : List Word
+  pub ws : List OutcomeWord
+  pub us : List OutcomeWord
   pub words : old.to_come ≡ ws ++ new.to_come
-  pub front : shown old.to_come limit ≡ ws ++ us
+  pub front : words_listed old.to_come limit ≡ ws ++ us
   pub wrote : Wrote start now (flat_map (record_of old.task names) ws)
   pub given : ws ≢ [] → new.given ≡ Some (last_of [] ws)
   pub failed : new.failed ≡ true
 
 -- the output failed: a front of the listing stands written, and the words that were taken off are not given again
 pub record BreaksOff (start now : Sink) (old new : RunsShown) (names : List Text) (limit : Option ℕ) : Type 0 where
-  pub ws : List Word
+  pub ws : List OutcomeWord
   pub words : old.to_come ≡ ws ++ new.to_come
   pub wrote : BrokeOff start now (listing (record_of old.task names) old.to_come limit)
   pub sound : new.failed ≡ false

@@ -2,13 +2,13 @@
 use Rattle.std.specs.Prelude.{◌≡◌, ◌∷◌, ◌++◌, Option, Some, None, ℕ, ◌+◌, ◌*◌, ◌^◌, ◌≤◌, Bool, true, false, List, [], length, map, ⊤}
 use Rattle.bootstore.specs.Record.{Record}
 use Rattle.rehearse.specs.Bounds.{most_steps}
-use Rattle.rehearse.specs.Outcomes.{Word, Run}
+use Rattle.rehearse.specs.Outcomes.{OutcomeWord, Run}
 use Rattle.rehearse.specs.State.{Text, state_at}
 use Rattle.rehearse.specs.Runs.{Task, kind, run_on, state_of, ending_of, runs, rest}
 use Rattle.rehearse.specs.Listing.{digit_of}
-use Rattle.rehearse_runs.specs.Held.{Held}
+use Rattle.rehearse_runs.specs.BytesShown.{Held}
 use Rattle.rehearse_runs.specs.RunsShown.{RunsShown, outcomes, to_come_after, given_if, words_made, in_front_of, work_of}
-use Rattle.rehearse_machine.specs.Halted.{halt_shown}
+use Rattle.rehearse_machine.specs.EndingsShown.{halt_shown}
 use Rattle.rehearse_runs.specs.Searching.{AreMarks}
 use Rattle.rehearse_machine.specs.declared.halt.Halt.{Halt}
 use Rattle.rehearse_runs.specs.declared.runs.Phase.{Phase}
@@ -27,49 +27,49 @@ shows_run Over = false
 shows_run Failed = false
 
 -- each word to come begins at most so many steps, and there are fewer than 2 ^ 33
-abbrev pub HasBudget : ℕ → List Word → Type 0
+abbrev pub HasBudget : ℕ → List OutcomeWord → Type 0
 HasBudget begun ws = begun + most_steps * length ws ≤ most_steps * 2 ^ 33
 
 -- the run on a word stands in the store
-pub record StandsOn (task : Task) (w : Word) (halt : Halt) (r : Record) : Type 0 where
+pub record StandsOn (task : Task) (w : OutcomeWord) (halt : Halt) (r : Record) : Type 0 where
   pub moment : state_at r.present [] ≡ state_of (run_on task w)
   pub ending : halt_shown halt ≡ ending_of (run_on task w)
   pub marks : AreMarks task w r.marked
   pub budget : HasBudget r.begun (rest task w)
 
 -- what the store holds
-abbrev pub StandsAt : Task → (has_given : Bool) → Word → Record → Phase → Type 0
+abbrev pub StandsAt : Task → (has_given : Bool) → OutcomeWord → Record → Phase → Type 0
 StandsAt task given w r Fresh = (given ≡ false) × HasBudget r.begun (runs task)
 StandsAt task given w r (At halt) = (given ≡ true) × StandsOn task w halt r
 StandsAt task given w r Over = (given ≡ true) × (rest task w ≡ [])
 StandsAt task given w r Failed = ⊤
 
 -- the word of the digits that were handed over, if any were
-abbrev pub start_of : Option Held → Option Word
+abbrev pub start_of : Option Held → Option OutcomeWord
 start_of None = None
 start_of (Some digits) = Some (outcomes digits.items)
 
 -- the last of these words, or the start word
-abbrev pub last_answer : (start : Option Word) → List Word → Option Word
+abbrev pub last_answer : (start : Option OutcomeWord) → List OutcomeWord → Option OutcomeWord
 last_answer start [] = start
 last_answer start (w ∷ ws) = last_answer (Some w) ws
 
 -- the steps begun are those of the words that were given
-pub record HasBegun (task : Task) (start given : Option Word) (to_come : List Word) (begun : ℕ) : Type 0 where
-  pub answers : List Word
+pub record HasBegun (task : Task) (start given : Option OutcomeWord) (to_come : List OutcomeWord) (begun : ℕ) : Type 0 where
+  pub answers : List OutcomeWord
   pub made : words_made task start ≡ answers ++ to_come
   pub last : given ≡ last_answer start answers
   pub work : begun ≡ work_of task start answers
 
 -- want of memory leaves the steps begun open
-abbrev pub HasBegunIf : Phase → Task → (start given : Option Word) → (to_come : List Word) → ℕ → Type 0
+abbrev pub HasBegunIf : Phase → Task → (start given : Option OutcomeWord) → (to_come : List OutcomeWord) → ℕ → Type 0
 HasBegunIf Fresh task start given to_come begun = HasBegun task start given to_come begun
 HasBegunIf (At halt) task start given to_come begun = HasBegun task start given to_come begun
 HasBegunIf Over task start given to_come begun = HasBegun task start given to_come begun
 HasBegunIf Failed task start given to_come begun = ⊤
 
 -- what is shown of it
-abbrev pub shown_at : Task → (start : Option Word) → (has_given : Bool) → Word → ℕ → Phase → RunsShown
+abbrev pub shown_at : Task → (start : Option OutcomeWord) → (has_given : Bool) → OutcomeWord → ℕ → Phase → RunsShown
 shown_at task start given w begun phase = record {
   task = task;
   start = start;
@@ -86,6 +86,6 @@ abbrev pub AreDigits : Text → Type 0
 AreDigits digits = map digit_of (outcomes digits) ≡ digits
 
 -- the word that was given is a run
-abbrev pub IsRunIf : Bool → Task → Word → Type 0
+abbrev pub IsRunIf : Bool → Task → OutcomeWord → Type 0
 IsRunIf true task w = kind task w ≡ Run
 IsRunIf false task w = ⊤

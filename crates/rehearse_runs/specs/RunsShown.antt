@@ -1,7 +1,7 @@
 -- What contracts see of `Runs`, of a run that it gives, and of a call of `next`. Ours.
 use Rattle.std.specs.Prelude.{ℕ, suc, ◌+◌, ◌-◌, length, take, Bool, true, false, nat_eq, List, [], ◌∷◌, map, Option, Some, None, unwrap_or}
 use Rattle.text.specs.Bytes as ascii
-use Rattle.rehearse.specs.Outcomes.{Word, Outcome, Success, Failure, common_prefix}
+use Rattle.rehearse.specs.Outcomes.{OutcomeWord, Outcome, Success, Failure, common_prefix}
 use Rattle.rehearse.specs.State.{Text}
 use Rattle.rehearse.specs.Runs.{Task, runs, rest, steps, asked, work, work_from}
 
@@ -9,10 +9,10 @@ use Rattle.rehearse.specs.Runs.{Task, runs, rest, steps, asked, work, work_from}
 -- or handed over, whether want of memory ended it, whether a run is shown, and the steps begun
 pub record RunsShown : Type 0 where
   pub task : Task
-  pub start : Option Word
-  pub answers : List Word
-  pub to_come : List Word
-  pub given : Option Word
+  pub start : Option OutcomeWord
+  pub answers : List OutcomeWord
+  pub to_come : List OutcomeWord
+  pub given : Option OutcomeWord
   pub failed : Bool
   pub shows : Bool
   pub work : ℕ
@@ -21,47 +21,47 @@ abbrev pub outcome_of : ℕ → Outcome
 outcome_of digit = elim (nat_eq digit ascii.digit_zero) [ true ↦ Success | false ↦ Failure ]
 
 -- the word of digits
-abbrev pub outcomes : Text → Word
+abbrev pub outcomes : Text → OutcomeWord
 outcomes digits = map outcome_of digits
 
 -- how many successes it has
-abbrev pub successes : Word → ℕ
+abbrev pub successes : OutcomeWord → ℕ
 successes [] = 0
 successes (Success ∷ w) = suc (successes w)
 successes (Failure ∷ w) = successes w
 
-abbrev pub to_come_after : (has_given : Bool) → Task → Word → List Word
+abbrev pub to_come_after : (has_given : Bool) → Task → OutcomeWord → List OutcomeWord
 to_come_after true task w = rest task w
 to_come_after false task w = runs task
 
-abbrev pub given_if : (has_given : Bool) → Word → Option Word
+abbrev pub given_if : (has_given : Bool) → OutcomeWord → Option OutcomeWord
 given_if true w = Some w
 given_if false w = None
 
 -- the words of a rehearsal: all runs, or those behind the start word
-abbrev pub words_made : Task → (start : Option Word) → List Word
+abbrev pub words_made : Task → (start : Option OutcomeWord) → List OutcomeWord
 words_made task None = runs task
 words_made task (Some w) = rest task w
 
 -- those in front of the words that are left
-abbrev pub in_front_of : (all left : List Word) → List Word
+abbrev pub in_front_of : (all left : List OutcomeWord) → List OutcomeWord
 in_front_of all left = take (length all - length left) all
 
 -- the steps begun for these words, each command of their tree of choices once; behind a start word its steps come first
-abbrev pub work_of : Task → (start : Option Word) → List Word → ℕ
+abbrev pub work_of : Task → (start : Option OutcomeWord) → List OutcomeWord → ℕ
 work_of task None ws = work task ws
 work_of task (Some w) ws = steps task w + work_from task w ws
 
 -- the last word
-abbrev pub last_given : RunsShown → Word
+abbrev pub last_given : RunsShown → OutcomeWord
 last_given shown = unwrap_or shown.given []
 
 -- the steps that were begun before the last word and the next one part
-abbrev pub steps_shared : Task → Option Word → Word → ℕ
+abbrev pub steps_shared : Task → Option OutcomeWord → OutcomeWord → ℕ
 steps_shared task None w = 0
 steps_shared task (Some u) w = asked task (common_prefix u w)
 
-abbrev pub has_words : List Word → Bool
+abbrev pub has_words : List OutcomeWord → Bool
 has_words [] = false
 has_words (w ∷ ws) = true
 

@@ -3,10 +3,10 @@ use Rattle.std.specs.Prelude.{◌≡◌, ◌+◌, ◌≤◌, Bool, true, false, 
 use Rattle.bootstore.specs.Moment.{Moment}
 use Rattle.bootstore.specs.Record.{Record}
 use Rattle.rehearse.specs.Bounds.{most_steps}
-use Rattle.rehearse.specs.Outcomes.{Word, Failure, Run, turned, first_from, common_prefix}
+use Rattle.rehearse.specs.Outcomes.{OutcomeWord, Failure, Run, turned, first_from, common_prefix}
 use Rattle.rehearse.specs.State.{state_at}
 use Rattle.rehearse.specs.Runs.{Task, run_on, state_of, ending_of, kind, runs, rest, asked}
-use Rattle.rehearse_machine.specs.Halted.{halt_shown}
+use Rattle.rehearse_machine.specs.EndingsShown.{halt_shown}
 use Rattle.rehearse_machine.specs.Machine.{Stops}
 use Rattle.rehearse_machine.specs.Came.{settled}
 use Rattle.rehearse_machine.specs.declared.halt.Halt.{Halt}
@@ -14,28 +14,28 @@ use Rattle.rehearse_machine.specs.declared.rehearsal.Stop.{Stop}
 use Rattle.rehearse_machine.specs.declared.rehearsal.Stop.TheVariants.{Asks}
 
 -- the text stopped with the outcomes of p
-abbrev pub StoppedAt : Task → Word → Stop → Moment → Type 0
-StoppedAt task p stop m = Stops task.setting stop (λ w. settled (run_on task (p ++ w))) m
+abbrev pub StoppedAt : Task → OutcomeWord → Stop → Moment → Type 0
+StoppedAt task p stop m = Stops task.limits stop (λ w. settled (run_on task (p ++ w))) m
 
 -- the marked moments are those at which the successes of a word were asked, the last first
-abbrev pub AreMarks : Task → Word → List Moment → Type 0
+abbrev pub AreMarks : Task → OutcomeWord → List Moment → Type 0
 AreMarks task w [] = turned w ≡ None
-AreMarks task w (m ∷ ms) = (p : Word) × (turned w ≡ Some (p ++ Failure ∷ [])) × StoppedAt task p Asks m
+AreMarks task w (m ∷ ms) = (p : OutcomeWord) × (turned w ≡ Some (p ++ Failure ∷ [])) × StoppedAt task p Asks m
     × AreMarks task p ms
 
 -- the first run that begins with p stands in the store
-pub record Found (task : Task) (p w : Word) (halt : Halt) (old new : Record) : Type 0 where
+pub record Found (task : Task) (p w : OutcomeWord) (halt : Halt) (old new : Record) : Type 0 where
   pub run : kind task w ≡ Run
   pub moment : state_at new.present [] ≡ state_of (run_on task w)
   pub ending : halt_shown halt ≡ ending_of (run_on task w)
   pub marks : AreMarks task w new.marked
-  pub first : first_from (kind task) task.setting.device_bound p ≡ w
+  pub first : first_from (kind task) task.limits.device_bound p ≡ w
   pub begun : new.begun + old.present.steps ≡ old.begun + new.present.steps
   pub within : new.present.steps ≤ most_steps
   pub grows : old.present.steps ≤ new.present.steps
 
 -- the first run stands in the store
-pub record FoundFirst (task : Task) (w : Word) (halt : Halt) (old new : Record) : Type 0 where
+pub record FoundFirst (task : Task) (w : OutcomeWord) (halt : Halt) (old new : Record) : Type 0 where
   pub run : kind task w ≡ Run
   pub moment : state_at new.present [] ≡ state_of (run_on task w)
   pub ending : halt_shown halt ≡ ending_of (run_on task w)
@@ -45,12 +45,12 @@ pub record FoundFirst (task : Task) (w : Word) (halt : Halt) (old new : Record) 
   pub within : new.present.steps ≤ most_steps
 
 -- the word was cut behind its last success, which became a failure; or there is no success
-abbrev pub Turns : Bool → (old new : Word) → Type 0
+abbrev pub Turns : Bool → (old new : OutcomeWord) → Type 0
 Turns true old new = turned old ≡ Some new
 Turns false old new = turned old ≡ None
 
 -- the run that follows that on u stands in the store: of its steps, those were begun before that the two runs share
-pub record FoundBehind (task : Task) (u w : Word) (halt : Halt) (old new : Record) : Type 0 where
+pub record FoundBehind (task : Task) (u w : OutcomeWord) (halt : Halt) (old new : Record) : Type 0 where
   pub run : kind task w ≡ Run
   pub moment : state_at new.present [] ≡ state_of (run_on task w)
   pub ending : halt_shown halt ≡ ending_of (run_on task w)
@@ -60,6 +60,6 @@ pub record FoundBehind (task : Task) (u w : Word) (halt : Halt) (old new : Recor
   pub shared : asked task (common_prefix u w) ≤ new.present.steps
   pub within : new.present.steps ≤ most_steps
 
-abbrev pub FoundNext : Task → (u w : Word) → Option Halt → (old new : Record) → Type 0
+abbrev pub FoundNext : Task → (u w : OutcomeWord) → Option Halt → (old new : Record) → Type 0
 FoundNext task u w None old new = (rest task u ≡ []) × (new ≡ old)
 FoundNext task u w (Some halt) old new = FoundBehind task u w halt old new

@@ -10,8 +10,8 @@ ghost use Rattle.rehearse.specs.State.{state_at};
 ghost use Rattle.rehearse.specs.Listing.{line, digit_when, device_line, text_lines, variable_line, variable_lines, asked_line, last_line};
 ghost use Rattle.rehearse_runs.specs.Paging.{Puts};
 ghost use Rattle.rehearse_runs.specs.Recording.{printed, spaced, entry_line, set_line, named_line, recorded};
-ghost use Rattle.rehearse_runs.specs.Viewed.{seen_word, seen_moment, seen_ending};
-ghost use Rattle.rehearse_machine.specs.Halted.{ending_shown};
+ghost use Rattle.rehearse_runs.specs.ViewShown.{shown_word, shown_moment, shown_ending};
+ghost use Rattle.rehearse_machine.specs.EndingsShown.{ending_shown};
 
 use crate::page::{Page, flush, put};
 use crate::pieces::{Piece, put_pieces, put_word};
@@ -163,7 +163,7 @@ fn put_asked<S: Store, O: Out>(
     name: &[u8],
 ) -> Result<(), OutFault>
     ensures { Puts result (O.sink out.old) (O.sink out.new) page.old.items page.new.items
-        (named_line (entries (seen_moment S.Store view.now).environment) name.now) }
+        (named_line (entries (shown_moment S.Store view.now).environment) name.now) }
 {
     match view.variable(name) {
         Some(value) => put_set(out, page, name, value),
@@ -179,7 +179,7 @@ fn put_named<S: Store, O: Out>(
     names: &[&[u8]],
 ) -> Result<(), OutFault>
     ensures { Puts result (O.sink out.old) (O.sink out.new) page.old.items page.new.items
-        (flat_map (λ n. named_line (entries (seen_moment S.Store view.now).environment) n.now) names.now) }
+        (flat_map (λ n. named_line (entries (shown_moment S.Store view.now).environment) n.now) names.now) }
 {
     for name in names {
         put_asked(out, page, view, name)?;
@@ -195,7 +195,7 @@ fn put_variables<S: Store, O: Out>(
     names: &[&[u8]],
 ) -> Result<(), OutFault>
     ensures { Puts result (O.sink out.old) (O.sink out.new) page.old.items page.new.items
-        (flat_map line (variable_lines (entries (seen_moment S.Store view.now).environment) (map (λ n. n.now) names.now))) }
+        (flat_map line (variable_lines (entries (shown_moment S.Store view.now).environment) (map (λ n. n.now) names.now))) }
 {
     if names.is_empty() {
         put_all(out, page, view.variables())
@@ -237,7 +237,7 @@ fn put_word_of<S: Store, O: Out>(
     page: &mut Page,
     view: &RunView<'_, S>,
 ) -> Result<(), OutFault>
-    ensures { Puts result (O.sink out.old) (O.sink out.new) page.old.items page.new.items (line (codes "run " ++ printed (seen_word view.now))) }
+    ensures { Puts result (O.sink out.old) (O.sink out.new) page.old.items page.new.items (line (codes "run " ++ printed (shown_word view.now))) }
 {
     put_first(out, page, view.word())
 }
@@ -248,7 +248,7 @@ fn put_log_of<S: Store, O: Out>(
     page: &mut Page,
     view: &RunView<'_, S>,
 ) -> Result<(), OutFault>
-    ensures { Puts result (O.sink out.old) (O.sink out.new) page.old.items page.new.items (flat_map entry_line (seen_moment S.Store view.now).log) }
+    ensures { Puts result (O.sink out.old) (O.sink out.new) page.old.items page.new.items (flat_map entry_line (shown_moment S.Store view.now).log) }
 {
     put_log(out, page, view.log())
 }
@@ -259,7 +259,7 @@ fn put_text_of<S: Store, O: Out>(
     page: &mut Page,
     view: &RunView<'_, S>,
 ) -> Result<(), OutFault>
-    ensures { Puts result (O.sink out.old) (O.sink out.new) page.old.items page.new.items (flat_map line (text_lines (seen_moment S.Store view.now).text)) }
+    ensures { Puts result (O.sink out.old) (O.sink out.new) page.old.items page.new.items (flat_map line (text_lines (shown_moment S.Store view.now).text)) }
 {
     put_printed(out, page, view.text())
 }
@@ -270,7 +270,7 @@ fn put_ending_of<S: Store, O: Out>(
     page: &mut Page,
     view: &RunView<'_, S>,
 ) -> Result<(), OutFault>
-    ensures { Puts result (O.sink out.old) (O.sink out.new) page.old.items page.new.items (line (last_line (seen_ending view.now))) }
+    ensures { Puts result (O.sink out.old) (O.sink out.new) page.old.items page.new.items (line (last_line (shown_ending view.now))) }
 {
     put_last(out, page, view.ending())
 }
@@ -283,7 +283,7 @@ fn put_record<S: Store, O: Out>(
     names: &[&[u8]],
 ) -> Result<(), OutFault>
     ensures { Puts result (O.sink out.old) (O.sink out.new) page.old.items page.new.items
-        (recorded (seen_word view.now) (state_at (seen_moment S.Store view.now) []) (seen_ending view.now) (map (λ n. n.now) names.now)) }
+        (recorded (shown_word view.now) (state_at (shown_moment S.Store view.now) []) (shown_ending view.now) (map (λ n. n.now) names.now)) }
 {
     put_word_of(out, page, view)?;
     put_log_of(out, page, view)?;
@@ -299,7 +299,7 @@ pub fn write_record<S: Store, O: Out>(
     out: &mut O,
 ) -> Result<(), OutFault>
     ensures { Prints result (O.sink out.old) (O.sink out.new)
-        (recorded (seen_word view.now) (state_at (seen_moment S.Store view.now) []) (seen_ending view.now) (map (λ n. n.now) names.now)) }
+        (recorded (shown_word view.now) (state_at (shown_moment S.Store view.now) []) (shown_ending view.now) (map (λ n. n.now) names.now)) }
 {
     let mut page = Page::new();
     put_record(out, &mut page, view, names)?;

@@ -1,7 +1,7 @@
 //! The rehearsal of an environment, from the text of its device list to the listing.
 ghost use Rattle.std.specs.Prelude.{◌≢◌, Some, IfOk, IfErr};
 ghost use Rattle.bootstore.specs.Moment.{option_bytes};
-ghost use Rattle.rehearse_runs.specs.Headline.{Begins, RefusesRuns, Rehearses, RefusesAsk};
+ghost use Rattle.rehearse_runs.specs.RehearsedEnvironment.{Begins, RefusesRuns, Rehearses, RefusesAsk};
 
 use crate::listing::{Finish, ListError, write_listing};
 use crate::run_error::RunError;

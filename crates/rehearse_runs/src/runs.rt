@@ -81,7 +81,7 @@ impl<'a, S: Store> Model for Runs<'a, S> {
         × IsRunIf r.has_given (task_in r.rehearsal) (outcomes r.word.items)
         × StandsAt (task_in r.rehearsal) r.has_given (outcomes r.word.items) (S.record_of r.store) r.phase
         × HasBegunIf r.phase (task_in r.rehearsal) (start_of r.start) (given_if r.has_given (outcomes r.word.items)) (to_come_after r.has_given (task_in r.rehearsal) (outcomes r.word.items)) (S.record_of r.store).begun
-        × (task_in r.rehearsal).setting.device_bound ≤ most_devices };
+        × (task_in r.rehearsal).limits.device_bound ≤ most_devices };
 }
 
 impl<'a, S: Store> Runs<'a, S> {

@@ -27,7 +27,7 @@ pub(crate) fn search<S: Store>(
     requires digits { AreDigits digits.old.items }
     requires within { (S.record_of store.old).present.steps ≤ most_steps }
     requires begun { (S.record_of store.old).begun + (most_steps - (S.record_of store.old).present.steps) + most_steps + 1 < 2 ^ 64 }
-    requires bound { (task_in rehearsal.now).setting.device_bound ≤ most_devices }
+    requires bound { (task_in rehearsal.now).limits.device_bound ≤ most_devices }
     ensures ok { IfOk result (λ halt. Found (task_in rehearsal.now) (outcomes digits.old.items) (outcomes digits.new.items) halt (S.record_of store.old) (S.record_of store.new)) }
     ensures digits { AreDigits digits.new.items }
 {
@@ -49,7 +49,7 @@ pub(crate) fn first_run<S: Store>(
     digits: &mut Digits,
 ) -> Result<Halt, StoreError>
     requires begun { (S.record_of store.old).begun + 2 * most_steps + 1 < 2 ^ 64 }
-    requires bound { (task_in rehearsal.now).setting.device_bound ≤ most_devices }
+    requires bound { (task_in rehearsal.now).limits.device_bound ≤ most_devices }
     ensures ok { IfOk result (λ halt. FoundFirst (task_in rehearsal.now) (outcomes digits.new.items) halt (S.record_of store.old) (S.record_of store.new)) }
     ensures digits { AreDigits digits.new.items }
 {
@@ -84,7 +84,7 @@ pub(crate) fn next_run<S: Store>(
     requires marks { AreMarks (task_in rehearsal.now) (outcomes digits.old.items) (S.record_of store.old).marked }
     requires digits { AreDigits digits.old.items }
     requires begun { (S.record_of store.old).begun + 2 * most_steps + 1 < 2 ^ 64 }
-    requires bound { (task_in rehearsal.now).setting.device_bound ≤ most_devices }
+    requires bound { (task_in rehearsal.now).limits.device_bound ≤ most_devices }
     ensures ok { IfOk result (λ found. FoundNext (task_in rehearsal.now) (outcomes digits.old.items) (outcomes digits.new.items) found (S.record_of store.old) (S.record_of store.new)) }
     ensures digits { AreDigits digits.new.items }
 {

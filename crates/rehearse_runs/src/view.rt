@@ -16,15 +16,15 @@ pub struct RunView<'v, S: Store> {
 }
 
 impl<'v, S: Store> RunView<'v, S> {
-    ghost use Rattle.rehearse_runs.specs.Viewed.{seen_word, seen_moment, seen_ending, seen_marks};
-    ghost use Rattle.rehearse_machine.specs.Halted.{ending_shown};
+    ghost use Rattle.rehearse_runs.specs.ViewShown.{shown_word, shown_moment, shown_ending, shown_marks};
+    ghost use Rattle.rehearse_machine.specs.EndingsShown.{ending_shown};
 
     /// The run that stands in a store.
     pub(crate) fn new(word: &'v [u8], ending: Ending<'v>, store: &'v S) -> Self
-        ensures word { seen_word result ≡ word.now }
-        ensures ending { seen_ending result ≡ ending_shown ending.entry }
-        ensures moment { seen_moment S.Store result ≡ (S.record_of store.now).present }
-        ensures marks { seen_marks S.Store result ≡ (S.record_of store.now).marked }
+        ensures word { shown_word result ≡ word.now }
+        ensures ending { shown_ending result ≡ ending_shown ending.entry }
+        ensures moment { shown_moment S.Store result ≡ (S.record_of store.now).present }
+        ensures marks { shown_marks S.Store result ≡ (S.record_of store.now).marked }
     {
         RunView {
             word,
@@ -35,42 +35,42 @@ impl<'v, S: Store> RunView<'v, S> {
 
     /// The digits of its word: `0` for each device command that succeeded, `1` for each that failed.
     pub fn word(&self) -> &[u8]
-        ensures { result.now ≡ seen_word self.now }
+        ensures { result.now ≡ shown_word self.now }
     {
         self.word
     }
 
     /// How it ends.
     pub fn ending(&self) -> Ending<'_>
-        ensures { ending_shown result ≡ seen_ending self.now }
+        ensures { ending_shown result ≡ shown_ending self.now }
     {
         self.ending
     }
 
     /// The device commands that were run, in order.
     pub fn log(&self) -> &[LogEntry]
-        ensures { result.now ≡ (seen_moment S.Store self.now).log }
+        ensures { result.now ≡ (shown_moment S.Store self.now).log }
     {
         self.store.log()
     }
 
     /// What it printed.
     pub fn text(&self) -> &[u8]
-        ensures { result.now ≡ (seen_moment S.Store self.now).text }
+        ensures { result.now ≡ (shown_moment S.Store self.now).text }
     {
         self.store.text()
     }
 
     /// The environment at its end, in byte order of the names.
     pub fn variables(&self) -> Variables<'_>
-        ensures { result ≡ entries (seen_moment S.Store self.now).environment }
+        ensures { result ≡ entries (shown_moment S.Store self.now).environment }
     {
         self.store.variables()
     }
 
     /// The value of an environment variable at its end.
     pub fn variable(&self, name: &[u8]) -> Option<&[u8]>
-        ensures { option_bytes result ≡ get (entries (seen_moment S.Store self.now).environment) name.now }
+        ensures { option_bytes result ≡ get (entries (shown_moment S.Store self.now).environment) name.now }
     {
         self.store.get_env(name)
     }

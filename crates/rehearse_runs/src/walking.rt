@@ -35,7 +35,7 @@ fn choose<S: Store>(
     requires asks { StoppedAt (task_in rehearsal.now) (outcomes digits.old.items) Asks (S.record_of store.old).present }
     requires marks { AreMarks (task_in rehearsal.now) (outcomes digits.old.items) (S.record_of store.old).marked }
     requires begun { (S.record_of store.old).begun + most_steps + 1 < 2 ^ 64 }
-    requires bound { (task_in rehearsal.now).setting.device_bound ≤ most_devices }
+    requires bound { (task_in rehearsal.now).limits.device_bound ≤ most_devices }
     ensures stopped { IfOk result (λ stop. StoppedAt (task_in rehearsal.now) (outcomes digits.new.items) stop (S.record_of store.new).present) }
     ensures marks { OnOk result (AreMarks (task_in rehearsal.now) (outcomes digits.new.items) (S.record_of store.new).marked) }
     ensures digits { OnOk result (digits.new.items ≡ digits.old.items ++ digit_of (outcome_when success) ∷ []) }
@@ -77,7 +77,7 @@ fn walk<S: Store>(
     requires marks { AreMarks (task_in rehearsal.now) (outcomes digits.old.items) (S.record_of store.old).marked }
     requires within { (S.record_of store.old).present.steps ≤ most_steps }
     requires begun { (S.record_of store.old).begun + (most_steps - (S.record_of store.old).present.steps) + most_steps + 1 < 2 ^ 64 }
-    requires bound { (task_in rehearsal.now).setting.device_bound ≤ most_devices }
+    requires bound { (task_in rehearsal.now).limits.device_bound ≤ most_devices }
     ensures ok { IfOk result (λ found. Walks (task_in rehearsal.now) (outcomes digits.old.items) digits.old.items text.now digits.new.items (outcomes digits.new.items) found (S.record_of store.old) (S.record_of store.new)) }
 {
     match stop {
@@ -109,7 +109,7 @@ pub(crate) fn walk_to<S: Store>(
     text: &[u8],
 ) -> Result<Walked, StoreError>
     requires begun { (S.record_of store.old).begun + 2 * most_steps + 1 < 2 ^ 64 }
-    requires bound { (task_in rehearsal.now).setting.device_bound ≤ most_devices }
+    requires bound { (task_in rehearsal.now).limits.device_bound ≤ most_devices }
     ensures ok { IfOk result (λ found. WalksTo (task_in rehearsal.now) text.now digits.new.items (outcomes digits.new.items) found (S.record_of store.old) (S.record_of store.new)) }
 {
     digits.clear();

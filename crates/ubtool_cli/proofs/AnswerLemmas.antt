@@ -15,7 +15,7 @@ use Rattle.ubtool_cli.specs.declared.ask.Ask.TheVariants.{Print, Setenv, Rehears
 use Rattle.ubtool_cli.specs.declared.ask.UseError.{UseError}
 use Rattle.ubtool_cli.specs.declared.ask.UseError.TheVariants.{Line, NeedName, ScriptAndName, HeaderNeedsOne, Memory}
 use Rattle.ubtool_cli.specs.Asked.{Asked, asked_of}
-use Rattle.ubtool_cli.specs.Answers.{Answers, IsAccepted, Reports, Says, asked}
+use Rattle.ubtool_cli.specs.CommandAnswers.{Answers, IsAccepted, Reports, Says, asked}
 use Rattle.ubtool_cli.specs.CommandLine.{ubtool}
 
 pub ubtool_simple : is_simple ubtool ≡ true

@@ -4,7 +4,7 @@ use Rattle.std.specs.Prelude.{nat_lt}
 use Rattle.clap.specs.Words.{Text, fault_of}
 use Rattle.clap.proofs.OnLiterals.{clap_on_literals}
 use Rattle.envimage.specs.declared.image.ByteOrder.TheVariants.{Big, Little}
-use Rattle.ubtool_cli.specs.Answers.{IsAccepted, asked}
+use Rattle.ubtool_cli.specs.CommandAnswers.{IsAccepted, asked}
 use Rattle.ubtool_cli.specs.Asked.{Asked, header_needs_one, needs_name, printing, rehearsing, script_and_name, scripted, setting}
 use Rattle.ubtool_cli.specs.CommandLine.{ubtool}
 

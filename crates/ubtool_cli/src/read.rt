@@ -3,7 +3,7 @@ ghost use Rattle.std.specs.Prelude.{◌≡◌, ◌≤◌, Some, None, IfOk, IfSo
 ghost use Rattle.clap.specs.Words.{first_of, found_of, kind_of, rows_of, subcommand_rows_of};
 ghost use Rattle.ubtool_cli.specs.Asked.{asked_of, bounds_asked, config_of, is_set, number_given, number_within, order_of, print_asked, rehearse_asked, set_asked, values_of, variable_of};
 ghost use Rattle.ubtool_cli.specs.declared.ask.UseError.TheVariants.{Memory};
-ghost use Rattle.ubtool_cli.specs.Answers.{Answers, IsUnread, Reports, Says};
+ghost use Rattle.ubtool_cli.specs.CommandAnswers.{Answers, IsUnread, Reports, Says};
 
 use crate::ask::{
     Ask, Change, DEFAULT_CONFIG, DEFAULT_DEVICES, DEFAULT_STEPS, DEFAULT_VARIABLE, PrintAsk,

@@ -10,7 +10,7 @@ use Rattle.envimage.specs.declared.image.ByteOrder.TheVariants.{Little}
 use Rattle.envimage.specs.Sink.{BrokeOff, Sink}
 use Rattle.envtools.specs.Printing.{WroteFront, printed_output}
 use Rattle.ubtool_core.specs.Input.{FrontStands, PrintsFront, PrintsInput, RefusesInput}
-use Rattle.ubtool_core.specs.Printing.{environment_in, Outputs, Prints, PrintsAll}
+use Rattle.ubtool_core.specs.PrintingImages.{environment_in, Outputs, Prints, PrintsAll}
 use Rattle.ubtool_core.specs.declared.error.ToolError.{ToolError}
 use Rattle.ubtool_core.specs.declared.error.ToolError.TheVariants as tool
 

@@ -5,16 +5,16 @@ use Rattle.std.specs.Borrow.{Bor}
 use Rattle.std.proofs.lemmas.Bool.{eqb-true}
 use Rattle.bootstore.specs.Moment.{option_bytes}
 use Rattle.envimage.specs.Data.{Pair, pairs_of}
-use Rattle.envimage.specs.Image.{Shown, load_of}
+use Rattle.envimage.specs.Image.{LoadedShown, load_of}
 use Rattle.envimage.specs.Sink.{Sink}
 use Rattle.envimage.specs.declared.image.ByteOrder.{ByteOrder}
 use Rattle.envtools.specs.Environment.{env_of}
 use Rattle.rehearse.specs.Listing.{digit_of, spelled}
-use Rattle.rehearse.specs.Outcomes.{Outcome, Success, Failure, Word}
+use Rattle.rehearse.specs.Outcomes.{Outcome, Success, Failure, OutcomeWord}
 use Rattle.rehearse.specs.Runs.{Task}
 use Rattle.rehearse.specs.State.{Text}
 use Rattle.rehearse_runs.specs.Behind.{IsNoRun}
-use Rattle.rehearse_runs.specs.Headline as below
+use Rattle.rehearse_runs.specs.RehearsedEnvironment as below
 use Rattle.rehearse_runs.specs.declared.listing.Finish.{Finish}
 use Rattle.rehearse_runs.specs.declared.rehearsing.Ask.{Ask}
 use Rattle.rehearse_runs.specs.declared.rehearsing.RehearseError.{RehearseError}
@@ -22,30 +22,30 @@ use Rattle.rehearse_runs.specs.declared.rehearsing.RehearseError.TheVariants as 
 use Rattle.ubtool_core.specs.Errors.{rehearse_fault}
 use Rattle.ubtool_core.specs.Given.{given}
 use Rattle.ubtool_core.specs.Headline.{AreToCome, Rehearsed, Rehearses}
-use Rattle.ubtool_core.specs.Printing.{environment_in}
+use Rattle.ubtool_core.specs.PrintingImages.{environment_in}
 use Rattle.ubtool_core.specs.Refusing.{SpellsNoRun, Refuses}
 use Rattle.ubtool_core.specs.StartWord.{digits_in}
 use Rattle.ubtool_core.specs.declared.rehearsal.RehearseAsk.{RehearseAsk}
 
 -- ---- a word as it is printed, and its digits
 
-spelled-digits : (w : Word) → digits_in (spelled w) ≡ map digit_of w
+spelled-digits : (w : OutcomeWord) → digits_in (spelled w) ≡ map digit_of w
 spelled-digits [] = refl
 spelled-digits (Success ∷ []) = refl
 spelled-digits (Failure ∷ []) = refl
 spelled-digits (d ∷ e ∷ w) = refl
 
-no_dot : (text : Text) (w : Word) (d : Outcome) → 46 ∷ [] ≡ map digit_of (d ∷ w) → text ≡ spelled (d ∷ w)
+no_dot : (text : Text) (w : OutcomeWord) (d : Outcome) → 46 ∷ [] ≡ map digit_of (d ∷ w) → text ≡ spelled (d ∷ w)
 no_dot text w Success e = let h : 46 ≡ 48 = ap (λ (l : List ℕ). get_or l 0 0) e in absurd (omega (arith, h))
 no_dot text w Failure e = let h : 46 ≡ 49 = ap (λ (l : List ℕ). get_or l 0 0) e in absurd (omega (arith, h))
 
-one_byte : (b : ℕ) (dot : Bool) (w : Word) → (b == 46) ≡ dot → (if dot then [] else b ∷ []) ≡ map digit_of w → b ∷ [] ≡ spelled w
+one_byte : (b : ℕ) (dot : Bool) (w : OutcomeWord) → (b == 46) ≡ dot → (if dot then [] else b ∷ []) ≡ map digit_of w → b ∷ [] ≡ spelled w
 one_byte b true [] is e = ap (λ n. n ∷ []) (eqb-true b 46 is)
 one_byte b true (d ∷ w) is e = cc
 one_byte b false [] is e = cc
 one_byte b false (d ∷ w) is e = e
 
-digits-spelled : (text : Text) (w : Word) → digits_in text ≡ map digit_of w → text ≡ spelled w
+digits-spelled : (text : Text) (w : OutcomeWord) → digits_in text ≡ map digit_of w → text ≡ spelled w
 digits-spelled [] [] e = cc
 digits-spelled [] (d ∷ w) e = no_dot [] w d e
 digits-spelled (b ∷ []) w e = one_byte b (b == 46) w refl e
@@ -62,11 +62,11 @@ with_start ask start = record { name = ask.name; bounds = ask.bounds; start = st
 abbrev IsStart : RehearseAsk → Option (Bor (List ℕ)) → Type 0
 IsStart ask start = option_bytes start ≡ option_map digits_in (option_bytes ask.after)
 
-come_above : (task : Task) (after : Option Text) (words : List Word) → below.AreToCome task (option_map digits_in after) words → AreToCome task after words
+come_above : (task : Task) (after : Option Text) (words : List OutcomeWord) → below.AreToCome task (option_map digits_in after) words → AreToCome task after words
 come_above task None words h = h
 come_above task (Some text) words h = (h.0, digits-spelled text h.0 h.1, h.2, h.3)
 
-above : (order : ByteOrder) (first : List ℕ) (second : Option (List ℕ)) (list : Text) (ask : RehearseAsk) (start : Option (Bor (List ℕ))) (environment : List Pair) (task : Task) (words : List Word) → environment_in order first second ≡ Ok environment → IsStart ask start
+above : (order : ByteOrder) (first : List ℕ) (second : Option (List ℕ)) (list : Text) (ask : RehearseAsk) (start : Option (Bor (List ℕ))) (environment : List Pair) (task : Task) (words : List OutcomeWord) → environment_in order first second ≡ Ok environment → IsStart ask start
     → below.Rehearsed environment list (with_start ask start) task words → Rehearsed (given order first second list ask) task words
 above order first second list ask start environment task words image is h = record {
   environment = environment;
@@ -77,7 +77,7 @@ above order first second list ask start environment task words image is h = reco
   to_come = come_above task (option_bytes ask.after) words (subst (λ (o : Option Text). below.AreToCome task o words) is h.to_come);
 }
 
-pub image-env : (order : ByteOrder) (first : List ℕ) (second : Option (List ℕ)) (s : Shown) (environment : List Pair) → load_of order first second ≡ Ok s → environment ≡ env_of (pairs_of s.body)
+pub image-env : (order : ByteOrder) (first : List ℕ) (second : Option (List ℕ)) (s : LoadedShown) (environment : List Pair) → load_of order first second ≡ Ok s → environment ≡ env_of (pairs_of s.body)
     → environment_in order first second ≡ Ok environment
 image-env order first second s environment e h = rw (e, h) refl
 

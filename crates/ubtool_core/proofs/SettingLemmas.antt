@@ -4,21 +4,21 @@ use Rattle.std.specs.Prelude.{nat_lt}
 use Rattle.std.proofs.lemmas.Bool.Decides.{nat_tests}
 use Rattle.envimage.specs.Data.{Pair, pairs_of}
 use Rattle.envimage.specs.Encoding.{needed}
-use Rattle.envimage.specs.Image.{Shown, is_right, load_of}
+use Rattle.envimage.specs.Image.{LoadedShown, is_right, load_of}
 use Rattle.envimage.specs.declared.image.ByteOrder.{ByteOrder}
 use Rattle.envimage.specs.declared.image.ImageError.{ImageError}
 use Rattle.envimage.specs.declared.image.Which.{Which}
 use Rattle.envimage.specs.declared.image.Which.TheVariants.{First, Second}
 use Rattle.envtools.specs.Environment.{env_of}
 use Rattle.envtools.specs.Saving.{copy_to_write, half_written, load_pair, next_flag, other_copy, saved_image, size_of, spare_of, with_spare}
-use Rattle.ubtool_core.specs.Setting.{IsSafe, IsSafeAt, edited, set_of, then_written, written}
+use Rattle.ubtool_core.specs.ChangingImages.{IsSafe, IsSafeAt, edited, set_of, then_written, written}
 use Rattle.ubtool_core.specs.declared.change.Edit.{Edit}
 use Rattle.ubtool_core.specs.declared.error.ToolError.{ToolError}
 use Rattle.envtools.proofs.SavingLemmas.{front_may_stand, spare-is-written}
 
 -- ---- a write that is broken off
 
-safe-at : (order : ByteOrder) (first second : List ℕ) (s : Shown) (w : Which) (bytes : List ℕ) (n : ℕ) → load_of order first (Some second) ≡ Ok s
+safe-at : (order : ByteOrder) (first second : List ℕ) (s : LoadedShown) (w : Which) (bytes : List ℕ) (n : ℕ) → load_of order first (Some second) ≡ Ok s
     → (load_pair order (with_spare w first second (half_written (spare_of w first second) n bytes)) ≡ Ok s) ⊎ (is_right order 5 (half_written (spare_of w first second) n bytes) ≡ true)
     → IsSafeAt order first second (other_copy w) bytes n
 safe-at order first second s First bytes n h (inl kept) = inl (kept ∙ sym h)
@@ -30,7 +30,7 @@ two : {A B E : Type 0} (x y : A × B) (r : Result (A × B) E) → r ≡ Ok x →
 two x y r p q = (cc, cc)
 
 -- what is written of a loaded pair
-module _ (order : ByteOrder) (first second : List ℕ) (s : Shown) (which : Which) (bytes : List ℕ) (h : load_of order first (Some second) ≡ Ok s) where
+module _ (order : ByteOrder) (first second : List ℕ) (s : LoadedShown) (which : Which) (bytes : List ℕ) (h : load_of order first (Some second) ≡ Ok s) where
   written-safe : (env : List Pair) → written s env ≡ Ok (which, bytes) → (n : ℕ) → IsSafeAt order first second which bytes n
   written-safe env is n = by (nat_lt (size_of s) (needed (next_flag s.flag) env)) refl
     where
@@ -54,6 +54,6 @@ pub set-safe : (order : ByteOrder) (first : List ℕ) (second : Option (List ℕ
 set-safe order first None change which bytes h = tt
 set-safe order first (Some second) change which bytes h = by (load_of order first (Some second)) refl
   where
-    by : (answer : Result Shown ImageError) → load_of order first (Some second) ≡ answer → IsSafe order first (Some second) which bytes
+    by : (answer : Result LoadedShown ImageError) → load_of order first (Some second) ≡ answer → IsSafe order first (Some second) which bytes
     by (Err e) is = let bad = rw is at h in cc
     by (Ok s) is = let good = rw is at h in edited-safe order first second s which bytes is (edited (env_of (pairs_of s.body)) change) good

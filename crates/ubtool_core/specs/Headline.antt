@@ -11,24 +11,24 @@ use Rattle.std.specs.List.{flat_map}
 use Rattle.envimage.specs.Data.{Pair}
 use Rattle.envimage.specs.Sink.{Sink, Wrote, BrokeOff}
 use Rattle.rehearse.specs.DeviceList.{Devices, listed}
-use Rattle.rehearse.specs.Listing.{record_of, listing, shown, spelled}
-use Rattle.rehearse.specs.Outcomes.{Word, Run}
+use Rattle.rehearse.specs.Listing.{record_of, listing, words_listed, spelled}
+use Rattle.rehearse.specs.Outcomes.{OutcomeWord, Run}
 use Rattle.rehearse.specs.Runs.{Task, kind, runs, rest}
 use Rattle.rehearse.specs.State.{Text}
 use Rattle.rehearse_machine.specs.Tasks.{task_set}
 use Rattle.rehearse_runs.specs.ListingRuns.{finish_of}
 use Rattle.rehearse_runs.specs.declared.listing.Finish.{Finish}
 use Rattle.ubtool_core.specs.Given.{Given}
-use Rattle.ubtool_core.specs.Printing.{environment_in}
+use Rattle.ubtool_core.specs.PrintingImages.{environment_in}
 
 -- "exactly the runs .., each once, in dictionary order": all of them; "started after any run's word": those that
 -- follow that run, whose word is given as a listing prints it, the empty one as a dot
-abbrev pub AreToCome : Task → (after : Option Text) → List Word → Type 0
+abbrev pub AreToCome : Task → (after : Option Text) → List OutcomeWord → Type 0
 AreToCome task None words = words ≡ runs task
-AreToCome task (Some text) words = (w : Word) × (text ≡ spelled w) × (kind task w ≡ Run) × (words ≡ rest task w)
+AreToCome task (Some text) words = (w : OutcomeWord) × (text ≡ spelled w) × (kind task w ≡ Run) × (words ≡ rest task w)
 
 -- what is rehearsed, and the words whose records are to be written
-pub record Rehearsed (g : Given) (task : Task) (words : List Word) : Type 0 where
+pub record Rehearsed (g : Given) (task : Task) (words : List OutcomeWord) : Type 0 where
   pub environment : List Pair
   pub devices : Devices
   -- "every valid environment image": these are the variables of the copy that counts
@@ -40,13 +40,13 @@ pub record Rehearsed (g : Given) (task : Task) (words : List Word) : Type 0 wher
   pub to_come : AreToCome task g.after words
 
 -- "the records": what the run on a word did, its last line saying how it ended, "runs that meet a bound marked cut"
-abbrev pub record_in : Given → Task → Word → Text
+abbrev pub record_in : Given → Task → OutcomeWord → Text
 record_in g task word = record_of task g.names word
 
 -- "the rehearsal writes": the whole listing stands written, and the answer is as its last line
 pub record Rehearses (g : Given) (old new : Sink) (finish : Finish) : Type 0 where
   pub task : Task
-  pub words : List Word
+  pub words : List OutcomeWord
   pub rehearsed : Rehearsed g task words
   pub wrote : Wrote old new (listing (record_in g task) words g.limit)
   pub finish_is : finish ≡ finish_of words g.limit
@@ -54,16 +54,16 @@ pub record Rehearses (g : Given) (old new : Sink) (finish : Finish) : Type 0 whe
 -- "want of memory .. leaves a prefix": whole records of the listing, from its first on
 pub record LacksMemory (g : Given) (old new : Sink) : Type 0 where
   pub task : Task
-  pub words : List Word
+  pub words : List OutcomeWord
   pub rehearsed : Rehearsed g task words
-  pub front : List Word
-  pub left : List Word
-  pub parts : shown words g.limit ≡ front ++ left
+  pub front : List OutcomeWord
+  pub left : List OutcomeWord
+  pub parts : words_listed words g.limit ≡ front ++ left
   pub wrote : Wrote old new (flat_map (record_in g task) front)
 
 -- "or a failing writer leaves a prefix": first bytes of the listing, and one write failed
 pub record BreaksOff (g : Given) (old new : Sink) : Type 0 where
   pub task : Task
-  pub words : List Word
+  pub words : List OutcomeWord
   pub rehearsed : Rehearsed g task words
   pub broke : BrokeOff old new (listing (record_in g task) words g.limit)

@@ -5,7 +5,7 @@ use Rattle.envimage.specs.Data.{Pair}
 use Rattle.envimage.specs.Sink.{Sink, Wrote}
 use Rattle.envimage.specs.declared.image.ByteOrder.TheVariants.{Little}
 use Rattle.envtools.specs.Printing.{printed_output}
-use Rattle.ubtool_core.specs.Printing.{environment_in}
+use Rattle.ubtool_core.specs.PrintingImages.{environment_in}
 
 -- Where the input tells its bytes, they are a single image whose variables were all printed.
 abbrev pub PrintsInput : Option (List ℕ) → Sink → Sink → Type 0

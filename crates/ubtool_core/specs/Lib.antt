@@ -1,11 +1,11 @@
 pub mod Errors
 pub mod Input
-pub mod Printing
+pub mod PrintingImages
 pub mod StartWord
 pub mod Given
 pub mod Headline
 pub mod Refusing
-pub mod Setting
+pub mod ChangingImages
 pub mod Fault
 pub mod Told
 pub mod Read

@@ -7,13 +7,13 @@ use Rattle.envimage.specs.Sink.{Sink}
 use Rattle.rehearse.specs.DeviceList as list
 use Rattle.rehearse.specs.DeviceList.{listed}
 use Rattle.rehearse.specs.Listing.{spelled}
-use Rattle.rehearse.specs.Outcomes.{Word, Run}
+use Rattle.rehearse.specs.Outcomes.{OutcomeWord, Run}
 use Rattle.rehearse.specs.Runs.{Task, kind}
 use Rattle.rehearse.specs.State.{Text}
 use Rattle.rehearse_machine.specs.Tasks.{task_set}
 use Rattle.ubtool_core.specs.Given.{Given}
 use Rattle.ubtool_core.specs.Headline.{LacksMemory, BreaksOff}
-use Rattle.ubtool_core.specs.Printing.{environment_in}
+use Rattle.ubtool_core.specs.PrintingImages.{environment_in}
 use Rattle.ubtool_core.specs.declared.error.ToolError.{ToolError}
 use Rattle.ubtool_core.specs.declared.error.ToolError.TheVariants.{Image, Devices, NoSuchVariable, NotARun, Write, Memory}
 
@@ -33,7 +33,7 @@ pub record HasDevices (g : Given) (IsSo : Option Task → Type 0) : Type 0 where
 -- there is a start word, and it spells no run
 abbrev pub SpellsNoRun : Task → (after : Option Text) → Type 0
 SpellsNoRun task None = ⊥
-SpellsNoRun task (Some text) = (w : Word) → text ≡ spelled w → kind task w ≢ Run
+SpellsNoRun task (Some text) = (w : OutcomeWord) → text ≡ spelled w → kind task w ≢ Run
 
 abbrev pub Refuses : Given → (old new : Sink) → ToolError → Type 0
 Refuses g old new (Image fault) = (environment_in g.order g.first g.second ≡ Err fault) × (new ≡ old)

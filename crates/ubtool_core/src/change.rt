@@ -1,7 +1,7 @@
 ghost use Rattle.std.specs.Prelude.{IfOk};
 ghost use Rattle.std.specs.Option.{option_copied};
 ghost use Rattle.envimage.specs.Image.{load_of};
-ghost use Rattle.ubtool_core.specs.Setting.{set_of, Edits, Answers, IsSafe};
+ghost use Rattle.ubtool_core.specs.ChangingImages.{set_of, Edits, Answers, IsSafe};
 
 use crate::error::ToolError;
 use envimage::{ByteOrder, Which, load};

@@ -4,7 +4,7 @@ ghost use Rattle.std.specs.List.{position};
 ghost use Rattle.std.specs.Option.{option_copied};
 ghost use Rattle.std.specs.Str.{bytes_eq};
 ghost use Rattle.ubtool_core.specs.Fault.{CountsFault};
-ghost use Rattle.ubtool_core.specs.Memory.{Gives, IsUnlessMemory, call_of, failing_of, faults_of, file_of, is_due, part_answer, put, reaches, told_of, whole_answer, with_file, write_answer};
+ghost use Rattle.ubtool_core.specs.Memory.{Gives, IsUnlessMemory, call_of, failing_of, faults_of, file_of, is_due, part_answer, put, reaches, files_shown, whole_answer, with_file, write_answer};
 ghost use Rattle.ubtool_core.specs.Told.{ReadsAll, ReadsAt, WritesAt, calls_after, file_at, overwritten, read_limit};
 ghost use Rattle.ubtool_core.specs.declared.files.FileFault.TheVariants.{Short, TooLong};
 
@@ -83,7 +83,7 @@ fn put(files: &mut Vec<MemoryFile>, path: &str, offset: u64, bytes: &[u8]) -> bo
 impl MemoryFiles {
     /// No files. Where `failing` is a number, the call after so many answered ones fails.
     pub fn new(alloc: Global, failing: Option<usize>) -> MemoryFiles
-        ensures empty { told_of result ≡ record { stored = []; calls = [] } }
+        ensures empty { files_shown result ≡ record { stored = []; calls = [] } }
         ensures failing { failing_of result ≡ failing }
         ensures sound { faults_of result ≡ 0 }
     {
@@ -97,9 +97,9 @@ impl MemoryFiles {
 
     /// Adds a file. Of two files of one path the first is found.
     pub fn add(&mut self, path: &str, bytes: &[u8]) -> Result<(), AllocError>
-        ensures ok { OnOk result (told_of self.new
-            ≡ with_file path.now bytes.now (told_of self.old)) }
-        ensures err { OnErr result (told_of self.new ≡ told_of self.old) }
+        ensures ok { OnOk result (files_shown self.new
+            ≡ with_file path.now bytes.now (files_shown self.old)) }
+        ensures err { OnErr result (files_shown self.new ≡ files_shown self.old) }
         ensures failing { failing_of self.new ≡ failing_of self.old }
         ensures sound { faults_of self.new ≡ faults_of self.old }
     {
@@ -114,14 +114,14 @@ impl MemoryFiles {
 
     /// The bytes of the file at the path, if there is one.
     pub fn bytes(&self, path: &str) -> Option<&[u8]>
-        ensures { option_copied result ≡ file_at path.now (told_of self.now).stored }
+        ensures { option_copied result ≡ file_at path.now (files_shown self.now).stored }
     {
         bytes_of(&self.files, path)
     }
 
     /// The calls that were answered, in their order. One that memory was refused to is none.
     pub fn calls(&self) -> &[Call]
-        ensures { map call_of result.now ≡ (told_of self.now).calls }
+        ensures { map call_of result.now ≡ (files_shown self.now).calls }
     {
         &self.calls
     }
@@ -138,7 +138,7 @@ impl MemoryFiles {
 
     /// The whole file.
     fn whole(&self, alloc: Global, path: &str) -> Result<Vec<u8>, FileFault>
-        ensures { Gives (whole_answer (is_due self.now) (file_at path.now (told_of self.now).stored)) result }
+        ensures { Gives (whole_answer (is_due self.now) (file_at path.now (files_shown self.now).stored)) result }
     {
         if self.is_due() {
             return Err(FileFault::Failed);
@@ -160,7 +160,7 @@ impl MemoryFiles {
         offset: u64,
         size: usize,
     ) -> Result<Vec<u8>, FileFault>
-        ensures { Gives (part_answer (is_due self.now) (file_at path.now (told_of self.now).stored) offset size) result }
+        ensures { Gives (part_answer (is_due self.now) (file_at path.now (files_shown self.now).stored) offset size) result }
     {
         if self.is_due() {
             return Err(FileFault::Failed);
@@ -184,9 +184,9 @@ impl MemoryFiles {
     ) -> Result<T, FileFault>
         ensures answer { IsUnlessMemory answer result }
         ensures count { CountsFault (faults_of self.old) (faults_of self.new) result }
-        ensures calls { (told_of self.new).calls
-            ≡ calls_after (told_of self.old).calls path.now action result }
-        ensures stored { (told_of self.new).stored ≡ (told_of self.old).stored }
+        ensures calls { (files_shown self.new).calls
+            ≡ calls_after (files_shown self.old).calls path.now action result }
+        ensures stored { (files_shown self.new).stored ≡ (files_shown self.old).stored }
     {
         if let Err(FileFault::Memory) = answer {
             return answer;
@@ -205,14 +205,14 @@ impl Files for MemoryFiles {
 
     ghost faults = { faults_of };
 
-    ghost told = { λ m. Some (told_of m) };
+    ghost told = { λ m. Some (files_shown m) };
 
     fn read_all(&mut self, alloc: Global, path: &str) -> Result<Vec<u8>, FileFault>
         ensures count { CountsFault (faults_of self.old) (faults_of self.new) result }
         ensures bound { IfOk result (λ bytes. vec_len bytes ≤ read_limit) }
         ensures never_short { result ≢ Err Short }
-        ensures told { ReadsAll path.now (told_of self.old) (told_of self.new) result }
-        ensures exact { Gives (whole_answer (is_due self.old) (file_at path.now (told_of self.old).stored)) result }
+        ensures told { ReadsAll path.now (files_shown self.old) (files_shown self.new) result }
+        ensures exact { Gives (whole_answer (is_due self.old) (file_at path.now (files_shown self.old).stored)) result }
     {
         let whole = self.whole(alloc, path);
         self.answered(path, Action::ReadAll, whole)
@@ -228,8 +228,8 @@ impl Files for MemoryFiles {
         ensures count { CountsFault (faults_of self.old) (faults_of self.new) result }
         ensures size { IfOk result (λ bytes. vec_len bytes ≡ size) }
         ensures never_long { result ≢ Err TooLong }
-        ensures told { ReadsAt path.now offset size (told_of self.old) (told_of self.new) result }
-        ensures exact { Gives (part_answer (is_due self.old) (file_at path.now (told_of self.old).stored) offset size) result }
+        ensures told { ReadsAt path.now offset size (files_shown self.old) (files_shown self.new) result }
+        ensures exact { Gives (part_answer (is_due self.old) (file_at path.now (files_shown self.old).stored) offset size) result }
     {
         let part = self.part(alloc, path, offset, size);
         self.answered(path, Action::ReadAt { offset, size }, part)
@@ -240,8 +240,8 @@ impl Files for MemoryFiles {
         ensures count { CountsFault (faults_of self.old) (faults_of self.new) result }
         ensures never_short { result ≢ Err Short }
         ensures never_long { result ≢ Err TooLong }
-        ensures told { WritesAt path.now offset bytes.now (told_of self.old) (told_of self.new) result }
-        ensures exact { IsUnlessMemory (write_answer (is_due self.old) (file_at path.now (told_of self.old).stored) offset bytes.now) result }
+        ensures told { WritesAt path.now offset bytes.now (files_shown self.old) (files_shown self.new) result }
+        ensures exact { IsUnlessMemory (write_answer (is_due self.old) (file_at path.now (files_shown self.old).stored) offset bytes.now) result }
     {
         let fails = self.is_due();
         let call = Call {

@@ -1,6 +1,6 @@
 ghost use Rattle.std.specs.Prelude.{◌≡◌, map, length, false};
 ghost use Rattle.std.specs.Option.{option_copied};
-ghost use Rattle.ubtool_core.specs.Printing.{Prints, environment_in, outputs};
+ghost use Rattle.ubtool_core.specs.PrintingImages.{Prints, environment_in, outputs};
 
 use crate::error::ToolError;
 use envimage::{ByteOrder, Out, load};

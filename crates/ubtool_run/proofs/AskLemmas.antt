@@ -7,12 +7,12 @@ use Rattle.std.specs.Str.{bytes_eq}
 use Rattle.clap.specs.Words.{Row, Text, first_of, subcommand_of}
 use Rattle.envimage.specs.declared.image.ByteOrder.{ByteOrder}
 use Rattle.rehearse.specs.Bounds.{BoundsShown}
-use Rattle.ubtool_cli.specs.Answers.{Answers, asked, meaning_of}
+use Rattle.ubtool_cli.specs.CommandAnswers.{Answers, asked, meaning_of}
 use Rattle.ubtool_cli.specs.Asked.{Asked, asked_of, bounds_asked, change_asked, config_of, header_needs_one, is_set, number_within, order_of, print_asked, printing, rehearsal_with, rehearse_asked, set_asked, values_of}
 use Rattle.ubtool_cli.specs.CommandLine.{most_records, ubtool}
 use Rattle.ubtool_cli.specs.declared.ask.Ask.{Ask}
 use Rattle.ubtool_cli.specs.declared.ask.Ask.TheVariants.{Help, Print, Rehearse, Setenv, Version}
-use Rattle.ubtool_run.specs.Asking.{IsComplete}
+use Rattle.ubtool_run.specs.Performing.{IsComplete}
 
 -- a value without its name is asked for of one name
 abbrev IsFit : Option Asked → Type 0

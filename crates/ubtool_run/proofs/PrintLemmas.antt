@@ -2,7 +2,7 @@
 use Rattle.std.proofs.Common.{◌≡◌, ℕ, Bool, List, Option, Some, None, Ok, Err, refl}
 use Rattle.std.specs.Prelude.{Result, option_map}
 use Rattle.envimage.specs.declared.image.ByteOrder.{ByteOrder}
-use Rattle.ubtool_core.specs.Printing.{Outputs, Prints}
+use Rattle.ubtool_core.specs.PrintingImages.{Outputs, Prints}
 use Rattle.ubtool_core.specs.Told.{Told}
 use Rattle.ubtool_core.specs.declared.error.ToolError.{ToolError}
 use Rattle.ubtool_core.specs.declared.error.ToolError.TheVariants.{Image, Env, Script, Devices, NoSuchVariable, NotARun, Write, Memory}
@@ -10,7 +10,7 @@ use Rattle.ubtool_core.specs.declared.fault.Fault.{Fault}
 use Rattle.ubtool_core.specs.declared.fault.Fault.TheVariants as fault
 use Rattle.ubtool_run.proofs.ReadingLemmas.{found-reads}
 use Rattle.ubtool_run.specs.Images.{Copy, HasRead, ReadsImages, copies}
-use Rattle.ubtool_run.specs.Printing.{PrintsCopies, PrintsFrom, environment, second_bytes}
+use Rattle.ubtool_run.specs.PrintingFiles.{PrintsCopies, PrintsFrom, environment, second_bytes}
 use Rattle.ubtool_run.specs.declared.images.Images.{Images}
 use Rattle.ubtool_run.specs.declared.read.StoredCopy.{StoredCopy}
 

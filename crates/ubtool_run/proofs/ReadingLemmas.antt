@@ -17,7 +17,7 @@ use Rattle.ubtool_core.specs.declared.word_form.WordForm.{WordForm}
 use Rattle.ubtool_core.specs.declared.files.Action.{Action}
 use Rattle.ubtool_core.specs.declared.files.Action.TheVariants.{ReadAll}
 use Rattle.ubtool_run.specs.Images.{Copy, HasRead, Names, ReadsImages, ReadsSecond, SomeIsShort, copies, copy_of, second_place}
-use Rattle.ubtool_run.specs.Reading.{IsShort, Reads, ReadsCopy, ReadsText, bytes_at, read_of}
+use Rattle.ubtool_run.specs.ReadingFiles.{IsShort, Reads, ReadsCopy, ReadsText, bytes_at, read_of}
 use Rattle.ubtool_run.specs.declared.read.StoredCopy.{StoredCopy}
 
 -- ---- each of them only reads

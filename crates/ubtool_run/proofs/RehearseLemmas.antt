@@ -21,11 +21,11 @@ use Rattle.ubtool_core.specs.declared.fault.Fault.TheVariants as fault
 use Rattle.ubtool_run.proofs.ReadingLemmas.{found-reads}
 use Rattle.ubtool_run.proofs.PrintLemmas.{image-bytes}
 use Rattle.ubtool_run.specs.Images.{Copy, HasRead, IsImagesFault, ReadsImages, copies}
-use Rattle.ubtool_run.specs.Printing.{first_bytes}
+use Rattle.ubtool_run.specs.PrintingFiles.{first_bytes}
 use Rattle.ubtool_run.specs.declared.images.Images.{Images}
 use Rattle.ubtool_run.specs.declared.read.StoredCopy.{StoredCopy}
-use Rattle.ubtool_run.specs.Reading.{IsTextFault, ReadsText}
-use Rattle.ubtool_run.specs.Rehearsing.{FromFiles, IsUnlisted, LeavesOutput, RehearsesCopies, RehearsesFrom, no_run_of, refusal_of, rehearsal_of}
+use Rattle.ubtool_run.specs.ReadingFiles.{IsTextFault, ReadsText}
+use Rattle.ubtool_run.specs.RehearsingFiles.{FromFiles, IsUnlisted, LeavesOutput, RehearsesCopies, RehearsesFrom, no_run_of, refusal_of, rehearsal_of}
 
 abbrev pub given_by : ByteOrder → (first : List ℕ) → (second : Option (List ℕ)) → (list variable : List ℕ) → BoundsShown → (after : Option (List ℕ)) → (limit : Option ℕ) → (names : List (List ℕ)) → Given
 given_by order first second list variable bounds after limit names =

@@ -4,14 +4,14 @@ use Rattle.std.specs.Prelude.{Result}
 use Rattle.envimage.specs.Sink.{Sink}
 use Rattle.clap.specs.Words.{Text}
 use Rattle.ubtool_cli.specs.declared.ask.UseError.{UseError}
-use Rattle.ubtool_core.specs.Printing.{Outputs, outputs}
+use Rattle.ubtool_core.specs.PrintingImages.{Outputs, outputs}
 use Rattle.ubtool_core.specs.Told.{Told}
 use Rattle.ubtool_core.specs.declared.fault.Fault.{Fault}
 use Rattle.ubtool_run.specs.Faults.{CountsTold}
-use Rattle.ubtool_run.specs.Running.{Ends, FilesSeen, HasDone, HasRefused}
+use Rattle.ubtool_run.specs.Running.{Ends, FilesShown, HasDone, HasRefused}
 
 -- the files at a moment
-abbrev files : ℕ → Option Told → FilesSeen
+abbrev files : ℕ → Option Told → FilesShown
 files faults told = record { faults = faults; told = told }
 
 pub status-done : {Ask : Type 0} (Answers : List Text → Result Ask UseError → Type 0) (Does : Ask → Option Told → Option Told → Outputs → Result Bool Fault → Type 0)

@@ -9,15 +9,15 @@ use Rattle.ubtool_cli.specs.declared.ask.Change.TheVariants.{One, Script}
 use Rattle.ubtool_core.proofs.OrderLemmas.{OnlyReads-then}
 use Rattle.ubtool_core.proofs.SettingLemmas.{set-safe}
 use Rattle.ubtool_core.specs.Order.{OnlyReads, are_reads}
-use Rattle.ubtool_core.specs.Setting.{IsSafe}
+use Rattle.ubtool_core.specs.ChangingImages.{IsSafe}
 use Rattle.ubtool_core.specs.Told.{Stored, Told}
 use Rattle.ubtool_core.specs.declared.fault.Fault.{Fault}
 use Rattle.ubtool_core.specs.declared.fault.Fault.TheVariants as fault
 use Rattle.ubtool_core.specs.declared.word_form.WordForm.{WordForm}
 use Rattle.ubtool_run.proofs.ReadingLemmas.{found-reads}
 use Rattle.ubtool_run.specs.Images.{Copy, HasRead, ReadsImages}
-use Rattle.ubtool_run.specs.Printing.{first_bytes, second_bytes}
-use Rattle.ubtool_run.specs.Setting.{Edits, HasEdited, IsChangeFault, IsRefusedChange, Sets, WritesCopy, reads_of}
+use Rattle.ubtool_run.specs.PrintingFiles.{first_bytes, second_bytes}
+use Rattle.ubtool_run.specs.ChangingFiles.{Edits, HasEdited, IsChangeFault, IsRefusedChange, Sets, WritesCopy, reads_of}
 
 -- a change that was made only reads
 pub edit-reads : (order : ByteOrder) (change : Change) (found : List Copy) (old new : Told) (which : Which) (bytes : List ℕ) → HasEdited order change found old new which bytes

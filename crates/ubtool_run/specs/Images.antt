@@ -10,7 +10,7 @@ use Rattle.ubtool_core.specs.Told.{Stored, Told, file_at, read_limit}
 use Rattle.ubtool_core.specs.declared.fault.Fault.{Fault}
 use Rattle.ubtool_core.specs.declared.fault.Fault.TheVariants.{CannotRead, Config, FileShort, FileTooLong, Memory}
 use Rattle.ubtool_core.specs.declared.files.Action.TheVariants.{ReadAll}
-use Rattle.ubtool_run.specs.Reading.{IsShort, ReadsCopy, bytes_at, read_of}
+use Rattle.ubtool_run.specs.ReadingFiles.{IsShort, ReadsCopy, bytes_at, read_of}
 use Rattle.ubtool_run.specs.declared.images.Images.{Images}
 use Rattle.ubtool_run.specs.declared.read.StoredCopy.{StoredCopy}
 

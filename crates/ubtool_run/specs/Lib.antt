@@ -1,8 +1,8 @@
-pub mod Asking
+pub mod Performing
 pub mod Faults
 pub mod Images
-pub mod Printing
-pub mod Reading
+pub mod PrintingFiles
+pub mod ReadingFiles
 pub mod Running
-pub mod Setting
-pub mod Rehearsing
+pub mod ChangingFiles
+pub mod RehearsingFiles

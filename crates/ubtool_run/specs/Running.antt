@@ -5,7 +5,7 @@ use Rattle.clap.specs.Words.{Text}
 use Rattle.envimage.specs.Sink.{BrokeOff, Sink, Wrote}
 use Rattle.ubtool_cli.specs.declared.ask.UseError.{UseError}
 use Rattle.ubtool_cli.specs.declared.ask.UseError.TheVariants.{Line}
-use Rattle.ubtool_core.specs.Printing.{Outputs}
+use Rattle.ubtool_core.specs.PrintingImages.{Outputs}
 use Rattle.ubtool_core.specs.Told.{Told}
 use Rattle.ubtool_core.specs.declared.files.Files.{Ghosts}
 use Rattle.ubtool_core.specs.declared.fault.Fault.{Fault}
@@ -14,18 +14,18 @@ use Rattle.ubtool_run.specs.declared.starting.StartError.{StartError}
 
 -- What the files show at a moment: how often the device has failed, and, where they tell it, what
 -- stands in them.
-pub record FilesSeen : Type 0 where
+pub record FilesShown : Type 0 where
   pub faults : ℕ
   pub told : Option Told
 
 -- what some files show
-abbrev pub files_seen : {F : Type 0} → Ghosts F → F → FilesSeen
-files_seen g files = record { faults = g.faults files; told = g.told files }
+abbrev pub files_shown : {F : Type 0} → Ghosts F → F → FilesShown
+files_shown g files = record { faults = g.faults files; told = g.told files }
 
 -- Status 0: the words ask for something, and it was done; no call on files failed.
 pub record HasDone {Ask : Type 0} (Answers : List Text → Result Ask UseError → Type 0)
     (Does : Ask → Option Told → Option Told → Outputs → Result Bool Fault → Type 0)
-    (words : List Text) (before after : FilesSeen) (outputs : Outputs) : Type 0 where
+    (words : List Text) (before after : FilesShown) (outputs : Outputs) : Type 0 where
   pub ask : Ask
   pub asked : Answers words (Ok ask)
   pub sound : after.faults ≡ before.faults
@@ -41,7 +41,7 @@ TellsLast (Err fault) old new = Unit {0}
 -- did.
 pub record HasRefused {Ask : Type 0} (Answers : List Text → Result Ask UseError → Type 0)
     (Does : Ask → Option Told → Option Told → Outputs → Result Bool Fault → Type 0)
-    (words : List Text) (before after : FilesSeen) (outputs : Outputs) : Type 0 where
+    (words : List Text) (before after : FilesShown) (outputs : Outputs) : Type 0 where
   pub ask : Ask
   pub asked : Answers words (Ok ask)
   pub answer : Result Bool Fault
@@ -58,7 +58,7 @@ Tells error old new = Unit {0}
 
 -- Status 2: the words were refused; no file was touched and nothing printed.
 pub record IsMisused {Ask : Type 0} (Answers : List Text → Result Ask UseError → Type 0)
-    (words : List Text) (before after : FilesSeen) (outputs : Outputs) : Type 0 where
+    (words : List Text) (before after : FilesShown) (outputs : Outputs) : Type 0 where
   pub error : UseError
   pub refused : Answers words (Err error)
   pub sound : after.faults ≡ before.faults

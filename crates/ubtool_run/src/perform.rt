@@ -1,7 +1,7 @@
 //! What is asked for, done.
-ghost use Rattle.ubtool_core.specs.Printing.{outputs};
+ghost use Rattle.ubtool_core.specs.PrintingImages.{outputs};
 ghost use Rattle.ubtool_core.specs.Told.{IfTold};
-ghost use Rattle.ubtool_run.specs.Asking.{Does, IsComplete};
+ghost use Rattle.ubtool_run.specs.Performing.{Does, IsComplete};
 ghost use Rattle.ubtool_run.specs.Faults.{CountsTold};
 
 use crate::print::print;

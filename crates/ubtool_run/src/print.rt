@@ -1,11 +1,11 @@
 //! `printenv`, from files to outputs.
 ghost use Rattle.std.specs.Prelude.{◌≡◌, IfErr, IfOk, false, length, map, string_bytes};
-ghost use Rattle.ubtool_core.specs.Printing.{outputs};
+ghost use Rattle.ubtool_core.specs.PrintingImages.{outputs};
 ghost use Rattle.ubtool_core.specs.Told.{IfTold};
 ghost use Rattle.ubtool_core.specs.declared.fault.Fault.TheVariants.{Memory};
 ghost use Rattle.ubtool_run.specs.Faults.{CountsTold};
 ghost use Rattle.ubtool_run.specs.Images.{copies};
-ghost use Rattle.ubtool_run.specs.Printing.{LeavesOutputs, PrintsCopies, PrintsFrom};
+ghost use Rattle.ubtool_run.specs.PrintingFiles.{LeavesOutputs, PrintsCopies, PrintsFrom};
 
 use crate::images::{Images, read_images};
 use envimage::{ByteOrder, Out};

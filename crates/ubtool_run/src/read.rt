@@ -2,7 +2,7 @@
 ghost use Rattle.std.specs.Prelude.{◌≡◌, IfErr, IfOk, string_bytes};
 ghost use Rattle.ubtool_core.specs.Told.{IfTold};
 ghost use Rattle.ubtool_run.specs.Faults.{CountsTold, IsReadFault};
-ghost use Rattle.ubtool_run.specs.Reading.{ReadsCopy, ReadsText};
+ghost use Rattle.ubtool_run.specs.ReadingFiles.{ReadsCopy, ReadsText};
 
 use envimage::Place;
 use std::alloc::Global;

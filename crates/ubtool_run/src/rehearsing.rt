@@ -4,7 +4,7 @@ ghost use Rattle.bootstore.specs.Moment.{option_bytes};
 ghost use Rattle.ubtool_core.specs.Told.{IfTold};
 ghost use Rattle.ubtool_run.specs.Faults.{CountsTold};
 ghost use Rattle.ubtool_run.specs.Images.{copies};
-ghost use Rattle.ubtool_run.specs.Rehearsing.{LeavesOutput, RehearsesCopies, RehearsesFrom, refusal_of, rehearsal_of};
+ghost use Rattle.ubtool_run.specs.RehearsingFiles.{LeavesOutput, RehearsesCopies, RehearsesFrom, refusal_of, rehearsal_of};
 
 use crate::images::{Images, read_images};
 use crate::print::slices_of;

@@ -4,7 +4,7 @@ ghost use Rattle.envimage.specs.Place.{place_shown};
 ghost use Rattle.ubtool_core.specs.Told.{IfTold};
 ghost use Rattle.ubtool_run.specs.Faults.{CountsTold};
 ghost use Rattle.ubtool_run.specs.Images.{copies};
-ghost use Rattle.ubtool_run.specs.Setting.{Edits, IsEdited, IsPlaceOf, Sets, WritesCopy};
+ghost use Rattle.ubtool_run.specs.ChangingFiles.{Edits, IsEdited, IsPlaceOf, Sets, WritesCopy};
 
 use crate::images::{Images, read_images};
 use crate::print::slices_of;

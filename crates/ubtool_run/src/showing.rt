@@ -1,5 +1,5 @@
 //! The help and the version, which the programs show alike.
-ghost use Rattle.ubtool_run.specs.Asking.{Helps, version_line};
+ghost use Rattle.ubtool_run.specs.Performing.{Helps, version_line};
 
 use envimage::{Out, write_all, write_parts};
 use ubtool_cli::VERSION;

@@ -2,10 +2,10 @@
 ghost use Rattle.std.specs.Prelude.{◌≡◌, ◌<◌, ◌≤◌, [], length, map};
 ghost use Rattle.envimage.specs.Sink.{Wrote};
 ghost use Rattle.ubtool_core.specs.Input.{PrintsInput};
-ghost use Rattle.ubtool_core.specs.Printing.{outputs};
-ghost use Rattle.ubtool_cli.specs.Answers.{Answers};
-ghost use Rattle.ubtool_run.specs.Asking.{Does};
-ghost use Rattle.ubtool_run.specs.Running.{HasDone, HasRefused, IsMisused, files_seen};
+ghost use Rattle.ubtool_core.specs.PrintingImages.{outputs};
+ghost use Rattle.ubtool_cli.specs.CommandAnswers.{Answers};
+ghost use Rattle.ubtool_run.specs.Performing.{Does};
+ghost use Rattle.ubtool_run.specs.Running.{HasDone, HasRefused, IsMisused, files_shown};
 
 use crate::ending::{refuse, status_of};
 use crate::perform::perform;
@@ -28,11 +28,11 @@ fn run_words<S: AsStr, F: Files, O: Out, E: Out>(
     err: &mut E,
 ) -> u8
     ensures status { result ≤ 2 }
-    ensures done { result ≡ 0 → HasDone Answers Does (map S.text words.now) (files_seen F.Files files.old) (files_seen F.Files files.new)
+    ensures done { result ≡ 0 → HasDone Answers Does (map S.text words.now) (files_shown F.Files files.old) (files_shown F.Files files.new)
         (outputs (O.sink out.old) (O.sink out.new) (E.sink err.old) (E.sink err.new)) }
-    ensures refused { result ≡ 1 → HasRefused Answers Does (map S.text words.now) (files_seen F.Files files.old) (files_seen F.Files files.new)
+    ensures refused { result ≡ 1 → HasRefused Answers Does (map S.text words.now) (files_shown F.Files files.old) (files_shown F.Files files.new)
         (outputs (O.sink out.old) (O.sink out.new) (E.sink err.old) (E.sink err.new)) }
-    ensures misused { result ≡ 2 → IsMisused Answers (map S.text words.now) (files_seen F.Files files.old) (files_seen F.Files files.new)
+    ensures misused { result ≡ 2 → IsMisused Answers (map S.text words.now) (files_shown F.Files files.old) (files_shown F.Files files.new)
         (outputs (O.sink out.old) (O.sink out.new) (E.sink err.old) (E.sink err.new)) }
 {
     match read_command(alloc, words) {
@@ -63,11 +63,11 @@ pub fn run_tool<S: AsStr, R: Read, F: Files, O: Out, E: Out>(
     ensures printed { length words.now ≡ 0 → result ≡ 0 → PrintsInput (R.remaining input.old) (O.sink out.old) (O.sink out.new) }
     ensures quiet { length words.now ≡ 0 → result ≡ 0 → Wrote (E.sink err.old) (E.sink err.new) [] }
     ensures untouched { length words.now ≡ 0 → (F.told files.new ≡ F.told files.old) × (F.faults files.new ≡ F.faults files.old) }
-    ensures done { 0 < length words.now → result ≡ 0 → HasDone Answers Does (map S.text words.now) (files_seen F.Files files.old) (files_seen F.Files files.new)
+    ensures done { 0 < length words.now → result ≡ 0 → HasDone Answers Does (map S.text words.now) (files_shown F.Files files.old) (files_shown F.Files files.new)
         (outputs (O.sink out.old) (O.sink out.new) (E.sink err.old) (E.sink err.new)) }
-    ensures refused { 0 < length words.now → result ≡ 1 → HasRefused Answers Does (map S.text words.now) (files_seen F.Files files.old) (files_seen F.Files files.new)
+    ensures refused { 0 < length words.now → result ≡ 1 → HasRefused Answers Does (map S.text words.now) (files_shown F.Files files.old) (files_shown F.Files files.new)
         (outputs (O.sink out.old) (O.sink out.new) (E.sink err.old) (E.sink err.new)) }
-    ensures misused { result ≡ 2 → IsMisused Answers (map S.text words.now) (files_seen F.Files files.old) (files_seen F.Files files.new)
+    ensures misused { result ≡ 2 → IsMisused Answers (map S.text words.now) (files_shown F.Files files.old) (files_shown F.Files files.new)
         (outputs (O.sink out.old) (O.sink out.new) (E.sink err.old) (E.sink err.new)) }
 {
     if words.is_empty() {

@@ -1,5 +1,5 @@
 use Rattle.std.proofs.Common.{map}
-use Rattle.hushcheck.specs.Answers.{Answers}
+use Rattle.hushcheck.specs.CommandAnswers.{Answers}
 use Rattle.hushcheck.specs.Doing.{Does}
 use Rattle.ubtool_run.proofs.RunLemmas.{status-done, status-refused}
 use Rattle.hushcheck.proofs.program.run_check.Goals as goal

@@ -1,6 +1,6 @@
 use Rattle.std.proofs.Common.{ap, map, sym, ◌∙◌}
 use Rattle.std.specs.List.{flat_map}
-use Rattle.hushlang.specs.View as view
+use Rattle.hushlang.specs.TreesShown as view
 use Rattle.hushcheck_core.specs.Names.{run_by_arm, run_by_command, run_by_list, run_by_script}
 use Rattle.hushcheck_core.specs.Order.{with_names}
 use Rattle.hushcheck_core.proofs.OrderLemmas.{names_all, names_item, with_names-append}

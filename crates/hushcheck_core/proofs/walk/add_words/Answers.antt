@@ -1,6 +1,6 @@
 use Rattle.std.proofs.Common.{ap, ◌∙◌}
 use Rattle.std.specs.Prelude.{option_to_list}
-use Rattle.hushlang.specs.View as view
+use Rattle.hushlang.specs.TreesShown as view
 use Rattle.hushcheck_core.specs.Names.{written_out}
 use Rattle.hushcheck_core.specs.Order.{with_names}
 use Rattle.hushcheck_core.proofs.OrderLemmas.{names_all, names_item}

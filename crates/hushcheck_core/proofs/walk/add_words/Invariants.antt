@@ -1,7 +1,7 @@
 use Rattle.std.proofs.Common.{◌≡◌, take}
 use Rattle.std.specs.Prelude.{option_to_list}
 use Rattle.std.specs.List.{flat_map}
-use Rattle.hushlang.specs.View as view
+use Rattle.hushlang.specs.TreesShown as view
 use Rattle.hushcheck_core.specs.Names.{written_out}
 use Rattle.hushcheck_core.specs.Order.{with_names}
 use Rattle.hushcheck_core.proofs.walk.add_words.Given as goal

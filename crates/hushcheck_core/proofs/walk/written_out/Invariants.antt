@@ -1,5 +1,5 @@
 use Rattle.std.proofs.Common.{◌≡◌, map, drop}
-use Rattle.hushlang.specs.View as view
+use Rattle.hushlang.specs.TreesShown as view
 use Rattle.hushcheck_core.specs.Names.{in_front, written_out}
 use Rattle.hushcheck_core.proofs.walk.written_out.Given as goal
 

@@ -4,7 +4,7 @@ use Rattle.std.proofs.lemmas.List.{map-append}
 use Rattle.std.proofs.lemmas.Result.{err_from_is_err_and}
 use Rattle.std.proofs.Common.{◌≢◌}
 use Rattle.hushlang.specs.declared.token.SyntaxError.TheVariants.{Memory}
-use Rattle.hushlang.specs.View as view
+use Rattle.hushlang.specs.TreesShown as view
 use Rattle.hushlang.specs.Tree as tree
 use Rattle.hushlang.specs.declared.tree.Op.{Op}
 use Rattle.hushlang.specs.Parsing as spec
@@ -58,7 +58,7 @@ joined-joined-preserved t c =
     let more = joined_more (spec.command c.args.depth) turns _ c.joined.tokens c.in-Some.op some op in
     let rule = spec.command c.args.depth in
     let read = rw (c.skip_newlines.ensures.after, c.take.ensures.after) at c.in_ok-command.ensures.reads in
-    let onto = λ (o : spec.Outcome tree.Command). spec.and_then o (λ one. spec.joined rule (turns - 1) (map view.joined c.joined.rest.items ++ (c.in-Some.op, one) ∷ [])) in
+    let onto = λ (o : spec.Parsed tree.Command). spec.and_then o (λ one. spec.joined rule (turns - 1) (map view.joined c.joined.rest.items ++ (c.in-Some.op, one) ∷ [])) in
     let pushed = λ (found : List (Op × tree.Command)). spec.joined rule (turns - 1) found c.command.new.tokens in
     (omega (arith, c.in_ok-command.ensures.shrinks), (turns - 1, omega (arith, c.in_ok-command.ensures.shrinks), c.joined.invariant.1.2 ∙ more ∙ ap onto read ∙ ap pushed (sym (rw (c.in_ok-push.ensures.items, map-append)))))
 
@@ -70,7 +70,7 @@ joined-returns-in_err-command-clause-reads t c =
     let some : 0 < c.joined.invariant.1.0 = omega arith in
     let more = joined_more (spec.command c.args.depth) turns (map view.joined c.joined.rest.items) c.joined.tokens c.in-Some.op some op in
     let read = rw (c.skip_newlines.ensures.after, c.take.ensures.after) at c.in_err-command.ensures.reads in
-    let onto = λ (o : spec.Outcome tree.Command). spec.and_then o (λ one. spec.joined (spec.command c.args.depth) (turns - 1) (map view.joined c.joined.rest.items ++ (c.in-Some.op, one) ∷ [])) in
+    let onto = λ (o : spec.Parsed tree.Command). spec.and_then o (λ one. spec.joined (spec.command c.args.depth) (turns - 1) (map view.joined c.joined.rest.items ++ (c.in-Some.op, one) ∷ [])) in
     let whole = λ (e : c.in_err-command.field-0.0 ≢ Memory). c.joined.invariant.1.2 ∙ more ∙ ap onto (read e) in
     let p = err_from_is_err_and c.from_residual.result c.from_residual.ensures.1 in
     rw (p.1, p.2) whole
@@ -170,7 +170,7 @@ arms-returns-in_err-other-clause-reads t c =
     let word : spec.keyword c.arm.new.tokens ≡ Some r.Else = keyword_seen r.Else c.arm.new.tokens (sym c.sees-last.ensures.value ∙ c.if-last.true) in
     let more = arms_by rule turns (map view.arm c.arms.arms.items) c.arms.tokens (view.arm c.in_ok-arm.field-0) c.arm.new.tokens (Some r.Else) some c.in_ok-arm.ensures.reads word in
     let read = rw c.take.ensures.after at c.in_err-other.ensures.reads in
-    let onto = λ (x : spec.Outcome tree.Script). and_then x (λ b. pure (view.arms (map view.arm c.arms.arms.items ++ view.arm c.in_ok-arm.field-0 ∷ []) (Some b))) in
+    let onto = λ (x : spec.Parsed tree.Script). and_then x (λ b. pure (view.arms (map view.arm c.arms.arms.items ++ view.arm c.in_ok-arm.field-0 ∷ []) (Some b))) in
     let whole = λ (e : c.in_err-other.field-0.0 ≢ Memory). c.arms.invariant.1.2 ∙ more ∙ ap onto (read e) in
     let p = err_from_is_err_and c.from_residual-in_err-other.result c.from_residual-in_err-other.ensures.1 in
     rw (p.1, p.2) whole
@@ -184,7 +184,7 @@ arms-returns-then-last-clause-reads t c =
     let found = map view.arm c.arms.arms.items ++ view.arm c.in_ok-arm.field-0 ∷ [] in
     let more = arms_by rule turns (map view.arm c.arms.arms.items) c.arms.tokens (view.arm c.in_ok-arm.field-0) c.arm.new.tokens (Some r.Else) some c.in_ok-arm.ensures.reads word in
     let read = rw c.take.ensures.after at c.in_ok-other.ensures.reads in
-    let onto = λ (x : spec.Outcome tree.Script). and_then x (λ b. pure (view.arms found (Some b))) in
+    let onto = λ (x : spec.Parsed tree.Script). and_then x (λ b. pure (view.arms found (Some b))) in
     let pushed : map view.arm c.push.new.self.items ≡ found = rw (c.in_ok-push.ensures.items, map-append) in
     c.arms.invariant.1.2 ∙ more ∙ ap onto read
     ∙ ap (λ f. Ok (view.arms f (Some (view.script c.in_ok-other.other)), c.block.new.tokens)) (sym pushed)

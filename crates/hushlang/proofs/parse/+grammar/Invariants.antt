@@ -1,5 +1,5 @@
 use Rattle.std.proofs.Common.{◌≡◌, ℕ, ◌+◌, ◌*◌, ◌<◌, ◌≤◌, map, length}
-use Rattle.hushlang.specs.View as view
+use Rattle.hushlang.specs.TreesShown as view
 use Rattle.hushlang.specs.Parsing as spec
 use Rattle.hushlang.specs.Parsing.{◌>>=◌, ◌>>◌, pure, and_then}
 use Rattle.hushlang.proofs.parse.+grammar.Given as goal

@@ -1,8 +1,8 @@
 use Rattle.std.proofs.Common.{◌∙◌, ◌≢◌, Err, ap, sym, map}
 use Rattle.std.proofs.lemmas.List.{map-append}
 use Rattle.std.proofs.lemmas.Result.{err_from_is_err_and}
-use Rattle.hushlang.specs.Lexing.{token_of}
-use Rattle.hushlang.specs.View as view
+use Rattle.hushlang.specs.LexerShown.{token_of}
+use Rattle.hushlang.specs.TreesShown as view
 use Rattle.hushlang.specs.declared.token.SyntaxError.TheVariants.{Memory}
 use Rattle.hushlang.proofs.WordLists.{values_begin, values_step, values_none, values_end}
 use Rattle.hushlang.proofs.parse.assignments.Goals as goal

@@ -1,7 +1,7 @@
 use Rattle.std.proofs.Common.{◌≡◌, length, map}
 use Rattle.hushlang.specs.Grammar.{words}
 use Rattle.hushlang.specs.Parsing.{all_values, values_by, assignments}
-use Rattle.hushlang.specs.View as view
+use Rattle.hushlang.specs.TreesShown as view
 use Rattle.hushlang.proofs.WordLists.{ahead}
 use Rattle.hushlang.proofs.parse.assignments.Given as goal
 

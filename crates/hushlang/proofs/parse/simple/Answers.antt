@@ -1,6 +1,6 @@
 use Rattle.std.proofs.Common.{◌∙◌, ◌≢◌, Ok, ap, sym, map}
 use Rattle.std.proofs.lemmas.Result.{err_from_is_err_and}
-use Rattle.hushlang.specs.View as view
+use Rattle.hushlang.specs.TreesShown as view
 use Rattle.hushlang.specs.Tree.{Command}
 use Rattle.hushlang.specs.declared.token.SyntaxError.TheVariants.{Memory}
 use Rattle.hushlang.proofs.WordLists.{simple_words, simple_values, simple_refused, words_shorter, values_shorter, words_are_read}

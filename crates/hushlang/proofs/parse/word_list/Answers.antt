@@ -1,7 +1,7 @@
 use Rattle.std.proofs.Common.{sym, map}
 use Rattle.std.proofs.lemmas.List.{map-append}
-use Rattle.hushlang.specs.Lexing.{token_of}
-use Rattle.hushlang.specs.View as view
+use Rattle.hushlang.specs.LexerShown.{token_of}
+use Rattle.hushlang.specs.TreesShown as view
 use Rattle.hushlang.proofs.WordLists.{words_begin, words_step, words_end}
 use Rattle.hushlang.proofs.parse.word_list.Goals as goal
 

@@ -1,7 +1,7 @@
 use Rattle.std.proofs.Common.{◌≡◌, ◌++◌, length, map, Ok}
 use Rattle.hushlang.specs.Grammar.{word_of, words, is_word}
 use Rattle.hushlang.specs.Parsing.{all_words, behind}
-use Rattle.hushlang.specs.View as view
+use Rattle.hushlang.specs.TreesShown as view
 use Rattle.hushlang.proofs.parse.word_list.Given as goal
 
 abbrev pub invariant-words : goal.invariant-words

@@ -1,11 +1,11 @@
 use Rattle.std.proofs.Common.{◌≡◌, ◌-◌, length}
-use Rattle.hushlang.specs.Cutting.{to_come}
-use Rattle.hushlang.specs.Pieces.{gathered, pieces_in, pieces_behind}
+use Rattle.hushlang.specs.CuttersShown.{to_come}
+use Rattle.hushlang.specs.Pieces.{pieces_so_far, pieces_in, pieces_behind}
 use Rattle.hushlang.proofs.pieces.read_pieces.Given as goal
 
 abbrev pub invariant-parts : goal.invariant-parts
 invariant-parts l = record {
-  same : pieces_behind (gathered l.gathering) (to_come l.parts) ≡ pieces_in (to_come l.fn.parts);
+  same : pieces_behind (pieces_so_far l.gathering) (to_come l.parts) ≡ pieces_in (to_come l.fn.parts);
   source : l.parts.source ≡ l.fn.parts.source;
 }
 

@@ -1,9 +1,9 @@
 use Rattle.std.proofs.Common.{◌∙◌, ◌==◌, true, false, sym, ap}
 use Rattle.std.proofs.lemmas.Bool.{ne_eqb}
-use Rattle.hushlang.specs.Lexing.{parts_of}
-use Rattle.hushlang.specs.Cutting.{to_come}
+use Rattle.hushlang.specs.LexerShown.{parts_of}
+use Rattle.hushlang.specs.CuttersShown.{to_come}
 use Rattle.hushlang.specs.Grammar.{up_to_equals, is_name}
-use Rattle.hushlang.specs.Cutting as cutting
+use Rattle.hushlang.specs.CuttersShown as cutting
 use Rattle.hushlang.proofs.Names.{found_behind_nothing, cut_taken, part_taken, found_step, found_done, no_assignment, assignment_end}
 use Rattle.hushlang.proofs.words.assignment.Goals as goal
 

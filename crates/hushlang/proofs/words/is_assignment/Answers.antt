@@ -1,9 +1,9 @@
 use Rattle.std.proofs.Common.{◌∙◌, ◌==◌, ◌++◌, [], ◌∷◌, refl, is_some, sym, ap}
 use Rattle.std.proofs.lemmas.Bool.{ne_eqb}
-use Rattle.hushlang.specs.Lexing.{parts_of}
-use Rattle.hushlang.specs.Cutting.{to_come}
+use Rattle.hushlang.specs.LexerShown.{parts_of}
+use Rattle.hushlang.specs.CuttersShown.{to_come}
 use Rattle.hushlang.specs.Grammar.{up_to_equals}
-use Rattle.hushlang.specs.Cutting as cutting
+use Rattle.hushlang.specs.CuttersShown as cutting
 use Rattle.hushlang.proofs.Names.{found_behind_nothing, cut_taken, part_taken, found_step, no_assignment, assignment_end, name_goes_on, stopped, equals_found}
 use Rattle.hushlang.proofs.words.is_assignment.Goals as goal
 

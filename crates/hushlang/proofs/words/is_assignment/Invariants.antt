@@ -1,6 +1,6 @@
 use Rattle.std.proofs.Common.{◌≡◌, ◌-◌, ℕ, List, [], false, length}
-use Rattle.hushlang.specs.Cutting.{to_come, IsTaken}
-use Rattle.hushlang.specs.Lexing.{parts_in, parts_of}
+use Rattle.hushlang.specs.CuttersShown.{to_come, IsTaken}
+use Rattle.hushlang.specs.LexerShown.{parts_in, parts_of}
 use Rattle.hushlang.specs.Grammar.{up_to_equals, is_name}
 use Rattle.hushlang.proofs.Names.{found_behind}
 use Rattle.hushlang.proofs.words.is_assignment.Given as goal

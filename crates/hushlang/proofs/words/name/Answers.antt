@@ -1,9 +1,9 @@
 use Rattle.std.proofs.Common.{◌∙◌, true, false, sym, ap}
 use Rattle.hushlang.specs.Grammar.{is_name}
-use Rattle.hushlang.specs.Lexing.{parts_of}
-use Rattle.hushlang.specs.Cutting.{to_come}
+use Rattle.hushlang.specs.LexerShown.{parts_of}
+use Rattle.hushlang.specs.CuttersShown.{to_come}
 use Rattle.hushlang.specs.Words.{plain_bytes}
-use Rattle.hushlang.specs.Cutting as cutting
+use Rattle.hushlang.specs.CuttersShown as cutting
 use Rattle.hushlang.proofs.Names.{behind_nothing, cut_taken, part_taken, name_step, no_name, some_name}
 use Rattle.hushlang.proofs.words.name.Goals as goal
 

@@ -2,9 +2,9 @@ use Rattle.std.proofs.Common.{◌∙◌, ◌≤◌, ◌<◌, ℕ, List, length, 
 use Rattle.std.proofs.lemmas.List.{take_more_set, length-set, length-take}
 use Rattle.hushlang.specs.Words as spec
 use Rattle.hushlang.specs.Token.{Part}
-use Rattle.hushlang.specs.Lexing.{parts_of}
-use Rattle.hushlang.specs.Cutting.{to_come}
-use Rattle.hushlang.specs.Cutting as cutting
+use Rattle.hushlang.specs.LexerShown.{parts_of}
+use Rattle.hushlang.specs.CuttersShown.{to_come}
+use Rattle.hushlang.specs.CuttersShown as cutting
 use Rattle.hushlang.proofs.Fronted.{fronted, fronted_nothing, fronted_step, fronted_end, other_part, part_too_many}
 use Rattle.hushlang.proofs.words.reserved_word.Goals as goal
 

@@ -1,6 +1,6 @@
 use Rattle.std.proofs.Common.{◌≡◌, ◌-◌, ◌≤◌, take, length}
-use Rattle.hushlang.specs.Cutting.{to_come}
-use Rattle.hushlang.specs.Lexing.{parts_of}
+use Rattle.hushlang.specs.CuttersShown.{to_come}
+use Rattle.hushlang.specs.LexerShown.{parts_of}
 use Rattle.hushlang.proofs.Fronted.{fronted}
 use Rattle.hushlang.proofs.words.reserved_word.Given as goal
 

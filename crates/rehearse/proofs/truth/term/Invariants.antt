@@ -1,6 +1,6 @@
 use Rattle.std.proofs.Common.{◌≡◌, length}
 use Rattle.rehearse.specs.Verdict.{term}
-use Rattle.rehearse.specs.Words.{texts}
+use Rattle.rehearse.specs.TextsShown.{texts}
 use Rattle.rehearse.proofs.VerdictLemmas.{turned}
 use Rattle.rehearse.proofs.truth.term.Given as goal
 

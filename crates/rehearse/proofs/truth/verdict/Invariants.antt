@@ -1,6 +1,6 @@
 use Rattle.std.proofs.Common.{length}
 use Rattle.rehearse.specs.Verdict.{verdict}
-use Rattle.rehearse.specs.Words.{texts}
+use Rattle.rehearse.specs.TextsShown.{texts}
 use Rattle.rehearse.proofs.VerdictLemmas.{ChainLeft}
 use Rattle.rehearse.proofs.truth.verdict.Given as goal
 

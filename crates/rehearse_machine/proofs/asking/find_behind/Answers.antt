@@ -1,16 +1,16 @@
 use Rattle.std.proofs.Common.{ap, ◌∙◌, subst, List, ℕ, map, Option}
 use Rattle.std.specs.Prelude.{Vec}
 use Rattle.std.specs.declared.alloc.Global.{Global}
-use Rattle.hushlang.specs.View as view
+use Rattle.hushlang.specs.TreesShown as view
 use Rattle.hushlang.specs.Tree.{Script}
 use Rattle.hushlang.specs.Expansion.{fields}
 use Rattle.bootstore.specs.Moment.{bytes_of_words, RunningFrame}
 use Rattle.rehearse.specs.State.{state_at}
-use Rattle.rehearse_machine.specs.Asking.{words_in_front, fields_again}
+use Rattle.rehearse_machine.specs.AskingCommand.{words_in_front, fields_again}
 use Rattle.rehearse_machine.specs.Places.{StopOn, place_fields}
 use Rattle.rehearse.specs.Execution.{End}
-use Rattle.rehearse_machine.specs.Variables.{setting_at}
-use Rattle.rehearse_machine.specs.Seen.{setting_of, under, IsExpanded}
+use Rattle.rehearse_machine.specs.Variables.{parameters_at}
+use Rattle.rehearse_machine.specs.MovesShown.{limits_of, under, IsExpanded}
 use Rattle.rehearse_machine.proofs.Coming.{comes_at}
 use Rattle.rehearse_machine.proofs.FoundAgain.{nothing_again, too_long_again, fields_found}
 use Rattle.rehearse_machine.proofs.asking.find_behind.Goals as goal
@@ -18,27 +18,27 @@ use Rattle.rehearse_machine.proofs.asking.find_behind.Goals as goal
 pub returns-in_default : goal.returns-in_default
 returns-in_default g c =
     let old = g.S.Store.record_of c.args.store.now in
-    let nothing = nothing_again (setting_of c.args.devices.now c.args.bounds) old c.args.frame.now (under old.present) c.in_default.ensures in
+    let nothing = nothing_again (limits_of c.args.devices.now c.args.bounds) old c.args.frame.now (under old.present) c.in_default.ensures in
     (λ w. ap (λ (n : ℕ). StopOn (End n) (state_at old.present w)) c.get_status.ensures ∙ nothing.0 w, nothing.1)
 
 pub returns-in_default-2 : goal.returns-in_default-2
 returns-in_default-2 g c =
     let old = g.S.Store.record_of c.args.store.now in
     let words = map view.word c.in-Some.words.now in
-    let found = subst (λ (o : Option (Vec (Vec ℕ Global) Global)). IsExpanded o (fields (setting_at old.present) words)) c.in_default-2.is c.in_ok-fields.ensures in
-    too_long_again (setting_of c.args.devices.now c.args.bounds) old c.args.frame.now (under old.present) words c.in-Some.ensures found
+    let found = subst (λ (o : Option (Vec (Vec ℕ Global) Global)). IsExpanded o (fields (parameters_at old.present) words)) c.in_default-2.is c.in_ok-fields.ensures in
+    too_long_again (limits_of c.args.devices.now c.args.bounds) old c.args.frame.now (under old.present) words c.in-Some.ensures found
 
 pub returns : goal.returns
 returns g c =
-    let setting = setting_of c.args.devices.now c.args.bounds in
+    let limits = limits_of c.args.devices.now c.args.bounds in
     let old = g.S.Store.record_of c.args.store.now in
     let f = c.args.frame.now in
     let fs = under old.present in
     let words = map view.word c.in-Some.words.now in
     let list = bytes_of_words c.in-Some-2.fields.items in
-    let found = subst (λ (o : Option (Vec (Vec ℕ Global) Global)). IsExpanded o (fields (setting_at old.present) words)) c.in-Some-2.is c.in_ok-fields.ensures in
-    comes_at c.run_fields.result old (g.S.Store.record_of c.run_fields.new.store) (place_fields setting list (view.script c.script.result.now.value) old.present.frames) (fields_again setting (words_in_front f) f fs)
-    (λ w. ap (λ (x : Script). place_fields setting list x old.present.frames (state_at old.present w)) c.script.ensures
-    ∙ ap (λ (x : List RunningFrame). place_fields setting list f.script x (state_at old.present w)) c.requires
-    ∙ fields_found setting old f fs words c.in-Some.ensures list found.0 found.1 w)
+    let found = subst (λ (o : Option (Vec (Vec ℕ Global) Global)). IsExpanded o (fields (parameters_at old.present) words)) c.in-Some-2.is c.in_ok-fields.ensures in
+    comes_at c.run_fields.result old (g.S.Store.record_of c.run_fields.new.store) (place_fields limits list (view.script c.script.result.now.value) old.present.frames) (fields_again limits (words_in_front f) f fs)
+    (λ w. ap (λ (x : Script). place_fields limits list x old.present.frames (state_at old.present w)) c.script.ensures
+    ∙ ap (λ (x : List RunningFrame). place_fields limits list f.script x (state_at old.present w)) c.requires
+    ∙ fields_found limits old f fs words c.in-Some.ensures list found.0 found.1 w)
     c.run_fields.ensures

@@ -1,7 +1,7 @@
 use Rattle.std.proofs.Common.{ap, ◌∙◌, sym, map, Some, None}
 use Rattle.hushlang.specs.Tree.{Command}
-use Rattle.hushlang.specs.View as view
-use Rattle.rehearse_machine.specs.Asking.{words_of}
+use Rattle.hushlang.specs.TreesShown as view
+use Rattle.rehearse_machine.specs.AskingCommand.{words_of}
 use Rattle.rehearse_machine.proofs.CommandLemmas.{says_simple}
 use Rattle.rehearse_machine.proofs.PartLemmas.{list_found, list_missing}
 use Rattle.rehearse_machine.proofs.FoundAgain.{no_list_in_front, command_there_in_front, wordless}

@@ -1,14 +1,14 @@
 use Rattle.std.proofs.Common.{ℕ, ap, sym, ◌∙◌, ◌∷◌, suc, List, subst, Option}
 use Rattle.std.specs.Prelude.{Vec}
 use Rattle.std.specs.declared.alloc.Global.{Global}
-use Rattle.hushlang.specs.View as view
+use Rattle.hushlang.specs.TreesShown as view
 use Rattle.hushlang.specs.Expansion.{joined}
 use Rattle.bootstore.specs.Record.{without_first}
 use Rattle.bootstore.specs.declared.frame.At.{At}
 use Rattle.bootstore.specs.Moment.{RunningFrame}
 use Rattle.rehearse_machine.specs.Places.{behind, place}
-use Rattle.rehearse_machine.specs.Variables.{setting_at}
-use Rattle.rehearse_machine.specs.Seen.{under, IsExpandedOne}
+use Rattle.rehearse_machine.specs.Variables.{parameters_at}
+use Rattle.rehearse_machine.specs.MovesShown.{under, IsExpandedOne}
 use Rattle.rehearse_machine.proofs.AssignLemmas.{none_assigned, next_assigned, value_too_long, all_assigned}
 use Rattle.rehearse_machine.proofs.assigns.assign.Goals as goal
 
@@ -20,7 +20,7 @@ returns-in_default g c =
     let old = g.S.Store.record_of c.args.store.now in
     let now = g.S.Store.record_of c.loop-value.store in
     let d = c.value-item.result in
-    let found = subst (λ (o : Option (Vec ℕ Global)). IsExpandedOne o (joined (setting_at now.present) (view.word d.1))) c.in_default.is c.in_ok-found.ensures in
+    let found = subst (λ (o : Option (Vec ℕ Global)). IsExpandedOne o (joined (parameters_at now.present) (view.word d.1))) c.in_default.is c.in_ok-found.ensures in
     value_too_long c.args.values.now c.loop-value.value-index (behind c.args.frame.now ∷ under old.present) old now d c.loop-value-test.true c.value-item.is c.loop-value.invariant found
 
 pub loop-value-preserved : goal.loop-value-preserved
@@ -28,7 +28,7 @@ loop-value-preserved g c =
     let old = g.S.Store.record_of c.args.store.now in
     let now = g.S.Store.record_of c.loop-value.store in
     let d = c.value-item.result in
-    let found = subst (λ (o : Option (Vec ℕ Global)). IsExpandedOne o (joined (setting_at now.present) (view.word d.1))) c.in-Some.is c.in_ok-found.ensures in
+    let found = subst (λ (o : Option (Vec ℕ Global)). IsExpandedOne o (joined (parameters_at now.present) (view.word d.1))) c.in-Some.is c.in_ok-found.ensures in
     next_assigned c.args.values.now c.loop-value.value-index (behind c.args.frame.now ∷ under old.present) old now d c.loop-value-test.true c.value-item.is c.loop-value.invariant
     (g.S.Store.record_of c.set_local.new.self) c.deref.result.now c.deref-in-loop-value.result.now c.deref.ensures.value (c.deref-in-loop-value.ensures.value ∙ found.0) found.1 c.in_ok-set_local.ensures.ok
 

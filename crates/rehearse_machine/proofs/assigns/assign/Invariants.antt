@@ -1,6 +1,6 @@
 use Rattle.std.proofs.Common.{◌∷◌}
 use Rattle.rehearse_machine.specs.Places.{behind}
-use Rattle.rehearse_machine.specs.Seen.{under}
+use Rattle.rehearse_machine.specs.MovesShown.{under}
 use Rattle.rehearse_machine.proofs.AssignLemmas.{AreAssigned}
 use Rattle.rehearse_machine.proofs.assigns.assign.Given as goal
 

@@ -1,5 +1,5 @@
 use Rattle.std.proofs.Common.{subst, Bool}
-use Rattle.rehearse_machine.specs.Seen.{setting_of, IsCounted}
+use Rattle.rehearse_machine.specs.MovesShown.{limits_of, IsCounted}
 use Rattle.rehearse_machine.proofs.AssignLemmas.{assign_begins}
 use Rattle.rehearse_machine.proofs.assigns.begin_assign.Goals as goal
 
@@ -8,4 +8,4 @@ returns g c devices =
     let old = g.S.Store.record_of c.args.store.now in
     let mid = g.S.Store.record_of c.count.new.store in
     let counted = subst (λ (b : Bool). IsCounted c.args.bounds b old mid) c.if-not-counted.false c.in_ok-counted.ensures in
-    assign_begins (setting_of devices c.args.bounds) c.assign.result c.args.values.now c.args.frame.now old mid (g.S.Store.record_of c.assign.new.store) counted.0 counted.1 c.assign.ensures
+    assign_begins (limits_of devices c.args.bounds) c.assign.result c.args.values.now c.args.frame.now old mid (g.S.Store.record_of c.assign.new.store) counted.0 counted.1 c.assign.ensures

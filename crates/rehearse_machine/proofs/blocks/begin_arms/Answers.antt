@@ -1,10 +1,10 @@
 use Rattle.std.proofs.Common.{◌∷◌, ap, ◌∙◌, suc}
-use Rattle.hushlang.specs.View as view
+use Rattle.hushlang.specs.TreesShown as view
 use Rattle.hushlang.specs.declared.tree.Script.{Script as Code}
 use Rattle.bootstore.specs.declared.frame.At.{At}
 use Rattle.rehearse_machine.specs.Places.{GoOn, moved_to, block_frame, place}
 use Rattle.rehearse.specs.Execution.{set_status}
-use Rattle.rehearse_machine.specs.Seen.{under}
+use Rattle.rehearse_machine.specs.MovesShown.{under}
 use Rattle.rehearse_machine.proofs.Coming.{comes_as}
 use Rattle.rehearse_machine.proofs.ArmLemmas.{arm_entered, other_entered, none_entered}
 use Rattle.rehearse_machine.proofs.blocks.begin_arms.Goals as goal

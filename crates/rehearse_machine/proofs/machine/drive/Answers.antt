@@ -1,39 +1,39 @@
 use Rattle.std.proofs.Common.{sym, ◌∙◌, subst, arith}
 use Rattle.rehearse_machine.specs.declared.ask.Step.{Step}
-use Rattle.rehearse_machine.specs.Seen.{setting_of}
+use Rattle.rehearse_machine.specs.MovesShown.{limits_of}
 use Rattle.rehearse_machine.specs.Turning.{Drives}
 use Rattle.rehearse_machine.proofs.Turning.{driven, came_on, further_steps}
 use Rattle.rehearse_machine.proofs.machine.drive.Goals as goal
 
 pub turns-smaller : goal.turns-smaller
 turns-smaller g c =
-    let setting = setting_of c.args.devices.now c.args.bounds in
+    let limits = limits_of c.args.devices.now c.args.bounds in
     let old = g.S.Store.record_of c.args.store.now in
     let mid = g.S.Store.record_of c.turns.store in
     let new = g.S.Store.record_of c.turn.new.store in
-    let k = further_steps setting c.in_ok-turn.field-0 old mid new c.turns.invariant c.in_ok-turn.ensures c.in-Going.is in
+    let k = further_steps limits c.in_ok-turn.field-0 old mid new c.turns.invariant c.in_ok-turn.ensures c.in-Going.is in
     omega arith
 
 pub turns-preserved : goal.turns-preserved
 turns-preserved g c =
-    let setting = setting_of c.args.devices.now c.args.bounds in
+    let limits = limits_of c.args.devices.now c.args.bounds in
     let old = g.S.Store.record_of c.args.store.now in
     let mid = g.S.Store.record_of c.turns.store in
     let new = g.S.Store.record_of c.turn.new.store in
-    came_on setting c.in_ok-turn.field-0 old mid new c.turns.invariant c.in_ok-turn.ensures c.in-Going.is
+    came_on limits c.in_ok-turn.field-0 old mid new c.turns.invariant c.in_ok-turn.ensures c.in-Going.is
 
 pub returns-in-Asks : goal.returns-in-Asks
 returns-in-Asks g c =
-    let setting = setting_of c.args.devices.now c.args.bounds in
+    let limits = limits_of c.args.devices.now c.args.bounds in
     let old = g.S.Store.record_of c.args.store.now in
     let mid = g.S.Store.record_of c.turns.store in
     let new = g.S.Store.record_of c.turn.new.store in
-    subst (λ (x : Step). Drives setting x old new) c.in-Asks.is (driven setting c.in_ok-turn.field-0 old mid new c.turns.invariant c.in_ok-turn.ensures (λ e. let f = sym c.in-Asks.is ∙ e in cc))
+    subst (λ (x : Step). Drives limits x old new) c.in-Asks.is (driven limits c.in_ok-turn.field-0 old mid new c.turns.invariant c.in_ok-turn.ensures (λ e. let f = sym c.in-Asks.is ∙ e in cc))
 
 pub returns-in-Ends : goal.returns-in-Ends
 returns-in-Ends g c =
-    let setting = setting_of c.args.devices.now c.args.bounds in
+    let limits = limits_of c.args.devices.now c.args.bounds in
     let old = g.S.Store.record_of c.args.store.now in
     let mid = g.S.Store.record_of c.turns.store in
     let new = g.S.Store.record_of c.turn.new.store in
-    subst (λ (x : Step). Drives setting x old new) c.in-Ends.is (driven setting c.in_ok-turn.field-0 old mid new c.turns.invariant c.in_ok-turn.ensures (λ e. let f = sym c.in-Ends.is ∙ e in cc))
+    subst (λ (x : Step). Drives limits x old new) c.in-Ends.is (driven limits c.in_ok-turn.field-0 old mid new c.turns.invariant c.in_ok-turn.ensures (λ e. let f = sym c.in-Ends.is ∙ e in cc))

@@ -1,10 +1,10 @@
 use Rattle.std.proofs.Common.{◌-◌}
-use Rattle.rehearse_machine.specs.Seen.{setting_of}
+use Rattle.rehearse_machine.specs.MovesShown.{limits_of}
 use Rattle.rehearse_machine.specs.Turning.{Comes_on}
 use Rattle.rehearse_machine.proofs.machine.drive.Given as goal
 
 abbrev pub invariant-turns : goal.invariant-turns
-invariant-turns g l = Comes_on (setting_of l.devices l.bounds) (g.S.Store.record_of l.initial.store) (g.S.Store.record_of l.store)
+invariant-turns g l = Comes_on (limits_of l.devices l.bounds) (g.S.Store.record_of l.initial.store) (g.S.Store.record_of l.store)
 
 abbrev pub decreases-turns : goal.decreases-turns
 decreases-turns g l = l.bounds.steps - (g.S.Store.record_of l.store).present.steps

@@ -1,10 +1,10 @@
 use Rattle.std.proofs.Common.{sym, ap, ◌∙◌, suc, Some, Option}
-use Rattle.hushlang.specs.View as view
+use Rattle.hushlang.specs.TreesShown as view
 use Rattle.hushlang.specs.declared.tree.Script.{Script as Code}
 use Rattle.bootstore.specs.declared.frame.At.{At}
 use Rattle.rehearse.specs.State.{Text}
 use Rattle.rehearse_machine.specs.Places.{GoOn, for_turn, place, block_frame}
-use Rattle.rehearse_machine.specs.Seen.{under}
+use Rattle.rehearse_machine.specs.MovesShown.{under}
 use Rattle.rehearse_machine.proofs.Coming.{comes_as}
 use Rattle.rehearse_machine.proofs.WordLemmas.{word_none, word_some, turn_begins}
 use Rattle.rehearse_machine.proofs.names.next_turn.Goals as goal

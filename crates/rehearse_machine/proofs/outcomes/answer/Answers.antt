@@ -4,7 +4,7 @@ use Rattle.bootstore.proofs.Tables.{clone_text}
 use Rattle.rehearse.specs.DevicesShown.{setting_shown}
 use Rattle.rehearse.specs.State.{Text, state_at}
 use Rattle.rehearse.specs.Execution.{succeeds, status_when}
-use Rattle.rehearse_machine.specs.Seen.{request_seen}
+use Rattle.rehearse_machine.specs.MovesShown.{request_shown}
 use Rattle.rehearse_machine.specs.declared.halt.Halt.TheVariants as halts
 use Rattle.rehearse_machine.specs.declared.ask.Step.TheVariants as steps
 use Rattle.rehearse_machine.proofs.OutcomeLemmas.{logged_state, logged_frames, logged_keeps, success_does, booted, stayed}
@@ -12,7 +12,7 @@ use Rattle.rehearse_machine.proofs.outcomes.answer.Goals as goal
 
 pub returns-then-effect : goal.returns-then-effect
 returns-then-effect g c outcome is =
-    let request = request_seen c.args.ask in
+    let request = request_shown c.args.ask in
     let old = g.S.Store.record_of c.args.store.now in
     let mid = g.S.Store.record_of c.device.new.self in
     let late = g.S.Store.record_of c.set_status-2.new.self in
@@ -31,7 +31,7 @@ returns-then-effect g c outcome is =
 
 pub returns : goal.returns
 returns g c outcome is =
-    let request = request_seen c.args.ask in
+    let request = request_shown c.args.ask in
     let old = g.S.Store.record_of c.args.store.now in
     let mid = g.S.Store.record_of c.device.new.self in
     let late = g.S.Store.record_of c.set_status-2.new.self in

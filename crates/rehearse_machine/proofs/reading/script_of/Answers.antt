@@ -1,5 +1,5 @@
 use Rattle.std.proofs.Common.{sym}
-use Rattle.hushlang.specs.View as view
+use Rattle.hushlang.specs.TreesShown as view
 use Rattle.rehearse.proofs.TreeLemmas.{trees_are_read, refused_texts}
 use Rattle.rehearse_machine.proofs.reading.script_of.Goals as goal
 

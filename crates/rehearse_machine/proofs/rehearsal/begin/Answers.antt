@@ -1,6 +1,6 @@
 use Rattle.std.proofs.Common.{List, ℕ, ap, sym, ◌∙◌}
 use Rattle.std.specs.Prelude.{option_map}
-use Rattle.hushlang.specs.View as view
+use Rattle.hushlang.specs.TreesShown as view
 use Rattle.bootstore.specs.Moment.{environment_of}
 use Rattle.bootstore.specs.Record.{Record}
 use Rattle.rehearse.specs.Trees.{tree_of}
@@ -45,6 +45,6 @@ returns-clause-stops g c =
     let new = g.S.Store.record_of c.push.new.self in
     let same = same_text variables task.name c.text_of-text_found.result.now start.present (ap (λ (r : Record). r.present.environment) c.in_ok-start.ensures.ok) c.text_of-text_found.ensures in
     let read = ap tree_of (sym same) ∙ sym c.in_ok-script.ensures ∙ ap (option_map view.script) c.in-Some.is in
-    all_stop_as c.go_on.result task.setting (to_come task.setting new.present) (λ w. settled (run_on task w)) (g.S.Store.record_of c.go_on.new.store)
-    (λ w. sym (stands_runs old start new variables c.text.result c.in_ok-new.field-0.value c.in-Some.script task.text c.in_ok-start.ensures.ok c.in_ok-push.ensures.ok c.text.ensures c.in_ok-new.ensures.ok read task.setting task.name w))
+    all_stop_as c.go_on.result task.limits (to_come task.limits new.present) (λ w. settled (run_on task w)) (g.S.Store.record_of c.go_on.new.store)
+    (λ w. sym (stands_runs old start new variables c.text.result c.in_ok-new.field-0.value c.in-Some.script task.text c.in_ok-start.ensures.ok c.in_ok-push.ensures.ok c.text.ensures c.in_ok-new.ensures.ok read task.limits task.name w))
     c.go_on.ensures.stops

@@ -8,114 +8,114 @@ use Rattle.rehearse_machine.proofs.rehearsal.resume.Goals as goal
 
 pub unreachable-requires : goal.unreachable-requires
 unreachable-requires g c =
-    let setting = (task_in c.args.rehearsal.now).setting in
-    never_found setting (g.S.Store.record_of c.args.store.now) (g.S.Store.record_of c.find_again.new.store) c.in_ok-found.found c.requires.asks c.in_ok-found.ensures c.in_default.not-Asks
+    let limits = (task_in c.args.rehearsal.now).limits in
+    never_found limits (g.S.Store.record_of c.args.store.now) (g.S.Store.record_of c.find_again.new.store) c.in_ok-found.found c.requires.asks c.in_ok-found.ensures c.in_default.not-Asks
 
 pub go_on-requires-clause-sound : goal.go_on-requires-clause-sound
 go_on-requires-clause-sound g c =
-    let setting = (task_in c.args.rehearsal.now).setting in
+    let limits = (task_in c.args.rehearsal.now).limits in
     let outcome = outcome_when c.args.success in
-    goes_soundly setting (g.S.Store.record_of c.args.store.now) (g.S.Store.record_of c.find_again.new.store) c.in_ok-found.found c.requires.asks c.in_ok-found.ensures c.in-Asks.ask c.in-Asks.is outcome (g.S.Store.record_of c.answer.new.store) c.in_ok-answer.field-0 (c.in_ok-answer.ensures outcome (outcome_succeeds c.args.success)) c.in-Going.is
+    goes_soundly limits (g.S.Store.record_of c.args.store.now) (g.S.Store.record_of c.find_again.new.store) c.in_ok-found.found c.requires.asks c.in_ok-found.ensures c.in-Asks.ask c.in-Asks.is outcome (g.S.Store.record_of c.answer.new.store) c.in_ok-answer.field-0 (c.in_ok-answer.ensures outcome (outcome_succeeds c.args.success)) c.in-Going.is
 
 pub go_on-requires-clause-steps : goal.go_on-requires-clause-steps
 go_on-requires-clause-steps g c =
-    let setting = (task_in c.args.rehearsal.now).setting in
+    let limits = (task_in c.args.rehearsal.now).limits in
     let outcome = outcome_when c.args.success in
-    still_within setting (g.S.Store.record_of c.args.store.now) (g.S.Store.record_of c.find_again.new.store) c.in_ok-found.found c.requires.asks c.in_ok-found.ensures c.in-Asks.ask c.in-Asks.is outcome (g.S.Store.record_of c.answer.new.store) c.in_ok-answer.field-0 (c.in_ok-answer.ensures outcome (outcome_succeeds c.args.success))
+    still_within limits (g.S.Store.record_of c.args.store.now) (g.S.Store.record_of c.find_again.new.store) c.in_ok-found.found c.requires.asks c.in_ok-found.ensures c.in-Asks.ask c.in-Asks.is outcome (g.S.Store.record_of c.answer.new.store) c.in_ok-answer.field-0 (c.in_ok-answer.ensures outcome (outcome_succeeds c.args.success))
 
 pub go_on-requires-clause-begun : goal.go_on-requires-clause-begun
 go_on-requires-clause-begun g c =
-    let setting = (task_in c.args.rehearsal.now).setting in
+    let limits = (task_in c.args.rehearsal.now).limits in
     let outcome = outcome_when c.args.success in
-    let same = same_begun setting (g.S.Store.record_of c.args.store.now) (g.S.Store.record_of c.find_again.new.store) c.in_ok-found.found c.requires.asks c.in_ok-found.ensures c.in-Asks.ask c.in-Asks.is outcome (g.S.Store.record_of c.answer.new.store) c.in_ok-answer.field-0 (c.in_ok-answer.ensures outcome (outcome_succeeds c.args.success)) in
+    let same = same_begun limits (g.S.Store.record_of c.args.store.now) (g.S.Store.record_of c.find_again.new.store) c.in_ok-found.found c.requires.asks c.in_ok-found.ensures c.in-Asks.ask c.in-Asks.is outcome (g.S.Store.record_of c.answer.new.store) c.in_ok-answer.field-0 (c.in_ok-answer.ensures outcome (outcome_succeeds c.args.success)) in
     let bound = steps_within c.args.rehearsal.now.bounds c.steps-bound.ensures.within in
     let room = c.requires.begun in
     omega arith
 
 pub unreachable-requires-in-Asks-2 : goal.unreachable-requires-in-Asks-2
 unreachable-requires-in-Asks-2 g c =
-    let setting = (task_in c.args.rehearsal.now).setting in
+    let limits = (task_in c.args.rehearsal.now).limits in
     let outcome = outcome_when c.args.success in
-    never_asks setting (g.S.Store.record_of c.args.store.now) (g.S.Store.record_of c.find_again.new.store) c.in_ok-found.found c.requires.asks c.in_ok-found.ensures c.in-Asks.ask c.in-Asks.is outcome (g.S.Store.record_of c.answer.new.store) c.in_ok-answer.field-0 (c.in_ok-answer.ensures outcome (outcome_succeeds c.args.success)) c.in-Asks-2.field-0 c.in-Asks-2.is
+    never_asks limits (g.S.Store.record_of c.args.store.now) (g.S.Store.record_of c.find_again.new.store) c.in_ok-found.found c.requires.asks c.in_ok-found.ensures c.in-Asks.ask c.in-Asks.is outcome (g.S.Store.record_of c.answer.new.store) c.in_ok-answer.field-0 (c.in_ok-answer.ensures outcome (outcome_succeeds c.args.success)) c.in-Asks-2.field-0 c.in-Asks-2.is
 
 pub returns-in-Going-clause-stops : goal.returns-in-Going-clause-stops
 returns-in-Going-clause-stops g c =
-    let setting = (task_in c.args.rehearsal.now).setting in
+    let limits = (task_in c.args.rehearsal.now).limits in
     let outcome = outcome_when c.args.success in
     let old = g.S.Store.record_of c.args.store.now in
     let new = g.S.Store.record_of c.answer.new.store in
-    all_stop_as c.go_on.result setting (to_come setting new.present) (λ w. asked_at setting old.present (outcome ∷ w)) (g.S.Store.record_of c.go_on.new.store)
-    (goes_on setting old (g.S.Store.record_of c.find_again.new.store) c.in_ok-found.found c.requires.asks c.in_ok-found.ensures c.in-Asks.ask c.in-Asks.is outcome new c.in_ok-answer.field-0 (c.in_ok-answer.ensures outcome (outcome_succeeds c.args.success)) c.in-Going.is)
+    all_stop_as c.go_on.result limits (to_come limits new.present) (λ w. asked_at limits old.present (outcome ∷ w)) (g.S.Store.record_of c.go_on.new.store)
+    (goes_on limits old (g.S.Store.record_of c.find_again.new.store) c.in_ok-found.found c.requires.asks c.in_ok-found.ensures c.in-Asks.ask c.in-Asks.is outcome new c.in_ok-answer.field-0 (c.in_ok-answer.ensures outcome (outcome_succeeds c.args.success)) c.in-Going.is)
     c.go_on.ensures.stops
 
 pub returns-in-Going-clause-marks : goal.returns-in-Going-clause-marks
 returns-in-Going-clause-marks g c =
-    let setting = (task_in c.args.rehearsal.now).setting in
+    let limits = (task_in c.args.rehearsal.now).limits in
     let outcome = outcome_when c.args.success in
     let old = g.S.Store.record_of c.args.store.now in
     let new = g.S.Store.record_of c.answer.new.store in
     marks_on c.go_on.result old new (g.S.Store.record_of c.go_on.new.store)
-    (same_marks setting old (g.S.Store.record_of c.find_again.new.store) c.in_ok-found.found c.requires.asks c.in_ok-found.ensures c.in-Asks.ask c.in-Asks.is outcome new c.in_ok-answer.field-0 (c.in_ok-answer.ensures outcome (outcome_succeeds c.args.success)))
+    (same_marks limits old (g.S.Store.record_of c.find_again.new.store) c.in_ok-found.found c.requires.asks c.in_ok-found.ensures c.in-Asks.ask c.in-Asks.is outcome new c.in_ok-answer.field-0 (c.in_ok-answer.ensures outcome (outcome_succeeds c.args.success)))
     c.go_on.ensures.kept
 
 pub returns-in-Going-clause-begun : goal.returns-in-Going-clause-begun
 returns-in-Going-clause-begun g c =
-    let setting = (task_in c.args.rehearsal.now).setting in
+    let limits = (task_in c.args.rehearsal.now).limits in
     let outcome = outcome_when c.args.success in
     let old = g.S.Store.record_of c.args.store.now in
     let mid = g.S.Store.record_of c.find_again.new.store in
     let new = g.S.Store.record_of c.answer.new.store in
     let does = c.in_ok-answer.ensures outcome (outcome_succeeds c.args.success) in
     begun_on c.go_on.result old new (g.S.Store.record_of c.go_on.new.store)
-    (same_begun setting old mid c.in_ok-found.found c.requires.asks c.in_ok-found.ensures c.in-Asks.ask c.in-Asks.is outcome new c.in_ok-answer.field-0 does)
-    (same_steps setting old mid c.in_ok-found.found c.requires.asks c.in_ok-found.ensures c.in-Asks.ask c.in-Asks.is outcome new c.in_ok-answer.field-0 does)
+    (same_begun limits old mid c.in_ok-found.found c.requires.asks c.in_ok-found.ensures c.in-Asks.ask c.in-Asks.is outcome new c.in_ok-answer.field-0 does)
+    (same_steps limits old mid c.in_ok-found.found c.requires.asks c.in_ok-found.ensures c.in-Asks.ask c.in-Asks.is outcome new c.in_ok-answer.field-0 does)
     c.go_on.ensures.kept
 
 pub returns-in-Ends-clause-stops : goal.returns-in-Ends-clause-stops
 returns-in-Ends-clause-stops g c =
-    let setting = (task_in c.args.rehearsal.now).setting in
+    let limits = (task_in c.args.rehearsal.now).limits in
     let outcome = outcome_when c.args.success in
-    booted setting (g.S.Store.record_of c.args.store.now) (g.S.Store.record_of c.find_again.new.store) c.in_ok-found.found c.requires.asks c.in_ok-found.ensures c.in-Asks.ask c.in-Asks.is outcome (g.S.Store.record_of c.answer.new.store) c.in_ok-answer.field-0 (c.in_ok-answer.ensures outcome (outcome_succeeds c.args.success)) c.in-Ends.halt c.in-Ends.is
+    booted limits (g.S.Store.record_of c.args.store.now) (g.S.Store.record_of c.find_again.new.store) c.in_ok-found.found c.requires.asks c.in_ok-found.ensures c.in-Asks.ask c.in-Asks.is outcome (g.S.Store.record_of c.answer.new.store) c.in_ok-answer.field-0 (c.in_ok-answer.ensures outcome (outcome_succeeds c.args.success)) c.in-Ends.halt c.in-Ends.is
 
 pub returns-in-Ends-clause-marks : goal.returns-in-Ends-clause-marks
 returns-in-Ends-clause-marks g c =
-    let setting = (task_in c.args.rehearsal.now).setting in
+    let limits = (task_in c.args.rehearsal.now).limits in
     let outcome = outcome_when c.args.success in
-    same_marks setting (g.S.Store.record_of c.args.store.now) (g.S.Store.record_of c.find_again.new.store) c.in_ok-found.found c.requires.asks c.in_ok-found.ensures c.in-Asks.ask c.in-Asks.is outcome (g.S.Store.record_of c.answer.new.store) c.in_ok-answer.field-0 (c.in_ok-answer.ensures outcome (outcome_succeeds c.args.success))
+    same_marks limits (g.S.Store.record_of c.args.store.now) (g.S.Store.record_of c.find_again.new.store) c.in_ok-found.found c.requires.asks c.in_ok-found.ensures c.in-Asks.ask c.in-Asks.is outcome (g.S.Store.record_of c.answer.new.store) c.in_ok-answer.field-0 (c.in_ok-answer.ensures outcome (outcome_succeeds c.args.success))
 
 pub returns-in-Ends-clause-begun : goal.returns-in-Ends-clause-begun
 returns-in-Ends-clause-begun g c =
-    let setting = (task_in c.args.rehearsal.now).setting in
+    let limits = (task_in c.args.rehearsal.now).limits in
     let outcome = outcome_when c.args.success in
     let old = g.S.Store.record_of c.args.store.now in
     let mid = g.S.Store.record_of c.find_again.new.store in
     let new = g.S.Store.record_of c.answer.new.store in
     let does = c.in_ok-answer.ensures outcome (outcome_succeeds c.args.success) in
-    let a = same_begun setting old mid c.in_ok-found.found c.requires.asks c.in_ok-found.ensures c.in-Asks.ask c.in-Asks.is outcome new c.in_ok-answer.field-0 does in
-    let b = same_steps setting old mid c.in_ok-found.found c.requires.asks c.in_ok-found.ensures c.in-Asks.ask c.in-Asks.is outcome new c.in_ok-answer.field-0 does in
+    let a = same_begun limits old mid c.in_ok-found.found c.requires.asks c.in_ok-found.ensures c.in-Asks.ask c.in-Asks.is outcome new c.in_ok-answer.field-0 does in
+    let b = same_steps limits old mid c.in_ok-found.found c.requires.asks c.in_ok-found.ensures c.in-Asks.ask c.in-Asks.is outcome new c.in_ok-answer.field-0 does in
     omega arith
 
 pub returns-in-Ends-clause-within : goal.returns-in-Ends-clause-within
 returns-in-Ends-clause-within g c =
-    let setting = (task_in c.args.rehearsal.now).setting in
+    let limits = (task_in c.args.rehearsal.now).limits in
     let outcome = outcome_when c.args.success in
-    let a = still_within setting (g.S.Store.record_of c.args.store.now) (g.S.Store.record_of c.find_again.new.store) c.in_ok-found.found c.requires.asks c.in_ok-found.ensures c.in-Asks.ask c.in-Asks.is outcome (g.S.Store.record_of c.answer.new.store) c.in_ok-answer.field-0 (c.in_ok-answer.ensures outcome (outcome_succeeds c.args.success)) in
+    let a = still_within limits (g.S.Store.record_of c.args.store.now) (g.S.Store.record_of c.find_again.new.store) c.in_ok-found.found c.requires.asks c.in_ok-found.ensures c.in-Asks.ask c.in-Asks.is outcome (g.S.Store.record_of c.answer.new.store) c.in_ok-answer.field-0 (c.in_ok-answer.ensures outcome (outcome_succeeds c.args.success)) in
     let bound = steps_within c.args.rehearsal.now.bounds c.steps-bound.ensures.within in
     omega arith
 
 pub returns-in-Going-clause-grows : goal.returns-in-Going-clause-grows
 returns-in-Going-clause-grows g c =
-    let setting = (task_in c.args.rehearsal.now).setting in
+    let limits = (task_in c.args.rehearsal.now).limits in
     let outcome = outcome_when c.args.success in
     let old = g.S.Store.record_of c.args.store.now in
     let new = g.S.Store.record_of c.answer.new.store in
     grows_on c.go_on.result old new (g.S.Store.record_of c.go_on.new.store)
-    (same_steps setting old (g.S.Store.record_of c.find_again.new.store) c.in_ok-found.found c.requires.asks c.in_ok-found.ensures c.in-Asks.ask c.in-Asks.is outcome new c.in_ok-answer.field-0 (c.in_ok-answer.ensures outcome (outcome_succeeds c.args.success)))
+    (same_steps limits old (g.S.Store.record_of c.find_again.new.store) c.in_ok-found.found c.requires.asks c.in_ok-found.ensures c.in-Asks.ask c.in-Asks.is outcome new c.in_ok-answer.field-0 (c.in_ok-answer.ensures outcome (outcome_succeeds c.args.success)))
     c.go_on.ensures.grows
 
 pub returns-in-Ends-clause-grows : goal.returns-in-Ends-clause-grows
 returns-in-Ends-clause-grows g c =
-    let setting = (task_in c.args.rehearsal.now).setting in
+    let limits = (task_in c.args.rehearsal.now).limits in
     let outcome = outcome_when c.args.success in
-    let a = same_steps setting (g.S.Store.record_of c.args.store.now) (g.S.Store.record_of c.find_again.new.store) c.in_ok-found.found c.requires.asks c.in_ok-found.ensures c.in-Asks.ask c.in-Asks.is outcome (g.S.Store.record_of c.answer.new.store) c.in_ok-answer.field-0 (c.in_ok-answer.ensures outcome (outcome_succeeds c.args.success)) in
+    let a = same_steps limits (g.S.Store.record_of c.args.store.now) (g.S.Store.record_of c.find_again.new.store) c.in_ok-found.found c.requires.asks c.in_ok-found.ensures c.in-Asks.ask c.in-Asks.is outcome (g.S.Store.record_of c.answer.new.store) c.in_ok-answer.field-0 (c.in_ok-answer.ensures outcome (outcome_succeeds c.args.success)) in
     omega arith

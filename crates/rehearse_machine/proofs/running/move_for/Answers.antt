@@ -1,9 +1,9 @@
 use Rattle.std.proofs.Common.{ap, ◌∙◌, sym, Option, Some, None}
 use Rattle.std.specs.Prelude.{slice_get}
-use Rattle.hushlang.specs.View as view
+use Rattle.hushlang.specs.TreesShown as view
 use Rattle.hushlang.specs.Tree.{AndOr, Command}
 use Rattle.rehearse_machine.specs.Places.{GoOn, command_at, for_move, for_turn}
-use Rattle.rehearse_machine.specs.Seen.{under}
+use Rattle.rehearse_machine.specs.MovesShown.{under}
 use Rattle.rehearse_machine.proofs.Coming.{comes_as}
 use Rattle.rehearse_machine.proofs.PartLemmas.{list_found, list_missing, command_there, for_goes, no_for}
 use Rattle.rehearse_machine.proofs.running.move_for.Goals as goal

@@ -1,6 +1,6 @@
 use Rattle.std.proofs.Common.{ap, ◌∙◌, sym, refl}
 use Rattle.std.specs.Prelude.{option_map}
-use Rattle.hushlang.specs.View as view
+use Rattle.hushlang.specs.TreesShown as view
 use Rattle.bootstore.specs.declared.frame.At.{At}
 use Rattle.bootstore.proofs.Tables.{clone_text}
 use Rattle.rehearse_machine.proofs.WordLemmas.{word_some}

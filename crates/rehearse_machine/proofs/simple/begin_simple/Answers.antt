@@ -1,15 +1,15 @@
 use Rattle.std.proofs.Common.{◌≡◌, sym, ap, ◌∙◌, List, ℕ, map, ◌∷◌, suc, refl, subst, Bool, Option}
 use Rattle.std.specs.Prelude.{Vec}
 use Rattle.std.specs.declared.alloc.Global.{Global}
-use Rattle.hushlang.specs.View as view
+use Rattle.hushlang.specs.TreesShown as view
 use Rattle.hushlang.specs.Expansion.{fields}
 use Rattle.hushlang.specs.Tree.{Script}
 use Rattle.bootstore.specs.declared.frame.At.{At}
 use Rattle.bootstore.specs.Moment.{bytes_of_words, RunningFrame}
 use Rattle.bootstore.specs.Record.{Record, with_place, moved}
 use Rattle.rehearse.specs.State.{state_at}
-use Rattle.rehearse_machine.specs.Variables.{setting_at}
-use Rattle.rehearse_machine.specs.Seen.{setting_of, under, Keeps, IsCounted, IsExpanded}
+use Rattle.rehearse_machine.specs.Variables.{parameters_at}
+use Rattle.rehearse_machine.specs.MovesShown.{limits_of, under, Keeps, IsCounted, IsExpanded}
 use Rattle.rehearse_machine.specs.Places.{place_fields, behind, place}
 use Rattle.rehearse_machine.proofs.Coming.{keeps_change}
 use Rattle.rehearse_machine.proofs.Beginnings.{too_long, comes_with, behind_top}
@@ -17,26 +17,26 @@ use Rattle.rehearse_machine.proofs.simple.begin_simple.Goals as goal
 
 pub returns-in_default : goal.returns-in_default
 returns-in_default g c =
-    let setting = setting_of c.args.devices.now c.args.bounds in
+    let limits = limits_of c.args.devices.now c.args.bounds in
     let old = g.S.Store.record_of c.args.store.now in
     let mid = g.S.Store.record_of c.count.new.store in
     let f = c.args.frame.now in
     let fs = under old.present in
     let words = map view.word c.args.words.now in
     let counted = subst (λ (b : Bool). IsCounted c.args.bounds b old mid) c.if-not-counted.false c.in_ok-counted.ensures in
-    let found = subst (λ (o : Option (Vec (Vec ℕ Global) Global)). IsExpanded o (fields (setting_at mid.present) words)) c.in_default.is c.in_ok-fields.ensures in
-    too_long setting old mid words (λ found. place_fields setting found f.script (behind f ∷ fs)) counted.0 counted.1 found
+    let found = subst (λ (o : Option (Vec (Vec ℕ Global) Global)). IsExpanded o (fields (parameters_at mid.present) words)) c.in_default.is c.in_ok-fields.ensures in
+    too_long limits old mid words (λ found. place_fields limits found f.script (behind f ∷ fs)) counted.0 counted.1 found
 
 pub returns : goal.returns
 returns g c =
-    let setting = setting_of c.args.devices.now c.args.bounds in
+    let limits = limits_of c.args.devices.now c.args.bounds in
     let old = g.S.Store.record_of c.args.store.now in
     let mid = g.S.Store.record_of c.count.new.store in
     let f = c.args.frame.now in
     let fs = under old.present in
     let words = map view.word c.args.words.now in
     let counted = subst (λ (b : Bool). IsCounted c.args.bounds b old mid) c.if-not-counted.false c.in_ok-counted.ensures in
-    let found = subst (λ (o : Option (Vec (Vec ℕ Global) Global)). IsExpanded o (fields (setting_at mid.present) words)) c.in-Some.is c.in_ok-fields.ensures in
+    let found = subst (λ (o : Option (Vec (Vec ℕ Global) Global)). IsExpanded o (fields (parameters_at mid.present) words)) c.in-Some.is c.in_ok-fields.ensures in
     let late = g.S.Store.record_of c.advance.new.self in
     let new = g.S.Store.record_of c.run_fields.new.store in
     let adv = c.in_ok-advance.ensures.ok in
@@ -44,8 +44,8 @@ returns g c =
     let script = view.script c.script.result.now.value in
     let place_is = c.behind.ensures ∙ ap (λ (x : At). place x.list (suc x.command) 0 0) c.at.ensures in
     let frames_are : late.present.frames ≡ behind f ∷ fs = ap (λ (r : Record). r.present.frames) adv ∙ ap (λ (r : Record). moved c.behind.result r.present.frames) counted.1 ∙ behind_top f old c.behind.result c.requires.top place_is in
-    comes_with setting old mid words (λ found. place_fields setting found f.script (behind f ∷ fs)) counted.0 counted.1 c.run_fields.result late new list (place_fields setting list script late.present.frames) found.0 found.1
+    comes_with limits old mid words (λ found. place_fields limits found f.script (behind f ∷ fs)) counted.0 counted.1 c.run_fields.result late new list (place_fields limits list script late.present.frames) found.0 found.1
     (λ w. ap (λ (r : Record). state_at r.present w) adv)
     (subst (λ (r : Record). Keeps mid r) (sym adv) (keeps_change (with_place c.behind.result) mid refl))
-    (λ s. ap (λ (x : Script). place_fields setting list x late.present.frames s) c.script.ensures ∙ ap (λ (x : List RunningFrame). place_fields setting list f.script x s) frames_are)
+    (λ s. ap (λ (x : Script). place_fields limits list x late.present.frames s) c.script.ensures ∙ ap (λ (x : List RunningFrame). place_fields limits list f.script x s) frames_are)
     c.run_fields.ensures

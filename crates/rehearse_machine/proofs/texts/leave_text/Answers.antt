@@ -1,7 +1,7 @@
 use Rattle.std.proofs.Common.{ap, sym, ◌∙◌, refl, subst, ℕ}
 use Rattle.bootstore.specs.Record.{Record, without_frame}
 use Rattle.rehearse.specs.Execution.{End}
-use Rattle.rehearse_machine.specs.Seen.{Keeps}
+use Rattle.rehearse_machine.specs.MovesShown.{Keeps}
 use Rattle.rehearse_machine.proofs.Coming.{keeps_both, keeps_change}
 use Rattle.rehearse.specs.State.{State, state_at}
 use Rattle.rehearse_machine.specs.Places.{left, to_run, StopOn}

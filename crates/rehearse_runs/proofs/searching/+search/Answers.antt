@@ -25,7 +25,7 @@ returns-in_ok-next-in-Asks-clause-ok g t c =
     let a = asked_here task c.args.digits.now.items c.args.stop r.present c.in-Asks.is c.requires.stopped in
     let m = c.in_ok-mark-in-Asks.ensures.ok in
     let b = rw m at c.in_ok-next-in-Asks.ensures.begun in
-    all_more c.search.result task (outcomes c.args.digits.now.items) (outcomes c.push.new.self.items) (outcomes c.search.new.digits.items) r (g.S.Store.record_of c.resume.new.store) (g.S.Store.record_of c.search.new.store) (a.first ∙ ap (λ (ds : List ℕ). first_from (kind task) task.setting.device_bound (outcomes ds)) (sym c.push.ensures)) b (rw m at c.in_ok-next-in-Asks.ensures.grows) c.search.ensures.ok
+    all_more c.search.result task (outcomes c.args.digits.now.items) (outcomes c.push.new.self.items) (outcomes c.search.new.digits.items) r (g.S.Store.record_of c.resume.new.store) (g.S.Store.record_of c.search.new.store) (a.first ∙ ap (λ (ds : List ℕ). first_from (kind task) task.limits.device_bound (outcomes ds)) (sym c.push.ensures)) b (rw m at c.in_ok-next-in-Asks.ensures.grows) c.search.ensures.ok
 
 pub search-requires : goal.search-requires
 search-requires g t c =

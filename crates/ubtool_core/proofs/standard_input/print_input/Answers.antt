@@ -3,7 +3,7 @@ use Rattle.std.proofs.lemmas.Result.{err_from_is_err_and}
 use Rattle.std.specs.Prelude.{IfErr}
 use Rattle.envimage.specs.declared.image.ByteOrder.TheVariants.{Little}
 use Rattle.ubtool_core.specs.Input.{RefusesInput}
-use Rattle.ubtool_core.specs.Printing.{Outputs, Prints, PrintsAll, environment_in, outputs}
+use Rattle.ubtool_core.specs.PrintingImages.{Outputs, Prints, PrintsAll, environment_in, outputs}
 use Rattle.ubtool_core.specs.declared.fault.Fault.{Fault}
 use Rattle.ubtool_core.specs.declared.fault.Fault.TheVariants.{Tool}
 use Rattle.ubtool_core.proofs.InputLemmas.{input-printed, input-refused}

@@ -4,7 +4,7 @@ use Rattle.ubtool_core.proofs.ToldLemmas.{IfTold-then}
 use Rattle.ubtool_core.specs.Told.{IfTold}
 use Rattle.ubtool_core.specs.declared.fault.Fault.{Fault}
 use Rattle.ubtool_run.specs.Images.{copies}
-use Rattle.ubtool_run.specs.Rehearsing.{RehearsesCopies, RehearsesFrom, rehearsal_of}
+use Rattle.ubtool_run.specs.RehearsingFiles.{RehearsesCopies, RehearsesFrom, rehearsal_of}
 use Rattle.ubtool_run.proofs.RehearseLemmas.{rehearses-refused, rehearses-unlisted}
 use Rattle.ubtool_run.proofs.rehearsing.rehearse.Goals as goal
 

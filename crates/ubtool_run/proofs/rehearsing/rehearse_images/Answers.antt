@@ -3,7 +3,7 @@ use Rattle.std.specs.Borrow.{Bor}
 use Rattle.std.specs.Option.{option_copied}
 use Rattle.bootstore.specs.Moment.{option_bytes}
 use Rattle.ubtool_core.specs.Given.{Given}
-use Rattle.ubtool_run.specs.Rehearsing.{RehearsesCopies}
+use Rattle.ubtool_run.specs.RehearsingFiles.{RehearsesCopies}
 use Rattle.ubtool_run.proofs.RehearseLemmas.{copies-rehearsed, given-copies, given_by}
 use Rattle.ubtool_run.proofs.rehearsing.rehearse_images.Goals as goal
 

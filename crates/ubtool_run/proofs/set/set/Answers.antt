@@ -7,7 +7,7 @@ use Rattle.ubtool_core.specs.declared.fault.Fault.{Fault}
 use Rattle.ubtool_run.proofs.ReadingLemmas.{then-three}
 use Rattle.ubtool_run.proofs.SetLemmas.{sets-refused, sets-written}
 use Rattle.ubtool_run.specs.Images.{copies}
-use Rattle.ubtool_run.specs.Setting.{Sets, WritesCopy}
+use Rattle.ubtool_run.specs.ChangingFiles.{Sets, WritesCopy}
 use Rattle.ubtool_run.proofs.set.set.Goals as goal
 
 pub returns-in_err-which-clause-told : goal.returns-in_err-which-clause-told

@@ -1,6 +1,6 @@
 use Rattle.std.proofs.Common.{map}
-use Rattle.ubtool_cli.specs.Answers.{Answers}
-use Rattle.ubtool_run.specs.Asking.{Does}
+use Rattle.ubtool_cli.specs.CommandAnswers.{Answers}
+use Rattle.ubtool_run.specs.Performing.{Does}
 use Rattle.ubtool_run.proofs.AskLemmas.{answer-complete}
 use Rattle.ubtool_run.proofs.RunLemmas.{status-done, status-refused}
 use Rattle.ubtool_run.proofs.tool.run_words.Goals as goal

@@ -1,5 +1,5 @@
 use Rattle.std.proofs.Common.{◌∙◌, ℕ, List, take, drop, sym, ap, arith, ◌-◌, length}
-use Rattle.hushlang.specs.Lexing.{parts_of}
+use Rattle.hushlang.specs.LexerShown.{parts_of}
 use Rattle.hushlang.proofs.Fronts.{gap_next, token_next}
 use Rattle.hushlang.proofs.lexer.Lexer.cut_token.Goals as goal
 

@@ -1,6 +1,6 @@
 use Rattle.std.proofs.Common.{◌≡◌, ◌≤◌, ◌-◌, None, length, drop}
-use Rattle.hushlang.specs.Reading.{lexed}
-use Rattle.hushlang.specs.Lexing.{tokens_to_come}
+use Rattle.hushlang.specs.Tokenizing.{lexed}
+use Rattle.hushlang.specs.LexerShown.{tokens_to_come}
 use Rattle.hushlang.proofs.lexer.Lexer.cut_token.Given as goal
 
 abbrev pub invariant-fronts : goal.invariant-fronts

@@ -4,7 +4,7 @@ use Rattle.std.specs.Prelude.{ℕ, zero, suc, ◌+◌, ◌-◌, Bool, true, fals
 use Rattle.std.specs.List.{prefix_len}
 use Rattle.text.specs.Bytes as ascii
 use Rattle.text.specs.Words.{is_space}
-use Rattle.hushlang.specs.Bytes.{is_separator, begins_name, is_name_byte, is_brace_byte, is_escapable, begins}
+use Rattle.hushlang.specs.ByteClasses.{is_separator, begins_name, is_name_byte, is_brace_byte, is_escapable, begins}
 use Rattle.hushlang.specs.Token.{Part, Plain, Kept, Mark, Var, Status, Token, sign, word, End, Whole, Refused}
 use Rattle.hushlang.specs.Spelling.{dollar_itself}
 use Rattle.hushlang.specs.declared.parts.Mode.{Mode}

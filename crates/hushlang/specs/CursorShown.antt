@@ -4,11 +4,11 @@ use Rattle.std.specs.declared.alloc.Global.{Global}
 use Rattle.std.specs.declared.vec.Vec.{Vec}
 use Rattle.hushlang.specs.Token as spec
 use Rattle.hushlang.specs.Token.{End, Whole, Refused}
-use Rattle.hushlang.specs.Reading.{Lexed, lexed}
-use Rattle.hushlang.specs.Lexing.{Coming, tokens_to_come, token_of, parts_in, parts_of, IsCut}
+use Rattle.hushlang.specs.Tokenizing.{Lexed, lexed}
+use Rattle.hushlang.specs.LexerShown.{Coming, tokens_to_come, token_of, parts_in, parts_of, IsCut}
 use Rattle.hushlang.specs.Grammar.{assignment, reserved_of}
 use Rattle.hushlang.specs.declared.token.SyntaxError.TheVariants.{AssignmentBeforeCommand}
-use Rattle.hushlang.specs.Cutting.{Place, to_come}
+use Rattle.hushlang.specs.CuttersShown.{Place, to_come}
 use Rattle.hushlang.specs.Parsing.{Input}
 use Rattle.hushlang.specs.declared.token.Token.{Token}
 use Rattle.hushlang.specs.declared.token.SyntaxError.{SyntaxError}

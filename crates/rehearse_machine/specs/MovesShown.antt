@@ -4,30 +4,30 @@ use Rattle.bootstore.specs.Moment.{Moment, RunningFrame, bytes_of_words}
 use Rattle.bootstore.specs.Record.{Record, without_first, stepped}
 use Rattle.std.specs.declared.alloc.Global.{Global}
 use Rattle.hushlang.specs.Expansion.{size, most_bytes}
-use Rattle.rehearse.specs.Outcomes.{Word}
+use Rattle.rehearse.specs.Outcomes.{OutcomeWord}
 use Rattle.bootstore.specs.declared.store.StoreError.{StoreError}
 use Rattle.rehearse.specs.State.{Text, Memory, State, state_at}
 use Rattle.rehearse.specs.DeviceList.{Devices}
 use Rattle.rehearse.specs.CommandsShown.{lent_effect}
 use Rattle.rehearse.specs.Bounds.{BoundsShown}
-use Rattle.rehearse.specs.Execution.{Setting, Request, remember}
+use Rattle.rehearse.specs.Execution.{Limits, Request, remember}
 use Rattle.rehearse_machine.specs.Places.{PlaceNext, GoOn, AskOn, StopOn}
-use Rattle.rehearse_machine.specs.Halted.{halt_shown}
+use Rattle.rehearse_machine.specs.EndingsShown.{halt_shown}
 use Rattle.rehearse_machine.specs.declared.ask.Ask.{Ask}
 use Rattle.rehearse_machine.specs.declared.ask.Step.{Step}
 use Rattle.rehearse_machine.specs.declared.ask.Step.TheVariants as steps
 
-abbrev pub request_seen : Ask → Request
-request_seen ask = record { name = ask.name.items; words = bytes_of_words ask.words.items; effect = lent_effect ask.effect }
+abbrev pub request_shown : Ask → Request
+request_shown ask = record { name = ask.name.items; words = bytes_of_words ask.words.items; effect = lent_effect ask.effect }
 
 -- a move that has come to a moment
-abbrev pub next_seen : Step → Moment → Word → PlaceNext
-next_seen steps.Going m w = GoOn m.frames (state_at m w)
-next_seen (steps.Asks ask) m w = AskOn (request_seen ask) m.frames (state_at m w)
-next_seen (steps.Ends halt) m w = StopOn (halt_shown halt) (state_at m w)
+abbrev pub next_shown : Step → Moment → OutcomeWord → PlaceNext
+next_shown steps.Going m w = GoOn m.frames (state_at m w)
+next_shown (steps.Asks ask) m w = AskOn (request_shown ask) m.frames (state_at m w)
+next_shown (steps.Ends halt) m w = StopOn (halt_shown halt) (state_at m w)
 
-abbrev pub setting_of : Devices → BoundsShown → Setting
-setting_of devices bounds = record { devices = devices; device_bound = bounds.devices; step_bound = bounds.steps }
+abbrev pub limits_of : Devices → BoundsShown → Limits
+limits_of devices bounds = record { devices = devices; device_bound = bounds.devices; step_bound = bounds.steps }
 
 -- the frames under the innermost
 abbrev pub under : Moment → List RunningFrame
@@ -44,7 +44,7 @@ pub record Keeps (old new : Record) : Type 0 where
 
 -- a move from old to new that does this to the state
 abbrev pub Does : Step → Record → Record → (State → PlaceNext) → Type 0
-Does step old new next = ((w : Word) → next_seen step new.present w ≡ next (state_at old.present w)) × Keeps old new
+Does step old new next = ((w : OutcomeWord) → next_shown step new.present w ≡ next (state_at old.present w)) × Keeps old new
 
 -- where there was memory
 abbrev pub Comes : Result Step StoreError → Record → Record → (State → PlaceNext) → Type 0
@@ -53,7 +53,7 @@ Comes (Err e) old new next = Unit {0}
 
 -- a change of what a script reads and writes
 abbrev pub Changes : Record → Record → (Memory → Memory) → Type 0
-Changes old new change = ((w : Word) → state_at new.present w ≡ remember change (state_at old.present w)) × (new.present.frames ≡ old.present.frames) × Keeps old new
+Changes old new change = ((w : OutcomeWord) → state_at new.present w ≡ remember change (state_at old.present w)) × (new.present.frames ≡ old.present.frames) × Keeps old new
 
 abbrev pub Changed : Result (Unit {0}) StoreError → Record → Record → (Memory → Memory) → Type 0
 Changed (Ok done) old new change = Changes old new change

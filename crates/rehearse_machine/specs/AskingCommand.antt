@@ -4,8 +4,8 @@ use Rattle.hushlang.specs.Tree as tree
 use Rattle.hushlang.specs.Tree.{Command}
 use Rattle.hushlang.specs.Expansion.{fields}
 use Rattle.bootstore.specs.Moment.{RunningFrame}
-use Rattle.rehearse.specs.State.{State, setting_in}
-use Rattle.rehearse.specs.Execution.{Setting, End}
+use Rattle.rehearse.specs.State.{State, parameters_in}
+use Rattle.rehearse.specs.Execution.{Limits, End}
 use Rattle.rehearse_machine.specs.Places.{PlaceNext, GoOn, AskOn, StopOn, list_at, command_at, place_fitting, place_fields}
 
 -- the command in front of the place of a frame
@@ -26,17 +26,17 @@ abbrev pub words_in_front : RunningFrame → Option (List tree.Word)
 words_in_front f = words_of (command_in_front f.place.command f)
 
 -- what the words of a simple command that has begun come to
-abbrev pub fields_again : Setting → Option (List tree.Word) → RunningFrame → List RunningFrame → State → PlaceNext
-fields_again setting None f fs s = StopOn (End s.memory.status) s
-fields_again setting (Some words) f fs s = place_fitting (fields (setting_in s.memory) words) (λ found. place_fields setting found f.script (f ∷ fs)) s
+abbrev pub fields_again : Limits → Option (List tree.Word) → RunningFrame → List RunningFrame → State → PlaceNext
+fields_again limits None f fs s = StopOn (End s.memory.status) s
+fields_again limits (Some words) f fs s = place_fitting (fields (parameters_in s.memory) words) (λ found. place_fields limits found f.script (f ∷ fs)) s
 
 -- the command that the innermost frame stands behind, found again: a device command that asks, if it is one
-abbrev pub found_again : Setting → List RunningFrame → State → PlaceNext
-found_again setting [] s = StopOn (End s.memory.status) s
-found_again setting (f ∷ fs) s = fields_again setting (words_in_front f) f fs s
+abbrev pub found_again : Limits → List RunningFrame → State → PlaceNext
+found_again limits [] s = StopOn (End s.memory.status) s
+found_again limits (f ∷ fs) s = fields_again limits (words_in_front f) f fs s
 
 -- where a command asks, it is found again
-abbrev pub AsksAgain : Setting → PlaceNext → Type 0
-AsksAgain setting (GoOn fs s) = Unit {0}
-AsksAgain setting (AskOn request fs s) = found_again setting fs s ≡ AskOn request fs s
-AsksAgain setting (StopOn ending s) = Unit {0}
+abbrev pub AsksAgain : Limits → PlaceNext → Type 0
+AsksAgain limits (GoOn fs s) = Unit {0}
+AsksAgain limits (AskOn request fs s) = found_again limits fs s ≡ AskOn request fs s
+AsksAgain limits (StopOn ending s) = Unit {0}

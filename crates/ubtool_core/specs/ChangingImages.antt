@@ -3,7 +3,7 @@ use Rattle.std.specs.Prelude.{◌≡◌, ◌⊎◌, ℕ, nat_lt, not, true, List
 use Rattle.std.specs.declared.alloc.Global.{Global}
 use Rattle.envimage.specs.Data.{Pair, pairs_of}
 use Rattle.envimage.specs.Encoding.{needed}
-use Rattle.envimage.specs.Image.{Shown, is_right, load_of}
+use Rattle.envimage.specs.Image.{LoadedShown, is_right, load_of}
 use Rattle.envimage.specs.declared.image.ByteOrder.{ByteOrder}
 use Rattle.envimage.specs.declared.image.ImageError.{ImageError}
 use Rattle.envimage.specs.declared.image.ImageError.TheVariants.{TooLarge}
@@ -38,16 +38,16 @@ edited env (edit.One name words) = one_edited env name.now (map (λ w. w.now) wo
 edited env (edit.Script text) = all_edited (scripted env text.now)
 
 -- which copy is written, and its bytes
-abbrev pub written : Shown → List Pair → Result (Which × List ℕ) ToolError
+abbrev pub written : LoadedShown → List Pair → Result (Which × List ℕ) ToolError
 written loaded env =
     if nat_lt (size_of loaded) (needed (next_flag loaded.flag) env) then Err (Image TooLarge)
     else Ok (copy_to_write loaded, saved_image env loaded)
 
-abbrev pub then_written : Shown → Result (List Pair) ToolError → Result (Which × List ℕ) ToolError
+abbrev pub then_written : LoadedShown → Result (List Pair) ToolError → Result (Which × List ℕ) ToolError
 then_written loaded (Ok env) = written loaded env
 then_written loaded (Err e) = Err e
 
-abbrev pub then_edited : Edit → Result Shown ImageError → Result (Which × List ℕ) ToolError
+abbrev pub then_edited : Edit → Result LoadedShown ImageError → Result (Which × List ℕ) ToolError
 then_edited change (Ok loaded) = then_written loaded (edited (env_of (pairs_of loaded.body)) change)
 then_edited change (Err e) = Err (Image e)
 
@@ -64,13 +64,13 @@ Edits old change new (Err (Script e)) = edited old change ≡ Err (Script e)
 Edits old change new (Err Memory) = Unit {0}
 Edits old change new (Err _) = ⊥
 
-abbrev pub Answers : Result Shown ImageError → Result (Which × List ℕ) ToolError →
+abbrev pub Answers : Result LoadedShown ImageError → Result (Which × List ℕ) ToolError →
     Result (Which × Vec ℕ Global) ToolError → Type 0
 Answers loaded answer (Ok w) = answer ≡ Ok (w.0, w.1.items)
 Answers loaded answer (Err (Image e)) = answer ≡ Err (Image e)
 Answers loaded answer (Err (Env e)) = answer ≡ Err (Env e)
 Answers loaded answer (Err (Script e)) = answer ≡ Err (Script e)
-Answers loaded answer (Err Memory) = (s : Shown) × (loaded ≡ Ok s)
+Answers loaded answer (Err Memory) = (s : LoadedShown) × (loaded ≡ Ok s)
 Answers loaded answer (Err _) = ⊥
 
 -- ---- a write that was broken off

@@ -9,7 +9,7 @@ use Rattle.envimage.specs.declared.image.Which.TheVariants.{First, Second}
 use Rattle.ubtool_cli.specs.declared.ask.Change.{Change}
 use Rattle.ubtool_cli.specs.declared.ask.Change.TheVariants.{One, Script}
 use Rattle.ubtool_core.specs.Order.{OnlyReads}
-use Rattle.ubtool_core.specs.Setting.{IsSafe, set_of}
+use Rattle.ubtool_core.specs.ChangingImages.{IsSafe, set_of}
 use Rattle.ubtool_core.specs.Told.{Stored, Told, WritesAt, file_at}
 use Rattle.ubtool_core.specs.declared.change.Edit.{Edit}
 use Rattle.ubtool_core.specs.declared.change.Edit.TheVariants as edit
@@ -23,8 +23,8 @@ use Rattle.ubtool_core.specs.declared.files.Action.TheVariants.{ReadAll}
 use Rattle.ubtool_core.specs.declared.files.FileFault.{FileFault}
 use Rattle.ubtool_core.specs.declared.files.FileFault.TheVariants.{Failed}
 use Rattle.ubtool_run.specs.Images.{Copy, HasRead, IsImagesFault}
-use Rattle.ubtool_run.specs.Printing.{first_bytes, second_bytes}
-use Rattle.ubtool_run.specs.Reading.{IsTextFault}
+use Rattle.ubtool_run.specs.PrintingFiles.{first_bytes, second_bytes}
+use Rattle.ubtool_run.specs.ReadingFiles.{IsTextFault}
 
 -- which copy is written after an edit, and its bytes, or the refusal
 abbrev pub edited : ByteOrder → List Copy → Edit → Result (Which × List ℕ) ToolError

@@ -18,8 +18,8 @@ use Rattle.ubtool_core.specs.declared.fault.Fault.{Fault}
 use Rattle.ubtool_core.specs.declared.fault.Fault.TheVariants.{NoSuchVariable, NotARun, Tool}
 use Rattle.ubtool_core.specs.declared.files.Action.TheVariants.{ReadAll}
 use Rattle.ubtool_run.specs.Images.{Copy, HasRead, IsImagesFault}
-use Rattle.ubtool_run.specs.Printing.{first_bytes, second_bytes}
-use Rattle.ubtool_run.specs.Reading.{IsTextFault, Reads}
+use Rattle.ubtool_run.specs.PrintingFiles.{first_bytes, second_bytes}
+use Rattle.ubtool_run.specs.ReadingFiles.{IsTextFault, Reads}
 
 -- what a rehearsal is given: the bytes of these copies, the text of the device list, and what the words ask for
 abbrev pub rehearsal_of : ByteOrder → List Copy → (device_list : List ℕ) → RehearseAsk → Given

@@ -7,14 +7,14 @@ use Rattle.ubtool_cli.specs.declared.ask.Ask.{Ask}
 use Rattle.ubtool_cli.specs.declared.ask.Ask.TheVariants.{Help, Print, Rehearse, Setenv, Version}
 use Rattle.ubtool_cli.specs.declared.ask.Change.{Change}
 use Rattle.ubtool_cli.specs.declared.ask.TheConstants.{VERSION}
-use Rattle.ubtool_core.specs.Printing.{AreUnchanged, Outputs}
+use Rattle.ubtool_core.specs.PrintingImages.{AreUnchanged, Outputs}
 use Rattle.ubtool_core.specs.Told.{IfTold, Told}
 use Rattle.ubtool_core.specs.declared.error.ToolError.TheVariants.{Write}
 use Rattle.ubtool_core.specs.declared.fault.Fault.{Fault}
 use Rattle.ubtool_core.specs.declared.fault.Fault.TheVariants.{Tool}
-use Rattle.ubtool_run.specs.Printing.{LeavesOutputs, PrintsFrom}
-use Rattle.ubtool_run.specs.Rehearsing.{LeavesOutput, RehearsesFrom}
-use Rattle.ubtool_run.specs.Setting.{Sets}
+use Rattle.ubtool_run.specs.PrintingFiles.{LeavesOutputs, PrintsFrom}
+use Rattle.ubtool_run.specs.RehearsingFiles.{LeavesOutput, RehearsesFrom}
+use Rattle.ubtool_run.specs.ChangingFiles.{Sets}
 
 -- a value without its name is asked for of one name
 abbrev pub IsComplete : Ask → Type 0

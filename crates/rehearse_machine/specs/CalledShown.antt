@@ -10,7 +10,7 @@ use Rattle.rehearse_machine.specs.declared.commands.Called.TheVariants as names
 abbrev pub builtin_called : Builtin → says.Called
 builtin_called builtin = says.BuiltIn (builtin_shown builtin)
 
-abbrev pub called_seen : Called → says.Called
-called_seen (names.BuiltIn builtin) = builtin_called builtin
-called_seen (names.Device effect) = says.Device (lent_effect effect)
-called_seen names.NoCommand = says.NoCommand
+abbrev pub called_shown : Called → says.Called
+called_shown (names.BuiltIn builtin) = builtin_called builtin
+called_shown (names.Device effect) = says.Device (lent_effect effect)
+called_shown names.NoCommand = says.NoCommand

@@ -1,7 +1,7 @@
 -- What printing an image writes and answers.
 use Rattle.std.specs.Prelude.{◌≡◌, ℕ, Bool, List, Option, Result, Ok, Err}
 use Rattle.envimage.specs.Data.{Pair, pairs_of}
-use Rattle.envimage.specs.Image.{Shown, load_of}
+use Rattle.envimage.specs.Image.{LoadedShown, load_of}
 use Rattle.envimage.specs.Sink.{Sink, Wrote}
 use Rattle.envimage.specs.declared.image.ByteOrder.{ByteOrder}
 use Rattle.envimage.specs.declared.image.ImageError.{ImageError}
@@ -14,7 +14,7 @@ use Rattle.ubtool_core.specs.declared.error.ToolError.TheVariants.{Image, Write,
 abbrev pub environment_in : ByteOrder → List ℕ → Option (List ℕ) → Result (List Pair) ImageError
 environment_in order first second = environment (load_of order first second)
   where
-    environment : Result Shown ImageError → Result (List Pair) ImageError
+    environment : Result LoadedShown ImageError → Result (List Pair) ImageError
     environment (Ok shown) = Ok (env_of (pairs_of shown.body))
     environment (Err e) = Err e
 

@@ -7,5 +7,5 @@ use Rattle.rehearse.specs.Verdict.{Text, Term}
 abbrev pub texts : List (Vec ℕ Global) → List Text
 texts = map (λ word. word.items)
 
-abbrev pub term_seen : Option (Bool × Bor (List (Vec ℕ Global))) → Term
-term_seen = option_map (λ t. (t.0, texts t.1.now))
+abbrev pub term_shown : Option (Bool × Bor (List (Vec ℕ Global))) → Term
+term_shown = option_map (λ t. (t.0, texts t.1.now))

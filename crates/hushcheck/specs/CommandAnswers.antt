@@ -7,7 +7,7 @@ use Rattle.hushcheck.specs.Asked.{Asked, asked_of}
 use Rattle.hushcheck.specs.CommandLine.{hushcheck}
 use Rattle.hushcheck.specs.declared.ask.Ask.{Ask}
 use Rattle.hushcheck.specs.declared.ask.Ask.TheVariants.{Check, Help, Version}
-use Rattle.ubtool_cli.specs.Answers.{IsAccepted, IsMistaken}
+use Rattle.ubtool_cli.specs.CommandAnswers.{IsAccepted, IsMistaken}
 use Rattle.ubtool_cli.specs.declared.ask.UseError.{UseError}
 use Rattle.ubtool_cli.specs.declared.ask.UseError.TheVariants.{Line, Memory}
 

@@ -1,11 +1,11 @@
 -- What a lexer shows, and what a step of it gives.
-use Rattle.hushlang.specs.Bytes.{is_separator}
+use Rattle.hushlang.specs.ByteClasses.{is_separator}
 use Rattle.hushlang.specs.Spelling.{Spells, may_begin_word}
 use Rattle.std.specs.Prelude.{◌≡◌, true, false, ℕ, suc, ◌+◌, ◌-◌, ◌<◌, ◌≤◌, List, [], ◌∷◌, drop, take, length, Option, Some, None, Result, Ok, Err}
 use Rattle.hushlang.specs.Token as spec
 use Rattle.hushlang.specs.Token.{Part, End, Whole, Refused}
-use Rattle.hushlang.specs.Reading as reading
-use Rattle.hushlang.specs.Reading.{Seen, Takes, Refuses, row, Lexed, lexed, Gap, Sees, Stops}
+use Rattle.hushlang.specs.Tokenizing as reading
+use Rattle.hushlang.specs.Tokenizing.{Seen, Takes, Refuses, row, Lexed, lexed, Gap, Sees, Stops}
 use Rattle.hushlang.specs.declared.parts.Mode.TheVariants.{Bare}
 use Rattle.hushlang.specs.declared.token.Token.{Token}
 use Rattle.hushlang.specs.declared.token.SyntaxError.{SyntaxError}
@@ -70,10 +70,10 @@ SpellsNext old (Ok None) new = StillSpells old [] Whole × StillSpells new [] Wh
 SpellsNext old (Err error) new = StillSpells old [] (Refused error) × StillSpells new [] (Refused error)
 
 -- what stands at a place, as the program says it: with the place where it stops
-abbrev pub shown : ℕ → reading.Front → Result Front SyntaxError
-shown at (Gap skip) = Ok (code.Gap (at + suc skip))
-shown at (Sees token skip) = Ok (code.Token token.kind (at + suc skip))
-shown at (Stops error) = Err error
+abbrev pub front_shown : ℕ → reading.Front → Result Front SyntaxError
+front_shown at (Gap skip) = Ok (code.Gap (at + suc skip))
+front_shown at (Sees token skip) = Ok (code.Token token.kind (at + suc skip))
+front_shown at (Stops error) = Err error
 
 -- it goes on, and not beyond the text
 abbrev pub GoesOn : ℕ → ℕ → Result Front SyntaxError → Type 0

@@ -1,8 +1,8 @@
 -- What the cutters of the program show, and what a step of them gives.
 use Rattle.std.specs.Prelude.{◌≡◌, ℕ, ◌<◌, ◌≤◌, List, [], ◌∷◌, length, drop, Option, Some, None, Result, Ok, Err}
 use Rattle.hushlang.specs.Token as spec
-use Rattle.hushlang.specs.Reading as reading
-use Rattle.hushlang.specs.Reading.{Goes, Vanishes, Ends, Fails, Seen, Takes, Refuses, in_front, row}
+use Rattle.hushlang.specs.Tokenizing as reading
+use Rattle.hushlang.specs.Tokenizing.{Goes, Vanishes, Ends, Fails, Seen, Takes, Refuses, in_front, row}
 use Rattle.hushlang.specs.declared.parts.Mode.{Mode}
 use Rattle.hushlang.specs.declared.token.SyntaxError.{SyntaxError}
 use Rattle.hushlang.specs.declared.parts.Part.{Part}

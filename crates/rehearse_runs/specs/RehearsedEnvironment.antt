@@ -3,11 +3,11 @@ use Rattle.std.specs.Prelude.{◌≡◌, ◌⊎◌, ◌++◌, false, List, map, 
 use Rattle.std.specs.List.{flat_map}
 use Rattle.bootstore.specs.Moment.{option_bytes}
 use Rattle.envimage.specs.Sink.{Sink, Wrote, BrokeOff}
-use Rattle.rehearse.specs.Outcomes.{Word, Run}
+use Rattle.rehearse.specs.Outcomes.{OutcomeWord, Run}
 use Rattle.rehearse.specs.State.{Text}
 use Rattle.rehearse.specs.DeviceList.{Devices, listed}
 use Rattle.rehearse.specs.Runs.{Task, kind, runs, rest}
-use Rattle.rehearse.specs.Listing.{digit_of, record_of, listing, shown}
+use Rattle.rehearse.specs.Listing.{digit_of, record_of, listing, words_listed}
 use Rattle.rehearse_runs.specs.RunsShown.{RunsShown}
 use Rattle.rehearse_machine.specs.Tasks.{task_shown, task_set}
 use Rattle.rehearse.specs.Bounds.{BoundsShown}
@@ -27,13 +27,13 @@ abbrev pub names_of : Ask → List Text
 names_of ask = map (λ n. n.now) ask.names.now
 
 -- all runs, or those behind the run whose digits these are
-abbrev pub AreToCome : Task → (start : Option Text) → List Word → Type 0
+abbrev pub AreToCome : Task → (start : Option Text) → List OutcomeWord → Type 0
 AreToCome task None ws = ws ≡ runs task
-AreToCome task (Some text) ws = (w : Word) × (text ≡ map digit_of w) × (kind task w ≡ Run) × (ws ≡ rest task w)
+AreToCome task (Some text) ws = (w : OutcomeWord) × (text ≡ map digit_of w) × (kind task w ≡ Run) × (ws ≡ rest task w)
 
 -- what is rehearsed: the commands of the device list, the variable's text, and the words to come
 pub record Rehearsed (environment : List (Text × Text)) (devices_text : Text) (ask : Ask) (task : Task)
-    (words : List Word) : Type 0 where
+    (words : List OutcomeWord) : Type 0 where
   pub devices : Devices
   pub listed_as : listed devices_text ≡ Ok devices
   pub task_is : task_set environment devices ask.name.now ask.bounds ≡ Some task
@@ -43,7 +43,7 @@ pub record Rehearsed (environment : List (Text × Text)) (devices_text : Text) (
 pub record Rehearses (environment : List (Text × Text)) (devices_text : Text) (ask : Ask) (old new : Sink)
     (finish : Finish) : Type 0 where
   pub task : Task
-  pub words : List Word
+  pub words : List OutcomeWord
   pub rehearsed : Rehearsed environment devices_text ask task words
   pub wrote : Wrote old new (listing (record_of task (names_of ask)) words ask.limit)
   pub finish_is : finish ≡ finish_of words ask.limit
@@ -72,7 +72,7 @@ pub record LacksStart (environment : List (Text × Text)) (devices_text : Text) 
 pub record BreaksOff (environment : List (Text × Text)) (devices_text : Text) (ask : Ask) (old new : Sink) : Type 0
   where
     pub task : Task
-    pub words : List Word
+    pub words : List OutcomeWord
     pub rehearsed : Rehearsed environment devices_text ask task words
     pub broke : BrokeOff old new (listing (record_of task (names_of ask)) words ask.limit)
 
@@ -80,11 +80,11 @@ pub record BreaksOff (environment : List (Text × Text)) (devices_text : Text) (
 pub record LacksMemory (environment : List (Text × Text)) (devices_text : Text) (ask : Ask) (old new : Sink) : Type 0
   where
     pub task : Task
-    pub words : List Word
+    pub words : List OutcomeWord
     pub rehearsed : Rehearsed environment devices_text ask task words
-    pub front : List Word
-    pub left : List Word
-    pub parts : shown words ask.limit ≡ front ++ left
+    pub front : List OutcomeWord
+    pub left : List OutcomeWord
+    pub parts : words_listed words ask.limit ≡ front ++ left
     pub wrote : Wrote old new (flat_map (record_of task (names_of ask)) front)
 
 abbrev pub RefusesAsk : List (Text × Text) → Text → Ask → (old new : Sink) → RehearseError → Type 0
