@@ -1,5 +1,5 @@
 #!/bin/sh
-# growths.sh PROGRAM: runs a built program, as crates/growth_store/out/growth_store, once for each growth of memory
+# growths.sh PROGRAM: runs a built program, as crates/test_growths_store/out/test_growths_store, once for each growth of memory
 # that it makes, with that one growth refused, until a run meets no refusal. The program prints a line NAME:STATE
 # for the beginning and after each change, and a line `refused NAME:STATE` after a change that was refused, which it
 # then makes again. So, of each run:

@@ -7,23 +7,23 @@ mod change;
 mod print;
 
 use bootstore::{Plain, Store, Trail};
-use change::{ROW, Setting, make};
+use change::{Parts, ROW, make};
 use print::print_state;
 use std::io;
 
 /// Makes the row of changes on a store.
-fn run_row<S: Store>(rt: &impl Print, setting: &Setting, mut store: S) -> io::Result<()> {
+fn run_row<S: Store>(rt: &impl Print, parts: &Parts, mut store: S) -> io::Result<()> {
     print!(rt; "New:")?;
     print_state(rt, &store)?;
     for change in ROW {
-        let mut made = make(setting, &mut store, change);
+        let mut made = make(parts, &mut store, change);
         for _ in 0..2 {
             if made.is_ok() {
                 break;
             }
             print!(rt; "refused {change:?}:")?;
             print_state(rt, &store)?;
-            made = make(setting, &mut store, change);
+            made = make(parts, &mut store, change);
         }
         if made.is_err() {
             return println!(rt; "given up");
@@ -35,11 +35,11 @@ fn run_row<S: Store>(rt: &impl Print, setting: &Setting, mut store: S) -> io::Re
 }
 
 fn main(rt: HostRuntime) -> io::Result<()> {
-    let Ok(setting) = Setting::new(rt.alloc()) else {
+    let Ok(parts) = Parts::new(rt.alloc()) else {
         return println!(rt; "no memory to begin with");
     };
     println!(rt; "plain")?;
-    run_row(&rt, &setting, Plain::new(rt.alloc()))?;
+    run_row(&rt, &parts, Plain::new(rt.alloc()))?;
     println!(rt; "trail")?;
-    run_row(&rt, &setting, Trail::new(rt.alloc()))
+    run_row(&rt, &parts, Trail::new(rt.alloc()))
 }

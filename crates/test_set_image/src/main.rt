@@ -1,7 +1,7 @@
 //! Changes one variable of an image in a file, or of a pair in two files, as `set_bytes` does, for
 //! the comparisons with other tools. Not installed.
 //!
-//! `set_image little|big FIRST SECOND NAME WORD..`, where SECOND is `-` for a single image.
+//! `test_set_image little|big FIRST SECOND NAME WORD..`, where SECOND is `-` for a single image.
 #![tactic(auto)]
 
 use envimage::{ByteOrder, SIZE_MAX, Which};

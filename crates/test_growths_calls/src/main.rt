@@ -1,4 +1,4 @@
-//! Makes the calls that `growth_store` and `growth_rehearse` leave out, and prints the variables of an environment after
+//! Makes the calls that `test_growths_store` and `test_growths_rehearse` leave out, and prints the variables of an environment after
 //! each. Where a call is refused it prints those that are left, and makes the call again. Run under tools/growths.sh,
 //! which refuses one growth of memory after another.
 #![tactic(auto)]

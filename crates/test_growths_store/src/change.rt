@@ -66,22 +66,22 @@ pub const ROW: [Change; 34] = [
 
 /// What the changes take: an environment and a script.
 #[derive(Drop)]
-pub struct Setting {
+pub struct Parts {
     alloc: Global,
     env: Env,
     script: Rc<Script>,
 }
 
-impl Setting {
+impl Parts {
     /// An environment of one variable, and a script without a command.
-    pub fn new(alloc: Global) -> Result<Setting, EnvError> {
+    pub fn new(alloc: Global) -> Result<Parts, EnvError> {
         let mut env = Env::new(alloc);
         env.set(b"b", b"0")?;
         let lists = Vec::new(alloc);
         let Ok(script) = Rc::new(alloc, Script { lists }) else {
             return Err(EnvError::Memory);
         };
-        Ok(Setting { alloc, env, script })
+        Ok(Parts { alloc, env, script })
     }
 
     fn entry(&self) -> Result<LogEntry, StoreError> {
@@ -105,9 +105,9 @@ impl Setting {
 }
 
 /// Makes a change. A step is counted only where it may be.
-pub fn make<S: Store>(setting: &Setting, store: &mut S, change: Change) -> Result<(), StoreError> {
+pub fn make<S: Store>(parts: &Parts, store: &mut S, change: Change) -> Result<(), StoreError> {
     match change {
-        Change::Start => store.start(&setting.env),
+        Change::Start => store.start(&parts.env),
         Change::Mark => store.mark(),
         Change::SetA => store.set_env(b"a", Some(b"1")),
         Change::DeleteA => store.set_env(b"a", None),
@@ -116,14 +116,14 @@ pub fn make<S: Store>(setting: &Setting, store: &mut S, change: Change) -> Resul
         Change::SetLocal => store.set_local(b"x", b"local"),
         Change::SetStatus => store.set_status(1),
         Change::Echo => store.echo(b"some text that was written "),
-        Change::Device => store.device(setting.entry()?),
+        Change::Device => store.device(parts.entry()?),
         Change::CountStep => {
             if store.steps() < 1_000_000 && store.begun() < 1_000_000 {
                 store.count_step()?;
             }
             Ok(())
         }
-        Change::Push => store.push(setting.frame()?),
+        Change::Push => store.push(parts.frame()?),
         Change::Advance => store.advance(At {
             list: 1,
             command: 2,
