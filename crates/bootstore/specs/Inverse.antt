@@ -23,7 +23,16 @@ undone (Touched below frame) m = record m { frames = frame ∷ outermost below m
 
 -- the moment with what a mark keeps itself
 abbrev pub at_mark : Marked → Moment → Moment
-at_mark mark m = record { environment = m.environment; locals = m.locals; status = mark.status; text = take mark.text m.text; log = take mark.log m.log; steps = mark.steps; frames = outermost mark.frames m.frames }
+at_mark mark m =
+    record {
+      environment = m.environment;
+      locals = m.locals;
+      status = mark.status;
+      text = take mark.text m.text;
+      log = take mark.log m.log;
+      steps = mark.steps;
+      frames = outermost mark.frames m.frames;
+    }
 
 -- the moments at the marks; what is kept is given from the last on
 abbrev pub marked_before : Moment → List Kept → List Moment
@@ -52,7 +61,9 @@ finds_its_place environment locals (Touched below frame) = true
 abbrev pub find_places : Names → Names → List Kept → Bool
 find_places environment locals [] = true
 find_places environment locals (Mark mark ∷ kept) = find_places environment locals kept
-find_places environment locals (Change inverse ∷ kept) = finds_its_place environment locals inverse && find_places (names_left inverse environment) (local_names_left inverse locals) kept
+find_places environment locals (Change inverse ∷ kept) =
+    finds_its_place environment locals inverse
+    && find_places (names_left inverse environment) (local_names_left inverse locals) kept
 
 -- the room that the frames need to come back
 abbrev pub room_for : Inverse → ℕ
@@ -97,7 +108,9 @@ leaves (Touched below frame) rest = nat_le rest (below + 1)
 
 abbrev pub nested : List Kept → Bool
 nested [] = true
-nested (Mark mark ∷ kept) = nat_le (text_reach kept) mark.text && nat_le (log_reach kept) mark.log && nat_eq (frame_reach kept) mark.before.untouched && nat_le mark.before.untouched mark.frames && nested kept
+nested (Mark mark ∷ kept) =
+    nat_le (text_reach kept) mark.text && nat_le (log_reach kept) mark.log
+    && nat_eq (frame_reach kept) mark.before.untouched && nat_le mark.before.untouched mark.frames && nested kept
 nested (Change inverse ∷ kept) = leaves inverse (frame_reach kept) && nested kept
 
 -- what was kept first is a mark, if anything is kept
@@ -151,7 +164,8 @@ is_of_local name (Touched below frame) = false
 abbrev pub stands_as : (Inverse → Bool) → ℕ → List Kept → Bool
 stands_as test count [] = false
 stands_as test count (Mark mark ∷ kept) = stands_as test count kept
-stands_as test count (Change inverse ∷ kept) = cond (nat_eq count (length kept + 1)) (test inverse) (stands_as test count kept)
+stands_as test count (Change inverse ∷ kept) =
+    cond (nat_eq count (length kept + 1)) (test inverse) (stands_as test count kept)
 
 -- 0 says that none is
 abbrev pub is_kept : (Inverse → Bool) → ℕ → List Kept → Bool

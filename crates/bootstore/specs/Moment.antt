@@ -1,5 +1,5 @@
--- What a run of a boot script is made of at a moment: the state of the script (U-Boot documentation, doc/usage/cmdline and
--- doc/usage/environment, on variables and `$?`), and what it still has to do (ours).
+-- What a run of a boot script is made of at a moment: the state of the script (U-Boot documentation,
+-- doc/usage/cmdline and doc/usage/environment, on variables and `$?`), and what it still has to do (ours).
 use Rattle.std.specs.Prelude.{ℕ, Bool, List, [], ◌∷◌, map, Option, Some, None, refl}
 use Rattle.std.specs.FinMap.{FinMap, empty, insert}
 use Rattle.std.specs.Borrow.{Bor}
@@ -77,5 +77,8 @@ shared_words (Some words) = bytes_of_words words.value.items
 -- how the logic stores a frame
 abbrev pub coded_frame : Coded RunningFrame
 coded_frame =
-    code_by (FrameKind × (Script × (List Bytes × At))) (coded× kind_type.the_row.coded (coded× coded_script (coded× (coded_list (coded_list coded_ℕ)) at_type.the_row.coded)))
-    (λ f. (f.kind, (f.script, (f.words, f.place)))) (λ p. record { kind = p.0; script = p.1.0; words = p.1.1.0; place = p.1.1.1 }) (λ _. refl)
+    code_by (FrameKind × (Script × (List Bytes × At)))
+    (coded× kind_type.the_row.coded
+    (coded× coded_script (coded× (coded_list (coded_list coded_ℕ)) at_type.the_row.coded)))
+    (λ f. (f.kind, (f.script, (f.words, f.place))))
+    (λ p. record { kind = p.0; script = p.1.0; words = p.1.1.0; place = p.1.1.1 }) (λ _. refl)

@@ -1,5 +1,6 @@
--- What a store holds, and what each of its calls does to it. Marking and going back are ours; variables, `$?` and the text
--- are those of a script (U-Boot documentation, doc/usage/cmdline, doc/usage/environment and doc/usage/cmd/echo).
+-- What a store holds, and what each of its calls does to it. Marking and going back are ours; variables, `$?` and
+-- the text are those of a script (U-Boot documentation, doc/usage/cmdline, doc/usage/environment and
+-- doc/usage/cmd/echo).
 use Rattle.std.specs.Prelude.{ℕ, ◌+◌, List, [], ◌∷◌, ◌++◌, Option, Some, None}
 use Rattle.std.specs.FinMap.{empty, insert, remove}
 use Rattle.bootstore.specs.declared.frame.At.{At}
@@ -13,7 +14,8 @@ pub record Record : Type 0 where
 
 -- the moment at which a run in this environment begins
 abbrev pub beginning : Variables → Moment
-beginning environment = record { environment = environment; locals = empty; status = 0; text = []; log = []; steps = 0; frames = [] }
+beginning environment =
+    record { environment = environment; locals = empty; status = 0; text = []; log = []; steps = 0; frames = [] }
 
 -- the variables with the name set to the value, or without it
 abbrev pub assigned : Variables → Bytes → Option Bytes → Variables

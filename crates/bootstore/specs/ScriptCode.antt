@@ -39,7 +39,9 @@ piece_inj Mark (Var b0 b1) p = absurd (apart 1 2 p (omega arith))
 piece_inj Mark Status p = absurd (apart 1 3 p (omega arith))
 piece_inj (Var a0 a1) (Bytes b0) p = absurd (apart 2 0 p (omega arith))
 piece_inj (Var a0 a1) Mark p = absurd (apart 2 1 p (omega arith))
-piece_inj (Var a0 a1) (Var b0 b1) p = λ i. Var (coded_bytes.inj a0 b0 (ap (λ g. head (tail g)) p) i) (coded_bool.inj a1 b1 (ap (λ g. tail (tail g)) p) i)
+piece_inj (Var a0 a1) (Var b0 b1) p =
+    λ i. Var (coded_bytes.inj a0 b0 (ap (λ g. head (tail g)) p) i)
+    (coded_bool.inj a1 b1 (ap (λ g. tail (tail g)) p) i)
 piece_inj (Var a0 a1) Status p = absurd (apart 2 3 p (omega arith))
 piece_inj Status (Bytes b0) p = absurd (apart 3 0 p (omega arith))
 piece_inj Status Mark p = absurd (apart 3 1 p (omega arith))
@@ -65,14 +67,16 @@ abbrev mutual
 
   pub joined_code : Joined → Gv
   joined_code Alone = gcons (gnum 0) gnil
-  joined_code (Joins a0 a1 a2) = gcons (gnum 1) (gcons (op.the_row.coded.code a0) (gcons (command_code a1) (joined_code a2)))
+  joined_code (Joins a0 a1 a2) =
+      gcons (gnum 1) (gcons (op.the_row.coded.code a0) (gcons (command_code a1) (joined_code a2)))
 
   pub command_code : Command → Gv
   command_code (Simple a0) = gcons (gnum 0) (coded_words.code a0)
   command_code (Assign a0) = gcons (gnum 1) (coded_values.code a0)
   command_code (If a0) = gcons (gnum 2) (arms_code a0)
   command_code (Loop a0 a1 a2) = gcons (gnum 3) (gcons (coded_bool.code a0) (gcons (script_code a1) (script_code a2)))
-  command_code (For a0 a1 a2) = gcons (gnum 4) (gcons (coded_bytes.code a0) (gcons (coded_words.code a1) (script_code a2)))
+  command_code (For a0 a1 a2) =
+      gcons (gnum 4) (gcons (coded_bytes.code a0) (gcons (coded_words.code a1) (script_code a2)))
 
   pub arms_code : Arms → Gv
   arms_code NoElse = gcons (gnum 0) gnil
@@ -84,16 +88,21 @@ mutual
   script_inj Empty Empty p = λ i. Empty
   script_inj Empty (Runs b0 b1) p = absurd (apart 0 1 p (omega arith))
   script_inj (Runs a0 a1) Empty p = absurd (apart 1 0 p (omega arith))
-  script_inj (Runs a0 a1) (Runs b0 b1) p = λ i. Runs (and_or_inj a0 b0 (ap (λ g. head (tail g)) p) i) (script_inj a1 b1 (ap (λ g. tail (tail g)) p) i)
+  script_inj (Runs a0 a1) (Runs b0 b1) p =
+      λ i. Runs (and_or_inj a0 b0 (ap (λ g. head (tail g)) p) i) (script_inj a1 b1 (ap (λ g. tail (tail g)) p) i)
 
   pub and_or_inj : (x y : AndOr) → and_or_code x ≡ and_or_code y → x ≡ y
-  and_or_inj (Starts a0 a1) (Starts b0 b1) p = λ i. Starts (command_inj a0 b0 (ap (λ g. head (tail g)) p) i) (joined_inj a1 b1 (ap (λ g. tail (tail g)) p) i)
+  and_or_inj (Starts a0 a1) (Starts b0 b1) p =
+      λ i. Starts (command_inj a0 b0 (ap (λ g. head (tail g)) p) i) (joined_inj a1 b1 (ap (λ g. tail (tail g)) p) i)
 
   pub joined_inj : (x y : Joined) → joined_code x ≡ joined_code y → x ≡ y
   joined_inj Alone Alone p = λ i. Alone
   joined_inj Alone (Joins b0 b1 b2) p = absurd (apart 0 1 p (omega arith))
   joined_inj (Joins a0 a1 a2) Alone p = absurd (apart 1 0 p (omega arith))
-  joined_inj (Joins a0 a1 a2) (Joins b0 b1 b2) p = λ i. Joins (op.the_row.coded.inj a0 b0 (ap (λ g. head (tail g)) p) i) (command_inj a1 b1 (ap (λ g. head (tail (tail g))) p) i) (joined_inj a2 b2 (ap (λ g. tail (tail (tail g))) p) i)
+  joined_inj (Joins a0 a1 a2) (Joins b0 b1 b2) p =
+      λ i. Joins (op.the_row.coded.inj a0 b0 (ap (λ g. head (tail g)) p) i)
+      (command_inj a1 b1 (ap (λ g. head (tail (tail g))) p) i)
+      (joined_inj a2 b2 (ap (λ g. tail (tail (tail g))) p) i)
 
   pub command_inj : (x y : Command) → command_code x ≡ command_code y → x ≡ y
   command_inj (Simple a0) (Simple b0) p = λ i. Simple (coded_words.inj a0 b0 (ap (λ g. tail g) p) i)
@@ -114,13 +123,19 @@ mutual
   command_inj (Loop a0 a1 a2) (Simple b0) p = absurd (apart 3 0 p (omega arith))
   command_inj (Loop a0 a1 a2) (Assign b0) p = absurd (apart 3 1 p (omega arith))
   command_inj (Loop a0 a1 a2) (If b0) p = absurd (apart 3 2 p (omega arith))
-  command_inj (Loop a0 a1 a2) (Loop b0 b1 b2) p = λ i. Loop (coded_bool.inj a0 b0 (ap (λ g. head (tail g)) p) i) (script_inj a1 b1 (ap (λ g. head (tail (tail g))) p) i) (script_inj a2 b2 (ap (λ g. tail (tail (tail g))) p) i)
+  command_inj (Loop a0 a1 a2) (Loop b0 b1 b2) p =
+      λ i. Loop (coded_bool.inj a0 b0 (ap (λ g. head (tail g)) p) i)
+      (script_inj a1 b1 (ap (λ g. head (tail (tail g))) p) i)
+      (script_inj a2 b2 (ap (λ g. tail (tail (tail g))) p) i)
   command_inj (Loop a0 a1 a2) (For b0 b1 b2) p = absurd (apart 3 4 p (omega arith))
   command_inj (For a0 a1 a2) (Simple b0) p = absurd (apart 4 0 p (omega arith))
   command_inj (For a0 a1 a2) (Assign b0) p = absurd (apart 4 1 p (omega arith))
   command_inj (For a0 a1 a2) (If b0) p = absurd (apart 4 2 p (omega arith))
   command_inj (For a0 a1 a2) (Loop b0 b1 b2) p = absurd (apart 4 3 p (omega arith))
-  command_inj (For a0 a1 a2) (For b0 b1 b2) p = λ i. For (coded_bytes.inj a0 b0 (ap (λ g. head (tail g)) p) i) (coded_words.inj a1 b1 (ap (λ g. head (tail (tail g))) p) i) (script_inj a2 b2 (ap (λ g. tail (tail (tail g))) p) i)
+  command_inj (For a0 a1 a2) (For b0 b1 b2) p =
+      λ i. For (coded_bytes.inj a0 b0 (ap (λ g. head (tail g)) p) i)
+      (coded_words.inj a1 b1 (ap (λ g. head (tail (tail g))) p) i)
+      (script_inj a2 b2 (ap (λ g. tail (tail (tail g))) p) i)
 
   pub arms_inj : (x y : Arms) → arms_code x ≡ arms_code y → x ≡ y
   arms_inj NoElse NoElse p = λ i. NoElse
@@ -131,7 +146,10 @@ mutual
   arms_inj (Else a0) (Arm b0 b1 b2) p = absurd (apart 1 2 p (omega arith))
   arms_inj (Arm a0 a1 a2) NoElse p = absurd (apart 2 0 p (omega arith))
   arms_inj (Arm a0 a1 a2) (Else b0) p = absurd (apart 2 1 p (omega arith))
-  arms_inj (Arm a0 a1 a2) (Arm b0 b1 b2) p = λ i. Arm (script_inj a0 b0 (ap (λ g. head (tail g)) p) i) (script_inj a1 b1 (ap (λ g. head (tail (tail g))) p) i) (arms_inj a2 b2 (ap (λ g. tail (tail (tail g))) p) i)
+  arms_inj (Arm a0 a1 a2) (Arm b0 b1 b2) p =
+      λ i. Arm (script_inj a0 b0 (ap (λ g. head (tail g)) p) i)
+      (script_inj a1 b1 (ap (λ g. head (tail (tail g))) p) i)
+      (arms_inj a2 b2 (ap (λ g. tail (tail (tail g))) p) i)
 
 abbrev pub coded_script : Coded Script
 coded_script = record { code = script_code; inj = script_inj }

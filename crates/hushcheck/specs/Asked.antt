@@ -1,5 +1,5 @@
--- What the words of a call ask for, from the entries that `clap` finds in them. Ours; that `bootcmd` is the variable that
--- boots is U-Boot's (doc/usage/environment).
+-- What the words of a call ask for, from the entries that `clap` finds in them. Ours; that `bootcmd` is the
+-- variable that boots is U-Boot's (doc/usage/environment).
 use Rattle.std.specs.Prelude.{◌∷◌, List, [], codes}
 use Rattle.clap.specs.Words.{Row, Text}
 use Rattle.envimage.specs.declared.image.ByteOrder.{ByteOrder}

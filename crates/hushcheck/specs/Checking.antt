@@ -23,7 +23,8 @@ Finds answer (Err Memory) = Unit {0}
 Finds answer (Err _) = ⊥
 
 -- The environment was found, and all that is told of it was written.
-pub record TellsAll (answer : Result (List Pair) ImageError) (names : List Text) (old new : Sink) (sound : Bool) : Type 0 where
+pub record TellsAll (answer : Result (List Pair) ImageError) (names : List Text) (old new : Sink) (sound : Bool) :
+    Type 0 where
   pub env : List Pair
   pub there : answer ≡ Ok env
   pub told : Text
@@ -47,8 +48,10 @@ ChecksText answer names old new (Err Write) = BreaksOff answer names old new
 ChecksText answer names old new (Err Memory) = new ≡ old
 ChecksText answer names old new (Err _) = ⊥
 
--- the images of the configuration were read and their texts checked, or refused; a refusal for memory may come at any time
-abbrev pub ChecksFrom : ByteOrder → (config : Text) → (names : List Text) → (out out' : Sink) → (old new : Told) → Result Bool Fault → Type 0
+-- the images of the configuration were read and their texts checked, or refused; a refusal for memory may come at
+-- any time
+abbrev pub ChecksFrom : ByteOrder → (config : Text) → (names : List Text) → (out out' : Sink) → (old new : Told)
+    → Result Bool Fault → Type 0
 ChecksFrom order config names out out' old new (Ok sound) =
     FromImages config old new (λ found. TellsAll (environment order found) names out out' sound)
 ChecksFrom order config names out out' old new (Err (Tool (Image error))) =

@@ -20,14 +20,16 @@ abbrev pub Answers : List Text → Result Ask UseError → Type 0
 Answers words (Ok (Help text)) = IsAmong DisplayHelp (fault_of hushcheck words)
 Answers words (Ok Version) = IsAmong DisplayVersion (fault_of hushcheck words)
 Answers words (Ok (Check config names order)) =
-    IsAccepted hushcheck words × (asked words ≡ record { config = string_bytes config; names = map string_bytes names.items; order = order })
+    IsAccepted hushcheck words
+    × (asked words ≡ record { config = string_bytes config; names = map string_bytes names.items; order = order })
 Answers words (Err (Line text)) = IsMistaken hushcheck words
 Answers words (Err Memory) = Unit {0}
 Answers words (Err _) = ⊥
 
 -- the answer asks for this, or memory ran out
 abbrev pub Says : Asked → Result Ask UseError → Type 0
-Says a (Ok (Check config names order)) = a ≡ record { config = string_bytes config; names = map string_bytes names.items; order = order }
+Says a (Ok (Check config names order)) =
+    a ≡ record { config = string_bytes config; names = map string_bytes names.items; order = order }
 Says a (Err Memory) = Unit {0}
 Says a _ = ⊥
 

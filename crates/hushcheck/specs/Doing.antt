@@ -8,8 +8,8 @@ use Rattle.ubtool_core.specs.Told.{IfTold, Told}
 use Rattle.ubtool_core.specs.declared.fault.Fault.{Fault}
 use Rattle.ubtool_run.specs.Performing.{Shows, version_line}
 
--- What doing it comes to: with the files from before to after, and on the outputs. With status 0 each text is well-formed
--- and each name that was asked for is set, or the help or the version was shown.
+-- What doing it comes to: with the files from before to after, and on the outputs. With status 0 each text is
+-- well-formed and each name that was asked for is set, or the help or the version was shown.
 abbrev pub Does : Ask → Option Told → Option Told → Outputs → Result Bool Fault → Type 0
 Does (Check config names order) before after outputs result =
     IfTold before after (λ old new.

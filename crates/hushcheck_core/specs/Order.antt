@@ -23,7 +23,8 @@ pub data IsReached (env : List Pair) (asked : List Text) : Text → Type 0 where
   is_asked : (name : Text) → Contains asked name → IsReached env asked name
   is_run : (by name : Text) → IsReached env asked by → Contains (run_by_name env by) name → IsReached env asked name
 
--- The names that are reached, in order: those that are asked for, and then what the text of each in turn runs, each once.
+-- The names that are reached, in order: those that are asked for, and then what the text of each in turn runs, each
+-- once.
 pub record IsOrder (env : List Pair) (asked order : List Text) : Type 0 where
   pub in_turn : order ≡ once (asked ++ flat_map (run_by_name env) order)
   pub reached : (name : Text) → Contains order name → IsReached env asked name

@@ -44,7 +44,8 @@ what_of size Memory = codes "out of memory"
 
 -- `NAME:LINE:COLUMN: `
 abbrev pub place_form : Text → Place → Text
-place_form name place = word_form name ++ codes ":" ++ decimal place.line ++ codes ":" ++ decimal place.column ++ codes ": "
+place_form name place =
+    word_form name ++ codes ":" ++ decimal place.line ++ codes ":" ++ decimal place.column ++ codes ": "
 
 -- a line, and a mark under the byte that stands behind its front
 abbrev pub marked : (line front : Text) → Text
@@ -54,7 +55,8 @@ marked line front = shown_line line ++ codes "\n" ++ mark_line front ++ codes "\
 abbrev pub fault_lines : (name text : Text) → SyntaxError → Text
 fault_lines name text error =
     let at = byte_of error in
-    place_form name (place_in text at) ++ what_of (length text) error ++ codes "\n" ++ marked (line_text text at) (line_front text at)
+    place_form name (place_in text at) ++ what_of (length text) error ++ codes "\n"
+    ++ marked (line_text text at) (line_front text at)
 
 -- the lines of a text that was read, or refused
 abbrev pub lines_read : Text → Text → Result Script SyntaxError → Text

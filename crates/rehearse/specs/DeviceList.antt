@@ -25,7 +25,8 @@ effect_of devices name = lookup (bytes_eq name) devices
 
 -- ---- the words of a line
 
--- Blanks round a line are dropped. Spaces and tabs separate words; a carriage return inside the line is a byte of its word.
+-- Blanks round a line are dropped. Spaces and tabs separate words; a carriage return inside the line is a byte of
+-- its word.
 abbrev pub device_words : Text → List Text
 device_words line = filter (λ word. not (length word == 0)) (slice_split is_space (trimmed line))
 

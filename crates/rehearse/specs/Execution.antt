@@ -137,10 +137,11 @@ sized fs next s = elim (nat_le (size fs) most_bytes) [ true ↦ next fs s | fals
 -- assignments, from the left; those before one that ends the run stand
 abbrev pub assign : List (Text × tree.Word) → State → Answer
 assign [] s = Normal (set_status 0 s)
-assign (pair ∷ pairs) s = let value = joined (parameters_in s.memory) pair.1 in elim (nat_le (length value) most_bytes) [
-  | true ↦ assign pairs (set_local pair.0 value s)
-  | false ↦ Ended Size s
-]
+assign (pair ∷ pairs) s =
+    let value = joined (parameters_in s.memory) pair.1 in elim (nat_le (length value) most_bytes) [
+      | true ↦ assign pairs (set_local pair.0 value s)
+      | false ↦ Ended Size s
+    ]
 
 -- the turns of a loop, where last is the status of the last body. Each condition holds a command and so begins a step:
 -- where as many turns as steps were left are over, the next turn's step is cut

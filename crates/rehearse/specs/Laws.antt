@@ -133,11 +133,15 @@ RunsFollow = (task : Task) (u p : OutcomeWord) → kind task u ≡ Run → turne
 
 -- what stands in the runs is a run
 abbrev pub RunsAreRuns : Type 0
-RunsAreRuns = (task : Task) (w : OutcomeWord) (front behind : List OutcomeWord) → runs task ≡ front ++ w ∷ behind → kind task w ≡ Run
+RunsAreRuns =
+    (task : Task) (w : OutcomeWord) (front behind : List OutcomeWord) → runs task ≡ front ++ w ∷ behind
+    → kind task w ≡ Run
 
 -- each run stands in the runs, in front of what follows it
 abbrev pub RunsStand : Type 0
-RunsStand = (task : Task) (u : OutcomeWord) → kind task u ≡ Run → (front : List OutcomeWord) × (runs task ≡ front ++ u ∷ rest task u)
+RunsStand =
+    (task : Task) (u : OutcomeWord) → kind task u ≡ Run
+    → (front : List OutcomeWord) × (runs task ≡ front ++ u ∷ rest task u)
 
 -- ---- pages
 
@@ -158,7 +162,8 @@ PagesOfRuns = (task : Task) (names : List Text) (limit : ℕ) (page : Text) (w :
 
 -- and so is one of the runs behind u
 abbrev pub PagesOfRest : Type 0
-PagesOfRest = (task : Task) (names : List Text) (u : OutcomeWord) (limit : ℕ) (page : Text) (w : OutcomeWord) → let written =
+PagesOfRest =
+    (task : Task) (names : List Text) (u : OutcomeWord) (limit : ℕ) (page : Text) (w : OutcomeWord) → let written =
     record_of task names in 0 < limit →
     listing written (rest task u) (Some limit) ≡ page ++ line (codes "more " ++ spelled w) →
     page ++ listing written (rest task w) None ≡ listing written (rest task u) None
@@ -179,7 +184,8 @@ WholeRecords = (task : Task) (names : List Text) (ws : List OutcomeWord) (limit 
 
 -- the whole records of p, and the listing of the words behind them, are the listing
 abbrev pub Resuming : Type 0
-Resuming = (task : Task) (names : List Text) (ws : List OutcomeWord) (p q : Text) → let written = record_of task names in
+Resuming =
+    (task : Task) (names : List Text) (ws : List OutcomeWord) (p q : Text) → let written = record_of task names in
     let k = whole (map written ws) p in listing written ws None ≡ p ++ q →
     flat_map written (take k ws) ++ listing written (drop k ws) None ≡ listing written ws None
 
@@ -199,7 +205,8 @@ ResumedAtPoint = (task : Task) (names : List Text) (p q : Text) (point : Point) 
 
 -- and so for a listing of the runs behind u
 abbrev pub ResumedRest : Type 0
-ResumedRest = (task : Task) (names : List Text) (u : OutcomeWord) (p q : Text) (point : Point) (w : OutcomeWord) → let written =
+ResumedRest =
+    (task : Task) (names : List Text) (u : OutcomeWord) (p q : Text) (point : Point) (w : OutcomeWord) → let written =
     record_of task names in listing written (rest task u) None ≡ p ++ q → resume_point_of p ≡ Some point →
     point.word ≡ spelled w →
     take point.length_before p ++ listing written (rest task w) None ≡ listing written (rest task u) None

@@ -28,7 +28,8 @@ words_in_front f = words_of (command_in_front f.place.command f)
 -- what the words of a simple command that has begun come to
 abbrev pub fields_again : Limits → Option (List tree.Word) → RunningFrame → List RunningFrame → State → PlaceNext
 fields_again limits None f fs s = StopOn (End s.memory.status) s
-fields_again limits (Some words) f fs s = place_fitting (fields (parameters_in s.memory) words) (λ found. place_fields limits found f.script (f ∷ fs)) s
+fields_again limits (Some words) f fs s =
+    place_fitting (fields (parameters_in s.memory) words) (λ found. place_fields limits found f.script (f ∷ fs)) s
 
 -- the command that the innermost frame stands behind, found again: a device command that asks, if it is one
 abbrev pub found_again : Limits → List RunningFrame → State → PlaceNext

@@ -34,5 +34,6 @@ outcome_when false = Failure
 
 -- a text that comes to f stopped at a moment: a device command asks, or the run has ended, whatever outcomes are left
 abbrev pub Stops : Limits → Stop → (f : OutcomeWord → Came) → Moment → Type 0
-Stops limits Asks f m = IsAsking limits m × ((w : OutcomeWord) → f w ≡ asked_at limits m w) × (f [] ≡ Wants (state_at m []))
+Stops limits Asks f m =
+    IsAsking limits m × ((w : OutcomeWord) → f w ≡ asked_at limits m w) × (f [] ≡ Wants (state_at m []))
 Stops limits (Ends halt) f m = (w : OutcomeWord) → f w ≡ Over (halt_shown halt) (state_at m w)

@@ -44,8 +44,14 @@ module _ (limits : Limits) where
   abbrev pub resume : Frame → Answer → Answer
   resume (Lists lists) a = go_on a (script lists)
   resume (Linked links) a = go_on a (joined_of links)
-  resume (IfCondition b arms) a = go_on a (λ t. elim (nat_eq t.memory.status 0) [ true ↦ script b t | false ↦ arms_of arms t ])
-  resume (LoopCondition until c b last) a = go_on a (λ t. elim (holds until t.memory.status) [ true ↦ go_on (script b t) (again until c b) | false ↦ Normal (set_status last t) ])
+  resume (IfCondition b arms) a =
+      go_on a (λ t. elim (nat_eq t.memory.status 0) [ true ↦ script b t | false ↦ arms_of arms t ])
+  resume (LoopCondition until c b last) a =
+      go_on a (λ t.
+      elim (holds until t.memory.status) [
+        | true ↦ go_on (script b t) (again until c b)
+        | false ↦ Normal (set_status last t)
+      ])
   resume (LoopBody until c b) a = go_on a (again until c b)
   resume (ForBody name values body) a = go_on a (λ t. for_each name (script body) t.memory.status values t)
   resume (RunNames names) a = first_or_next a (run_all limits full names)
@@ -89,7 +95,8 @@ module _ (task : Task) where
 
   -- a command stands asked: whatever follows p, it takes the next outcome
   abbrev pub AsksAt : OutcomeWord → Request → List Frame → State → Type 0
-  AsksAt p request fs s = (w : OutcomeWord) → settled (run_on task (p ++ w)) ≡ continue task.limits fs (take_outcome request w (with w s))
+  AsksAt p request fs s =
+      (w : OutcomeWord) → settled (run_on task (p ++ w)) ≡ continue task.limits fs (take_outcome request w (with w s))
 
   -- the run is over: whatever follows p is left over
   abbrev pub EndsAt : OutcomeWord → Ending → State → Type 0

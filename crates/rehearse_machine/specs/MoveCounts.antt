@@ -56,7 +56,8 @@ text_weight (Some text) x m = tree_weight (tree_of text) x
 
 abbrev pub names_weight : Variables → List Text → ℕ → ℕ
 names_weight environment [] m = m
-names_weight environment (name ∷ names) m = text_weight (get environment name) (suc (names_weight environment names m + m)) m
+names_weight environment (name ∷ names) m =
+    text_weight (get environment name) (suc (names_weight environment names m + m)) m
 
 abbrev pub frame_weight : Variables → Frame → ℕ → ℕ
 frame_weight environment (Lists lists) m = block_weight lists m

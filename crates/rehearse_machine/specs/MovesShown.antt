@@ -18,7 +18,8 @@ use Rattle.rehearse_machine.specs.declared.ask.Step.{Step}
 use Rattle.rehearse_machine.specs.declared.ask.Step.TheVariants as steps
 
 abbrev pub request_shown : Ask → Request
-request_shown ask = record { name = ask.name.items; words = bytes_of_words ask.words.items; effect = lent_effect ask.effect }
+request_shown ask =
+    record { name = ask.name.items; words = bytes_of_words ask.words.items; effect = lent_effect ask.effect }
 
 -- a move that has come to a moment
 abbrev pub next_shown : Step → Moment → OutcomeWord → PlaceNext
@@ -44,7 +45,8 @@ pub record Keeps (old new : Record) : Type 0 where
 
 -- a move from old to new that does this to the state
 abbrev pub Does : Step → Record → Record → (State → PlaceNext) → Type 0
-Does step old new next = ((w : OutcomeWord) → next_shown step new.present w ≡ next (state_at old.present w)) × Keeps old new
+Does step old new next =
+    ((w : OutcomeWord) → next_shown step new.present w ≡ next (state_at old.present w)) × Keeps old new
 
 -- where there was memory
 abbrev pub Comes : Result Step StoreError → Record → Record → (State → PlaceNext) → Type 0
@@ -53,7 +55,9 @@ Comes (Err e) old new next = Unit {0}
 
 -- a change of what a script reads and writes
 abbrev pub Changes : Record → Record → (Memory → Memory) → Type 0
-Changes old new change = ((w : OutcomeWord) → state_at new.present w ≡ remember change (state_at old.present w)) × (new.present.frames ≡ old.present.frames) × Keeps old new
+Changes old new change =
+    ((w : OutcomeWord) → state_at new.present w ≡ remember change (state_at old.present w))
+    × (new.present.frames ≡ old.present.frames) × Keeps old new
 
 abbrev pub Changed : Result (Unit {0}) StoreError → Record → Record → (Memory → Memory) → Type 0
 Changed (Ok done) old new change = Changes old new change

@@ -142,7 +142,8 @@ names_frame script names = record { kind = kinds.Run; script = script; words = n
 
 -- the `for` that a frame has come to, and its fields
 abbrev pub values_frame : RunningFrame → List Text → RunningFrame
-values_frame f values = record { kind = kinds.For; script = f.script; words = values; place = place f.place.list f.place.command 0 0 }
+values_frame f values =
+    record { kind = kinds.For; script = f.script; words = values; place = place f.place.list f.place.command 0 0 }
 
 abbrev pub is_run : FrameKind → Bool
 is_run kinds.Text = false
@@ -168,12 +169,18 @@ place_boot true name ps s = StopOn (Booted name) s
 place_boot false name ps s = GoOn ps s
 
 abbrev pub place_answered : Outcome → Request → List RunningFrame → State → PlaceNext
-place_answered Success request ps s = place_boot request.effect.ends request.name ps (set_environment request.effect.sets (logged Success request s))
+place_answered Success request ps s =
+    place_boot request.effect.ends request.name ps (set_environment request.effect.sets (logged Success request s))
 place_answered Failure request ps s = GoOn ps (logged Failure request s)
 
 abbrev pub place_assign : List (Text × tree.Word) → List RunningFrame → State → PlaceNext
 place_assign [] ps s = GoOn ps (set_status 0 s)
-place_assign (pair ∷ pairs) ps s = let value = joined (parameters_in s.memory) pair.1 in elim (nat_le (length value) most_bytes) [ true ↦ place_assign pairs ps (set_local pair.0 value s) | false ↦ StopOn Size s ]
+place_assign (pair ∷ pairs) ps s =
+    let value = joined (parameters_in s.memory) pair.1 in
+    elim (nat_le (length value) most_bytes) [
+      | true ↦ place_assign pairs ps (set_local pair.0 value s)
+      | false ↦ StopOn Size s
+    ]
 
 -- the text of a name of a `run`, which is f
 abbrev pub place_tree : Option Script → Text → RunningFrame → List RunningFrame → State → PlaceNext
@@ -189,11 +196,20 @@ place_name None f fs s = GoOn fs s
 place_name (Some name) f fs s = place_text (get s.memory.environment name) name f fs s
 
 abbrev pub run_move : RunningFrame → List RunningFrame → State → PlaceNext
-run_move f fs s = elim (nat_eq f.place.turn 0) [ true ↦ place_name (slice_get f.words f.place.turn) f fs s | false ↦ elim (nat_eq s.memory.status 0) [ true ↦ place_name (slice_get f.words f.place.turn) f fs s | false ↦ GoOn fs s ] ]
+run_move f fs s =
+    elim (nat_eq f.place.turn 0) [
+      | true ↦ place_name (slice_get f.words f.place.turn) f fs s
+      | false ↦
+          elim (nat_eq s.memory.status 0) [
+            | true ↦ place_name (slice_get f.words f.place.turn) f fs s
+            | false ↦ GoOn fs s
+          ]
+    ]
 
 abbrev pub for_turn : Option Text → Text → Script → RunningFrame → List RunningFrame → State → PlaceNext
 for_turn None name body f fs s = GoOn fs s
-for_turn (Some value) name body f fs s = GoOn (block_frame body ∷ in_turn (suc f.place.turn) 0 f ∷ fs) (set_local name value s)
+for_turn (Some value) name body f fs s =
+    GoOn (block_frame body ∷ in_turn (suc f.place.turn) 0 f ∷ fs) (set_local name value s)
 
 abbrev pub for_move : Option Command → RunningFrame → List RunningFrame → State → PlaceNext
 for_move (Some (tree.For name words body)) f fs s = for_turn (slice_get f.words f.place.turn) name body f fs s
@@ -211,13 +227,21 @@ place_arms tree.NoElse a f fs s = GoOn (behind f ∷ fs) (set_status 0 s)
 
 -- an arm's condition has ended
 abbrev pub condition_ends : Arms → ℕ → RunningFrame → List RunningFrame → State → PlaceNext
-condition_ends (tree.Arm c b more) a f fs s = elim (nat_eq s.memory.status 0) [ true ↦ GoOn (block_frame b ∷ behind f ∷ fs) s | false ↦ place_arms more (suc a) f fs s ]
+condition_ends (tree.Arm c b more) a f fs s =
+    elim (nat_eq s.memory.status 0) [
+      | true ↦ GoOn (block_frame b ∷ behind f ∷ fs) s
+      | false ↦ place_arms more (suc a) f fs s
+    ]
 condition_ends (tree.Else b) a f fs s = GoOn (behind f ∷ fs) s
 condition_ends tree.NoElse a f fs s = GoOn (behind f ∷ fs) s
 
 -- a loop's condition has ended
 abbrev pub loop_ends : (until : Bool) → (body : Script) → RunningFrame → List RunningFrame → State → PlaceNext
-loop_ends until b f fs s = elim (holds until s.memory.status) [ true ↦ GoOn (block_frame b ∷ in_turn 2 0 f ∷ fs) s | false ↦ GoOn (behind f ∷ fs) (set_status f.place.last s) ]
+loop_ends until b f fs s =
+    elim (holds until s.memory.status) [
+      | true ↦ GoOn (block_frame b ∷ in_turn 2 0 f ∷ fs) s
+      | false ↦ GoOn (behind f ∷ fs) (set_status f.place.last s)
+    ]
 
 -- a block of a command has ended
 abbrev pub phase_move : Option Command → ℕ → RunningFrame → List RunningFrame → State → PlaceNext
@@ -232,19 +256,25 @@ place_fitting fs next s = elim (nat_le (size fs) most_bytes) [ true ↦ next fs 
 
 module _ (limits : Limits) where
   abbrev pub place_ask : Request → List RunningFrame → State → PlaceNext
-  place_ask request ps s = elim (nat_lt (length s.log) limits.device_bound) [ true ↦ AskOn request ps s | false ↦ StopOn CutDevices s ]
+  place_ask request ps s =
+      elim (nat_lt (length s.log) limits.device_bound) [ true ↦ AskOn request ps s | false ↦ StopOn CutDevices s ]
 
   -- the frames stand behind the command, which stands in a script
   abbrev pub place_called : Called → Text → List Text → Script → List RunningFrame → State → PlaceNext
   place_called (BuiltIn SetEnv) name words script ps s = GoOn ps (remember (setenv words) s)
   place_called (BuiltIn Run) name [] script ps s = GoOn ps (set_status 1 s)
   place_called (BuiltIn Run) name (w ∷ ws) script ps s = GoOn (names_frame script (w ∷ ws) ∷ ps) s
-  place_called (BuiltIn Test) name words script ps s = elim (asks_device words) [ true ↦ place_ask (record { name = name; words = words; effect = no_effect }) ps s | false ↦ GoOn ps (set_status (status_when (verdict words)) s) ]
+  place_called (BuiltIn Test) name words script ps s =
+      elim (asks_device words) [
+        | true ↦ place_ask (record { name = name; words = words; effect = no_effect }) ps s
+        | false ↦ GoOn ps (set_status (status_when (verdict words)) s)
+      ]
   place_called (BuiltIn Echo) name words script ps s = GoOn ps (remember (echo words) s)
   place_called (BuiltIn True) name words script ps s = GoOn ps (set_status 0 s)
   place_called (BuiltIn False) name words script ps s = GoOn ps (set_status 1 s)
   place_called (BuiltIn Leave) name words script ps s = place_exit (exit_status words) ps s
-  place_called (Device effect) name words script ps s = place_ask (record { name = name; words = words; effect = effect }) ps s
+  place_called (Device effect) name words script ps s =
+      place_ask (record { name = name; words = words; effect = effect }) ps s
   place_called NoCommand name words script ps s = StopOn (Unknown name) s
 
   abbrev pub place_fields : List Text → Script → List RunningFrame → State → PlaceNext
@@ -252,19 +282,28 @@ module _ (limits : Limits) where
   place_fields (name ∷ ws) script ps s = place_called (called_by limits.devices name) name ws script ps s
 
   abbrev pub place_counted : (State → PlaceNext) → State → PlaceNext
-  place_counted next s = elim (nat_lt s.steps limits.step_bound) [ true ↦ next (record s { steps = suc s.steps }) | false ↦ StopOn CutSteps s ]
+  place_counted next s =
+      elim (nat_lt s.steps limits.step_bound) [
+        | true ↦ next (record s { steps = suc s.steps })
+        | false ↦ StopOn CutSteps s
+      ]
 
   abbrev pub place_command : Command → RunningFrame → List RunningFrame → State → PlaceNext
-  place_command (tree.Simple words) f fs s = place_counted (λ t. place_fitting (fields (parameters_in t.memory) words) (λ found. place_fields found f.script (behind f ∷ fs)) t) s
+  place_command (tree.Simple words) f fs s =
+      place_counted (λ t.
+      place_fitting (fields (parameters_in t.memory) words)
+      (λ found. place_fields found f.script (behind f ∷ fs)) t) s
   place_command (tree.Assign pairs) f fs s = place_counted (place_assign pairs (behind f ∷ fs)) s
   place_command (tree.If arms) f fs s = place_arms arms 0 f fs s
   place_command (tree.Loop until c b) f fs s = GoOn (block_frame c ∷ in_turn 1 0 f ∷ fs) s
-  place_command (tree.For name words body) f fs s = place_counted (λ t. place_fitting (fields (parameters_in t.memory) words) (λ found. for_begins found f fs) t) s
+  place_command (tree.For name words body) f fs s =
+      place_counted (λ t. place_fitting (fields (parameters_in t.memory) words) (λ found. for_begins found f fs) t) s
 
   -- a command behind `&&` or `||`, or the end of the list
   abbrev pub place_joined : Option (Op × Command) → RunningFrame → List RunningFrame → State → PlaceNext
   place_joined None f fs s = GoOn (moved_to (place (suc f.place.list) 0 0 0) f ∷ fs) s
-  place_joined (Some pair) f fs s = elim (goes pair.0 s.memory.status) [ true ↦ place_command pair.1 f fs s | false ↦ GoOn (behind f ∷ fs) s ]
+  place_joined (Some pair) f fs s =
+      elim (goes pair.0 s.memory.status) [ true ↦ place_command pair.1 f fs s | false ↦ GoOn (behind f ∷ fs) s ]
 
   abbrev pub place_begins : AndOr → ℕ → RunningFrame → List RunningFrame → State → PlaceNext
   place_begins (tree.Starts c joins) zero f fs s = place_command c f fs s

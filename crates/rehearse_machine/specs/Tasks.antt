@@ -21,7 +21,9 @@ task_shown env devices name bounds =
 
 -- the same, where the variable is set
 abbrev pub task_set : List (Text × Text) → Devices → Text → BoundsShown → Option Task
-task_set env devices name bounds = task_of (record { devices = devices; device_bound = bounds.devices; step_bound = bounds.steps }) (entries (environment_of env)) name
+task_set env devices name bounds =
+    task_of (record { devices = devices; device_bound = bounds.devices; step_bound = bounds.steps })
+    (entries (environment_of env)) name
 
 abbrev pub task_in : Rehearsal → Task
 task_in r = task_shown r.env.now r.devices.now r.name.now r.bounds

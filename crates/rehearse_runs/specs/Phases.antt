@@ -55,7 +55,8 @@ last_answer start [] = start
 last_answer start (w ∷ ws) = last_answer (Some w) ws
 
 -- the steps begun are those of the words that were given
-pub record HasBegun (task : Task) (start given : Option OutcomeWord) (to_come : List OutcomeWord) (begun : ℕ) : Type 0 where
+pub record HasBegun (task : Task) (start given : Option OutcomeWord) (to_come : List OutcomeWord) (begun : ℕ) :
+    Type 0 where
   pub answers : List OutcomeWord
   pub made : words_made task start ≡ answers ++ to_come
   pub last : given ≡ last_answer start answers

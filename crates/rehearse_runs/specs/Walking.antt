@@ -41,7 +41,8 @@ abbrev pub IsWordBehind : (p : OutcomeWord) → (front text all : Text) → (w :
 IsWordBehind p front text all w = (v : OutcomeWord) × (text ≡ map digit_of v) × (w ≡ p ++ v) × (all ≡ front ++ text)
 
 -- the walk along a text behind the digits `front`
-abbrev pub Walks : Task → (p : OutcomeWord) → (front text all : Text) → (w : OutcomeWord) → Walked → (old new : Record) → Type 0
+abbrev pub Walks : Task → (p : OutcomeWord) → (front text all : Text) → (w : OutcomeWord) → Walked
+    → (old new : Record) → Type 0
 Walks task p front text all w (walked.Ends halt) old new = IsWordBehind p front text all w × Reached task w halt old new
 Walks task p front text all w walked.Short old new = IsShortBehind task p text
 Walks task p front text all w walked.Long old new = IsLongBehind task p text

@@ -36,9 +36,9 @@ abbrev pub TellsLast : Result Bool Fault → Sink → Sink → Type 0
 TellsLast (Ok all) old new = new ≡ old
 TellsLast (Err fault) old new = Unit {0}
 
--- Status 1: the words ask for something; the answer is no, as of a variable that is missing, or it was refused, which is
--- told on the error output last. A failing file is told where one call failed, and no other answer is given where one
--- did.
+-- Status 1: the words ask for something; the answer is no, as of a variable that is missing, or it was refused,
+-- which is told on the error output last. A failing file is told where one call failed, and no other answer is
+-- given where one did.
 pub record HasRefused {Ask : Type 0} (Answers : List Text → Result Ask UseError → Type 0)
     (Does : Ask → Option Told → Option Told → Outputs → Result Bool Fault → Type 0)
     (words : List Text) (before after : FilesShown) (outputs : Outputs) : Type 0 where
