@@ -5,7 +5,8 @@ use Rattle.std.proofs.lemmas.List.{drop-append-le, length-drop, take-append-drop
 use Rattle.std.proofs.lemmas.List.Sums.{suffix_len_is, position_or_len_is}
 use Rattle.std.proofs.Math.Seq.{take-append-add}
 use Rattle.std.specs.List.{after_last, before_first, suffix_len}
-use Rattle.hushcheck_core.specs.Place.{is_newline, line_text}
+use Rattle.text.specs.Lines.{is_newline}
+use Rattle.hushcheck_core.specs.Place.{line_text}
 
 not_true : (b : Bool) → (b ≡ true → ⊥) → not b ≡ true
 not_true true h = absurd (h refl)

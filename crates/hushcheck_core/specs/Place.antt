@@ -1,11 +1,8 @@
 -- Where a byte stands in a text: its line and its column, as compilers tell them. Ours.
-use Rattle.std.specs.Prelude.{◌==◌, ◌+◌, ◌++◌, ℕ, Bool, List, length, take, drop, count_by}
+use Rattle.std.specs.Prelude.{◌+◌, ◌++◌, ℕ, List, length, take, drop, count_by}
 use Rattle.std.specs.List.{after_last, before_first}
-use Rattle.text.specs.Bytes as ascii
+use Rattle.text.specs.Lines.{is_newline}
 use Rattle.hushcheck_core.specs.declared.place.Place.{Place}
-
-abbrev pub is_newline : ℕ → Bool
-is_newline byte = byte == ascii.newline
 
 -- the bytes of the line of a byte that stand before it: those behind the last newline before it
 abbrev pub line_front : (text : List ℕ) → (at : ℕ) → List ℕ

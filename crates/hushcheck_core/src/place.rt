@@ -1,8 +1,9 @@
 //! The line and the column of a byte.
 ghost use Rattle.std.specs.Prelude.{◌≡◌, ◌≤◌, ◌+◌, length, take, drop, count_by};
 ghost use Rattle.std.specs.List.{after_last, before_first};
+ghost use Rattle.text.specs.Lines.{is_newline};
 ghost use Rattle.hushcheck_core.specs.Place as spec;
-ghost use Rattle.hushcheck_core.specs.Place.{is_newline, line_text, place_in};
+ghost use Rattle.hushcheck_core.specs.Place.{line_text, place_in};
 
 use memchr::{memchr, memrchr};
 

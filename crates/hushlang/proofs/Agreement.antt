@@ -3,7 +3,7 @@ use Rattle.std.proofs.Common.{◌≡◌, ℕ, zero, suc, ◌-◌, ◌<◌, ◌�
 use Rattle.hushlang.specs.Token.{Token, Part, End, Whole}
 use Rattle.hushlang.specs.Tree.{Script, Empty, Runs, AndOr, Starts, Joined, Alone, Joins, Command, Simple, Assign, If, Loop, For, Arms, NoElse, Else, Arm, Word}
 use Rattle.hushlang.specs.TreesShown.{runs, joins as joins_of, arms as arms_of}
-use Rattle.hushlang.specs.Grammar.{AreAssignments, no_word, assigned, IsCommand, simple, assign, «if», «while», until, for_in, IsArms, arm, IsMore, arms_end, «else», elif, IsScript, no_command, commands, IsLoop, loop, IsBody, body, IsBlock, block, IsLists, last, more, IsAndOr, starts, IsJoined, alone, joins, is_word, is_separator, is_newline, words, word_of, past, reserved_of, assignment, ends_block, closes_at}
+use Rattle.hushlang.specs.Grammar.{AreAssignments, no_word, assigned, IsCommand, simple, assign, «if», «while», until, for_in, IsArms, arm, IsMore, arms_end, «else», elif, IsScript, no_command, commands, IsLoop, loop, IsBody, body, IsBlock, block, IsLists, last, more, IsAndOr, starts, IsJoined, alone, joins, is_word, is_separator, is_newline_token, words, word_of, past, reserved_of, assignment, ends_block, closes_at}
 use Rattle.hushlang.specs.Grammar as grammar
 use Rattle.hushlang.specs.Parsing as spec
 use Rattle.hushlang.specs.Parsing.{Input, Parser, Parsed, and_then, command, keyword, next, expect, sees, behind, op_next, joined, joined_all, and_or, lists, closes_next, separator_next, body_of, loop_command, if_command}
@@ -121,7 +121,7 @@ module _ (end : End) (size : ℕ) where
     joined_reads turns found {rest = rest} h (joins {t = t} {op = op} tokens {after = after} {command = c} {joined = j} o k m) =
         let some : 0 < turns = omega arith in
         let s = command_shorter k in
-        let p = past-shorter is_newline tokens in
+        let p = past-shorter is_newline_token tokens in
         let onto = λ (x : Parsed Command). and_then x (λ one. joined rule (turns - 1) (found ++ (op, one) ∷ [])) in
         joined_more rule turns found (at (t ∷ tokens)) op some o ∙ ap onto (ok _ _ _ k) ∙ joined_reads (turns - 1) (found ++ (op, c) ∷ []) (omega arith) m ∙ ap (λ (x : Joined). Ok (x, at rest)) (append_joined-push found op c j)
 

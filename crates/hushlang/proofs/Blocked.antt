@@ -2,7 +2,7 @@
 use Rattle.std.proofs.Common.{◌≡◌, ℕ, zero, suc, Bool, true, false, if◌then◌else◌, List, [], ◌∷◌, ◌++◌, Option, Some, None, is_some, Result, Ok, Err, refl, ap, sym, ◌∙◌, subst, append_assoc}
 use Rattle.hushlang.specs.Token.{Token, End, Whole, Refused}
 use Rattle.hushlang.specs.Tree.{Script}
-use Rattle.hushlang.specs.Grammar.{IsScript, is_word, is_separator, is_newline, reserved_of, op_of, assignment, name_in, name_of, is_in_word, closes_at}
+use Rattle.hushlang.specs.Grammar.{IsScript, is_word, is_separator, is_newline_token, reserved_of, op_of, assignment, name_in, name_of, is_in_word, closes_at}
 use Rattle.hushlang.specs.Words.{reserved}
 use Rattle.hushlang.specs.Parsing as spec
 use Rattle.hushlang.proofs.Machine as m
@@ -124,7 +124,7 @@ separated_good false d k t h = close_good d k (reserved_of t) t
 step_good : (d : ℕ) (p : Phase) (k : List Frame) (t : Token) → Sound p k → Good t (step d p k t)
 unfolding step
 step_good d Start k t h = start_good (is_separator t) d k t
-step_good d Joint k t h = joint_good (is_newline t) d k t
+step_good d Joint k t h = joint_good (is_newline_token t) d k t
 step_good d Must k t h = begin_good d k (reserved_of t) t
 step_good d (Words assigns) k t h = further_good d k (is_word t) assigns (is_some (assignment t.parts)) t
 step_good d After k t h = after_good d k (op_of t) t

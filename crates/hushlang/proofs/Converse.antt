@@ -5,7 +5,7 @@ use Rattle.std.proofs.lemmas.Option.{none-some}
 use Rattle.hushlang.specs.Token.{Token, Part, End, Whole, Refused}
 use Rattle.hushlang.specs.Tree.{Script, Empty, Runs, AndOr, Starts, Joined, Alone, Joins, Command, If, Loop, For, Arms, NoElse, Else, Arm, Word}
 use Rattle.hushlang.specs.TreesShown.{runs, joins as joins_of, arms as arms_of}
-use Rattle.hushlang.specs.Grammar.{AreAssignments, no_word, assigned, IsCommand, IsArms, IsMore, IsLoop, IsBody, IsBlock, IsLists, IsAndOr, IsJoined, IsScript, no_command, commands, is_word, is_separator, is_newline, words, word_of, past, past_if, reserved_of, op_of, goes_on, assignment, value_of, ends_block, name_in, is_in_word}
+use Rattle.hushlang.specs.Grammar.{AreAssignments, no_word, assigned, IsCommand, IsArms, IsMore, IsLoop, IsBody, IsBlock, IsLists, IsAndOr, IsJoined, IsScript, no_command, commands, is_word, is_separator, is_newline_token, words, word_of, past, past_if, reserved_of, op_of, goes_on, assignment, value_of, ends_block, name_in, is_in_word}
 use Rattle.hushlang.specs.Grammar as g
 use Rattle.hushlang.specs.Parsing as spec
 use Rattle.hushlang.specs.Parsing.{Input, Parser, Parsed, and_then, ◌>>=◌, command, keyword, next, expect, behind, joined, joined_all, and_or, lists, lists_by, joined_by, more_by, separator_first, reserved_first}
@@ -117,10 +117,10 @@ module _ (end : End) (size : ℕ) where
     joined_turn turns ih found tokens h None n all j e = joined_stops found tokens n all j e
     joined_turn turns ih found [] h (Some op) n all j e = absurd (none-some _ n)
     joined_turn turns ih found (t ∷ tokens) h (Some op) n all j e =
-        let o = and_then_ok (rule (at (past is_newline tokens))) (λ c. joined rule turns (found ++ (op, c) ∷ [])) all j e in
-        let c = ok (past is_newline tokens) o.0 o.1 o.2 in
+        let o = and_then_ok (rule (at (past is_newline_token tokens))) (λ c. joined rule turns (found ++ (op, c) ∷ [])) all j e in
+        let c = ok (past is_newline_token tokens) o.0 o.1 o.2 in
         let s = command_shorter c.2 in
-        let p = past-shorter is_newline tokens in
+        let p = past-shorter is_newline_token tokens in
         let m = ih (found ++ (op, o.0) ∷ []) c.0 (omega arith) all j (subst (λ i. joined rule turns (found ++ (op, o.0) ∷ []) i ≡ Ok (all, j)) c.1 o.3) in
         (m.0, m.1, (Joins op o.0 m.2.0, m.2.1 ∙ append_joined-push found op o.0 m.2.0, g.joins tokens n c.2 m.2.2))
 

@@ -1,7 +1,7 @@
 -- The grammar token by token: what stands open, and what may come next. One token is one step, which no later token changes.
 use Rattle.std.specs.Prelude.{ℕ, zero, suc, Bool, true, false, if◌then◌else◌, List, [], ◌∷◌, Option, Some, None, Result, Ok, Err, is_some}
 use Rattle.hushlang.specs.Token.{Token, End, Whole, Refused}
-use Rattle.hushlang.specs.Grammar.{is_word, is_separator, is_newline, reserved_of, op_of, assignment, name_in, is_in_word, closes_at}
+use Rattle.hushlang.specs.Grammar.{is_word, is_separator, is_newline_token, reserved_of, op_of, assignment, name_in, is_in_word, closes_at}
 use Rattle.hushlang.specs.Parsing.{at_end, missing_at}
 use Rattle.hushlang.specs.declared.tree.Op.{Op}
 use Rattle.hushlang.specs.declared.words.Reserved.{Reserved}
@@ -120,7 +120,7 @@ item d k false false t = unexpected t
 -- one token
 unfoldable pub step : ℕ → Phase → List Frame → Token → Step
 step d Start k t = if is_separator t then to d Start k else begin d k (reserved_of t) t
-step d Joint k t = if is_newline t then to d Joint k else begin d k (reserved_of t) t
+step d Joint k t = if is_newline_token t then to d Joint k else begin d k (reserved_of t) t
 step d Must k t = begin d k (reserved_of t) t
 step d (Words assigns) k t = further d k (is_word t) assigns (is_some (assignment t.parts)) t
 step d After k t = after_command d k (op_of t) t

@@ -2,7 +2,7 @@
 use Rattle.std.proofs.Common.{◌≡◌, Bool, true, false, List, [], ◌∷◌, refl, sym, ap, ◌∙◌}
 use Rattle.std.proofs.lemmas.Bool.{true≢false}
 use Rattle.hushlang.specs.Token.{Token}
-use Rattle.hushlang.specs.Grammar.{past, past_if, is_newline, is_separator}
+use Rattle.hushlang.specs.Grammar.{past, past_if, is_newline_token, is_separator}
 use Rattle.hushlang.specs.Parsing as spec
 use Rattle.hushlang.specs.Parsing.{Input, behind, next}
 
@@ -12,13 +12,13 @@ more_if test t tokens e = ap (λ b. past_if b (t ∷ tokens) (past test tokens))
 none_if : (test : Token → Bool) (t : Token) (tokens : List Token) → test t ≡ false → past test (t ∷ tokens) ≡ t ∷ tokens
 none_if test t tokens e = ap (λ b. past_if b (t ∷ tokens) (past test tokens)) e
 
-more_newlines : (tokens : List Token) → spec.newline_first tokens ≡ true → past is_newline tokens ≡ past is_newline (spec.rest_of tokens)
+more_newlines : (tokens : List Token) → spec.newline_first tokens ≡ true → past is_newline_token tokens ≡ past is_newline_token (spec.rest_of tokens)
 more_newlines [] e = refl
-more_newlines (t ∷ tokens) e = more_if is_newline t tokens e
+more_newlines (t ∷ tokens) e = more_if is_newline_token t tokens e
 
-no_newlines : (tokens : List Token) → spec.newline_first tokens ≡ false → past is_newline tokens ≡ tokens
+no_newlines : (tokens : List Token) → spec.newline_first tokens ≡ false → past is_newline_token tokens ≡ tokens
 no_newlines [] e = refl
-no_newlines (t ∷ tokens) e = none_if is_newline t tokens e
+no_newlines (t ∷ tokens) e = none_if is_newline_token t tokens e
 
 more_separators : (tokens : List Token) → spec.separator_first tokens ≡ true → past is_separator tokens ≡ past is_separator (spec.rest_of tokens)
 more_separators [] e = refl
@@ -43,11 +43,11 @@ pub past_first : (test : Token → Bool) (tokens : List Token) (t : Token) (more
 past_first test [] t more e = absurd (true≢false (ap spec.is_empty e))
 past_first test (s ∷ tokens) t more e = past_first_if test (test s) s tokens t more refl (past_first test tokens t more) e
 
-pub newline_passed : (i : Input) → spec.newline_next i ≡ true → behind is_newline i ≡ behind is_newline (next i)
+pub newline_passed : (i : Input) → spec.newline_next i ≡ true → behind is_newline_token i ≡ behind is_newline_token (next i)
 unfolding behind next
 newline_passed i e = ap (λ (l : List Token). record i { tokens = l }) (more_newlines i.tokens e)
 
-pub newlines_passed : (i : Input) → spec.newline_next i ≡ false → behind is_newline i ≡ i
+pub newlines_passed : (i : Input) → spec.newline_next i ≡ false → behind is_newline_token i ≡ i
 unfolding behind
 newlines_passed i e = ap (λ (l : List Token). record i { tokens = l }) (no_newlines i.tokens e)
 

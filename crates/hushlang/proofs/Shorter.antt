@@ -2,7 +2,7 @@
 use Rattle.std.proofs.Common.{◌≡◌, ℕ, ◌<◌, ◌≤◌, Bool, true, false, List, [], ◌∷◌, length, ap, arith}
 use Rattle.hushlang.specs.Token.{Token}
 use Rattle.hushlang.specs.Tree.{Script, AndOr, Joined, Command, Arms}
-use Rattle.hushlang.specs.Grammar.{IsCommand, simple, assign, «if», «while», until, for_in, IsArms, arm, IsMore, arms_end, «else», elif, IsLoop, loop, IsBody, body, IsBlock, block, IsLists, last, more, IsAndOr, starts, IsJoined, alone, joins, past, past_if, is_word, is_separator, is_newline}
+use Rattle.hushlang.specs.Grammar.{IsCommand, simple, assign, «if», «while», until, for_in, IsArms, arm, IsMore, arms_end, «else», elif, IsLoop, loop, IsBody, body, IsBlock, block, IsLists, last, more, IsAndOr, starts, IsJoined, alone, joins, past, past_if, is_word, is_separator, is_newline_token}
 
 past_if-shorter : (b : Bool) (all rest : List Token) → length rest ≤ length all → length (past_if b all rest) ≤ length all
 past_if-shorter true all rest h = h
@@ -54,4 +54,4 @@ mutual
 
   pub joined_shorter : {d : ℕ} {tokens rest : List Token} {j : Joined} → IsJoined d tokens j rest → length rest ≤ length tokens
   joined_shorter (alone n) = omega arith
-  joined_shorter (joins tokens o c j) = let h = command_shorter c in let g = joined_shorter j in let f = past-shorter is_newline tokens in omega arith
+  joined_shorter (joins tokens o c j) = let h = command_shorter c in let g = joined_shorter j in let f = past-shorter is_newline_token tokens in omega arith

@@ -5,7 +5,7 @@ use Rattle.std.proofs.lemmas.Option.{none-some}
 use Rattle.hushlang.specs.Token.{Token, Part, End, Whole, Refused}
 use Rattle.hushlang.specs.Tree.{Script, AndOr, Starts, Command, If, Loop, For, Word}
 use Rattle.hushlang.specs.TreesShown.{arms as arms_of}
-use Rattle.hushlang.specs.Grammar.{is_word, is_separator, is_newline, words, words_if, word_of, past, past_if, reserved_of, op_of, goes_on, assignment, value_of, ends_block, closes_at, name_in, is_in_word}
+use Rattle.hushlang.specs.Grammar.{is_word, is_separator, is_newline_token, words, words_if, word_of, past, past_if, reserved_of, op_of, goes_on, assignment, value_of, ends_block, closes_at, name_in, is_in_word}
 use Rattle.hushlang.specs.Grammar as g
 use Rattle.hushlang.specs.declared.token.Kind.{Kind}
 use Rattle.hushlang.specs.declared.token.Kind.TheVariants as kinds
@@ -55,15 +55,15 @@ unfolding run step ends
 start_skips d f k [] end size = refl
 start_skips d f k (t ∷ tokens) end size = start_if (is_separator t) d (f ∷ k) t tokens end size (start_skips d f k tokens end size)
 
-joint_if : (b : Bool) (d : ℕ) (k : List Frame) (t : Token) (tokens : List Token) (end : End) (size : ℕ) → run (past is_newline tokens) end size record { left = d; phase = Must; open_frames = k } ≡ run tokens end size record { left = d; phase = Joint; open_frames = k } → run (past_if b (t ∷ tokens) (past is_newline tokens)) end size record { left = d; phase = Must; open_frames = k } ≡ goes (if b then m.to d Joint k else m.begin d k (reserved_of t) t) (run tokens end size)
+joint_if : (b : Bool) (d : ℕ) (k : List Frame) (t : Token) (tokens : List Token) (end : End) (size : ℕ) → run (past is_newline_token tokens) end size record { left = d; phase = Must; open_frames = k } ≡ run tokens end size record { left = d; phase = Joint; open_frames = k } → run (past_if b (t ∷ tokens) (past is_newline_token tokens)) end size record { left = d; phase = Must; open_frames = k } ≡ goes (if b then m.to d Joint k else m.begin d k (reserved_of t) t) (run tokens end size)
 unfolding run step
 joint_if true d k t tokens end size h = h
 joint_if false d k t tokens end size h = refl
 
-joint_skips : (d : ℕ) (k : List Frame) (tokens : List Token) (end : End) (size : ℕ) → run (past is_newline tokens) end size record { left = d; phase = Must; open_frames = k } ≡ run tokens end size record { left = d; phase = Joint; open_frames = k }
+joint_skips : (d : ℕ) (k : List Frame) (tokens : List Token) (end : End) (size : ℕ) → run (past is_newline_token tokens) end size record { left = d; phase = Must; open_frames = k } ≡ run tokens end size record { left = d; phase = Joint; open_frames = k }
 unfolding run step ends
 joint_skips d k [] end size = refl
-joint_skips d k (t ∷ tokens) end size = joint_if (is_newline t) d k t tokens end size (joint_skips d k tokens end size)
+joint_skips d k (t ∷ tokens) end size = joint_if (is_newline_token t) d k t tokens end size (joint_skips d k tokens end size)
 
 -- behind a separator: the end of the block, or a further list
 next_if : (b : Bool) (d : ℕ) (k : List Frame) (t : Token) (tokens : List Token) (end : End) (size : ℕ) → run (past is_separator tokens) end size record { left = d; phase = Next; open_frames = k } ≡ run tokens end size record { left = d; phase = Next; open_frames = k } → b ≡ is_separator t → run (past_if b (t ∷ tokens) (past is_separator tokens)) end size record { left = d; phase = Next; open_frames = k } ≡ run (t ∷ tokens) end size record { left = d; phase = Next; open_frames = k }
@@ -370,8 +370,8 @@ module _ (d : ℕ) (leads : (k : List Frame) → Leads (command d) (on d After k
   joined_turn k turns ih found tokens end size None e h = behind_after d k tokens end size e
   joined_turn k turns ih found [] end size (Some op) e h = absurd (none-some _ e)
   joined_turn k turns ih found (t ∷ tokens) end size (Some op) e h =
-      let i : Input = record { tokens = past is_newline tokens; end = end; size = size } in
-      let p = past-shorter is_newline tokens in
+      let i : Input = record { tokens = past is_newline_token tokens; end = end; size = size } in
+      let p = past-shorter is_newline_token tokens in
       joins_ok (rule i) (λ c. joined rule turns (found ++ (op, c) ∷ [])) (on d Behind k) (on d After k) (λ c j is. let s = rule_shorter d i c j is in ih (found ++ (op, c) ∷ []) j (omega arith))
       ∙ leads k i ∙ joint_skips d k tokens end size ∙ ap (λ o. goes (m.after_command d k o t) (run tokens end size)) (sym e)
 

@@ -3,7 +3,7 @@ use Rattle.std.proofs.Common.{◌≡◌, ℕ, zero, suc, ◌-◌, ◌<◌, List,
 use Rattle.hushlang.specs.Tree.{Command}
 use Rattle.hushlang.specs.Parsing as spec
 use Rattle.hushlang.specs.Parsing.{Input, Parser, Parsed, ◌>>=◌, ◌>>◌, pure, and_then, joined, op_next, next, keyword, command, simple, if_command, loop_command}
-use Rattle.hushlang.specs.Grammar.{is_newline}
+use Rattle.hushlang.specs.Grammar.{is_newline_token}
 use Rattle.hushlang.specs.TreesShown.{joins}
 use Rattle.hushlang.specs.declared.tree.Op.{Op}
 use Rattle.hushlang.specs.declared.words.Reserved.{Reserved}
@@ -13,7 +13,7 @@ unfolding joined
 joined_once rule zero found i some = absurd (omega arith)
 joined_once rule (suc turns) found i some = let e : suc turns - 1 ≡ turns = omega arith in ap (λ n. spec.joined_by rule (joined rule n) found (op_next i) i) (sym e)
 
-pub joined_more : (rule : Parser Command) (turns : ℕ) (found : List (Op × Command)) (i : Input) (op : Op) → 0 < turns → op_next i ≡ Some op → joined rule turns found i ≡ and_then (rule (spec.behind is_newline (next i))) (λ c. joined rule (turns - 1) (found ++ (op, c) ∷ []))
+pub joined_more : (rule : Parser Command) (turns : ℕ) (found : List (Op × Command)) (i : Input) (op : Op) → 0 < turns → op_next i ≡ Some op → joined rule turns found i ≡ and_then (rule (spec.behind is_newline_token (next i))) (λ c. joined rule (turns - 1) (found ++ (op, c) ∷ []))
 joined_more rule turns found i op some is = joined_once rule turns found i some ∙ ap (λ o. spec.joined_by rule (joined rule (turns - 1)) found o i) is
 
 pub joined_end : (rule : Parser Command) (turns : ℕ) (found : List (Op × Command)) (i : Input) → op_next i ≡ None → joined rule turns found i ≡ pure (joins found) i

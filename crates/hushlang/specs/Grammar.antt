@@ -60,8 +60,8 @@ abbrev pub newlines : Kind → Bool
 newlines kinds.Newline = true
 newlines _ = false
 
-abbrev pub is_newline : Token → Bool
-is_newline t = newlines t.kind
+abbrev pub is_newline_token : Token → Bool
+is_newline_token t = newlines t.kind
 
 -- the words at the front
 abbrev pub words_if : Bool → Token → List Token → List Token
@@ -219,7 +219,7 @@ mutual
   pub data IsJoined : (depth : ℕ) → (tokens : List Token) → (joined : Joined) → (rest : List Token) → Type 0 where
     alone : {depth : ℕ} {tokens : List Token} → goes_on tokens ≡ None → IsJoined depth tokens Alone tokens
     joins : {depth : ℕ} {t : Token} {op : Op} (tokens : List Token) {after rest : List Token} {command : Command}
-        {joined : Joined} → op_of t ≡ Some op → IsCommand depth (past is_newline tokens) command after →
+        {joined : Joined} → op_of t ≡ Some op → IsCommand depth (past is_newline_token tokens) command after →
         IsJoined depth after joined rest → IsJoined depth (t ∷ tokens) (Joins op command joined) rest
 
 -- all tokens are a script

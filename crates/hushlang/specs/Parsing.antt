@@ -2,7 +2,7 @@
 -- Ours.
 use Rattle.std.specs.Prelude.{◌≡◌, ◌≢◌, ℕ, zero, suc, Bool, true, false, if◌then◌else◌, List, [], ◌∷◌, ◌++◌, map, length, Option, Some, None, Result, Ok, Err, is_some}
 use Rattle.hushlang.specs.Token.{Part, Token, End, Whole, Refused}
-use Rattle.hushlang.specs.Grammar.{is_word, is_separator, is_newline, reserved_of, past, words, word_of, assignment, value_of, name_in, is_in_word, ends_block, goes_on}
+use Rattle.hushlang.specs.Grammar.{is_word, is_separator, is_newline_token, reserved_of, past, words, word_of, assignment, value_of, name_in, is_in_word, ends_block, goes_on}
 use Rattle.hushlang.specs.Tree.{Script, Empty, AndOr, Starts, Joined, Command, Simple, Assign, If, Loop, For, Arms, Word}
 use Rattle.hushlang.specs.TreesShown.{runs, joins as joins_of, arms as arms_of}
 use Rattle.hushlang.specs.declared.tree.Op.{Op}
@@ -120,7 +120,7 @@ separator_next i = separator_first i.tokens
 
 abbrev pub newline_first : List Token → Bool
 newline_first [] = false
-newline_first (t ∷ tokens) = is_newline t
+newline_first (t ∷ tokens) = is_newline_token t
 
 abbrev pub newline_next : Input → Bool
 newline_next i = newline_first i.tokens
@@ -131,7 +131,7 @@ abbrev pub joined_by : Parser Command → (List (Op × Command) → Parser Joine
     Parser Joined
 joined_by command more found None = pure (joins_of found)
 joined_by command more found (Some op) =
-    λ i. (skip is_newline >> command >>= λ c. more (found ++ (op, c) ∷ [])) (next i)
+    λ i. (skip is_newline_token >> command >>= λ c. more (found ++ (op, c) ∷ [])) (next i)
 
 unfoldable pub joined : Parser Command → ℕ → List (Op × Command) → Parser Joined
 joined command zero found = joined_by command (λ f. refuse) found None

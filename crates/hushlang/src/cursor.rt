@@ -185,7 +185,7 @@ impl<'a> Tokens<'a> {
         ensures some { IsTrue result → 0 < length self.now.tokens }
     {
         match self.ahead.token {
-            Some(token) => is_newline(token.kind),
+            Some(token) => is_newline_token(token.kind),
             None => false,
         }
     }
@@ -204,7 +204,7 @@ impl<'a> Tokens<'a> {
     /// Takes the newlines that come next.
     #[tactic(auto, using(crate::proofs::Passing::passing))]
     pub fn skip_newlines(&mut self)
-        ensures after { self.new ≡ spec.behind grammar.is_newline self.old }
+        ensures after { self.new ≡ spec.behind grammar.is_newline_token self.old }
         ensures shrinks { length self.new.tokens ≤ length self.old.tokens }
     {
         'newlines: while self.at_newline() {
@@ -387,7 +387,7 @@ fn separates(kind: Kind) -> bool
     }
 }
 
-fn is_newline(kind: Kind) -> bool
+fn is_newline_token(kind: Kind) -> bool
     ensures { result ≡ grammar.newlines kind }
 {
     match kind {

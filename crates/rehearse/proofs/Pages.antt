@@ -5,7 +5,7 @@ use Rattle.std.proofs.lemmas.List.{append_cancel_right}
 use Rattle.std.proofs.lemmas.List.Concat.{flat_map-append}
 use Rattle.rehearse.specs.Outcomes.{OutcomeWord, Success, Failure, after, word_eq}
 use Rattle.rehearse.specs.State.{Text}
-use Rattle.rehearse.specs.Listing.{listing, record_of, line, last_of, spelled, digit_of}
+use Rattle.rehearse.specs.Listing.{listing, record_of, line, last_of, spelled, outcome_digit}
 use Rattle.rehearse.specs.Runs.{Task, kind, runs, rest}
 use Rattle.rehearse.proofs.Following.{AreDistinct, runs_distinct, after_in}
 
@@ -46,7 +46,7 @@ last_byte-append [] b bytes = refl
 last_byte-append (c ∷ []) b bytes = refl
 last_byte-append (c ∷ d ∷ a) b bytes = last_byte-append (d ∷ a) b bytes
 
-digits_end : (w : OutcomeWord) → last_byte (map digit_of w) < 101
+digits_end : (w : OutcomeWord) → last_byte (map outcome_digit w) < 101
 digits_end [] = omega arith
 digits_end (Success ∷ []) = omega arith
 digits_end (Failure ∷ []) = omega arith
@@ -62,7 +62,7 @@ abbrev NoSpace : Text → Type 0
 NoSpace [] = ⊤
 NoSpace (b ∷ bytes) = (b ≢ 32) × NoSpace bytes
 
-digits_space : (w : OutcomeWord) → NoSpace (map digit_of w)
+digits_space : (w : OutcomeWord) → NoSpace (map outcome_digit w)
 digits_space [] = tt
 digits_space (Success ∷ w) = (λ e. omega arith, digits_space w)
 digits_space (Failure ∷ w) = (λ e. omega arith, digits_space w)
@@ -89,7 +89,7 @@ split_space (c ∷ a) (d ∷ b) x y h k e =
 apart : (a b : ℕ) (x y : Text) → a ≢ b → a ∷ x ≡ b ∷ y → ⊥
 apart a b x y ne e = ne (let f = e in cc)
 
-digits_same : (u v : OutcomeWord) → map digit_of u ≡ map digit_of v → u ≡ v
+digits_same : (u v : OutcomeWord) → map outcome_digit u ≡ map outcome_digit v → u ≡ v
 digits_same [] [] e = refl
 digits_same [] (d ∷ v) e = absurd (let f = e in cc)
 digits_same (d ∷ u) [] e = absurd (let f = e in cc)

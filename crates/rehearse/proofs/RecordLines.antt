@@ -8,7 +8,7 @@ use Rattle.bootstore.specs.Moment.{LoggedCommand}
 use Rattle.rehearse.specs.State.{Text, Variables, get, State}
 use Rattle.rehearse.specs.Execution.{Ending, End, CutDevices, CutSteps, Unknown, Syntax, Size, Booted}
 use Rattle.text.specs.Escapes.{hex_digit, escaped, text_form, word_escaped, word_form}
-use Rattle.rehearse.specs.Listing.{digit_when, digit_of, spelled, line, device_line, text_lines, variable_line, asked_line, variable_lines, last_line, inner_lines, record_lines}
+use Rattle.rehearse.specs.Listing.{digit_when, outcome_digit, spelled, line, device_line, text_lines, variable_line, asked_line, variable_lines, last_line, inner_lines, record_lines}
 use Rattle.rehearse.specs.Resuming.{ended_lines, is_last_line, is_first_line, Point, point_in, resume_point_of}
 
 -- no byte of it is a newline
@@ -81,7 +81,7 @@ words-lines : (ws : List Text) → AreLines (map word_form ws)
 words-lines [] = tt
 words-lines (w ∷ ws) = (word-line w, words-lines ws)
 
-digits-line : (w : OutcomeWord) → IsOneLine (map digit_of w)
+digits-line : (w : OutcomeWord) → IsOneLine (map outcome_digit w)
 digits-line [] = tt
 digits-line (Success ∷ w) = (refl, digits-line w)
 digits-line (Failure ∷ w) = (refl, digits-line w)

@@ -15,13 +15,13 @@ abbrev pub digit_when : (success : Bool) → ℕ
 digit_when true = ascii.digit_zero
 digit_when false = ascii.digit_one
 
-abbrev pub digit_of : Outcome → ℕ
-digit_of outcome = digit_when (succeeds outcome)
+abbrev pub outcome_digit : Outcome → ℕ
+outcome_digit outcome = digit_when (succeeds outcome)
 
 -- a word is printed by its digits, the empty one as a dot
 abbrev pub spelled : OutcomeWord → Text
 spelled [] = codes "."
-spelled (d ∷ w) = map digit_of (d ∷ w)
+spelled (d ∷ w) = map outcome_digit (d ∷ w)
 
 -- ---- the record of a run
 

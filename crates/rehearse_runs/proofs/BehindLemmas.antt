@@ -5,7 +5,7 @@ use Rattle.rehearse.specs.Bounds.{most_devices}
 use Rattle.rehearse.specs.Outcomes.{OutcomeWord, Success, Failure, Run, Short}
 use Rattle.rehearse.specs.State.{Text, State}
 use Rattle.rehearse.specs.Runs.{Task, kind, rest, steps}
-use Rattle.rehearse.specs.Listing.{digit_of}
+use Rattle.rehearse.specs.Listing.{outcome_digit}
 use Rattle.rehearse_runs.specs.RunsShown.{outcomes}
 use Rattle.rehearse_runs.specs.Phases.{AreDigits, StandsOn, HasBegun, shown_at}
 use Rattle.rehearse_runs.proofs.WorkLemmas.{begun_behind, none_in_front}
@@ -18,12 +18,12 @@ use Rattle.rehearse_runs.specs.declared.walking.Walked.TheVariants as walked
 use Rattle.rehearse_runs.proofs.AdvanceLemmas.{few_runs}
 use Rattle.rehearse.proofs.TaskChoices.{task_stands}
 
-read_word : (w : OutcomeWord) → outcomes (map digit_of w) ≡ w
+read_word : (w : OutcomeWord) → outcomes (map outcome_digit w) ≡ w
 read_word [] = refl
 read_word (Success ∷ w) = ap (λ (v : OutcomeWord). Success ∷ v) (read_word w)
 read_word (Failure ∷ w) = ap (λ (v : OutcomeWord). Failure ∷ v) (read_word w)
 
-same_word : (text : Text) (v w : OutcomeWord) → text ≡ map digit_of v → text ≡ map digit_of w → v ≡ w
+same_word : (text : Text) (v w : OutcomeWord) → text ≡ map outcome_digit v → text ≡ map outcome_digit w → v ≡ w
 same_word text v w e f = sym (read_word v) ∙ ap outcomes (sym e ∙ f) ∙ read_word w
 
 -- ---- what the walk says of a text

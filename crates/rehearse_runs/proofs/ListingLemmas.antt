@@ -10,7 +10,7 @@ use Rattle.rehearse.specs.Outcomes.{OutcomeWord}
 use Rattle.rehearse.specs.State.{Text, State, state_at}
 use Rattle.rehearse.specs.Execution.{Ending}
 use Rattle.rehearse.specs.Runs.{Task, run_on, state_of, ending_of}
-use Rattle.rehearse.specs.Listing.{digit_of, record_text, record_of, words_listed, closing, listing, last_of, line, spelled}
+use Rattle.rehearse.specs.Listing.{outcome_digit, record_text, record_of, words_listed, closing, listing, last_of, line, spelled}
 use Rattle.rehearse_runs.specs.Recording.{recorded, printed}
 use Rattle.rehearse_runs.specs.RunsShown.{RunsShown, last_given, has_words}
 use Rattle.rehearse_runs.specs.ViewShown.{shown_word, shown_moment, shown_ending}
@@ -26,7 +26,7 @@ use Rattle.rehearse_runs.specs.declared.listing.Finish.TheVariants.{Done, More}
 use Rattle.rehearse_runs.specs.ListingRuns.{list_error, Breaks, Lists, left_out, finish_of, IsLeft, Recorded, WroteRecords, LacksMemory, BreaksOff, reached, lowered}
 use Rattle.rehearse_runs.specs.declared.view.RunView.{RunView}
 
-recorded_spelled : (w : OutcomeWord) (s : State) (e : Ending) (names : List Text) → recorded (map digit_of w) (record s { word = [] }) e names ≡ record_text w s e names
+recorded_spelled : (w : OutcomeWord) (s : State) (e : Ending) (names : List Text) → recorded (map outcome_digit w) (record s { word = [] }) e names ≡ record_text w s e names
 recorded_spelled [] s e names = refl
 recorded_spelled (d ∷ w) s e names = refl
 
@@ -34,8 +34,8 @@ recorded_spelled (d ∷ w) s e names = refl
 pub record_shown : {S : Type 0} (g : Ghosts S) (task : Task) (w : OutcomeWord) (v : RunView S) (names : List Text) → ShowsRun g task w v → recorded (shown_word v) (state_at (shown_moment g v) []) (shown_ending v) names ≡ record_of task names w
 record_shown g task w v names h =
     ap (λ (d : Text). recorded d (state_at (shown_moment g v) []) (shown_ending v) names) h.word
-    ∙ ap (λ (s : State). recorded (map digit_of w) s (shown_ending v) names) h.moment
-    ∙ ap (λ (e : Ending). recorded (map digit_of w) (record (state_of (run_on task w)) { word = [] }) e names) h.ending
+    ∙ ap (λ (s : State). recorded (map outcome_digit w) s (shown_ending v) names) h.moment
+    ∙ ap (λ (e : Ending). recorded (map outcome_digit w) (record (state_of (run_on task w)) { word = [] }) e names) h.ending
     ∙ recorded_spelled w (state_of (run_on task w)) (ending_of (run_on task w)) names
 
 left_first : (limit : Option ℕ) → IsLeft limit limit 0
@@ -254,7 +254,7 @@ unlisted {start} {now} {old} {new} {names} {limit} {left} {ws} end last finish r
   sound = r.failed ∙ f;
 }
 
-printed_spelled : (w : OutcomeWord) → printed (map digit_of w) ≡ spelled w
+printed_spelled : (w : OutcomeWord) → printed (map outcome_digit w) ≡ spelled w
 printed_spelled [] = refl
 printed_spelled (d ∷ w) = refl
 
@@ -271,17 +271,17 @@ some_left (Some l) (Some (suc k)) ws (v ∷ vs) n c over h e = let o = over (eqb
 some_left (Some l) (Some zero) ws (v ∷ vs) n c over h e = let z : l ≡ 0 = (let k = ap length e in omega arith) in n (ap Some z)
 
 -- the digits of the last word, where words are left out
-last_line_is : {start now : Sink} {old new : RunsShown} {names : List Text} {limit : Option ℕ} (digits : Text) (r : WroteRecords start now old new names limit) → limit ≢ Some 0 → has_words new.to_come ≡ true → digits ≡ map digit_of (last_given new) → line (codes "more " ++ printed digits) ≡ line (codes "more " ++ spelled (last_of [] r.ws))
+last_line_is : {start now : Sink} {old new : RunsShown} {names : List Text} {limit : Option ℕ} (digits : Text) (r : WroteRecords start now old new names limit) → limit ≢ Some 0 → has_words new.to_come ≡ true → digits ≡ map outcome_digit (last_given new) → line (codes "more " ++ printed digits) ≡ line (codes "more " ++ spelled (last_of [] r.ws))
 last_line_is {new = new} {limit = limit} digits r n h d =
     let some = some_left limit r.left r.ws new.to_come n r.recorded.count r.over h in
     let given : last_given new ≡ last_of [] r.ws = ap (λ (o : Option OutcomeWord). unwrap_or o []) (r.recorded.last some) in
-    ap (λ (t : Text). line (codes "more " ++ printed t)) (d ∙ ap (map digit_of) given) ∙ ap (λ (t : Text). line (codes "more " ++ t)) (printed_spelled (last_of [] r.ws))
+    ap (λ (t : Text). line (codes "more " ++ printed t)) (d ∙ ap (map outcome_digit) given) ∙ ap (λ (t : Text). line (codes "more " ++ t)) (printed_spelled (last_of [] r.ws))
 
 module _ {start now : Sink} {old new : RunsShown} {names : List Text} {limit : Option ℕ} (end : Sink) (r : WroteRecords start now old new names limit) (f : old.failed ≡ false) where
-  pub listed_more : (digits : Text) → limit ≢ Some 0 → has_words new.to_come ≡ true → digits ≡ map digit_of (last_given new) → Wrote now end (line (codes "more " ++ printed digits)) → Lists start end old new names limit More
+  pub listed_more : (digits : Text) → limit ≢ Some 0 → has_words new.to_come ≡ true → digits ≡ map outcome_digit (last_given new) → Wrote now end (line (codes "more " ++ printed digits)) → Lists start end old new names limit More
   listed_more digits n h d q = listed end (codes "more " ++ spelled (last_of [] r.ws)) More r.recorded (at_limit limit r.left r.ws new.to_come r.recorded.count r.over h) f (Wrote-as now end _ _ (last_line_is digits r n h d) q)
 
-  pub unlisted_more : (digits : Text) → limit ≢ Some 0 → has_words new.to_come ≡ true → digits ≡ map digit_of (last_given new) → BrokeOff now end (line (codes "more " ++ printed digits)) → BreaksOff start end old new names limit
+  pub unlisted_more : (digits : Text) → limit ≢ Some 0 → has_words new.to_come ≡ true → digits ≡ map outcome_digit (last_given new) → BrokeOff now end (line (codes "more " ++ printed digits)) → BreaksOff start end old new names limit
   unlisted_more digits n h d q = unlisted end (codes "more " ++ spelled (last_of [] r.ws)) More r.recorded (at_limit limit r.left r.ws new.to_come r.recorded.count r.over h) f (BrokeOff-as now end _ _ (last_line_is digits r n h d) q)
 
   pub listed_done : has_words new.to_come ≡ false → Wrote now end (codes "done\n") → Lists start end old new names limit Done

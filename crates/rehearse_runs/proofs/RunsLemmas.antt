@@ -7,7 +7,7 @@ use Rattle.rehearse.specs.Bounds.{most_devices}
 use Rattle.rehearse.specs.Outcomes.{OutcomeWord, Run, has_success}
 use Rattle.rehearse.specs.State.{Text, state_at}
 use Rattle.rehearse.specs.Runs.{Task, kind, rest, runs, run_on, state_of, ending_of}
-use Rattle.rehearse.specs.Listing.{digit_of}
+use Rattle.rehearse.specs.Listing.{outcome_digit}
 use Rattle.rehearse_runs.specs.RunsShown.{outcomes, given_if, to_come_after, has_words, successes}
 use Rattle.rehearse_runs.specs.Searching.{AreMarks}
 use Rattle.rehearse_runs.proofs.WorkLemmas.{few_marks, marks_within}
@@ -31,7 +31,7 @@ stood g task digits has r phase halt v e d s sw se sm ss run bound =
     let is_run : kind task (outcomes digits) ≡ Run = subst (λ (b : Bool). IsRunIf b task (outcomes digits)) h.0 run in (
       ap shows_run e,
       record {
-        word = sw ∙ sym d ∙ ap (λ (b : Bool). map digit_of (unwrap_or (given_if b (outcomes digits)) [])) (sym h.0);
+        word = sw ∙ sym d ∙ ap (λ (b : Bool). map outcome_digit (unwrap_or (given_if b (outcomes digits)) [])) (sym h.0);
         moment = subst (λ (b : Bool). state_at (shown_moment g v) [] ≡ state_of (run_on task (unwrap_or (given_if b (outcomes digits)) []))) (sym h.0) (ap (λ (n : Moment). state_at n []) sm ∙ h.1.moment);
         ending = subst (λ (b : Bool). shown_ending v ≡ ending_of (run_on task (unwrap_or (given_if b (outcomes digits)) []))) (sym h.0) (se ∙ h.1.ending);
         marks = subst (λ (b : Bool). length (shown_marks g v) ≤ successes (unwrap_or (given_if b (outcomes digits)) [])) (sym h.0) (few_marks task (outcomes digits) (shown_marks g v) marks);

@@ -7,7 +7,7 @@ use Rattle.rehearse.specs.State.{Text, State, state_at}
 use Rattle.rehearse.specs.Execution.{Answer, Normal, Exit, Ended, Dry, Ending}
 use Rattle.rehearse.specs.Runs.{Task, run_on, kind, kind_of, taken_kind, state_of, ending_of, runs, rest, asked}
 use Rattle.std.proofs.lemmas.Bool.{ne_eqb}
-use Rattle.rehearse.specs.Listing.{digit_of}
+use Rattle.rehearse.specs.Listing.{outcome_digit}
 use Rattle.rehearse_runs.specs.RunsShown.{outcomes, outcome_of}
 use Rattle.rehearse_machine.specs.EndingsShown.{halt_shown}
 use Rattle.rehearse_runs.specs.Phases.{AreDigits}
@@ -60,12 +60,12 @@ pub outcomes_length : (digits : Text) → length (outcomes digits) ≡ length di
 outcomes_length [] = refl
 outcomes_length (b ∷ digits) = ap suc (outcomes_length digits)
 
-map_digits : (v w : OutcomeWord) → map digit_of (v ++ w) ≡ map digit_of v ++ map digit_of w
+map_digits : (v w : OutcomeWord) → map outcome_digit (v ++ w) ≡ map outcome_digit v ++ map outcome_digit w
 map_digits [] w = refl
-map_digits (d ∷ v) w = ap (λ (t : Text). digit_of d ∷ t) (map_digits v w)
+map_digits (d ∷ v) w = ap (λ (t : Text). outcome_digit d ∷ t) (map_digits v w)
 
 pub digits_success : (digits : Text) → AreDigits digits → AreDigits (digits ++ 48 ∷ [])
-digits_success digits h = ap (map digit_of) (outcomes_success digits) ∙ map_digits (outcomes digits) (Success ∷ []) ∙ ap (λ (t : Text). t ++ 48 ∷ []) h
+digits_success digits h = ap (map outcome_digit) (outcomes_success digits) ∙ map_digits (outcomes digits) (Success ∷ []) ∙ ap (λ (t : Text). t ++ 48 ∷ []) h
 
 -- a run that wants an outcome
 wants : (a : Answer) (s : State) → settled a ≡ Wants s → a ≡ Dry s
@@ -200,7 +200,7 @@ first_found (Err e) task w r₀ r₁ r₂ b f = f
 
 front_digits : (digits : Text) (b : ℕ) → AreDigits (digits ++ b ∷ []) → AreDigits digits
 front_digits [] b h = refl
-front_digits (d ∷ digits) b h = let e = h in let f : map digit_of (outcomes (digits ++ b ∷ [])) ≡ digits ++ b ∷ [] = cc in let g : digit_of (outcome_of d) ≡ d = cc in let i = front_digits digits b f in cc
+front_digits (d ∷ digits) b h = let e = h in let f : map outcome_digit (outcomes (digits ++ b ∷ [])) ≡ digits ++ b ∷ [] = cc in let g : outcome_digit (outcome_of d) ≡ d = cc in let i = front_digits digits b f in cc
 
 pub cut_digits : (all digits : Text) (b : ℕ) → all ≡ digits ++ b ∷ [] → AreDigits all → AreDigits digits
 cut_digits all digits b e h = front_digits digits b (subst AreDigits e h)
@@ -227,7 +227,7 @@ turned_here all digits new b e h n =
     ap (λ (t : Text). turned (outcomes t)) (e ∙ ap (λ (k : ℕ). digits ++ k ∷ []) h) ∙ ap turned (outcomes_more digits 48) ∙ turned_by_success (outcomes digits) ∙ ap Some (sym (ap outcomes n ∙ outcomes_more digits 49))
 
 pub digits_failure : (digits new : Text) → new ≡ digits ++ 49 ∷ [] → AreDigits digits → AreDigits new
-digits_failure digits new n h = subst AreDigits (sym n) (ap (map digit_of) (outcomes_more digits 49) ∙ map_digits (outcomes digits) (Failure ∷ []) ∙ ap (λ (t : Text). t ++ 49 ∷ []) h)
+digits_failure digits new n h = subst AreDigits (sym n) (ap (map outcome_digit) (outcomes_more digits 49) ∙ map_digits (outcomes digits) (Failure ∷ []) ∙ ap (λ (t : Text). t ++ 49 ∷ []) h)
 
 -- ---- the next run
 

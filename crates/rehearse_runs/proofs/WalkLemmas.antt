@@ -9,7 +9,7 @@ use Rattle.rehearse.specs.Bounds.{most_steps, most_devices}
 use Rattle.rehearse.specs.Outcomes.{OutcomeWord, Outcome, Success, Failure, Run}
 use Rattle.rehearse.specs.State.{Text}
 use Rattle.rehearse.specs.Runs.{Task, kind}
-use Rattle.rehearse.specs.Listing.{digit_of}
+use Rattle.rehearse.specs.Listing.{outcome_digit}
 use Rattle.rehearse_runs.specs.RunsShown.{outcomes, outcome_of}
 use Rattle.rehearse_machine.specs.Machine.{Stops, asked_at, outcome_when}
 use Rattle.rehearse_runs.specs.Searching.{StoppedAt, AreMarks}
@@ -63,30 +63,30 @@ asks_here task digits text stop r s h e =
     ([], e, ap (kind task) (append-nil (outcomes digits)) ∙ asked_kind task (outcomes digits) r.present (subst (λ (x : Stop). StoppedAt task (outcomes digits) x r.present) s h))
 
 -- a byte is no digit
-pub no_digit_here : (task : Task) (p : OutcomeWord) (text : Text) → (text ≡ [] → ⊥) → ((d : Outcome) (w : OutcomeWord) → text ≢ digit_of d ∷ map digit_of w) → IsLongBehind task p text
+pub no_digit_here : (task : Task) (p : OutcomeWord) (text : Text) → (text ≡ [] → ⊥) → ((d : Outcome) (w : OutcomeWord) → text ≢ outcome_digit d ∷ map outcome_digit w) → IsLongBehind task p text
 no_digit_here task p text ne n [] e = absurd (ne e)
 no_digit_here task p text ne n (d ∷ w) e = absurd (n d w e)
 
 -- ---- where it goes on
 
-read_digit : (d : Outcome) → outcome_of (digit_of d) ≡ d
+read_digit : (d : Outcome) → outcome_of (outcome_digit d) ≡ d
 read_digit Success = refl
 read_digit Failure = refl
 
-same_outcome : (c d : Outcome) → digit_of c ≡ digit_of d → c ≡ d
+same_outcome : (c d : Outcome) → outcome_digit c ≡ outcome_digit d → c ≡ d
 same_outcome c d e = sym (read_digit c) ∙ ap outcome_of e ∙ read_digit d
 
-long_on : (task : Task) (p : OutcomeWord) (d : Outcome) (behind : Text) → IsLongBehind task (p ++ d ∷ []) behind → IsLongBehind task p (digit_of d ∷ behind)
+long_on : (task : Task) (p : OutcomeWord) (d : Outcome) (behind : Text) → IsLongBehind task (p ++ d ∷ []) behind → IsLongBehind task p (outcome_digit d ∷ behind)
 long_on task p d behind h [] e = absurd cc
 long_on task p d behind h (c ∷ w) e =
-    let f : digit_of d ≡ digit_of c = cc in
-    let g : behind ≡ map digit_of w = cc in
+    let f : outcome_digit d ≡ outcome_digit c = cc in
+    let g : behind ≡ map outcome_digit w = cc in
     sym (ap (kind task) (append_assoc p (d ∷ []) w ∙ ap (λ (x : Outcome). p ++ x ∷ w) (same_outcome d c f))) ∙ h w g
 
-outcomes_on : (digits digits' : Text) (d : Outcome) → digits' ≡ digits ++ digit_of d ∷ [] → outcomes digits' ≡ outcomes digits ++ d ∷ []
-outcomes_on digits digits' d e = ap outcomes e ∙ outcomes_more digits (digit_of d) ∙ ap (λ (x : Outcome). outcomes digits ++ x ∷ []) (read_digit d)
+outcomes_on : (digits digits' : Text) (d : Outcome) → digits' ≡ digits ++ outcome_digit d ∷ [] → outcomes digits' ≡ outcomes digits ++ d ∷ []
+outcomes_on digits digits' d e = ap outcomes e ∙ outcomes_more digits (outcome_digit d) ∙ ap (λ (x : Outcome). outcomes digits ++ x ∷ []) (read_digit d)
 
-pub walked_on : (result : Result Walked StoreError) (task : Task) (digits digits' text behind all : Text) (d : Outcome) (r₀ r₁ r₂ : Record) → digits' ≡ digits ++ digit_of d ∷ [] → text ≡ digit_of d ∷ behind
+pub walked_on : (result : Result Walked StoreError) (task : Task) (digits digits' text behind all : Text) (d : Outcome) (r₀ r₁ r₂ : Record) → digits' ≡ digits ++ outcome_digit d ∷ [] → text ≡ outcome_digit d ∷ behind
     → r₁.begun + r₀.present.steps ≡ r₀.begun + r₁.present.steps → IfOk result (λ found. Walks task (outcomes digits') digits' behind all (outcomes all) found r₁ r₂) → IfOk result (λ found. Walks task (outcomes digits) digits text all (outcomes all) found r₀ r₂)
 walked_on (Ok (walked.Ends halt)) task digits digits' text behind all d r₀ r₁ r₂ e t b h =
     let f = h.1 in
@@ -95,15 +95,15 @@ walked_on (Ok (walked.Ends halt)) task digits digits' text behind all d r₀ r�
     let o = outcomes_on digits digits' d e in (
       (
         d ∷ v,
-        t ∙ ap (λ (x : Text). digit_of d ∷ x) h.0.1,
+        t ∙ ap (λ (x : Text). outcome_digit d ∷ x) h.0.1,
         h.0.2 ∙ ap (λ (p : OutcomeWord). p ++ v) o ∙ append_assoc (outcomes digits) (d ∷ []) v,
-        h.0.3 ∙ ap (λ (x : Text). x ++ behind) e ∙ append_assoc digits (digit_of d ∷ []) behind ∙ ap (λ (x : Text). digits ++ x) (sym t),
+        h.0.3 ∙ ap (λ (x : Text). x ++ behind) e ∙ append_assoc digits (outcome_digit d ∷ []) behind ∙ ap (λ (x : Text). digits ++ x) (sym t),
       ),
       record { run = f.run; moment = f.moment; ending = f.ending; marks = f.marks; begun = omega arith; within = f.within },
     )
 walked_on (Ok walked.Short) task digits digits' text behind all d r₀ r₁ r₂ e t b h =
     let o = outcomes_on digits digits' d e in
-    (d ∷ h.0, t ∙ ap (λ (x : Text). digit_of d ∷ x) h.1, sym (ap (kind task) (ap (λ (p : OutcomeWord). p ++ h.0) o ∙ append_assoc (outcomes digits) (d ∷ []) h.0)) ∙ h.2)
+    (d ∷ h.0, t ∙ ap (λ (x : Text). outcome_digit d ∷ x) h.1, sym (ap (kind task) (ap (λ (p : OutcomeWord). p ++ h.0) o ∙ append_assoc (outcomes digits) (d ∷ []) h.0)) ∙ h.2)
 walked_on (Ok walked.Long) task digits digits' text behind all d r₀ r₁ r₂ e t b h =
     subst (IsLongBehind task (outcomes digits)) (sym t) (long_on task (outcomes digits) d behind (subst (λ (p : OutcomeWord). IsLongBehind task p behind) (outcomes_on digits digits' d e) h))
 walked_on (Err x) task digits digits' text behind all d r₀ r₁ r₂ e t b h = h
@@ -114,7 +114,7 @@ pub walked_first : (result : Result Walked StoreError) (task : Task) (digits tex
 walked_first (Ok (walked.Ends halt)) task digits text all r₀ r₁ r₂ e b h =
     let f = h.1 in
     let c = f.begun in (
-      h.0.1 ∙ ap (map digit_of) (sym (h.0.2 ∙ ap (λ (x : Text). outcomes x ++ h.0.0) e)),
+      h.0.1 ∙ ap (map outcome_digit) (sym (h.0.2 ∙ ap (λ (x : Text). outcomes x ++ h.0.0) e)),
       h.0.3 ∙ ap (λ (x : Text). x ++ text) e,
       record { run = f.run; moment = f.moment; ending = f.ending; marks = f.marks; begun = omega arith; within = f.within },
     )

@@ -4,7 +4,7 @@ use Rattle.rehearse.specs.Outcomes as outcomes
 use Rattle.rehearse.specs.Outcomes.{OutcomeWord}
 use Rattle.rehearse.specs.State.{Text}
 use Rattle.rehearse.specs.Runs.{Task, kind, rest, steps}
-use Rattle.rehearse.specs.Listing.{digit_of}
+use Rattle.rehearse.specs.Listing.{outcome_digit}
 use Rattle.rehearse_runs.specs.RunsShown.{RunsShown}
 use Rattle.rehearse_runs.specs.declared.run_error.RunError.{RunError}
 use Rattle.rehearse_runs.specs.declared.run_error.RunError.TheVariants.{NoSuchVariable, Memory, NotARun, Failed}
@@ -27,13 +27,13 @@ runs_behind task w = record {
 -- the text is the digits of a run, and the runs behind it are to come
 pub record GoesOnBehind (task : Task) (text : Text) (runs : RunsShown) : Type 0 where
   pub word : OutcomeWord
-  pub digits : text ≡ map digit_of word
+  pub digits : text ≡ map outcome_digit word
   pub run : kind task word ≡ outcomes.Run
   pub behind : runs ≡ runs_behind task word
 
 -- a text is not the digits of a run
 abbrev pub IsNoRun : Task → Text → Type 0
-IsNoRun task text = (w : OutcomeWord) → text ≡ map digit_of w → kind task w ≢ outcomes.Run
+IsNoRun task text = (w : OutcomeWord) → text ≡ map outcome_digit w → kind task w ≢ outcomes.Run
 
 -- why there are no runs behind a text, where the variable has this value
 abbrev pub RefusesWord : Task → (value : Option Text) → Text → RunError → Type 0
@@ -49,8 +49,8 @@ kind_shown Long = outcomes.Long
 
 -- the kind of the word that a text is the digits of; a text with a byte that is no digit is too long
 pub record HasKind (task : Task) (text : Text) (k : outcomes.WordKind) : Type 0 where
-  pub digits : (w : OutcomeWord) → text ≡ map digit_of w → kind task w ≡ k
-  pub others : k ≢ outcomes.Long → (w : OutcomeWord) × (text ≡ map digit_of w)
+  pub digits : (w : OutcomeWord) → text ≡ map outcome_digit w → kind task w ≡ k
+  pub others : k ≢ outcomes.Long → (w : OutcomeWord) × (text ≡ map outcome_digit w)
 
 -- why a text is not tried
 abbrev pub RefusesTry : (value : Option Text) → RunError → Type 0

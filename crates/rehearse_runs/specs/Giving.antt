@@ -8,7 +8,7 @@ use Rattle.rehearse.specs.Bounds.{most_devices}
 use Rattle.rehearse.specs.Outcomes.{OutcomeWord}
 use Rattle.rehearse.specs.State.{state_at}
 use Rattle.rehearse.specs.Runs.{Task, run_on, state_of, ending_of, steps}
-use Rattle.rehearse.specs.Listing.{digit_of}
+use Rattle.rehearse.specs.Listing.{outcome_digit}
 use Rattle.rehearse_runs.specs.RunsShown.{RunsShown, last_given, steps_shared, successes}
 use Rattle.rehearse_runs.specs.ViewShown.{shown_word, shown_moment, shown_ending, shown_marks}
 use Rattle.rehearse_runs.specs.declared.view.RunView.{RunView}
@@ -58,7 +58,7 @@ Advances old (Err e) new = Refuses old e new
 module _ {S : Type 0} (g : Ghosts S) where
   -- the run on a word is shown
   pub record ShowsRun (task : Task) (w : OutcomeWord) (view : RunView S) : Type 0 where
-    pub word : shown_word view ≡ map digit_of w
+    pub word : shown_word view ≡ map outcome_digit w
     pub moment : state_at (shown_moment g view) [] ≡ state_of (run_on task w)
     pub ending : shown_ending view ≡ ending_of (run_on task w)
     -- no more moments are marked than device commands succeeded, so never more than a run may ask

@@ -5,7 +5,7 @@ use Rattle.rehearse.specs.Bounds.{most_steps}
 use Rattle.rehearse.specs.Outcomes.{OutcomeWord, Run}
 use Rattle.rehearse.specs.State.{Text, state_at}
 use Rattle.rehearse.specs.Runs.{Task, kind, run_on, state_of, ending_of, runs, rest}
-use Rattle.rehearse.specs.Listing.{digit_of}
+use Rattle.rehearse.specs.Listing.{outcome_digit}
 use Rattle.rehearse_runs.specs.BytesShown.{Held}
 use Rattle.rehearse_runs.specs.RunsShown.{RunsShown, outcomes, to_come_after, given_if, words_made, in_front_of, work_of}
 use Rattle.rehearse_machine.specs.EndingsShown.{halt_shown}
@@ -84,7 +84,7 @@ shown_at task start given w begun phase = record {
 
 -- each is a digit
 abbrev pub AreDigits : Text → Type 0
-AreDigits digits = map digit_of (outcomes digits) ≡ digits
+AreDigits digits = map outcome_digit (outcomes digits) ≡ digits
 
 -- the word that was given is a run
 abbrev pub IsRunIf : Bool → Task → OutcomeWord → Type 0

@@ -7,7 +7,7 @@ use Rattle.rehearse.specs.Outcomes.{OutcomeWord, Run}
 use Rattle.rehearse.specs.State.{Text}
 use Rattle.rehearse.specs.DeviceList.{Devices, listed}
 use Rattle.rehearse.specs.Runs.{Task, kind, runs, rest}
-use Rattle.rehearse.specs.Listing.{digit_of, record_of, listing, words_listed}
+use Rattle.rehearse.specs.Listing.{outcome_digit, record_of, listing, words_listed}
 use Rattle.rehearse_runs.specs.RunsShown.{RunsShown}
 use Rattle.rehearse_machine.specs.Tasks.{task_shown, task_set}
 use Rattle.rehearse.specs.Bounds.{BoundsShown}
@@ -29,7 +29,8 @@ names_of ask = map (λ n. n.now) ask.names.now
 -- all runs, or those behind the run whose digits these are
 abbrev pub AreToCome : Task → (start : Option Text) → List OutcomeWord → Type 0
 AreToCome task None ws = ws ≡ runs task
-AreToCome task (Some text) ws = (w : OutcomeWord) × (text ≡ map digit_of w) × (kind task w ≡ Run) × (ws ≡ rest task w)
+AreToCome task (Some text) ws =
+    (w : OutcomeWord) × (text ≡ map outcome_digit w) × (kind task w ≡ Run) × (ws ≡ rest task w)
 
 -- what is rehearsed: the commands of the device list, the variable's text, and the words to come
 pub record Rehearsed (environment : List (Text × Text)) (devices_text : Text) (ask : Ask) (task : Task)

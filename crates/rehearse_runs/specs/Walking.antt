@@ -6,7 +6,7 @@ use Rattle.rehearse.specs.Bounds.{most_steps}
 use Rattle.rehearse.specs.Outcomes.{OutcomeWord, Outcome, Run, Short, Long}
 use Rattle.rehearse.specs.State.{Text, state_at}
 use Rattle.rehearse.specs.Runs.{Task, run_on, state_of, ending_of, kind}
-use Rattle.rehearse.specs.Listing.{digit_of}
+use Rattle.rehearse.specs.Listing.{outcome_digit}
 use Rattle.rehearse_machine.specs.EndingsShown.{halt_shown}
 use Rattle.rehearse_machine.specs.Machine.{outcome_when}
 use Rattle.rehearse_runs.specs.Searching.{AreMarks}
@@ -16,8 +16,8 @@ use Rattle.rehearse_runs.specs.declared.walking.Walked.TheVariants as walked
 
 -- a text begins with the digit of an outcome, and goes on so; or it begins with none
 abbrev pub BeginsWithDigit : Text → Option (Bool × Bor Text) → Type 0
-BeginsWithDigit text (Some next) = text ≡ digit_of (outcome_when next.0) ∷ next.1.now
-BeginsWithDigit text None = (d : Outcome) (w : OutcomeWord) → text ≢ digit_of d ∷ map digit_of w
+BeginsWithDigit text (Some next) = text ≡ outcome_digit (outcome_when next.0) ∷ next.1.now
+BeginsWithDigit text None = (d : Outcome) (w : OutcomeWord) → text ≢ outcome_digit d ∷ map outcome_digit w
 
 -- the run on a word stands in the store
 pub record Reached (task : Task) (w : OutcomeWord) (halt : Halt) (old new : Record) : Type 0 where
@@ -30,15 +30,16 @@ pub record Reached (task : Task) (w : OutcomeWord) (halt : Halt) (old new : Reco
 
 -- behind the outcomes p, a text is not the digits of a run, and not too short for one
 abbrev pub IsLongBehind : Task → (p : OutcomeWord) → Text → Type 0
-IsLongBehind task p text = (v : OutcomeWord) → text ≡ map digit_of v → kind task (p ++ v) ≡ Long
+IsLongBehind task p text = (v : OutcomeWord) → text ≡ map outcome_digit v → kind task (p ++ v) ≡ Long
 
 -- it is digits, behind which a device command asks
 abbrev pub IsShortBehind : Task → (p : OutcomeWord) → Text → Type 0
-IsShortBehind task p text = (v : OutcomeWord) × (text ≡ map digit_of v) × (kind task (p ++ v) ≡ Short)
+IsShortBehind task p text = (v : OutcomeWord) × (text ≡ map outcome_digit v) × (kind task (p ++ v) ≡ Short)
 
 -- the word w of all digits is p and the outcomes of the text
 abbrev pub IsWordBehind : (p : OutcomeWord) → (front text all : Text) → (w : OutcomeWord) → Type 0
-IsWordBehind p front text all w = (v : OutcomeWord) × (text ≡ map digit_of v) × (w ≡ p ++ v) × (all ≡ front ++ text)
+IsWordBehind p front text all w =
+    (v : OutcomeWord) × (text ≡ map outcome_digit v) × (w ≡ p ++ v) × (all ≡ front ++ text)
 
 -- the walk along a text behind the digits `front`
 abbrev pub Walks : Task → (p : OutcomeWord) → (front text all : Text) → (w : OutcomeWord) → Walked
@@ -57,7 +58,7 @@ pub record ReachedFirst (task : Task) (w : OutcomeWord) (halt : Halt) (old new :
   pub within : new.present.steps ≤ most_steps
 
 abbrev pub WalksTo : Task → (text all : Text) → (w : OutcomeWord) → Walked → (old new : Record) → Type 0
-WalksTo task text all w (walked.Ends halt) old new = (text ≡ map digit_of w) × (all ≡ text)
+WalksTo task text all w (walked.Ends halt) old new = (text ≡ map outcome_digit w) × (all ≡ text)
     × ReachedFirst task w halt old new
 WalksTo task text all w walked.Short old new = IsShortBehind task [] text
 WalksTo task text all w walked.Long old new = IsLongBehind task [] text

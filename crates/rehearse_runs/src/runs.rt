@@ -1,7 +1,7 @@
 //! The runs of the text of a variable.
 ghost use Rattle.std.specs.Prelude.{◌≡◌, ◌↔◌, [], false, IsTrue, map, option_map};
 ghost use Rattle.bootstore.specs.Moment.{option_bytes};
-ghost use Rattle.rehearse.specs.Listing.{digit_of};
+ghost use Rattle.rehearse.specs.Listing.{outcome_digit};
 ghost use Rattle.rehearse.specs.Outcomes.{has_success};
 ghost use Rattle.rehearse_runs.specs.RunsShown.{has_words, last_given, outcomes, work_of};
 ghost use Rattle.std.specs.Borrow.{sem};
@@ -247,7 +247,7 @@ impl<'a, S: Store> Runs<'a, S> {
 
     /// The digits of the last word that was given, or handed to `after`.
     pub fn given(&self) -> Option<&[u8]>
-        ensures { option_bytes result ≡ option_map (map digit_of) self.now.given }
+        ensures { option_bytes result ≡ option_map (map outcome_digit) self.now.given }
     {
         if self.has_given {
             Some(self.word.as_slice())
@@ -258,7 +258,7 @@ impl<'a, S: Store> Runs<'a, S> {
 
     /// The digits of that word; none where there is none.
     pub(crate) fn last_digits(&self) -> &[u8]
-        ensures { result.now ≡ map digit_of (last_given self.now) }
+        ensures { result.now ≡ map outcome_digit (last_given self.now) }
     {
         if self.has_given {
             self.word.as_slice()

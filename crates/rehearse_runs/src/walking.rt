@@ -1,7 +1,7 @@
 //! The walk along the digits of a word.
 ghost use Rattle.std.specs.Prelude.{◌≡◌, ◌+◌, ◌-◌, ◌*◌, ◌<◌, ◌≤◌, ◌^◌, ◌∷◌, [], ◌++◌, IfOk, OnOk};
 ghost use Rattle.rehearse.specs.Bounds.{most_devices, most_steps};
-ghost use Rattle.rehearse.specs.Listing.{digit_of};
+ghost use Rattle.rehearse.specs.Listing.{outcome_digit};
 ghost use Rattle.rehearse_runs.specs.RunsShown.{outcomes};
 ghost use Rattle.rehearse_runs.specs.Phases.{AreDigits};
 ghost use Rattle.rehearse_machine.specs.Machine.{outcome_when};
@@ -38,7 +38,7 @@ fn choose<S: Store>(
     requires bound { (task_in rehearsal.now).limits.device_bound ≤ most_devices }
     ensures stopped { IfOk result (λ stop. StoppedAt (task_in rehearsal.now) (outcomes digits.new.items) stop (S.record_of store.new).present) }
     ensures marks { OnOk result (AreMarks (task_in rehearsal.now) (outcomes digits.new.items) (S.record_of store.new).marked) }
-    ensures digits { OnOk result (digits.new.items ≡ digits.old.items ++ digit_of (outcome_when success) ∷ []) }
+    ensures digits { OnOk result (digits.new.items ≡ digits.old.items ++ outcome_digit (outcome_when success) ∷ []) }
     ensures begun { OnOk result ((S.record_of store.new).begun + (S.record_of store.old).present.steps ≡ (S.record_of store.old).begun + (S.record_of store.new).present.steps) }
     ensures within { OnOk result ((S.record_of store.new).present.steps ≤ most_steps) }
 {

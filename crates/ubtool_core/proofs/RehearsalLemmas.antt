@@ -9,7 +9,7 @@ use Rattle.envimage.specs.Image.{LoadedShown, load_of}
 use Rattle.envimage.specs.Sink.{Sink}
 use Rattle.envimage.specs.declared.image.ByteOrder.{ByteOrder}
 use Rattle.envtools.specs.Environment.{env_of}
-use Rattle.rehearse.specs.Listing.{digit_of, spelled}
+use Rattle.rehearse.specs.Listing.{outcome_digit, spelled}
 use Rattle.rehearse.specs.Outcomes.{Outcome, Success, Failure, OutcomeWord}
 use Rattle.rehearse.specs.Runs.{Task}
 use Rattle.rehearse.specs.State.{Text}
@@ -29,23 +29,23 @@ use Rattle.ubtool_core.specs.declared.rehearsal.RehearseAsk.{RehearseAsk}
 
 -- ---- a word as it is printed, and its digits
 
-spelled-digits : (w : OutcomeWord) → digits_in (spelled w) ≡ map digit_of w
+spelled-digits : (w : OutcomeWord) → digits_in (spelled w) ≡ map outcome_digit w
 spelled-digits [] = refl
 spelled-digits (Success ∷ []) = refl
 spelled-digits (Failure ∷ []) = refl
 spelled-digits (d ∷ e ∷ w) = refl
 
-no_dot : (text : Text) (w : OutcomeWord) (d : Outcome) → 46 ∷ [] ≡ map digit_of (d ∷ w) → text ≡ spelled (d ∷ w)
+no_dot : (text : Text) (w : OutcomeWord) (d : Outcome) → 46 ∷ [] ≡ map outcome_digit (d ∷ w) → text ≡ spelled (d ∷ w)
 no_dot text w Success e = let h : 46 ≡ 48 = ap (λ (l : List ℕ). get_or l 0 0) e in absurd (omega (arith, h))
 no_dot text w Failure e = let h : 46 ≡ 49 = ap (λ (l : List ℕ). get_or l 0 0) e in absurd (omega (arith, h))
 
-one_byte : (b : ℕ) (dot : Bool) (w : OutcomeWord) → (b == 46) ≡ dot → (if dot then [] else b ∷ []) ≡ map digit_of w → b ∷ [] ≡ spelled w
+one_byte : (b : ℕ) (dot : Bool) (w : OutcomeWord) → (b == 46) ≡ dot → (if dot then [] else b ∷ []) ≡ map outcome_digit w → b ∷ [] ≡ spelled w
 one_byte b true [] is e = ap (λ n. n ∷ []) (eqb-true b 46 is)
 one_byte b true (d ∷ w) is e = cc
 one_byte b false [] is e = cc
 one_byte b false (d ∷ w) is e = e
 
-digits-spelled : (text : Text) (w : OutcomeWord) → digits_in text ≡ map digit_of w → text ≡ spelled w
+digits-spelled : (text : Text) (w : OutcomeWord) → digits_in text ≡ map outcome_digit w → text ≡ spelled w
 digits-spelled [] [] e = cc
 digits-spelled [] (d ∷ w) e = no_dot [] w d e
 digits-spelled (b ∷ []) w e = one_byte b (b == 46) w refl e

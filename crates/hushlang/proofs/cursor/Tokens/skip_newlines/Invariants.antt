@@ -1,11 +1,11 @@
 use Rattle.std.proofs.Common.{◌≡◌, ◌≤◌, length}
-use Rattle.hushlang.specs.Grammar.{is_newline}
+use Rattle.hushlang.specs.Grammar.{is_newline_token}
 use Rattle.hushlang.specs.Parsing.{behind}
 use Rattle.hushlang.proofs.cursor.Tokens.skip_newlines.Given as goal
 
 abbrev pub invariant-newlines : goal.invariant-newlines
 invariant-newlines l = record {
-  same : behind is_newline l.self ≡ behind is_newline l.fn.self;
+  same : behind is_newline_token l.self ≡ behind is_newline_token l.fn.self;
   within : length l.self.tokens ≤ length l.fn.self.tokens;
 }
 
