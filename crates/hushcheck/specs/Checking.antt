@@ -6,8 +6,8 @@ use Rattle.envimage.specs.declared.image.ByteOrder.{ByteOrder}
 use Rattle.envimage.specs.declared.image.ImageError.{ImageError}
 use Rattle.hushcheck_core.specs.Names.{Text}
 use Rattle.hushcheck_core.specs.Report.{Checks}
-use Rattle.ubtool_core.specs.Order.{OnlyReads}
-use Rattle.ubtool_core.specs.Told.{Told}
+use Rattle.ubtool_files.specs.CallOrder.{OnlyReads}
+use Rattle.ubtool_files.specs.Told.{Told}
 use Rattle.ubtool_core.specs.declared.error.ToolError.{ToolError}
 use Rattle.ubtool_core.specs.declared.error.ToolError.TheVariants.{Image, Memory, Write}
 use Rattle.ubtool_core.specs.declared.fault.Fault.{Fault}

@@ -4,7 +4,7 @@ use Rattle.hushcheck.specs.Checking.{ChecksFrom, LeavesOutput}
 use Rattle.hushcheck.specs.declared.ask.Ask.{Ask}
 use Rattle.hushcheck.specs.declared.ask.Ask.TheVariants.{Check, Help, Version}
 use Rattle.ubtool_core.specs.PrintingImages.{Outputs}
-use Rattle.ubtool_core.specs.Told.{IfTold, Told}
+use Rattle.ubtool_files.specs.Told.{IfTold, Told}
 use Rattle.ubtool_core.specs.declared.fault.Fault.{Fault}
 use Rattle.ubtool_run.specs.Performing.{Shows, version_line}
 

@@ -11,7 +11,7 @@ use crate::program::{PROGRAM, run_check};
 use envimage::{Out, Over, write_all};
 use std::io;
 use std::process::ExitCode;
-use ubtool_core::Machine;
+use ubtool_files::Machine;
 use ubtool_run::{StartError, Telling, buffered, end, finish, words_of_call};
 
 /// What is told where memory for a buffer before the error output is refused.

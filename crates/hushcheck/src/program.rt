@@ -13,7 +13,8 @@ use crate::words::read_words;
 use envimage::Out;
 use std::alloc::Global;
 use std::convert::AsStr;
-use ubtool_core::{Fault, Files};
+use ubtool_core::Fault;
+use ubtool_files::Files;
 use ubtool_run::{refuse, show_help, show_version, status_of};
 
 /// The name in front of what is told of a refusal.

@@ -3,7 +3,7 @@ ghost use Rattle.std.specs.Prelude.{◌≡◌, map, string_bytes};
 ghost use Rattle.std.specs.Option.{option_copied};
 ghost use Rattle.hushcheck.specs.Checking.{ChecksFrom, ChecksText, Finds, LeavesOutput};
 ghost use Rattle.ubtool_core.specs.PrintingImages.{environment_in};
-ghost use Rattle.ubtool_core.specs.Told.{IfTold};
+ghost use Rattle.ubtool_files.specs.Told.{IfTold};
 ghost use Rattle.ubtool_run.specs.Faults.{CountsTold};
 ghost use Rattle.ubtool_run.specs.Images.{copies};
 ghost use Rattle.ubtool_run.specs.PrintingFiles.{environment};
@@ -12,7 +12,8 @@ use envimage::{ByteOrder, Out, load, write_all};
 use envtools::Env;
 use hushcheck_core::check;
 use std::alloc::Global;
-use ubtool_core::{Fault, Files, ToolError};
+use ubtool_core::{Fault, ToolError};
+use ubtool_files::Files;
 use ubtool_run::{Images, read_images, slices_of};
 
 /// The environment of an image, or of the copy of a pair that counts.

@@ -5,7 +5,7 @@ use hushlang::expand::{OneVariable, expand, expand_one};
 use hushlang::parse::parse;
 use hushlang::tree::{Command, Script, Word};
 use std::alloc::Global;
-use ubtool_core::{Files, MemoryFiles};
+use ubtool_files::{Files, MemoryFiles};
 
 /// The variables that words are expanded by.
 fn variables() -> OneVariable<'static> {

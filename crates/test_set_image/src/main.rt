@@ -8,7 +8,8 @@ use envimage::{ByteOrder, SIZE_MAX, Which};
 use std::alloc::AllocError;
 use std::process::ExitCode;
 use std::{env, fs, io};
-use ubtool_core::{Edit, read_up_to, set_bytes};
+use ubtool_core::{Edit, set_bytes};
+use ubtool_files::read_up_to;
 
 fn read(rt: &HostRuntime, path: &str) -> Option<Vec<u8>> {
     let mut file = fs::open(rt, path).ok()?;

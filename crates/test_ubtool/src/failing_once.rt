@@ -3,7 +3,8 @@ use crate::writers::{FailsOnce, Memory};
 use envimage::{ByteOrder, OutFault, Over, encode, write_all, write_parts};
 use std::io::{self, BufWriter, ErrorKind, Read, Write};
 use std::test::Fail;
-use ubtool_core::{MemoryFiles, UntilFailed, run_input};
+use ubtool_core::run_input;
+use ubtool_files::{MemoryFiles, UntilFailed};
 use ubtool_run::run_tool;
 
 const CONFIG: &str = "/etc/fw_env.config";

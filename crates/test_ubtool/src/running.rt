@@ -1,7 +1,7 @@
 //! The whole program over files in memory: statuses, outputs, and which calls it makes.
 use envimage::{ByteOrder, Over, encode};
 use std::test::Fail;
-use ubtool_core::{Action, LIMIT, MemoryFiles};
+use ubtool_files::{Action, LIMIT, MemoryFiles};
 use ubtool_run::run_tool;
 
 const CONFIG: &str = "/etc/fw_env.config";

@@ -1,12 +1,12 @@
 //! The machine's files, under the lock of U-Boot's tools.
 ghost use Rattle.std.specs.Prelude.{◌≡◌, None};
-ghost use Rattle.ubtool_core.specs.Fault.{CountsFault};
-ghost use Rattle.ubtool_core.specs.Machine.{faults_of};
+ghost use Rattle.ubtool_files.specs.FailureCounts.{CountsFault};
+ghost use Rattle.ubtool_files.specs.MachineShown.{faults_of};
 
 use std::alloc::Global;
 use std::fs::{File, OpenOptions};
 use std::rt;
-use ubtool_core::{FileFault, Files, Machine};
+use ubtool_files::{FileFault, Files, Machine};
 
 /// The file that `fw_printenv` and `fw_setenv` lock, those of U-Boot and those of libubootenv.
 const LOCK_FILE: &str = "/var/lock/fw_printenv.lock";

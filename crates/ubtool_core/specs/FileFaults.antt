@@ -3,8 +3,8 @@ use Rattle.std.specs.Prelude.{String}
 use Rattle.std.specs.declared.alloc.Global.{Global}
 use Rattle.ubtool_core.specs.declared.fault.Fault.{Fault}
 use Rattle.ubtool_core.specs.declared.fault.Fault.TheVariants as told
-use Rattle.ubtool_core.specs.declared.files.FileFault.{FileFault}
-use Rattle.ubtool_core.specs.declared.files.FileFault.TheVariants.{Failed, Short, TooLong, Memory}
+use Rattle.ubtool_files.specs.declared.files.FileFault.{FileFault}
+use Rattle.ubtool_files.specs.declared.files.FileFault.TheVariants.{Failed, Short, TooLong, Memory}
 use Rattle.ubtool_core.specs.declared.word_form.WordForm.{WordForm}
 
 -- a path as it is printed

@@ -6,11 +6,4 @@ pub mod Given
 pub mod Headline
 pub mod Refusing
 pub mod ChangingImages
-pub mod Fault
-pub mod Told
-pub mod Read
-pub mod Machine
-pub mod Memory
 pub mod FileFaults
-pub mod Order
-pub mod UntilFailed

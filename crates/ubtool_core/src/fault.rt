@@ -2,11 +2,11 @@
 ghost use Rattle.envimage.specs.Sink.{Wrote};
 
 use crate::error::ToolError;
-use crate::files::FileFault;
 use crate::word_form::WordForm;
 use envimage::{ConfigError, Out, write_all};
 use std::fmt;
 use thiserror::Error;
+use ubtool_files::FileFault;
 
 /// Why the program gave up. The text is what it tells of it.
 #[derive(Debug, Drop, Error)]

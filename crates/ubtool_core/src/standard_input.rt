@@ -3,11 +3,11 @@ ghost use Rattle.envimage.specs.Sink.{Wrote};
 ghost use Rattle.ubtool_core.specs.Input.{PrintsInput, RefusesInput};
 
 use crate::fault::{Fault, write_fault};
-use crate::input::{ReadFault, read_up_to};
 use crate::print::{PrintAsk, print_bytes};
 use envimage::{ByteOrder, Out, SIZE_MAX};
 use std::alloc::Global;
 use std::io::Read;
+use ubtool_files::{ReadFault, read_up_to};
 
 /// Prints the variables of the single image that `input` holds, its checksum little-endian.
 fn print_input<R: Read, O: Out, E: Out>(

@@ -3,7 +3,7 @@ use Rattle.std.proofs.Common.{◌≡◌, ℕ, Bool, List, Option, Some, None, Ok
 use Rattle.std.specs.Prelude.{Result, option_map}
 use Rattle.envimage.specs.declared.image.ByteOrder.{ByteOrder}
 use Rattle.ubtool_core.specs.PrintingImages.{Outputs, Prints}
-use Rattle.ubtool_core.specs.Told.{Told}
+use Rattle.ubtool_files.specs.Told.{Told}
 use Rattle.ubtool_core.specs.declared.error.ToolError.{ToolError}
 use Rattle.ubtool_core.specs.declared.error.ToolError.TheVariants.{Image, Env, Script, Devices, NoSuchVariable, NotARun, Write, Memory}
 use Rattle.ubtool_core.specs.declared.fault.Fault.{Fault}

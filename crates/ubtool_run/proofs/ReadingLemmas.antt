@@ -5,17 +5,17 @@ use Rattle.std.specs.declared.alloc.Global.{Global}
 use Rattle.envimage.specs.Config.{PlaceShown, places}
 use Rattle.envimage.specs.Place.{place_shown}
 use Rattle.envimage.specs.declared.config.Place.{Place}
-use Rattle.ubtool_core.proofs.OrderLemmas.{OnlyReads-one, OnlyReads-part, OnlyReads-then, OnlyReads-whole}
-use Rattle.ubtool_core.specs.Order.{OnlyReads, are_reads}
-use Rattle.ubtool_core.specs.Told.{IfTold, ReadsAll, ReadsAt, Told, Stored, file_at}
+use Rattle.ubtool_files.proofs.OrderLemmas.{OnlyReads-one, OnlyReads-part, OnlyReads-then, OnlyReads-whole}
+use Rattle.ubtool_files.specs.CallOrder.{OnlyReads, are_reads}
+use Rattle.ubtool_files.specs.Told.{IfTold, ReadsAll, ReadsAt, Told, Stored, file_at}
 use Rattle.ubtool_core.specs.FileFaults.{read_fault}
 use Rattle.ubtool_core.specs.declared.fault.Fault.{Fault}
 use Rattle.ubtool_core.specs.declared.fault.Fault.TheVariants as fault
-use Rattle.ubtool_core.specs.declared.files.FileFault.{FileFault}
-use Rattle.ubtool_core.specs.declared.files.FileFault.TheVariants.{Failed, Short, TooLong, Memory}
+use Rattle.ubtool_files.specs.declared.files.FileFault.{FileFault}
+use Rattle.ubtool_files.specs.declared.files.FileFault.TheVariants.{Failed, Short, TooLong, Memory}
 use Rattle.ubtool_core.specs.declared.word_form.WordForm.{WordForm}
-use Rattle.ubtool_core.specs.declared.files.Action.{Action}
-use Rattle.ubtool_core.specs.declared.files.Action.TheVariants.{ReadAll}
+use Rattle.ubtool_files.specs.declared.files.Action.{Action}
+use Rattle.ubtool_files.specs.declared.files.Action.TheVariants.{ReadAll}
 use Rattle.ubtool_run.specs.Images.{Copy, HasRead, Names, ReadsImages, ReadsSecond, SomeIsShort, copies, copy_of, second_place}
 use Rattle.ubtool_run.specs.ReadingFiles.{IsShort, Reads, ReadsCopy, ReadsText, bytes_at, read_of}
 use Rattle.ubtool_run.specs.declared.read.StoredCopy.{StoredCopy}

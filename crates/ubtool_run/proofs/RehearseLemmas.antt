@@ -7,13 +7,13 @@ use Rattle.envimage.specs.declared.image.ByteOrder.{ByteOrder}
 use Rattle.rehearse.specs.Bounds.{BoundsShown}
 use Rattle.rehearse_runs.specs.declared.listing.Finish.{Finish}
 use Rattle.ubtool_cli.specs.declared.ask.RehearseAsk.{RehearseAsk}
-use Rattle.ubtool_core.proofs.OrderLemmas.{OnlyReads-then}
+use Rattle.ubtool_files.proofs.OrderLemmas.{OnlyReads-then}
 use Rattle.ubtool_core.specs.FileFaults.{path_form}
 use Rattle.ubtool_core.specs.Given.{Given}
 use Rattle.ubtool_core.specs.Headline.{Rehearses}
-use Rattle.ubtool_core.specs.Order.{OnlyReads}
+use Rattle.ubtool_files.specs.CallOrder.{OnlyReads}
 use Rattle.ubtool_core.specs.Refusing.{Refuses}
-use Rattle.ubtool_core.specs.Told.{Stored, Told, file_at}
+use Rattle.ubtool_files.specs.Told.{Stored, Told, file_at}
 use Rattle.ubtool_core.specs.declared.error.ToolError.{ToolError}
 use Rattle.ubtool_core.specs.declared.error.ToolError.TheVariants as tool
 use Rattle.ubtool_core.specs.declared.fault.Fault.{Fault}

@@ -5,7 +5,7 @@ use Rattle.envimage.specs.Sink.{Sink}
 use Rattle.clap.specs.Words.{Text}
 use Rattle.ubtool_cli.specs.declared.ask.UseError.{UseError}
 use Rattle.ubtool_core.specs.PrintingImages.{Outputs, outputs}
-use Rattle.ubtool_core.specs.Told.{Told}
+use Rattle.ubtool_files.specs.Told.{Told}
 use Rattle.ubtool_core.specs.declared.fault.Fault.{Fault}
 use Rattle.ubtool_run.specs.Faults.{CountsTold}
 use Rattle.ubtool_run.specs.Running.{Ends, FilesShown, HasDone, HasRefused}

@@ -6,11 +6,11 @@ use Rattle.envimage.specs.declared.image.ByteOrder.{ByteOrder}
 use Rattle.envimage.specs.declared.image.Which.{Which}
 use Rattle.ubtool_cli.specs.declared.ask.Change.{Change}
 use Rattle.ubtool_cli.specs.declared.ask.Change.TheVariants.{One, Script}
-use Rattle.ubtool_core.proofs.OrderLemmas.{OnlyReads-then}
+use Rattle.ubtool_files.proofs.OrderLemmas.{OnlyReads-then}
 use Rattle.ubtool_core.proofs.SettingLemmas.{set-safe}
-use Rattle.ubtool_core.specs.Order.{OnlyReads, are_reads}
+use Rattle.ubtool_files.specs.CallOrder.{OnlyReads, are_reads}
 use Rattle.ubtool_core.specs.ChangingImages.{IsSafe}
-use Rattle.ubtool_core.specs.Told.{Stored, Told}
+use Rattle.ubtool_files.specs.Told.{Stored, Told}
 use Rattle.ubtool_core.specs.declared.fault.Fault.{Fault}
 use Rattle.ubtool_core.specs.declared.fault.Fault.TheVariants as fault
 use Rattle.ubtool_core.specs.declared.word_form.WordForm.{WordForm}

@@ -8,9 +8,9 @@ use Rattle.envimage.specs.declared.image.Which.{Which}
 use Rattle.envimage.specs.declared.image.Which.TheVariants.{First, Second}
 use Rattle.ubtool_cli.specs.declared.ask.Change.{Change}
 use Rattle.ubtool_cli.specs.declared.ask.Change.TheVariants.{One, Script}
-use Rattle.ubtool_core.specs.Order.{OnlyReads}
+use Rattle.ubtool_files.specs.CallOrder.{OnlyReads}
 use Rattle.ubtool_core.specs.ChangingImages.{IsSafe, set_of}
-use Rattle.ubtool_core.specs.Told.{Stored, Told, WritesAt, file_at}
+use Rattle.ubtool_files.specs.Told.{Stored, Told, WritesAt, file_at}
 use Rattle.ubtool_core.specs.declared.change.Edit.{Edit}
 use Rattle.ubtool_core.specs.declared.change.Edit.TheVariants as edit
 use Rattle.ubtool_core.specs.declared.error.ToolError.{ToolError}
@@ -18,10 +18,10 @@ use Rattle.ubtool_core.specs.declared.error.ToolError.TheVariants.{Memory, Write
 use Rattle.ubtool_core.specs.declared.fault.Fault.{Fault}
 use Rattle.ubtool_core.specs.declared.fault.Fault.TheVariants.{CannotWrite, Tool}
 use Rattle.ubtool_core.specs.declared.fault.Fault.TheVariants as faults
-use Rattle.ubtool_core.specs.declared.files.Action.{Action}
-use Rattle.ubtool_core.specs.declared.files.Action.TheVariants.{ReadAll}
-use Rattle.ubtool_core.specs.declared.files.FileFault.{FileFault}
-use Rattle.ubtool_core.specs.declared.files.FileFault.TheVariants.{Failed}
+use Rattle.ubtool_files.specs.declared.files.Action.{Action}
+use Rattle.ubtool_files.specs.declared.files.Action.TheVariants.{ReadAll}
+use Rattle.ubtool_files.specs.declared.files.FileFault.{FileFault}
+use Rattle.ubtool_files.specs.declared.files.FileFault.TheVariants.{Failed}
 use Rattle.ubtool_run.specs.Images.{Copy, HasRead, IsImagesFault}
 use Rattle.ubtool_run.specs.PrintingFiles.{first_bytes, second_bytes}
 use Rattle.ubtool_run.specs.ReadingFiles.{IsTextFault}

@@ -5,11 +5,11 @@ use Rattle.envimage.specs.Config.{PlaceShown, places}
 use Rattle.envimage.specs.Place.{place_shown, AnswersPlaces}
 use Rattle.envimage.specs.declared.config.ConfigError.{ConfigError}
 use Rattle.envimage.specs.declared.config.Place.{Place}
-use Rattle.ubtool_core.specs.Order.{OnlyReads}
-use Rattle.ubtool_core.specs.Told.{Stored, Told, file_at, read_limit}
+use Rattle.ubtool_files.specs.CallOrder.{OnlyReads}
+use Rattle.ubtool_files.specs.Told.{Stored, Told, file_at, read_limit}
 use Rattle.ubtool_core.specs.declared.fault.Fault.{Fault}
 use Rattle.ubtool_core.specs.declared.fault.Fault.TheVariants.{CannotRead, Config, FileShort, FileTooLong, Memory}
-use Rattle.ubtool_core.specs.declared.files.Action.TheVariants.{ReadAll}
+use Rattle.ubtool_files.specs.declared.files.Action.TheVariants.{ReadAll}
 use Rattle.ubtool_run.specs.ReadingFiles.{IsShort, ReadsCopy, bytes_at, read_of}
 use Rattle.ubtool_run.specs.declared.images.Images.{Images}
 use Rattle.ubtool_run.specs.declared.read.StoredCopy.{StoredCopy}

@@ -8,7 +8,7 @@ use Rattle.ubtool_cli.specs.declared.ask.Ask.TheVariants.{Help, Print, Rehearse,
 use Rattle.ubtool_cli.specs.declared.ask.Change.{Change}
 use Rattle.ubtool_cli.specs.declared.ask.TheConstants.{VERSION}
 use Rattle.ubtool_core.specs.PrintingImages.{AreUnchanged, Outputs}
-use Rattle.ubtool_core.specs.Told.{IfTold, Told}
+use Rattle.ubtool_files.specs.Told.{IfTold, Told}
 use Rattle.ubtool_core.specs.declared.error.ToolError.TheVariants.{Write}
 use Rattle.ubtool_core.specs.declared.fault.Fault.{Fault}
 use Rattle.ubtool_core.specs.declared.fault.Fault.TheVariants.{Tool}

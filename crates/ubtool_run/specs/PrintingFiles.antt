@@ -4,9 +4,9 @@ use Rattle.std.specs.Prelude.{◌≡◌, ℕ, Bool, List, [], ◌∷◌, Option,
 use Rattle.envimage.specs.Data.{Pair}
 use Rattle.envimage.specs.declared.image.ByteOrder.{ByteOrder}
 use Rattle.envimage.specs.declared.image.ImageError.{ImageError}
-use Rattle.ubtool_core.specs.Order.{OnlyReads}
+use Rattle.ubtool_files.specs.CallOrder.{OnlyReads}
 use Rattle.ubtool_core.specs.PrintingImages.{AreUnchanged, BreaksOff, Outputs, PrintsAll, environment_in}
-use Rattle.ubtool_core.specs.Told.{Told}
+use Rattle.ubtool_files.specs.Told.{Told}
 use Rattle.ubtool_core.specs.declared.error.ToolError.TheVariants.{Image, Memory, Write}
 use Rattle.ubtool_core.specs.declared.fault.Fault.{Fault}
 use Rattle.ubtool_core.specs.declared.fault.Fault.TheVariants.{Tool}

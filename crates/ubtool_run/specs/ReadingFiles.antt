@@ -5,12 +5,12 @@ use Rattle.std.specs.declared.alloc.Global.{Global}
 use Rattle.envimage.specs.Config.{PlaceShown}
 use Rattle.envimage.specs.Place.{place_shown}
 use Rattle.envimage.specs.declared.config.Place.{Place}
-use Rattle.ubtool_core.specs.Order.{OnlyReads}
-use Rattle.ubtool_core.specs.Told.{Stored, Told, file_at, read_limit}
+use Rattle.ubtool_files.specs.CallOrder.{OnlyReads}
+use Rattle.ubtool_files.specs.Told.{Stored, Told, file_at, read_limit}
 use Rattle.ubtool_core.specs.declared.fault.Fault.{Fault}
 use Rattle.ubtool_core.specs.declared.fault.Fault.TheVariants.{CannotRead, FileShort, FileTooLong, Memory}
-use Rattle.ubtool_core.specs.declared.files.Action.{Action}
-use Rattle.ubtool_core.specs.declared.files.Action.TheVariants.{ReadAll, ReadAt}
+use Rattle.ubtool_files.specs.declared.files.Action.{Action}
+use Rattle.ubtool_files.specs.declared.files.Action.TheVariants.{ReadAll, ReadAt}
 use Rattle.ubtool_run.specs.declared.read.StoredCopy.{StoredCopy}
 
 -- the bytes that stand at a place, where its file has so many

@@ -9,14 +9,14 @@ use Rattle.ubtool_cli.specs.declared.ask.RehearseAsk.{RehearseAsk}
 use Rattle.ubtool_core.specs.FileFaults.{path_form}
 use Rattle.ubtool_core.specs.Given.{Given}
 use Rattle.ubtool_core.specs.Headline.{LacksMemory, Rehearses}
-use Rattle.ubtool_core.specs.Order.{OnlyReads}
+use Rattle.ubtool_files.specs.CallOrder.{OnlyReads}
 use Rattle.ubtool_core.specs.Refusing.{Refuses}
-use Rattle.ubtool_core.specs.Told.{Told, file_at}
+use Rattle.ubtool_files.specs.Told.{Told, file_at}
 use Rattle.ubtool_core.specs.declared.error.ToolError.{ToolError}
 use Rattle.ubtool_core.specs.declared.error.ToolError.TheVariants as tool
 use Rattle.ubtool_core.specs.declared.fault.Fault.{Fault}
 use Rattle.ubtool_core.specs.declared.fault.Fault.TheVariants.{NoSuchVariable, NotARun, Tool}
-use Rattle.ubtool_core.specs.declared.files.Action.TheVariants.{ReadAll}
+use Rattle.ubtool_files.specs.declared.files.Action.TheVariants.{ReadAll}
 use Rattle.ubtool_run.specs.Images.{Copy, HasRead, IsImagesFault}
 use Rattle.ubtool_run.specs.PrintingFiles.{first_bytes, second_bytes}
 use Rattle.ubtool_run.specs.ReadingFiles.{IsTextFault, Reads}

@@ -6,8 +6,8 @@ use Rattle.envimage.specs.Sink.{BrokeOff, Sink, Wrote}
 use Rattle.ubtool_cli.specs.declared.ask.UseError.{UseError}
 use Rattle.ubtool_cli.specs.declared.ask.UseError.TheVariants.{Line}
 use Rattle.ubtool_core.specs.PrintingImages.{Outputs}
-use Rattle.ubtool_core.specs.Told.{Told}
-use Rattle.ubtool_core.specs.declared.files.Files.{Ghosts}
+use Rattle.ubtool_files.specs.Told.{Told}
+use Rattle.ubtool_files.specs.declared.files.Files.{Ghosts}
 use Rattle.ubtool_core.specs.declared.fault.Fault.{Fault}
 use Rattle.ubtool_run.specs.Faults.{CountsTold}
 use Rattle.ubtool_run.specs.declared.starting.StartError.{StartError}

@@ -1,14 +1,15 @@
 //! The images that a configuration names.
 ghost use Rattle.std.specs.Prelude.{IfErr, string_bytes};
 ghost use Rattle.envimage.specs.Config.{places};
-ghost use Rattle.ubtool_core.specs.Told.{IfTold};
+ghost use Rattle.ubtool_files.specs.Told.{IfTold};
 ghost use Rattle.ubtool_run.specs.Faults.{CountsTold, IsReadFault};
 ghost use Rattle.ubtool_run.specs.Images.{Names, ReadsImages, ReadsSecond};
 
 use crate::read::{StoredCopy, read_copy, read_text};
 use envimage::{ConfigError, Place, parse_config};
 use std::alloc::Global;
-use ubtool_core::{Fault, Files};
+use ubtool_core::Fault;
+use ubtool_files::Files;
 
 /// A single image, or the two copies of a redundant pair, and where they stand.
 #[derive(Debug, Drop)]

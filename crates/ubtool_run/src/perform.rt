@@ -1,6 +1,6 @@
 //! What is asked for, done.
 ghost use Rattle.ubtool_core.specs.PrintingImages.{outputs};
-ghost use Rattle.ubtool_core.specs.Told.{IfTold};
+ghost use Rattle.ubtool_files.specs.Told.{IfTold};
 ghost use Rattle.ubtool_run.specs.Performing.{Does, IsComplete};
 ghost use Rattle.ubtool_run.specs.Faults.{CountsTold};
 
@@ -12,7 +12,8 @@ use crate::tool::PROGRAM;
 use envimage::Out;
 use std::alloc::Global;
 use ubtool_cli::Ask;
-use ubtool_core::{Fault, Files};
+use ubtool_core::Fault;
+use ubtool_files::Files;
 
 /// Does what is asked for. The answer is false where a variable that was to be printed is missing.
 pub fn perform<F: Files, O: Out, E: Out>(

@@ -1,7 +1,7 @@
 //! `printenv`, from files to outputs.
 ghost use Rattle.std.specs.Prelude.{◌≡◌, IfErr, IfOk, false, length, map, string_bytes};
 ghost use Rattle.ubtool_core.specs.PrintingImages.{outputs};
-ghost use Rattle.ubtool_core.specs.Told.{IfTold};
+ghost use Rattle.ubtool_files.specs.Told.{IfTold};
 ghost use Rattle.ubtool_core.specs.declared.fault.Fault.TheVariants.{Memory};
 ghost use Rattle.ubtool_run.specs.Faults.{CountsTold};
 ghost use Rattle.ubtool_run.specs.Images.{copies};
@@ -11,7 +11,8 @@ use crate::images::{Images, read_images};
 use envimage::{ByteOrder, Out};
 use std::alloc::Global;
 use ubtool_cli::PrintAsk;
-use ubtool_core::{Fault, Files, print_bytes};
+use ubtool_core::{Fault, print_bytes};
+use ubtool_files::Files;
 
 /// The bytes of each text.
 pub fn slices_of(alloc: Global, texts: &[String]) -> Result<Vec<&[u8]>, Fault>

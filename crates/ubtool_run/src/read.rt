@@ -1,12 +1,13 @@
 //! Reading what a call needs: texts, and the copies that a configuration names.
 ghost use Rattle.std.specs.Prelude.{◌≡◌, IfErr, IfOk, string_bytes};
-ghost use Rattle.ubtool_core.specs.Told.{IfTold};
+ghost use Rattle.ubtool_files.specs.Told.{IfTold};
 ghost use Rattle.ubtool_run.specs.Faults.{CountsTold, IsReadFault};
 ghost use Rattle.ubtool_run.specs.ReadingFiles.{ReadsCopy, ReadsText};
 
 use envimage::Place;
 use std::alloc::Global;
-use ubtool_core::{Fault, Files};
+use ubtool_core::Fault;
+use ubtool_files::Files;
 
 /// A copy of an image, and where it stands.
 #[derive(Debug, Drop)]

@@ -1,7 +1,7 @@
 //! `rehearse`, from files to the listing.
 ghost use Rattle.std.specs.Prelude.{◌≡◌, IfErr, option_map, string_bytes};
 ghost use Rattle.bootstore.specs.Moment.{option_bytes};
-ghost use Rattle.ubtool_core.specs.Told.{IfTold};
+ghost use Rattle.ubtool_files.specs.Told.{IfTold};
 ghost use Rattle.ubtool_run.specs.Faults.{CountsTold};
 ghost use Rattle.ubtool_run.specs.Images.{copies};
 ghost use Rattle.ubtool_run.specs.RehearsingFiles.{LeavesOutput, RehearsesCopies, RehearsesFrom, refusal_of, rehearsal_of};
@@ -12,7 +12,8 @@ use crate::read::read_text;
 use envimage::{ByteOrder, Out};
 use std::alloc::Global;
 use ubtool_cli::RehearseAsk;
-use ubtool_core::{Fault, Files, Finish, ToolError, WordForm, rehearse_bytes};
+use ubtool_core::{Fault, Finish, ToolError, WordForm, rehearse_bytes};
+use ubtool_files::Files;
 
 /// What a refusal of a rehearsal is told as.
 fn refusal_of(error: ToolError, what: RehearseAsk) -> Fault

@@ -1,7 +1,7 @@
 //! `setenv`, from files to one write.
 ghost use Rattle.std.specs.Prelude.{string_bytes};
 ghost use Rattle.envimage.specs.Place.{place_shown};
-ghost use Rattle.ubtool_core.specs.Told.{IfTold};
+ghost use Rattle.ubtool_files.specs.Told.{IfTold};
 ghost use Rattle.ubtool_run.specs.Faults.{CountsTold};
 ghost use Rattle.ubtool_run.specs.Images.{copies};
 ghost use Rattle.ubtool_run.specs.ChangingFiles.{Edits, IsEdited, IsPlaceOf, Sets, WritesCopy};
@@ -12,7 +12,8 @@ use crate::read::read_text;
 use envimage::{ByteOrder, Place, Which};
 use std::alloc::Global;
 use ubtool_cli::Change;
-use ubtool_core::{Edit, Fault, Files, set_bytes};
+use ubtool_core::{Edit, Fault, set_bytes};
+use ubtool_files::Files;
 
 /// Which copy of the images is to be written after an edit, and its bytes.
 fn edited_copy(

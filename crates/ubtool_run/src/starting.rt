@@ -7,7 +7,7 @@ use std::alloc::{AllocError, Global};
 use std::env::{self, Env};
 use std::io::{self, BufWriter, ErrorKind, Write};
 use thiserror::Error;
-use ubtool_core::UntilFailed;
+use ubtool_files::UntilFailed;
 
 /// Why a program does not start.
 #[derive(Debug, Drop, Error)]

@@ -14,7 +14,8 @@ use std::alloc::Global;
 use std::convert::AsStr;
 use std::io::Read;
 use ubtool_cli::read_command;
-use ubtool_core::{Files, run_input};
+use ubtool_core::run_input;
+use ubtool_files::Files;
 
 /// The name in front of what is told of a refusal.
 pub const PROGRAM: &str = "ubtool";

@@ -1,7 +1,6 @@
 //! The line of each fault.
 use super::{Fault, write_fault};
 use crate::error::ToolError;
-use crate::files::FileFault;
 use crate::word_form::WordForm;
 use envimage::{ConfigError, DataError, ImageError, Over};
 use envtools::{EnvError, ScriptError};
@@ -9,6 +8,7 @@ use rehearse::DevicesError;
 use std::alloc::AllocError;
 use std::fmt;
 use std::test::Fail;
+use ubtool_files::FileFault;
 
 /// The line that is written for a fault.
 fn line_of<E: fmt::Display>(rt: &HostRuntime, fault: &E) -> Vec<u8> {

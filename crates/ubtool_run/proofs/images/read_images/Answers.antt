@@ -2,8 +2,8 @@ use Rattle.std.proofs.Common.{◌≡◌, ◌∙◌, ◌∷◌, ap, List, ℕ, sy
 use Rattle.std.proofs.lemmas.Result.{err_from_is_err_and}
 use Rattle.envimage.specs.Config.{places}
 use Rattle.envimage.specs.Place.{place_shown}
-use Rattle.ubtool_core.proofs.ToldLemmas.{IfTold-then}
-use Rattle.ubtool_core.specs.Told.{IfTold}
+use Rattle.ubtool_files.proofs.ToldLemmas.{IfTold-then}
+use Rattle.ubtool_files.specs.Told.{IfTold}
 use Rattle.ubtool_core.specs.declared.fault.Fault.{Fault}
 use Rattle.ubtool_run.specs.Images.{Names, ReadsImages, second_place}
 use Rattle.ubtool_run.specs.declared.images.Images.{Images}

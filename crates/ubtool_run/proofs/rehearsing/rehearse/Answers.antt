@@ -1,7 +1,7 @@
 use Rattle.std.proofs.Common.{◌≡◌, ◌∙◌, ap, sym, subst, string_bytes, Bool, Err, Result, List, ℕ}
 use Rattle.std.proofs.lemmas.Result.{err_from_is_err_and}
-use Rattle.ubtool_core.proofs.ToldLemmas.{IfTold-then}
-use Rattle.ubtool_core.specs.Told.{IfTold}
+use Rattle.ubtool_files.proofs.ToldLemmas.{IfTold-then}
+use Rattle.ubtool_files.specs.Told.{IfTold}
 use Rattle.ubtool_core.specs.declared.fault.Fault.{Fault}
 use Rattle.ubtool_run.specs.Images.{copies}
 use Rattle.ubtool_run.specs.RehearsingFiles.{RehearsesCopies, RehearsesFrom, rehearsal_of}

@@ -1,8 +1,8 @@
 use Rattle.std.proofs.Common.{◌≡◌, ◌∙◌, ap, sym, subst, string_bytes, ℕ, List, Err}
 use Rattle.std.specs.Prelude.{Result}
 use Rattle.std.proofs.lemmas.Result.{err_from_is_err_and}
-use Rattle.ubtool_core.proofs.ToldLemmas.{IfTold-then}
-use Rattle.ubtool_core.specs.Told.{IfTold}
+use Rattle.ubtool_files.proofs.ToldLemmas.{IfTold-then}
+use Rattle.ubtool_files.specs.Told.{IfTold}
 use Rattle.ubtool_core.specs.declared.fault.Fault.{Fault}
 use Rattle.ubtool_run.proofs.ReadingLemmas.{then-three}
 use Rattle.ubtool_run.proofs.SetLemmas.{sets-refused, sets-written}

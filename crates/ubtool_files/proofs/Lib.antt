@@ -1,0 +1,4 @@
+pub mod MemoryLemmas
+pub mod ToldLemmas
+pub mod OrderLemmas
+mod FileExamples

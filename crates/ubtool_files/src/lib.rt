@@ -1,0 +1,17 @@
+//! Files by their paths: those of the machine, and files in memory; bounded reads, and a writer that is asked no
+//! more once it has failed.
+#![tactic(auto)]
+
+mod files;
+mod input;
+mod machine;
+mod memory_files;
+#[cfg(test)]
+mod tests;
+mod until_failed;
+
+pub use files::{Action, FileFault, Files, LIMIT};
+pub use input::{ReadFault, read_up_to};
+pub use machine::Machine;
+pub use memory_files::{Call, MemoryFiles};
+pub use until_failed::UntilFailed;

@@ -1,0 +1,156 @@
+//! The machine's own files.
+ghost use Rattle.std.specs.Prelude.{◌≡◌, ◌≤◌, ◌⊎◌, IfOk, IfErr, None, vec_len};
+ghost use Rattle.ubtool_files.specs.FailedReads.{file_fault_of};
+ghost use Rattle.ubtool_files.specs.declared.files.FileFault.TheVariants.{Failed, Memory};
+
+use crate::files::{FileFault, Files, LIMIT};
+use crate::input::{ReadFault, read_up_to};
+use std::alloc::Global;
+use std::fs::{OpenFile, OpenOptions};
+use std::io::{ErrorKind, Read, Seek, SeekFrom, Write};
+use std::rt;
+
+/// The files of the machine that the runtime stands for.
+#[derive(Drop)]
+pub struct Machine<'a, R> {
+    rt: &'a R,
+    faults: u64,
+}
+
+impl<'a, R: rt::Files> Machine<'a, R> {
+    ghost use Rattle.ubtool_files.specs.FailureCounts.{CountsFault};
+    ghost use Rattle.ubtool_files.specs.MachineShown.{faults_of};
+
+    /// The files that `rt` reaches; none has failed yet.
+    pub fn new(rt: &'a R) -> Machine<'a, R>
+        ensures { faults_of result ≡ 0 }
+    {
+        Machine { rt, faults: 0 }
+    }
+
+    /// Counts a failure of the device, where the answer is one.
+    fn counted<T: Drop>(&mut self, answer: Result<T, FileFault>) -> Result<T, FileFault>
+        ensures answer { result ≡ answer }
+        ensures count { CountsFault (faults_of self.old) (faults_of self.new) answer }
+    {
+        if let Err(FileFault::Failed) = answer {
+            self.faults = self.faults.saturating_add(1);
+        }
+        answer
+    }
+}
+
+/// What a read of one file answers.
+fn fault_of(fault: ReadFault) -> FileFault
+    ensures { result ≡ file_fault_of fault }
+{
+    match fault {
+        ReadFault::Failed => FileFault::Failed,
+        ReadFault::Memory => FileFault::Memory,
+    }
+}
+
+/// The file, opened at byte `offset` to be read or written. It is neither made nor cut short.
+fn opened<R: rt::Files>(rt: &R, path: &str, offset: u64, writes: bool) -> Option<R::File> {
+    let mut how = OpenOptions::new();
+    how.read(!writes);
+    how.write(writes);
+    let Ok(mut file) = how.open(rt, path) else {
+        return None;
+    };
+    if offset > 0 && file.seek(SeekFrom::Start(offset)).is_err() {
+        return None;
+    }
+    Some(file)
+}
+
+/// The bytes from `offset` on up to the file's end, or the first `size` of them.
+fn read_from<R: rt::Files>(
+    rt: &R,
+    alloc: Global,
+    path: &str,
+    offset: u64,
+    size: usize,
+) -> Result<Vec<u8>, FileFault>
+    ensures bound { IfOk result (λ bytes. vec_len bytes ≤ size) }
+    ensures refusals { IfErr result (λ fault. (fault ≡ Failed) ⊎ (fault ≡ Memory)) }
+{
+    let Some(mut file) = opened(rt, path, offset, false) else {
+        return Err(FileFault::Failed);
+    };
+    match read_up_to(alloc, &mut file, size) {
+        Ok(bytes) => Ok(bytes),
+        Err(fault) => Err(fault_of(fault)),
+    }
+}
+
+/// Whether all the bytes were written. No failed write is tried again.
+fn is_written<W: Write>(to: &mut W, bytes: &[u8]) -> bool {
+    let mut rest = bytes;
+    while !rest.is_empty() {
+        match to.write(rest) {
+            Ok(count) if count > 0 => rest = &rest[count..],
+            _ => return false,
+        }
+    }
+    to.flush().is_ok()
+}
+
+/// Whether the device has what was written, or is none that can be asked.
+fn is_synced<F: OpenFile>(file: &F) -> bool {
+    match file.sync_all() {
+        Ok(()) => true,
+        Err(error) => error.kind() == ErrorKind::InvalidInput,
+    }
+}
+
+/// Writes all the bytes from `offset` on.
+fn write_to<R: rt::Files>(rt: &R, path: &str, offset: u64, bytes: &[u8]) -> Result<(), FileFault>
+    ensures refusal { IfErr result (λ fault. fault ≡ Failed) }
+{
+    let Some(mut file) = opened(rt, path, offset, true) else {
+        return Err(FileFault::Failed);
+    };
+    if is_written(&mut file, bytes) && is_synced(&file) {
+        Ok(())
+    } else {
+        Err(FileFault::Failed)
+    }
+}
+
+impl<R: rt::Files> Files for Machine<'_, R> {
+    ghost use Rattle.ubtool_files.specs.MachineShown.{faults_of};
+
+    ghost faults = { faults_of };
+
+    ghost told = { λ _. None };
+
+    fn read_all(&mut self, alloc: Global, path: &str) -> Result<Vec<u8>, FileFault> {
+        let read = read_from(self.rt, alloc, path, 0, LIMIT + 1);
+        let bytes = self.counted(read)?;
+        if bytes.len() > LIMIT {
+            return Err(FileFault::TooLong);
+        }
+        Ok(bytes)
+    }
+
+    fn read_at(
+        &mut self,
+        alloc: Global,
+        path: &str,
+        offset: u64,
+        size: usize,
+    ) -> Result<Vec<u8>, FileFault> {
+        let read = read_from(self.rt, alloc, path, offset, size);
+        let bytes = self.counted(read)?;
+        if bytes.len() < size {
+            return Err(FileFault::Short);
+        }
+        Ok(bytes)
+    }
+
+    fn write_at(&mut self, path: &str, offset: u64, bytes: &[u8]) -> Result<(), FileFault> {
+        let written = write_to(self.rt, path, offset, bytes);
+        self.counted(written)
+    }
+}
