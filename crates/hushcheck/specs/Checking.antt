@@ -58,7 +58,6 @@ ChecksFrom order config names out out' old new (Err (Tool (Image error))) =
     FromImages config old new (λ found. environment order found ≡ Err error)
 ChecksFrom order config names out out' old new (Err (Tool Write)) =
     FromImages config old new (λ found. BreaksOff (environment order found) names out out')
-ChecksFrom order config names out out' old new (Err (Tool Memory)) = OnlyReads old new
 ChecksFrom order config names out out' old new (Err fault) = OnlyReads old new × IsImagesFault config old.stored fault
 
 -- a refusal other than that of the output leaves it as it was

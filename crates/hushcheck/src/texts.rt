@@ -83,6 +83,6 @@ pub fn check_files<F: Files, O: Out>(
     let names = slices_of(alloc, names)?;
     match check_images(alloc, &images, order, &names, out) {
         Ok(sound) => Ok(sound),
-        Err(error) => Err(Fault::Tool(error)),
+        Err(error) => Err(error.into()),
     }
 }

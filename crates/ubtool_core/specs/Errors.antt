@@ -11,6 +11,8 @@ use Rattle.rehearse_runs.specs.declared.rehearsing.RehearseError.{RehearseError}
 use Rattle.rehearse_runs.specs.declared.rehearsing.RehearseError.TheVariants as rehearsal
 use Rattle.ubtool_core.specs.declared.error.ToolError.{ToolError}
 use Rattle.ubtool_core.specs.declared.error.ToolError.TheVariants.{Image, Env, Script, Devices, NoSuchVariable, NotARun, Write, Memory}
+use Rattle.ubtool_core.specs.declared.fault.Fault.{Fault}
+use Rattle.ubtool_core.specs.declared.fault.Fault.TheVariants as told
 
 abbrev pub image_fault : ImageError → ToolError
 image_fault image.WrongSize = Image image.WrongSize
@@ -40,3 +42,8 @@ rehearse_fault rehearsal.NoSuchVariable = NoSuchVariable
 rehearse_fault rehearsal.NotARun = NotARun
 rehearse_fault rehearsal.Write = Write
 rehearse_fault rehearsal.Memory = Memory
+
+-- what a program tells of it
+abbrev pub tool_fault : ToolError → Fault
+tool_fault Memory = told.Memory
+tool_fault error = told.Tool error

@@ -14,7 +14,7 @@ pub enum Fault {
     /// The configuration was refused.
     #[error("{0}")]
     Config(ConfigError),
-    /// A call from bytes to bytes was refused.
+    /// A call from bytes to bytes was refused, for another cause than memory.
     #[error("{0}")]
     Tool(ToolError),
     /// The device failed while the file was read.
@@ -45,12 +45,15 @@ pub enum Fault {
 
 impl From<ToolError> for Fault {
     ghost use Rattle.std.specs.Prelude.{◌≡◌};
-    ghost use Rattle.ubtool_core.specs.declared.fault.Fault.TheVariants.{Tool};
+    ghost use Rattle.ubtool_core.specs.Errors.{tool_fault};
 
-    ghost from_gives = { λ error fault. fault ≡ Tool error };
+    ghost from_gives = { λ error fault. fault ≡ tool_fault error };
 
     fn from(error: ToolError) -> Fault {
-        Fault::Tool(error)
+        match error {
+            ToolError::Memory => Fault::Memory,
+            error => Fault::Tool(error),
+        }
     }
 }
 

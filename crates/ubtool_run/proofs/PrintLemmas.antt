@@ -2,6 +2,7 @@
 use Rattle.std.proofs.Common.{◌≡◌, ℕ, Bool, List, Option, Some, None, Ok, Err, refl}
 use Rattle.std.specs.Prelude.{Result, option_map}
 use Rattle.envimage.specs.declared.image.ByteOrder.{ByteOrder}
+use Rattle.ubtool_core.specs.Errors.{tool_fault}
 use Rattle.ubtool_core.specs.PrintingImages.{Outputs, Prints}
 use Rattle.ubtool_files.specs.Told.{Told}
 use Rattle.ubtool_core.specs.declared.error.ToolError.{ToolError}
@@ -16,7 +17,7 @@ use Rattle.ubtool_run.specs.declared.read.StoredCopy.{StoredCopy}
 
 -- a refusal of printing, told as a fault
 pub copies-refused : (order : ByteOrder) (found : List Copy) (names : List (List ℕ)) (header : Bool) (outputs : Outputs) (error : ToolError)
-    → Prints (environment order found) names header outputs (Err error) → PrintsCopies order found names header outputs (Err (fault.Tool error))
+    → Prints (environment order found) names header outputs (Err error) → PrintsCopies order found names header outputs (Err (tool_fault error))
 copies-refused order found names header outputs (Image error) h = h
 copies-refused order found names header outputs Write h = h
 copies-refused order found names header outputs Memory h = h.1
@@ -46,7 +47,7 @@ pub prints-read : (order : ByteOrder) (config : List ℕ) (names : List (List �
 prints-read order config names header outputs old new found (Ok all) read h = record { found = found; read = read; so = h }
 prints-read order config names header outputs old new found (Err (fault.Tool (Image error))) read h = record { found = found; read = read; so = h.0 }
 prints-read order config names header outputs old new found (Err (fault.Tool Write)) read h = record { found = found; read = read; so = h }
-prints-read order config names header outputs old new found (Err (fault.Tool Memory)) read h = found-reads config old new found read
+prints-read order config names header outputs old new found (Err (fault.Tool Memory)) read h = absurd h
 prints-read order config names header outputs old new found (Err (fault.Tool (Env error))) read h = absurd h
 prints-read order config names header outputs old new found (Err (fault.Tool (Script error))) read h = absurd h
 prints-read order config names header outputs old new found (Err (fault.Tool (Devices error))) read h = absurd h
@@ -60,7 +61,7 @@ prints-read order config names header outputs old new found (Err (fault.FileTooL
 prints-read order config names header outputs old new found (Err fault.CannotReadInput) read h = absurd h
 prints-read order config names header outputs old new found (Err (fault.NoSuchVariable name)) read h = absurd h
 prints-read order config names header outputs old new found (Err (fault.NotARun word)) read h = absurd h
-prints-read order config names header outputs old new found (Err fault.Memory) read h = absurd h
+prints-read order config names header outputs old new found (Err fault.Memory) read h = (found-reads config old new found read, tt)
 
 -- the bytes of the images that were read
 pub image-bytes : (images : Images) → second_bytes (copies images) ≡ option_map (λ copy. copy.bytes.items) images.second

@@ -38,33 +38,33 @@ abbrev IsRefusedRead : (config list : List ℕ) (old new : Told) → Fault → T
 IsRefusedRead config list old new f = OnlyReads old new × (IsImagesFault config old.stored f ⊎ IsUnlisted config list old f)
 
 -- no such refusal comes of a rehearsal
-refused-read : (order : ByteOrder) (config list : List ℕ) (what : RehearseAsk) (out out' : Sink) (old new : Told) (f : Fault) → IsRefusedRead config list old new f
-    → RehearsesFrom order config list what out out' old new (Err f)
-refused-read order config list what out out' old new (fault.Config error) h = h
-refused-read order config list what out out' old new (fault.Tool error) (reads, inl h) = absurd h
-refused-read order config list what out out' old new (fault.Tool error) (reads, inr h) = absurd h.refused
-refused-read order config list what out out' old new (fault.CannotRead path) h = h
-refused-read order config list what out out' old new (fault.CannotWrite path) h = h
-refused-read order config list what out out' old new (fault.FileShort path) h = h
-refused-read order config list what out out' old new (fault.FileTooLong path) h = h
-refused-read order config list what out out' old new fault.CannotReadInput h = h
-refused-read order config list what out out' old new (fault.NoSuchVariable name) (reads, inl h) = absurd h
-refused-read order config list what out out' old new (fault.NoSuchVariable name) (reads, inr h) = absurd h.refused
-refused-read order config list what out out' old new (fault.NotARun word) (reads, inl h) = absurd h
-refused-read order config list what out out' old new (fault.NotARun word) (reads, inr h) = absurd h.refused
-refused-read order config list what out out' old new fault.Memory h = h
+refused-read : (order : ByteOrder) (config list : List ℕ) (what : RehearseAsk) (out : Sink) (old new : Told) (f : Fault) → IsRefusedRead config list old new f
+    → RehearsesFrom order config list what out out old new (Err f)
+refused-read order config list what out old new (fault.Config error) h = h
+refused-read order config list what out old new (fault.Tool error) (reads, inl h) = absurd h
+refused-read order config list what out old new (fault.Tool error) (reads, inr h) = absurd h.refused
+refused-read order config list what out old new (fault.CannotRead path) h = h
+refused-read order config list what out old new (fault.CannotWrite path) h = h
+refused-read order config list what out old new (fault.FileShort path) h = h
+refused-read order config list what out old new (fault.FileTooLong path) h = h
+refused-read order config list what out old new fault.CannotReadInput h = h
+refused-read order config list what out old new (fault.NoSuchVariable name) (reads, inl h) = absurd h
+refused-read order config list what out old new (fault.NoSuchVariable name) (reads, inr h) = absurd h.refused
+refused-read order config list what out old new (fault.NotARun word) (reads, inl h) = absurd h
+refused-read order config list what out old new (fault.NotARun word) (reads, inr h) = absurd h.refused
+refused-read order config list what out old new fault.Memory h = inl (h.0, refl)
 
 -- of the images
-pub rehearses-unread : (order : ByteOrder) (config list : List ℕ) (what : RehearseAsk) (out out' : Sink) (old new : Told) (f : Fault) → ReadsImages config old new (Err f)
-    → RehearsesFrom order config list what out out' old new (Err f)
-rehearses-unread order config list what out out' old new f h = refused-read order config list what out out' old new f (h.0, inl h.1)
+pub rehearses-unread : (order : ByteOrder) (config list : List ℕ) (what : RehearseAsk) (out : Sink) (old new : Told) (f : Fault) → ReadsImages config old new (Err f)
+    → RehearsesFrom order config list what out out old new (Err f)
+rehearses-unread order config list what out old new f h = refused-read order config list what out old new f (h.0, inl h.1)
 
 -- of the device list
-pub rehearses-unlisted : (order : ByteOrder) (config list : List ℕ) (what : RehearseAsk) (out out' : Sink) (found : List Copy) (x y z : Told) (f : Fault) → HasRead config x y found
-    → ReadsText list y z (Err f) → RehearsesFrom order config list what out out' x z (Err f)
-rehearses-unlisted order config list what out out' found x y z f read h =
+pub rehearses-unlisted : (order : ByteOrder) (config list : List ℕ) (what : RehearseAsk) (out : Sink) (found : List Copy) (x y z : Told) (f : Fault) → HasRead config x y found
+    → ReadsText list y z (Err f) → RehearsesFrom order config list what out out x z (Err f)
+rehearses-unlisted order config list what out found x y z f read h =
     let refused : IsTextFault (file_at list x.stored) f = subst (λ (s : Stored). IsTextFault (file_at list s) f) read.stored h.1 in
-    refused-read order config list what out out' x z f (OnlyReads-then x y z (found-reads config x y found read) h.0, inr (record { found = found; after_images = y; read = read; refused = refused }))
+    refused-read order config list what out x z f (OnlyReads-then x y z (found-reads config x y found read) h.0, inr (record { found = found; after_images = y; read = read; refused = refused }))
 
 -- ---- the rehearsal of what was read
 
@@ -91,7 +91,7 @@ rehearses-refused order config list what out out' found text x y z tool.NoSuchVa
 rehearses-refused order config list what out out' found text x y z tool.NotARun read listed h =
     no-run order config list what out out' x z what.after refl (from-files order config list what found text x y z _ read listed h)
 rehearses-refused order config list what out out' found text x y z tool.Write read listed h = from-files order config list what found text x y z _ read listed h
-rehearses-refused order config list what out out' found text x y z tool.Memory read listed h = from-files order config list what found text x y z _ read listed h
+rehearses-refused order config list what out out' found text x y z tool.Memory read listed h = inr (from-files order config list what found text x y z _ read listed h)
 
 -- ---- what the rehearsal of copies is given
 

@@ -30,16 +30,17 @@ use Rattle.ubtool_run.specs.ReadingFiles.{IsTextFault}
 abbrev pub edited : ByteOrder → List Copy → Edit → Result (Which × List ℕ) ToolError
 edited order found change = set_of order (first_bytes found) (second_bytes found) change
 
--- the answer is this refusal; memory may be refused in place of any answer
+-- the answer is this refusal
 abbrev pub IsRefusal : ToolError → Result (Which × List ℕ) ToolError → Type 0
-IsRefusal Memory answer = Unit {0}
+IsRefusal Memory answer = ⊥
 IsRefusal Write answer = ⊥
 IsRefusal error answer = answer ≡ Err error
 
--- the copy and its bytes, or the refusal
+-- the copy and its bytes, or the refusal; memory may be refused in place of any answer
 abbrev pub IsEdited : ByteOrder → List Copy → Edit → Result (Which × Vec ℕ Global) Fault → Type 0
 IsEdited order found change (Ok w) = edited order found change ≡ Ok (w.0, w.1.items)
 IsEdited order found change (Err (Tool error)) = IsRefusal error (edited order found change)
+IsEdited order found change (Err faults.Memory) = Unit {0}
 IsEdited order found change (Err fault) = ⊥
 
 -- what a change says: a variable and its words, or the text of the script in the files

@@ -7,9 +7,9 @@ use Rattle.envimage.specs.declared.image.ImageError.{ImageError}
 use Rattle.ubtool_files.specs.CallOrder.{OnlyReads}
 use Rattle.ubtool_core.specs.PrintingImages.{AreUnchanged, BreaksOff, Outputs, PrintsAll, environment_in}
 use Rattle.ubtool_files.specs.Told.{Told}
-use Rattle.ubtool_core.specs.declared.error.ToolError.TheVariants.{Image, Memory, Write}
+use Rattle.ubtool_core.specs.declared.error.ToolError.TheVariants.{Image, Write}
 use Rattle.ubtool_core.specs.declared.fault.Fault.{Fault}
-use Rattle.ubtool_core.specs.declared.fault.Fault.TheVariants.{Tool}
+use Rattle.ubtool_core.specs.declared.fault.Fault.TheVariants.{Memory, Tool}
 use Rattle.ubtool_run.specs.Images.{Copy, HasRead, IsImagesFault}
 
 -- the bytes of the first copy, and of the second where there is one
@@ -32,7 +32,7 @@ PrintsCopies order found names header outputs (Err (Tool (Image error))) =
     (environment order found ≡ Err error) × AreUnchanged outputs
 PrintsCopies order found names header outputs (Err (Tool Write)) =
     BreaksOff (environment order found) names header outputs
-PrintsCopies order found names header outputs (Err (Tool Memory)) = AreUnchanged outputs
+PrintsCopies order found names header outputs (Err Memory) = AreUnchanged outputs
 PrintsCopies order found names header outputs (Err fault) = ⊥
 
 -- Copies were read, and this holds of what they are.
@@ -50,7 +50,6 @@ PrintsFrom order config names header outputs old new (Err (Tool (Image error))) 
     FromImages config old new (λ found. environment order found ≡ Err error)
 PrintsFrom order config names header outputs old new (Err (Tool Write)) =
     FromImages config old new (λ found. BreaksOff (environment order found) names header outputs)
-PrintsFrom order config names header outputs old new (Err (Tool Memory)) = OnlyReads old new
 PrintsFrom order config names header outputs old new (Err fault) = OnlyReads old new
     × IsImagesFault config old.stored fault
 

@@ -6,6 +6,7 @@ use Rattle.envimage.specs.Sink.{Sink, counted}
 use Rattle.envimage.specs.declared.image.ByteOrder.{ByteOrder}
 use Rattle.rehearse_runs.specs.declared.listing.Finish.{Finish}
 use Rattle.ubtool_cli.specs.declared.ask.RehearseAsk.{RehearseAsk}
+use Rattle.ubtool_core.specs.Errors.{tool_fault}
 use Rattle.ubtool_core.specs.FileFaults.{path_form}
 use Rattle.ubtool_core.specs.Given.{Given}
 use Rattle.ubtool_core.specs.Headline.{LacksMemory, Rehearses}
@@ -15,7 +16,7 @@ use Rattle.ubtool_files.specs.Told.{Told, file_at}
 use Rattle.ubtool_core.specs.declared.error.ToolError.{ToolError}
 use Rattle.ubtool_core.specs.declared.error.ToolError.TheVariants as tool
 use Rattle.ubtool_core.specs.declared.fault.Fault.{Fault}
-use Rattle.ubtool_core.specs.declared.fault.Fault.TheVariants.{NoSuchVariable, NotARun, Tool}
+use Rattle.ubtool_core.specs.declared.fault.Fault.TheVariants.{Memory, NoSuchVariable, NotARun, Tool}
 use Rattle.ubtool_files.specs.declared.files.Action.TheVariants.{ReadAll}
 use Rattle.ubtool_run.specs.Images.{Copy, HasRead, IsImagesFault}
 use Rattle.ubtool_run.specs.PrintingFiles.{first_bytes, second_bytes}
@@ -43,7 +44,7 @@ no_run_of (Some word) = NotARun (path_form word)
 abbrev pub refusal_of : RehearseAsk → ToolError → Fault
 refusal_of what tool.NoSuchVariable = NoSuchVariable (path_form what.name)
 refusal_of what tool.NotARun = no_run_of what.after
-refusal_of what error = Tool error
+refusal_of what error = tool_fault error
 
 -- want of memory leaves the output as it was, or whole records of the listing
 abbrev pub RunsOut : Given → (old new : Sink) → Type 0
@@ -73,14 +74,16 @@ pub record IsUnlisted (config device_list : List ℕ) (old : Told) (fault : Faul
   pub refused : IsTextFault (file_at device_list old.stored) fault
 
 -- The images and the device list were read, and the whole listing was written; or the rehearsal is refused, the fault
--- told by what the words said; or a read is refused, and files were only read.
+-- told by what the words said; or a read is refused, and files were only read. Where memory runs out while they are
+-- read, nothing is written; behind that, whole records may be.
 abbrev pub RehearsesFrom : ByteOrder → (config device_list : List ℕ) → RehearseAsk → (out out' : Sink) →
     (old new : Told) → Result Bool Fault → Type 0
 RehearsesFrom order config device_list what out out' old new (Ok all) =
     (all ≡ true) × FromFiles order config device_list what old new (λ g. (finish : Finish)
     × Rehearses g out out' finish)
-RehearsesFrom order config device_list what out out' old new (Err (Tool tool.Memory)) =
-    FromFiles order config device_list what old new (λ g. RunsOut g out out')
+RehearsesFrom order config device_list what out out' old new (Err Memory) =
+    (OnlyReads old new × (out' ≡ out)) ⊎ FromFiles order config device_list what old new (λ g. RunsOut g out out')
+RehearsesFrom order config device_list what out out' old new (Err (Tool tool.Memory)) = ⊥
 RehearsesFrom order config device_list what out out' old new (Err (Tool error)) =
     FromFiles order config device_list what old new (λ g. Refuses g out out' error)
 RehearsesFrom order config device_list what out out' old new (Err (NoSuchVariable name)) =
@@ -97,5 +100,5 @@ RehearsesFrom order config device_list what out out' old new (Err fault) =
 abbrev pub LeavesOutput : Result Bool Fault → (old new : Sink) → Type 0
 LeavesOutput (Ok all) old new = new.failures ≡ old.failures
 LeavesOutput (Err (Tool tool.Write)) old new = new.failures ≡ counted old.failures
-LeavesOutput (Err (Tool tool.Memory)) old new = new.failures ≡ old.failures
+LeavesOutput (Err Memory) old new = new.failures ≡ old.failures
 LeavesOutput (Err fault) old new = new ≡ old

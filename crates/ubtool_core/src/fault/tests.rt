@@ -94,7 +94,7 @@ fn tells_of_images(rt: HostRuntime) {
         (ToolError::Memory, "ubtool: out of memory\n"),
     ];
     for (error, wanted) in table {
-        let line = line_of(&rt, &Fault::Tool(error));
+        let line = line_of(&rt, &Fault::from(error));
         assert_eq!(rt; line.as_slice(), wanted.as_bytes());
     }
 }

@@ -21,7 +21,7 @@ returns-in_err-device_list-clause-told g c =
     let answer : c.from_residual-in_err-device_list.result ≡ Err fault = p.1 ∙ ap Err p.2 in
     let P : Result Bool Fault → Type 0 = λ r. IfTold a d (λ old new. RehearsesFrom c.args.order config list c.args.what out out old new r) in
     subst P (sym answer)
-    (IfTold-then a b d (λ x y z h i. rehearses-unlisted c.args.order config list c.args.what out out (copies c.in_ok-images.images) x y z fault h i) c.in_ok-images.ensures.told c.in_err-device_list.ensures.told)
+    (IfTold-then a b d (λ x y z h i. rehearses-unlisted c.args.order config list c.args.what out (copies c.in_ok-images.images) x y z fault h i) c.in_ok-images.ensures.told c.in_err-device_list.ensures.told)
 
 pub returns-in-Err-clause-told : goal.returns-in-Err-clause-told
 returns-in-Err-clause-told g c =
