@@ -2,8 +2,7 @@
 use Rattle.std.proofs.Common.{◌≡◌, ℕ, zero, suc, ◌+◌, ◌<◌, Bool, true, false, not, eqb, get_or, length, map, take, List, [], ◌∷◌, ◌++◌, refl, sym, ap, ◌∙◌, arith, add-one, append_assoc}
 use Rattle.std.specs.List.{list_any, list_all}
 use Rattle.std.proofs.lemmas.List.Folds.{list_all-map, list_all_more, list_all_at, list_any-append}
-use Rattle.std.proofs.lemmas.Bool.{and_parts}
-use Rattle.envtools.proofs.EnvLemmas.{not-true}
+use Rattle.std.proofs.lemmas.Bool.{and_parts, not-true}
 use Rattle.envtools.specs.Environment.{joined_words, is_value, are_values}
 
 abbrev joined_behind : List (List ℕ) → List ℕ → List ℕ

@@ -1,6 +1,6 @@
 -- The line of a byte, cut out of a text.
 use Rattle.std.proofs.Common.{◌≡◌, ℕ, zero, suc, ◌+◌, ◌-◌, ◌<◌, ◌≤◌, Bool, true, false, not, List, [], ◌∷◌, ◌++◌, length, take, drop, min, get_or, refl, sym, ap, ◌∙◌, arith}
-use Rattle.std.proofs.lemmas.Bool.{false≢true}
+use Rattle.std.proofs.lemmas.Bool.{false_from_ne_true, not_from_false, not_from_true}
 use Rattle.std.proofs.lemmas.List.{drop-append-le, length-drop, take-append-drop, take_min}
 use Rattle.std.proofs.lemmas.List.Sums.{suffix_len_is, position_or_len_is}
 use Rattle.std.proofs.Math.Seq.{take-append-add}
@@ -8,31 +8,19 @@ use Rattle.std.specs.List.{after_last, before_first, suffix_len}
 use Rattle.text.specs.Lines.{is_newline}
 use Rattle.hushcheck_core.specs.Place.{line_text}
 
-not_true : (b : Bool) → (b ≡ true → ⊥) → not b ≡ true
-not_true true h = absurd (h refl)
-not_true false h = refl
-
-not_false : (b : Bool) → b ≡ true → not b ≡ false
-not_false true e = refl
-not_false false e = absurd (false≢true e)
-
-is_false : (b : Bool) → (b ≡ true → ⊥) → b ≡ false
-is_false true h = absurd (h refl)
-is_false false h = refl
-
 -- behind the last newline, which stands before n
 pub last_line : (xs : List ℕ) (n : ℕ) → n ≤ length xs → ((k : ℕ) → n ≤ k → k < length xs → is_newline (get_or xs k 0) ≡ true → ⊥) → (0 < n → is_newline (get_or xs (n - 1) 0) ≡ true) → drop n xs ≡ after_last is_newline xs
 last_line xs n within none newline =
     let e : suffix_len (λ x. not (is_newline x)) xs ≡ length xs - n = suffix_len_is (λ x. not (is_newline x)) xs n 0 within
-    (λ k low high. not_true (is_newline (get_or xs k 0)) (none k low high))
-    (λ some. not_false (is_newline (get_or xs (n - 1) 0)) (newline some)) in
+    (λ k low high. not_from_false (is_newline (get_or xs k 0)) (false_from_ne_true (is_newline (get_or xs k 0)) (none k low high)))
+    (λ some. not_from_true (is_newline (get_or xs (n - 1) 0)) (newline some)) in
     let m : length xs - (length xs - n) ≡ n = omega arith in
     ap (λ k. drop k xs) (sym (ap (λ k. length xs - k) e ∙ m))
 
 -- up to the first newline, which stands at n
 pub first_line : (xs : List ℕ) (n : ℕ) → n ≤ length xs → ((k : ℕ) → k < n → is_newline (get_or xs k 0) ≡ true → ⊥) → (n < length xs → is_newline (get_or xs n 0) ≡ true) → take n xs ≡ before_first is_newline xs
 first_line xs n within none newline =
-    ap (λ k. take k xs) (sym (position_or_len_is is_newline xs n 0 within (λ k high. is_false (is_newline (get_or xs k 0)) (none k high)) newline))
+    ap (λ k. take k xs) (sym (position_or_len_is is_newline xs n 0 within (λ k high. false_from_ne_true (is_newline (get_or xs k 0)) (none k high)) newline))
 
 -- a part of two lists that ends the first and begins the second
 across : (a b : List ℕ) (s e : ℕ) → s ≤ length a → take (length a + e - s) (drop s (a ++ b)) ≡ drop s a ++ take e b

@@ -1,5 +1,6 @@
 -- What the grammar derives is what the reader computes. The rule of commands is a parameter, as in the reader.
 use Rattle.std.proofs.Common.{◌≡◌, ℕ, zero, suc, ◌-◌, ◌<◌, ◌≤◌, Bool, true, false, List, [], ◌∷◌, ◌++◌, map, length, Option, Some, None, is_some, Result, Ok, Err, refl, ap, sym, ◌∙◌, arith}
+use Rattle.text.proofs.ResultLemmas.{ok_same}
 use Rattle.hushlang.specs.Token.{Token, Part, End, Whole}
 use Rattle.hushlang.specs.Tree.{Script, Empty, Runs, AndOr, Starts, Joined, Alone, Joins, Command, Simple, Assign, If, Loop, For, Arms, NoElse, Else, Arm, Word}
 use Rattle.hushlang.specs.TreesShown.{runs, joins as joins_of, arms as arms_of}
@@ -236,10 +237,5 @@ pub each_tree_is_read : EachTreeIsRead
 unfolding spec.whole
 each_tree_is_read depth tokens s size t = ap spec.finish (script_reads Whole size depth t)
 
-value_or : Script → Result Script SyntaxError → Script
-value_or d (Ok s) = s
-value_or d (Err e) = d
-
 pub one_tree_only : OneTree
-unfolding value_or
-one_tree_only depth tokens s other t u = ap (value_or s) (sym (each_tree_is_read depth tokens s 0 t) ∙ each_tree_is_read depth tokens other 0 u)
+one_tree_only depth tokens s other t u = ok_same _ (each_tree_is_read depth tokens s 0 t) (each_tree_is_read depth tokens other 0 u)

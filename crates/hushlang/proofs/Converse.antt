@@ -2,6 +2,7 @@
 use Rattle.std.proofs.Common.{◌≡◌, ℕ, zero, suc, ◌≤◌, Bool, true, false, if◌then◌else◌, List, [], ◌∷◌, ◌++◌, map, length, Option, Some, None, is_some, Result, Ok, Err, refl, ap, sym, ◌∙◌, subst, arith}
 use Rattle.std.proofs.lemmas.Bool.{false≢true}
 use Rattle.std.proofs.lemmas.Option.{none-some}
+use Rattle.text.proofs.ResultLemmas.{ok_same}
 use Rattle.hushlang.specs.Token.{Token, Part, End, Whole, Refused}
 use Rattle.hushlang.specs.Tree.{Script, Empty, Runs, AndOr, Starts, Joined, Alone, Joins, Command, If, Loop, For, Arms, NoElse, Else, Arm, Word}
 use Rattle.hushlang.specs.TreesShown.{runs, joins as joins_of, arms as arms_of}
@@ -26,26 +27,6 @@ IsAnOk (Err e) = ⊥
 pub err_not_ok : {A E : Type 0} {e : E} {a : A} → Err e ≡ Ok a → ⊥
 unfolding IsAnOk
 err_not_ok p = subst IsAnOk (sym p) tt
-
-ok_or_else : {A E : Type 0} → A → Result A E → A
-ok_or_else d (Ok a) = a
-ok_or_else d (Err e) = d
-
-pub ok_same : {A : Type 0} {a b : A × Input} (x : Parsed A) → x ≡ Ok a → x ≡ Ok b → a ≡ b
-unfolding ok_or_else
-ok_same {a = a} x p q = ap (ok_or_else a) (sym p ∙ q)
-
-value_in : List (List ℕ × Word) → Result (List (List ℕ × Word)) SyntaxError → List (List ℕ × Word)
-value_in d (Ok a) = a
-value_in d (Err e) = d
-
-script_or : Script → Result Script SyntaxError → Script
-script_or d (Ok a) = a
-script_or d (Err e) = d
-
-script_same : (s t : Script) → ◌≡◌ {A = Result Script SyntaxError} (Ok s) (Ok t) → s ≡ t
-unfolding script_or
-script_same s t e = ap (script_or s) e
 
 pub and_then_ok : {A B : Type 0} (o : Parsed A) (f : A → Parser B) (b : B) (j : Input) → and_then o f ≡ Ok (b, j) → (a : A) × (i : Input) × (o ≡ Ok (a, i)) × (f a i ≡ Ok (b, j))
 and_then_ok (Ok p) f b j e = (p.0, p.1, refl, e)
@@ -341,14 +322,13 @@ module _ (end : End) (size : ℕ) where
 
   -- simple commands and assignments
   assigned_ok : (t : Token) (o : Option (List ℕ × List Part)) (more : Result (List (List ℕ × Word)) SyntaxError) (values : List (List ℕ × Word)) → spec.assigned t o more ≡ Ok values → (found : List ℕ × List Part) × (others : List (List ℕ × Word)) × (o ≡ Some found) × (more ≡ Ok others) × (value_of found ∷ others ≡ values)
-  unfolding value_in
   assigned_ok t None more values e = absurd (err_not_ok e)
-  assigned_ok t (Some found) (Ok others) values e = (found, others, refl, refl, ap (value_in []) e)
+  assigned_ok t (Some found) (Ok others) values e = (found, others, refl, refl, ok_same _ refl e)
   assigned_ok t (Some found) (Err x) values e = absurd (err_not_ok e)
 
   assignments_give : (tokens : List Token) (values : List (List ℕ × Word)) → spec.assignments tokens ≡ Ok values → AreAssignments tokens values
-  unfolding spec.assignments value_in
-  assignments_give [] values e = subst (λ v. AreAssignments [] v) (ap (value_in []) e) no_word
+  unfolding spec.assignments
+  assignments_give [] values e = subst (λ v. AreAssignments [] v) (ok_same _ refl e) no_word
   assignments_give (t ∷ tokens) values e =
       let o = assigned_ok t (assignment t.parts) (spec.assignments tokens) values e in
       subst (λ v. AreAssignments (t ∷ tokens) v) o.4 (assigned o.0 o.2 (assignments_give tokens o.1 o.3))
@@ -425,7 +405,7 @@ module _ (end : End) (size : ℕ) where
   script_gives d tokens s j e last = script_turn d tokens (spec.is_empty (past is_separator tokens)) refl s j e last
 
 finish_at_ok : (s : Script) (tokens : List Token) (end : End) (size : ℕ) (t : Script) → spec.finish_at s tokens end size ≡ Ok t → (tokens ≡ []) × (end ≡ Whole) × (s ≡ t)
-finish_at_ok s [] Whole size t e = (refl, refl, script_same s t e)
+finish_at_ok s [] Whole size t e = (refl, refl, ok_same _ refl e)
 finish_at_ok s [] (Refused x) size t e = absurd (err_not_ok e)
 finish_at_ok s (x ∷ tokens) end size t e = absurd (err_not_ok e)
 

@@ -7,7 +7,7 @@ use Rattle.hushlang.specs.Words.{plain_byte, is_plain, reserved}
 use Rattle.hushlang.specs.Tokenizing.{Seen, Takes, Refuses, in_front}
 use Rattle.hushlang.specs.LexerShown.{parts_in}
 use Rattle.hushlang.specs.declared.token.SyntaxError.{SyntaxError}
-use Rattle.hushlang.proofs.Names.{plain_is}
+use Rattle.hushlang.proofs.Names.{and_none, plain_is}
 
 -- none where the parts to come are refused
 unfoldable pub fronted : List ℕ → Seen → List Part
@@ -47,10 +47,6 @@ too_long (c ∷ word) (Kept b ∷ parts) h = refl
 too_long (c ∷ word) (Mark ∷ parts) h = refl
 too_long (c ∷ word) (Var name split ∷ parts) h = refl
 too_long (c ∷ word) (Status ∷ parts) h = refl
-
-and_none : (x y : Bool) → y ≡ false → (x && y) ≡ false
-and_none true y e = e
-and_none false y e = refl
 
 not_plain : (word front : List ℕ) (part : Part) (parts : List Part) → None ≡ plain_byte part → is_plain word (map Plain front ++ part ∷ parts) ≡ false
 not_plain [] [] part parts e = refl

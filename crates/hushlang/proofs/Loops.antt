@@ -1,5 +1,6 @@
 -- One turn of the rules of lists and arms, by what was read.
 use Rattle.std.proofs.Common.{◌≡◌, ℕ, ◌-◌, ◌<◌, ◌≤◌, Bool, true, false, List, [], ◌∷◌, ◌++◌, length, Option, Some, Ok, Err, refl, ap, ◌∙◌, subst, arith}
+use Rattle.std.proofs.lemmas.Bool.{true≢false}
 use Rattle.hushlang.specs.Token.{Token}
 use Rattle.hushlang.specs.Tree.{Command, Script, AndOr, Arms}
 use Rattle.hushlang.specs.Parsing as spec
@@ -11,14 +12,6 @@ use Rattle.hushlang.proofs.Agreement.{lists_once, arms_once}
 use Rattle.hushlang.specs.declared.words.Reserved.{Reserved}
 use Rattle.hushlang.specs.declared.token.SyntaxError.{SyntaxError}
 use Rattle.hushlang.specs.declared.words.Reserved.TheVariants as r
-
-holds : Bool → Type 0
-holds true = Unit
-holds false = ⊥
-
-not_false : true ≡ false → ⊥
-unfolding holds
-not_false e = subst holds e tt
 
 -- what is seen is the next keyword
 pub keyword_seen : (word : Reserved) (i : Input) → spec.sees word i ≡ true → keyword i ≡ Some word
@@ -42,9 +35,9 @@ arms_fail rule turns found i x some e =
 
 -- behind an arm comes none of the words that may
 pub more_refuses : (rule : Parser Command) (more : List (Script × Script) → Parser Arms) (found : List (Script × Script)) (word : Option Reserved) (i : Input) → spec.is_keyword r.Elif word ≡ false → spec.is_keyword r.Else word ≡ false → spec.is_keyword r.Fi word ≡ false → spec.more_by rule more found word i ≡ Err (spec.refusal i)
-more_refuses rule more found (Some r.Elif) i a b c = absurd (not_false a)
-more_refuses rule more found (Some r.Else) i a b c = absurd (not_false b)
-more_refuses rule more found (Some r.Fi) i a b c = absurd (not_false c)
+more_refuses rule more found (Some r.Elif) i a b c = absurd (true≢false a)
+more_refuses rule more found (Some r.Else) i a b c = absurd (true≢false b)
+more_refuses rule more found (Some r.Fi) i a b c = absurd (true≢false c)
 more_refuses rule more found word i a b c = refl
 
 pub lists_by_turn : (rule : Parser Command) (turns : ℕ) (found : List AndOr) (i : Input) (one : AndOr) (j : Input) (separated ends : Bool) → 0 < turns → spec.and_or rule i ≡ Ok (one, j) → spec.separator_next j ≡ separated → spec.closes_next (spec.behind is_separator j) ≡ ends → spec.lists rule turns found i ≡ spec.lists_by (spec.lists rule (turns - 1) (found ++ one ∷ [])) (found ++ one ∷ []) separated ends j

@@ -2,7 +2,9 @@
 use Rattle.std.proofs.Common.{◌≡◌, ℕ, suc, ◌+◌, length, ◌<◌, get_or, arith, Bool, true, false, if◌then◌else◌, ◌&&◌, ◌||◌, List, [], ◌∷◌, ◌++◌, ◌==◌, Option, Some, None, option_map, is_some, refl, ap, sym, subst, ◌∙◌, append-nil, append_assoc}
 use Rattle.std.specs.List.{prefix_len, list_all}
 use Rattle.std.proofs.lemmas.List.Folds.{list_all-append}
+use Rattle.std.proofs.Math.Bool.{and_assoc, or-false}
 use Rattle.std.proofs.Math.Dec.{eqb-suc-suc, eqb-zero-suc}
+use Rattle.std.proofs.lemmas.Bool.{and_from}
 use Rattle.std.proofs.lemmas.Option.{same_Some}
 use Rattle.hushlang.specs.ByteClasses.{begins_name, is_name_byte, continues_name, is_between}
 use Rattle.hushlang.specs.Token.{Part, Plain, Kept, Mark, Var, Status}
@@ -141,41 +143,29 @@ assignment_end parts front stop old end inv = sym (ap named (inv ∙ ap (λ x. f
 
 -- ---- whether a name goes on
 
-and_both : (x y : Bool) → x ≡ true → y ≡ true → (x && y) ≡ true
-and_both true y e f = f
-and_both false y e f = absurd (cc)
-
-and_none : (x y : Bool) → y ≡ false → (x && y) ≡ false
+pub and_none : (x y : Bool) → y ≡ false → (x && y) ≡ false
 and_none true y e = e
 and_none false y e = refl
-
-and_assoc : (x y z : Bool) → (x && (y && z)) ≡ ((x && y) && z)
-and_assoc true y z = refl
-and_assoc false y z = refl
 
 or_same : (x y : Bool) → (x || (x || y)) ≡ (x || y)
 or_same true y = refl
 or_same false y = refl
 
-or_none : (x : Bool) → (x || false) ≡ x
-or_none true = refl
-or_none false = refl
-
 all_behind : (x : ℕ) (front : List ℕ) (b : ℕ) (more : List ℕ) → is_name (x ∷ front ++ b ∷ more) ≡ (is_name (x ∷ front) && (is_name_byte b && list_all is_name_byte more))
 all_behind x front b more =
     ap (λ (all : Bool). begins_name x && all) (list_all-append is_name_byte front (b ∷ more))
-    ∙ and_assoc (begins_name x) (list_all is_name_byte front) (is_name_byte b && list_all is_name_byte more)
+    ∙ sym (and_assoc (begins_name x) (list_all is_name_byte front) (is_name_byte b && list_all is_name_byte more))
 
 pub name_goes_on : (front : List ℕ) (b : ℕ) (named : Bool) → named ≡ is_name front → (named ≡ false → front ≡ []) → continues_name named b ≡ true → is_name (front ++ b ∷ []) ≡ true
-name_goes_on [] b false is none e = and_both (begins_name b) true (sym (or_none (begins_name b)) ∙ e) refl
+name_goes_on [] b false is none e = and_from (begins_name b) true (sym (or-false (begins_name b)) ∙ e) refl
 name_goes_on (x ∷ front) b false is none e = let no = none refl in absurd (cc)
 name_goes_on [] b true is none e = absurd (cc)
 name_goes_on (x ∷ front) b true is none e =
-    all_behind x front b [] ∙ and_both (is_name (x ∷ front)) (is_name_byte b && true) (sym is)
-    (and_both (is_name_byte b) true (sym (or_same (begins_name b) (is_between 48 57 b)) ∙ e) refl)
+    all_behind x front b [] ∙ and_from (is_name (x ∷ front)) (is_name_byte b && true) (sym is)
+    (and_from (is_name_byte b) true (sym (or_same (begins_name b) (is_between 48 57 b)) ∙ e) refl)
 
 pub name_stops : (front : List ℕ) (b : ℕ) (more : List ℕ) (named : Bool) → named ≡ is_name front → (named ≡ false → front ≡ []) → continues_name named b ≡ false → is_name (front ++ b ∷ more) ≡ false
-name_stops [] b more false is none e = ap (λ (x : Bool). x && list_all is_name_byte more) (sym (or_none (begins_name b)) ∙ e)
+name_stops [] b more false is none e = ap (λ (x : Bool). x && list_all is_name_byte more) (sym (or-false (begins_name b)) ∙ e)
 name_stops (x ∷ front) b more false is none e = let no = none refl in absurd (cc)
 name_stops [] b more true is none e = absurd (cc)
 name_stops (x ∷ front) b more true is none e =

@@ -46,10 +46,6 @@ term-turned whole o rest first words so e none bang =
     let none_here : compared (first ∷ words) ≡ None = ap compared (sym e) ∙ none in
     so ∙ (ap (λ r. turned o (term r)) e ∙ (ap (turned o) (opposite_of first words none_here bang) ∙ turned-not o (term words)))
 
-pub not-false : (b : Bool) → not b ≡ false → b ≡ true
-not-false true e = refl
-not-false false e = sym e
-
 compared-shorter : (words : List Text) (t : Bool × List Text) → compared words ≡ Some t → length t.1 ≤ length words
 compared-shorter [] t e = cc
 compared-shorter (a ∷ []) t e = cc

@@ -1,6 +1,7 @@
 -- The work of the words that were given.
 use Rattle.std.proofs.Common.{◌≡◌, ℕ, ◌+◌, ◌-◌, ◌<◌, ◌≤◌, List, [], ◌∷◌, ◌++◌, length, take, Option, Some, None, refl, sym, ap, subst, ◌∙◌, append_assoc, length-append, arith}
 use Rattle.bootstore.specs.Moment.{Moment}
+use Rattle.rehearse.specs.Listing.{last_of}
 use Rattle.rehearse.specs.Bounds.{most_devices}
 use Rattle.rehearse.specs.Outcomes.{OutcomeWord, Success, Failure, Run, common_prefix}
 use Rattle.rehearse.specs.Runs.{Task, kind, runs, rest, steps, asked, work_from}
@@ -27,17 +28,11 @@ none_in_front ws = front_is ws [] ws refl
 
 -- ---- one word more
 
-last_of : OutcomeWord → List OutcomeWord → OutcomeWord
-last_of u [] = u
-last_of u (w ∷ ws) = last_of w ws
-
 last_some : (u : OutcomeWord) (ws : List OutcomeWord) → last_answer (Some u) ws ≡ Some (last_of u ws)
-unfolding last_of
 last_some u [] = refl
 last_some u (w ∷ ws) = last_some w ws
 
 work_more : (task : Task) (u : OutcomeWord) (ws : List OutcomeWord) (v : OutcomeWord) → work_from task u (ws ++ v ∷ []) ≡ work_from task u ws + (steps task v - asked task (common_prefix (last_of u ws) v))
-unfolding last_of
 work_more task u [] v = omega arith
 work_more task u (w ∷ ws) v = let h = work_more task w ws v in omega (arith, h)
 

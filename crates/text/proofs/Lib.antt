@@ -1,3 +1,4 @@
+pub mod ResultLemmas
 pub mod CutLemmas
 pub mod HexLemmas
 pub mod LineLemmas

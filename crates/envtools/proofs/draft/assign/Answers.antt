@@ -1,5 +1,6 @@
 use Rattle.std.proofs.Common.{refl, rules}
-use Rattle.envtools.proofs.EnvLemmas.{seen, from_ok, assigned-seen}
+use Rattle.text.proofs.ResultLemmas.{from_ok}
+use Rattle.envtools.proofs.EnvLemmas.{seen, assigned-seen}
 use Rattle.std.specs.Prelude.{IsOk}
 use Rattle.envtools.proofs.draft.assign.Goals as goal
 

@@ -2,7 +2,8 @@ use Rattle.std.proofs.Common.{sym, ap, ◌∙◌, [], ◌∷◌}
 use Rattle.std.specs.Str.{bytes_eq}
 use Rattle.rehearse.specs.Verdict.{term}
 use Rattle.rehearse.specs.TextsShown.{texts, term_shown}
-use Rattle.rehearse.proofs.VerdictLemmas.{term-turned, not-false}
+use Rattle.std.proofs.lemmas.Bool.{not-false}
+use Rattle.rehearse.proofs.VerdictLemmas.{term-turned}
 use Rattle.rehearse.proofs.truth.term.Goals as goal
 
 pub loop-first-preserved : goal.loop-first-preserved
