@@ -1,5 +1,5 @@
 //! What takes a run back to its marked states.
-ghost use Rattle.std.specs.Prelude.{◌≡◌, ◌<◌, ◌≤◌, true, reverse, length, vec_capacity};
+ghost use Rattle.std.specs.Prelude.{◌≡◌, ◌<◌, ◌≤◌, true, reverse, vec_capacity};
 ghost use Rattle.bootstore.specs.Inverse.{undone, at_mark, finds_its_place, HasRoom, names_left, local_names_left, CanGoBack, KeepsOnce, frame_reach, up_to_mark, last_left, local_last_left, record_with};
 ghost use Rattle.bootstore.specs.Record.{gone_back};
 ghost use Rattle.bootstore.specs.Present.{moment_of};

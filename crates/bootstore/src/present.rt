@@ -1,5 +1,5 @@
 //! The present state of a run.
-ghost use Rattle.std.specs.Prelude.{◌≡◌, IfOk, Option, Some, None, option_map, slice_get, vec_len, vec_capacity};
+ghost use Rattle.std.specs.Prelude.{◌≡◌, IfOk, Some, option_map, slice_get, vec_len, vec_capacity};
 
 use crate::frame::{At, Frame};
 use crate::log::LogEntry;

@@ -1,7 +1,7 @@
 //! What a store of states can do.
-ghost use Rattle.std.specs.Prelude.{◌≡◌, ◌+◌, ◌<◌, ◌^◌, OnOk, OnErr, Option, None, Some, option_map, slice_get, Bool};
+ghost use Rattle.std.specs.Prelude.{◌≡◌, ◌+◌, ◌<◌, ◌^◌, OnOk, OnErr, option_map, slice_get};
 ghost use Rattle.std.specs.FinMap.{get, entries};
-ghost use Rattle.bootstore.specs.Moment.{Moment, environment_of, option_bytes};
+ghost use Rattle.bootstore.specs.Moment.{environment_of, option_bytes};
 ghost use Rattle.bootstore.specs.Record.{Record, fresh, most_steps, started, stepped, with_mark, gone_back, changed, with_environment, with_local, with_echo, with_device, with_status, with_frame, with_place, without_frame};
 
 use crate::frame::{At, Frame};

@@ -1,5 +1,5 @@
 //! Variables by name. The place of a name can be kept empty, so that its value can come back without memory.
-ghost use Rattle.std.specs.Prelude.{◌≡◌, IfOk, OnOk, OnErr, Option, None, Some, option_map, true, false};
+ghost use Rattle.std.specs.Prelude.{◌≡◌, IfOk, OnOk, OnErr, None, Some, true, false};
 ghost use Rattle.bootstore.specs.Moment.{option_bytes, option_items};
 
 use std::alloc::{AllocError, Global};

@@ -1,7 +1,6 @@
 //! The configuration: which places hold the environment.
 
 ghost use Rattle.std.specs.Prelude.{◌≡◌, ◌∷◌, [], ℕ, map, Ok, Err, IfOk, true, false, MatchOption};
-ghost use Rattle.std.specs.Result.{result_err};
 ghost use Rattle.envimage.specs.Config.{places, place_of, place_with, is_place_line, is_text, single, pair};
 ghost use Rattle.envimage.specs.Image.{Gives};
 ghost use Rattle.envimage.specs.Place.{named_shown, place_shown, places_left, AnswersPlaces};

@@ -1,4 +1,4 @@
-ghost use Rattle.std.specs.Prelude.{◌≡◌, ◌≤◌, length, IfOk, IsOk, None};
+ghost use Rattle.std.specs.Prelude.{◌≡◌, ◌≤◌, length, IfOk, None};
 ghost use Rattle.std.specs.Option.{option_copied};
 ghost use Rattle.envimage.specs.Data.{data_fault};
 ghost use Rattle.envimage.specs.Image.{is_right, is_newer, is_size, stored, current, chosen_of, load_of, Gives, loaded_shown, copy_shown};

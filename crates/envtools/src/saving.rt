@@ -1,4 +1,4 @@
-ghost use Rattle.std.specs.Prelude.{◌≡◌, ◌↔◌, ◌<◌, length, true, IfOk, IfErr, Err};
+ghost use Rattle.std.specs.Prelude.{◌≡◌, ◌↔◌, ◌<◌, true, IfOk, IfErr, Err};
 ghost use Rattle.envimage.specs.Encoding.{header_len, is_image_size, needed, ReadsBack};
 ghost use Rattle.envimage.specs.Image.{loaded_shown};
 ghost use Rattle.envtools.specs.Saving.{size_of, next_flag, copy_to_write, saved_image, IsSaveRefusal};

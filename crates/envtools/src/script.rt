@@ -1,8 +1,8 @@
-ghost use Rattle.std.specs.Prelude.{◌≡◌, ◌≤◌, length};
-ghost use Rattle.std.specs.List.{position, position_or_len};
+ghost use Rattle.std.specs.Prelude.{◌≡◌};
+ghost use Rattle.std.specs.List.{position};
 ghost use Rattle.std.specs.Option.{option_map};
 ghost use Rattle.text.specs.Words.{is_space, cut_front, cut_behind};
-ghost use Rattle.envtools.specs.Scripting.{is_return, ends_name, name_and_value, change_of, line_change, AppliesLine, AppliesScript};
+ghost use Rattle.envtools.specs.Scripting.{is_return, ends_name, name_and_value, line_change, AppliesLine, AppliesScript};
 
 use crate::draft::Draft;
 use crate::env::{Env, is_name, is_value};

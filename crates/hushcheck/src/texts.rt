@@ -1,5 +1,5 @@
 //! The texts of images, checked.
-ghost use Rattle.std.specs.Prelude.{◌≡◌, map, string_bytes};
+ghost use Rattle.std.specs.Prelude.{map, string_bytes};
 ghost use Rattle.std.specs.Option.{option_copied};
 ghost use Rattle.hushcheck.specs.Checking.{ChecksFrom, ChecksText, Finds, LeavesOutput};
 ghost use Rattle.ubtool_core.specs.PrintingImages.{environment_in};

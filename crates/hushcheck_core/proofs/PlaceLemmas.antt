@@ -1,5 +1,5 @@
 -- The line of a byte, cut out of a text.
-use Rattle.std.proofs.Common.{◌≡◌, ℕ, zero, suc, ◌+◌, ◌-◌, ◌<◌, ◌≤◌, Bool, true, false, not, List, [], ◌∷◌, ◌++◌, length, take, drop, min, get_or, refl, sym, ap, ◌∙◌, arith}
+use Rattle.std.proofs.Common.{◌≡◌, ℕ, zero, suc, ◌+◌, ◌-◌, ◌<◌, ◌≤◌, true, not, List, [], ◌∷◌, ◌++◌, length, take, drop, min, get_or, sym, ap, ◌∙◌, arith}
 use Rattle.std.proofs.lemmas.Bool.{false_from_ne_true, not_from_false, not_from_true}
 use Rattle.std.proofs.lemmas.List.{drop-append-le, length-drop, take-append-drop, take_min}
 use Rattle.std.proofs.lemmas.List.Sums.{suffix_len_is, position_or_len_is}

@@ -11,7 +11,7 @@ use Rattle.hushlang.specs.declared.tree.Op.{Op}
 use Rattle.hushlang.specs.declared.tree.Word.{Word}
 use Rattle.hushlang.specs.declared.tree.AndOr.{AndOr}
 use Rattle.hushlang.specs.declared.tree.Command.{Command, Simple, Assign, If, Loop, For}
-use Rattle.hushlang.specs.declared.tree.Script.{Script, out-Script, fold_out-Script}
+use Rattle.hushlang.specs.declared.tree.Script.{Script, out-Script}
 use Rattle.hushlang.proofs.ViewLemmas.{script_out, list_of, command_simple, command_assign, command_loop, command_for, command_if}
 use Rattle.hushcheck_core.specs.Order.{with_names}
 use Rattle.hushcheck_core.proofs.OrderLemmas.{with_names-append}

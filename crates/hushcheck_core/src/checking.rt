@@ -1,7 +1,5 @@
 //! The texts that are reached, and what is told of each.
 ghost use Rattle.std.specs.Prelude.{◌≡◌, ◌&&◌, ◌++◌, ◌<◌, [], length, map, IfOk, OnOk, slice_index_or};
-ghost use Rattle.std.specs.List.{list_all};
-ghost use Rattle.envtools.specs.Environment.{value_of};
 ghost use Rattle.envtools.specs.Printing.{all_found};
 ghost use Rattle.hushcheck_core.specs.Names.{run_by_found, run_by_name};
 ghost use Rattle.hushcheck_core.specs.Order.{with_names};

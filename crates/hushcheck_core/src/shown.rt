@@ -1,7 +1,7 @@
 //! Bytes that may not print.
 ghost use Rattle.std.specs.Prelude.{◌≡◌, ◌++◌, OnOk};
 ghost use Rattle.text.specs.Escapes.{word_form};
-ghost use Rattle.hushcheck_core.specs.Shown.{line_byte, mark_byte, mark_line, shown_line};
+ghost use Rattle.hushcheck_core.specs.Shown.{line_byte, mark_line, shown_line};
 
 use std::alloc::AllocError;
 use text::Escaped;

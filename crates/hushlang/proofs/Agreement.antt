@@ -1,5 +1,5 @@
 -- What the grammar derives is what the reader computes. The rule of commands is a parameter, as in the reader.
-use Rattle.std.proofs.Common.{◌≡◌, ℕ, zero, suc, ◌-◌, ◌<◌, ◌≤◌, Bool, true, false, List, [], ◌∷◌, ◌++◌, map, length, Option, Some, None, is_some, Result, Ok, Err, refl, ap, sym, ◌∙◌, arith}
+use Rattle.std.proofs.Common.{◌≡◌, ℕ, zero, suc, ◌-◌, ◌<◌, ◌≤◌, Bool, true, false, List, [], ◌∷◌, ◌++◌, map, length, Option, Some, None, is_some, Ok, refl, ap, sym, ◌∙◌, arith}
 use Rattle.text.proofs.ResultLemmas.{ok_same}
 use Rattle.hushlang.specs.Token.{Token, Part, End, Whole}
 use Rattle.hushlang.specs.Tree.{Script, Empty, Runs, AndOr, Starts, Joined, Alone, Joins, Command, Simple, Assign, If, Loop, For, Arms, NoElse, Else, Arm, Word}
@@ -11,7 +11,6 @@ use Rattle.hushlang.specs.Parsing.{Input, Parser, Parsed, and_then, command, key
 use Rattle.hushlang.proofs.Turns.{joined_more, joined_end, command_simple}
 use Rattle.hushlang.proofs.Shorter.{command_shorter, and_or_shorter, block_shorter, past-shorter}
 use Rattle.hushlang.specs.Laws.{EachTreeIsRead, OneTree}
-use Rattle.hushlang.specs.declared.token.SyntaxError.{SyntaxError}
 use Rattle.hushlang.specs.declared.tree.Op.{Op}
 use Rattle.hushlang.specs.declared.words.Reserved.{Reserved}
 use Rattle.hushlang.specs.declared.words.Reserved.TheVariants as r

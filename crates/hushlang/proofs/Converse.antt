@@ -6,7 +6,7 @@ use Rattle.text.proofs.ResultLemmas.{ok_same}
 use Rattle.hushlang.specs.Token.{Token, Part, End, Whole, Refused}
 use Rattle.hushlang.specs.Tree.{Script, Empty, Runs, AndOr, Starts, Joined, Alone, Joins, Command, If, Loop, For, Arms, NoElse, Else, Arm, Word}
 use Rattle.hushlang.specs.TreesShown.{runs, joins as joins_of, arms as arms_of}
-use Rattle.hushlang.specs.Grammar.{AreAssignments, no_word, assigned, IsCommand, IsArms, IsMore, IsLoop, IsBody, IsBlock, IsLists, IsAndOr, IsJoined, IsScript, no_command, commands, is_word, is_separator, is_newline_token, words, word_of, past, past_if, reserved_of, op_of, goes_on, assignment, value_of, ends_block, name_in, is_in_word}
+use Rattle.hushlang.specs.Grammar.{AreAssignments, no_word, assigned, IsCommand, IsArms, IsMore, IsLoop, IsBody, IsBlock, IsLists, IsAndOr, IsJoined, IsScript, no_command, commands, is_word, is_separator, is_newline_token, words, word_of, past, past_if, reserved_of, goes_on, assignment, value_of, ends_block, name_in, is_in_word}
 use Rattle.hushlang.specs.Grammar as g
 use Rattle.hushlang.specs.Parsing as spec
 use Rattle.hushlang.specs.Parsing.{Input, Parser, Parsed, and_then, ◌>>=◌, command, keyword, next, expect, behind, joined, joined_all, and_or, lists, lists_by, joined_by, more_by, separator_first, reserved_first}

@@ -6,10 +6,10 @@ use Rattle.std.specs.List.{list_all}
 use Rattle.text.specs.Bytes.{newline}
 use Rattle.text.specs.Words.{is_space}
 use Rattle.hushlang.specs.ByteClasses.{is_separator, begins_name, is_name_byte, is_brace_byte, is_escapable, begins}
-use Rattle.hushlang.specs.Token.{Part, Plain, Kept, Mark, Var, Status, Token, sign, word, End, Whole}
+use Rattle.hushlang.specs.Token.{Part, Plain, Kept, Mark, Token, sign, word, End, Whole}
 use Rattle.hushlang.specs.Token as ends
 use Rattle.hushlang.specs.Spelling as spelling
-use Rattle.hushlang.specs.Spelling.{is_bare, IsDollar, IsBadDollar, open_brace, no_name, no_brace, Contents, Row, EndsWord, IsFaulty, may_begin_word, Spells}
+use Rattle.hushlang.specs.Spelling.{IsDollar, IsBadDollar, open_brace, no_name, no_brace, Contents, Row, EndsWord, IsFaulty, may_begin_word, Spells}
 use Rattle.hushlang.specs.declared.token.SyntaxError.{SyntaxError}
 use Rattle.hushlang.specs.declared.token.SyntaxError.TheVariants.{SingleAmp, SinglePipe}
 use Rattle.hushlang.specs.declared.token.Kind.TheVariants as kinds

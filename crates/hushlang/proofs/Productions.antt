@@ -5,7 +5,7 @@ use Rattle.std.proofs.lemmas.Bool.{and_parts}
 use Rattle.hushlang.specs.Token.{Token, Part}
 use Rattle.hushlang.specs.Tree.{Script, AndOr, Command, ends_compound}
 use Rattle.hushlang.specs.Grammar as g
-use Rattle.hushlang.specs.Grammar.{IsCommand, simple, assign, «if», «while», until, for_in, IsBlock, block, IsLists, last, more, IsAndOr, starts, IsScript, no_command, commands, past, past_if, is_word, is_separator, reserved_of, ends_block, closes_at}
+use Rattle.hushlang.specs.Grammar.{IsCommand, simple, assign, «if», «while», until, for_in, IsBlock, block, IsLists, last, more, IsAndOr, starts, no_command, commands, past, past_if, is_word, is_separator, reserved_of, ends_block, closes_at}
 use Rattle.hushlang.specs.Productions.{AreSeparators, IsRow, one, another, IsProduced, separated, compound, IsProducedScript, separators_alone, and_or_lists}
 use Rattle.hushlang.specs.Laws.{EachProducedBlockIsDerived, EachDerivedBlockIsProduced, EachProducedScriptIsDerived, EachDerivedScriptIsProduced}
 use Rattle.hushlang.specs.declared.token.Kind.{Kind}

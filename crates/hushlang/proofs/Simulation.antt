@@ -5,7 +5,7 @@ use Rattle.std.proofs.lemmas.Option.{none-some}
 use Rattle.hushlang.specs.Token.{Token, Part, End, Whole, Refused}
 use Rattle.hushlang.specs.Tree.{Script, AndOr, Starts, Command, If, Loop, For, Word}
 use Rattle.hushlang.specs.TreesShown.{arms as arms_of}
-use Rattle.hushlang.specs.Grammar.{is_word, is_separator, is_newline_token, words, words_if, word_of, past, past_if, reserved_of, op_of, goes_on, assignment, value_of, ends_block, closes_at, name_in, is_in_word}
+use Rattle.hushlang.specs.Grammar.{is_word, is_separator, is_newline_token, words, words_if, past, past_if, reserved_of, goes_on, assignment, ends_block, closes_at, name_in, is_in_word}
 use Rattle.hushlang.specs.Grammar as g
 use Rattle.hushlang.specs.declared.token.Kind.{Kind}
 use Rattle.hushlang.specs.declared.token.Kind.TheVariants as kinds

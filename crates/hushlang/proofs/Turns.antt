@@ -2,7 +2,7 @@
 use Rattle.std.proofs.Common.{◌≡◌, ℕ, zero, suc, ◌-◌, ◌<◌, List, [], ◌∷◌, ◌++◌, Some, None, refl, ap, sym, ◌∙◌, arith}
 use Rattle.hushlang.specs.Tree.{Command}
 use Rattle.hushlang.specs.Parsing as spec
-use Rattle.hushlang.specs.Parsing.{Input, Parser, Parsed, ◌>>=◌, ◌>>◌, pure, and_then, joined, op_next, next, keyword, command, simple, if_command, loop_command}
+use Rattle.hushlang.specs.Parsing.{Input, Parser, pure, and_then, joined, op_next, next, keyword, command, simple}
 use Rattle.hushlang.specs.Grammar.{is_newline_token}
 use Rattle.hushlang.specs.TreesShown.{joins}
 use Rattle.hushlang.specs.declared.tree.Op.{Op}

@@ -1,11 +1,10 @@
 //! The parts of a word, cut from a text one at a time.
 
-ghost use Rattle.std.specs.Prelude.{◌≡◌, ◌+◌, ◌-◌, ◌<◌, ◌≤◌, ◌^◌, ℕ, suc, List, [], ◌∷◌, length, drop, slice_index};
-ghost use Rattle.std.specs.Prelude.{IfOk};
+ghost use Rattle.std.specs.Prelude.{◌≡◌, ◌+◌, ◌-◌, ◌<◌, ◌≤◌, ◌^◌, suc, [], length, drop, slice_index};
 ghost use Rattle.hushlang.specs.Spelling as spelling;
 ghost use Rattle.hushlang.specs.Tokenizing as spec;
 ghost use Rattle.hushlang.specs.CuttersShown as cutting;
-ghost use Rattle.hushlang.specs.CuttersShown.{StaysWithin, Cuts, stop_of, to_come};
+ghost use Rattle.hushlang.specs.CuttersShown.{StaysWithin, Cuts};
 ghost use Rattle.hushlang.specs.declared.parts.Mode.TheVariants as modes;
 
 use crate::bytes::{begins_name, brace_len, is_escapable, is_separator, name_len};

@@ -1,6 +1,6 @@
 //! The pieces of a word.
 
-ghost use Rattle.std.specs.Prelude.{◌≡◌, ◌≢◌, ℕ, List, [], ◌∷◌, ◌++◌, map, length, OnOk, IfOk};
+ghost use Rattle.std.specs.Prelude.{◌≡◌, OnOk};
 ghost use Rattle.hushlang.specs.Tokenizing as reading;
 ghost use Rattle.hushlang.specs.CuttersShown as cutting;
 ghost use Rattle.hushlang.specs.TreesShown as view;

@@ -1,7 +1,6 @@
 //! What the grammar asks of a word.
 
 ghost use Rattle.std.specs.Prelude.{◌≡◌, ◌<◌, length, map, is_some, option_map, IfOk, IfErr, IfSome};
-ghost use Rattle.std.specs.List.{list_all};
 ghost use Rattle.hushlang.specs.Token.{Plain};
 ghost use Rattle.hushlang.specs.ByteClasses as bytes;
 ghost use Rattle.hushlang.specs.Tokenizing as reading;

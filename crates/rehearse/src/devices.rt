@@ -1,5 +1,5 @@
 //! The device list: which commands are device commands, and what each does on success.
-ghost use Rattle.std.specs.Prelude.{◌≡◌, ◌∷◌, [], OnOk, is_some, option_map};
+ghost use Rattle.std.specs.Prelude.{◌≡◌, [], OnOk, is_some, option_map};
 ghost use Rattle.rehearse.specs.DeviceList.{joined, effect_of};
 
 use crate::builtins::is_built_in;

@@ -1,5 +1,5 @@
 //! The truth of the words after `test`.
-ghost use Rattle.std.specs.Prelude.{◌≡◌, ◌==◌, length, IfSome};
+ghost use Rattle.std.specs.Prelude.{◌≡◌, ◌==◌};
 ghost use Rattle.rehearse.specs.Verdict.{text_comparisons, number_comparisons, answer_in, comparison, compared, measured, term, combined, verdict};
 ghost use Rattle.rehearse.specs.TextsShown.{texts, term_shown};
 

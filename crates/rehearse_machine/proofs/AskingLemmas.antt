@@ -1,7 +1,7 @@
 -- A device command that asks is found again.
 use Rattle.std.proofs.Common.{ℕ, zero, suc, Bool, true, false, List, [], ◌∷◌, length, Option, Some, None, refl, ap, ◌∙◌, ◌≡◌, nat_lt, nat_le, nat_eq}
 use Rattle.hushlang.specs.Tree as tree
-use Rattle.hushlang.specs.Tree.{Script, AndOr, Joined, Command, Arms}
+use Rattle.hushlang.specs.Tree.{Script, AndOr, Command, Arms}
 use Rattle.hushlang.specs.Expansion.{fields, joined, size, most_bytes}
 use Rattle.hushlang.specs.declared.tree.Op.{Op}
 use Rattle.bootstore.specs.Moment.{RunningFrame}

@@ -1,7 +1,6 @@
 -- Commands that begin a step and expand words.
 use Rattle.std.proofs.Common.{ℕ, suc, Bool, true, false, List, ◌∷◌, Result, refl, sym, ap, subst, ◌∙◌, ◌≡◌, arith, nat_lt, nat_le, add-one}
 use Rattle.hushlang.specs.Tree as tree
-use Rattle.hushlang.specs.Tree.{Script}
 use Rattle.hushlang.specs.Expansion as expansion
 use Rattle.hushlang.specs.Expansion.{fields, size, most_bytes}
 use Rattle.bootstore.specs.declared.store.StoreError.{StoreError}

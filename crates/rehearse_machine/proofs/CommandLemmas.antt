@@ -10,7 +10,7 @@ use Rattle.hushlang.specs.declared.tree.Command.{Command as CommandCode, Command
 use Rattle.hushlang.specs.declared.tree.Command.TheVariants.{rolls-Simple, rolls-Assign, rolls-If, rolls-Loop, rolls-For}
 use Rattle.hushlang.specs.declared.tree.Command.TheOpen as open_command
 use Rattle.hushlang.specs.Tree as tree
-use Rattle.hushlang.specs.Tree.{Script, Command, Arms}
+use Rattle.hushlang.specs.Tree.{Script, Command}
 use Rattle.hushlang.specs.TreesShown as view
 use Rattle.hushlang.proofs.ViewLemmas.{command_simple, command_assign, command_loop, command_for, command_if}
 use Rattle.bootstore.specs.declared.frame.At.{At}

@@ -6,7 +6,7 @@ use Rattle.hushlang.specs.declared.tree.Op.{Op}
 use Rattle.hushlang.specs.declared.tree.AndOr.{AndOr as ListCode}
 use Rattle.hushlang.specs.declared.tree.Command.{Command as CommandCode}
 use Rattle.hushlang.specs.Tree as tree
-use Rattle.hushlang.specs.Tree.{AndOr, Joined, Command}
+use Rattle.hushlang.specs.Tree.{AndOr, Command}
 use Rattle.hushlang.specs.TreesShown as view
 use Rattle.hushlang.proofs.ViewLemmas.{list_of}
 use Rattle.bootstore.specs.declared.frame.At.{At}

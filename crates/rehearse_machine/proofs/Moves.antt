@@ -1,7 +1,7 @@
 -- Each move of the machine keeps what is left to come.
 use Rattle.std.proofs.Common.{ℕ, zero, suc, Bool, true, false, List, [], ◌∷◌, length, Option, Some, None, refl, sym, ap, ◌∙◌, ◌≡◌, ◌≤◌, arith, nat_lt, nat_le, nat_eq}
 use Rattle.hushlang.specs.Tree as tree
-use Rattle.hushlang.specs.Tree.{Script, AndOr, Joined, Command, Arms}
+use Rattle.hushlang.specs.Tree.{Script, Command, Arms}
 use Rattle.hushlang.specs.Expansion.{fields, joined, size, most_bytes}
 use Rattle.rehearse.specs.Trees.{tree_of}
 use Rattle.rehearse.specs.Verdict.{verdict}

@@ -9,7 +9,7 @@ ghost use Rattle.rehearse.specs.State.{state_at};
 ghost use Rattle.rehearse.specs.Outcomes.{OutcomeWord};
 ghost use Rattle.rehearse.specs.DeviceList.{Devices as ListedDevices};
 ghost use Rattle.rehearse_machine.specs.Places.{place_ask};
-ghost use Rattle.rehearse_machine.specs.MovesShown.{next_shown, Changed, Comes, limits_of};
+ghost use Rattle.rehearse_machine.specs.MovesShown.{next_shown, Changed, limits_of};
 ghost use Rattle.rehearse_machine.specs.CalledShown.{called_shown};
 
 use crate::ask::{Ask, Step};

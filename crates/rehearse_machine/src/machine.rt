@@ -1,5 +1,5 @@
 //! The machine: moves over a store, up to an outcome that is asked for or to the end.
-ghost use Rattle.std.specs.Prelude.{◌≡◌, ◌+◌, ◌<◌, ◌≤◌, ◌^◌, IfOk};
+ghost use Rattle.std.specs.Prelude.{◌+◌, ◌<◌, ◌≤◌, ◌^◌, IfOk};
 ghost use Rattle.rehearse_machine.specs.Places.{place_move};
 ghost use Rattle.rehearse_machine.specs.MovesShown.{Comes, limits_of};
 ghost use Rattle.rehearse_machine.specs.Turning.{IsSound, Turns, Drives};

@@ -1,5 +1,4 @@
 //! The variables and the status of a run, as words expand by them.
-ghost use Rattle.std.specs.Prelude.{◌≡◌};
 
 use bootstore::Store;
 use hushlang::expand::Vars;

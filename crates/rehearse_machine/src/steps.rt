@@ -1,9 +1,7 @@
 //! Steps that are begun, and words that are expanded.
-ghost use Rattle.std.specs.Prelude.{◌≡◌, ◌+◌, ◌<◌, ◌≤◌, ◌^◌, IfOk, map, nat_le, true, false, Option, Some, None};
+ghost use Rattle.std.specs.Prelude.{◌+◌, ◌<◌, ◌^◌, IfOk, map, true, false, Some, None};
 ghost use Rattle.hushlang.specs.TreesShown as view;
 ghost use Rattle.hushlang.specs.Expansion as expansion;
-ghost use Rattle.bootstore.specs.Record.{stepped};
-ghost use Rattle.rehearse.specs.Bounds.{are_bounds};
 ghost use Rattle.rehearse_machine.specs.Variables.{parameters_at};
 ghost use Rattle.rehearse_machine.specs.MovesShown.{IsExpanded, IsExpandedOne, IsCounted};
 

@@ -1,11 +1,9 @@
 //! The frames of a `run`, of a `for`, and of texts.
-ghost use Rattle.std.specs.Prelude.{◌≡◌, ◌∷◌, ◌+◌, ◌<◌, ◌^◌, IfOk};
+ghost use Rattle.std.specs.Prelude.{◌∷◌, ◌<◌};
 ghost use Rattle.hushlang.specs.TreesShown as view;
 ghost use Rattle.bootstore.specs.Moment.{bytes_of_words};
-ghost use Rattle.rehearse.specs.State.{state_at};
-ghost use Rattle.rehearse.specs.Outcomes.{OutcomeWord};
-ghost use Rattle.rehearse_machine.specs.Places.{left, to_run, GoOn, names_frame, values_frame};
-ghost use Rattle.rehearse_machine.specs.MovesShown.{Comes, next_shown};
+ghost use Rattle.rehearse_machine.specs.Places.{left, to_run, GoOn, names_frame};
+ghost use Rattle.rehearse_machine.specs.MovesShown.{Comes};
 
 use crate::ask::Step;
 use crate::frames::place;

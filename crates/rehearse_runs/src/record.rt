@@ -7,7 +7,7 @@ ghost use Rattle.text.specs.Escapes.{word_form};
 ghost use Rattle.envimage.specs.Sink.{Prints};
 ghost use Rattle.bootstore.specs.Moment.{bytes_of_words};
 ghost use Rattle.rehearse.specs.State.{state_at};
-ghost use Rattle.rehearse.specs.Listing.{line, digit_when, device_line, text_lines, variable_line, variable_lines, asked_line, last_line};
+ghost use Rattle.rehearse.specs.Listing.{line, digit_when, text_lines, variable_lines, last_line};
 ghost use Rattle.rehearse_runs.specs.Paging.{Puts};
 ghost use Rattle.rehearse_runs.specs.Recording.{printed, spaced, entry_line, set_line, named_line, recorded};
 ghost use Rattle.rehearse_runs.specs.ViewShown.{shown_word, shown_moment, shown_ending};

@@ -1,6 +1,5 @@
 //! Where a listing that was broken off goes on.
-ghost use Rattle.std.specs.Prelude.{◌≡◌, ◌+◌, ◌∷◌, [], length, suc, MatchOption, option_map, IsTrue, ◌↔◌, drop};
-ghost use Rattle.std.specs.Option.{option_copied};
+ghost use Rattle.std.specs.Prelude.{◌≡◌, ◌+◌, ◌∷◌, [], length, suc, MatchOption};
 
 /// A place in what stands written at which a listing goes on.
 #[derive(Clone, Copy, Debug)]
@@ -11,7 +10,7 @@ pub struct Point<'a> {
     pub length: usize,
 }
 
-ghost use Rattle.rehearse.specs.Resuming.{ended_lines, is_last_line, is_first_line, resume_point_of};
+ghost use Rattle.rehearse.specs.Resuming.{ended_lines, is_last_line, resume_point_of};
 ghost use Rattle.rehearse_runs.specs.PointShown.{point_if, name_if, first_word};
 
 /// The first line that a newline ends, and what stands behind the newline.

@@ -1,5 +1,5 @@
 //! The runs of the text of a variable.
-ghost use Rattle.std.specs.Prelude.{◌≡◌, ◌↔◌, [], false, IsTrue, map, option_map};
+ghost use Rattle.std.specs.Prelude.{◌≡◌, [], false, map, option_map};
 ghost use Rattle.bootstore.specs.Moment.{option_bytes};
 ghost use Rattle.rehearse.specs.Listing.{outcome_digit};
 ghost use Rattle.rehearse.specs.Outcomes.{has_success};

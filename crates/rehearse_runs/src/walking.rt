@@ -3,7 +3,6 @@ ghost use Rattle.std.specs.Prelude.{◌≡◌, ◌+◌, ◌-◌, ◌*◌, ◌<�
 ghost use Rattle.rehearse.specs.Bounds.{most_devices, most_steps};
 ghost use Rattle.rehearse.specs.Listing.{outcome_digit};
 ghost use Rattle.rehearse_runs.specs.RunsShown.{outcomes};
-ghost use Rattle.rehearse_runs.specs.Phases.{AreDigits};
 ghost use Rattle.rehearse_machine.specs.Machine.{outcome_when};
 ghost use Rattle.rehearse_runs.specs.Searching.{StoppedAt, AreMarks};
 ghost use Rattle.rehearse_machine.specs.Tasks.{task_in};

@@ -1,5 +1,5 @@
 //! The listings of worked examples, over both stores; they are worked by hand.
-ghost use Rattle.std.specs.Prelude.{◌≡◌, ◌≢◌, Some};
+ghost use Rattle.std.specs.Prelude.{◌≢◌, Some};
 
 use bootstore::{Plain, Store, Trail};
 use envimage::Over;

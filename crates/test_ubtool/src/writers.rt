@@ -1,6 +1,5 @@
 //! Outputs for tests: into memory, one byte at a time, and failing at a byte.
 ghost use Rattle.std.specs.Prelude.{◌≡◌, [], Some};
-ghost use Rattle.envimage.specs.Sink.{Sink};
 
 use envimage::{Out, OutFault};
 use std::alloc::Global;
@@ -47,7 +46,6 @@ pub struct Slow {
 }
 
 impl Out for Slow {
-    ghost use Rattle.envimage.specs.Sink.{Sink};
     ghost use Rattle.std.specs.Prelude.{Some};
 
     ghost sink = { λ o. record { taken = Some o.memory.bytes.items; failures = o.memory.failures } };
@@ -68,7 +66,6 @@ pub struct Limited {
 }
 
 impl Out for Limited {
-    ghost use Rattle.envimage.specs.Sink.{Sink};
     ghost use Rattle.std.specs.Prelude.{Some};
 
     ghost sink = { λ o. record { taken = Some o.memory.bytes.items; failures = o.memory.failures } };
@@ -108,7 +105,6 @@ impl FailsOnce {
 }
 
 impl Out for FailsOnce {
-    ghost use Rattle.envimage.specs.Sink.{Sink};
     ghost use Rattle.std.specs.Prelude.{Some};
 
     ghost sink = { λ o. record { taken = Some o.memory.bytes.items; failures = o.memory.failures } };

@@ -1,6 +1,5 @@
 //! The machine's files, under the lock of U-Boot's tools.
 ghost use Rattle.std.specs.Prelude.{◌≡◌, None};
-ghost use Rattle.ubtool_files.specs.FailureCounts.{CountsFault};
 ghost use Rattle.ubtool_files.specs.MachineShown.{faults_of};
 
 use std::alloc::Global;

@@ -1,10 +1,10 @@
 -- Worked calls with long options and for the version, computed.
-use Rattle.std.proofs.Common.{◌≡◌, false, refl, List, [], ◌∷◌, Some, None, codes}
+use Rattle.std.proofs.Common.{◌≡◌, false, refl, List, [], ◌∷◌, None, codes}
 use Rattle.clap.specs.Words.{Text, fault_of}
 use Rattle.clap.specs.declared.error.kind.ErrorKind.TheVariants.{DisplayVersion}
 use Rattle.clap.proofs.OnLiterals.{clap_on_literals}
 use Rattle.envimage.specs.declared.image.ByteOrder.TheVariants.{Little}
-use Rattle.ubtool_cli.specs.Asked.{Asked, printing, rehearsing, scripted}
+use Rattle.ubtool_cli.specs.Asked.{printing, rehearsing, scripted}
 use Rattle.ubtool_cli.specs.CommandLine.{ubtool}
 use Rattle.ubtool_cli.proofs.CommandLineExamples.{AsksFor}
 

@@ -1,5 +1,5 @@
 //! Files in memory, for tests.
-ghost use Rattle.std.specs.Prelude.{◌≡◌, ◌≢◌, ◌≤◌, ◌+◌, [], if◌then◌else◌, nat_le, Option, Some, None, Result, Ok, Err, IfOk, OnOk, OnErr, length, map, string_bytes, vec_len};
+ghost use Rattle.std.specs.Prelude.{◌≡◌, ◌≢◌, ◌≤◌, ◌+◌, [], if◌then◌else◌, nat_le, Some, None, Ok, Err, IfOk, OnOk, OnErr, length, map, string_bytes, vec_len};
 ghost use Rattle.std.specs.List.{position};
 ghost use Rattle.std.specs.Option.{option_copied};
 ghost use Rattle.std.specs.Str.{bytes_eq};

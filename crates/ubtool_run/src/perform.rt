@@ -1,6 +1,5 @@
 //! What is asked for, done.
 ghost use Rattle.ubtool_core.specs.PrintingImages.{outputs};
-ghost use Rattle.ubtool_files.specs.Told.{IfTold};
 ghost use Rattle.ubtool_run.specs.Performing.{Does, IsComplete};
 ghost use Rattle.ubtool_run.specs.Faults.{CountsTold};
 

@@ -1,5 +1,5 @@
 //! `rehearse`, from files to the listing.
-ghost use Rattle.std.specs.Prelude.{◌≡◌, IfErr, option_map, string_bytes};
+ghost use Rattle.std.specs.Prelude.{◌≡◌, option_map, string_bytes};
 ghost use Rattle.bootstore.specs.Moment.{option_bytes};
 ghost use Rattle.ubtool_files.specs.Told.{IfTold};
 ghost use Rattle.ubtool_run.specs.Faults.{CountsTold};

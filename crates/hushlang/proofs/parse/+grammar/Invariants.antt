@@ -1,7 +1,6 @@
 use Rattle.std.proofs.Common.{◌≡◌, ℕ, ◌+◌, ◌*◌, ◌<◌, ◌≤◌, map, length}
 use Rattle.hushlang.specs.TreesShown as view
 use Rattle.hushlang.specs.Parsing as spec
-use Rattle.hushlang.specs.Parsing.{◌>>=◌, ◌>>◌, pure, and_then}
 use Rattle.hushlang.proofs.parse.+grammar.Given as goal
 
 -- a command goes one level down, the others stay above the command that they read
