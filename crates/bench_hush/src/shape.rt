@@ -4,7 +4,7 @@ use std::alloc::{AllocError, Global};
 
 /// A text of a row of bytes over and over, between a beginning and an end.
 #[derive(Clone, Copy)]
-pub struct Shape<'a> {
+pub(crate) struct Shape<'a> {
     pub name: &'a str,
     pub begin: &'a [u8],
     pub row: &'a [u8],
@@ -13,7 +13,7 @@ pub struct Shape<'a> {
 
 impl<'a> Shape<'a> {
     /// A row over and over, and nothing else.
-    pub fn of(name: &'a str, row: &'a [u8]) -> Self {
+    pub(crate) fn of(name: &'a str, row: &'a [u8]) -> Self {
         Shape {
             name,
             begin: b"",
@@ -23,7 +23,7 @@ impl<'a> Shape<'a> {
     }
 
     /// A command with a word over and over.
-    pub fn echo(name: &'a str, word: &'a [u8]) -> Self {
+    pub(crate) fn echo(name: &'a str, word: &'a [u8]) -> Self {
         Shape {
             name,
             begin: b"echo",
@@ -33,7 +33,7 @@ impl<'a> Shape<'a> {
     }
 
     /// The text with as many rows as a size has room for.
-    pub fn text(&self, alloc: Global, size: usize) -> Result<Vec<u8>, AllocError> {
+    pub(crate) fn text(&self, alloc: Global, size: usize) -> Result<Vec<u8>, AllocError> {
         let mut text = self.begin.to_vec(alloc)?;
         let room = size
             .saturating_sub(self.begin.len())
@@ -47,7 +47,7 @@ impl<'a> Shape<'a> {
 }
 
 /// `if`s in one another, as deep as the grammar allows.
-pub fn nested_ifs(alloc: Global) -> Result<Vec<u8>, AllocError> {
+pub(crate) fn nested_ifs(alloc: Global) -> Result<Vec<u8>, AllocError> {
     let mut text = Vec::new(alloc);
     for _ in 0..64 {
         text.extend_from_slice(b"if a; then ")?;
@@ -60,7 +60,7 @@ pub fn nested_ifs(alloc: Global) -> Result<Vec<u8>, AllocError> {
 }
 
 /// A command of words that name different variables, of about a size.
-pub fn many_names(alloc: Global, size: usize) -> Result<Vec<u8>, AllocError> {
+pub(crate) fn many_names(alloc: Global, size: usize) -> Result<Vec<u8>, AllocError> {
     let mut text = b"echo".to_vec(alloc)?;
     for number in 0..size / 8 {
         let word = format!(in alloc; " $n{number}")?;
@@ -70,7 +70,7 @@ pub fn many_names(alloc: Global, size: usize) -> Result<Vec<u8>, AllocError> {
 }
 
 /// Blanks up to a size, the last bytes others.
-pub fn blanks(alloc: Global, size: usize, behind: &[u8]) -> Result<Vec<u8>, AllocError> {
+pub(crate) fn blanks(alloc: Global, size: usize, behind: &[u8]) -> Result<Vec<u8>, AllocError> {
     let mut value = vec![in alloc; b' '; size.saturating_sub(behind.len())]?;
     value.extend_from_slice(behind)?;
     Ok(value)

@@ -17,7 +17,7 @@ fn variables() -> OneVariable<'static> {
 }
 
 /// Whether an image of one variable has its bytes.
-pub fn encodes(alloc: Global) -> Option<bool> {
+pub(crate) fn encodes(alloc: Global) -> Option<bool> {
     let image = encode(alloc, &[(b"a", b"1")], 9, None, ByteOrder::Little).ok()?;
     Some(image.as_slice() == b"\x3B\x06\x98\x45a=1\0\0".as_slice())
 }
@@ -28,7 +28,7 @@ fn first(script: &Script) -> Option<&Command> {
 }
 
 /// Whether a command's words are expanded to its fields.
-pub fn expands(alloc: Global) -> Option<bool> {
+pub(crate) fn expands(alloc: Global) -> Option<bool> {
     let script = parse(alloc, b"echo $x 'a b' \"$x\"").ok()?;
     let words: &[Word] = match first(&script)? {
         Command::Simple(words) => words,
@@ -44,7 +44,7 @@ pub fn expands(alloc: Global) -> Option<bool> {
 }
 
 /// Whether the value of an assignment is expanded uncut.
-pub fn expands_one(alloc: Global) -> Option<bool> {
+pub(crate) fn expands_one(alloc: Global) -> Option<bool> {
     let script = parse(alloc, b"y=-$x-").ok()?;
     match first(&script)? {
         Command::Assign(values) => {
@@ -57,7 +57,7 @@ pub fn expands_one(alloc: Global) -> Option<bool> {
 }
 
 /// Whether files in memory are read and written.
-pub fn reaches_files(alloc: Global) -> Option<bool> {
+pub(crate) fn reaches_files(alloc: Global) -> Option<bool> {
     let mut files = MemoryFiles::new(alloc, None);
     files.add("e", b"0123456789").ok()?;
     let part = files.read_at(alloc, "e", 2, 3).ok()?;
