@@ -2,6 +2,7 @@
 use Rattle.std.specs.Prelude.{◌≡◌, ◌≢◌, ℕ, ◌+◌, ◌≤◌, ◌==◌, Bool, List, [], ◌∷◌, ◌++◌, length, Option, None, Some, if◌then◌else◌}
 use Rattle.std.specs.List.{flat_map, AllByRecursion, before_first, after_first, list_any}
 use Rattle.text.specs.Bytes as ascii
+use Rattle.text.specs.Words.{is_equals}
 use Rattle.envimage.specs.declared.content.DataError.{DataError}
 use Rattle.envimage.specs.declared.content.DataError.TheVariants.{NotTerminated, NoEquals, EmptyName}
 
@@ -63,9 +64,6 @@ pub record IsFault (body : List ℕ) (fault : Option DataError) : Type 0 where
 
 abbrev pub is_nul : ℕ → Bool
 is_nul b = b == ascii.nul
-
-abbrev pub is_equals : ℕ → Bool
-is_equals b = b == ascii.equals
 
 abbrev pub onto_first : ℕ → List (List ℕ) → List (List ℕ)
 onto_first b [] = []

@@ -1,7 +1,8 @@
 -- The names that a text runs. `run NAME..` runs the commands in the variables of these names (U-Boot documentation,
 -- doc/usage/cmd/run); that only names which are written out count is ours.
-use Rattle.std.specs.Prelude.{◌++◌, ◌∷◌, ℕ, Bool, false, List, [], Option, Some, None, Result, Ok, Err, codes, if◌then◌else◌}
+use Rattle.std.specs.Prelude.{◌++◌, ◌∷◌, Bool, false, List, [], Option, Some, None, Result, Ok, Err, codes, if◌then◌else◌}
 use Rattle.std.specs.List.{filter_map}
+pub use Rattle.text.specs.Lines.{Text}
 use Rattle.envimage.specs.Data.{Pair}
 use Rattle.envtools.specs.Environment.{same, value_of}
 use Rattle.hushlang.specs.CursorShown.{input_in}
@@ -11,9 +12,6 @@ use Rattle.hushlang.specs.Tree.{Script, Empty, Runs, AndOr, Starts, Joined, Alon
 use Rattle.hushlang.specs.TreesShown as view
 use Rattle.hushlang.specs.declared.tree.Script as code_script
 use Rattle.hushlang.specs.declared.token.SyntaxError.{SyntaxError}
-
-abbrev pub Text : Type 0
-Text = List ℕ
 
 -- bytes in front of what follows, where that is known
 abbrev pub in_front : Text → Option Text → Option Text

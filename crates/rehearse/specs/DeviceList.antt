@@ -5,7 +5,7 @@ use Rattle.std.specs.List.{list_any, slice_split, position}
 use Rattle.std.specs.Map.{lookup}
 use Rattle.text.specs.Bytes as ascii
 use Rattle.text.specs.Lines.{numbered_lines}
-use Rattle.text.specs.Words.{is_space, trimmed}
+use Rattle.text.specs.Words.{is_equals, is_space, trimmed}
 use Rattle.rehearse.specs.Verdict.{Text}
 use Rattle.rehearse.specs.Builtins.{is_built_in}
 use Rattle.rehearse.specs.declared.devices_error.DevicesError.{DevicesError}
@@ -31,9 +31,6 @@ abbrev pub device_words : Text → List Text
 device_words line = filter (λ word. not (length word == 0)) (slice_split is_space (trimmed line))
 
 -- ---- what a line says
-
-abbrev pub is_equals : ℕ → Bool
-is_equals b = b == ascii.equals
 
 -- a variable's name is not empty and does not begin with `-`
 abbrev pub is_variable : Text → Bool

@@ -4,12 +4,10 @@ use Rattle.std.specs.Prelude.{ℕ, List, [], not, Option, Some, None, filter}
 use Rattle.std.specs.FinMap.{find, put, entries}
 use Rattle.std.specs.Cmp.Lexicographic.{slice_cmp}
 use Rattle.std.specs.Ordering.{nat_cmp, eq_by_cmp}
+pub use Rattle.text.specs.Lines.{Text}
 use Rattle.hushlang.specs.Expansion as expansion
 use Rattle.bootstore.specs.Moment.{LoggedCommand, Moment}
 use Rattle.rehearse.specs.Outcomes.{OutcomeWord}
-
-abbrev pub Text : Type 0
-Text = List ℕ
 
 -- names with their values, in byte order of the names: the entries of a store's map
 abbrev pub Variables : Type 0

@@ -5,10 +5,8 @@ use Rattle.std.specs.List.{take_while}
 use Rattle.std.specs.Cmp.Lexicographic.{slice_cmp}
 use Rattle.std.specs.Ordering.{nat_cmp, int_eq, is_lt, is_gt}
 use Rattle.text.specs.Bytes as ascii
+pub use Rattle.text.specs.Lines.{Text}
 use Rattle.text.specs.Numbers.{digit_of, value_in}
-
-abbrev pub Text : Type 0
-Text = List ℕ
 
 -- ---- numbers
 

@@ -1,7 +1,8 @@
 //! What one line of a device list says.
 ghost use Rattle.std.specs.Prelude.{◌≡◌, ◌==◌, map, option_map, IfOk};
 ghost use Rattle.std.specs.List.{list_any, position};
-ghost use Rattle.rehearse.specs.DeviceList.{device_words, is_equals, is_variable, setting, settings, heading_of, begins_comment};
+ghost use Rattle.text.specs.Words.{is_equals};
+ghost use Rattle.rehearse.specs.DeviceList.{device_words, is_variable, setting, settings, heading_of, begins_comment};
 ghost use Rattle.rehearse.specs.DevicesShown.{settings_shown, heading_shown, lent_setting};
 
 use std::alloc::{AllocError, Global};

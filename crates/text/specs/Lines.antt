@@ -5,6 +5,10 @@ use Rattle.std.specs.Borrow.{Bor}
 use Rattle.text.specs.Bytes as ascii
 use Rattle.text.specs.declared.lines.Lines.{Lines}
 
+-- bytes that are read as text
+abbrev pub Text : Type 0
+Text = List ℕ
+
 abbrev pub is_newline : ℕ → Bool
 is_newline b = b == ascii.newline
 

@@ -3,6 +3,10 @@ use Rattle.std.specs.Prelude.{◌≡◌, ℕ, ◌<◌, ◌==◌, ◌||◌, not, 
 use Rattle.std.specs.List.{slice_split}
 use Rattle.text.specs.Bytes as ascii
 
+-- what stands between a name and its value
+abbrev pub is_equals : ℕ → Bool
+is_equals b = b == ascii.equals
+
 -- a space or a tab
 abbrev pub is_space : ℕ → Bool
 is_space b = (b == ascii.space) || (b == ascii.tab)

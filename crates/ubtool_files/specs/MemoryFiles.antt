@@ -20,8 +20,8 @@ abbrev pub call_of : Call → List ℕ × Action
 call_of c = (string_bytes c.path, c.action)
 
 -- what the files tell
-abbrev pub files_shown : MemoryFiles → Told
-files_shown m = record { stored = map file_of m.files.items; calls = map call_of m.calls.items }
+abbrev pub memory_files_shown : MemoryFiles → Told
+memory_files_shown m = record { stored = map file_of m.files.items; calls = map call_of m.calls.items }
 
 -- how many calls are answered before the one that fails, if one does
 abbrev pub failing_of : MemoryFiles → Option ℕ

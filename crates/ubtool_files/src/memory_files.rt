@@ -4,7 +4,7 @@ ghost use Rattle.std.specs.List.{position};
 ghost use Rattle.std.specs.Option.{option_copied};
 ghost use Rattle.std.specs.Str.{bytes_eq};
 ghost use Rattle.ubtool_files.specs.FailureCounts.{CountsFault};
-ghost use Rattle.ubtool_files.specs.MemoryFiles.{Gives, IsUnlessMemory, call_of, failing_of, faults_of, file_of, is_due, part_answer, put, reaches, files_shown, whole_answer, with_file, write_answer};
+ghost use Rattle.ubtool_files.specs.MemoryFiles.{Gives, IsUnlessMemory, call_of, failing_of, faults_of, file_of, is_due, part_answer, put, reaches, memory_files_shown, whole_answer, with_file, write_answer};
 ghost use Rattle.ubtool_files.specs.Told.{ReadsAll, ReadsAt, WritesAt, calls_after, file_at, overwritten, read_limit};
 ghost use Rattle.ubtool_files.specs.declared.files.FileFault.TheVariants.{Short, TooLong};
 
@@ -83,7 +83,7 @@ fn put(files: &mut Vec<MemoryFile>, path: &str, offset: u64, bytes: &[u8]) -> bo
 impl MemoryFiles {
     /// No files. Where `failing` is a number, the call after so many answered ones fails.
     pub fn new(alloc: Global, failing: Option<usize>) -> MemoryFiles
-        ensures empty { files_shown result ≡ record { stored = []; calls = [] } }
+        ensures empty { memory_files_shown result ≡ record { stored = []; calls = [] } }
         ensures failing { failing_of result ≡ failing }
         ensures sound { faults_of result ≡ 0 }
     {
@@ -97,9 +97,9 @@ impl MemoryFiles {
 
     /// Adds a file. Of two files of one path the first is found.
     pub fn add(&mut self, path: &str, bytes: &[u8]) -> Result<(), AllocError>
-        ensures ok { OnOk result (files_shown self.new
-            ≡ with_file path.now bytes.now (files_shown self.old)) }
-        ensures err { OnErr result (files_shown self.new ≡ files_shown self.old) }
+        ensures ok { OnOk result (memory_files_shown self.new
+            ≡ with_file path.now bytes.now (memory_files_shown self.old)) }
+        ensures err { OnErr result (memory_files_shown self.new ≡ memory_files_shown self.old) }
         ensures failing { failing_of self.new ≡ failing_of self.old }
         ensures sound { faults_of self.new ≡ faults_of self.old }
     {
@@ -114,14 +114,14 @@ impl MemoryFiles {
 
     /// The bytes of the file at the path, if there is one.
     pub fn bytes(&self, path: &str) -> Option<&[u8]>
-        ensures { option_copied result ≡ file_at path.now (files_shown self.now).stored }
+        ensures { option_copied result ≡ file_at path.now (memory_files_shown self.now).stored }
     {
         bytes_of(&self.files, path)
     }
 
     /// The calls that were answered, in their order. One that memory was refused to is none.
     pub fn calls(&self) -> &[Call]
-        ensures { map call_of result.now ≡ (files_shown self.now).calls }
+        ensures { map call_of result.now ≡ (memory_files_shown self.now).calls }
     {
         &self.calls
     }
@@ -138,7 +138,7 @@ impl MemoryFiles {
 
     /// The whole file.
     fn whole(&self, alloc: Global, path: &str) -> Result<Vec<u8>, FileFault>
-        ensures { Gives (whole_answer (is_due self.now) (file_at path.now (files_shown self.now).stored)) result }
+        ensures { Gives (whole_answer (is_due self.now) (file_at path.now (memory_files_shown self.now).stored)) result }
     {
         if self.is_due() {
             return Err(FileFault::Failed);
@@ -160,7 +160,7 @@ impl MemoryFiles {
         offset: u64,
         size: usize,
     ) -> Result<Vec<u8>, FileFault>
-        ensures { Gives (part_answer (is_due self.now) (file_at path.now (files_shown self.now).stored) offset size) result }
+        ensures { Gives (part_answer (is_due self.now) (file_at path.now (memory_files_shown self.now).stored) offset size) result }
     {
         if self.is_due() {
             return Err(FileFault::Failed);
@@ -184,9 +184,9 @@ impl MemoryFiles {
     ) -> Result<T, FileFault>
         ensures answer { IsUnlessMemory answer result }
         ensures count { CountsFault (faults_of self.old) (faults_of self.new) result }
-        ensures calls { (files_shown self.new).calls
-            ≡ calls_after (files_shown self.old).calls path.now action result }
-        ensures stored { (files_shown self.new).stored ≡ (files_shown self.old).stored }
+        ensures calls { (memory_files_shown self.new).calls
+            ≡ calls_after (memory_files_shown self.old).calls path.now action result }
+        ensures stored { (memory_files_shown self.new).stored ≡ (memory_files_shown self.old).stored }
     {
         if let Err(FileFault::Memory) = answer {
             return answer;
@@ -205,14 +205,14 @@ impl Files for MemoryFiles {
 
     ghost faults = { faults_of };
 
-    ghost told = { λ m. Some (files_shown m) };
+    ghost told = { λ m. Some (memory_files_shown m) };
 
     fn read_all(&mut self, alloc: Global, path: &str) -> Result<Vec<u8>, FileFault>
         ensures count { CountsFault (faults_of self.old) (faults_of self.new) result }
         ensures bound { IfOk result (λ bytes. vec_len bytes ≤ read_limit) }
         ensures never_short { result ≢ Err Short }
-        ensures told { ReadsAll path.now (files_shown self.old) (files_shown self.new) result }
-        ensures exact { Gives (whole_answer (is_due self.old) (file_at path.now (files_shown self.old).stored)) result }
+        ensures told { ReadsAll path.now (memory_files_shown self.old) (memory_files_shown self.new) result }
+        ensures exact { Gives (whole_answer (is_due self.old) (file_at path.now (memory_files_shown self.old).stored)) result }
     {
         let whole = self.whole(alloc, path);
         self.answered(path, Action::ReadAll, whole)
@@ -228,8 +228,8 @@ impl Files for MemoryFiles {
         ensures count { CountsFault (faults_of self.old) (faults_of self.new) result }
         ensures size { IfOk result (λ bytes. vec_len bytes ≡ size) }
         ensures never_long { result ≢ Err TooLong }
-        ensures told { ReadsAt path.now offset size (files_shown self.old) (files_shown self.new) result }
-        ensures exact { Gives (part_answer (is_due self.old) (file_at path.now (files_shown self.old).stored) offset size) result }
+        ensures told { ReadsAt path.now offset size (memory_files_shown self.old) (memory_files_shown self.new) result }
+        ensures exact { Gives (part_answer (is_due self.old) (file_at path.now (memory_files_shown self.old).stored) offset size) result }
     {
         let part = self.part(alloc, path, offset, size);
         self.answered(path, Action::ReadAt { offset, size }, part)
@@ -240,8 +240,8 @@ impl Files for MemoryFiles {
         ensures count { CountsFault (faults_of self.old) (faults_of self.new) result }
         ensures never_short { result ≢ Err Short }
         ensures never_long { result ≢ Err TooLong }
-        ensures told { WritesAt path.now offset bytes.now (files_shown self.old) (files_shown self.new) result }
-        ensures exact { IsUnlessMemory (write_answer (is_due self.old) (file_at path.now (files_shown self.old).stored) offset bytes.now) result }
+        ensures told { WritesAt path.now offset bytes.now (memory_files_shown self.old) (memory_files_shown self.new) result }
+        ensures exact { IsUnlessMemory (write_answer (is_due self.old) (file_at path.now (memory_files_shown self.old).stored) offset bytes.now) result }
     {
         let fails = self.is_due();
         let call = Call {
