@@ -5,7 +5,7 @@ use Rattle.hushlang.specs.Token.{Token, End, Whole, Refused}
 use Rattle.hushlang.specs.Tokenizing.{Lexed, lexed}
 use Rattle.hushlang.specs.Spelling.{Spells}
 use Rattle.hushlang.specs.Tree as tree
-use Rattle.hushlang.specs.Tree.{FullScript}
+use Rattle.hushlang.specs.Tree.{IsProper}
 use Rattle.hushlang.specs.TreesShown as view
 use Rattle.hushlang.specs.Grammar.{Derives, max_nesting}
 use Rattle.hushlang.specs.Parsing.{Answers, whole}
@@ -56,7 +56,7 @@ module _ (text : List ℕ) where
   tree_told (Ok s) h = read (view.script s) h
   tree_told (Err e) h = tt
 
-  pub blocks_told : (x : Result Script SyntaxError) → Told x → IfOk x (λ s. FullScript (view.script s))
+  pub blocks_told : (x : Result Script SyntaxError) → Told x → IfOk x (λ s. IsProper (view.script s))
   blocks_told (Ok s) h = let t = read (view.script s) h in blocks_hold_commands max_nesting t.0 (view.script s) t.2
   blocks_told (Err e) h = tt
 

@@ -4,7 +4,7 @@ use Rattle.std.specs.List.{list_all}
 use Rattle.hushlang.specs.Token.{Part, Token, End, Whole, Refused}
 use Rattle.hushlang.specs.declared.token.SyntaxError.{SyntaxError}
 use Rattle.hushlang.specs.declared.token.SyntaxError.TheVariants.{OpenQuote, LoneBackslash, OpenBrace, BadVariable, SingleAmp, SinglePipe}
-use Rattle.hushlang.specs.Tree.{Piece, Bytes, Script, AndOr, FullScript, ends_compound}
+use Rattle.hushlang.specs.Tree.{Piece, Bytes, Script, AndOr, IsProper, ends_compound}
 use Rattle.hushlang.specs.Pieces.{pieces}
 use Rattle.hushlang.specs.Spelling.{Spells}
 use Rattle.hushlang.specs.Tokenizing.{lexed}
@@ -81,7 +81,7 @@ OneTreeOfText = (text : List ℕ) (s other : Script) → IsTreeOf text s → IsT
 
 -- each condition and each body in a tree holds a command
 abbrev pub BlocksHoldCommands : Type 0
-BlocksHoldCommands = (depth : ℕ) (tokens : List Token) (s : Script) → IsScript depth tokens s → FullScript s
+BlocksHoldCommands = (depth : ℕ) (tokens : List Token) (s : Script) → IsScript depth tokens s → IsProper s
 
 -- where a closing word stands right behind an and-or list, without a separator, its last command is compound
 abbrev pub BlocksAreClosed : Type 0

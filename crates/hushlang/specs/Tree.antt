@@ -44,35 +44,42 @@ mutual
     Else : (body : Script) → Arms
     Arm : (cond body : Script) → (more : Arms) → Arms
 
--- ---- each condition and each body holds a command
+-- ---- as the grammar makes trees: each condition and each body holds a command, and each `if` has a condition
 
 abbrev mutual
-  pub FullScript : Script → Type 0
-  FullScript Empty = Unit
-  FullScript (Runs list more) = FullList list × FullScript more
+  pub IsProper : Script → Type 0
+  IsProper Empty = Unit
+  IsProper (Runs list more) = IsProperList list × IsProper more
 
-  pub FullList : AndOr → Type 0
-  FullList (Starts first rest) = FullCommand first × FullJoined rest
+  pub IsProperList : AndOr → Type 0
+  IsProperList (Starts first rest) = IsProperCommand first × IsProperJoined rest
 
-  pub FullJoined : Joined → Type 0
-  FullJoined Alone = Unit
-  FullJoined (Joins op command rest) = FullCommand command × FullJoined rest
+  pub IsProperJoined : Joined → Type 0
+  IsProperJoined Alone = Unit
+  IsProperJoined (Joins op command rest) = IsProperCommand command × IsProperJoined rest
 
-  pub FullCommand : Command → Type 0
-  FullCommand (Simple words) = Unit
-  FullCommand (Assign values) = Unit
-  FullCommand (If arms) = FullArms arms
-  FullCommand (Loop until cond body) = FullBlock cond × FullBlock body
-  FullCommand (For name words body) = FullBlock body
+  pub IsProperCommand : Command → Type 0
+  IsProperCommand (Simple words) = Unit
+  IsProperCommand (Assign values) = Unit
+  IsProperCommand (If arms) = HasArm arms
+  IsProperCommand (Loop until cond body) = HoldsCommand cond × HoldsCommand body
+  IsProperCommand (For name words body) = HoldsCommand body
 
-  pub FullArms : Arms → Type 0
-  FullArms NoElse = Unit
-  FullArms (Else body) = FullBlock body
-  FullArms (Arm cond body more) = (FullBlock cond × FullBlock body) × FullArms more
+  -- the first condition of an `if`, and what follows it
+  pub HasArm : Arms → Type 0
+  HasArm NoElse = ⊥
+  HasArm (Else body) = ⊥
+  HasArm (Arm cond body more) = HoldsCommand cond × HoldsCommand body × AreProperArms more
 
-  pub FullBlock : Script → Type 0
-  FullBlock Empty = ⊥
-  FullBlock (Runs list more) = FullList list × FullScript more
+  pub AreProperArms : Arms → Type 0
+  AreProperArms NoElse = Unit
+  AreProperArms (Else body) = HoldsCommand body
+  AreProperArms (Arm cond body more) = HoldsCommand cond × HoldsCommand body × AreProperArms more
+
+  -- at least one command
+  pub HoldsCommand : Script → Type 0
+  HoldsCommand Empty = ⊥
+  HoldsCommand (Runs list more) = IsProperList list × IsProper more
 
 -- ---- the last command of an and-or list
 

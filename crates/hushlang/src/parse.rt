@@ -7,7 +7,7 @@ ghost use Rattle.hushlang.specs.TreesShown as view;
 ghost use Rattle.hushlang.specs.Grammar as grammar;
 ghost use Rattle.hushlang.specs.LexerShown.{token_of, parts_of, IsCut};
 ghost use Rattle.hushlang.specs.CursorShown.{input_in, IsNoAssignment};
-ghost use Rattle.hushlang.specs.Tree.{FullScript};
+ghost use Rattle.hushlang.specs.Tree.{IsProper};
 ghost use Rattle.hushlang.specs.RefusalPlaces.{place_of};
 ghost use Rattle.hushlang.specs.Texts.{IsTreeOf, HasNoTree, IsPlaced, IsFaultIf, IsFaultOf, AnswersFault, fault_place};
 ghost use Rattle.hushlang.specs.declared.token.SyntaxError.TheVariants.{Memory};
@@ -314,7 +314,7 @@ fn read_script(alloc: Global, text: &[u8]) -> Result<Script, SyntaxError>
 /// `Memory` comes where a growth is refused.
 pub fn parse(alloc: Global, text: &[u8]) -> Result<Script, SyntaxError>
     ensures tree { IfOk result (λ s. IsTreeOf text.now (view.script s)) }
-    ensures blocks { IfOk result (λ s. FullScript (view.script s)) }
+    ensures blocks { IfOk result (λ s. IsProper (view.script s)) }
 
     // The answer is what the rules read in the text, as it is computed; each clause below follows from it.
     ensures read { Answers view.script (spec.whole grammar.max_nesting (input_in text.now)) result }

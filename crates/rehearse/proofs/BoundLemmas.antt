@@ -9,7 +9,7 @@ use Rattle.rehearse.specs.State.{Text, get, State, start, parameters_in}
 use Rattle.rehearse.specs.Verdict.{verdict}
 use Rattle.rehearse.specs.Builtins.{SetEnv, Run as RunTexts, Test, Echo, True, False, Leave}
 use Rattle.rehearse.specs.Commands.{Called, BuiltIn, Device, NoCommand, called_by, asks_device, exit_status}
-use Rattle.rehearse.specs.Proper.{IsProper, IsProperList, IsProperJoined, IsProperCommand, HasArm, AreProperArms, IsBlock}
+use Rattle.hushlang.specs.Tree.{IsProper, IsProperList, IsProperJoined, IsProperCommand, HasArm, AreProperArms, HoldsCommand}
 use Rattle.rehearse.specs.Execution.{Limits, Answer, Normal, Exit, Ended, Dry, Ending, CutDevices, CutSteps, Syntax, Size, go_on, set_status, set_local, status_when, goes, holds, begin, take_outcome, device, Request, no_effect, logged, set_environment, boot, text_end, run_text, run_all, command, simple, sized, assign, turns, for_each, exec_script, exec_list, exec_joined, exec_command, exec_arms, exec}
 use Rattle.rehearse.specs.Runs.{Task, run_on, state_of, steps}
 use Rattle.rehearse.proofs.ProperLemmas.{trees_are_proper}
@@ -172,7 +172,7 @@ module _ (limits : Limits) where
       arms-end (tree.Else b) p s r = block-ends b p s r
       arms-end (tree.Arm c b arms) p s r = Ends-go_on s (exec_script limits n text c s) (λ t. elim (nat_eq t.memory.status 0) [ true ↦ exec_script limits n text b t | false ↦ exec_arms limits n text arms t ]) (Keeps-script limits n text kept c s).0 (block-ends c p.0 s r) (λ t w e. let q = r.1 in let reach : Reaches n t = (w, omega arith) in Ends-if (nat_eq t.memory.status 0) (exec_script limits n text b t) (exec_arms limits n text arms t) (λ x. block-ends b p.1 t reach) (λ x. arms-end arms p.2 t reach))
 
-      block-ends : (a : Script) → IsBlock a → EndsAll n (exec_script limits n text a)
+      block-ends : (a : Script) → HoldsCommand a → EndsAll n (exec_script limits n text a)
       block-ends tree.Empty p s r = absurd p
       block-ends (tree.Runs l ls) p s r = Ends-go_on s (exec_list limits n text l s) (exec_script limits n text ls) (Keeps-list limits n text kept l s).0 (list-ends l p.0 s r) (λ t w e. script-ends ls p.1 t (w, let b = r.1 in omega arith))
 

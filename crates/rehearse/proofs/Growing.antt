@@ -4,7 +4,7 @@ use Rattle.hushlang.specs.Tree as tree
 use Rattle.hushlang.specs.Tree.{Script, AndOr, Command, Arms}
 use Rattle.hushlang.specs.Expansion.{fields}
 use Rattle.rehearse.specs.State.{State, parameters_in}
-use Rattle.rehearse.specs.Proper.{IsProperList, IsProperCommand, HasArm, IsBlock}
+use Rattle.hushlang.specs.Tree.{IsProperList, IsProperCommand, HasArm, HoldsCommand}
 use Rattle.rehearse.specs.Execution.{Limits, Answer, Normal, Exit, Ended, Dry, CutSteps, go_on, simple, sized, assign, turns, for_each, exec_script, exec_list, exec_joined, exec_command, exec_arms}
 use Rattle.rehearse.proofs.Keeping.{Track, Keeps, KeepsAll, Keeps-sized, Keeps-simple, Keeps-assign, Keeps-for, Keeps-if, Keeps-turns, after_condition, Keeps-after_condition, Keeps-script, Keeps-joined, Keeps-arms}
 
@@ -53,7 +53,7 @@ module _ (limits : Limits) (left : ℕ) (text : Script → State → Answer) (ke
     Grew-command (tree.Loop until c b) p s = Grew-turns left until (exec_script limits left text c) (exec_script limits left text b) (Keeps-script limits left text kept c) (Keeps-script limits left text kept b) (Grew-block c p.0) 0 s
     Grew-command (tree.For name words b) p s = Grew-begin (nat_lt s.steps limits.step_bound) s (λ t. sized (fields (parameters_in t.memory) words) (for_each name (exec_script limits left text b) 0) t) (λ t. Keeps-sized limits (fields (parameters_in t.memory) words) (for_each name (exec_script limits left text b) 0) (λ fs. Keeps-for limits name (exec_script limits left text b) (Keeps-script limits left text kept b) 0 fs) t)
 
-    pub Grew-block : (a : Script) → IsBlock a → (s : State) → Grew s.steps (exec_script limits left text a s)
+    pub Grew-block : (a : Script) → HoldsCommand a → (s : State) → Grew s.steps (exec_script limits left text a s)
     Grew-block tree.Empty p s = absurd p
     Grew-block (tree.Runs l ls) p s = Grew-go_on limits.device_bound s.steps (exec_list limits left text l s) (exec_script limits left text ls) (Grew-list l p.0 s) (Keeps-script limits left text kept ls)
 

@@ -9,7 +9,7 @@ use Rattle.bootstore.specs.Record.{beginning}
 use Rattle.rehearse.specs.Outcomes.{OutcomeWord, Outcome, Run, Short, common_prefix, comes_before, has_success, turned, first_run, first_from}
 use Rattle.rehearse.specs.Trees.{tree_of}
 use Rattle.rehearse.specs.State.{Text, get, with_value, without, State, start, state_at}
-use Rattle.rehearse.specs.Proper.{IsProper}
+use Rattle.hushlang.specs.Tree.{IsProper}
 use Rattle.rehearse.specs.Execution.{Ended, Dry, CutSteps, CutDevices, succeeds}
 use Rattle.rehearse.specs.Runs.{Task, run_on, state_of, steps, asked, kind, runs, rest}
 use Rattle.rehearse.specs.Listing.{listing, line, spelled, record_of, words_listed, closing}

@@ -6,7 +6,6 @@ pub mod Verdict
 pub mod Builtins
 pub mod BuiltinsShown
 pub mod Commands
-pub mod Proper
 pub mod Execution
 pub mod Runs
 pub mod Listing

@@ -4,7 +4,7 @@ use Rattle.hushlang.specs.Tree as tree
 use Rattle.hushlang.specs.Tree.{Script, AndOr, Command, Arms}
 use Rattle.hushlang.specs.Expansion.{fields}
 use Rattle.rehearse.specs.State.{State, parameters_in}
-use Rattle.rehearse.specs.Proper.{IsProperList, IsProperCommand, IsBlock}
+use Rattle.hushlang.specs.Tree.{IsProperList, IsProperCommand, HoldsCommand}
 use Rattle.rehearse.specs.Execution.{Limits, Answer, Ended, CutSteps, begin, simple, sized, assign, turns, for_each, exec_script, exec_list, exec_command, exec_arms}
 
 module _ (limits : Limits) (left : ℕ) (text : Script → State → Answer) where
@@ -23,7 +23,7 @@ module _ (limits : Limits) (left : ℕ) (text : Script → State → Answer) whe
     Cut-command (tree.Loop until c b) p s h = Cut-turns left until (exec_script limits left text c) (exec_script limits left text b) 0 s (Cut-block c p.0 s h)
     Cut-command (tree.For name words b) p s h = Cut-begin s (λ t. sized (fields (parameters_in t.memory) words) (for_each name (exec_script limits left text b) 0) t) h
 
-    pub Cut-block : (a : Script) → IsBlock a → (s : State) → limits.step_bound ≤ s.steps → exec_script limits left text a s ≡ Ended CutSteps s
+    pub Cut-block : (a : Script) → HoldsCommand a → (s : State) → limits.step_bound ≤ s.steps → exec_script limits left text a s ≡ Ended CutSteps s
     Cut-block tree.Empty p s h = absurd p
     Cut-block (tree.Runs l ls) p s h = let e = Cut-list l p.0 s h in rw e refl
 

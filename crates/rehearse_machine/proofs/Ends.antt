@@ -8,7 +8,7 @@ use Rattle.rehearse.specs.Verdict.{verdict}
 use Rattle.rehearse.specs.State.{Text, get, State, parameters_in}
 use Rattle.rehearse.specs.Builtins.{SetEnv, Run, Test, Echo, True, False, Leave}
 use Rattle.rehearse.specs.Commands.{Called, BuiltIn, NoCommand, Device, called_by, asks_device, exit_status}
-use Rattle.rehearse.specs.Proper.{IsProperCommand, AreProperArms, IsBlock}
+use Rattle.hushlang.specs.Tree.{IsProperCommand, AreProperArms, HoldsCommand}
 use Rattle.rehearse.specs.Execution.{Limits, CutDevices, CutSteps, Size, set_status, set_local, status_when, goes, holds, Request, no_effect}
 use Rattle.rehearse_machine.specs.Frames.{Frame, Lists, Linked, IfCondition, LoopCondition, LoopBody, ForBody, RunNames, RunText, Next, Go, Ask, Stop, leave, begin_assign, begin_for, begin_arms, begin_tree, begin_text, begin_names, begin_exit, fitting, ask, begin_called, begin_fields, begin_command, move}
 use Rattle.rehearse_machine.specs.MoveCounts.{command_depth, arms_depth, script_depth, block_weight, links_weight, arms_weight, tree_weight, text_weight, names_weight, weight}
@@ -132,7 +132,7 @@ module _ (limits : Limits) where
   if_progress (tree.Else b) fs s p = absurd p
   if_progress tree.NoElse fs s p = absurd p
 
-  loop_progress : (until : Bool) (c b : Script) (last : ℕ) (fs : List Frame) (s : State) → IsBlock c → Progress s (suc (script_depth c)) (Go (Lists c ∷ LoopCondition until c b last ∷ fs) s)
+  loop_progress : (until : Bool) (c b : Script) (last : ℕ) (fs : List Frame) (s : State) → HoldsCommand c → Progress s (suc (script_depth c)) (Go (Lists c ∷ LoopCondition until c b last ∷ fs) s)
   loop_progress until tree.Empty b last fs s p = absurd p
   loop_progress until (tree.Runs l ls) b last fs s p = inr (refl, refl, omega arith)
 
@@ -156,7 +156,7 @@ module _ (limits : Limits) where
   names_progress [] fs s = inr (refl, refl, omega arith)
   names_progress (name ∷ names) fs s = text_progress (get s.memory.environment name) name names fs s
 
-  looped : (c : Script) (until : Bool) (b : Script) (fs : List Frame) (s : State) → IsBlock c → Progress s (suc (block_weight c (weight s.memory.environment fs))) (Go (Lists c ∷ LoopCondition until c b s.memory.status ∷ fs) s)
+  looped : (c : Script) (until : Bool) (b : Script) (fs : List Frame) (s : State) → HoldsCommand c → Progress s (suc (block_weight c (weight s.memory.environment fs))) (Go (Lists c ∷ LoopCondition until c b s.memory.status ∷ fs) s)
   looped tree.Empty until b fs s p = absurd p
   looped (tree.Runs l ls) until b fs s p = inr (refl, refl, omega arith)
 

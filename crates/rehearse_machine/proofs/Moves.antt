@@ -9,7 +9,7 @@ use Rattle.rehearse.specs.Outcomes.{OutcomeWord}
 use Rattle.rehearse.specs.State.{Text, get, State, parameters_in}
 use Rattle.rehearse.specs.Builtins.{SetEnv, Run, Test, Echo, True, False, Leave}
 use Rattle.rehearse.specs.Commands.{Called, BuiltIn, NoCommand, Device, called_by, asks_device, exit_status}
-use Rattle.rehearse.specs.Proper.{IsProper, IsProperCommand, IsBlock}
+use Rattle.hushlang.specs.Tree.{IsProper, IsProperCommand, HoldsCommand}
 use Rattle.rehearse.specs.Execution.{Limits, Answer, Normal, Exit, Ended, Dry, Ending, CutDevices, CutSteps, Unknown, Syntax, Size, go_on, set_status, set_local, status_when, goes, holds, begin, take_outcome, device, Request, no_effect, text_end, run_text, run_all, command, simple, sized, assign, turns, for_each}
 use Rattle.rehearse_machine.specs.Frames.{Frame, Lists, Linked, IfCondition, LoopCondition, LoopBody, ForBody, RunNames, RunText, Next, Go, Ask, Stop, leave, begin_assign, begin_for, begin_arms, begin_tree, begin_text, begin_names, begin_exit, fitting, ask, begin_called, begin_fields, counted, begin_command, move}
 use Rattle.rehearse_machine.specs.Came.{Over, Wants}
@@ -124,7 +124,7 @@ module _ (limits : Limits) where
     arms-is tree.NoElse fs s = refl
 
     -- a turn of a loop, with all the steps for the turns after it
-    turn_more_at : (k : ℕ) → limits.step_bound ≡ k → (until : Bool) (c b : Script) → IsBlock c → IsBlock b → (last : ℕ) (s : State) → turns k until (script limits c) (script limits b) last s ≡ go_on (script limits c s) (after_condition limits until (script limits b) (λ u. turns k until (script limits c) (script limits b) u.memory.status u) last)
+    turn_more_at : (k : ℕ) → limits.step_bound ≡ k → (until : Bool) (c b : Script) → HoldsCommand c → HoldsCommand b → (last : ℕ) (s : State) → turns k until (script limits c) (script limits b) last s ≡ go_on (script limits c s) (after_condition limits until (script limits b) (λ u. turns k until (script limits c) (script limits b) u.memory.status u) last)
     turn_more_at zero e until c b p q last s = let cut : script limits c s ≡ Ended CutSteps s = Cut-block limits limits.step_bound (full limits) c p s (omega arith) in rw cut refl
     turn_more_at (suc k) e until c b p q last s =
         let bound : ℕ = limits.step_bound in
@@ -140,7 +140,7 @@ module _ (limits : Limits) where
         (λ u r. same_turns limits bound bound (omega arith) (full limits) (full limits) kept (λ tree w x y. refl) k (suc k) (omega arith) until (script limits c) (script limits c) (script limits b) (script limits b) (λ x y. refl) (λ x y. refl) grown body cut u.memory.status u (omega arith) (omega arith)))
         refl)
 
-    pub turn_more : (until : Bool) (c b : Script) → IsBlock c → IsBlock b → (last : ℕ) (s : State) → turns limits.step_bound until (script limits c) (script limits b) last s ≡ go_on (script limits c s) (after_condition limits until (script limits b) (again limits until c b) last)
+    pub turn_more : (until : Bool) (c b : Script) → HoldsCommand c → HoldsCommand b → (last : ℕ) (s : State) → turns limits.step_bound until (script limits c) (script limits b) last s ≡ go_on (script limits c s) (after_condition limits until (script limits b) (again limits until c b) last)
     turn_more until c b p q last s = turn_more_at limits.step_bound refl until c b p q last s
 
     command-is : (c : Command) → IsProperCommand c → (fs : List Frame) (s : State) → comes_to limits w (begin_command limits c fs s) ≡ continue limits fs (one limits c (with w s))

@@ -8,7 +8,7 @@ use Rattle.rehearse.specs.Verdict.{verdict}
 use Rattle.rehearse.specs.State.{Text, get, State, parameters_in}
 use Rattle.rehearse.specs.Builtins.{SetEnv, Run, Test, Echo, True, False, Leave}
 use Rattle.rehearse.specs.Commands.{Called, BuiltIn, NoCommand, Device, called_by, asks_device, exit_status}
-use Rattle.rehearse.specs.Proper.{IsProper, IsProperCommand, AreProperArms, IsBlock}
+use Rattle.hushlang.specs.Tree.{IsProper, IsProperCommand, AreProperArms, HoldsCommand}
 use Rattle.rehearse.specs.Execution.{Limits, CutDevices, CutSteps, Size, set_status, set_local, status_when, goes, holds, Request, no_effect}
 use Rattle.rehearse_machine.specs.Frames.{Frame, Lists, Linked, IfCondition, LoopCondition, LoopBody, ForBody, RunNames, RunText, Next, Go, Ask, Stop, leave, begin_assign, begin_for, begin_arms, begin_tree, begin_text, begin_names, begin_exit, fitting, ask, begin_called, begin_fields, begin_command, move}
 use Rattle.rehearse.proofs.ProperLemmas.{trees_are_proper}
@@ -66,7 +66,7 @@ module _ (limits : Limits) where
   fields-proper [] fs s p = p
   fields-proper (name ∷ ws) fs s p = builtin-proper (called_by limits.devices name) name ws fs s p
 
-  for-proper : (name : Text) (values : List Text) (body : Script) (fs : List Frame) (s : State) → IsBlock body → AreProperFrames fs → IsProperNext (begin_for name values body fs s)
+  for-proper : (name : Text) (values : List Text) (body : Script) (fs : List Frame) (s : State) → HoldsCommand body → AreProperFrames fs → IsProperNext (begin_for name values body fs s)
   for-proper name [] body fs s q p = p
   for-proper name (f ∷ values) body fs s q p = (block_proper body q, p)
 

@@ -5,7 +5,7 @@ use Rattle.hushlang.specs.Tree.{Script}
 use Rattle.rehearse.specs.Outcomes.{OutcomeWord, Outcome, Success, Failure}
 use Rattle.rehearse.specs.Trees.{tree_of}
 use Rattle.rehearse.specs.State.{Text, State, start}
-use Rattle.rehearse.specs.Proper.{IsProper}
+use Rattle.hushlang.specs.Tree.{IsProper}
 use Rattle.rehearse.specs.Execution.{Syntax, Booted, Request, take_outcome, boot, logged, set_environment}
 use Rattle.rehearse.specs.Runs.{Task, run_on}
 use Rattle.rehearse.proofs.ProperLemmas.{trees_are_proper}

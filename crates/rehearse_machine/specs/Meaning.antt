@@ -3,7 +3,7 @@ use Rattle.std.specs.Prelude.{◌≡◌, nat_eq, Bool, true, false, List, [], �
 use Rattle.hushlang.specs.Tree.{Script, Joined, Command, Arms}
 use Rattle.rehearse.specs.Outcomes.{OutcomeWord}
 use Rattle.rehearse.specs.State.{State}
-use Rattle.rehearse.specs.Proper.{IsProper, IsProperJoined, AreProperArms, IsBlock}
+use Rattle.hushlang.specs.Tree.{IsProper, IsProperJoined, AreProperArms, HoldsCommand}
 use Rattle.rehearse.specs.Execution.{Limits, Answer, Normal, Exit, Ended, Dry, Ending, Request, go_on, set_status, holds, text_end, take_outcome, run_all, turns, for_each, exec_script, exec_joined, exec_command, exec_arms, exec}
 use Rattle.rehearse.specs.Runs.{Task, run_on}
 use Rattle.rehearse_machine.specs.Came.{Came, Over, settled}
@@ -73,8 +73,8 @@ abbrev pub IsProperFrame : Frame → Type 0
 IsProperFrame (Lists lists) = IsProper lists
 IsProperFrame (Linked links) = IsProperJoined links
 IsProperFrame (IfCondition b arms) = IsProper b × AreProperArms arms
-IsProperFrame (LoopCondition until c b last) = IsBlock c × IsBlock b
-IsProperFrame (LoopBody until c b) = IsBlock c × IsBlock b
+IsProperFrame (LoopCondition until c b last) = HoldsCommand c × HoldsCommand b
+IsProperFrame (LoopBody until c b) = HoldsCommand c × HoldsCommand b
 IsProperFrame (ForBody name values body) = IsProper body
 IsProperFrame (RunNames names) = Unit {0}
 IsProperFrame (RunText names) = Unit {0}
