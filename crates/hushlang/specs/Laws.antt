@@ -79,7 +79,7 @@ OneTree = (depth : ℕ) (tokens : List Token) (s other : Script) → IsScript de
 abbrev pub OneTreeOfText : Type 0
 OneTreeOfText = (text : List ℕ) (s other : Script) → IsTreeOf text s → IsTreeOf text other → s ≡ other
 
--- each condition and each body in a tree holds a command
+-- the grammar's trees are proper: each condition and each body holds a command, and each `if` has a condition
 abbrev pub BlocksHoldCommands : Type 0
 BlocksHoldCommands = (depth : ℕ) (tokens : List Token) (s : Script) → IsScript depth tokens s → IsProper s
 

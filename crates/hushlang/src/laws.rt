@@ -40,7 +40,7 @@ pub fn one_tree_of_text()
 {}
 
 /// Each condition and each body holds a command, and ends with a separator or a compound command: they are those
-/// that the two productions of a block give.
+/// that the two productions of a block give. Each `if` has a condition.
 pub fn blocks()
     ensures hold_commands { BlocksHoldCommands }
     ensures are_closed { BlocksAreClosed }
