@@ -1,5 +1,5 @@
 -- The records of runs, one behind another, and the line behind them.
-use Rattle.std.proofs.Common.{◌≡◌, ◌≢◌, ℕ, zero, suc, ◌+◌, ◌-◌, Bool, true, false, List, [], ◌∷◌, ◌++◌, length, map, take, drop, Option, Some, None, refl, sym, ap, subst, ◌∙◌, append_assoc, append-nil, arith}
+use Rattle.std.proofs.Common.{◌≡◌, ◌≢◌, ℕ, zero, suc, ◌+◌, ◌-◌, Bool, true, false, List, [], ◌∷◌, ◌++◌, length, map, take, drop, Option, Some, None, inl, inr, refl, sym, ap, subst, ◌∙◌, append_assoc, append-nil, arith}
 use Rattle.std.specs.Prelude.{nat_le, codes, unwrap_or}
 use Rattle.std.specs.List.{flat_map}
 use Rattle.std.proofs.lemmas.List.Concat.{flat_map-append}
@@ -12,7 +12,8 @@ use Rattle.rehearse.specs.Execution.{Ending}
 use Rattle.rehearse.specs.Runs.{Task, run_on, state_of, ending_of}
 use Rattle.rehearse.specs.Listing.{outcome_digit, record_text, record_of, words_listed, closing, listing, last_of, line, spelled}
 use Rattle.rehearse_runs.specs.Recording.{recorded, printed}
-use Rattle.rehearse_runs.specs.RunsShown.{RunsShown, last_given, has_words}
+use Rattle.rehearse_runs.specs.RunsShown.{RunsShown, last_given, last_answer, has_words}
+use Rattle.rehearse_runs.proofs.WorkLemmas.{last_some, last_more}
 use Rattle.rehearse_runs.specs.ViewShown.{shown_word, shown_moment, shown_ending}
 use Rattle.std.proofs.Common.{Result, Ok, Err, ◌≤◌, length-append}
 use Rattle.std.proofs.Math.Dec.{eqb-suc-zero}
@@ -23,7 +24,7 @@ use Rattle.rehearse_runs.specs.declared.run_error.RunError.{RunError}
 use Rattle.rehearse_runs.specs.declared.run_error.RunError.TheVariants.{NoSuchVariable, Memory, NotARun, Failed}
 use Rattle.rehearse_runs.specs.declared.listing.Finish.{Finish}
 use Rattle.rehearse_runs.specs.declared.listing.Finish.TheVariants.{Done, More}
-use Rattle.rehearse_runs.specs.ListingRuns.{list_error, Breaks, Lists, left_out, finish_of, IsLeft, Recorded, WroteRecords, LacksMemory, BreaksOff, reached, lowered}
+use Rattle.rehearse_runs.specs.ListingRuns.{list_error, Breaks, Lists, left_out, finish_of, IsLeft, Takes, Recorded, WroteRecords, LacksMemory, BreaksOff, reached, lowered}
 use Rattle.rehearse_runs.specs.declared.view.RunView.{RunView}
 
 recorded_spelled : (w : OutcomeWord) (s : State) (e : Ending) (names : List Text) → recorded (map outcome_digit w) (record s { word = [] }) e names ≡ record_text w s e names
@@ -42,13 +43,30 @@ left_first : (limit : Option ℕ) → IsLeft limit limit 0
 left_first None = tt
 left_first (Some l) = omega arith
 
+-- no word was taken yet
+takes_none : (old : RunsShown) → old.failed ≡ false → Takes old old []
+takes_none old f = record { words = refl; answers = sym (append-nil old.answers); given = refl; task = refl; start = refl; sound = f }
+
 -- no record was written yet
-pub recorded_none : (s : Sink) (old : RunsShown) (names : List Text) (limit : Option ℕ) → Recorded s s old old names limit limit []
-recorded_none s old names limit = record { words = refl; wrote = Wrote-none s; count = left_first limit; last = λ h. absurd (h refl); task = refl; failed = refl }
+pub recorded_none : (s : Sink) (old : RunsShown) (names : List Text) (limit : Option ℕ) → old.failed ≡ false → Recorded s s old old names limit limit []
+recorded_none s old names limit f = record { takes = takes_none old f; wrote = Wrote-none s; count = left_first limit; still = f }
 
 last_is : (u w : OutcomeWord) (ws : List OutcomeWord) → last_of u (ws ++ w ∷ []) ≡ w
 last_is u w [] = refl
 last_is u w (v ∷ ws) = last_is v w ws
+
+-- a word was taken after others
+takes_more : {old mid : RunsShown} {ws : List OutcomeWord} (new : RunsShown) → Takes old mid ws → GivesWord mid new → Takes old new (ws ++ last_given new ∷ [])
+takes_more {old} {mid} {ws} new t m =
+    let w = last_given new in
+    record {
+      words = t.words ∙ ap (λ (vs : List OutcomeWord). ws ++ vs) m.first ∙ sym (append_assoc ws (w ∷ []) new.to_come);
+      answers = m.answers ∙ ap (λ (vs : List OutcomeWord). vs ++ w ∷ []) t.answers ∙ append_assoc old.answers ws (w ∷ []);
+      given = m.given ∙ sym (last_more old.given ws w);
+      task = m.task ∙ t.task;
+      start = m.start ∙ t.start;
+      sound = t.sound;
+    }
 
 left_next : (limit left : Option ℕ) (n : ℕ) → reached left ≡ false → IsLeft limit left n → IsLeft limit (lowered left) (suc n)
 left_next None None n r h = tt
@@ -68,19 +86,23 @@ recorded_more {start} {now} {old} {mid} {names} {limit} {left} {ws} end new r n 
     let w = last_given new in
     let f = record_of old.task names in
     record {
-      words = r.words ∙ ap (λ (vs : List OutcomeWord). ws ++ vs) m.first ∙ sym (append_assoc ws (w ∷ []) new.to_come);
+      takes = takes_more new r.takes m;
       wrote = subst (λ (t : Text). Wrote start end t) (ap (λ (t : Text). flat_map f ws ++ t) (sym (append-nil (f w))) ∙ sym (flat_map-append f ws (w ∷ []))) (Wrote-append r.wrote q);
       count = subst (λ (k : ℕ). IsLeft limit (lowered left) k) (sym (length_next ws w)) (left_next limit left (length ws) n r.count);
-      last = λ h. m.given ∙ ap Some (sym (last_is [] w ws));
-      task = m.task ∙ r.task;
-      failed = m.still ∙ sym m.sound ∙ r.failed;
+      still = m.still;
     }
 
 -- the same, where the rehearsal changed in what does not count here
 recorded_same : {start now : Sink} {old mid new : RunsShown} {names : List Text} {limit left : Option ℕ} {ws : List OutcomeWord}
     → Recorded start now old mid names limit left ws → new ≡ record mid { shows = false } → Recorded start now old new names limit left ws
 recorded_same {start} {now} {old} {mid} {new} {names} {limit} {left} {ws} r e =
-    let same : Recorded start now old (record mid { shows = false }) names limit left ws = record { words = r.words; wrote = r.wrote; count = r.count; last = r.last; task = r.task; failed = r.failed } in
+    let t = r.takes in
+    let same : Recorded start now old (record mid { shows = false }) names limit left ws = record {
+      takes = record { words = t.words; answers = t.answers; given = t.given; task = t.task; start = t.start; sound = t.sound };
+      wrote = r.wrote;
+      count = r.count;
+      still = r.still;
+    } in
     subst (λ (n : RunsShown). Recorded start now old n names limit left ws) (sym e) same
 
 -- no further word
@@ -102,19 +124,23 @@ shown_past None (Some k) ws rest h = absurd h
 shown_past (Some l) None ws rest h = absurd h
 shown_past (Some l) (Some k) ws rest h = take_past ws rest l k h
 
--- want of memory
+-- memory ran out
+takes_failed : {old mid new : RunsShown} {ws : List OutcomeWord} → Takes old mid ws → giving.LacksMemory mid new → Takes old new ws
+takes_failed {old} {mid} {new} {ws} t m =
+    let P : RunsShown → Type 0 = λ (n : RunsShown). Takes old n ws in
+    let same : Takes old (record mid { failed = true; shows = false; work = new.work }) ws =
+    record { words = t.words; answers = t.answers; given = t.given; task = t.task; start = t.start; sound = t.sound } in
+    subst P (sym m.failed) same
+
 pub lacked : {start now : Sink} {old mid new : RunsShown} {names : List Text} {limit left : Option ℕ} {ws : List OutcomeWord} → Recorded start now old mid names limit left ws → giving.LacksMemory mid new → LacksMemory start now old new names limit
-lacked {start} {now} {old} {mid} {new} {names} {limit} {left} {ws} r m =
-    let to_come = ap (λ (n : RunsShown). n.to_come) m.failed in
-    record {
-      ws = ws;
-      us = words_listed mid.to_come left;
-      words = r.words ∙ ap (λ (vs : List OutcomeWord). ws ++ vs) (sym to_come);
-      front = ap (λ (vs : List OutcomeWord). words_listed vs limit) r.words ∙ shown_past limit left ws mid.to_come r.count;
-      wrote = r.wrote;
-      given = λ h. ap (λ (n : RunsShown). n.given) m.failed ∙ r.last h;
-      failed = ap (λ (n : RunsShown). n.failed) m.failed;
-    }
+lacked {start} {now} {old} {mid} {new} {names} {limit} {left} {ws} r m = record {
+  ws = ws;
+  us = words_listed mid.to_come left;
+  takes = takes_failed r.takes m;
+  front = ap (λ (vs : List OutcomeWord). words_listed vs limit) r.takes.words ∙ shown_past limit left ws mid.to_come r.count;
+  wrote = r.wrote;
+  failed = ap (λ (n : RunsShown). n.failed) m.failed;
+}
 
 shown_next : (left : Option ℕ) (w : OutcomeWord) (rest : List OutcomeWord) → reached left ≡ false → words_listed (w ∷ rest) left ≡ w ∷ words_listed rest (lowered left)
 shown_next None w rest h = refl
@@ -129,26 +155,32 @@ broke_record {start} {now} {old} {mid} {names} {limit} {left} {ws} end new r n m
     let f = record_of old.task names in
     let us = words_listed new.to_come (lowered left) in
     let z = line (closing old.to_come limit) in
-    let e : words_listed old.to_come limit ≡ ws ++ (w ∷ us) = ap (λ (vs : List OutcomeWord). words_listed vs limit) r.words ∙ shown_past limit left ws mid.to_come r.count ∙ ap (λ (vs : List OutcomeWord). ws ++ words_listed vs left) m.first ∙ ap (λ (vs : List OutcomeWord). ws ++ vs) (shown_next left w new.to_come n) in
+    let e : words_listed old.to_come limit ≡ ws ++ (w ∷ us) = ap (λ (vs : List OutcomeWord). words_listed vs limit) r.takes.words ∙ shown_past limit left ws mid.to_come r.count ∙ ap (λ (vs : List OutcomeWord). ws ++ words_listed vs left) m.first ∙ ap (λ (vs : List OutcomeWord). ws ++ vs) (shown_next left w new.to_come n) in
     let whole : flat_map f ws ++ (f w ++ (flat_map f us ++ z)) ≡ listing f old.to_come limit =
     ap (λ (t : Text). flat_map f ws ++ t) (sym (append_assoc (f w) (flat_map f us) z)) ∙ sym (append_assoc (flat_map f ws) (f w ++ flat_map f us) z) ∙ ap (λ (t : Text). t ++ z) (sym (flat_map-append f ws (w ∷ us))) ∙ ap (λ (vs : List OutcomeWord). flat_map f vs ++ z) (sym e) in
     record {
-      ws = ws ++ w ∷ [];
-      words = r.words ∙ ap (λ (vs : List OutcomeWord). ws ++ vs) m.first ∙ sym (append_assoc ws (w ∷ []) new.to_come);
+      place = inl (record {
+        ws = ws;
+        w = w;
+        us = us;
+        wanted = e;
+        takes = takes_more new r.takes m;
+        breaks = record { between = now; wrote = r.wrote; broke = q };
+      });
       wrote = subst (λ (t : Text). BrokeOff start end t) whole (BrokeOff-after r.wrote (BrokeOff-before (flat_map f us ++ z) q));
-      sound = m.still;
+      still = m.still;
     }
 
 -- a call of `next` that refuses
-pub refused : {start now : Sink} {old mid : RunsShown} {names : List Text} {limit left : Option ℕ} {ws : List OutcomeWord} (new : RunsShown) (e : RunError) → giving.Refuses mid e new → Recorded start now old mid names limit left ws → old.failed ≡ false → Breaks start now old new names limit (list_error e)
-refused new NoSuchVariable h r f = absurd h
-refused new Memory h r f = lacked r h
-refused new NotARun h r f = absurd h
-refused new Failed h r f = let t = h.failed in let s = r.failed in absurd cc
+pub refused : {start now : Sink} {old mid : RunsShown} {names : List Text} {limit left : Option ℕ} {ws : List OutcomeWord} (new : RunsShown) (e : RunError) → giving.Refuses mid e new → Recorded start now old mid names limit left ws → Breaks start now old new names limit (list_error e)
+refused new NoSuchVariable h r = absurd h
+refused new Memory h r = lacked r h
+refused new NotARun h r = absurd h
+refused new Failed h r = let t = h.failed in let s = r.still in absurd cc
 
 module _ {S : Type 0} (g : Ghosts S) where
-  pub refused_by : {start now : Sink} {old mid : RunsShown} {names : List Text} {limit left : Option ℕ} {ws : List OutcomeWord} (new : RunsShown) (result : Result (Option (RunView S)) RunError) (e : RunError) → result ≡ Err e → Gives g mid result new → Recorded start now old mid names limit left ws → old.failed ≡ false → Breaks start now old new names limit (list_error e)
-  refused_by {mid = mid} new result e is h r f = refused new e (subst (λ (o : Result (Option (RunView S)) RunError). Gives g mid o new) is h) r f
+  pub refused_by : {start now : Sink} {old mid : RunsShown} {names : List Text} {limit left : Option ℕ} {ws : List OutcomeWord} (new : RunsShown) (result : Result (Option (RunView S)) RunError) (e : RunError) → result ≡ Err e → Gives g mid result new → Recorded start now old mid names limit left ws → Breaks start now old new names limit (list_error e)
+  refused_by {mid = mid} new result e is h r = refused new e (subst (λ (o : Result (Option (RunView S)) RunError). Gives g mid o new) is h) r
 
   pub given_by : (mid new : RunsShown) (result : Result (Option (RunView S)) RunError) (o : Option (RunView S)) (v : RunView S) → result ≡ Ok o → o ≡ Some v → Gives g mid result new → GivesWord mid new × ShowsRun g new.task (last_given new) v
   given_by mid new result o v is some h = subst (λ (r : Result (Option (RunView S)) RunError). Gives g mid r new) (is ∙ ap (λ (p : Option (RunView S)). Ok p) some) h
@@ -156,7 +188,7 @@ module _ {S : Type 0} (g : Ghosts S) where
   -- the text of the record that is written
   pub record_written : {start now : Sink} {old mid new : RunsShown} {names : List Text} {limit left : Option ℕ} {ws : List OutcomeWord} (v : RunView S) → Recorded start now old mid names limit left ws → GivesWord mid new × ShowsRun g new.task (last_given new) v
       → recorded (shown_word v) (state_at (shown_moment g v) []) (shown_ending v) names ≡ record_of old.task names (last_given new)
-  record_written {new = new} {names = names} v r m = record_shown g new.task (last_given new) v names m.1 ∙ ap (λ (t : Task). record_of t names (last_given new)) (m.0.task ∙ r.task)
+  record_written {new = new} {names = names} v r m = record_shown g new.task (last_given new) v names m.1 ∙ ap (λ (t : Task). record_of t names (last_given new)) (m.0.task ∙ r.takes.task)
 
 -- the texts of equal bytes are written and broken off alike
 pub Wrote-as : (a b : Sink) (xs ys : Text) → xs ≡ ys → Wrote a b xs → Wrote a b ys
@@ -231,28 +263,45 @@ at_end (Some l) (Some k) ws rest c e =
 ends_as : (f : OutcomeWord → Text) (all : List OutcomeWord) (limit : Option ℕ) (ws rest : List OutcomeWord) (last : Text) (finish : Finish) → EndsBehind all limit ws rest last finish → flat_map f ws ++ line last ≡ listing f all limit
 ends_as f all limit ws rest last finish e = ap (λ (vs : List OutcomeWord). flat_map f vs ++ line last) (sym e.shown_is) ∙ ap (λ (t : Text). flat_map f (words_listed all limit) ++ line t) (sym e.closing_is)
 
--- the line behind the records was written
+-- the words that were taken are those that are wanted
+takes_wanted : {old new : RunsShown} {ws : List OutcomeWord} (limit : Option ℕ) → words_listed (ws ++ new.to_come) limit ≡ ws → Takes old new ws → Takes old new (words_listed old.to_come limit)
+takes_wanted {old} {new} {ws} limit e t =
+    let whole : words_listed old.to_come limit ≡ ws = ap (λ (vs : List OutcomeWord). words_listed vs limit) t.words ∙ e in
+    subst (λ (vs : List OutcomeWord). Takes old new vs) (sym whole) t
+
+-- the line after the records was written
 listed : {start now : Sink} {old new : RunsShown} {names : List Text} {limit left : Option ℕ} {ws : List OutcomeWord} (end : Sink) (last : Text) (finish : Finish)
-    → Recorded start now old new names limit left ws → EndsBehind (ws ++ new.to_come) limit ws new.to_come last finish → old.failed ≡ false → Wrote now end (line last) → Lists start end old new names limit finish
-listed {start} {now} {old} {new} {names} {limit} {left} {ws} end last finish r e f q =
-    let all = sym r.words in
+    → Recorded start now old new names limit left ws → EndsBehind (ws ++ new.to_come) limit ws new.to_come last finish → Wrote now end (line last) → Lists start end old new names limit finish
+listed {start} {now} {old} {new} {names} {limit} {left} {ws} end last finish r e q =
+    let all = sym r.takes.words in
     record {
       wrote = subst (λ (vs : List OutcomeWord). Wrote start end (listing (record_of old.task names) vs limit)) all (Wrote-as start end _ _ (ends_as (record_of old.task names) (ws ++ new.to_come) limit ws new.to_come last finish e) (Wrote-append r.wrote q));
       finish_is = subst (λ (vs : List OutcomeWord). finish ≡ finish_of vs limit) all e.finish_is;
+      takes = takes_wanted limit e.shown_is r.takes;
       rest = subst (λ (vs : List OutcomeWord). new.to_come ≡ left_out vs limit) all e.rest_is;
-      task = r.task;
-      sound = r.failed ∙ f;
+      still = r.still;
     }
 
 -- and broke off
 unlisted : {start now : Sink} {old new : RunsShown} {names : List Text} {limit left : Option ℕ} {ws : List OutcomeWord} (end : Sink) (last : Text) (finish : Finish)
-    → Recorded start now old new names limit left ws → EndsBehind (ws ++ new.to_come) limit ws new.to_come last finish → old.failed ≡ false → BrokeOff now end (line last) → BreaksOff start end old new names limit
-unlisted {start} {now} {old} {new} {names} {limit} {left} {ws} end last finish r e f q = record {
-  ws = ws;
-  words = r.words;
-  wrote = subst (λ (vs : List OutcomeWord). BrokeOff start end (listing (record_of old.task names) vs limit)) (sym r.words) (BrokeOff-as start end _ _ (ends_as (record_of old.task names) (ws ++ new.to_come) limit ws new.to_come last finish e) (BrokeOff-after r.wrote q));
-  sound = r.failed ∙ f;
-}
+    → Recorded start now old new names limit left ws → EndsBehind (ws ++ new.to_come) limit ws new.to_come last finish → BrokeOff now end (line last) → BreaksOff start end old new names limit
+unlisted {start} {now} {old} {new} {names} {limit} {left} {ws} end last finish r e q =
+    let f = record_of old.task names in
+    let all = sym r.takes.words in
+    let wanted : ws ≡ words_listed old.to_come limit = sym e.shown_is ∙ ap (λ (vs : List OutcomeWord). words_listed vs limit) all in
+    let last_is : last ≡ closing old.to_come limit = sym e.closing_is ∙ ap (λ (vs : List OutcomeWord). closing vs limit) all in
+    record {
+      place = inr (record {
+        takes = takes_wanted limit e.shown_is r.takes;
+        breaks = record {
+          between = now;
+          wrote = subst (λ (vs : List OutcomeWord). Wrote start now (flat_map f vs)) wanted r.wrote;
+          broke = BrokeOff-as now end _ _ (ap line last_is) q;
+        };
+      });
+      wrote = subst (λ (vs : List OutcomeWord). BrokeOff start end (listing f vs limit)) all (BrokeOff-as start end _ _ (ends_as f (ws ++ new.to_come) limit ws new.to_come last finish e) (BrokeOff-after r.wrote q));
+      still = r.still;
+    }
 
 printed_spelled : (w : OutcomeWord) → printed (map outcome_digit w) ≡ spelled w
 printed_spelled [] = refl
@@ -270,22 +319,27 @@ some_left (Some l) None ws (v ∷ vs) n c over h e = absurd c
 some_left (Some l) (Some (suc k)) ws (v ∷ vs) n c over h e = let o = over (eqb-suc-zero k) in absurd cc
 some_left (Some l) (Some zero) ws (v ∷ vs) n c over h e = let z : l ≡ 0 = (let k = ap length e in omega arith) in n (ap Some z)
 
+-- the last of some words
+last_some_of : (before : Option OutcomeWord) (ws : List OutcomeWord) → ws ≢ [] → last_answer before ws ≡ Some (last_of [] ws)
+last_some_of before [] n = absurd (n refl)
+last_some_of before (w ∷ ws) n = last_some w ws
+
 -- the digits of the last word, where words are left out
 last_line_is : {start now : Sink} {old new : RunsShown} {names : List Text} {limit : Option ℕ} (digits : Text) (r : WroteRecords start now old new names limit) → limit ≢ Some 0 → has_words new.to_come ≡ true → digits ≡ map outcome_digit (last_given new) → line (codes "more " ++ printed digits) ≡ line (codes "more " ++ spelled (last_of [] r.ws))
-last_line_is {new = new} {limit = limit} digits r n h d =
+last_line_is {old = old} {new = new} {limit = limit} digits r n h d =
     let some = some_left limit r.left r.ws new.to_come n r.recorded.count r.over h in
-    let given : last_given new ≡ last_of [] r.ws = ap (λ (o : Option OutcomeWord). unwrap_or o []) (r.recorded.last some) in
+    let given : last_given new ≡ last_of [] r.ws = ap (λ (o : Option OutcomeWord). unwrap_or o []) (r.recorded.takes.given ∙ last_some_of old.given r.ws some) in
     ap (λ (t : Text). line (codes "more " ++ printed t)) (d ∙ ap (map outcome_digit) given) ∙ ap (λ (t : Text). line (codes "more " ++ t)) (printed_spelled (last_of [] r.ws))
 
-module _ {start now : Sink} {old new : RunsShown} {names : List Text} {limit : Option ℕ} (end : Sink) (r : WroteRecords start now old new names limit) (f : old.failed ≡ false) where
+module _ {start now : Sink} {old new : RunsShown} {names : List Text} {limit : Option ℕ} (end : Sink) (r : WroteRecords start now old new names limit) where
   pub listed_more : (digits : Text) → limit ≢ Some 0 → has_words new.to_come ≡ true → digits ≡ map outcome_digit (last_given new) → Wrote now end (line (codes "more " ++ printed digits)) → Lists start end old new names limit More
-  listed_more digits n h d q = listed end (codes "more " ++ spelled (last_of [] r.ws)) More r.recorded (at_limit limit r.left r.ws new.to_come r.recorded.count r.over h) f (Wrote-as now end _ _ (last_line_is digits r n h d) q)
+  listed_more digits n h d q = listed end (codes "more " ++ spelled (last_of [] r.ws)) More r.recorded (at_limit limit r.left r.ws new.to_come r.recorded.count r.over h) (Wrote-as now end _ _ (last_line_is digits r n h d) q)
 
   pub unlisted_more : (digits : Text) → limit ≢ Some 0 → has_words new.to_come ≡ true → digits ≡ map outcome_digit (last_given new) → BrokeOff now end (line (codes "more " ++ printed digits)) → BreaksOff start end old new names limit
-  unlisted_more digits n h d q = unlisted end (codes "more " ++ spelled (last_of [] r.ws)) More r.recorded (at_limit limit r.left r.ws new.to_come r.recorded.count r.over h) f (BrokeOff-as now end _ _ (last_line_is digits r n h d) q)
+  unlisted_more digits n h d q = unlisted end (codes "more " ++ spelled (last_of [] r.ws)) More r.recorded (at_limit limit r.left r.ws new.to_come r.recorded.count r.over h) (BrokeOff-as now end _ _ (last_line_is digits r n h d) q)
 
   pub listed_done : has_words new.to_come ≡ false → Wrote now end (codes "done\n") → Lists start end old new names limit Done
-  listed_done h q = listed end (codes "done") Done r.recorded (at_end limit r.left r.ws new.to_come r.recorded.count (no_words new.to_come h)) f q
+  listed_done h q = listed end (codes "done") Done r.recorded (at_end limit r.left r.ws new.to_come r.recorded.count (no_words new.to_come h)) q
 
   pub unlisted_done : has_words new.to_come ≡ false → BrokeOff now end (codes "done\n") → BreaksOff start end old new names limit
-  unlisted_done h q = unlisted end (codes "done") Done r.recorded (at_end limit r.left r.ws new.to_come r.recorded.count (no_words new.to_come h)) f q
+  unlisted_done h q = unlisted end (codes "done") Done r.recorded (at_end limit r.left r.ws new.to_come r.recorded.count (no_words new.to_come h)) q

@@ -5,8 +5,8 @@ use Rattle.rehearse.specs.Listing.{last_of}
 use Rattle.rehearse.specs.Bounds.{most_devices}
 use Rattle.rehearse.specs.Outcomes.{OutcomeWord, Success, Failure, Run, common_prefix}
 use Rattle.rehearse.specs.Runs.{Task, kind, runs, rest, steps, asked, work_from}
-use Rattle.rehearse_runs.specs.RunsShown.{words_made, in_front_of, work_of, steps_shared, successes}
-use Rattle.rehearse_runs.specs.Phases.{last_answer, HasBegun}
+use Rattle.rehearse_runs.specs.RunsShown.{words_made, in_front_of, work_of, steps_shared, successes, last_answer}
+use Rattle.rehearse_runs.specs.Phases.{HasBegun}
 use Rattle.rehearse_runs.specs.Searching.{AreMarks}
 use Rattle.rehearse_runs.proofs.SearchLemmas.{cut_of}
 use Rattle.rehearse.proofs.TaskChoices.{no_run_is_longer}
@@ -28,7 +28,7 @@ none_in_front ws = front_is ws [] ws refl
 
 -- ---- one word more
 
-last_some : (u : OutcomeWord) (ws : List OutcomeWord) → last_answer (Some u) ws ≡ Some (last_of u ws)
+pub last_some : (u : OutcomeWord) (ws : List OutcomeWord) → last_answer (Some u) ws ≡ Some (last_of u ws)
 last_some u [] = refl
 last_some u (w ∷ ws) = last_some w ws
 
@@ -36,7 +36,7 @@ work_more : (task : Task) (u : OutcomeWord) (ws : List OutcomeWord) (v : Outcome
 work_more task u [] v = omega arith
 work_more task u (w ∷ ws) v = let h = work_more task w ws v in omega (arith, h)
 
-last_more : (start : Option OutcomeWord) (ws : List OutcomeWord) (v : OutcomeWord) → last_answer start (ws ++ v ∷ []) ≡ Some v
+pub last_more : (start : Option OutcomeWord) (ws : List OutcomeWord) (v : OutcomeWord) → last_answer start (ws ++ v ∷ []) ≡ Some v
 last_more start [] v = refl
 last_more start (w ∷ ws) v = last_more (Some w) ws v
 

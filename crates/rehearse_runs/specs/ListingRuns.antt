@@ -1,11 +1,11 @@
 -- What writing a listing of `Runs` does. Ours.
-use Rattle.std.specs.Prelude.{◌≡◌, ◌≢◌, ℕ, ◌+◌, ◌-◌, nat_le, nat_eq, Bool, true, false, List, [], ◌++◌, length, drop, Option, Some, None}
+use Rattle.std.specs.Prelude.{◌≡◌, ◌⊎◌, ℕ, ◌+◌, ◌-◌, nat_le, nat_eq, Bool, true, false, List, [], ◌∷◌, ◌++◌, length, drop, Option, Some, None}
 use Rattle.std.specs.List.{flat_map}
 use Rattle.envimage.specs.Sink.{Sink, Wrote, BrokeOff}
 use Rattle.rehearse.specs.Outcomes.{OutcomeWord}
 use Rattle.rehearse.specs.State.{Text}
-use Rattle.rehearse.specs.Listing.{record_of, words_listed, listing, last_of}
-use Rattle.rehearse_runs.specs.RunsShown.{RunsShown}
+use Rattle.rehearse.specs.Listing.{line, record_of, words_listed, closing, listing}
+use Rattle.rehearse_runs.specs.RunsShown.{RunsShown, last_answer}
 use Rattle.rehearse_runs.specs.declared.run_error.RunError.{RunError}
 use Rattle.rehearse_runs.specs.declared.run_error.RunError.TheVariants as run
 use Rattle.rehearse_runs.specs.declared.listing.Finish.{Finish}
@@ -36,15 +36,23 @@ IsLeft None (Some k) n = ⊥
 IsLeft (Some l) None n = ⊥
 IsLeft (Some l) (Some k) n = l ≡ n + k
 
--- the records of these words were written, one behind another
+-- the runs took the first of the words to come, and nothing else changed but what tells of them
+pub record Takes (old new : RunsShown) (ws : List OutcomeWord) : Type 0 where
+  pub words : old.to_come ≡ ws ++ new.to_come
+  pub answers : new.answers ≡ old.answers ++ ws
+  -- the last of them, or the one before where none was taken
+  pub given : new.given ≡ last_answer old.given ws
+  pub task : new.task ≡ old.task
+  pub start : new.start ≡ old.start
+  pub sound : old.failed ≡ false
+
+-- the records of these words were written, one after another
 pub record Recorded (start now : Sink) (old new : RunsShown) (names : List Text) (limit left : Option ℕ)
     (ws : List OutcomeWord) : Type 0 where
-  pub words : old.to_come ≡ ws ++ new.to_come
+  pub takes : Takes old new ws
   pub wrote : Wrote start now (flat_map (record_of old.task names) ws)
   pub count : IsLeft limit left (length ws)
-  pub last : ws ≢ [] → new.given ≡ Some (last_of [] ws)
-  pub task : new.task ≡ old.task
-  pub failed : new.failed ≡ old.failed
+  pub still : new.failed ≡ false
 
 -- all records that are wanted were written
 pub record WroteRecords (start now : Sink) (old new : RunsShown) (names : List Text) (limit : Option ℕ) : Type 0 where
@@ -68,28 +76,50 @@ pub record Lists (start now : Sink) (old new : RunsShown) (names : List Text) (l
     Type 0 where
   pub wrote : Wrote start now (listing (record_of old.task names) old.to_come limit)
   pub finish_is : finish ≡ finish_of old.to_come limit
+  pub takes : Takes old new (words_listed old.to_come limit)
   pub rest : new.to_come ≡ left_out old.to_come limit
-  pub task : new.task ≡ old.task
-  pub sound : new.failed ≡ false
+  pub still : new.failed ≡ false
 
--- want of memory: whole records stand written, of the words that were taken off
+-- memory ran out: the whole records of the words that were taken are written
 pub record LacksMemory (start now : Sink) (old new : RunsShown) (names : List Text) (limit : Option ℕ) : Type 0 where
   pub ws : List OutcomeWord
   pub us : List OutcomeWord
-  pub words : old.to_come ≡ ws ++ new.to_come
+  pub takes : Takes old new ws
   pub front : words_listed old.to_come limit ≡ ws ++ us
   pub wrote : Wrote start now (flat_map (record_of old.task names) ws)
-  pub given : ws ≢ [] → new.given ≡ Some (last_of [] ws)
   pub failed : new.failed ≡ true
 
--- the output failed: a front of the listing stands written, and the words that were taken off are not given again
-pub record BreaksOff (start now : Sink) (old new : RunsShown) (names : List Text) (limit : Option ℕ) : Type 0 where
-  pub ws : List OutcomeWord
-  pub words : old.to_come ≡ ws ++ new.to_come
-  pub wrote : BrokeOff start now (listing (record_of old.task names) old.to_come limit)
-  pub sound : new.failed ≡ false
+-- the records of these words are written, and the output failed inside the text after them
+pub record BreaksBehind (start now : Sink) (written : OutcomeWord → Text) (ws : List OutcomeWord) (text : Text) :
+    Type 0 where
+  pub between : Sink
+  pub wrote : Wrote start between (flat_map written ws)
+  pub broke : BrokeOff between now text
 
--- there was no memory before: nothing is written
+-- it failed inside the record of the last word that was taken
+pub record BreaksInRecord (start now : Sink) (old new : RunsShown) (names : List Text) (limit : Option ℕ) :
+    Type 0 where
+  pub ws : List OutcomeWord
+  pub w : OutcomeWord
+  pub us : List OutcomeWord
+  pub wanted : words_listed old.to_come limit ≡ ws ++ w ∷ us
+  pub takes : Takes old new (ws ++ w ∷ [])
+  pub breaks : BreaksBehind start now (record_of old.task names) ws (record_of old.task names w)
+
+-- it failed inside the closing line: all words that are wanted were taken
+pub record BreaksInClosing (start now : Sink) (old new : RunsShown) (names : List Text) (limit : Option ℕ) :
+    Type 0 where
+  pub takes : Takes old new (words_listed old.to_come limit)
+  pub breaks : BreaksBehind start now (record_of old.task names) (words_listed old.to_come limit)
+      (line (closing old.to_come limit))
+
+-- the output failed: a prefix of the listing is written, and the words that were taken are not given again
+pub record BreaksOff (start now : Sink) (old new : RunsShown) (names : List Text) (limit : Option ℕ) : Type 0 where
+  pub place : BreaksInRecord start now old new names limit ⊎ BreaksInClosing start now old new names limit
+  pub wrote : BrokeOff start now (listing (record_of old.task names) old.to_come limit)
+  pub still : new.failed ≡ false
+
+-- memory had run out before: nothing is written
 pub record HadFailed (start now : Sink) (old new : RunsShown) : Type 0 where
   pub failed : old.failed ≡ true
   pub same : new ≡ old

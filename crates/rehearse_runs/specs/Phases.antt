@@ -7,7 +7,7 @@ use Rattle.rehearse.specs.State.{Text, state_at}
 use Rattle.rehearse.specs.Runs.{Task, kind, run_on, state_of, ending_of, runs, rest}
 use Rattle.rehearse.specs.Listing.{outcome_digit}
 use Rattle.rehearse_runs.specs.BytesShown.{Held}
-use Rattle.rehearse_runs.specs.RunsShown.{RunsShown, outcomes, to_come_after, given_if, words_made, in_front_of, work_of}
+use Rattle.rehearse_runs.specs.RunsShown.{RunsShown, outcomes, to_come_after, given_if, words_made, in_front_of, work_of, last_answer}
 use Rattle.rehearse_machine.specs.EndingsShown.{halt_shown}
 use Rattle.rehearse_runs.specs.Searching.{AreMarks}
 use Rattle.rehearse_machine.specs.declared.halt.Halt.{Halt}
@@ -48,11 +48,6 @@ StandsAt task given w r Failed = ⊤
 abbrev pub start_of : Option Held → Option OutcomeWord
 start_of None = None
 start_of (Some digits) = Some (outcomes digits.items)
-
--- the last of these words, or the start word
-abbrev pub last_answer : (start : Option OutcomeWord) → List OutcomeWord → Option OutcomeWord
-last_answer start [] = start
-last_answer start (w ∷ ws) = last_answer (Some w) ws
 
 -- the steps begun are those of the words that were given
 pub record HasBegun (task : Task) (start given : Option OutcomeWord) (to_come : List OutcomeWord) (begun : ℕ) :

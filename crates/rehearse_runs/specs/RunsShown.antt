@@ -38,10 +38,15 @@ abbrev pub given_if : (has_given : Bool) → OutcomeWord → Option OutcomeWord
 given_if true w = Some w
 given_if false w = None
 
--- the words of a rehearsal: all runs, or those behind the start word
+-- the words of a rehearsal: all runs, or those behind a word, as the start word
 abbrev pub words_made : Task → (start : Option OutcomeWord) → List OutcomeWord
 words_made task None = runs task
 words_made task (Some w) = rest task w
+
+-- the last of these words, or the one before them
+abbrev pub last_answer : (before : Option OutcomeWord) → List OutcomeWord → Option OutcomeWord
+last_answer before [] = before
+last_answer before (w ∷ ws) = last_answer (Some w) ws
 
 -- those in front of the words that are left
 abbrev pub in_front_of : (all left : List OutcomeWord) → List OutcomeWord

@@ -3,7 +3,7 @@ ghost use Rattle.std.specs.Prelude.{◌≡◌, [], false, map, option_map};
 ghost use Rattle.bootstore.specs.Moment.{option_bytes};
 ghost use Rattle.rehearse.specs.Listing.{outcome_digit};
 ghost use Rattle.rehearse.specs.Outcomes.{has_success};
-ghost use Rattle.rehearse_runs.specs.RunsShown.{has_words, last_given, outcomes, work_of};
+ghost use Rattle.rehearse_runs.specs.RunsShown.{has_words, last_given, outcomes, words_made, work_of};
 ghost use Rattle.std.specs.Borrow.{sem};
 
 use crate::bytes::Bytes;
@@ -103,7 +103,6 @@ impl<'a, S: Store> Runs<'a, S> {
         bounds: Bounds,
     ) -> Result<Self, RunError>
         ensures ok { IfOk result (λ r. r ≡ new_runs (task_shown env.now devices.now name.now bounds)) }
-        ensures found { OnOk result (IsSome (value_of env.now name.now)) }
         ensures set { OnOk result (task_set env.now devices.now name.now bounds ≡ Some (task_shown env.now devices.now name.now bounds)) }
         ensures err { IfErr result (λ e. (e ≡ NoSuchVariable) × (value_of env.now name.now ≡ None)) }
         ensures unset { OnErr result (task_set env.now devices.now name.now bounds ≡ None) }
@@ -139,7 +138,6 @@ impl<'a, S: Store> Runs<'a, S> {
         word: &[u8],
     ) -> Result<Self, RunError>
         ensures ok { IfOk result (λ r. GoesOnBehind (task_shown env.now devices.now name.now bounds) word.now r) }
-        ensures found { OnOk result (IsSome (value_of env.now name.now)) }
         ensures set { OnOk result (task_set env.now devices.now name.now bounds ≡ Some (task_shown env.now devices.now name.now bounds)) }
         ensures err { IfErr result (λ e. RefusesWord (task_shown env.now devices.now name.now bounds) (value_of env.now name.now) word.now e) }
         ensures unset { IfErr result (λ e. e ≡ NoSuchVariable → task_set env.now devices.now name.now bounds ≡ None) }
@@ -245,9 +243,11 @@ impl<'a, S: Store> Runs<'a, S> {
         }
     }
 
-    /// The digits of the last word that was given, or handed to `after`.
+    /// The digits of the last word that was given, or handed to `after`. The words to come are those after it, or all if
+    /// there is none.
     pub fn given(&self) -> Option<&[u8]>
-        ensures { option_bytes result ≡ option_map (map outcome_digit) self.now.given }
+        ensures digits { option_bytes result ≡ option_map (map outcome_digit) self.now.given }
+        ensures behind { self.now.to_come ≡ words_made self.now.task self.now.given }
     {
         if self.has_given {
             Some(self.word.as_slice())
