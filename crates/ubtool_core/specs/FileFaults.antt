@@ -1,5 +1,5 @@
 -- What the fault of a call on files is told as. The texts are ours.
-use Rattle.std.specs.Prelude.{String}
+use Rattle.std.specs.Prelude.{◌≡◌, ℕ, List, String, string_bytes}
 use Rattle.std.specs.declared.alloc.Global.{Global}
 use Rattle.ubtool_core.specs.declared.fault.Fault.{Fault}
 use Rattle.ubtool_core.specs.declared.fault.Fault.TheVariants as told
@@ -10,6 +10,10 @@ use Rattle.ubtool_core.specs.declared.word_form.WordForm.{WordForm}
 -- a path as it is printed
 abbrev pub path_form : String Global → WordForm
 path_form path = record { 0 = path }
+
+-- it is this path that is printed
+abbrev pub IsPathOf : WordForm → List ℕ → Type 0
+IsPathOf form path = string_bytes form.0 ≡ path
 
 -- of a read of the file at the path
 abbrev pub read_fault : WordForm → FileFault → Fault

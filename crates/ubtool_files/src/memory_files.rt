@@ -4,9 +4,9 @@ ghost use Rattle.std.specs.List.{position};
 ghost use Rattle.std.specs.Option.{option_copied};
 ghost use Rattle.std.specs.Str.{bytes_eq};
 ghost use Rattle.ubtool_files.specs.FailureCounts.{CountsFault};
-ghost use Rattle.ubtool_files.specs.MemoryFiles.{Gives, IsUnlessMemory, call_of, failing_of, faults_of, file_of, is_due, part_answer, put, reaches, memory_files_shown, whole_answer, with_file, write_answer};
+ghost use Rattle.ubtool_files.specs.MemoryFiles.{Gives, IsUnlessMemory, call_of, failing_of, faults_of, file_of, is_due, part_answer, put, reaches, memory_files_shown, taken, whole_answer, with_file, write_answer};
 ghost use Rattle.ubtool_files.specs.Told.{ReadsAll, ReadsAt, WritesAt, calls_after, file_at, overwritten, read_limit};
-ghost use Rattle.ubtool_files.specs.declared.files.FileFault.TheVariants.{Short, TooLong};
+ghost use Rattle.ubtool_files.specs.declared.files.FileFault.TheVariants.{Memory, Short, TooLong};
 
 use crate::files::{Action, FileFault, Files, LIMIT};
 use std::alloc::{AllocError, Global};
@@ -242,6 +242,8 @@ impl Files for MemoryFiles {
         ensures never_long { result ≢ Err TooLong }
         ensures told { WritesAt path.now offset bytes.now (memory_files_shown self.old) (memory_files_shown self.new) result }
         ensures exact { IsUnlessMemory (write_answer (is_due self.old) (file_at path.now (memory_files_shown self.old).stored) offset bytes.now) result }
+        ensures kept { result ≢ Err Memory → (memory_files_shown self.new).stored
+            ≡ put path.now offset (taken (is_due self.old) bytes.now) (memory_files_shown self.old).stored }
     {
         let fails = self.is_due();
         let call = Call {

@@ -8,7 +8,7 @@ use Rattle.envimage.specs.declared.config.Place.{Place}
 use Rattle.ubtool_files.proofs.OrderLemmas.{OnlyReads-one, OnlyReads-part, OnlyReads-then, OnlyReads-whole}
 use Rattle.ubtool_files.specs.CallOrder.{OnlyReads, are_reads}
 use Rattle.ubtool_files.specs.Told.{IfTold, ReadsAll, ReadsAt, Told, Stored, file_at}
-use Rattle.ubtool_core.specs.FileFaults.{read_fault}
+use Rattle.ubtool_core.specs.FileFaults.{IsPathOf, read_fault}
 use Rattle.ubtool_core.specs.declared.fault.Fault.{Fault}
 use Rattle.ubtool_core.specs.declared.fault.Fault.TheVariants as fault
 use Rattle.ubtool_files.specs.declared.files.FileFault.{FileFault}
@@ -16,7 +16,7 @@ use Rattle.ubtool_files.specs.declared.files.FileFault.TheVariants.{Failed, Shor
 use Rattle.ubtool_core.specs.declared.word_form.WordForm.{WordForm}
 use Rattle.ubtool_files.specs.declared.files.Action.{Action}
 use Rattle.ubtool_files.specs.declared.files.Action.TheVariants.{ReadAll}
-use Rattle.ubtool_run.specs.Images.{Copy, HasRead, Names, ReadsImages, ReadsSecond, SomeIsShort, copies, copy_of, second_place}
+use Rattle.ubtool_run.specs.Images.{Copy, HasRead, Names, ReadsImages, ReadsSecond, OfSome, copies, copy_of, second_place}
 use Rattle.ubtool_run.specs.ReadingFiles.{IsShort, Reads, ReadsCopy, ReadsText, bytes_at, read_of}
 use Rattle.ubtool_run.specs.declared.read.StoredCopy.{StoredCopy}
 
@@ -97,24 +97,24 @@ images-read config text p (Some q) x None a b c d first named place second third
 -- ---- refusals
 
 -- of a whole file, and of a place, as the files tell it
-pub text-refused : (path : List ℕ) (form : WordForm) (old new : Told) (k : FileFault) → ReadsAll path old new (Err k) → ReadsText path old new (Err (read_fault form k))
-text-refused path form old new Failed h = (OnlyReads-whole path old new (Err Failed) h, tt)
-text-refused path form old new Short h = absurd h.whole
-text-refused path form old new TooLong h = (OnlyReads-whole path old new (Err TooLong) h, h.whole)
-text-refused path form old new Memory h = (OnlyReads-whole path old new (Err Memory) h, tt)
+pub text-refused : (path : List ℕ) (form : WordForm) (old new : Told) (k : FileFault) → IsPathOf form path → ReadsAll path old new (Err k) → ReadsText path old new (Err (read_fault form k))
+text-refused path form old new Failed is h = (OnlyReads-whole path old new (Err Failed) h, is)
+text-refused path form old new Short is h = absurd h.whole
+text-refused path form old new TooLong is h = (OnlyReads-whole path old new (Err TooLong) h, (is, h.whole))
+text-refused path form old new Memory is h = (OnlyReads-whole path old new (Err Memory) h, tt)
 
-pub copy-refused : (place : Place) (form : WordForm) (old new : Told) (k : FileFault) → ReadsAt (place_shown place).device (place_shown place).offset (place_shown place).size old new (Err k)
-    → ReadsCopy place old new (Err (read_fault form k))
-copy-refused place form old new Failed h = (OnlyReads-part (place_shown place).device (place_shown place).offset (place_shown place).size old new (Err Failed) h, tt)
-copy-refused place form old new Short h = (OnlyReads-part (place_shown place).device (place_shown place).offset (place_shown place).size old new (Err Short) h, h.part)
-copy-refused place form old new TooLong h = absurd h.part
-copy-refused place form old new Memory h = (OnlyReads-part (place_shown place).device (place_shown place).offset (place_shown place).size old new (Err Memory) h, tt)
+pub copy-refused : (place : Place) (form : WordForm) (old new : Told) (k : FileFault) → IsPathOf form (place_shown place).device
+    → ReadsAt (place_shown place).device (place_shown place).offset (place_shown place).size old new (Err k) → ReadsCopy place old new (Err (read_fault form k))
+copy-refused place form old new Failed is h = (OnlyReads-part (place_shown place).device (place_shown place).offset (place_shown place).size old new (Err Failed) h, is)
+copy-refused place form old new Short is h = (OnlyReads-part (place_shown place).device (place_shown place).offset (place_shown place).size old new (Err Short) h, (is, h.part))
+copy-refused place form old new TooLong is h = absurd h.part
+copy-refused place form old new Memory is h = (OnlyReads-part (place_shown place).device (place_shown place).offset (place_shown place).size old new (Err Memory) h, tt)
 
 -- of the configuration's file
 pub images-unread : (config : List ℕ) (old new : Told) (f : Fault) → ReadsText config old new (Err f) → ReadsImages config old new (Err f)
 images-unread config old new (fault.Config error) h = absurd h.1
 images-unread config old new (fault.Tool error) h = absurd h.1
-images-unread config old new (fault.CannotRead path) h = h
+images-unread config old new (fault.CannotRead path) h = (h.0, inl h.1)
 images-unread config old new (fault.CannotWrite path) h = absurd h.1
 images-unread config old new (fault.FileShort path) h = absurd h.1
 images-unread config old new (fault.FileTooLong path) h = h
@@ -139,14 +139,15 @@ images-unnamed config text old new fault.Memory read h = absurd h
 
 -- of a copy, behind other reads; `named` are the places, of which this is one
 copy-unread : (config text : List ℕ) (place : Place) (named : List PlaceShown) (a b c : Told) (f : Fault) → OnlyReads a b → file_at config a.stored ≡ Some text → places text ≡ Ok named
-    → (IsShort a.stored (place_shown place) → SomeIsShort a.stored named) → ReadsCopy place b c (Err f) → ReadsImages config a c (Err f)
+    → ((IsSo : PlaceShown → Type 0) → IsSo (place_shown place) → OfSome IsSo named) → ReadsCopy place b c (Err f) → ReadsImages config a c (Err f)
 copy-unread config text place named a b c (fault.Config error) reads there is among h = absurd h.1
 copy-unread config text place named a b c (fault.Tool error) reads there is among h = absurd h.1
-copy-unread config text place named a b c (fault.CannotRead path) reads there is among h = (OnlyReads-then a b c reads h.0, tt)
+copy-unread config text place named a b c (fault.CannotRead told) reads there is among h =
+    (OnlyReads-then a b c reads h.0, inr (record { text = text; there = there; says = (named, is, among (λ p. IsPathOf told p.device) h.1) }))
 copy-unread config text place named a b c (fault.CannotWrite path) reads there is among h = absurd h.1
-copy-unread config text place named a b c (fault.FileShort path) reads there is among h =
-    let short : IsShort a.stored (place_shown place) = subst (λ (s : Stored). IsShort s (place_shown place)) reads.stored h.1 in
-    (OnlyReads-then a b c reads h.0, record { text = text; there = there; says = (named, is, among short) })
+copy-unread config text place named a b c (fault.FileShort told) reads there is among h =
+    let short : IsShort a.stored (place_shown place) = subst (λ (s : Stored). IsShort s (place_shown place)) reads.stored h.1.1 in
+    (OnlyReads-then a b c reads h.0, record { text = text; there = there; says = (named, is, among (λ p. IsPathOf told p.device × IsShort a.stored p) (h.1.0, short)) })
 copy-unread config text place named a b c (fault.FileTooLong path) reads there is among h = absurd h.1
 copy-unread config text place named a b c fault.CannotReadInput reads there is among h = absurd h.1
 copy-unread config text place named a b c (fault.NoSuchVariable name) reads there is among h = absurd h.1
@@ -156,11 +157,11 @@ copy-unread config text place named a b c fault.Memory reads there is among h = 
 pub first-unread : (config text : List ℕ) (p : Place) (q : Option Place) (a b c : Told) (f : Fault) → Reads (config, ReadAll) (file_at config a.stored) a b text
     → places text ≡ Ok (place_shown p ∷ second_place q) → ReadsCopy p b c (Err f) → ReadsImages config a c (Err f)
 first-unread config text p q a b c f read is h =
-    copy-unread config text p (place_shown p ∷ second_place q) a b c f (OnlyReads-one config ReadAll a b refl read.calls read.stored) read.found is (λ short. inl short) h
+    copy-unread config text p (place_shown p ∷ second_place q) a b c f (OnlyReads-one config ReadAll a b refl read.calls read.stored) read.found is (λ P so. inl so) h
 
 pub second-unread : (config text : List ℕ) (p : Place) (q : Option Place) (x : StoredCopy) (a b c d : Told) (f : Fault) → Reads (config, ReadAll) (file_at config a.stored) a b text
     → places text ≡ Ok (place_shown p ∷ second_place q) → ReadsCopy p b c (Ok x) → ReadsSecond q c d (Err f) → ReadsImages config a d (Err f)
 second-unread config text p None x a b c d f read is first h = absurd h
 second-unread config text p (Some q) x a b c d f read is first h =
     let reads = OnlyReads-then a b c (OnlyReads-one config ReadAll a b refl read.calls read.stored) (copy-reads p b c (Ok x) first) in
-    copy-unread config text q (place_shown p ∷ place_shown q ∷ []) a c d f reads read.found is (λ short. inr (inl short)) h
+    copy-unread config text q (place_shown p ∷ place_shown q ∷ []) a c d f reads read.found is (λ P so. inr (inl so)) h

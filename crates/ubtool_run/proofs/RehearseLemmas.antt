@@ -63,7 +63,7 @@ rehearses-unread order config list what out old new f h = refused-read order con
 pub rehearses-unlisted : (order : ByteOrder) (config list : List ℕ) (what : RehearseAsk) (out : Sink) (found : List Copy) (x y z : Told) (f : Fault) → HasRead config x y found
     → ReadsText list y z (Err f) → RehearsesFrom order config list what out out x z (Err f)
 rehearses-unlisted order config list what out found x y z f read h =
-    let refused : IsTextFault (file_at list x.stored) f = subst (λ (s : Stored). IsTextFault (file_at list s) f) read.stored h.1 in
+    let refused : IsTextFault list (file_at list x.stored) f = subst (λ (s : Stored). IsTextFault list (file_at list s) f) read.stored h.1 in
     refused-read order config list what out x z f (OnlyReads-then x y z (found-reads config x y found read) h.0, inr (record { found = found; after_images = y; read = read; refused = refused }))
 
 -- ---- the rehearsal of what was read

@@ -78,8 +78,10 @@ pub sets-written : (order : ByteOrder) (config : List ℕ) (change : Change) (fo
     → HasRead config x y found → Edits order change found y z (Ok (which, bytes)) → WritesCopy which found bytes.items z w r → Sets order config change x w r
 sets-written order config change found which bytes x y z w (Ok done) read made h =
     record { found = found; which = which; bytes = bytes.items; after_images = y; read = read; after_change = z; edited = made; safe = changed-safe order change found y z which bytes.items made; written = h }
-sets-written order config change found which bytes x y z w (Err (fault.CannotWrite path)) read made h =
-    record { found = found; which = which; bytes = bytes.items; after_images = y; read = read; after_change = z; edited = made; safe = changed-safe order change found y z which bytes.items made; written = h }
+sets-written order config change found which bytes x y z w (Err (fault.CannotWrite told)) read made h = record {
+  tried = record { found = found; which = which; bytes = bytes.items; after_images = y; read = read; after_change = z; edited = made; safe = changed-safe order change found y z which bytes.items made; written = h.tried };
+  path = h.path;
+}
 sets-written order config change found which bytes x y z w (Err fault.Memory) read made h =
     (OnlyReads-then x z w (OnlyReads-then x y z (found-reads config x y found read) (edit-reads order change found y z which bytes.items made)) h, tt)
 sets-written order config change found which bytes x y z w (Err (fault.Config error)) read made h = absurd h

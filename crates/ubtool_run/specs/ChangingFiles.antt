@@ -15,6 +15,7 @@ use Rattle.ubtool_core.specs.declared.change.Edit.{Edit}
 use Rattle.ubtool_core.specs.declared.change.Edit.TheVariants as edit
 use Rattle.ubtool_core.specs.declared.error.ToolError.{ToolError}
 use Rattle.ubtool_core.specs.declared.error.ToolError.TheVariants.{Memory, Write}
+use Rattle.ubtool_core.specs.FileFaults.{IsPathOf}
 use Rattle.ubtool_core.specs.declared.fault.Fault.{Fault}
 use Rattle.ubtool_core.specs.declared.fault.Fault.TheVariants.{CannotWrite, Tool}
 use Rattle.ubtool_core.specs.declared.fault.Fault.TheVariants as faults
@@ -22,6 +23,7 @@ use Rattle.ubtool_files.specs.declared.files.Action.{Action}
 use Rattle.ubtool_files.specs.declared.files.Action.TheVariants.{ReadAll}
 use Rattle.ubtool_files.specs.declared.files.FileFault.{FileFault}
 use Rattle.ubtool_files.specs.declared.files.FileFault.TheVariants.{Failed}
+use Rattle.ubtool_core.specs.declared.word_form.WordForm.{WordForm}
 use Rattle.ubtool_run.specs.Images.{Copy, HasRead, IsImagesFault}
 use Rattle.ubtool_run.specs.PrintingFiles.{first_bytes, second_bytes}
 use Rattle.ubtool_run.specs.ReadingFiles.{IsTextFault}
@@ -75,7 +77,8 @@ pub record IsUnmade (order : ByteOrder) (change : Change) (found : List Copy) (s
 abbrev pub IsChangeFault : ByteOrder → Change → List Copy → Stored → Fault → Type 0
 IsChangeFault order change found stored (Tool error) = IsUnmade order change found stored error
 IsChangeFault order (One name words) found stored fault = fault ≡ faults.Memory
-IsChangeFault order (Script path) found stored fault = IsTextFault (file_at (string_bytes path) stored) fault
+IsChangeFault order (Script path) found stored fault =
+    IsTextFault (string_bytes path) (file_at (string_bytes path) stored) fault
 
 -- the change was made, or refused, and files were only read
 abbrev pub Edits : ByteOrder → Change → List Copy → Told → Told → Result (Which × Vec ℕ Global) Fault → Type 0
@@ -96,10 +99,16 @@ pub record WritesIn (which : Which) (found : List Copy) (bytes : List ℕ) (old 
   pub there : IsPlaceOf which found place
   pub writes : WritesAt place.device place.offset bytes old new answer
 
--- one write in the place of the copy, done or failed; or none, for want of memory
+-- That write failed, and the fault names the device.
+pub record FailsToWrite (which : Which) (found : List Copy) (bytes : List ℕ) (old new : Told) (told : WordForm) :
+    Type 0 where
+  pub tried : WritesIn which found bytes old new (Err Failed)
+  pub path : IsPathOf told tried.place.device
+
+-- one write in the place of the copy, done or failed; or none, if memory ran out
 abbrev pub WritesCopy : Which → List Copy → List ℕ → Told → Told → Result (Unit {0}) Fault → Type 0
 WritesCopy which found bytes old new (Ok done) = WritesIn which found bytes old new (Ok done)
-WritesCopy which found bytes old new (Err (CannotWrite path)) = WritesIn which found bytes old new (Err Failed)
+WritesCopy which found bytes old new (Err (CannotWrite told)) = FailsToWrite which found bytes old new told
 WritesCopy which found bytes old new (Err faults.Memory) = OnlyReads old new
 WritesCopy which found bytes old new (Err fault) = ⊥
 
@@ -116,6 +125,12 @@ pub record HasSet (order : ByteOrder) (config : List ℕ) (change : Change) (old
   pub edited : HasEdited order change found after_images after_change which bytes
   pub safe : IsSafe order (first_bytes found) (second_bytes found) which bytes
   pub written : WritesIn which found bytes after_change new answer
+
+-- That write was tried and failed, and the fault names the device.
+pub record HasNotWritten (order : ByteOrder) (config : List ℕ) (change : Change) (old new : Told) (told : WordForm) :
+    Type 0 where
+  pub tried : HasSet order config change old new (Err Failed)
+  pub path : IsPathOf told tried.written.place.device
 
 -- The images were read, and the change of them is refused for this.
 pub record IsRefusedChange (order : ByteOrder) (config : List ℕ) (change : Change) (old : Told) (fault : Fault) : Type
@@ -134,5 +149,5 @@ IsSetFault order config change old fault = IsImagesFault config old.stored fault
 -- the change was written; or its write failed; or it was refused, and files were only read
 abbrev pub Sets : ByteOrder → List ℕ → Change → Told → Told → Result (Unit {0}) Fault → Type 0
 Sets order config change old new (Ok done) = HasSet order config change old new (Ok done)
-Sets order config change old new (Err (CannotWrite path)) = HasSet order config change old new (Err Failed)
+Sets order config change old new (Err (CannotWrite told)) = HasNotWritten order config change old new told
 Sets order config change old new (Err fault) = OnlyReads old new × IsSetFault order config change old fault

@@ -7,6 +7,7 @@ use Rattle.envimage.specs.declared.config.ConfigError.{ConfigError}
 use Rattle.envimage.specs.declared.config.Place.{Place}
 use Rattle.ubtool_files.specs.CallOrder.{OnlyReads}
 use Rattle.ubtool_files.specs.Told.{Stored, Told, file_at, read_limit}
+use Rattle.ubtool_core.specs.FileFaults.{IsPathOf}
 use Rattle.ubtool_core.specs.declared.fault.Fault.{Fault}
 use Rattle.ubtool_core.specs.declared.fault.Fault.TheVariants.{CannotRead, Config, FileShort, FileTooLong, Memory}
 use Rattle.ubtool_files.specs.declared.files.Action.TheVariants.{ReadAll}
@@ -57,10 +58,10 @@ pub record HasRead (config : List ℕ) (old new : Told) (found : List Copy) : Ty
   pub calls : new.calls ≡ old.calls ++ (config, ReadAll) ∷ map (λ c. read_of c.0) found
   pub stored : new.stored ≡ old.stored
 
--- the file of one of these places is too short
-abbrev pub SomeIsShort : Stored → List PlaceShown → Type 0
-SomeIsShort stored [] = ⊥
-SomeIsShort stored (place ∷ more) = IsShort stored place ⊎ SomeIsShort stored more
+-- this holds of one of the places
+abbrev pub OfSome : (PlaceShown → Type 0) → List PlaceShown → Type 0
+OfSome IsSo [] = ⊥
+OfSome IsSo (place ∷ more) = IsSo place ⊎ OfSome IsSo more
 
 -- The configuration's text is there, and says this.
 pub record FromConfig (config : List ℕ) (stored : Stored) (Says : Result (List PlaceShown) ConfigError →
@@ -69,15 +70,22 @@ pub record FromConfig (config : List ℕ) (stored : Stored) (Says : Result (List
   pub there : file_at config stored ≡ Some text
   pub says : Says (places text)
 
+-- the configuration names a place of which this holds
+abbrev pub NamesOne : (config : List ℕ) → Stored → (PlaceShown → Type 0) → Type 0
+NamesOne config stored IsSo =
+    FromConfig config stored (λ answer. (named : List PlaceShown) × (answer ≡ Ok named) × OfSome IsSo named)
+
 -- why images may be refused: a file fails, or memory; the configuration is too long or refused; or the
--- file of a place is too short
+-- file of a place is too short. The fault names the file.
 abbrev pub IsImagesFault : List ℕ → Stored → Fault → Type 0
-IsImagesFault config stored (CannotRead path) = Unit {0}
+IsImagesFault config stored (CannotRead told) =
+    IsPathOf told config ⊎ NamesOne config stored (λ place. IsPathOf told place.device)
 IsImagesFault config stored Memory = Unit {0}
-IsImagesFault config stored (FileTooLong path) = IsSomeAnd (file_at config stored) (λ all. read_limit < length all)
+IsImagesFault config stored (FileTooLong told) =
+    IsPathOf told config × IsSomeAnd (file_at config stored) (λ all. read_limit < length all)
 IsImagesFault config stored (Config error) = FromConfig config stored (λ answer. AnswersPlaces answer (Err error))
-IsImagesFault config stored (FileShort path) =
-    FromConfig config stored (λ answer. (named : List PlaceShown) × (answer ≡ Ok named) × SomeIsShort stored named)
+IsImagesFault config stored (FileShort told) =
+    NamesOne config stored (λ place. IsPathOf told place.device × IsShort stored place)
 IsImagesFault config stored _ = ⊥
 
 -- the images were read, or refused, and files were only read

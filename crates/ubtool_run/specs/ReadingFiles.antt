@@ -7,6 +7,7 @@ use Rattle.envimage.specs.Place.{place_shown}
 use Rattle.envimage.specs.declared.config.Place.{Place}
 use Rattle.ubtool_files.specs.CallOrder.{OnlyReads}
 use Rattle.ubtool_files.specs.Told.{Stored, Told, file_at, read_limit}
+use Rattle.ubtool_core.specs.FileFaults.{IsPathOf}
 use Rattle.ubtool_core.specs.declared.fault.Fault.{Fault}
 use Rattle.ubtool_core.specs.declared.fault.Fault.TheVariants.{CannotRead, FileShort, FileTooLong, Memory}
 use Rattle.ubtool_files.specs.declared.files.Action.{Action}
@@ -30,28 +31,28 @@ pub record Reads (call : List ℕ × Action) (there : Option (List ℕ)) (old ne
   pub calls : new.calls ≡ old.calls ++ call ∷ []
   pub stored : new.stored ≡ old.stored
 
--- why a whole file may be refused, from what stands in it
-abbrev pub IsTextFault : Option (List ℕ) → Fault → Type 0
-IsTextFault file (CannotRead path) = Unit {0}
-IsTextFault file (FileTooLong path) = IsSomeAnd file (λ all. read_limit < length all)
-IsTextFault file Memory = Unit {0}
-IsTextFault file _ = ⊥
+-- why a whole file may be refused, from what it holds; the fault names its path
+abbrev pub IsTextFault : (path : List ℕ) → Option (List ℕ) → Fault → Type 0
+IsTextFault path file (CannotRead told) = IsPathOf told path
+IsTextFault path file (FileTooLong told) = IsPathOf told path × IsSomeAnd file (λ all. read_limit < length all)
+IsTextFault path file Memory = Unit {0}
+IsTextFault path file _ = ⊥
 
 -- the file of a place ends before the place does
 abbrev pub IsShort : Stored → PlaceShown → Type 0
 IsShort stored place = IsSomeAnd (file_at place.device stored) (λ all. length all < place.offset + place.size)
 
--- why a copy may be refused
+-- why a copy may be refused; the fault names its device
 abbrev pub IsCopyFault : Stored → PlaceShown → Fault → Type 0
-IsCopyFault stored place (CannotRead path) = Unit {0}
-IsCopyFault stored place (FileShort path) = IsShort stored place
+IsCopyFault stored place (CannotRead told) = IsPathOf told place.device
+IsCopyFault stored place (FileShort told) = IsPathOf told place.device × IsShort stored place
 IsCopyFault stored place Memory = Unit {0}
 IsCopyFault stored place _ = ⊥
 
 -- a whole file was read, or refused
 abbrev pub ReadsText : List ℕ → Told → Told → Result (Vec ℕ Global) Fault → Type 0
 ReadsText path old new (Ok text) = Reads (path, ReadAll) (file_at path old.stored) old new text.items
-ReadsText path old new (Err fault) = OnlyReads old new × IsTextFault (file_at path old.stored) fault
+ReadsText path old new (Err fault) = OnlyReads old new × IsTextFault path (file_at path old.stored) fault
 
 -- a copy was read, or refused
 abbrev pub ReadsCopy : Place → Told → Told → Result StoredCopy Fault → Type 0

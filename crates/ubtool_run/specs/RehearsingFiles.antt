@@ -71,7 +71,7 @@ pub record IsUnlisted (config device_list : List ℕ) (old : Told) (fault : Faul
   pub found : List Copy
   pub after_images : Told
   pub read : HasRead config old after_images found
-  pub refused : IsTextFault (file_at device_list old.stored) fault
+  pub refused : IsTextFault device_list (file_at device_list old.stored) fault
 
 -- The images and the device list were read, and the whole listing was written; or the rehearsal is refused, the fault
 -- told by what the words said; or a read is refused, and files were only read. Where memory runs out while they are

@@ -1,7 +1,7 @@
 //! The whole program.
 ghost use Rattle.std.specs.Prelude.{◌≡◌, ◌<◌, ◌≤◌, [], length, map};
 ghost use Rattle.envimage.specs.Sink.{Wrote};
-ghost use Rattle.ubtool_core.specs.Input.{PrintsInput};
+ghost use Rattle.ubtool_core.specs.Input.{PrintsInput, RefusesInput};
 ghost use Rattle.ubtool_core.specs.PrintingImages.{outputs};
 ghost use Rattle.ubtool_cli.specs.CommandAnswers.{Answers};
 ghost use Rattle.ubtool_run.specs.Performing.{Does};
@@ -63,6 +63,7 @@ pub fn run_tool<S: AsStr, R: Read, F: Files, O: Out, E: Out>(
     ensures status { result ≤ 2 }
     ensures printed { length words.now ≡ 0 → result ≡ 0 → PrintsInput (R.remaining input.old) (O.sink out.old) (O.sink out.new) }
     ensures quiet { length words.now ≡ 0 → result ≡ 0 → Wrote (E.sink err.old) (E.sink err.new) [] }
+    ensures refused_input { length words.now ≡ 0 → result ≡ 1 → RefusesInput (R.remaining input.old) (O.sink out.old) (O.sink out.new) }
     ensures untouched { length words.now ≡ 0 → (F.told files.new ≡ F.told files.old) × (F.faults files.new ≡ F.faults files.old) }
     ensures done { 0 < length words.now → result ≡ 0 → HasDone Answers Does (map S.text words.now) (files_shown F.Files files.old) (files_shown F.Files files.new)
         (outputs (O.sink out.old) (O.sink out.new) (E.sink err.old) (E.sink err.new)) }
