@@ -1,5 +1,5 @@
 -- Reading, changing and writing one after another.
-use Rattle.std.proofs.Common.{◌≡◌, ℕ, true, refl, subst, List, Ok, Err, inl, inr}
+use Rattle.std.proofs.Common.{◌≡◌, ◌∙◌, ℕ, true, refl, sym, subst, List, [], Ok, Err, inl, inr, append-nil}
 use Rattle.std.specs.Prelude.{Result, Vec}
 use Rattle.std.specs.declared.alloc.Global.{Global}
 use Rattle.envimage.specs.declared.image.ByteOrder.{ByteOrder}
@@ -10,14 +10,18 @@ use Rattle.ubtool_files.proofs.OrderLemmas.{OnlyReads-then}
 use Rattle.ubtool_core.proofs.SettingLemmas.{set-safe}
 use Rattle.ubtool_files.specs.CallOrder.{OnlyReads, are_reads}
 use Rattle.ubtool_core.specs.ChangingImages.{IsSafe}
-use Rattle.ubtool_files.specs.Told.{Stored, Told}
+use Rattle.ubtool_files.specs.Told.{Stored, Told, WritesAt}
+use Rattle.ubtool_files.specs.declared.files.FileFault.{FileFault}
+use Rattle.ubtool_files.specs.declared.files.FileFault.TheVariants as file
+use Rattle.envimage.specs.Config.{PlaceShown}
+use Rattle.ubtool_core.specs.FileFaults.{IsPathOf, written_fault}
 use Rattle.ubtool_core.specs.declared.fault.Fault.{Fault}
 use Rattle.ubtool_core.specs.declared.fault.Fault.TheVariants as fault
 use Rattle.ubtool_core.specs.declared.word_form.WordForm.{WordForm}
 use Rattle.ubtool_run.proofs.ReadingLemmas.{found-reads}
 use Rattle.ubtool_run.specs.Images.{Copy, HasRead, ReadsImages}
 use Rattle.ubtool_run.specs.PrintingFiles.{first_bytes, second_bytes}
-use Rattle.ubtool_run.specs.ChangingFiles.{Edits, HasEdited, IsChangeFault, IsRefusedChange, Sets, WritesCopy, reads_of}
+use Rattle.ubtool_run.specs.ChangingFiles.{Edits, HasEdited, IsChangeFault, IsPlaceOf, IsRefusedChange, Sets, WritesCopy, reads_of}
 
 -- a change that was made only reads
 pub edit-reads : (order : ByteOrder) (change : Change) (found : List Copy) (old new : Told) (which : Which) (bytes : List ℕ) → HasEdited order change found old new which bytes
@@ -67,6 +71,14 @@ sets-refused order config change found x y z fault.CannotReadInput read h = let 
 sets-refused order config change found x y z (fault.NoSuchVariable name) read h = let c = refused-change order config change found x y z (fault.NoSuchVariable name) read h in (c.0, inr c.1)
 sets-refused order config change found x y z (fault.NotARun word) read h = let c = refused-change order config change found x y z (fault.NotARun word) read h in (c.0, inr c.1)
 sets-refused order config change found x y z fault.Memory read h = (OnlyReads-then x y z (found-reads config x y found read) h.0, tt)
+
+-- a write of the copy that was refused
+pub write-refused : (which : Which) (found : List Copy) (bytes : List ℕ) (place : PlaceShown) (form : WordForm) (old new : Told) (k : FileFault) → IsPlaceOf which found place → IsPathOf form place.device
+    → WritesAt place.device place.offset bytes old new (Err k) → WritesCopy which found bytes old new (Err (written_fault form k))
+write-refused which found bytes place form old new file.Failed there is h = record { tried = record { place = place; there = there; writes = h }; path = is }
+write-refused which found bytes place form old new file.Short there is h = absurd h.stored
+write-refused which found bytes place form old new file.TooLong there is h = absurd h.stored
+write-refused which found bytes place form old new file.Memory there is h = record { reads = []; calls = h.calls ∙ sym (append-nil old.calls); all = refl; stored = h.stored }
 
 -- the bytes of a change that was made, written in part
 changed-safe : (order : ByteOrder) (change : Change) (found : List Copy) (old new : Told) (which : Which) (bytes : List ℕ) → HasEdited order change found old new which bytes
