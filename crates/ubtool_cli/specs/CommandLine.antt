@@ -61,38 +61,53 @@ subcommand name = with_rule (with_rule (new_app name) config) big_endian
 abbrev pub no_header : Rule
 no_header = record (lettered_flag (codes "noheader") (letter (codes "n"))) { aliases = codes "no-header" ∷ [] }
 
+-- `[NAME]..`, of variables
+abbrev pub names : Rule
+names = many (codes "names")
+
 abbrev pub printenv : App
-printenv = with_rule
-    (with_rule (subcommand (codes "printenv")) no_header)
-    (many (codes "names"))
+printenv = with_rule (with_rule (subcommand (codes "printenv")) no_header) names
+
+-- `-s FILE`, `[NAME]` and `[VALUE]..`
+abbrev pub script : Rule
+script = lettered_option (codes "script") (letter (codes "s"))
+
+abbrev pub name : Rule
+name = one (codes "name")
+
+abbrev pub values : Rule
+values = many (codes "values")
 
 abbrev pub setenv : App
-setenv = with_rule
-    (with_rule
-    (with_rule (subcommand (codes "setenv")) (lettered_option (codes "script") (letter (codes "s"))))
-    (one (codes "name")))
-    (many (codes "values"))
+setenv = with_rule (with_rule (with_rule (subcommand (codes "setenv")) script) name) values
 
 -- `-d FILE`, which no call leaves out
 abbrev pub device_list : Rule
 device_list = record (lettered_option (codes "device-list") (letter (codes "d"))) { required = true }
 
+-- `-b NAME`, and the two bounds
+abbrev pub variable : Rule
+variable = lettered_option (codes "variable") (letter (codes "b"))
+
+abbrev pub devices : Rule
+devices = number_option (codes "devices") 0 most_devices
+
+abbrev pub steps : Rule
+steps = number_option (codes "steps") 0 most_steps
+
 abbrev pub rehearse_options : App
-rehearse_options = with_rule
-    (with_rule
-    (with_rule
-    (with_rule (subcommand (codes "rehearse")) device_list)
-    (lettered_option (codes "variable") (letter (codes "b"))))
-    (number_option (codes "devices") 0 most_devices))
-    (number_option (codes "steps") 0 most_steps)
+rehearse_options =
+    with_rule (with_rule (with_rule (with_rule (subcommand (codes "rehearse")) device_list) variable) devices) steps
+
+-- where the listing begins, and how many records it has
+abbrev pub after : Rule
+after = long_option (codes "after")
+
+abbrev pub limit : Rule
+limit = number_option (codes "limit") 1 most_records
 
 abbrev pub rehearse : App
-rehearse = with_rule
-    (with_rule
-    (with_rule rehearse_options
-    (long_option (codes "after")))
-    (number_option (codes "limit") 1 most_records))
-    (many (codes "names"))
+rehearse = with_rule (with_rule (with_rule rehearse_options after) limit) names
 
 -- the program, which has no words of its own; its version can be asked for at each subcommand too
 abbrev pub base : App

@@ -1,7 +1,7 @@
 //! The command line that `clap` is given.
 ghost use Rattle.std.specs.Prelude.{◌≡◌, IfOk, false};
-ghost use Rattle.clap.specs.Words.{rule_of};
-ghost use Rattle.ubtool_cli.specs.CommandLine.{device_list, lettered_flag, lettered_option, long_flag, long_option, many, no_header, number_option, one, printenv, rehearse, rehearse_options, setenv, subcommand, ubtool};
+ghost use Rattle.clap.specs.Words.{new_app, rule_of};
+ghost use Rattle.ubtool_cli.specs.CommandLine.{after, base, big_endian, config, device_list, devices, lettered_flag, lettered_option, limit, long_flag, long_option, many, name, names, no_header, number_option, one, printenv, rehearse, rehearse_options, script, setenv, steps, subcommand, ubtool, values, variable};
 ghost use Rattle.ubtool_cli.specs.Made.{IsMade};
 
 use crate::ask::VERSION;
@@ -126,6 +126,31 @@ pub fn many<'a>(alloc: Global, id: &'a str, value: &'a str) -> Arg<'a>
     one(alloc, id, value).action(ArgAction::Append)
 }
 
+/// The option that names the configuration.
+pub fn config_option<'a>(alloc: Global) -> Arg<'a>
+    ensures rule { rule_of result ≡ config }
+    ensures local { result.global ≡ false }
+{
+    lettered_option(alloc, "config", 'c', "FILE").help(
+        "Configuration, at most 1048576 bytes [default: /etc/fw_env.config]",
+    )
+}
+
+/// The flag for a checksum that is stored big-endian.
+pub fn big_endian_flag<'a>(alloc: Global) -> Arg<'a>
+    ensures rule { rule_of result ≡ big_endian }
+    ensures local { result.global ≡ false }
+{
+    long_flag(alloc, "big-endian").help("The CRC is stored big-endian [default: little-endian]")
+}
+
+/// A command with its texts and no arguments.
+fn described<'a>(alloc: Global, name: &'a str, about: &'a str, notes: &'a str) -> Command<'a>
+    ensures { IsMade (new_app name.entry.now) result }
+{
+    Command::new(alloc, name).about(about).after_help(notes)
+}
+
 /// A subcommand, with the two options that all of them have.
 fn subcommand<'a>(
     alloc: Global,
@@ -135,17 +160,10 @@ fn subcommand<'a>(
 ) -> Result<Command<'a>, AllocError>
     ensures { IfOk result (IsMade (subcommand name.entry.now)) }
 {
-    let config = lettered_option(alloc, "config", 'c', "FILE").help(
-        "Configuration, at most 1048576 bytes [default: /etc/fw_env.config]",
-    );
-    let order = long_flag(alloc, "big-endian").help(
-        "The CRC is stored big-endian [default: little-endian]",
-    );
-    Command::new(alloc, name)
-        .about(about)
-        .after_help(notes)
-        .arg(config)?
-        .arg(order)
+    let command = described(alloc, name, about, notes);
+    let config = config_option(alloc);
+    let order = big_endian_flag(alloc);
+    command.arg(config)?.arg(order)
 }
 
 /// The flag for a value without its name, which has a second long name.
@@ -157,41 +175,67 @@ fn no_header<'a>(alloc: Global) -> Result<Arg<'a>, AllocError>
         .alias("no-header")
 }
 
+/// The words that name variables.
+fn names<'a>(alloc: Global, help: &'a str) -> Arg<'a>
+    ensures rule { rule_of result ≡ names }
+    ensures local { result.global ≡ false }
+{
+    many(alloc, "names", "NAME").help(help)
+}
+
 fn printenv<'a>(alloc: Global) -> Result<Command<'a>, AllocError>
     ensures { IfOk result (IsMade printenv) }
 {
-    let names = many(alloc, "names", "NAME").help(
+    let header = no_header(alloc)?;
+    let names = names(
+        alloc,
         "Variables to print, in this order [default: all of the image]",
     );
-    subcommand(
+    let command = subcommand(
         alloc,
         "printenv",
         "Print variables of the environment",
         PRINTENV_NOTES,
-    )?
-    .arg(no_header(alloc)?)?
-    .arg(names)
+    )?;
+    command.arg(header)?.arg(names)
+}
+
+fn script<'a>(alloc: Global) -> Arg<'a>
+    ensures rule { rule_of result ≡ script }
+    ensures local { result.global ≡ false }
+{
+    lettered_option(alloc, "script", 's', "FILE").help(
+        "Script of changes, at most 1048576 bytes [default: none, NAME instead]",
+    )
+}
+
+fn name<'a>(alloc: Global) -> Arg<'a>
+    ensures rule { rule_of result ≡ name }
+    ensures local { result.global ≡ false }
+{
+    one(alloc, "name", "NAME").help("Variable to set or delete")
+}
+
+fn values<'a>(alloc: Global) -> Arg<'a>
+    ensures rule { rule_of result ≡ values }
+    ensures local { result.global ≡ false }
+{
+    many(alloc, "values", "VALUE").help("Its new value [default: delete the variable]")
 }
 
 fn setenv<'a>(alloc: Global) -> Result<Command<'a>, AllocError>
     ensures { IfOk result (IsMade setenv) }
 {
-    let script = lettered_option(alloc, "script", 's', "FILE").help(
-        "Script of changes, at most 1048576 bytes [default: none, NAME instead]",
-    );
-    let name = one(alloc, "name", "NAME").help("Variable to set or delete");
-    let values = many(alloc, "values", "VALUE").help(
-        "Its new value [default: delete the variable]",
-    );
-    subcommand(
+    let script = script(alloc);
+    let name = name(alloc);
+    let values = values(alloc);
+    let command = subcommand(
         alloc,
         "setenv",
         "Set or delete variables of the environment",
         SETENV_NOTES,
-    )?
-    .arg(script)?
-    .arg(name)?
-    .arg(values)
+    )?;
+    command.arg(script)?.arg(name)?.arg(values)
 }
 
 fn device_list<'a>(alloc: Global) -> Arg<'a>
@@ -203,59 +247,105 @@ fn device_list<'a>(alloc: Global) -> Arg<'a>
         .help("Device list, at most 1048576 bytes: a command that may fail a line; required")
 }
 
+fn variable<'a>(alloc: Global) -> Arg<'a>
+    ensures rule { rule_of result ≡ variable }
+    ensures local { result.global ≡ false }
+{
+    lettered_option(alloc, "variable", 'b', "NAME").help(
+        "Variable whose text is run [default: bootcmd]",
+    )
+}
+
+fn devices<'a>(alloc: Global) -> Arg<'a>
+    ensures rule { rule_of result ≡ devices }
+    ensures local { result.global ≡ false }
+{
+    number_option(alloc, "devices", 0, DEVICES_MAX).help(
+        "At most N device commands a run, 0 to 32 [default: 16]",
+    )
+}
+
+fn steps<'a>(alloc: Global) -> Arg<'a>
+    ensures rule { rule_of result ≡ steps }
+    ensures local { result.global ≡ false }
+{
+    number_option(alloc, "steps", 0, STEPS_MAX).help(
+        "At most N steps (commands begun) a run, 0 to 1000000 [default: 10000]",
+    )
+}
+
 fn rehearse_options<'a>(alloc: Global) -> Result<Command<'a>, AllocError>
     ensures { IfOk result (IsMade rehearse_options) }
 {
-    let variable = lettered_option(alloc, "variable", 'b', "NAME").help(
-        "Variable whose text is run [default: bootcmd]",
-    );
-    let devices = number_option(alloc, "devices", 0, DEVICES_MAX).help(
-        "At most N device commands a run, 0 to 32 [default: 16]",
-    );
-    let steps = number_option(alloc, "steps", 0, STEPS_MAX).help(
-        "At most N steps (commands begun) a run, 0 to 1000000 [default: 10000]",
-    );
-    subcommand(
+    let list = device_list(alloc);
+    let variable = variable(alloc);
+    let devices = devices(alloc);
+    let steps = steps(alloc);
+    let command = subcommand(
         alloc,
         "rehearse",
         "List every run of a boot script",
         REHEARSE_NOTES,
-    )?
-    .arg(device_list(alloc))?
-    .arg(variable)?
-    .arg(devices)?
-    .arg(steps)
+    )?;
+    command.arg(list)?.arg(variable)?.arg(devices)?.arg(steps)
+}
+
+fn after<'a>(alloc: Global) -> Arg<'a>
+    ensures rule { rule_of result ≡ after }
+    ensures local { result.global ≡ false }
+{
+    long_option(alloc, "after", "WORD").help(
+        "Begin after the run of WORD, . for the empty one [default: the first]",
+    )
+}
+
+fn limit<'a>(alloc: Global) -> Arg<'a>
+    ensures rule { rule_of result ≡ limit }
+    ensures local { result.global ≡ false }
+{
+    number_option(alloc, "limit", 1, u32::MAX).help(
+        "At most N records, 1 to 4294967295 [default: all]",
+    )
 }
 
 fn rehearse<'a>(alloc: Global) -> Result<Command<'a>, AllocError>
     ensures { IfOk result (IsMade rehearse) }
 {
-    let after = long_option(alloc, "after", "WORD").help(
-        "Begin after the run of WORD, . for the empty one [default: the first]",
-    );
-    let limit = number_option(alloc, "limit", 1, u32::MAX).help(
-        "At most N records, 1 to 4294967295 [default: all]",
-    );
-    let names = many(alloc, "names", "NAME").help(
+    let after = after(alloc);
+    let limit = limit(alloc);
+    let names = names(
+        alloc,
         "Variables to list after each run, in this order [default: all]",
     );
-    rehearse_options(alloc)?.arg(after)?.arg(limit)?.arg(names)
+    let command = rehearse_options(alloc)?;
+    command.arg(after)?.arg(limit)?.arg(names)
 }
 
-/// The program's command line.
-pub(crate) fn ubtool<'a>(alloc: Global) -> Result<Command<'a>, AllocError>
-    ensures { IfOk result (IsMade ubtool) }
+/// The program, without its subcommands.
+fn base<'a>(alloc: Global) -> Result<Command<'a>, AllocError>
+    ensures { IfOk result (IsMade base) }
 {
     Command::new(alloc, "ubtool")
         .about("Print and change U-Boot environments, and rehearse their boot scripts")
         .after_help(UBTOOL_NOTES)
         .version(VERSION)
         .propagate_version(true)
-        .bin_name("ubtool")?
         .no_binary_name(true)
         .subcommand_required(true)
         .disable_help_subcommand(true)
-        .subcommand(printenv(alloc)?)?
-        .subcommand(setenv(alloc)?)?
-        .subcommand(rehearse(alloc)?)
+        .bin_name("ubtool")
+}
+
+/// The program's command line.
+pub(crate) fn ubtool<'a>(alloc: Global) -> Result<Command<'a>, AllocError>
+    ensures { IfOk result (IsMade ubtool) }
+{
+    let command = base(alloc)?;
+    let printenv = printenv(alloc)?;
+    let setenv = setenv(alloc)?;
+    let rehearse = rehearse(alloc)?;
+    command
+        .subcommand(printenv)?
+        .subcommand(setenv)?
+        .subcommand(rehearse)
 }

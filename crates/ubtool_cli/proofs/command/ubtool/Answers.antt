@@ -1,13 +1,9 @@
-use Rattle.std.proofs.Common.{rules}
 use Rattle.std.proofs.lemmas.Result.{IfOk-weaker}
-use Rattle.ubtool_cli.specs.CommandLine.{base}
-use Rattle.ubtool_cli.specs.Made.{IsMade}
 use Rattle.ubtool_cli.proofs.MadeLemmas.{made_above}
 use Rattle.ubtool_cli.proofs.command.ubtool.Goals as goal
 
 pub returns : goal.returns
 returns c =
-    let start : IsMade base c.disable_help_subcommand.result = search rules in
-    let first = made_above _ _ _ _ _ start c.in_ok-printenv.ensures c.in_ok-subcommand.ensures in
+    let first = made_above _ _ _ _ _ c.in_ok-command.ensures c.in_ok-printenv.ensures c.in_ok-subcommand.ensures in
     let second = made_above _ _ _ _ _ first c.in_ok-setenv.ensures c.in_ok-subcommand-2.ensures in
     IfOk-weaker c.subcommand-3.result _ _ (λ new adds. made_above _ _ _ _ _ second c.in_ok-rehearse.ensures adds) c.subcommand-3.ensures

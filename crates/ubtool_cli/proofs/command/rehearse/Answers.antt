@@ -1,0 +1,9 @@
+use Rattle.std.proofs.lemmas.Result.{IfOk-weaker}
+use Rattle.ubtool_cli.proofs.MadeLemmas.{made_with}
+use Rattle.ubtool_cli.proofs.command.rehearse.Goals as goal
+
+pub returns : goal.returns
+returns c =
+    let first = made_with _ _ _ _ _ c.in_ok-command.ensures c.after-after.ensures.rule c.after-after.ensures.local c.in_ok-arg.ensures in
+    let second = made_with _ _ _ _ _ first c.limit-limit.ensures.rule c.limit-limit.ensures.local c.in_ok-arg-2.ensures in
+    IfOk-weaker c.arg-3.result _ _ (λ new adds. made_with _ _ _ _ _ second c.names-names.ensures.rule c.names-names.ensures.local adds) c.arg-3.ensures
