@@ -1,13 +1,28 @@
 # Completion of hushcheck for bash: options, files, and the names of variables that the configuration on the command line,
 # or /etc/fw_env.config, leads to, as ubtool prints them.
 
+# _hushcheck_line: the words up to the one that is completed, in `line`. Bash cuts at the `=` of `--config=FILE`; here the
+# option and its value are two words.
+_hushcheck_line() {
+    local number
+    line=()
+    for ((number = 0; number <= COMP_CWORD; number++)); do
+        if [[ ${COMP_WORDS[number]} != = || ${COMP_WORDS[number - 1]} != --?* ]]; then
+            line+=("${COMP_WORDS[number]}")
+        elif [ "$number" = "$COMP_CWORD" ]; then
+            line+=('')
+        fi
+    done
+    last=$((${#line[@]} - 1))
+}
+
 # _hushcheck_names: the names of the variables.
 _hushcheck_names() {
     local from=() number
-    for ((number = 1; number < COMP_CWORD; number++)); do
-        case ${COMP_WORDS[number]} in
+    for ((number = 1; number < last; number++)); do
+        case ${line[number]} in
             --) break ;;
-            -c | --config) from+=(-c "${COMP_WORDS[number + 1]}") ;;
+            -c | --config) from+=(-c "${line[number + 1]}") ;;
             --big-endian) from+=(--big-endian) ;;
         esac
     done
@@ -15,12 +30,14 @@ _hushcheck_names() {
 }
 
 _hushcheck() {
-    local word=${COMP_WORDS[COMP_CWORD]} options='-c --config --big-endian -h --help -V --version' words number
+    local options='-c --config --big-endian -h --help -V --version' line last word words number
+    _hushcheck_line
+    word=${line[last]}
     COMPREPLY=()
-    for ((number = 1; number < COMP_CWORD; number++)); do
-        [ "${COMP_WORDS[number]}" != -- ] || options=''
+    for ((number = 1; number < last; number++)); do
+        [ "${line[number]}" != -- ] || options=''
     done
-    if [[ -n $options && ${COMP_WORDS[COMP_CWORD - 1]} =~ ^(-c|--config)$ ]]; then
+    if [[ -n $options && ${line[last - 1]} =~ ^(-c|--config)$ ]]; then
         compopt -o filenames 2>/dev/null
         mapfile -t COMPREPLY < <(compgen -f -- "$word")
         return

@@ -1,13 +1,28 @@
 # Completion of ubtool for bash: subcommands, options, files, and the names of variables that the configuration on the
 # command line, or /etc/fw_env.config, leads to.
 
+# _ubtool_line: the words up to the one that is completed, in `line`. Bash cuts at the `=` of `--config=FILE`; here the
+# option and its value are two words.
+_ubtool_line() {
+    local number
+    line=()
+    for ((number = 0; number <= COMP_CWORD; number++)); do
+        if [[ ${COMP_WORDS[number]} != = || ${COMP_WORDS[number - 1]} != --?* ]]; then
+            line+=("${COMP_WORDS[number]}")
+        elif [ "$number" = "$COMP_CWORD" ]; then
+            line+=('')
+        fi
+    done
+    last=$((${#line[@]} - 1))
+}
+
 # _ubtool_names PROGRAM: the names of the variables.
 _ubtool_names() {
     local from=() number
-    for ((number = 2; number < COMP_CWORD; number++)); do
-        case ${COMP_WORDS[number]} in
+    for ((number = 2; number < last; number++)); do
+        case ${line[number]} in
             --) break ;;
-            -c | --config) from+=(-c "${COMP_WORDS[number + 1]}") ;;
+            -c | --config) from+=(-c "${line[number + 1]}") ;;
             --big-endian) from+=(--big-endian) ;;
         esac
     done
@@ -17,8 +32,8 @@ _ubtool_names() {
 # _ubtool_first: this is the first word of its subcommand that is no option.
 _ubtool_first() {
     local number
-    for ((number = 2; number < COMP_CWORD; number++)); do
-        case ${COMP_WORDS[number]} in
+    for ((number = 2; number < last; number++)); do
+        case ${line[number]} in
             -c | --config | -s | --script) ((number++)) ;;
             -*) ;;
             *) return 1 ;;
@@ -27,9 +42,11 @@ _ubtool_first() {
 }
 
 _ubtool() {
-    local word=${COMP_WORDS[COMP_CWORD]} options words='' number
+    local line last word options words='' number
+    _ubtool_line
+    word=${line[last]}
     COMPREPLY=()
-    case $COMP_CWORD-${COMP_WORDS[1]} in
+    case $last-${line[1]} in
         1-*)
             mapfile -t COMPREPLY < <(compgen -W 'printenv setenv rehearse -h --help -V --version' -- "$word")
             return
@@ -42,10 +59,10 @@ _ubtool() {
             ;;
         *) return ;;
     esac
-    for ((number = 2; number < COMP_CWORD; number++)); do
-        [ "${COMP_WORDS[number]}" != -- ] || options=''
+    for ((number = 2; number < last; number++)); do
+        [ "${line[number]}" != -- ] || options=''
     done
-    case ${options:+${COMP_WORDS[COMP_CWORD - 1]}} in
+    case ${options:+${line[last - 1]}} in
         -c | --config | -d | --device-list | -s | --script)
             compopt -o filenames 2>/dev/null
             mapfile -t COMPREPLY < <(compgen -f -- "$word")
@@ -55,7 +72,7 @@ _ubtool() {
     esac
     if [[ $word == -* && -n $options ]]; then
         words=$options
-    elif [ "${COMP_WORDS[1]}" != setenv ] || _ubtool_first; then
+    elif [ "${line[1]}" != setenv ] || _ubtool_first; then
         words=$(_ubtool_names "$1")
     fi
     mapfile -t COMPREPLY < <(compgen -W "$words" -- "$word")
