@@ -1,6 +1,6 @@
 -- The words that the program reads, by the name that it was called by. The names are those of U-Boot's
 -- tools (tools/env README); that the last part of the path decides is ours.
-use Rattle.std.specs.Prelude.{◌==◌, ◌++◌, ℕ, List, [], ◌∷◌, Option, Some, None, codes, if◌then◌else◌}
+use Rattle.std.specs.Prelude.{◌==◌, ◌++◌, ℕ, List, [], ◌∷◌, Option, Some, None, codes, slice_index, if◌then◌else◌}
 use Rattle.std.specs.Prelude.{option_to_list}
 use Rattle.std.specs.List.{after_last}
 use Rattle.std.specs.Str.{bytes_eq}
@@ -8,7 +8,7 @@ use Rattle.clap.specs.Words.{Text}
 
 -- `/`
 abbrev pub slash : ℕ
-slash = 47
+slash = slice_index (codes "/") 0
 
 -- what stands behind the last slash of a path, or all of it
 abbrev pub last_part : Text → Text
