@@ -17,11 +17,11 @@ use Rattle.hushcheck.specs.CommandAnswers.{Answers, Reports, Says, asked}
 use Rattle.hushcheck.specs.CommandLine.{hushcheck}
 
 hushcheck_simple : is_simple hushcheck ≡ true
-unfolding clap_on_literals
+unfolding clap_on_literals hushcheck
 hushcheck_simple = refl
 
 hushcheck_free : is_simple_and_free hushcheck ≡ true
-unfolding clap_on_literals
+unfolding clap_on_literals hushcheck
 hushcheck_free = refl
 
 -- where the words are accepted

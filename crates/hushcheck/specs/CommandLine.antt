@@ -2,7 +2,7 @@
 use Rattle.std.specs.Prelude.{true, codes}
 use Rattle.clap.specs.Words.{App, Shape, new_app, with_rule}
 use Rattle.clap.specs.Simple.{on_top}
-use Rattle.ubtool_cli.specs.CommandLine.{big_endian, config, many}
+use Rattle.ubtool_cli.specs.CommandLine.{big_endian, config, names}
 
 -- the program, which has a version and no words of its own
 abbrev pub base : App
@@ -13,5 +13,5 @@ abbrev pub options : App
 options = with_rule (with_rule base config) big_endian
 
 -- and `[NAME]..`
-abbrev pub hushcheck : App
-hushcheck = with_rule options (many (codes "names"))
+unfoldable pub hushcheck : App
+hushcheck = with_rule options names

@@ -5,7 +5,7 @@ ghost use Rattle.ubtool_cli.specs.Made.{IsMade};
 
 use clap::Command;
 use std::alloc::{AllocError, Global};
-use ubtool_cli::{VERSION, lettered_option, long_flag, many};
+use ubtool_cli::{VERSION, big_endian_flag, config_option, names};
 
 const NOTES: &str = "\
 The texts of the variables are read as boot scripts, and then those of the
@@ -39,21 +39,20 @@ fn base<'a>(alloc: Global) -> Result<Command<'a>, AllocError>
 fn options<'a>(alloc: Global) -> Result<Command<'a>, AllocError>
     ensures { IfOk result (IsMade options) }
 {
-    let config = lettered_option(alloc, "config", 'c', "FILE").help(
-        "Configuration, at most 1048576 bytes [default: /etc/fw_env.config]",
-    );
-    let order = long_flag(alloc, "big-endian").help(
-        "The CRC is stored big-endian [default: little-endian]",
-    );
-    base(alloc)?.arg(config)?.arg(order)
+    let config = config_option(alloc);
+    let order = big_endian_flag(alloc);
+    let command = base(alloc)?;
+    command.arg(config)?.arg(order)
 }
 
 /// The program's command line.
 pub(crate) fn hushcheck<'a>(alloc: Global) -> Result<Command<'a>, AllocError>
     ensures { IfOk result (IsMade hushcheck) }
 {
-    let names = many(alloc, "names", "NAME").help(
+    let names = names(
+        alloc,
         "Variables to check, in this order [default: bootcmd]",
     );
-    options(alloc)?.arg(names)
+    let command = options(alloc)?;
+    command.arg(names)
 }

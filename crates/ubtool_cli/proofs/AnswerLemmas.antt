@@ -19,11 +19,11 @@ use Rattle.ubtool_cli.specs.CommandAnswers.{Answers, IsAccepted, Reports, Says, 
 use Rattle.ubtool_cli.specs.CommandLine.{ubtool}
 
 pub ubtool_simple : is_simple ubtool ≡ true
-unfolding clap_on_literals
+unfolding clap_on_literals ubtool
 ubtool_simple = refl
 
 pub ubtool_free : is_simple_and_free ubtool ≡ true
-unfolding clap_on_literals
+unfolding clap_on_literals ubtool
 ubtool_free = refl
 
 -- where the words are accepted

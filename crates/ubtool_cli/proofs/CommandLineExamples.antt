@@ -26,45 +26,45 @@ rehearsal : AsksFor
       limit = Some 1;
       names = codes "z" ∷ [];
     }) Little)
-unfolding clap_on_literals
+unfolding clap_on_literals ubtool
 rehearsal = (refl, refl)
 
 -- printenv -n
 no_name_printed : AsksFor (codes "printenv" ∷ codes "-n" ∷ []) header_needs_one
-unfolding clap_on_literals
+unfolding clap_on_literals ubtool
 no_name_printed = (refl, refl)
 
 -- printenv -n a b
 two_names_printed : AsksFor (codes "printenv" ∷ codes "-n" ∷ codes "a" ∷ codes "b" ∷ []) header_needs_one
-unfolding clap_on_literals
+unfolding clap_on_literals ubtool
 two_names_printed = (refl, refl)
 
 -- printenv -- -x
 dashed_name : AsksFor (codes "printenv" ∷ codes "--" ∷ codes "-x" ∷ [])
     (printing (codes "/etc/fw_env.config") true (codes "-x" ∷ []) Little)
-unfolding clap_on_literals
+unfolding clap_on_literals ubtool
 dashed_name = (refl, refl)
 
 -- setenv
 no_name_set : AsksFor (codes "setenv" ∷ []) needs_name
-unfolding clap_on_literals
+unfolding clap_on_literals ubtool
 no_name_set = (refl, refl)
 
 -- setenv a 1 2
 words_set : AsksFor (codes "setenv" ∷ codes "a" ∷ codes "1" ∷ codes "2" ∷ [])
     (setting (codes "/etc/fw_env.config") (codes "a") (codes "1" ∷ codes "2" ∷ []) Little)
-unfolding clap_on_literals
+unfolding clap_on_literals ubtool
 words_set = (refl, refl)
 
 -- setenv -s f a
 script_beside_name : AsksFor (codes "setenv" ∷ codes "-s" ∷ codes "f" ∷ codes "a" ∷ []) script_and_name
-unfolding clap_on_literals
+unfolding clap_on_literals ubtool
 script_beside_name = (refl, refl)
 
 -- setenv -s f --big-endian
 big_script : AsksFor (codes "setenv" ∷ codes "-s" ∷ codes "f" ∷ codes "--big-endian" ∷ [])
     (scripted (codes "/etc/fw_env.config") (codes "f") Big)
-unfolding clap_on_literals
+unfolding clap_on_literals ubtool
 big_script = (refl, refl)
 
 -- rehearse -d d --devices 32 --steps 0 --after . --big-endian
@@ -77,25 +77,25 @@ bounded : AsksFor
       limit = None;
       names = [];
     }) Big)
-unfolding clap_on_literals
+unfolding clap_on_literals ubtool
 bounded = (refl, refl)
 
 -- no words
 no_words : IsRefused []
-unfolding clap_on_literals
+unfolding clap_on_literals ubtool
 no_words = refl
 
 -- rehearse
 no_device_list : IsRefused (codes "rehearse" ∷ [])
-unfolding clap_on_literals
+unfolding clap_on_literals ubtool
 no_device_list = refl
 
 -- rehearse -d d --devices 33
 too_many_devices : IsRefused (codes "rehearse" ∷ codes "-d" ∷ codes "d" ∷ codes "--devices" ∷ codes "33" ∷ [])
-unfolding clap_on_literals
+unfolding clap_on_literals ubtool
 too_many_devices = refl
 
 -- rehearse -d d --limit 0
 limit_of_none : IsRefused (codes "rehearse" ∷ codes "-d" ∷ codes "d" ∷ codes "--limit" ∷ codes "0" ∷ [])
-unfolding clap_on_literals
+unfolding clap_on_literals ubtool
 limit_of_none = refl

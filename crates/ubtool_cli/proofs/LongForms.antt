@@ -15,19 +15,19 @@ AsksForVersion words = fault_of ubtool words ≡ DisplayVersion ∷ []
 -- printenv --config f --noheader a
 long_print : AsksFor (codes "printenv" ∷ codes "--config" ∷ codes "f" ∷ codes "--noheader" ∷ codes "a" ∷ [])
     (printing (codes "f") false (codes "a" ∷ []) Little)
-unfolding clap_on_literals
+unfolding clap_on_literals ubtool
 long_print = (refl, refl)
 
 -- printenv --no-header --config=f a
 second_name : AsksFor (codes "printenv" ∷ codes "--no-header" ∷ codes "--config=f" ∷ codes "a" ∷ [])
     (printing (codes "f") false (codes "a" ∷ []) Little)
-unfolding clap_on_literals
+unfolding clap_on_literals ubtool
 second_name = (refl, refl)
 
 -- setenv --script f
 long_script : AsksFor (codes "setenv" ∷ codes "--script" ∷ codes "f" ∷ [])
     (scripted (codes "/etc/fw_env.config") (codes "f") Little)
-unfolding clap_on_literals
+unfolding clap_on_literals ubtool
 long_script = (refl, refl)
 
 -- rehearse --device-list d --variable q
@@ -39,15 +39,15 @@ long_rehearsal : AsksFor (codes "rehearse" ∷ codes "--device-list" ∷ codes "
       limit = None;
       names = [];
     }) Little)
-unfolding clap_on_literals
+unfolding clap_on_literals ubtool
 long_rehearsal = (refl, refl)
 
 -- --version
 version_alone : AsksForVersion (codes "--version" ∷ [])
-unfolding clap_on_literals
+unfolding clap_on_literals ubtool
 version_alone = refl
 
 -- printenv -V
 version_of_subcommand : AsksForVersion (codes "printenv" ∷ codes "-V" ∷ [])
-unfolding clap_on_literals
+unfolding clap_on_literals ubtool
 version_of_subcommand = refl

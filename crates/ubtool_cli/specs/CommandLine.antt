@@ -119,6 +119,6 @@ base = on_top (λ (s : Shape). record s {
   propagate_version = true;
 }) (new_app (codes "ubtool"))
 
-abbrev pub ubtool : App
+unfoldable pub ubtool : App
 ubtool = with_subcommand
     (with_subcommand (with_subcommand base printenv.top) setenv.top) rehearse.top

@@ -81,7 +81,7 @@ fn long_option<'a>(alloc: Global, id: &'a str, value: &'a str) -> Arg<'a>
 }
 
 /// The option `-x VALUE`, `--word VALUE` in its long form.
-pub fn lettered_option<'a>(alloc: Global, id: &'a str, letter: char, value: &'a str) -> Arg<'a>
+fn lettered_option<'a>(alloc: Global, id: &'a str, letter: char, value: &'a str) -> Arg<'a>
     ensures rule { rule_of result ≡ lettered_option id.entry.now letter }
     ensures local { result.global ≡ false }
 {
@@ -97,7 +97,7 @@ fn number_option<'a>(alloc: Global, id: &'a str, least: u32, most: u32) -> Arg<'
 }
 
 /// The flag `--word`.
-pub fn long_flag<'a>(alloc: Global, id: &'a str) -> Arg<'a>
+fn long_flag<'a>(alloc: Global, id: &'a str) -> Arg<'a>
     ensures rule { rule_of result ≡ long_flag id.entry.now }
     ensures local { result.global ≡ false }
 {
@@ -119,7 +119,7 @@ fn one<'a>(alloc: Global, id: &'a str, value: &'a str) -> Arg<'a>
 }
 
 /// The words `[NAME]..`.
-pub fn many<'a>(alloc: Global, id: &'a str, value: &'a str) -> Arg<'a>
+fn many<'a>(alloc: Global, id: &'a str, value: &'a str) -> Arg<'a>
     ensures rule { rule_of result ≡ many id.entry.now }
     ensures local { result.global ≡ false }
 {
@@ -175,8 +175,8 @@ fn no_header<'a>(alloc: Global) -> Result<Arg<'a>, AllocError>
         .alias("no-header")
 }
 
-/// The words that name variables.
-fn names<'a>(alloc: Global, help: &'a str) -> Arg<'a>
+/// The words that name variables, with a help text.
+pub fn names<'a>(alloc: Global, help: &'a str) -> Arg<'a>
     ensures rule { rule_of result ≡ names }
     ensures local { result.global ≡ false }
 {

@@ -11,7 +11,7 @@ pub use ask::{
     RehearseAsk, UseError, VERSION,
 };
 pub use called::words_called;
-pub use command::{lettered_option, long_flag, many};
+pub use command::{big_endian_flag, config_option, names};
 pub use read::{config_of, order_of, read_command, texts_of};
 
 #[cfg(test)]

@@ -1,8 +1,10 @@
 use Rattle.std.proofs.lemmas.Result.{IfOk-weaker}
+use Rattle.ubtool_cli.specs.CommandLine.{ubtool}
 use Rattle.ubtool_cli.proofs.MadeLemmas.{made_above}
 use Rattle.ubtool_cli.proofs.command.ubtool.Goals as goal
 
 pub returns : goal.returns
+unfolding ubtool
 returns c =
     let first = made_above _ _ _ _ _ c.in_ok-command.ensures c.in_ok-printenv.ensures c.in_ok-subcommand.ensures in
     let second = made_above _ _ _ _ _ first c.in_ok-setenv.ensures c.in_ok-subcommand-2.ensures in
