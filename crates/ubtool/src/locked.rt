@@ -3,21 +3,45 @@ ghost use Rattle.std.specs.Prelude.{◌≡◌, None};
 ghost use Rattle.ubtool_files.specs.MachineShown.{faults_of};
 
 use std::alloc::Global;
-use std::fs::{File, OpenOptions};
+use std::fs::{self, File, Metadata, OpenOptions};
+use std::io;
 use std::rt;
 use ubtool_files::{FileFault, Files, Machine};
 
 /// The file that `fw_printenv` and `fw_setenv` lock, those of U-Boot and those of libubootenv.
 const LOCK_FILE: &str = "/var/lock/fw_printenv.lock";
 
-/// The lock file, made where it is not there; one that cannot be written is opened to be read.
-fn lock_file<R: rt::Files>(rt: &R) -> Option<R::File> {
+/// Whether these are what is known of a plain file: of no pipe, folder or device.
+fn is_plain(known: io::Result<Metadata>) -> bool {
+    match known {
+        Ok(known) => known.is_file(),
+        Err(_) => false,
+    }
+}
+
+/// The lock file, opened to be read. To open a pipe so could wait without end, so that it is looked at first.
+fn readable<R: rt::Files>(rt: &R) -> Option<R::File> {
+    if !is_plain(fs::metadata(rt, LOCK_FILE)) {
+        return None;
+    }
+    File::open(rt, LOCK_FILE).ok()
+}
+
+/// The lock file, made where it is not there; one that cannot be written is opened to be read. What is no plain file is
+/// no lock file: to open a pipe for both reading and writing does not wait for its other end.
+fn lock_file<R: rt::Files<File = File>>(rt: &R) -> Option<File> {
     let mut how = OpenOptions::new();
+    how.read(true);
     how.write(true);
     how.create(true);
-    match how.open(rt, LOCK_FILE) {
-        Ok(file) => Some(file),
-        Err(_) => File::open(rt, LOCK_FILE).ok(),
+    let file = match how.open(rt, LOCK_FILE) {
+        Ok(file) => file,
+        Err(_) => readable(rt)?,
+    };
+    if is_plain(file.metadata()) {
+        Some(file)
+    } else {
+        None
     }
 }
 
@@ -31,7 +55,8 @@ fn lock_taken<R: rt::Files<File = File>>(rt: &R) -> Option<File> {
 }
 
 /// The machine's files. Before their first call, one that will write waits for the lock, and holds it as long as these
-/// files last. Where the lock file cannot be opened, as on a machine without its folder, no lock is taken.
+/// files last. Where the lock file cannot be opened, as on a machine without its folder, or is no plain file, no lock is
+/// taken.
 #[derive(Drop)]
 pub struct Locked<'a, R> {
     rt: &'a R,

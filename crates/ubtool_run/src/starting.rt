@@ -1,10 +1,10 @@
 //! What the programs begin with: the words that they are called by, and their outputs behind buffers.
-ghost use Rattle.std.specs.Prelude.{◌≡◌, IfErr};
+ghost use Rattle.std.specs.Prelude.{◌≡◌, ◌≤◌, length, IfErr};
 ghost use Rattle.ubtool_run.specs.declared.starting.StartError.TheVariants.{Memory};
 
 use envimage::Over;
 use std::alloc::{AllocError, Global};
-use std::env::{self, Env};
+use std::env::{self, Env, FillError};
 use std::io::{self, BufWriter, ErrorKind, Write};
 use thiserror::Error;
 use ubtool_files::UntilFailed;
@@ -41,9 +41,50 @@ pub fn buffered<W: Write + Drop>(alloc: Global, writer: W) -> Result<Buffered<W>
     }
 }
 
-/// The words of the command line, the first of them the name that the program was called by.
+/// Moves what stands behind the last slash of a path to its front, and answers how long it is: 0 where it is no text.
+fn moved_name(path: &mut [u8]) -> usize
+    ensures { result ≤ length path.new }
+{
+    let start = match path.iter().rposition(|&byte| byte == b'/') {
+        Some(slash) => slash + 1,
+        None => 0,
+    };
+    let len = path.len() - start;
+    path.copy_within(start.., 0);
+    match str::from_utf8(&path[..len]) {
+        Ok(_) => len,
+        Err(_) => 0,
+    }
+}
+
+/// The words of a call, with the name that stands at the end of the program's path in place of the path: what stands in
+/// front of it need not be text. A name that is none is empty.
+#[derive(Drop)]
+struct Call<'a, R> {
+    rt: &'a R,
+}
+
+impl<R: Env> Env for Call<'_, R> {
+    fn arg(&self, i: usize, buf: &mut [u8]) -> Result<usize, FillError> {
+        let len = self.rt.arg(i, buf)?;
+        if i == 0 {
+            return Ok(moved_name(&mut buf[..len]));
+        }
+        Ok(len)
+    }
+
+    fn var(&self, name: &str, buf: &mut [u8]) -> Result<usize, FillError> {
+        self.rt.var(name, buf)
+    }
+
+    fn var_at(&self, i: usize, buf: &mut [u8]) -> Result<usize, FillError> {
+        self.rt.var_at(i, buf)
+    }
+}
+
+/// The words of the command line, the first of them the name that the program was called by, without its folder.
 pub fn words_of_call<R: Env + AllocGlobal>(rt: &R) -> Result<Vec<String>, StartError> {
-    let args = match env::args(rt) {
+    let args = match env::args(&(Call { rt }, rt.alloc())) {
         Ok(args) => args,
         Err(error) => match error.kind() {
             ErrorKind::OutOfMemory => return Err(StartError::Memory),
