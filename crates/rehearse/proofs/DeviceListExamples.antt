@@ -112,6 +112,10 @@ x_is_final_and_sets = refl
 final_echo : listed (codes "final echo") ≡ Err (BuiltIn 1)
 final_echo = refl
 
+-- a word with `=` is no name behind `final`, but a setting, which has a name
+final_without_name : listed (codes "final =x") ≡ Err (BadLine 1)
+final_without_name = refl
+
 -- ---- settings
 
 -- lines of one name are joined
@@ -129,6 +133,11 @@ setting_without_name = refl
 
 setting_with_dash : listed (codes "load -x=1") ≡ Err (BadLine 1)
 setting_with_dash = refl
+
+-- a name may hold a `-`, but not begin with one
+name_with_dash : listed (codes "load fdt-file=1")
+    ≡ Ok ((codes "load", record { ends = false; sets = (codes "fdt-file", codes "1") ∷ [] }) ∷ [])
+name_with_dash = refl
 
 empty_value : listed (codes "load a=") ≡ Ok ((codes "load", record { ends = false; sets = (codes "a", []) ∷ [] }) ∷ [])
 empty_value = refl

@@ -24,6 +24,11 @@ for_loops : map told (codes "for i in a b; do echo $i; done; echo $i" ∷ codes 
 unfolding told_of
 for_loops = refl
 
+-- the first body of a `for` sees the status before it
+status_in_a_for : told (codes "false; for i in a; do echo $?; done") ≡ (codes "1\n", End 0)
+unfolding told_of
+status_in_a_for = refl
+
 -- its variable is one of the shell, and so is that of an assignment: neither is listed
 shell_variables : listed (bootcmd (limits only_load 0 10000) (codes "for i in a; do echo $i; done; x=1")) (codes "i" ∷ codes "x" ∷ []) None ≡ codes "run .\ntext a\\n\nunset i\nunset x\nend 0\ndone\n"
 unfolding listed
@@ -77,6 +82,11 @@ echoes : map told (codes "echo" ∷ codes "echo -n" ∷ codes "echo -n a  b; ech
 unfolding told_of
 echoes = refl
 
+-- without a newline too its status is 0
+status_of_echo : told (codes "false; echo -n a; echo $?") ≡ (codes "a0\n", End 0)
+unfolding told_of
+status_of_echo = refl
+
 -- `exit`: numbers up to 255, negative ones as 0, and what ends nothing
 exits : map told (codes "exit; echo a" ∷ codes "exit 7; echo a" ∷ codes "exit 255" ∷ codes "exit 007" ∷ codes "exit -5; echo a" ∷ codes "exit 256; echo $?" ∷ codes "exit 1 2; echo $?" ∷ codes "exit a; echo $?" ∷ codes "exit ''; echo $?" ∷ codes "exit -; echo $?" ∷ codes "exit -a; echo $?" ∷ codes "false; exit" ∷ []) ≡ ([], End 0) ∷ ([], End 7) ∷ ([], End 255) ∷ ([], End 7) ∷ ([], End 0) ∷ (codes "1\n", End 0) ∷ (codes "1\n", End 0) ∷ (codes "1\n", End 0) ∷ (codes "1\n", End 0) ∷ (codes "1\n", End 0) ∷ (codes "1\n", End 0) ∷ ([], End 0) ∷ []
 unfolding told_of
@@ -86,6 +96,11 @@ exits = refl
 other_commands : map told (codes "true a; echo $?" ∷ codes "false a; echo $?" ∷ codes "test; echo $?" ∷ codes "test -e a; echo $?" ∷ codes "test -e a b c d; echo $?" ∷ codes "test a = b c; echo $?" ∷ []) ≡ write (codes "0\n" ∷ codes "1\n" ∷ codes "1\n" ∷ codes "1\n" ∷ codes "1\n" ∷ codes "1\n" ∷ [])
 unfolding told_of
 other_commands = refl
+
+-- four words of which the first only begins like `-e` ask no device
+test_without_a_device : told (codes "test -eq a b c; echo $?") ≡ (codes "1\n", End 0)
+unfolding told_of
+test_without_a_device = refl
 
 -- a name that is neither built in nor listed ends the run, whatever its words, before or behind other commands
 unknown_names : map told (codes "echo a; 'a b' c; echo d" ∷ codes "''" ∷ codes "loads" ∷ []) ≡ (codes "a\n", Unknown (codes "a b")) ∷ ([], Unknown []) ∷ ([], Unknown (codes "loads")) ∷ []

@@ -49,3 +49,8 @@ points_at_ends = refl
 -- lines alone that begin no record, and that end none
 stray_lines : map resume_point_of (codes "end 0\n" ∷ codes "run 0\nend 0" ∷ codes "run 0\nvar z=end 0\n" ∷ codes "run 0\nend 0\nrun 1\n" ∷ []) ≡ None ∷ None ∷ None ∷ point (codes "0") 12 ∷ []
 stray_lines = refl
+
+-- lines that only begin like the first or the last one of a record
+similar_lines : map resume_point_of (codes "run 0\nendx\n" ∷ codes "runx\nend 0\n" ∷ codes "run 0\ncutx\n"
+    ∷ codes "run 0\nstopx\n" ∷ codes "run 0\nbootedx\n" ∷ []) ≡ None ∷ None ∷ None ∷ None ∷ None ∷ []
+similar_lines = refl

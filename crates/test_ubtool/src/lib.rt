@@ -1,10 +1,30 @@
-//! Tests that cross the crates: what no contract says, with values from outside.
+//! Tests of the images, of the programs and of what they call: what no contract says, with values from outside. The
+//! caller is shown in `CALLING.md` of `envimage`.
 #![tactic(auto)]
 
+pub mod callers;
+#[cfg(test)]
+mod calls;
+#[cfg(test)]
+mod checking;
+#[cfg(test)]
+mod commands;
+#[cfg(test)]
+mod environments;
 #[cfg(test)]
 mod failing_once;
 #[cfg(test)]
+mod faults;
+#[cfg(test)]
+mod files;
+#[cfg(test)]
+mod flags;
+#[cfg(test)]
+mod full_outputs;
+#[cfg(test)]
 mod images;
+#[cfg(test)]
+mod making;
 #[cfg(test)]
 mod outputs;
 #[cfg(test)]
@@ -14,7 +34,11 @@ mod reading;
 #[cfg(test)]
 mod rehearsing;
 #[cfg(test)]
+mod rehearsing_edges;
+#[cfg(test)]
 mod running;
+#[cfg(test)]
+mod running_rehearsals;
 pub mod writers;
 #[cfg(test)]
 mod writing;
