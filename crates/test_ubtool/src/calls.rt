@@ -8,9 +8,7 @@ use envimage::{
 use envtools::{Env, EnvError, ScriptError, apply_script};
 use std::alloc::Global;
 use std::io::Read;
-use ubtool_core::{
-    Edit, Finish, RehearseAsk, ToolError, rehearse_bytes, run_input, set_bytes,
-};
+use ubtool_core::{Edit, Finish, RehearseAsk, ToolError, rehearse_bytes, run_input, set_bytes};
 use ubtool_files::MemoryFiles;
 use ubtool_run::run_tool;
 

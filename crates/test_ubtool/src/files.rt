@@ -2,9 +2,7 @@
 use std::io::{ErrorKind, Read};
 use std::test::Fail;
 use std::{fs, io, process};
-use ubtool_files::{
-    Action, FileFault, Files, LIMIT, Machine, MemoryFiles, ReadFault, read_up_to,
-};
+use ubtool_files::{Action, FileFault, Files, LIMIT, Machine, MemoryFiles, ReadFault, read_up_to};
 
 /// Two files, of which `e` has ten bytes.
 fn two_files(rt: &HostRuntime, failing: Option<usize>) -> Result<MemoryFiles, Fail> {

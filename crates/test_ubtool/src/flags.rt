@@ -36,7 +36,11 @@ fn the_flag_behind_255_is_0(rt: HostRuntime) -> Result<(), Fail> {
         let two = copy_two(second);
         let (which, image) = changed(rt.alloc(), &one, Some(&two), edit)?;
         assert_eq!(rt; which, place, "{first} {second}");
-        assert_eq!(rt; image.as_slice(), copy_three(flag).as_slice(), "{first} {second}");
+        assert_eq!(rt;
+            image.as_slice(),
+            copy_three(flag).as_slice(),
+            "{first} {second}"
+        );
     }
     Ok(())
 }

@@ -12,7 +12,8 @@ use ubtool_core::{Bounds, Finish, PrintAsk, RehearseAsk, ToolError, print_bytes}
 const ONE: [u8; 9] = [0x3B, 0x06, 0x98, 0x45, 0x61, 0x3D, 0x31, 0x00, 0x00];
 
 /// The listing of `load` in `bootcmd`, where `z` is asked for.
-const LISTING: &[u8] = b"run 0\ndev 0 load\nunset z\nend 0\nrun 1\ndev 1 load\nunset z\nend 1\ndone\n";
+const LISTING: &[u8] =
+    b"run 0\ndev 0 load\nunset z\nend 0\nrun 1\ndev 1 load\nunset z\nend 1\ndone\n";
 
 fn full(alloc: Global, room: usize) -> Full {
     Full {
@@ -48,7 +49,10 @@ fn printing_to_a_full_output_fails(rt: HostRuntime) {
     for room in 0..4usize {
         let mut out = full(rt.alloc(), room);
         let mut err = Memory::new(rt.alloc());
-        assert_eq!(rt; print(rt.alloc(), &mut out, &mut err), Err(ToolError::Write));
+        assert_eq!(rt;
+            print(rt.alloc(), &mut out, &mut err),
+            Err(ToolError::Write)
+        );
         assert_eq!(rt; out.memory.bytes.as_slice(), &b"a=1\n"[..room]);
         assert_eq!(rt; out.memory.failures, 1);
     }

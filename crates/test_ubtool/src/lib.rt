@@ -32,6 +32,8 @@ mod printing;
 #[cfg(test)]
 mod reading;
 #[cfg(test)]
+mod reading_on;
+#[cfg(test)]
 mod rehearsing;
 #[cfg(test)]
 mod rehearsing_edges;

@@ -38,7 +38,13 @@ fn a_variable_that_is_not_set_is_refused(rt: HostRuntime) -> Result<(), Fail> {
 
 #[test]
 fn an_empty_text_begins_no_step(rt: HostRuntime) -> Result<(), Fail> {
-    let image = encode(rt.alloc(), &[(b"bootcmd", b"")], 64, None, ByteOrder::Little)?;
+    let image = encode(
+        rt.alloc(),
+        &[(b"bootcmd", b"")],
+        64,
+        None,
+        ByteOrder::Little,
+    )?;
     let (answer, out) = rehearse(rt.alloc(), &image, b"bootcmd", 0)?;
     assert_eq!(rt; answer, Ok(Finish::Done));
     assert_eq!(rt;

@@ -8,11 +8,7 @@ use std::test::Fail;
 use ubtool_files::MemoryFiles;
 
 /// What the program ends with and prints, where the image has these variables and `load` is listed.
-fn run(
-    rt: &HostRuntime,
-    pairs: &[Pair<'_>],
-    words: &[&str],
-) -> Result<(u8, Memory, Memory), Fail> {
+fn run(rt: &HostRuntime, pairs: &[Pair<'_>], words: &[&str]) -> Result<(u8, Memory, Memory), Fail> {
     let image = image_of(rt.alloc(), ByteOrder::Little, pairs)?;
     let mut files = MemoryFiles::new(rt.alloc(), None);
     files.add("/etc/fw_env.config", b"e 0 2000\n")?;
@@ -30,10 +26,7 @@ fn a_variable_that_is_not_set_is_named(rt: HostRuntime) -> Result<(), Fail> {
     let (status, out, err) = run(&rt, &[(b"bootcmd", b"load")], &words)?;
     assert_eq!(rt; status, 1);
     assert_eq!(rt; out.bytes.len(), 0);
-    assert_eq!(rt;
-        err.bytes.as_slice(),
-        b"ubtool: no variable q\n".as_slice()
-    );
+    assert_eq!(rt; err.bytes.as_slice(), b"ubtool: no variable q\n".as_slice());
     Ok(())
 }
 
@@ -65,11 +58,7 @@ fn page_behind(rt: &HostRuntime, devices: &str, after: &str) -> Result<(u8, Memo
         after,
         "z",
     ];
-    run(
-        rt,
-        &[(b"bootcmd", b"while true; do load; done")],
-        &words,
-    )
+    run(rt, &[(b"bootcmd", b"while true; do load; done")], &words)
 }
 
 #[test]

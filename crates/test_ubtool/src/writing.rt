@@ -56,7 +56,10 @@ fn an_environment_is_changed(rt: HostRuntime) -> Result<(), Fail> {
     assert_eq!(rt; env.remove(b"a"), true);
     assert_eq!(rt; env.remove(b"a"), false);
     assert_eq!(rt; set(&mut env, b"a=b", b"1").err(), Some(EnvError::BadName));
-    assert_eq!(rt; change(&mut env, b"a", &[b"x\0"]).err(), Some(EnvError::BadValue));
+    assert_eq!(rt;
+        change(&mut env, b"a", &[b"x\0"]).err(),
+        Some(EnvError::BadValue)
+    );
     Ok(())
 }
 
