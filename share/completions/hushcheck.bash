@@ -1,8 +1,8 @@
 # Completion of hushcheck for bash: options, files, and the names of variables that the configuration on the command line,
 # or /etc/fw_env.config, leads to, as ubtool prints them.
 
-# _hushcheck_line: the words up to the one that is completed, in `line`. Bash cuts at the `=` of `--config=FILE`; here the
-# option and its value are two words.
+# _hushcheck_line: the words up to the one that is completed, in `line`. Bash cuts at the `=` of `--config=FILE`; here
+# the option and its value are two words.
 _hushcheck_line() {
     local number
     line=()

@@ -1,9 +1,11 @@
 -- What is told of each text. Ours; the faults are those of the language.
-use Rattle.std.specs.Prelude.{◌≡◌, ◌==◌, ◌&&◌, ◌++◌, ℕ, Bool, true, List, length, Option, Some, None, Result, Ok, Err, codes, decimal, if◌then◌else◌, is_ok}
+use Rattle.std.specs.Prelude.{◌≡◌, ◌==◌, ◌&&◌, ◌++◌, ℕ, Bool, true, List, [], length, Option, Some, None, Result, Ok, Err, codes, decimal, if◌then◌else◌, is_ok}
 use Rattle.std.specs.List.{flat_map, list_all}
 use Rattle.envimage.specs.Data.{Pair}
 use Rattle.envtools.specs.Environment.{value_of}
 use Rattle.envtools.specs.Printing.{all_found}
+use Rattle.hushlang.specs.CursorShown.{input_in}
+use Rattle.hushlang.specs.Straight.{straight}
 use Rattle.hushlang.specs.Tree.{Script}
 use Rattle.hushlang.specs.declared.token.SyntaxError.{SyntaxError}
 use Rattle.hushlang.specs.declared.token.SyntaxError.TheVariants.{OpenQuote, LoneBackslash, OpenBrace, BadVariable, SingleAmp, SinglePipe, Unexpected, MissingWord, AssignmentBeforeCommand, TooDeep, Memory}
@@ -51,16 +53,26 @@ place_form name place =
 abbrev pub marked : (line front : Text) → Text
 marked line front = shown_line line ++ codes "\n" ++ mark_line front ++ codes "\n"
 
--- where a text is refused and what is wrong there, its line, and a mark under the byte
+-- a place of a text and what is told of it, its line, and a mark under the byte
+abbrev pub lines_at : (name text : Text) → (at : ℕ) → (what : Text) → Text
+lines_at name text at what =
+    place_form name (place_in text at) ++ what ++ codes "\n" ++ marked (line_text text at) (line_front text at)
+
+-- where a text is refused, and what is wrong there
 abbrev pub fault_lines : (name text : Text) → SyntaxError → Text
-fault_lines name text error =
-    let at = byte_of error in
-    place_form name (place_in text at) ++ what_of (length text) error ++ codes "\n"
-    ++ marked (line_text text at) (line_front text at)
+fault_lines name text error = lines_at name text (byte_of error) (what_of (length text) error)
+
+-- a word that U-Boot refuses in a text that is well-formed
+abbrev pub warned_at : (name text : Text) → Option ℕ → Text
+warned_at name text None = []
+warned_at name text (Some at) = lines_at name text at (codes "warning: U-Boot wants ; before this word")
+
+abbrev pub warning_lines : (name text : Text) → Text
+warning_lines name text = warned_at name text (straight (input_in text).tokens)
 
 -- the lines of a text that was read, or refused
 abbrev pub lines_read : Text → Text → Result Script SyntaxError → Text
-lines_read name text (Ok script) = word_form name ++ codes ": ok\n"
+lines_read name text (Ok script) = word_form name ++ codes ": ok\n" ++ warning_lines name text
 lines_read name text (Err error) = fault_lines name text error
 
 -- the lines of a variable

@@ -5,7 +5,7 @@ ghost use Rattle.hushcheck_core.specs.Names.{run_by_found, run_by_name};
 ghost use Rattle.hushcheck_core.specs.Order.{with_names};
 ghost use Rattle.hushcheck_core.specs.Report.{Checks, is_well_formed, lines_of};
 
-use crate::lines::{push_fault, push_named};
+use crate::lines::{push_fault, push_named, push_read};
 use crate::names::{Names, asked_names};
 use crate::walk::add_script;
 use envtools::Env;
@@ -52,7 +52,7 @@ fn tell(
     };
     match parse(alloc, text) {
         Ok(script) => {
-            push_named(&mut report.text, name, b": ok\n")?;
+            push_read(&mut report.text, name, text)?;
             Ok(Some(script))
         }
         Err(SyntaxError::Memory) => Err(AllocError),

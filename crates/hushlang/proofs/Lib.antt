@@ -17,6 +17,7 @@ pub mod Converse
 pub mod Names
 pub mod Fronted
 pub mod Passing
+pub mod StraightWords
 pub mod WordLists
 pub mod Loops
 pub mod Completion

@@ -15,5 +15,6 @@ pub mod Parsing
 pub mod RefusalPlaces
 pub mod Texts
 pub mod CursorShown
+pub mod Straight
 pub mod Expansion
 pub mod Splitting

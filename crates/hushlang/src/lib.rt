@@ -9,6 +9,7 @@ pub mod lexer;
 pub mod parse;
 mod parts;
 mod pieces;
+pub mod straight;
 pub mod token;
 pub mod tree;
 mod words;

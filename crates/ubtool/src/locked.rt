@@ -4,8 +4,7 @@ ghost use Rattle.ubtool_files.specs.MachineShown.{faults_of};
 
 use std::alloc::Global;
 use std::fs::{self, File, Metadata, OpenOptions};
-use std::io;
-use std::rt;
+use std::{io, rt};
 use ubtool_files::{FileFault, Files, Machine};
 
 /// The file that `fw_printenv` and `fw_setenv` lock, those of U-Boot and those of libubootenv.
