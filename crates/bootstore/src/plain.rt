@@ -126,6 +126,14 @@ impl Store for Plain {
         self.present.environment.iter()
     }
 
+    fn shell_variables(&self) -> Variables<'_> {
+        self.present.locals.iter()
+    }
+
+    fn frames(&self) -> &[Frame] {
+        &self.present.frames
+    }
+
     fn top(&self) -> Option<&Frame> {
         self.present.top()
     }

@@ -1,5 +1,5 @@
 //! What a store of states can do.
-ghost use Rattle.std.specs.Prelude.{◌≡◌, ◌+◌, ◌<◌, ◌^◌, OnOk, OnErr, option_map, slice_get};
+ghost use Rattle.std.specs.Prelude.{◌≡◌, ◌+◌, ◌<◌, ◌^◌, OnOk, OnErr, option_map, reverse, slice_get};
 ghost use Rattle.std.specs.FinMap.{get, entries};
 ghost use Rattle.bootstore.specs.Moment.{environment_of, option_bytes};
 ghost use Rattle.bootstore.specs.Record.{Record, fresh, most_steps, started, stepped, with_mark, gone_back, changed, with_environment, with_local, with_echo, with_device, with_status, with_frame, with_place, without_frame};
@@ -134,6 +134,14 @@ pub trait Store: Drop {
     /// The variables of the environment, in byte order of their names.
     fn variables(&self) -> Variables<'_>
         ensures { result ≡ entries (record_of self.now).present.environment };
+
+    /// The shell variables, in byte order of their names.
+    fn shell_variables(&self) -> Variables<'_>
+        ensures { result ≡ entries (record_of self.now).present.locals };
+
+    /// The frames, the innermost last.
+    fn frames(&self) -> &[Frame]
+        ensures { reverse result.now ≡ (record_of self.now).present.frames };
 
     /// The innermost frame.
     fn top(&self) -> Option<&Frame>

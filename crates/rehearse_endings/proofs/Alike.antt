@@ -1,0 +1,305 @@
+-- A script comes to the same elsewhere, as far as the bounds allow.
+use Rattle.std.proofs.Common.{ℕ, zero, suc, Bool, true, false, cond, List, [], ◌∷◌, ◌++◌, length, Option, Some, None, refl, sym, ap, subst, ◌∙◌, ◌≡◌, ◌<◌, ◌≤◌, inl, inr, length-append, arith, ◌+◌, nat_lt, nat_le, nat_eq, bytes_eq, codes, ltb-true, ltb-false}
+use Rattle.bootstore.specs.Moment.{LoggedCommand}
+use Rattle.rehearse.specs.Outcomes.{OutcomeWord, Outcome, Success, Failure}
+use Rattle.hushlang.specs.Tree as tree
+use Rattle.hushlang.specs.Tree.{Script, AndOr, Joined, Command, Arms}
+use Rattle.rehearse.specs.State.{Text, get, Memory, State, parameters_in, with_value, without}
+use Rattle.hushlang.specs.Expansion.{fields, joined, size, most_bytes}
+use Rattle.std.specs.List.{join_with_byte}
+use Rattle.text.specs.Bytes as ascii
+use Rattle.rehearse.specs.Trees.{tree_of}
+use Rattle.rehearse.specs.Verdict.{verdict}
+use Rattle.rehearse.specs.Builtins.{SetEnv, Run as RunTexts, Test, Echo, True, False, Leave}
+use Rattle.rehearse.specs.Commands.{Called, BuiltIn, Device, NoCommand, called_by, asks_device, setenv, echo, exit_status, is_bad_name}
+use Rattle.rehearse.specs.Execution.{Limits, Answer, Normal, Exit, Ended, Dry, Ending, CutDevices, CutSteps, Unknown, Syntax, Size, go_on, remember, set_status, set_local, status_when, goes, holds, begin, take_outcome, device, Request, no_effect, logged, set_environment, boot, text_end, run_text, run_all, command, simple, sized, assign, turns, for_each, exec_script, exec_list, exec_joined, exec_command, exec_arms, exec, succeeds}
+use Rattle.rehearse.specs.Runs.{state_of}
+use Rattle.rehearse.proofs.Keeping.{GoesTo, Track, Track-of, Keeps, KeepsAll, Keeps-script, Keeps-joined, Keeps-list, Keeps-one, Keeps-arms, Keeps-exec, Keeps-run, Keeps-turns, Keeps-for, Keeps-if, Keeps-stays, after_condition, Keeps-after_condition, Keeps-text, Keeps-take, Keeps-ended, Keeps-simple, Keeps-sized, Keeps-assign}
+use Rattle.rehearse_endings.specs.Elsewhere.{elsewhere, devices_of, AreApart, IsElsewhere, IsSame, IsCutBy, IsCutHere, IsBeyond, IsAlike, same, cut_here, beyond, Alike}
+
+-- a change of memory that leaves all but the text alone elsewhere
+abbrev pub Reaches : (Memory → Memory) → Memory → Type 0
+Reaches change m = (text : Text) → (other : Text) × (change (record m { text = text }) ≡ record (change m) { text = other })
+
+-- no answer needs less room for device commands than its log
+log_within : (a : Answer) → length (state_of a).log ≤ devices_of a
+log_within (Normal s) = omega arith
+log_within (Exit s) = omega arith
+log_within (Ended ending s) = omega arith
+log_within (Dry s) = omega arith
+
+module _ (limits : Limits) (i j k l : ℕ) where
+  abbrev Is : Answer → Answer → Type 0
+  Is a b = IsAlike limits i j k l a b
+
+  abbrev pub Does : State → (State → Answer) → Type 0
+  Does s f = Alike limits i j k l s f
+
+  abbrev pub AlwaysDoes : (State → Answer) → Type 0
+  AlwaysDoes f = (s : State) → Does s f
+
+  -- what went beyond stays beyond
+  beyond_later : (a b : Answer) → (state_of a).steps ≤ (state_of b).steps → devices_of a ≤ length (state_of b).log → IsBeyond limits i j k l a → IsBeyond limits i j k l b
+  beyond_later a b e f (inl h) = let g = h.1 in inl (h.0, omega arith)
+  beyond_later a b e f (inr h) = let g = h.1 in inr (h.0, let w = log_within b in omega arith)
+
+  pub normal_later : (u : State) (g : State → Answer) → KeepsAll limits g → IsBeyond limits i j k l (Normal u) → IsBeyond limits i j k l (g u)
+  normal_later u g kept h =
+      let to = Track-of limits.device_bound u (g u) (kept u).0 in
+      beyond_later (Normal u) (g u) to.steps (let e = to.log in omega arith) h
+
+  if_later : (u : State) (status : ℕ) (g : State → Answer) → KeepsAll limits g → IsBeyond limits i j k l (Normal u) → IsBeyond limits i j k l (elim (nat_eq status 0) [ true ↦ g u | false ↦ Normal u ])
+  if_later u status g kept h =
+      let f : State → Answer = λ t. elim (nat_eq status 0) [ true ↦ g t | false ↦ Normal t ] in
+      let keeps = Keeps-if limits.device_bound u (nat_eq status 0) g Normal (kept u) (Keeps-stays limits.device_bound u) in
+      let to = Track-of limits.device_bound u (f u) keeps.0 in
+      beyond_later (Normal u) (f u) to.steps (let e = to.log in omega arith) h
+
+  pub go_on_alike : (a b : Answer) (g : State → Answer) → AlwaysDoes g → KeepsAll limits g → Is a b → Is (go_on a g) (go_on b g)
+  go_on_alike (Normal u) b g does kept (same h) = subst (λ (x : Answer). Is (g u) (go_on x g)) (sym h.is) (does u h.text h.log h.steps h.apart)
+  go_on_alike (Normal u) b g does kept (cut_here h) = absurd h
+  go_on_alike (Normal u) b g does kept (beyond h) = beyond (normal_later u g kept h)
+  go_on_alike (Exit u) b g does kept (same h) = subst (λ (x : Answer). Is (Exit u) (go_on x g)) (sym h.is) (same (record { text = h.text; log = h.log; steps = h.steps; is = refl; apart = h.apart }))
+  go_on_alike (Exit u) b g does kept (cut_here h) = absurd h
+  go_on_alike (Exit u) b g does kept (beyond h) = beyond h
+  go_on_alike (Ended ending u) b g does kept (same h) = subst (λ (x : Answer). Is (Ended ending u) (go_on x g)) (sym h.is) (same (record { text = h.text; log = h.log; steps = h.steps; is = refl; apart = h.apart }))
+  go_on_alike (Ended ending u) b g does kept (cut_here h) = cut_here h
+  go_on_alike (Ended ending u) b g does kept (beyond h) = beyond h
+  go_on_alike (Dry u) b g does kept (same h) = subst (λ (x : Answer). Is (Dry u) (go_on x g)) (sym h.is) (same (record { text = h.text; log = h.log; steps = h.steps; is = refl; apart = h.apart }))
+  go_on_alike (Dry u) b g does kept (cut_here h) = absurd h
+  go_on_alike (Dry u) b g does kept (beyond h) = beyond h
+
+  pub Alike-go_on : (s : State) (f g : State → Answer) → Does s f → AlwaysDoes g → KeepsAll limits g → Does s (λ t. go_on (f t) g)
+  Alike-go_on s f g h does kept = λ text log n e. go_on_alike (f s) (f (elsewhere text log n s)) g does kept (h text log n e)
+
+  pub Alike-if : (s : State) (b : Bool) (f g : State → Answer) → Does s f → Does s g → Does s (λ t. elim b [ true ↦ f t | false ↦ g t ])
+  Alike-if s true f g h k = h
+  Alike-if s false f g h k = k
+
+  pub Alike-ended : (s : State) (ending : Ending) → Does s (Ended ending)
+  Alike-ended s ending = λ text log n e. same (record { text = text; log = log; steps = n; is = refl; apart = e })
+
+  pub Alike-stays : (s : State) → Does s Normal
+  Alike-stays s = λ text log n e. same (record { text = text; log = log; steps = n; is = refl; apart = e })
+
+  -- changes of memory
+  abbrev placed : OutcomeWord → List LoggedCommand → ℕ → Memory → State
+  placed word log n m = record { memory = m; log = log; steps = n; word = word }
+
+  pub Alike-remember : (s : State) (change : Memory → Memory) (f : State → Answer) → Reaches change s.memory → Does (remember change s) f → Does s (λ t. f (remember change t))
+  Alike-remember s change f r h = λ text log n e.
+      let to = r text in
+      subst (λ (m : Memory). Is (f (remember change s)) (f (placed s.word log n m))) (sym to.1) (h to.0 log n e)
+
+  pub Alike-normal : (s : State) (change : Memory → Memory) → Reaches change s.memory → Does s (λ t. Normal (remember change t))
+  Alike-normal s change r = Alike-remember s change Normal r (Alike-stays (remember change s))
+
+  pub Alike-exit : (s : State) (change : Memory → Memory) → Reaches change s.memory → Does s (λ t. Exit (remember change t))
+  Alike-exit s change r = Alike-remember s change Exit r (λ text log n e. same (record { text = text; log = log; steps = n; is = refl; apart = e }))
+
+  -- a change that reads nothing but its own memory
+  reaches_status : (n : ℕ) (m : Memory) → Reaches (λ m'. record m' { status = n }) m
+  reaches_status n m = λ text. (text, refl)
+
+  reaches_if : (b : Bool) (f g : Memory → Memory) (m : Memory) → Reaches f m → Reaches g m → Reaches (λ m'. cond b (f m') (g m')) m
+  reaches_if true f g m h k = h
+  reaches_if false f g m h k = k
+
+  reaches_setenv : (words : List Text) (m : Memory) → Reaches (setenv words) m
+  reaches_setenv [] m = λ text. (text, refl)
+  reaches_setenv (name ∷ []) m = reaches_if (is_bad_name name) (λ m'. record m' { status = 1 }) (λ m'. record m' { environment = without m'.environment name; status = 0 }) m (λ text. (text, refl)) (λ text. (text, refl))
+  reaches_setenv (name ∷ w ∷ ws) m = reaches_if (is_bad_name name) (λ m'. record m' { status = 1 }) (λ m'. record m' { environment = with_value m'.environment name (join_with_byte ascii.space (w ∷ ws)); status = 0 }) m (λ text. (text, refl)) (λ text. (text, refl))
+
+  reaches_echo : (words : List Text) (m : Memory) → Reaches (echo words) m
+  reaches_echo [] m = λ text. (text ++ ascii.newline ∷ [], refl)
+  reaches_echo (w ∷ ws) m = reaches_if (bytes_eq w (codes "-n")) (λ m'. record m' { text = m'.text ++ join_with_byte ascii.space ws; status = 0 }) (λ m'. record m' { text = m'.text ++ join_with_byte ascii.space (w ∷ ws) ++ ascii.newline ∷ []; status = 0 }) m (λ text. (text ++ join_with_byte ascii.space ws, refl)) (λ text. (text ++ join_with_byte ascii.space (w ∷ ws) ++ ascii.newline ∷ [], refl))
+
+  -- ---- steps
+  begin_by : (s : State) (f : State → Answer) → Does (record s { steps = suc s.steps }) f → KeepsAll limits f → (text : Text) (log : List LoggedCommand) (n : ℕ) → AreApart limits i j k l s log n → (b c : Bool) → nat_lt s.steps limits.step_bound ≡ b → nat_lt n limits.step_bound ≡ c
+      → let t : State = elsewhere text log n s in Is (elim b [ true ↦ f (record s { steps = suc s.steps }) | false ↦ Ended CutSteps s ]) (elim c [ true ↦ f (record t { steps = suc t.steps }) | false ↦ Ended CutSteps t ])
+  begin_by s f h kept text log n e true true p q = h text log (suc n) (let a = e.0 in omega arith, e.1)
+  begin_by s f h kept text log n e true false p q =
+      let u : State = record s { steps = suc s.steps } in
+      let to = Track-of limits.device_bound u (f u) (kept u).0 in
+      let grown : suc s.steps ≤ (state_of (f u)).steps = to.steps in
+      let full = ltb-false n limits.step_bound q in
+      let room = ltb-true s.steps limits.step_bound p in
+      let a = e.0 in
+      beyond (inl (omega arith, omega arith))
+  begin_by s f h kept text log n e false true p q =
+      let full = ltb-false s.steps limits.step_bound p in
+      let room = ltb-true n limits.step_bound q in
+      let a = e.0 in
+      cut_here (let less : j < i = omega arith in less)
+  begin_by s f h kept text log n e false false p q = same (record { text = text; log = log; steps = n; is = refl; apart = e })
+
+  pub Alike-begin : (f : State → Answer) → AlwaysDoes f → KeepsAll limits f → AlwaysDoes (begin limits f)
+  Alike-begin f h kept s = λ text log n e. begin_by s f (h (record s { steps = suc s.steps })) kept text log n e (nat_lt s.steps limits.step_bound) (nat_lt n limits.step_bound) refl refl
+
+  -- ---- device commands
+  pub Alike-boot : (b : Bool) (name : Text) (s : State) → Does s (boot b name)
+  Alike-boot true name s = λ text log n e. same (record { text = text; log = log; steps = n; is = refl; apart = e })
+  Alike-boot false name s = λ text log n e. same (record { text = text; log = log; steps = n; is = refl; apart = e })
+
+  one_more : (s : State) (log : List LoggedCommand) (n : ℕ) (entry : LoggedCommand) → AreApart limits i j k l s log n → k + length (log ++ entry ∷ []) ≡ l + length (s.log ++ entry ∷ [])
+  one_more s log n entry e = let a = length-append log (entry ∷ []) in let b = length-append s.log (entry ∷ []) in let c = e.1 in omega arith
+
+  pub take_alike : (request : Request) (w : OutcomeWord) (s : State) (text : Text) (log : List LoggedCommand) (n : ℕ) → AreApart limits i j k l s log n → Is (take_outcome request w s) (take_outcome request w (elsewhere text log n s))
+  take_alike request [] s text log n e = same (record { text = text; log = log; steps = n; is = refl; apart = e })
+  take_alike request (Success ∷ rest) s text log n e =
+      let entry : LoggedCommand = record { success = true; words = request.name ∷ request.words } in
+      Alike-boot request.effect.ends request.name (set_environment request.effect.sets (logged Success request (record s { word = rest }))) text (log ++ entry ∷ []) n (e.0, one_more s log n entry e)
+  take_alike request (Failure ∷ rest) s text log n e =
+      let entry : LoggedCommand = record { success = false; words = request.name ∷ request.words } in
+      same (record { text = text; log = log ++ entry ∷ []; steps = n; is = refl; apart = (e.0, one_more s log n entry e) })
+
+  boot_needs : (b : Bool) (name : Text) (s : State) → devices_of (boot b name s) ≡ length s.log
+  boot_needs true name s = refl
+  boot_needs false name s = refl
+
+  take_needs : (request : Request) (w : OutcomeWord) (s : State) → length s.log < devices_of (take_outcome request w s)
+  take_needs request [] s = omega arith
+  take_needs request (Success ∷ rest) s =
+      let entry : LoggedCommand = record { success = true; words = request.name ∷ request.words } in
+      let a = boot_needs request.effect.ends request.name (set_environment request.effect.sets (logged Success request (record s { word = rest }))) in
+      let b = length-append s.log (entry ∷ []) in
+      omega arith
+  take_needs request (Failure ∷ rest) s =
+      let entry : LoggedCommand = record { success = false; words = request.name ∷ request.words } in
+      let b = length-append s.log (entry ∷ []) in
+      omega arith
+
+  device_by : (request : Request) (s : State) (text : Text) (log : List LoggedCommand) (n : ℕ) → AreApart limits i j k l s log n → (b c : Bool) → nat_lt (length s.log) limits.device_bound ≡ b → nat_lt (length log) limits.device_bound ≡ c
+      → let t : State = elsewhere text log n s in Is (elim b [ true ↦ take_outcome request s.word s | false ↦ Ended CutDevices s ]) (elim c [ true ↦ take_outcome request t.word t | false ↦ Ended CutDevices t ])
+  device_by request s text log n e true true p q = take_alike request s.word s text log n e
+  device_by request s text log n e true false p q =
+      let full = ltb-false (length log) limits.device_bound q in
+      let room = ltb-true (length s.log) limits.device_bound p in
+      let a = e.1 in
+      let needs = take_needs request s.word s in
+      beyond (inr (omega arith, omega arith))
+  device_by request s text log n e false true p q =
+      let full = ltb-false (length s.log) limits.device_bound p in
+      let room = ltb-true (length log) limits.device_bound q in
+      let a = e.1 in
+      cut_here (let less : l < k = omega arith in less)
+  device_by request s text log n e false false p q = same (record { text = text; log = log; steps = n; is = refl; apart = e })
+
+  pub Alike-device : (request : Request) → AlwaysDoes (device limits request)
+  Alike-device request s = λ text log n e. device_by request s text log n e (nat_lt (length s.log) limits.device_bound) (nat_lt (length log) limits.device_bound) refl refl
+
+  -- ---- parts of scripts
+  pub text_end_alike : (a b : Answer) (g : State → Answer) → AlwaysDoes g → KeepsAll limits g → Is a b → Is (text_end a g) (text_end b g)
+  text_end_alike (Normal u) b g does kept (same h) = subst (λ (x : Answer). Is (text_end (Normal u) g) (text_end x g)) (sym h.is) (Alike-if u (nat_eq u.memory.status 0) g Normal (does u) (Alike-stays u) h.text h.log h.steps h.apart)
+  text_end_alike (Normal u) b g does kept (cut_here h) = absurd h
+  text_end_alike (Normal u) b g does kept (beyond h) = beyond (if_later u u.memory.status g kept h)
+  text_end_alike (Exit u) b g does kept (same h) = subst (λ (x : Answer). Is (text_end (Exit u) g) (text_end x g)) (sym h.is) (Alike-if u (nat_eq u.memory.status 0) g Normal (does u) (Alike-stays u) h.text h.log h.steps h.apart)
+  text_end_alike (Exit u) b g does kept (cut_here h) = absurd h
+  text_end_alike (Exit u) b g does kept (beyond h) = beyond (if_later u u.memory.status g kept h)
+  text_end_alike (Ended ending u) b g does kept (same h) = subst (λ (x : Answer). Is (Ended ending u) (text_end x g)) (sym h.is) (same (record { text = h.text; log = h.log; steps = h.steps; is = refl; apart = h.apart }))
+  text_end_alike (Ended ending u) b g does kept (cut_here h) = cut_here h
+  text_end_alike (Ended ending u) b g does kept (beyond h) = beyond h
+  text_end_alike (Dry u) b g does kept (same h) = subst (λ (x : Answer). Is (Dry u) (text_end x g)) (sym h.is) (same (record { text = h.text; log = h.log; steps = h.steps; is = refl; apart = h.apart }))
+  text_end_alike (Dry u) b g does kept (cut_here h) = absurd h
+  text_end_alike (Dry u) b g does kept (beyond h) = beyond h
+
+  pub Alike-text_end : (s : State) (f g : State → Answer) → Does s f → AlwaysDoes g → KeepsAll limits g → Does s (λ t. text_end (f t) g)
+  Alike-text_end s f g h does kept = λ text log n e. text_end_alike (f s) (f (elsewhere text log n s)) g does kept (h text log n e)
+
+  pub Alike-sized : (fs : List Text) (f : List Text → State → Answer) → ((gs : List Text) → AlwaysDoes (f gs)) → AlwaysDoes (sized fs f)
+  Alike-sized fs f h s = Alike-if s (nat_le (size fs) most_bytes) (f fs) (Ended Size) (h fs s) (Alike-ended s Size)
+
+  pub Alike-assign : (pairs : List (Text × tree.Word)) → AlwaysDoes (assign pairs)
+  Alike-assign [] s = Alike-normal s (λ m. record m { status = 0 }) (reaches_status 0 s.memory)
+  Alike-assign (pair ∷ pairs) s =
+      let value : Text = joined (parameters_in s.memory) pair.1 in
+      Alike-if s (nat_le (length value) most_bytes) (λ t. assign pairs (set_local pair.0 value t)) (Ended Size)
+      (Alike-remember s (λ m. record m { locals = with_value m.locals pair.0 value }) (assign pairs) (λ text. (text, refl)) (Alike-assign pairs (set_local pair.0 value s)))
+      (Alike-ended s Size)
+
+  -- a `run`, where each script is alike
+  module _ (script : Script → State → Answer) (kept : (a : Script) → KeepsAll limits (script a)) (does : (a : Script) → AlwaysDoes (script a)) where
+    Alike-tree : (found : Option Script) (name : Text) (s : State) → Does s (λ t. elim found [ None ↦ Ended (Syntax name) t | Some a ↦ script a (elim a [ tree.Empty ↦ set_status 0 t | tree.Runs l ls ↦ t ]) ])
+    Alike-tree None name s = Alike-ended s (Syntax name)
+    Alike-tree (Some tree.Empty) name s = Alike-remember s (λ m. record m { status = 0 }) (script tree.Empty) (reaches_status 0 s.memory) (does tree.Empty (set_status 0 s))
+    Alike-tree (Some (tree.Runs l ls)) name s = does (tree.Runs l ls) s
+
+    pub Alike-text : (name text : Text) → AlwaysDoes (run_text limits script name text)
+    Alike-text name text s = Alike-tree (tree_of text) name s
+
+    Alike-named : (text : Option Text) (name : Text) (next : State → Answer) (s : State) → AlwaysDoes next → KeepsAll limits next → Does s (λ t. elim text [ None ↦ Normal (set_status 1 t) | Some v ↦ text_end (run_text limits script name v t) next ])
+    Alike-named None name next s h k' = Alike-normal s (λ m. record m { status = 1 }) (reaches_status 1 s.memory)
+    Alike-named (Some v) name next s h k' = Alike-text_end s (run_text limits script name v) next (Alike-text name v s) h k'
+
+    pub Alike-run : (names : List Text) → AlwaysDoes (run_all limits script names)
+    Alike-run [] s = Alike-stays s
+    Alike-run (name ∷ names) s = Alike-named (get s.memory.environment name) name (run_all limits script names) s (Alike-run names) (Keeps-run limits script kept names)
+
+    Alike-leave : (status : Option ℕ) (s : State) → Does s (λ t. elim status [ Some n ↦ Exit (set_status n t) | None ↦ Normal (set_status 1 t) ])
+    Alike-leave (Some n) s = Alike-exit s (λ m. record m { status = n }) (reaches_status n s.memory)
+    Alike-leave None s = Alike-normal s (λ m. record m { status = 1 }) (reaches_status 1 s.memory)
+
+    Alike-command : (b : Called) (name : Text) (ws : List Text) → AlwaysDoes (command limits script b name ws)
+    Alike-command (BuiltIn SetEnv) name ws s = Alike-normal s (setenv ws) (reaches_setenv ws s.memory)
+    Alike-command (BuiltIn RunTexts) name [] s = Alike-normal s (λ m. record m { status = 1 }) (reaches_status 1 s.memory)
+    Alike-command (BuiltIn RunTexts) name (w ∷ ws) s = Alike-run (w ∷ ws) s
+    Alike-command (BuiltIn Test) name ws s = Alike-if s (asks_device ws) (device limits (record { name = name; words = ws; effect = no_effect })) (λ t. Normal (set_status (status_when (verdict ws)) t)) (Alike-device (record { name = name; words = ws; effect = no_effect }) s) (Alike-normal s (λ m. record m { status = status_when (verdict ws) }) (reaches_status (status_when (verdict ws)) s.memory))
+    Alike-command (BuiltIn Echo) name ws s = Alike-normal s (echo ws) (reaches_echo ws s.memory)
+    Alike-command (BuiltIn True) name ws s = Alike-normal s (λ m. record m { status = 0 }) (reaches_status 0 s.memory)
+    Alike-command (BuiltIn False) name ws s = Alike-normal s (λ m. record m { status = 1 }) (reaches_status 1 s.memory)
+    Alike-command (BuiltIn Leave) name ws s = Alike-leave (exit_status ws) s
+    Alike-command (Device effect) name ws s = Alike-device (record { name = name; words = ws; effect = effect }) s
+    Alike-command NoCommand name ws s = Alike-ended s (Unknown name)
+
+    pub Alike-simple : (fs : List Text) → AlwaysDoes (simple limits script fs)
+    Alike-simple [] s = Alike-normal s (λ m. record m { status = 0 }) (reaches_status 0 s.memory)
+    Alike-simple (name ∷ ws) s = Alike-command (called_by limits.devices name) name ws s
+
+  pub Alike-after : (until : Bool) (b again : State → Answer) → AlwaysDoes b → AlwaysDoes again → KeepsAll limits again → (last : ℕ) → AlwaysDoes (after_condition limits until b again last)
+  Alike-after until b again h does kept last t = Alike-if t (holds until t.memory.status) (λ v. go_on (b v) again) (λ v. Normal (set_status last v)) (Alike-go_on t b again (h t) does kept) (Alike-normal t (λ m. record m { status = last }) (reaches_status last t.memory))
+
+  pub Alike-turns : (left : ℕ) (until : Bool) (c b : State → Answer) → AlwaysDoes c → AlwaysDoes b → KeepsAll limits c → KeepsAll limits b → (last : ℕ) → AlwaysDoes (turns left until c b last)
+  Alike-turns zero until c b h g kc kb last s = Alike-ended s CutSteps
+  Alike-turns (suc left) until c b h g kc kb last s =
+      let again : State → Answer = λ u. turns left until c b u.memory.status u in
+      let does : AlwaysDoes again = λ u. Alike-turns left until c b h g kc kb u.memory.status u in
+      let kept : KeepsAll limits again = λ u. Keeps-turns limits left until c b kc kb u.memory.status u in
+      Alike-go_on s c (after_condition limits until b again last) (h s) (Alike-after until b again g does kept last) (Keeps-after_condition limits until b again kb kept last)
+
+  pub Alike-for : (name : Text) (b : State → Answer) → AlwaysDoes b → KeepsAll limits b → (last : ℕ) (fs : List Text) → AlwaysDoes (for_each name b last fs)
+  Alike-for name b h kb last [] s = Alike-normal s (λ m. record m { status = last }) (reaches_status last s.memory)
+  Alike-for name b h kb last (f ∷ fs) s =
+      Alike-go_on s (λ t. b (set_local name f t)) (λ t. for_each name b t.memory.status fs t)
+      (Alike-remember s (λ m. record m { locals = with_value m.locals name f }) b (λ text. (text, refl)) (h (set_local name f s)))
+      (λ t. Alike-for name b h kb t.memory.status fs t)
+      (λ t. Keeps-for limits name b kb t.memory.status fs t)
+
+  module _ (left : ℕ) (text : Script → State → Answer) (kept : (a : Script) → KeepsAll limits (text a)) (does : (a : Script) → AlwaysDoes (text a)) where
+    mutual
+      pub Alike-script : (a : Script) → AlwaysDoes (exec_script limits left text a)
+      Alike-script tree.Empty s = Alike-stays s
+      Alike-script (tree.Runs c more) s = Alike-go_on s (exec_list limits left text c) (exec_script limits left text more) (Alike-list c s) (Alike-script more) (Keeps-script limits left text kept more)
+
+      pub Alike-list : (a : AndOr) → AlwaysDoes (exec_list limits left text a)
+      Alike-list (tree.Starts c rest) s = Alike-go_on s (exec_command limits left text c) (exec_joined limits left text rest) (Alike-one c s) (Alike-joined rest) (Keeps-joined limits left text kept rest)
+
+      pub Alike-joined : (a : Joined) → AlwaysDoes (exec_joined limits left text a)
+      Alike-joined tree.Alone s = Alike-stays s
+      Alike-joined (tree.Joins op c rest) s = Alike-if s (goes op s.memory.status) (λ t. go_on (exec_command limits left text c t) (exec_joined limits left text rest)) (exec_joined limits left text rest) (Alike-go_on s (exec_command limits left text c) (exec_joined limits left text rest) (Alike-one c s) (Alike-joined rest) (Keeps-joined limits left text kept rest)) (Alike-joined rest s)
+
+      pub Alike-one : (a : Command) → AlwaysDoes (exec_command limits left text a)
+      Alike-one (tree.Simple words) s = Alike-begin (λ t. sized (fields (parameters_in t.memory) words) (simple limits text) t) (λ t. Alike-sized (fields (parameters_in t.memory) words) (simple limits text) (Alike-simple text kept does) t) (λ t. Keeps-sized limits (fields (parameters_in t.memory) words) (simple limits text) (Keeps-simple limits text kept) t) s
+      Alike-one (tree.Assign pairs) s = Alike-begin (assign pairs) (Alike-assign pairs) (Keeps-assign limits pairs) s
+      Alike-one (tree.If arms) s = Alike-arms arms s
+      Alike-one (tree.Loop until c b) s = Alike-turns left until (exec_script limits left text c) (exec_script limits left text b) (Alike-script c) (Alike-script b) (Keeps-script limits left text kept c) (Keeps-script limits left text kept b) 0 s
+      Alike-one (tree.For name words b) s = Alike-begin (λ t. sized (fields (parameters_in t.memory) words) (for_each name (exec_script limits left text b) 0) t) (λ t. Alike-sized (fields (parameters_in t.memory) words) (for_each name (exec_script limits left text b) 0) (λ fs. Alike-for name (exec_script limits left text b) (Alike-script b) (Keeps-script limits left text kept b) 0 fs) t) (λ t. Keeps-sized limits (fields (parameters_in t.memory) words) (for_each name (exec_script limits left text b) 0) (λ fs. Keeps-for limits name (exec_script limits left text b) (Keeps-script limits left text kept b) 0 fs) t) s
+
+      pub Alike-arms : (a : Arms) → AlwaysDoes (exec_arms limits left text a)
+      Alike-arms tree.NoElse s = Alike-normal s (λ m. record m { status = 0 }) (reaches_status 0 s.memory)
+      Alike-arms (tree.Else b) s = Alike-script b s
+      Alike-arms (tree.Arm c b arms) s = Alike-go_on s (exec_script limits left text c) (λ t. elim (nat_eq t.memory.status 0) [ true ↦ exec_script limits left text b t | false ↦ exec_arms limits left text arms t ]) (Alike-script c s) (λ t. Alike-if t (nat_eq t.memory.status 0) (exec_script limits left text b) (exec_arms limits left text arms) (Alike-script b t) (Alike-arms arms t)) (λ t. Keeps-if limits.device_bound t (nat_eq t.memory.status 0) (exec_script limits left text b) (exec_arms limits left text arms) (Keeps-script limits left text kept b t) (Keeps-arms limits left text kept arms t))
+
+  -- a script is alike elsewhere, whatever steps are left
+  pub Alike-exec : (left : ℕ) (a : Script) → AlwaysDoes (exec limits left a)
+  Alike-exec zero a = Alike-script zero (λ t s. Ended CutSteps s) (λ b s. Keeps-ended limits.device_bound s CutSteps) (λ b s. Alike-ended s CutSteps) a
+  Alike-exec (suc left) a = Alike-script (suc left) (exec limits left) (Keeps-exec limits left) (Alike-exec left) a

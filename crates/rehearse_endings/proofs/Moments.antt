@@ -1,0 +1,129 @@
+-- Where a device command asks at two moments of one core, the same is to come, as far as the bounds allow.
+use Rattle.std.proofs.Common.{ℕ, Bool, true, false, List, [], ◌∷◌, length, Option, Some, None, refl, sym, ap, subst, ◌∙◌, ◌≡◌, arith, ◌+◌, nat_lt, nat_le}
+use Rattle.std.specs.FinMap.{entries}
+use Rattle.hushlang.specs.Tree as tree
+use Rattle.hushlang.specs.Tree.{Script}
+use Rattle.hushlang.specs.Expansion.{fields, size, most_bytes}
+use Rattle.bootstore.specs.Moment.{Moment, RunningFrame, LoggedCommand}
+use Rattle.rehearse.specs.Outcomes.{OutcomeWord}
+use Rattle.rehearse.specs.State.{Text, State, Variables, state_at, parameters_in}
+use Rattle.rehearse.specs.Verdict.{verdict}
+use Rattle.rehearse.specs.Builtins.{SetEnv, Run, Test, Echo, True, False, Leave}
+use Rattle.rehearse.specs.Commands.{Called, BuiltIn, NoCommand, Device, called_by, asks_device, exit_status}
+use Rattle.rehearse.specs.Execution.{Limits, CutDevices, Size, Request, no_effect, set_status, status_when, take_outcome}
+use Rattle.rehearse_machine.specs.Came.{Came}
+use Rattle.rehearse_machine.specs.Meaning.{continue, comes_to}
+use Rattle.rehearse_machine.specs.Places.{PlaceNext, GoOn, AskOn, StopOn, next_of, frames_of, left, to_run, place_exit, place_fitting, place_ask, place_called, place_fields}
+use Rattle.rehearse_machine.specs.AskingCommand.{words_in_front, fields_again, found_again}
+use Rattle.rehearse_machine.specs.Machine.{Asking, IsAsking, asked_at}
+use Rattle.rehearse_endings.specs.Elsewhere.{elsewhere}
+use Rattle.rehearse_endings.specs.Futures.{HaveSameCore, CameAlike}
+use Rattle.rehearse_endings.proofs.Alike.{take_alike}
+use Rattle.rehearse_endings.proofs.Frames.{continue_alike}
+
+-- where both ask, they ask the same
+abbrev AsksFor : Request → PlaceNext → Type 0
+AsksFor r (GoOn ps s) = Unit {0}
+AsksFor r (AskOn r' ps s) = r ≡ r'
+AsksFor r (StopOn ending s) = Unit {0}
+
+abbrev AskSame : PlaceNext → PlaceNext → Type 0
+AskSame (GoOn ps s) b = Unit {0}
+AskSame (AskOn r ps s) b = AsksFor r b
+AskSame (StopOn ending s) b = Unit {0}
+
+module _ (limits : Limits) (text : Text) (log : List LoggedCommand) (n : ℕ) where
+  abbrev there : State → State
+  there s = elsewhere text log n s
+
+  left_same : (ps : List RunningFrame) (s : State) (b : PlaceNext) → AskSame (left ps s) b
+  left_same [] s b = tt
+  left_same (p ∷ ps) s b = tt
+
+  exit_same : (o : Option ℕ) (ps : List RunningFrame) (s : State) (b : PlaceNext) → AskSame (place_exit o ps s) b
+  exit_same None ps s b = tt
+  exit_same (Some status) ps s b = left_same (to_run ps) (set_status status s) b
+
+  either_same : (b : Bool) (f g : State → PlaceNext) (s : State) → AskSame (f s) (f (there s)) → AskSame (g s) (g (there s)) → AskSame (elim b [ true ↦ f s | false ↦ g s ]) (elim b [ true ↦ f (there s) | false ↦ g (there s) ])
+  either_same true f g s h k = h
+  either_same false f g s h k = k
+
+  ask_by : (b c : Bool) (r : Request) (ps : List RunningFrame) (s t : State) → AskSame (elim b [ true ↦ AskOn r ps s | false ↦ StopOn CutDevices s ]) (elim c [ true ↦ AskOn r ps t | false ↦ StopOn CutDevices t ])
+  ask_by true true r ps s t = refl
+  ask_by true false r ps s t = tt
+  ask_by false c r ps s t = tt
+
+  ask_same : (r : Request) (ps : List RunningFrame) (s : State) → AskSame (place_ask limits r ps s) (place_ask limits r ps (there s))
+  ask_same r ps s = ask_by (nat_lt (length s.log) limits.device_bound) (nat_lt (length log) limits.device_bound) r ps s (there s)
+
+  called_same : (b : Called) (name : Text) (ws : List Text) (script : Script) (ps : List RunningFrame) (s : State) → AskSame (place_called limits b name ws script ps s) (place_called limits b name ws script ps (there s))
+  called_same (BuiltIn SetEnv) name ws script ps s = tt
+  called_same (BuiltIn Run) name [] script ps s = tt
+  called_same (BuiltIn Run) name (w ∷ ws) script ps s = tt
+  called_same (BuiltIn Test) name ws script ps s = either_same (asks_device ws) (place_ask limits (record { name = name; words = ws; effect = no_effect }) ps) (λ t. GoOn ps (set_status (status_when (verdict ws)) t)) s (ask_same (record { name = name; words = ws; effect = no_effect }) ps s) tt
+  called_same (BuiltIn Echo) name ws script ps s = tt
+  called_same (BuiltIn True) name ws script ps s = tt
+  called_same (BuiltIn False) name ws script ps s = tt
+  called_same (BuiltIn Leave) name ws script ps s = exit_same (exit_status ws) ps s (place_exit (exit_status ws) ps (there s))
+  called_same (Device effect) name ws script ps s = ask_same (record { name = name; words = ws; effect = effect }) ps s
+  called_same NoCommand name ws script ps s = tt
+
+  fields_same : (fs : List Text) (script : Script) (ps : List RunningFrame) (s : State) → AskSame (place_fields limits fs script ps s) (place_fields limits fs script ps (there s))
+  fields_same [] script ps s = tt
+  fields_same (name ∷ ws) script ps s = called_same (called_by limits.devices name) name ws script ps s
+
+  again_same : (o : Option (List tree.Word)) (f : RunningFrame) (fs : List RunningFrame) (s : State) → AskSame (fields_again limits o f fs s) (fields_again limits o f fs (there s))
+  again_same None f fs s = tt
+  again_same (Some words) f fs s =
+      let found : List Text = fields (parameters_in s.memory) words in
+      either_same (nat_le (size found) most_bytes) (place_fields limits found f.script (f ∷ fs)) (StopOn Size) s (fields_same found f.script (f ∷ fs) s) tt
+
+  found_same : (ps : List RunningFrame) (s : State) → AskSame (found_again limits ps s) (found_again limits ps (there s))
+  found_same [] s = tt
+  found_same (f ∷ fs) s = again_same (words_in_front f) f fs s
+
+  request_same : (ps qs qs' : List RunningFrame) (s t t' : State) (r r' : Request) → found_again limits ps s ≡ AskOn r qs t → found_again limits ps (there s) ≡ AskOn r' qs' t' → r ≡ r'
+  request_same ps qs qs' s t t' r r' e e' = subst (λ (b : PlaceNext). AskSame (AskOn r qs t) b) e' (subst (λ (a : PlaceNext). AskSame a (found_again limits ps (there s))) e (found_same ps s))
+
+-- the state of a moment of the same core is that of the other, elsewhere
+abbrev made : Variables → Variables → ℕ → Moment → OutcomeWord → State
+made environment locals status t w = record { memory = record { environment = environment; locals = locals; status = status; text = t.text }; log = t.log; steps = t.steps; word = w }
+
+state_there : (m t : Moment) (w : OutcomeWord) → HaveSameCore m t → state_at t w ≡ elsewhere t.text t.log t.steps (state_at m w)
+state_there m t w h =
+    ap (λ (v : Variables). made v (entries t.locals) t.status t w) h.environment
+    ∙ ap (λ (v : Variables). made (entries m.environment) v t.status t w) h.locals
+    ∙ ap (λ (n : ℕ). made (entries m.environment) (entries m.locals) n t w) h.status
+
+asks_so : (limits : Limits) (m : Moment) (a : Asking limits m) (w : OutcomeWord) → asked_at limits m w ≡ continue limits (frames_of m.frames) (take_outcome a.request w (state_at m w))
+unfolding asked_at
+asks_so limits m a w = ap (λ (x : PlaceNext). comes_to limits w (next_of x)) (a.again w)
+
+module _ (limits : Limits) (m t : Moment) (am : Asking limits m) (at : Asking limits t) (core : HaveSameCore m t) where
+  again_there : (w : OutcomeWord) → found_again limits m.frames (elsewhere t.text t.log t.steps (state_at m w)) ≡ AskOn at.request t.frames (state_at t w)
+  again_there w = ap (λ (s : State). found_again limits m.frames s) (sym (state_there m t w core)) ∙ ap (λ (fs : List RunningFrame). found_again limits fs (state_at t w)) (sym core.frames) ∙ at.again w
+
+  asks_same : am.request ≡ at.request
+  asks_same = request_same limits t.text t.log t.steps m.frames m.frames t.frames (state_at m []) (state_at m []) (state_at t []) am.request at.request (am.again []) (again_there [])
+
+  there_so : (w : OutcomeWord) → asked_at limits t w ≡ continue limits (frames_of m.frames) (take_outcome am.request w (elsewhere t.text t.log t.steps (state_at m w)))
+  there_so w =
+      asks_so limits t at w
+      ∙ ap (λ (fs : List RunningFrame). continue limits (frames_of fs) (take_outcome at.request w (state_at t w))) core.frames
+      ∙ ap (λ (r : Request). continue limits (frames_of m.frames) (take_outcome r w (state_at t w))) (sym asks_same)
+      ∙ ap (λ (s : State). continue limits (frames_of m.frames) (take_outcome am.request w s)) (state_there m t w core)
+
+  alike_there : (w : OutcomeWord) → CameAlike limits m.steps t.steps (length m.log) (length t.log) (asked_at limits m w) (asked_at limits t w)
+  alike_there w =
+      let here : Came = continue limits (frames_of m.frames) (take_outcome am.request w (state_at m w)) in
+      let there' : Came = continue limits (frames_of m.frames) (take_outcome am.request w (elsewhere t.text t.log t.steps (state_at m w))) in
+      let same : CameAlike limits m.steps t.steps (length m.log) (length t.log) here there' =
+      continue_alike limits m.steps t.steps (length m.log) (length t.log) (frames_of m.frames) (take_outcome am.request w (state_at m w)) (take_outcome am.request w (elsewhere t.text t.log t.steps (state_at m w)))
+      (take_alike limits m.steps t.steps (length m.log) (length t.log) am.request w (state_at m w) t.text t.log t.steps (omega arith, omega arith)) in
+      subst (λ (c : Came). CameAlike limits m.steps t.steps (length m.log) (length t.log) c (asked_at limits t w)) (sym (asks_so limits m am w))
+      (subst (λ (c : Came). CameAlike limits m.steps t.steps (length m.log) (length t.log) here c) (sym (there_so w)) same)
+
+-- the law: for every rest of the word
+pub asked_alike : (limits : Limits) (m t : Moment) → IsAsking limits m → IsAsking limits t → HaveSameCore m t → (w : OutcomeWord) → CameAlike limits m.steps t.steps (length m.log) (length t.log) (asked_at limits m w) (asked_at limits t w)
+unfolding IsAsking
+asked_alike limits m t am at core w = alike_there limits m t am at core w

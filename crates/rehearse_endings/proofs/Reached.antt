@@ -1,0 +1,236 @@
+-- The search over the states in which device commands ask.
+use Rattle.std.proofs.Common.{ℕ, zero, suc, get_or, ◌+◌, ◌≤◌, ◌<◌, max, Bool, true, false, List, [], ◌∷◌, ◌++◌, map, length, Option, Some, None, refl, sym, ap, subst, ◌∙◌, ◌≡◌, arith, append-nil, length-append}
+use Rattle.std.proofs.lemmas.List.Elements.{All-append}
+use Rattle.bootstore.specs.Record.{Record, with_mark, gone_back, returned}
+use Rattle.rehearse_machine.specs.Machine.{outcome_when}
+use Rattle.bootstore.specs.Moment.{Moment, RunningFrame}
+use Rattle.rehearse.specs.Outcomes.{OutcomeWord, Outcome, Success, Failure}
+use Rattle.rehearse.specs.State.{Variables, State, state_at, start}
+use Rattle.rehearse.specs.Execution.{Limits, Answer, Normal, Exit, Ended, Dry, Ending}
+use Rattle.rehearse.specs.Runs.{Task, run_on, state_of, kind, kind_of, ending_of}
+use Rattle.rehearse.proofs.Keeping.{GoesTo, Track-of}
+use Rattle.rehearse.proofs.TaskChoices.{Keeps-run_on, task_chooses}
+use Rattle.rehearse_machine.specs.Came.{Came, Over, Wants, settled}
+use Rattle.rehearse_machine.specs.EndingsShown.{halt_shown}
+use Rattle.rehearse_machine.specs.Machine.{Stops, IsAsking, asked_at}
+use Rattle.rehearse_machine.specs.declared.halt.Halt.{Halt}
+use Rattle.rehearse_machine.specs.declared.rehearsal.Stop.{Stop}
+use Rattle.rehearse_machine.specs.declared.rehearsal.Stop.TheVariants.{Asks, Ends}
+use Rattle.rehearse_runs.specs.Searching.{StoppedAt}
+use Rattle.rehearse_runs.proofs.SearchLemmas.{asked_within, stopped_on}
+use Rattle.rehearse_endings.specs.Futures.{came_kind, came_ending, came_state, came_steps, came_devices, HaveSameCore}
+use Rattle.rehearse_endings.specs.Endings.{Row, HasRows, of_both, ending, endings}
+use Rattle.rehearse_endings.specs.Cores.{CoreShown, core_shown, core_of}
+use Rattle.rehearse_endings.specs.Summaries.{Summary, Sums, FitsIf, Fits, moved_by, moved_on, of_end, of_sides, summary_of_sides, summary_at_end}
+use Rattle.rehearse_endings.specs.RowsShown.{saturated, of_both_up, summary_shown, saturated_summary, Summed}
+use Rattle.rehearse_endings.specs.Searching.{future, IsReached, IsEntry, AreEntries, IsKept}
+use Rattle.rehearse_endings.specs.declared.table.Entry.{Entry}
+use Rattle.rehearse_endings.specs.declared.summary.Summary as kept
+use Rattle.std.specs.Prelude.{MatchOption, ⊤}
+use Rattle.rehearse_endings.proofs.Summing.{rows_as, sums_same, sums_there, sums_end, sums_sides}
+use Rattle.rehearse_endings.proofs.Gathering.{are_rows}
+use Rattle.rehearse_endings.proofs.Saturating.{both_up}
+
+-- ---- where a text has stopped
+
+state_settled : (a : Answer) → came_state (settled a) ≡ state_of a
+state_settled (Normal s) = refl
+state_settled (Exit s) = refl
+state_settled (Ended ending s) = refl
+state_settled (Dry s) = refl
+
+log_taken : (s t : State) (u : State) → GoesTo s t → t ≡ u → length s.log ≡ 0 → u.word ≡ [] → length u.log ≡ length s.word
+log_taken s t u g e none over =
+    let h : GoesTo s u = subst (λ (x : State). GoesTo s x) e g in
+    let a = h.log in
+    let b = ap length h.word in
+    let c = length-append h.taken u.word in
+    let d = ap length over in
+    omega arith
+
+log_at : (task : Task) (p : OutcomeWord) (m : Moment) → came_state (settled (run_on task (p ++ []))) ≡ state_at m [] → length m.log ≡ length p
+log_at task p m e =
+    let a : Answer = run_on task (p ++ []) in
+    let g = Track-of task.limits.device_bound (start task.environment (p ++ [])) a (Keeps-run_on task (start task.environment (p ++ []))).0 in
+    log_taken (start task.environment (p ++ [])) (state_of a) (state_at m []) g (sym (state_settled a) ∙ e) refl refl ∙ ap length (append-nil p)
+
+stopped_log : (task : Task) (p : OutcomeWord) (stop : Stop) (m : Moment) → StoppedAt task p stop m → length m.log ≡ length p
+stopped_log task p Asks m h = log_at task p m (ap came_state h.2)
+stopped_log task p (Ends halt) m h = log_at task p m (ap came_state (h []))
+
+pub reached_log : (task : Task) (depth : ℕ) (stop : Stop) (m : Moment) → IsReached task depth stop m → length m.log ≡ depth
+reached_log task depth stop m h = stopped_log task h.0 stop m h.2 ∙ h.1
+
+pub reached_as : (task : Task) (depth : ℕ) (stop other : Stop) (m : Moment) → stop ≡ other → IsReached task depth stop m → IsReached task depth other m
+reached_as task depth stop other m e h = subst (λ (x : Stop). IsReached task depth x m) e h
+
+pub reached_below : (task : Task) (depth : ℕ) (m : Moment) → IsReached task depth Asks m → depth < task.limits.device_bound
+reached_below task depth m h = let l = asked_within task h.0 m h.2 in let e = h.1 in omega arith
+
+pub reached_asks : (task : Task) (depth : ℕ) (m : Moment) → IsReached task depth Asks m → IsAsking task.limits m
+reached_asks task depth m h = h.2.0
+
+reached_wants : (task : Task) (depth : ℕ) (m : Moment) → IsReached task depth Asks m → asked_at task.limits m [] ≡ Wants (state_at m [])
+reached_wants task depth m h = let k = h.2 in sym (k.1 []) ∙ k.2
+
+-- one outcome further
+pub reached_on : (task : Task) (depth : ℕ) (m n : Moment) (d : Outcome) (stop : Stop) → IsReached task depth Asks m → Stops task.limits stop (λ w. asked_at task.limits m (d ∷ w)) n → IsReached task (depth + 1) stop n
+reached_on task depth m n d stop h k = (h.0 ++ d ∷ [], (let a = length-append h.0 (d ∷ []) in let b = h.1 in omega arith), stopped_on task h.0 m n d stop h.2 k)
+
+future_is : (limits : Limits) (stop : Stop) (f : OutcomeWord → Came) (n : Moment) → Stops limits stop f n → (w : OutcomeWord) → f w ≡ future limits stop n w
+future_is limits Asks f n h w = h.1 w
+future_is limits (Ends halt) f n h w = h w
+
+-- ---- summaries
+
+pub summed_as : (f g : OutcomeWord → Came) (s t : Summary) → ((w : OutcomeWord) → f w ≡ g w) → s ≡ t → Summed f s → Summed g t
+summed_as f g s t e k h = (h.0, sums_same f g h.0 e h.1, sym k ∙ h.2)
+
+end_shown : (ending : Ending) (m : Moment) → saturated_summary (of_end ending m) ≡ of_end ending m
+end_shown ending m = refl
+
+pub summed_end : (limits : Limits) (halt : Halt) (m : Moment) (depth steps : ℕ) (s : Summary) → length m.log ≡ depth → steps ≡ m.steps → s ≡ summary_at_end (halt_shown halt) steps depth → Summed (future limits (Ends halt) m) s
+summed_end limits halt m depth steps s e k h =
+    (of_end (halt_shown halt) m, sums_end (halt_shown halt) m, h ∙ ap (λ (n : ℕ). summary_at_end (halt_shown halt) n depth) k ∙ ap (λ (n : ℕ). summary_at_end (halt_shown halt) m.steps n) (sym e) ∙ sym (end_shown (halt_shown halt) m))
+
+module _ (task : Task) (depth : ℕ) (m : Moment) (reached : IsReached task depth Asks m) where
+  -- a device command that asks, from its two sides
+  pub summed_sides : (won_stop lost_stop : Stop) (won_at lost_at : Moment) (won lost s : Summary) (steps : ℕ) → steps ≡ m.steps
+      → Stops task.limits won_stop (λ w. asked_at task.limits m (Success ∷ w)) won_at → Stops task.limits lost_stop (λ w. asked_at task.limits m (Failure ∷ w)) lost_at
+      → Summed (future task.limits won_stop won_at) won → Summed (future task.limits lost_stop lost_at) lost
+      → s ≡ summary_of_sides of_both_up steps depth won lost → Summed (asked_at task.limits m) s
+  summed_sides won_stop lost_stop won_at lost_at won lost s steps k a b h g e =
+      let up : Sums (λ w. asked_at task.limits m (Success ∷ w)) h.0 = sums_same (future task.limits won_stop won_at) (λ w. asked_at task.limits m (Success ∷ w)) h.0 (λ w. sym (future_is task.limits won_stop (λ v. asked_at task.limits m (Success ∷ v)) won_at a w)) h.1 in
+      let down : Sums (λ w. asked_at task.limits m (Failure ∷ w)) g.0 = sums_same (future task.limits lost_stop lost_at) (λ w. asked_at task.limits m (Failure ∷ w)) g.0 (λ w. sym (future_is task.limits lost_stop (λ v. asked_at task.limits m (Failure ∷ v)) lost_at b w)) g.1 in
+      let log = reached_log task depth Asks m reached in (
+        of_sides m h.0 g.0,
+        sums_sides (asked_at task.limits m) m h.0 g.0 (reached_wants task depth m reached) up down,
+        e
+            ∙ ap (λ (n : ℕ). summary_of_sides of_both_up n depth won lost) k
+            ∙ ap (λ (n : ℕ). summary_of_sides of_both_up m.steps n won lost) (sym log)
+            ∙ ap (λ (x : Summary). summary_of_sides of_both_up m.steps (length m.log) x lost) h.2
+            ∙ ap (λ (x : Summary). summary_of_sides of_both_up m.steps (length m.log) (saturated_summary h.0) x) g.2
+            ∙ ap (λ (rows : List Row). record (of_sides m h.0 g.0) { rows = rows }) (sym (both_up h.0.rows g.0.rows)),
+      )
+
+-- ---- the table
+
+same_core : (m t : Moment) → core_of m ≡ core_of t → HaveSameCore m t
+same_core m t e = record {
+  environment = sym (ap (λ (c : CoreShown). c.environment) e);
+  locals = sym (ap (λ (c : CoreShown). c.locals) e);
+  status = sym (ap (λ (c : CoreShown). c.status) e);
+  frames = sym (ap (λ (c : CoreShown). c.frames) e);
+}
+
+-- an entry that fits
+pub entry_there : (limits : Limits) (e : Entry) (t : Moment) (depth : ℕ) (s : Summary) → IsEntry limits e → IsAsking limits t → length t.log ≡ depth → core_shown e.core ≡ core_of t
+    → FitsIf e.summary.cut_steps e.steps t.steps e.summary.steps limits.step_bound → FitsIf e.summary.cut_devices e.devices depth e.summary.devices limits.device_bound
+    → s ≡ moved_by e.steps t.steps e.devices depth (summary_shown e.summary) → Summed (asked_at limits t) s
+entry_there limits e t depth s h asks log core steps devices is =
+    let m : Moment = h.moment in
+    let kept : Summary = h.summary in
+    let shown : summary_shown e.summary ≡ saturated_summary kept = h.shown in
+    let fits_steps : FitsIf kept.cut_steps m.steps t.steps kept.steps limits.step_bound =
+    subst (λ (x : Summary). FitsIf x.cut_steps m.steps t.steps x.steps limits.step_bound) shown (subst (λ (n : ℕ). FitsIf e.summary.cut_steps n t.steps e.summary.steps limits.step_bound) h.steps steps) in
+    let fits_devices : FitsIf kept.cut_devices (length m.log) (length t.log) kept.devices limits.device_bound =
+    subst (λ (x : Summary). FitsIf x.cut_devices (length m.log) (length t.log) x.devices limits.device_bound) shown
+    (subst (λ (n : ℕ). FitsIf e.summary.cut_devices (length m.log) n e.summary.devices limits.device_bound) (sym log)
+    (subst (λ (n : ℕ). FitsIf e.summary.cut_devices n depth e.summary.devices limits.device_bound) h.devices devices)) in
+    let fits : Fits limits kept m t = record { core = same_core m t (sym h.core ∙ core); steps = fits_steps; devices = fits_devices } in (
+      moved_on m t kept,
+      sums_there limits m t kept h.sums h.reach_steps h.reach_devices fits h.asks asks,
+      is
+          ∙ ap (λ (n : ℕ). moved_by n t.steps e.devices depth (summary_shown e.summary)) h.steps
+          ∙ ap (λ (n : ℕ). moved_by m.steps t.steps n depth (summary_shown e.summary)) h.devices
+          ∙ ap (λ (n : ℕ). moved_by m.steps t.steps (length m.log) n (summary_shown e.summary)) (sym log)
+          ∙ ap (λ (x : Summary). moved_by m.steps t.steps (length m.log) (length t.log) x) shown,
+    )
+
+-- what a look into the table finds
+pub look_there : (limits : Limits) (e : Entry) (t : Moment) (depth : ℕ) (o : Option kept.Summary) → IsEntry limits e → IsAsking limits t → length t.log ≡ depth → core_shown e.core ≡ core_of t
+    → FitsIf e.summary.cut_steps e.steps t.steps e.summary.steps limits.step_bound → FitsIf e.summary.cut_devices e.devices depth e.summary.devices limits.device_bound
+    → (steps : ℕ) → steps ≡ t.steps → MatchOption o ⊤ (λ s. summary_shown s ≡ moved_by e.steps steps e.devices depth (summary_shown e.summary)) → MatchOption o ⊤ (λ s. Summed (asked_at limits t) (summary_shown s))
+look_there limits e t depth None h asks log core fits_steps fits_devices steps at is = is
+look_there limits e t depth (Some s) h asks log core fits_steps fits_devices steps at is =
+    entry_there limits e t depth (summary_shown s) h asks log core fits_steps fits_devices (is ∙ ap (λ (n : ℕ). moved_by e.steps n e.devices depth (summary_shown e.summary)) at)
+
+reach_steps_of : (task : Task) (m : Moment) (s : Summary) → asked_at task.limits m [] ≡ Wants (state_at m []) → Sums (asked_at task.limits m) s → m.steps ≤ s.steps
+reach_steps_of task m s e h = let a = h.steps [] in let b : came_steps (asked_at task.limits m []) ≡ m.steps = ap came_steps e in omega arith
+
+reach_devices_of : (task : Task) (m : Moment) (s : Summary) → asked_at task.limits m [] ≡ Wants (state_at m []) → Sums (asked_at task.limits m) s → length m.log ≤ s.devices
+reach_devices_of task m s e h = let a = h.devices [] in let b : came_devices (asked_at task.limits m []) ≡ suc (length m.log) = ap came_devices e in omega arith
+
+one_at : (limits : Limits) (e : Entry) → IsEntry limits e → (n : ℕ) (d : Entry) → n < 1 → IsEntry limits (get_or (e ∷ []) n d)
+one_at limits e k zero d l = k
+one_at limits e k (suc n) d l = absurd (omega arith)
+
+one_entry : (limits : Limits) (e : Entry) → IsEntry limits e → AreEntries limits (e ∷ [])
+one_entry limits e k = one_at limits e k
+
+all_append : (limits : Limits) (es : List Entry) (e : Entry) → AreEntries limits es → IsEntry limits e → AreEntries limits (es ++ e ∷ [])
+all_append limits es e h k = All-append (IsEntry limits) es (e ∷ []) h (one_entry limits e k)
+
+-- one entry more
+pub entries_more : (task : Task) (depth : ℕ) (m : Moment) (old new : List Entry) (core : CoreShown) (steps : ℕ) (s : Summary) → IsReached task depth Asks m → AreEntries task.limits old → core ≡ core_of m → steps ≡ m.steps → Summed (asked_at task.limits m) s → IsKept old new core steps depth s → AreEntries task.limits new
+entries_more task depth m old new core steps s reached all same at summed kept =
+    let log = reached_log task depth Asks m reached in
+    let wants = reached_wants task depth m reached in
+    let entry : IsEntry task.limits kept.0 = record {
+      moment = m;
+      asks = reached_asks task depth m reached;
+      core = kept.2 ∙ same;
+      steps = kept.3 ∙ at;
+      devices = kept.4 ∙ sym log;
+      summary = summed.0;
+      sums = summed.1;
+      reach_steps = reach_steps_of task m summed.0 wants summed.1;
+      reach_devices = reach_devices_of task m summed.0 wants summed.1;
+      shown = kept.5 ∙ summed.2;
+    } in
+    subst (AreEntries task.limits) (sym kept.1) (all_append task.limits old kept.0 all entry)
+
+-- ---- marks
+
+pub won_on : (task : Task) (r₀ r r₁ : Record) (stop : Stop) → r ≡ with_mark r₀ → Stops task.limits stop (λ w. asked_at task.limits r.present (outcome_when true ∷ w)) r₁.present → Stops task.limits stop (λ w. asked_at task.limits r₀.present (Success ∷ w)) r₁.present
+won_on task r₀ r r₁ stop e h = subst (λ (x : Record). Stops task.limits stop (λ w. asked_at task.limits x.present (Success ∷ w)) r₁.present) e h
+
+back_by : (r₀ : Record) (present : Moment) (begun : ℕ) (marked : List Moment) → marked ≡ r₀.present ∷ r₀.marked → (returned present begun marked).present ≡ r₀.present
+back_by r₀ present begun marked e = ap (λ (ms : List Moment). (returned present begun ms).present) e
+
+pub back_there : (r₀ r r₁ r₂ back : Record) → r ≡ with_mark r₀ → r₁.marked ≡ r.marked → r₂.marked ≡ r₁.marked → back ≡ gone_back r₂ → back.present ≡ r₀.present
+back_there r₀ r r₁ r₂ back e a b k =
+    ap (λ (x : Record). x.present) k ∙ back_by r₀ r₂.present r₂.begun r₂.marked (b ∙ a ∙ ap (λ (x : Record). x.marked) e)
+
+pub lost_on : (task : Task) (m : Moment) (back r₁ : Record) (stop : Stop) → back.present ≡ m → Stops task.limits stop (λ w. asked_at task.limits back.present (outcome_when false ∷ w)) r₁.present → Stops task.limits stop (λ w. asked_at task.limits m (Failure ∷ w)) r₁.present
+lost_on task m back r₁ stop e h = subst (λ (x : Moment). Stops task.limits stop (λ w. asked_at task.limits x (Failure ∷ w)) r₁.present) e h
+
+none_there : (limits : Limits) (n : ℕ) (d : Entry) → n < 0 → IsEntry limits (get_or [] n d)
+none_there limits n d l = absurd (omega arith)
+
+-- ---- the whole
+
+kind_settled : (a : Answer) → came_kind (settled a) ≡ kind_of a
+kind_settled (Normal s) = refl
+kind_settled (Exit s) = refl
+kind_settled (Ended ending s) = refl
+kind_settled (Dry s) = refl
+
+ending_settled : (a : Answer) → came_ending (settled a) ≡ ending_of a
+ending_settled (Normal s) = refl
+ending_settled (Exit s) = refl
+ending_settled (Ended ending s) = refl
+ending_settled (Dry s) = refl
+
+pub reached_first : (task : Task) (stop : Stop) (m : Moment) → Stops task.limits stop (λ w. settled (run_on task w)) m → IsReached task 0 stop m
+reached_first task stop m h = ([], refl, h)
+
+pub no_entries : (limits : Limits) (es : List Entry) → es ≡ [] → AreEntries limits es
+no_entries limits es e = subst (AreEntries limits) (sym e) (none_there limits)
+
+pub whole_rows : (task : Task) (stop : Stop) (m : Moment) (s : Summary) → Stops task.limits stop (λ w. settled (run_on task w)) m → Summed (future task.limits stop m) s → s.rows ≡ map saturated (endings task)
+whole_rows task stop m s h k =
+    let f : OutcomeWord → Came = λ w. settled (run_on task w) in
+    let sums : Sums f k.0 = sums_same (future task.limits stop m) f k.0 (λ w. sym (future_is task.limits stop f m h w)) k.1 in
+    let has : HasRows (kind task) (ending task) k.0.rows = rows_as f (kind task) (ending task) k.0.rows (λ w. kind_settled (run_on task w)) (λ w. ending_settled (run_on task w)) sums.has_rows in
+    ap (λ (x : Summary). x.rows) k.2 ∙ ap (map saturated) (are_rows (kind task) (ending task) k.0.rows task.limits.device_bound has (task_chooses task))

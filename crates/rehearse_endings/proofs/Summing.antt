@@ -1,0 +1,134 @@
+-- Summaries: of an end, of both sides, and of another moment of the same core.
+use Rattle.std.proofs.Common.{ℕ, suc, ◌+◌, ◌-◌, ◌≤◌, ◌<◌, max, Bool, true, false, ◌||◌, List, [], ◌∷◌, length, refl, sym, ap, subst, ◌∙◌, ◌≡◌, inl, inr, arith}
+use Rattle.bootstore.specs.Moment.{Moment}
+use Rattle.rehearse.specs.Outcomes.{OutcomeWord, Outcome, Success, Failure, WordKind, Run, Short, Long, beyond}
+use Rattle.rehearse.specs.State.{State, state_at}
+use Rattle.rehearse.specs.Execution.{Limits, Ending, End, CutDevices, CutSteps, Unknown, Syntax, Size, Booted}
+use Rattle.rehearse_machine.specs.Came.{Came, Over, Wants}
+use Rattle.rehearse_machine.specs.Machine.{IsAsking, asked_at}
+use Rattle.rehearse_endings.specs.Elsewhere.{IsCutBy}
+use Rattle.rehearse_endings.specs.Futures as futures
+use Rattle.rehearse_endings.specs.Futures.{came_kind, came_ending, came_steps, came_devices, HaveSameCore, IsSameCame, CameCut, CameBeyond, CameAlike}
+use Rattle.rehearse_endings.specs.Endings.{Row, HasRows, ends, asks, one_run, of_both}
+use Rattle.rehearse_endings.specs.Summaries.{Summary, Sums, FitsIf, Fits, moved_on, is_cut_steps, is_cut_devices, of_end, of_sides}
+use Rattle.rehearse_endings.proofs.Moments.{asked_alike}
+
+pub same_function : {A B : Type 0} (f g : A → B) → ((x : A) → f x ≡ g x) → f ≡ g
+same_function f g h = λ i. λ x. h x i
+
+same_rows : (f g : OutcomeWord → Came) (rows : List Row) → ((w : OutcomeWord) → came_kind (f w) ≡ came_kind (g w)) → ((w : OutcomeWord) → came_ending (f w) ≡ came_ending (g w)) → HasRows (λ w. came_kind (f w)) (λ w. came_ending (f w)) rows → HasRows (λ w. came_kind (g w)) (λ w. came_ending (g w)) rows
+same_rows f g rows k e h =
+    subst (λ (x : OutcomeWord → Ending). HasRows (λ w. came_kind (g w)) x rows) (same_function (λ w. came_ending (f w)) (λ w. came_ending (g w)) e)
+    (subst (λ (x : OutcomeWord → WordKind). HasRows x (λ w. came_ending (f w)) rows) (same_function (λ w. came_kind (f w)) (λ w. came_kind (g w)) k) h)
+
+pub rows_as : (f : OutcomeWord → Came) (kinds : OutcomeWord → WordKind) (endings : OutcomeWord → Ending) (rows : List Row) → ((w : OutcomeWord) → came_kind (f w) ≡ kinds w) → ((w : OutcomeWord) → came_ending (f w) ≡ endings w) → HasRows (λ w. came_kind (f w)) (λ w. came_ending (f w)) rows → HasRows kinds endings rows
+rows_as f kinds endings rows k e h =
+    subst (λ (x : OutcomeWord → Ending). HasRows kinds x rows) (same_function (λ w. came_ending (f w)) endings e)
+    (subst (λ (x : OutcomeWord → WordKind). HasRows x (λ w. came_ending (f w)) rows) (same_function (λ w. came_kind (f w)) kinds k) h)
+
+-- what comes to the same has the same summary
+pub sums_same : (f g : OutcomeWord → Came) (s : Summary) → ((w : OutcomeWord) → f w ≡ g w) → Sums f s → Sums g s
+sums_same f g s e h = subst (λ (x : OutcomeWord → Came). Sums x s) (same_function f g e) h
+
+-- ---- another moment of the same core
+
+module _ (limits : Limits) (m t : Moment) (s : Summary) (sums : Sums (asked_at limits m) s) (reach_steps : m.steps ≤ s.steps) (reach_devices : length m.log ≤ s.devices) (fits : Fits limits s m t) where
+  abbrev Alike : OutcomeWord → Type 0
+  Alike w = CameAlike limits m.steps t.steps (length m.log) (length t.log) (asked_at limits m w) (asked_at limits t w)
+
+  never_cut_steps : (cut : Bool) (here there reach bound : ℕ) (c : Came) → FitsIf cut here there reach bound → (cut ≡ false → came_ending c ≡ CutSteps → ⊥) → came_ending c ≡ CutSteps → there < here → ⊥
+  never_cut_steps true here there reach bound c f u e l = absurd (omega (arith, f))
+  never_cut_steps false here there reach bound c f u e l = u refl e
+
+  never_cut_devices : (cut : Bool) (here there reach bound : ℕ) (c : Came) → FitsIf cut here there reach bound → (cut ≡ false → came_ending c ≡ CutDevices → ⊥) → came_ending c ≡ CutDevices → there < here → ⊥
+  never_cut_devices true here there reach bound c f u e l = absurd (omega (arith, f))
+  never_cut_devices false here there reach bound c f u e l = u refl e
+
+  never_by : (w : OutcomeWord) (ending : Ending) → came_ending (asked_at limits m w) ≡ ending → IsCutBy limits m.steps t.steps (length m.log) (length t.log) ending → ⊥
+  never_by w (End status) e h = h
+  never_by w CutDevices e h = never_cut_devices s.cut_devices (length m.log) (length t.log) s.devices limits.device_bound (asked_at limits m w) fits.devices (λ u. sums.uncut_devices u w) e h
+  never_by w CutSteps e h = never_cut_steps s.cut_steps m.steps t.steps s.steps limits.step_bound (asked_at limits m w) fits.steps (λ u. sums.uncut_steps u w) e h
+  never_by w (Unknown name) e h = h
+  never_by w (Syntax name) e h = h
+  never_by w Size e h = h
+  never_by w (Booted name) e h = h
+
+  never_cut : (w : OutcomeWord) (c : Came) → asked_at limits m w ≡ c → CameCut limits m.steps t.steps (length m.log) (length t.log) c → ⊥
+  never_cut w (Over ending x) e h = never_by w ending (ap came_ending e) h
+  never_cut w (Wants x) e h = h
+
+  never_beyond : (cut : Bool) (here there reach bound came : ℕ) → FitsIf cut here there reach bound → came ≤ reach → here < there → here + bound < there + came → ⊥
+  never_beyond true here there reach bound came f l a b = absurd (omega (arith, f))
+  never_beyond false here there reach bound came f l a b = absurd (omega (arith, f))
+
+  same_there : (w : OutcomeWord) → Alike w → IsSameCame limits m.steps t.steps (length m.log) (length t.log) (asked_at limits m w) (asked_at limits t w)
+  same_there w (futures.same h) = h
+  same_there w (futures.cut_here h) = absurd (never_cut w (asked_at limits m w) refl h)
+  same_there w (futures.beyond (inl h)) = absurd (never_beyond s.cut_steps m.steps t.steps s.steps limits.step_bound (came_steps (asked_at limits m w)) fits.steps (sums.steps w) h.0 h.1)
+  same_there w (futures.beyond (inr h)) = absurd (never_beyond s.cut_devices (length m.log) (length t.log) s.devices limits.device_bound (came_devices (asked_at limits m w)) fits.devices (sums.devices w) h.0 h.1)
+
+  -- the law of the table: what was summed at one moment is the summary of another
+  pub sums_there : IsAsking limits m → IsAsking limits t → Sums (asked_at limits t) (moved_on m t s)
+  sums_there am at =
+      let same = λ (w : OutcomeWord). same_there w (asked_alike limits m t am at fits.core w) in
+      record {
+        has_rows = same_rows (asked_at limits m) (asked_at limits t) s.rows (λ w. sym (same w).kind) (λ w. sym (same w).ending) sums.has_rows;
+        steps = λ w. let a = (same w).steps in let b = sums.steps w in omega arith;
+        devices = λ w. let a = (same w).devices in let b = sums.devices w in omega arith;
+        uncut_steps = λ u w e. sums.uncut_steps u w (sym (same w).ending ∙ e);
+        uncut_devices = λ u w e. sums.uncut_devices u w (sym (same w).ending ∙ e);
+      }
+
+-- ---- ends and sides
+
+cut_steps_by : (ending : Ending) → is_cut_steps ending ≡ false → ending ≡ CutSteps → ⊥
+cut_steps_by ending h e = let f = ap is_cut_steps e in cc
+
+cut_devices_by : (ending : Ending) → is_cut_devices ending ≡ false → ending ≡ CutDevices → ⊥
+cut_devices_by ending h e = let f = ap is_cut_devices e in cc
+
+-- a run that is over
+pub sums_end : (ending : Ending) (m : Moment) → Sums (λ w. Over ending (state_at m w)) (of_end ending m)
+sums_end ending m = record {
+  has_rows = ends refl (λ d w. refl);
+  steps = λ w. omega arith;
+  devices = λ w. omega arith;
+  uncut_steps = λ u w e. cut_steps_by ending u e;
+  uncut_devices = λ u w e. cut_devices_by ending u e;
+}
+
+or_left : (a b : Bool) → (a || b) ≡ false → a ≡ false
+or_left true b h = absurd (let f = h in cc)
+or_left false b h = refl
+
+or_right : (a b : Bool) → (a || b) ≡ false → b ≡ false
+or_right true b h = absurd (let f = h in cc)
+or_right false b h = h
+
+not_wanted : (f : OutcomeWord → Came) (m : Moment) (ending : Ending) → f [] ≡ Wants (state_at m []) → came_ending (f []) ≡ ending → End m.status ≡ ending
+not_wanted f m ending e h = sym (ap came_ending e) ∙ h
+
+module _ (f : OutcomeWord → Came) (m : Moment) (won lost : Summary) (wants : f [] ≡ Wants (state_at m [])) (up : Sums (λ w. f (Success ∷ w)) won) (down : Sums (λ w. f (Failure ∷ w)) lost) where
+  side_steps : (w : OutcomeWord) → came_steps (f w) ≤ max m.steps (max won.steps lost.steps)
+  side_steps [] = let e : came_steps (f []) ≡ m.steps = ap came_steps wants in omega arith
+  side_steps (Success ∷ w) = let l = up.steps w in omega arith
+  side_steps (Failure ∷ w) = let l = down.steps w in omega arith
+
+  side_devices : (w : OutcomeWord) → came_devices (f w) ≤ max (suc (length m.log)) (max won.devices lost.devices)
+  side_devices [] = let e : came_devices (f []) ≡ suc (length m.log) = ap came_devices wants in omega arith
+  side_devices (Success ∷ w) = let l = up.devices w in omega arith
+  side_devices (Failure ∷ w) = let l = down.devices w in omega arith
+
+  side_cut_steps : (won.cut_steps || lost.cut_steps) ≡ false → (w : OutcomeWord) → came_ending (f w) ≡ CutSteps → ⊥
+  side_cut_steps u [] e = let g : End m.status ≡ CutSteps = not_wanted f m CutSteps wants e in cc
+  side_cut_steps u (Success ∷ w) e = up.uncut_steps (or_left won.cut_steps lost.cut_steps u) w e
+  side_cut_steps u (Failure ∷ w) e = down.uncut_steps (or_right won.cut_steps lost.cut_steps u) w e
+
+  side_cut_devices : (won.cut_devices || lost.cut_devices) ≡ false → (w : OutcomeWord) → came_ending (f w) ≡ CutDevices → ⊥
+  side_cut_devices u [] e = let g : End m.status ≡ CutDevices = not_wanted f m CutDevices wants e in cc
+  side_cut_devices u (Success ∷ w) e = up.uncut_devices (or_left won.cut_devices lost.cut_devices u) w e
+  side_cut_devices u (Failure ∷ w) e = down.uncut_devices (or_right won.cut_devices lost.cut_devices u) w e
+
+  -- a device command that asks
+  pub sums_sides : Sums f (of_sides m won lost)
+  sums_sides = record { has_rows = asks (ap came_kind wants) up.has_rows down.has_rows; steps = side_steps; devices = side_devices; uncut_steps = side_cut_steps; uncut_devices = side_cut_devices }

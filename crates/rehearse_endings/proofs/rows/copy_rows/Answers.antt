@@ -1,0 +1,21 @@
+use Rattle.std.proofs.Common.{◌∙◌, ap, sym, ◌≡◌, map, take, get_or, List, ◌++◌, ◌∷◌, [], arith}
+use Rattle.std.proofs.lemmas.List.{map_more, map-append}
+use Rattle.rehearse_machine.specs.EndingsShown.{halt_shown}
+use Rattle.rehearse_endings.specs.Endings.{Row}
+use Rattle.rehearse_endings.specs.RowsShown.{row_shown}
+use Rattle.rehearse_endings.specs.declared.rows.Row as rt
+use Rattle.rehearse_endings.proofs.RowLemmas.{row_same}
+use Rattle.rehearse_endings.proofs.rows.copy_rows.Goals as goal
+
+pub loop-row-preserved : goal.loop-row-preserved
+loop-row-preserved c =
+    let items = c.deref-row-items.result.now in
+    let i = c.loop-row.row-index in
+    let row : rt.Row = c.row-item.result in
+    let made : rt.Row = record { halt = c.in_ok-halt.halt; count = row.count; digits = c.in_ok-digits.digits } in
+    let same : row_shown made ≡ row_shown row = row_same (halt_shown made.halt) (halt_shown row.halt) row.count made.digits.items row.digits.items c.in_ok-halt.ensures (c.in_ok-digits.ensures.items ∙ c.deref.ensures.value) in
+    ap (map row_shown) c.in_ok-push.ensures.items
+    ∙ map-append row_shown c.loop-row.copies.items (made ∷ [])
+    ∙ ap (λ (x : List Row). x ++ row_shown made ∷ []) c.loop-row.invariant
+    ∙ ap (λ (r : Row). map row_shown (take i items) ++ r ∷ []) (same ∙ ap row_shown c.row-item.is)
+    ∙ sym (map_more row_shown items i row c.loop-row-test.true)

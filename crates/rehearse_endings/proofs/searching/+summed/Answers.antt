@@ -1,0 +1,93 @@
+use Rattle.std.proofs.Common.{arith, ap, sym, subst, ◌+◌, ◌<◌, ◌≡◌, ◌∷◌}
+use Rattle.rehearse.specs.Outcomes.{Success, Failure}
+use Rattle.rehearse_machine.specs.Tasks.{task_in}
+use Rattle.rehearse_machine.specs.Machine.{Stops, asked_at}
+use Rattle.rehearse_machine.specs.EndingsShown.{halt_shown}
+use Rattle.rehearse_machine.specs.declared.rehearsal.Stop.{Stop}
+use Rattle.rehearse_machine.specs.declared.rehearsal.Stop.TheVariants.{Asks, Ends}
+use Rattle.rehearse_endings.specs.Cores.{core_shown}
+use Rattle.rehearse_endings.specs.RowsShown.{summary_shown, Summed}
+use Rattle.rehearse_endings.specs.Searching.{future, IsReached}
+use Rattle.rehearse_endings.proofs.Reached.{reached_log, reached_as, reached_below, reached_on, won_on, back_there, lost_on, summed_end, summed_sides, entries_more}
+use Rattle.rehearse_endings.proofs.searching.+summed.Goals as goal
+
+pub look_up-requires-clause-depth : goal.look_up-requires-clause-depth
+look_up-requires-clause-depth g t c = reached_log (task_in c.args.rehearsal.now) c.args.depth c.args.stop (g.S.Store.record_of c.args.store.now).present c.requires.reached
+
+pub overflow_add-depth : goal.overflow_add-depth
+overflow_add-depth g t c =
+    let task = task_in c.args.rehearsal.now in
+    let m = (g.S.Store.record_of c.args.store.now).present in
+    let reached = reached_as task c.args.depth c.args.stop Asks m c.in-Asks.is c.requires.reached in
+    let l = reached_below task c.args.depth m reached in
+    let b = c.requires.bound in
+    omega arith
+
+pub summed-requires : goal.summed-requires
+summed-requires g t c κs within =
+    let task = task_in c.args.rehearsal.now in
+    let r = g.S.Store.record_of c.args.store.now in
+    let reached = reached_as task c.args.depth c.args.stop Asks r.present c.in-Asks.is c.requires.reached in
+    let l = reached_below task c.args.depth r.present reached in
+    let b = c.requires.bound in
+    let r₁ = g.S.Store.record_of c.go_on.new.store in
+    let stops = won_on task r (g.S.Store.record_of c.mark.new.self) r₁ c.in_ok-won_stop-in-Asks.won_stop c.in_ok-mark-in-Asks.ensures.ok c.in_ok-won_stop-in-Asks.ensures.stops in
+    (omega (arith, c.decreases), (within, (reached_on task c.args.depth r.present r₁.present Success c.in_ok-won_stop-in-Asks.won_stop reached stops, (c.requires.table, (c.in_ok-won_stop-in-Asks.ensures.within, b)))))
+
+pub overflow_add-depth-in-Asks : goal.overflow_add-depth-in-Asks
+overflow_add-depth-in-Asks g t c =
+    let task = task_in c.args.rehearsal.now in
+    let m = (g.S.Store.record_of c.args.store.now).present in
+    let reached = reached_as task c.args.depth c.args.stop Asks m c.in-Asks.is c.requires.reached in
+    let l = reached_below task c.args.depth m reached in
+    let b = c.requires.bound in
+    omega arith
+
+pub summed-requires-in-Asks : goal.summed-requires-in-Asks
+summed-requires-in-Asks g t c κs within =
+    let task = task_in c.args.rehearsal.now in
+    let r = g.S.Store.record_of c.args.store.now in
+    let reached = reached_as task c.args.depth c.args.stop Asks r.present c.in-Asks.is c.requires.reached in
+    let l = reached_below task c.args.depth r.present reached in
+    let b = c.requires.bound in
+    let back = g.S.Store.record_of c.back.new.self in
+    let there = back_there r (g.S.Store.record_of c.mark.new.self) (g.S.Store.record_of c.go_on.new.store) (g.S.Store.record_of c.summed.new.store) back c.in_ok-mark-in-Asks.ensures.ok c.in_ok-won_stop-in-Asks.ensures.marks c.in_ok-won-in-Asks.ensures.marks c.back.ensures in
+    let r₁ = g.S.Store.record_of c.go_on-in-Asks.new.store in
+    let stops = lost_on task r.present back r₁ c.in_ok-lost_stop-in-Asks.lost_stop there c.in_ok-lost_stop-in-Asks.ensures.stops in
+    (omega (arith, c.decreases), (within, (reached_on task c.args.depth r.present r₁.present Failure c.in_ok-lost_stop-in-Asks.lost_stop reached stops, (c.in_ok-won-in-Asks.ensures.table, (c.in_ok-lost_stop-in-Asks.ensures.within, b)))))
+
+pub returns-in_ok-summary-in-Ends-clause-sums : goal.returns-in_ok-summary-in-Ends-clause-sums
+returns-in_ok-summary-in-Ends-clause-sums g t c =
+    let task = task_in c.args.rehearsal.now in
+    let m = (g.S.Store.record_of c.args.store.now).present in
+    let log = reached_log task c.args.depth c.args.stop m c.requires.reached in
+    subst (λ (x : Stop). Summed (future task.limits x m) (summary_shown c.in_ok-summary-in-Ends.summary)) (sym c.in-Ends.is)
+    (summed_end task.limits c.in-Ends.halt m c.args.depth c.steps.result (summary_shown c.in_ok-summary-in-Ends.summary) log c.steps.ensures c.in_ok-summary-in-Ends.ensures)
+
+pub returns-in_ok-keep-in-Asks-clause-sums : goal.returns-in_ok-keep-in-Asks-clause-sums
+returns-in_ok-keep-in-Asks-clause-sums g t c =
+    let task = task_in c.args.rehearsal.now in
+    let r = g.S.Store.record_of c.args.store.now in
+    let reached = reached_as task c.args.depth c.args.stop Asks r.present c.in-Asks.is c.requires.reached in
+    let won_at = (g.S.Store.record_of c.go_on.new.store).present in
+    let lost_at = (g.S.Store.record_of c.go_on-in-Asks.new.store).present in
+    let won_stops = won_on task r (g.S.Store.record_of c.mark.new.self) (g.S.Store.record_of c.go_on.new.store) c.in_ok-won_stop-in-Asks.won_stop c.in_ok-mark-in-Asks.ensures.ok c.in_ok-won_stop-in-Asks.ensures.stops in
+    let back = g.S.Store.record_of c.back.new.self in
+    let there = back_there r (g.S.Store.record_of c.mark.new.self) (g.S.Store.record_of c.go_on.new.store) (g.S.Store.record_of c.summed.new.store) back c.in_ok-mark-in-Asks.ensures.ok c.in_ok-won_stop-in-Asks.ensures.marks c.in_ok-won-in-Asks.ensures.marks c.back.ensures in
+    let lost_stops = lost_on task r.present back (g.S.Store.record_of c.go_on-in-Asks.new.store) c.in_ok-lost_stop-in-Asks.lost_stop there c.in_ok-lost_stop-in-Asks.ensures.stops in
+    subst (λ (x : Stop). Summed (future task.limits x r.present) (summary_shown c.in_ok-summary-in-Asks.summary)) (sym c.in-Asks.is)
+    (summed_sides task c.args.depth r.present reached c.in_ok-won_stop-in-Asks.won_stop c.in_ok-lost_stop-in-Asks.lost_stop won_at lost_at (summary_shown c.in_ok-won-in-Asks.won) (summary_shown c.in_ok-lost-in-Asks.lost) (summary_shown c.in_ok-summary-in-Asks.summary) c.steps-steps.result c.steps-steps.ensures won_stops lost_stops c.in_ok-won-in-Asks.ensures.sums c.in_ok-lost-in-Asks.ensures.sums c.in_ok-summary-in-Asks.ensures)
+
+pub returns-in_ok-keep-in-Asks-clause-table : goal.returns-in_ok-keep-in-Asks-clause-table
+returns-in_ok-keep-in-Asks-clause-table g t c =
+    let task = task_in c.args.rehearsal.now in
+    let r = g.S.Store.record_of c.args.store.now in
+    let reached = reached_as task c.args.depth c.args.stop Asks r.present c.in-Asks.is c.requires.reached in
+    let won_at = (g.S.Store.record_of c.go_on.new.store).present in
+    let lost_at = (g.S.Store.record_of c.go_on-in-Asks.new.store).present in
+    let won_stops = won_on task r (g.S.Store.record_of c.mark.new.self) (g.S.Store.record_of c.go_on.new.store) c.in_ok-won_stop-in-Asks.won_stop c.in_ok-mark-in-Asks.ensures.ok c.in_ok-won_stop-in-Asks.ensures.stops in
+    let back = g.S.Store.record_of c.back.new.self in
+    let there = back_there r (g.S.Store.record_of c.mark.new.self) (g.S.Store.record_of c.go_on.new.store) (g.S.Store.record_of c.summed.new.store) back c.in_ok-mark-in-Asks.ensures.ok c.in_ok-won_stop-in-Asks.ensures.marks c.in_ok-won-in-Asks.ensures.marks c.back.ensures in
+    let lost_stops = lost_on task r.present back (g.S.Store.record_of c.go_on-in-Asks.new.store) c.in_ok-lost_stop-in-Asks.lost_stop there c.in_ok-lost_stop-in-Asks.ensures.stops in
+    let summed = summed_sides task c.args.depth r.present reached c.in_ok-won_stop-in-Asks.won_stop c.in_ok-lost_stop-in-Asks.lost_stop won_at lost_at (summary_shown c.in_ok-won-in-Asks.won) (summary_shown c.in_ok-lost-in-Asks.lost) (summary_shown c.in_ok-summary-in-Asks.summary) c.steps-steps.result c.steps-steps.ensures won_stops lost_stops c.in_ok-won-in-Asks.ensures.sums c.in_ok-lost-in-Asks.ensures.sums c.in_ok-summary-in-Asks.ensures in
+    entries_more task c.args.depth r.present c.summed-in-Asks.new.table.items c.keep.new.table.items (core_shown c.in_ok-core-in-Asks.core) c.steps-steps.result (summary_shown c.in_ok-summary-in-Asks.summary) reached c.in_ok-lost-in-Asks.ensures.table c.in_ok-core-in-Asks.ensures c.steps-steps.ensures summed c.in_ok-keep-in-Asks.ensures

@@ -1,0 +1,33 @@
+-- What contracts see of cores. Ours.
+use Rattle.std.specs.Prelude.{ℕ, List, map, reverse, Vec}
+use Rattle.std.specs.FinMap.{entries}
+use Rattle.std.specs.declared.alloc.Global.{Global}
+use Rattle.bootstore.specs.Moment.{Moment, RunningFrame}
+use Rattle.rehearse.specs.State.{Text, Variables}
+use Rattle.rehearse_endings.specs.declared.cores.Core.{Core}
+
+-- what the runs still to come of a state depend on, but for the room that the bounds leave
+pub record CoreShown : Type 0 where
+  pub environment : Variables
+  pub locals : Variables
+  pub status : ℕ
+  pub frames : List RunningFrame
+
+abbrev pub pairs_shown : List (Vec ℕ Global × Vec ℕ Global) → Variables
+pairs_shown pairs = map (λ p. (p.0.items, p.1.items)) pairs
+
+abbrev pub core_shown : Core → CoreShown
+core_shown c = record {
+  environment = pairs_shown c.environment.items;
+  locals = pairs_shown c.locals.items;
+  status = c.status;
+  frames = reverse c.frames.items;
+}
+
+abbrev pub core_of : Moment → CoreShown
+core_of m = record {
+  environment = entries m.environment;
+  locals = entries m.locals;
+  status = m.status;
+  frames = m.frames;
+}

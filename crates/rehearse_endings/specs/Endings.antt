@@ -1,0 +1,72 @@
+-- How all runs end: for each ending how many runs do, and the first of them. Ours.
+use Rattle.std.specs.Prelude.{◌≡◌, ℕ, ◌+◌, nat_eq, Bool, true, false, List, [], ◌∷◌, map}
+use Rattle.std.specs.Str.{bytes_eq}
+use Rattle.rehearse.specs.Outcomes.{OutcomeWord, Outcome, Success, Failure, WordKind, Run, Short, Long, runs_within, beyond}
+use Rattle.rehearse.specs.Execution.{Ending, End, CutDevices, CutSteps, Unknown, Syntax, Size, Booted}
+use Rattle.rehearse.specs.Runs.{Task, run_on, ending_of, runs}
+
+abbrev pub ending_eq : Ending → Ending → Bool
+ending_eq (End a) (End b) = nat_eq a b
+ending_eq CutDevices CutDevices = true
+ending_eq CutSteps CutSteps = true
+ending_eq (Unknown a) (Unknown b) = bytes_eq a b
+ending_eq (Syntax a) (Syntax b) = bytes_eq a b
+ending_eq Size Size = true
+ending_eq (Booted a) (Booted b) = bytes_eq a b
+ending_eq _ _ = false
+
+-- a way to end, how many runs end so, and the word of the first of them
+pub record Row : Type 0 where
+  pub ending : Ending
+  pub count : ℕ
+  pub word : OutcomeWord
+
+-- runs that end as others do raise their count; another ending comes behind those that are there
+abbrev pub with_row : List Row → Row → List Row
+with_row [] row = row ∷ []
+with_row (r ∷ rs) row =
+    elim (ending_eq r.ending row.ending) [
+      | true ↦ record r { count = r.count + row.count } ∷ rs
+      | false ↦ r ∷ with_row rs row
+    ]
+
+abbrev pub merge : List Row → List Row → List Row
+merge rows [] = rows
+merge rows (r ∷ rs) = merge (with_row rows r) rs
+
+abbrev pub one_run : Ending × OutcomeWord → Row
+one_run e = record { ending = e.0; count = 1; word = e.1 }
+
+-- the rows of runs in their order
+abbrev pub gather : List (Ending × OutcomeWord) → List Row
+gather es = merge [] (map one_run es)
+
+-- the rows of the runs among the words of at most n outcomes
+abbrev pub rows_within : (OutcomeWord → WordKind) → (OutcomeWord → Ending) → ℕ → List Row
+rows_within kind ending n = gather (map (λ w. (ending w, w)) (runs_within kind n))
+
+-- how the run on a word ends
+abbrev pub ending : Task → OutcomeWord → Ending
+ending task w = ending_of (run_on task w)
+
+-- the rows of all runs of a task
+abbrev pub endings : Task → List Row
+endings task = gather (map (λ w. (ending task w, w)) (runs task))
+
+-- ---- from the rows of both sides
+
+abbrev pub in_front : Outcome → Row → Row
+in_front outcome r = record r { word = outcome ∷ r.word }
+
+-- the runs past a success, then those past a failure
+abbrev pub of_both : (won lost : List Row) → List Row
+of_both won lost = merge (map (in_front Success) won) (map (in_front Failure) lost)
+
+-- rows that are made from the ends: here the run ends, or each outcome leads on
+pub data HasRows : (OutcomeWord → WordKind) → (OutcomeWord → Ending) → List Row → Type 0 where
+  ends : {kind : OutcomeWord → WordKind} {ending : OutcomeWord → Ending} → kind [] ≡ Run →
+      ((d : Outcome) (w : OutcomeWord) → kind (d ∷ w) ≡ Long) →
+      HasRows kind ending (one_run (ending [], []) ∷ [])
+  asks : {kind : OutcomeWord → WordKind} {ending : OutcomeWord → Ending} {won lost : List Row} → kind [] ≡ Short →
+      HasRows (beyond Success kind) (λ w. ending (Success ∷ w)) won →
+      HasRows (beyond Failure kind) (λ w. ending (Failure ∷ w)) lost → HasRows kind ending (of_both won lost)

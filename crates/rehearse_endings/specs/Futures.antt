@@ -1,0 +1,61 @@
+-- What is to come where a device command asks, for every rest of the word. Ours.
+use Rattle.std.specs.Prelude.{◌≡◌, ℕ, suc, ◌+◌, ◌<◌, ◌≤◌, ◌⊎◌, List, length, Bool, true, false}
+use Rattle.std.specs.FinMap.{entries}
+use Rattle.bootstore.specs.Moment.{Moment}
+use Rattle.rehearse.specs.Outcomes.{OutcomeWord, WordKind, Short}
+use Rattle.rehearse.specs.State.{State}
+use Rattle.rehearse.specs.Execution.{Limits, Ending, End, CutDevices, CutSteps}
+use Rattle.rehearse.specs.Runs.{taken_kind}
+use Rattle.rehearse_machine.specs.Came.{Came, Over, Wants}
+use Rattle.rehearse_endings.specs.Elsewhere.{IsCutBy}
+
+-- whether the word is a run, too short or too long
+abbrev pub came_kind : Came → WordKind
+came_kind (Over ending s) = taken_kind s
+came_kind (Wants s) = Short
+
+-- how the run ends
+abbrev pub came_ending : Came → Ending
+came_ending (Over ending s) = ending
+came_ending (Wants s) = End s.memory.status
+
+abbrev pub came_state : Came → State
+came_state (Over ending s) = s
+came_state (Wants s) = s
+
+-- how many steps were begun, and for how many device commands room was needed, with the one that asks
+abbrev pub came_steps : Came → ℕ
+came_steps c = (came_state c).steps
+
+abbrev pub came_devices : Came → ℕ
+came_devices (Over ending s) = length s.log
+came_devices (Wants s) = suc (length s.log)
+
+-- the two moments differ in their texts, their logs and their steps alone
+pub record HaveSameCore (m n : Moment) : Type 0 where
+  pub environment : entries n.environment ≡ entries m.environment
+  pub locals : entries n.locals ≡ entries m.locals
+  pub status : n.status ≡ m.status
+  pub frames : n.frames ≡ m.frames
+
+module _ (limits : Limits) (steps_here steps_there devices_here devices_there : ℕ) where
+  -- the same, but for the text, the log and the steps
+  pub record IsSameCame (c d : Came) : Type 0 where
+    pub kind : came_kind d ≡ came_kind c
+    pub ending : came_ending d ≡ came_ending c
+    pub steps : steps_here + came_steps d ≡ steps_there + came_steps c
+    pub devices : devices_here + came_devices d ≡ devices_there + came_devices c
+
+  abbrev pub CameCut : Came → Type 0
+  CameCut (Over ending s) = IsCutBy limits steps_here steps_there devices_here devices_there ending
+  CameCut (Wants s) = ⊥
+
+  abbrev pub CameBeyond : Came → Type 0
+  CameBeyond c = ((steps_here < steps_there) × (steps_here + limits.step_bound < steps_there + came_steps c))
+      ⊎ ((devices_here < devices_there) × (devices_here + limits.device_bound < devices_there + came_devices c))
+
+  -- the same, or a bound was in the way
+  pub data CameAlike : Came → Came → Type 0 where
+    same : {c d : Came} → IsSameCame c d → CameAlike c d
+    cut_here : {c d : Came} → CameCut c → CameAlike c d
+    beyond : {c d : Came} → CameBeyond c → CameAlike c d

@@ -1,0 +1,47 @@
+-- The search through the states in which device commands ask. Ours.
+use Rattle.std.specs.Prelude.{◌≡◌, ℕ, ◌≤◌, List, [], ◌∷◌, ◌++◌, length, All}
+use Rattle.bootstore.specs.Moment.{Moment}
+use Rattle.rehearse.specs.Outcomes.{OutcomeWord}
+use Rattle.rehearse.specs.State.{state_at}
+use Rattle.rehearse.specs.Execution.{Limits}
+use Rattle.rehearse.specs.Runs.{Task}
+use Rattle.rehearse_machine.specs.Came.{Came, Over, Wants}
+use Rattle.rehearse_machine.specs.EndingsShown.{halt_shown}
+use Rattle.rehearse_machine.specs.Machine.{IsAsking, asked_at}
+use Rattle.rehearse_machine.specs.declared.rehearsal.Stop.{Stop}
+use Rattle.rehearse_machine.specs.declared.rehearsal.Stop.TheVariants.{Asks, Ends}
+use Rattle.rehearse_runs.specs.Searching.{StoppedAt}
+use Rattle.rehearse_endings.specs.Cores.{CoreShown, core_shown, core_of}
+use Rattle.rehearse_endings.specs.Summaries.{Summary, Sums}
+use Rattle.rehearse_endings.specs.RowsShown.{summary_shown, saturated_summary, Summed}
+use Rattle.rehearse_endings.specs.declared.table.Entry.{Entry}
+
+-- what is to come of a text that has stopped
+abbrev pub future : Limits → Stop → Moment → OutcomeWord → Came
+future limits Asks m w = asked_at limits m w
+future limits (Ends halt) m w = Over (halt_shown halt) (state_at m w)
+
+-- the text has stopped behind so many device commands
+abbrev pub IsReached : Task → (depth : ℕ) → Stop → Moment → Type 0
+IsReached task depth stop m = (p : OutcomeWord) × (length p ≡ depth) × StoppedAt task p stop m
+
+-- an entry is the summary of a moment at which a device command asks
+pub record IsEntry (limits : Limits) (e : Entry) : Type 0 where
+  pub moment : Moment
+  pub asks : IsAsking limits moment
+  pub core : core_shown e.core ≡ core_of moment
+  pub steps : e.steps ≡ moment.steps
+  pub devices : e.devices ≡ length moment.log
+  pub summary : Summary
+  pub sums : Sums (asked_at limits moment) summary
+  pub reach_steps : moment.steps ≤ summary.steps
+  pub reach_devices : length moment.log ≤ summary.devices
+  pub shown : summary_shown e.summary ≡ saturated_summary summary
+
+abbrev pub AreEntries : Limits → List Entry → Type 0
+AreEntries limits entries = All (IsEntry limits) entries
+
+-- one entry more
+abbrev pub IsKept : (old new : List Entry) → CoreShown → (steps devices : ℕ) → Summary → Type 0
+IsKept old new core steps devices shown = (e : Entry) × (new ≡ old ++ e ∷ []) × (core_shown e.core ≡ core)
+    × (e.steps ≡ steps) × (e.devices ≡ devices) × (summary_shown e.summary ≡ shown)

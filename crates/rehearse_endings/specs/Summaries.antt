@@ -1,0 +1,83 @@
+-- What is kept of a moment at which a device command asks, and where else it may be used. Ours.
+use Rattle.std.specs.Prelude.{◌≡◌, ℕ, suc, ◌+◌, ◌-◌, ◌≤◌, max, List, [], ◌∷◌, length, Bool, true, false, ◌||◌}
+use Rattle.bootstore.specs.Moment.{Moment}
+use Rattle.rehearse.specs.Outcomes.{OutcomeWord}
+use Rattle.rehearse.specs.Execution.{Limits, Ending, End, CutDevices, CutSteps, Unknown, Syntax, Size, Booted}
+use Rattle.rehearse_machine.specs.Came.{Came}
+use Rattle.rehearse_endings.specs.Futures.{came_kind, came_ending, came_steps, came_devices, HaveSameCore}
+use Rattle.rehearse_endings.specs.Endings.{Row, HasRows, one_run, of_both}
+
+-- the rows of what is to come; up to how many steps and device commands runs come; whether one is cut
+pub record Summary : Type 0 where
+  pub rows : List Row
+  pub steps : ℕ
+  pub devices : ℕ
+  pub cut_steps : Bool
+  pub cut_devices : Bool
+
+-- the summary is that of what f comes to, for every word
+pub record Sums (f : OutcomeWord → Came) (s : Summary) : Type 0 where
+  pub has_rows : HasRows (λ w. came_kind (f w)) (λ w. came_ending (f w)) s.rows
+  pub steps : (w : OutcomeWord) → came_steps (f w) ≤ s.steps
+  pub devices : (w : OutcomeWord) → came_devices (f w) ≤ s.devices
+  pub uncut_steps : s.cut_steps ≡ false → (w : OutcomeWord) → came_ending (f w) ≡ CutSteps → ⊥
+  pub uncut_devices : s.cut_devices ≡ false → (w : OutcomeWord) → came_ending (f w) ≡ CutDevices → ⊥
+
+-- where a run was cut the room is the same, else there is room enough
+abbrev pub FitsIf : (cut : Bool) → (here there reach bound : ℕ) → Type 0
+FitsIf true here there reach bound = there ≡ here
+FitsIf false here there reach bound = there + reach ≤ here + bound
+
+-- the summary of m, as of a moment with these steps and device commands
+pub record Fits (limits : Limits) (s : Summary) (m t : Moment) : Type 0 where
+  pub core : HaveSameCore m t
+  pub steps : FitsIf s.cut_steps m.steps t.steps s.steps limits.step_bound
+  pub devices : FitsIf s.cut_devices (length m.log) (length t.log) s.devices limits.device_bound
+
+-- a summary, where so many steps and device commands came before
+abbrev pub moved_by : (here there devices_here devices_there : ℕ) → Summary → Summary
+moved_by here there devices_here devices_there s = record {
+  rows = s.rows;
+  steps = there + (s.steps - here);
+  devices = devices_there + (s.devices - devices_here);
+  cut_steps = s.cut_steps;
+  cut_devices = s.cut_devices;
+}
+
+-- the summary of a moment, as it is for another
+abbrev pub moved_on : (m t : Moment) → Summary → Summary
+moved_on m t s = moved_by m.steps t.steps (length m.log) (length t.log) s
+
+abbrev pub is_cut_steps : Ending → Bool
+is_cut_steps CutSteps = true
+is_cut_steps _ = false
+
+abbrev pub is_cut_devices : Ending → Bool
+is_cut_devices CutDevices = true
+is_cut_devices _ = false
+
+-- a run that is over behind so many steps and device commands
+abbrev pub summary_at_end : Ending → (steps devices : ℕ) → Summary
+summary_at_end ending steps devices = record {
+  rows = one_run (ending, []) ∷ [];
+  steps = steps;
+  devices = devices;
+  cut_steps = is_cut_steps ending;
+  cut_devices = is_cut_devices ending;
+}
+
+-- a device command that asks there, from its two sides
+abbrev pub summary_of_sides : (List Row → List Row → List Row) → (steps devices : ℕ) → (won lost : Summary) → Summary
+summary_of_sides both steps devices won lost = record {
+  rows = both won.rows lost.rows;
+  steps = max steps (max won.steps lost.steps);
+  devices = max (suc devices) (max won.devices lost.devices);
+  cut_steps = won.cut_steps || lost.cut_steps;
+  cut_devices = won.cut_devices || lost.cut_devices;
+}
+
+abbrev pub of_end : Ending → Moment → Summary
+of_end ending m = summary_at_end ending m.steps (length m.log)
+
+abbrev pub of_sides : Moment → (won lost : Summary) → Summary
+of_sides m won lost = summary_of_sides of_both m.steps (length m.log) won lost

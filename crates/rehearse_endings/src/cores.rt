@@ -1,0 +1,105 @@
+//! What the runs still to come of a state depend on.
+ghost use Rattle.std.specs.Prelude.{◌≡◌, IfOk, IsTrue};
+ghost use Rattle.rehearse_endings.specs.Cores.{core_shown, core_of, pairs_shown};
+
+use crate::same::same_frame;
+use bootstore::{Frame, Store, StoreError, Variables};
+use std::alloc::Global;
+
+/// A copy of the variables, the status and the frames of a state, the innermost frame last.
+#[derive(Drop)]
+pub struct Core {
+    pub environment: Vec<(Vec<u8>, Vec<u8>)>,
+    pub locals: Vec<(Vec<u8>, Vec<u8>)>,
+    pub status: u8,
+    pub frames: Vec<Frame>,
+}
+
+/// A copy of variables.
+fn copy_pairs(
+    alloc: Global,
+    variables: Variables<'_>,
+) -> Result<Vec<(Vec<u8>, Vec<u8>)>, StoreError>
+    ensures { IfOk result (λ pairs. pairs_shown pairs.items ≡ variables.entry) }
+{
+    let mut pairs = Vec::new(alloc);
+    for (name, value) in variables {
+        let key = Vec::from_slice(alloc, name)?;
+        let copy = Vec::from_slice(alloc, value)?;
+        pairs.push((key, copy))?;
+    }
+    Ok(pairs)
+}
+
+/// A copy of frames.
+fn copy_frames(alloc: Global, frames: &[Frame]) -> Result<Vec<Frame>, StoreError>
+    ensures { IfOk result (λ copies. copies.items ≡ frames.now) }
+{
+    let mut copies = Vec::new(alloc);
+    for frame in frames {
+        copies.push(frame.copy()?)?;
+    }
+    Ok(copies)
+}
+
+/// A copy of the core of the present state of a store.
+pub(crate) fn take_core<S: Store>(alloc: Global, store: &S) -> Result<Core, StoreError>
+    ensures { IfOk result (λ core. core_shown core ≡ core_of (S.record_of store.now).present) }
+{
+    let environment = copy_pairs(alloc, store.variables())?;
+    let locals = copy_pairs(alloc, store.shell_variables())?;
+    let frames = copy_frames(alloc, store.frames())?;
+    Ok(Core {
+        environment,
+        locals,
+        status: store.get_status(),
+        frames,
+    })
+}
+
+/// Whether variables are these.
+fn same_pairs(variables: Variables<'_>, pairs: &[(Vec<u8>, Vec<u8>)]) -> bool
+    ensures { IsTrue result → pairs_shown pairs.now ≡ variables.entry }
+{
+    let mut others = pairs;
+    for (name, value) in variables {
+        let Some((other, more)) = others.split_first() else {
+            return false;
+        };
+        if other.0.as_slice() != name {
+            return false;
+        }
+        if other.1.as_slice() != value {
+            return false;
+        }
+        others = more;
+    }
+    others.is_empty()
+}
+
+/// Whether both lists of frames are the same.
+fn same_frames(a: &[Frame], b: &[Frame]) -> bool
+    ensures { IsTrue result → a.now ≡ b.now }
+{
+    let mut others = b;
+    for frame in a {
+        let Some((other, more)) = others.split_first() else {
+            return false;
+        };
+        if !same_frame(frame, other) {
+            return false;
+        }
+        others = more;
+    }
+    others.is_empty()
+}
+
+/// Whether the present state of a store has this core.
+pub(crate) fn has_core<S: Store>(store: &S, core: &Core) -> bool
+    ensures { IsTrue result → core_shown core.now ≡ core_of (S.record_of store.now).present }
+{
+    core.status == store.get_status()
+        && same_frames(&core.frames, store.frames())
+        && same_pairs(store.variables(), &core.environment)
+        && same_pairs(store.shell_variables(), &core.locals)
+}

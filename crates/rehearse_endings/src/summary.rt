@@ -1,0 +1,63 @@
+//! What is kept of a state at which a device command asks.
+ghost use Rattle.std.specs.Prelude.{◌≡◌, ◌+◌, ◌||◌, max, suc, IfOk};
+ghost use Rattle.rehearse_machine.specs.EndingsShown.{halt_shown};
+ghost use Rattle.rehearse_endings.specs.RowsShown.{summary_shown, of_both_up};
+ghost use Rattle.rehearse_endings.specs.Summaries.{summary_at_end, summary_of_sides};
+
+use crate::rows::{Row, merge_rows, one_row, put_in_front};
+use bootstore::StoreError;
+use rehearse_machine::Halt;
+use std::alloc::Global;
+
+/// The rows of what is to come; up to how many steps and device commands runs come; whether one is cut.
+#[derive(Drop)]
+pub struct Summary {
+    pub rows: Vec<Row>,
+    pub steps: u64,
+    pub devices: u64,
+    pub cut_steps: bool,
+    pub cut_devices: bool,
+}
+
+/// The summary of a run that is over.
+pub(crate) fn of_end(
+    alloc: Global,
+    steps: u32,
+    devices: u32,
+    halt: Halt,
+) -> Result<Summary, StoreError>
+    ensures { IfOk result (λ s. summary_shown s ≡ summary_at_end (halt_shown halt) steps devices) }
+{
+    let cut_steps = matches!(halt, Halt::CutSteps);
+    let cut_devices = matches!(halt, Halt::CutDevices);
+    let rows = one_row(alloc, halt)?;
+    Ok(Summary {
+        rows,
+        steps: u64::from(steps),
+        devices: u64::from(devices),
+        cut_steps,
+        cut_devices,
+    })
+}
+
+/// The summary of a device command that asks, from its two sides.
+pub(crate) fn of_sides(
+    alloc: Global,
+    steps: u32,
+    devices: u32,
+    won: Summary,
+    lost: Summary,
+) -> Result<Summary, StoreError>
+    ensures { IfOk result (λ s. summary_shown s ≡ summary_of_sides of_both_up steps devices (summary_shown won) (summary_shown lost)) }
+{
+    let front = put_in_front(alloc, won.rows, true)?;
+    let others = put_in_front(alloc, lost.rows, false)?;
+    let rows = merge_rows(alloc, front, others)?;
+    Ok(Summary {
+        rows,
+        steps: u64::from(steps).max(won.steps.max(lost.steps)),
+        devices: (u64::from(devices) + 1).max(won.devices.max(lost.devices)),
+        cut_steps: won.cut_steps || lost.cut_steps,
+        cut_devices: won.cut_devices || lost.cut_devices,
+    })
+}
