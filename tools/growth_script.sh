@@ -1,8 +1,8 @@
 #!/bin/sh
-# growth_script.sh PROGRAM: runs the built program crates/test_growths_script/out/test_growths_script once for each growth of
-# memory that it makes, with that one growth refused, until a run meets no refusal. Whichever growth is refused, the
-# variables are those after the first lines of the script, never fewer lines than at the growth before; and refused
-# growths reach the last line.
+# growth_script.sh PROGRAM: runs the part `script` of the built program crates/test_growths/out/test_growths once for
+# each growth of memory that it makes, with that one growth refused, until a run meets no refusal. Whichever growth is
+# refused, the variables are those after the first lines of the script, never fewer lines than at the growth before; and
+# refused growths reach the last line.
 set -eu
 
 program=$1
@@ -23,7 +23,7 @@ STATES
 number=1
 lines=0
 while :; do
-    REFUSE=$number REFUSE_MET=$work/met LD_PRELOAD=$work/refuse.so "$program" > "$work/output"
+    REFUSE=$number REFUSE_MET=$work/met LD_PRELOAD=$work/refuse.so "$program" script > "$work/output"
     found=$(cat "$work/output")
     [ "$(cat "$work/met")" != "not met" ] || break
     case $found in

@@ -1,25 +1,27 @@
 #!/bin/sh
-# growths.sh PROGRAM: runs a built program, as crates/test_growths_store/out/test_growths_store, once for each growth of memory
-# that it makes, with that one growth refused, until a run meets no refusal. The program prints a line NAME:STATE
-# for the beginning and after each change, and a line `refused NAME:STATE` after a change that was refused, which it
-# then makes again. So, of each run:
+# growths.sh PROGRAM PART: runs a part of the built program crates/test_growths/out/test_growths, as `store`, once for
+# each growth of memory that it makes, with that one growth refused, until a run meets no refusal. The program prints a
+# line NAME:STATE for the beginning and after each change, and a line `refused NAME:STATE` after a change that was
+# refused for want of memory, which it then makes again. So, of each run:
 #   - without the lines of refusals it prints what it prints with ample memory;
 #   - a refused change leaves the state of the line before it, but for the name of the change.
 set -eu
 
 program=$1
+part=$2
 here=$(cd "$(dirname "$0")" && pwd)
 work=$(mktemp -d)
 trap 'rm -rf "$work"' EXIT
 
 gcc -O2 -shared -fPIC -o "$work/refuse.so" "$here/refuse.c" -ldl
-"$program" > "$work/ample"
+"$program" "$part" > "$work/ample"
 
 number=1
 refusals=0
 while :; do
     status=0
-    REFUSE=$number REFUSE_MET=$work/met LD_PRELOAD=$work/refuse.so "$program" > "$work/output" 2> "$work/error" || status=$?
+    REFUSE=$number REFUSE_MET=$work/met LD_PRELOAD=$work/refuse.so "$program" "$part" > "$work/output" 2> "$work/error" ||
+        status=$?
     if [ "$status" -ne 0 ]; then
         echo "growth $number: status $status"
         exit 1
@@ -47,4 +49,4 @@ while :; do
     fi
     number=$((number + 1))
 done
-echo "$((number - 1)) growths refused in turn, $refusals of them in a call that was then made again"
+echo "$part: $((number - 1)) growths refused in turn, $refusals of them in a call that was then made again"

@@ -1,0 +1,97 @@
+//! Calls that change no environment: whether each gives what it should.
+
+use crate::trouble::{Trouble, told_apart};
+use bootstore::Store;
+use envimage::{ByteOrder, ImageError, encode};
+use envtools::Env;
+use hushlang::expand::{ExpandError, OneVariable, expand, expand_one};
+use hushlang::parse::parse;
+use hushlang::token::SyntaxError;
+use hushlang::tree::{Command, Script, Word};
+use rehearse::{Bounds, Devices, DevicesError};
+use rehearse_runs::{RunError, WordKind, try_word};
+use std::alloc::{AllocError, Global};
+use ubtool_files::{FileFault, Files, MemoryFiles};
+
+/// The variables that words are expanded by.
+fn variables() -> OneVariable<'static> {
+    OneVariable {
+        name: b"x",
+        value: b"1  2",
+        status: 0,
+    }
+}
+
+/// Whether an image of one variable has its bytes.
+pub(crate) fn encodes(alloc: Global) -> Result<bool, Trouble> {
+    let encoded = encode(alloc, &[(b"a", b"1")], 9, None, ByteOrder::Little);
+    let image = told_apart(encoded, ImageError::Memory)?;
+    Ok(image.as_slice() == b"\x3B\x06\x98\x45a=1\0\0".as_slice())
+}
+
+/// The script of a text.
+fn script_of(alloc: Global, text: &[u8]) -> Result<Script, Trouble> {
+    told_apart(parse(alloc, text), SyntaxError::Memory)
+}
+
+/// The first command of a script.
+fn first(script: &Script) -> Option<&Command> {
+    Some(&script.lists.first()?.first)
+}
+
+/// Whether a command's words are expanded to its fields.
+pub(crate) fn expands(alloc: Global) -> Result<bool, Trouble> {
+    let script = script_of(alloc, b"echo $x 'a b' \"$x\"")?;
+    let words: &[Word] = match first(&script) {
+        Some(Command::Simple(words)) => words,
+        _ => &[],
+    };
+    let fields = told_apart(expand(alloc, words, &variables()), ExpandError::Memory)?;
+    let wanted: [&[u8]; 5] = [b"echo", b"1", b"2", b"a b", b"1  2"];
+    let mut is_so = fields.len() == wanted.len();
+    for (field, right) in fields.iter().zip(wanted) {
+        is_so = is_so && field.as_slice() == right;
+    }
+    Ok(is_so)
+}
+
+/// Whether the value of an assignment is expanded uncut.
+pub(crate) fn expands_one(alloc: Global) -> Result<bool, Trouble> {
+    let script = script_of(alloc, b"y=-$x-")?;
+    let Some(Command::Assign(values)) = first(&script) else {
+        return Ok(false);
+    };
+    let Some((_, value)) = values.first() else {
+        return Ok(false);
+    };
+    let joined = told_apart(expand_one(alloc, value, &variables()), ExpandError::Memory)?;
+    Ok(joined.as_slice() == b"-1  2-".as_slice())
+}
+
+/// Whether files in memory are read and written.
+pub(crate) fn reaches_files(alloc: Global) -> Result<bool, Trouble> {
+    let mut files = MemoryFiles::new(alloc, None);
+    told_apart(files.add("e", b"0123456789"), AllocError)?;
+    let part = told_apart(files.read_at(alloc, "e", 2, 3), FileFault::Memory)?;
+    told_apart(files.write_at("e", 8, b"ab"), FileFault::Memory)?;
+    let whole = told_apart(files.read_all(alloc, "e"), FileFault::Memory)?;
+    Ok(part.as_slice() == b"234".as_slice() && whole.as_slice() == b"01234567ab".as_slice())
+}
+
+/// Whether `10` is the word of a run and `1` is too short for one.
+pub(crate) fn tries<S: Store>(alloc: Global, env: &Env) -> Result<bool, Trouble> {
+    let devices = told_apart(Devices::parse(alloc, b"load"), DevicesError::Memory)?;
+    let Some(bounds) = Bounds::new(16, 10_000) else {
+        return Ok(false);
+    };
+    for (word, right) in [
+        (b"1".as_slice(), WordKind::Short),
+        (b"10".as_slice(), WordKind::Run),
+    ] {
+        let kind = try_word::<S>(alloc, env, &devices, b"bootcmd", bounds, word);
+        if told_apart(kind, RunError::Memory)? != right {
+            return Ok(false);
+        }
+    }
+    Ok(true)
+}

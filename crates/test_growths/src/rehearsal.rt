@@ -1,0 +1,150 @@
+//! Writes the listing of a small rehearsal over a store of each kind. Where memory is refused it writes the line
+//! `refused`, and goes on behind the last run that it was given: so without these lines the output is always the same.
+//! Of a longer script it says how many runs there are, and how many steps were begun for them.
+
+use bootstore::{Plain, Store, Trail};
+use envimage::{Out, Over, write_all};
+use envtools::Env;
+use rehearse::{Bounds, Devices};
+use rehearse_runs::{ListError, RunError, Runs, write_listing};
+use std::alloc::Global;
+use std::io;
+
+/// What is rehearsed.
+#[derive(Drop)]
+struct Script {
+    env: Env,
+    devices: Devices,
+    bounds: Bounds,
+}
+
+impl Script {
+    /// A text that asks two device commands, or 1,000 commands and then seven device commands.
+    fn new(alloc: Global, is_long: bool) -> Option<Self> {
+        let mut text = Vec::new(alloc);
+        if is_long {
+            for _ in 0..1000u32 {
+                text.extend_from_slice(b"true;").ok()?;
+            }
+            text.extend_from_slice(b"load; load; load; load; load; load; load")
+                .ok()?;
+        } else {
+            text.extend_from_slice(b"load a || load b; echo $?").ok()?;
+        }
+        let mut env = Env::new(alloc);
+        env.set(b"bootcmd", &text).ok()?;
+        let devices = Devices::parse(alloc, b"load").ok()?;
+        let bounds = Bounds::new(7, 10_000)?;
+        Some(Script {
+            env,
+            devices,
+            bounds,
+        })
+    }
+}
+
+/// The runs, or those behind a word.
+fn runs_of<'a, S: Store>(
+    alloc: Global,
+    script: &'a Script,
+    after: Option<&[u8]>,
+) -> Result<Runs<'a, S>, RunError> {
+    match after {
+        None => Runs::new(
+            alloc,
+            &script.env,
+            &script.devices,
+            b"bootcmd",
+            script.bounds,
+        ),
+        Some(word) => Runs::after(
+            alloc,
+            &script.env,
+            &script.devices,
+            b"bootcmd",
+            script.bounds,
+            word,
+        ),
+    }
+}
+
+/// Whether a further run is refused since there was no memory before.
+fn has_failed<S: Store>(runs: &mut Runs<'_, S>) -> bool {
+    matches!(runs.next(), Err(RunError::Failed))
+}
+
+/// Writes the listing, and after want of memory the rest of it.
+fn list<S: Store, O: Out>(alloc: Global, script: &Script, out: &mut O) -> Option<()> {
+    let mut given = [0u8; 32];
+    let mut count = None;
+    for _ in 0..4u32 {
+        let after = match count {
+            Some(count) => given.get(..count),
+            None => None,
+        };
+        let mut runs = match runs_of::<S>(alloc, script, after) {
+            Ok(runs) => runs,
+            Err(RunError::Memory) => {
+                write_all(out, b"refused\n").ok()?;
+                continue;
+            }
+            Err(_) => return None,
+        };
+        match write_listing(&mut runs, &[], None, out) {
+            Ok(_) => return Some(()),
+            Err(ListError::Memory) => {
+                write_all(out, b"refused\n").ok()?;
+                if !has_failed(&mut runs) {
+                    return None;
+                }
+                if let Some(word) = runs.given() {
+                    if let Some(room) = given.get_mut(..word.len()) {
+                        room.copy_from_slice(word);
+                    }
+                    count = Some(word.len());
+                }
+            }
+            Err(_) => return None,
+        }
+    }
+    None
+}
+
+/// How many runs there are, and how many steps were begun for them.
+fn count<S: Store>(alloc: Global, script: &Script) -> Option<(u32, u64)> {
+    let mut runs = runs_of::<S>(alloc, script, None).ok()?;
+    let mut found = 0u32;
+    for _ in 0..1000u32 {
+        match runs.next() {
+            Ok(Some(_)) => found = found.saturating_add(1),
+            Ok(None) => break,
+            Err(_) => return None,
+        }
+    }
+    Some((found, runs.work()))
+}
+
+/// Writes the listing over both stores.
+pub(crate) fn run(rt: &HostRuntime) -> io::Result<()> {
+    let Some(script) = Script::new(rt.alloc(), false) else {
+        return println!(rt; "no memory to begin with");
+    };
+    let mut out = Over::new(io::writer(rt));
+    let plain = list::<Plain, _>(rt.alloc(), &script, &mut out);
+    let trail = list::<Trail, _>(rt.alloc(), &script, &mut out);
+    if plain.is_none() || trail.is_none() {
+        let _ = write_all(&mut out, b"given up\n");
+    }
+    Ok(())
+}
+
+/// Says how many runs the longer script has over both stores, and how many steps were begun for them.
+pub(crate) fn run_long(rt: &HostRuntime) -> io::Result<()> {
+    let Some(script) = Script::new(rt.alloc(), true) else {
+        return println!(rt; "no memory to begin with");
+    };
+    let plain = count::<Plain>(rt.alloc(), &script).unwrap_or((0, 0));
+    let trail = count::<Trail>(rt.alloc(), &script).unwrap_or((0, 0));
+    println!(rt; "plain: {} runs, {} steps", plain.0, plain.1)?;
+    println!(rt; "trail: {} runs, {} steps", trail.0, trail.1)
+}

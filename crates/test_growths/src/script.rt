@@ -1,0 +1,49 @@
+//! Applies a script of six lines to an environment of two variables, and prints whether memory was refused and the
+//! variables that are left.
+
+use crate::trouble::{Trouble, told_apart};
+use envtools::{Env, EnvError, ScriptError, apply_script};
+use std::alloc::Global;
+use std::io;
+
+const NAMES: [&[u8]; 6] = [b"a", b"b", b"c", b"d", b"e", b"f"];
+
+/// Two variables.
+fn begin(alloc: Global) -> Result<Env, EnvError> {
+    let mut env = Env::new(alloc);
+    env.set(b"a", b"1")?;
+    env.set(b"b", b"2")?;
+    Ok(env)
+}
+
+/// Prints the value of each name that has one.
+fn print_variables(rt: &impl Print, env: &Env) -> io::Result<()> {
+    for name in NAMES {
+        let Some(value) = env.get(name) else {
+            continue;
+        };
+        print!(rt; " ")?;
+        for byte in name {
+            print!(rt; "{}", char::from(*byte))?;
+        }
+        print!(rt; "=")?;
+        for byte in value {
+            print!(rt; "{}", char::from(*byte))?;
+        }
+    }
+    println!(rt; "")
+}
+
+/// Applies the script.
+pub(crate) fn run(rt: &HostRuntime) -> io::Result<()> {
+    let Ok(mut env) = begin(rt.alloc()) else {
+        return println!(rt; "no memory to begin with");
+    };
+    let applied = apply_script(&mut env, b"c 3\na\nd 4\nb 5\ne 6\nf 7");
+    match told_apart(applied, ScriptError::Memory) {
+        Ok(()) => print!(rt; "applied:")?,
+        Err(Trouble::Memory) => print!(rt; "refused:")?,
+        Err(Trouble::Other) => print!(rt; "refused for another cause:")?,
+    }
+    print_variables(rt, &env)
+}
