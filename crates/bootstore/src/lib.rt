@@ -8,8 +8,6 @@ mod plain;
 mod present;
 mod store;
 mod table;
-#[cfg(test)]
-mod tests;
 mod trail;
 
 pub use frame::{At, Frame, FrameKind};

@@ -7,8 +7,6 @@ mod lines;
 mod names;
 mod place;
 mod shown;
-#[cfg(test)]
-mod tests;
 mod walk;
 
 pub use checking::{Report, check};

@@ -14,8 +14,6 @@ use std::mem;
 use thiserror::Error;
 
 mod one_variable;
-#[cfg(test)]
-mod tests;
 
 pub use one_variable::OneVariable;
 

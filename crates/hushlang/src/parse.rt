@@ -329,6 +329,3 @@ pub fn parse(alloc: Global, text: &[u8]) -> Result<Script, SyntaxError>
 {
     read_script(alloc, text)
 }
-
-#[cfg(test)]
-mod tests;

@@ -83,36 +83,3 @@ pub fn pieces_of(alloc: Global, token: Token<'_>) -> Result<Vec<Piece>, SyntaxEr
 {
     read_pieces(alloc, Parts::new(token.text, 0))
 }
-
-#[cfg(test)]
-mod tests {
-    use super::*;
-    use crate::lexer::Lexer;
-    use std::test::Fail;
-
-    #[test]
-    fn gathers_pieces(rt: HostRuntime) -> Result<(), Fail> {
-        for (text, wanted) in [
-            (
-                "a'b'\"c$d\"\\e #x",
-                "[Bytes([97]), Mark, Bytes([98]), Mark, Bytes([99]), Var { name: [100], split: false }, Bytes([101])]",
-            ),
-            ("''", "[Mark]"),
-            ("$1", "[Bytes([36, 49])]"),
-            ("$ab$?", "[Var { name: [97, 98], split: true }, Status]"),
-            (
-                "${?}${a.b}",
-                "[Status, Var { name: [97, 46, 98], split: true }]",
-            ),
-        ] {
-            let token = Lexer::new(text.as_bytes()).next()?;
-            assert!(rt; token.is_some(), "{text}");
-            if let Some(token) = token {
-                let pieces = pieces_of(rt.alloc(), token)?;
-                let printed = format!(in rt.alloc(); "{pieces:?}")?;
-                assert_eq!(rt; printed.as_str(), wanted, "{text}");
-            }
-        }
-        Ok(())
-    }
-}

@@ -91,25 +91,3 @@ pub struct Token<'a> {
     /// The bytes of the source from `start` up to `stop`.
     pub text: &'a [u8],
 }
-
-#[cfg(test)]
-mod tests {
-    use super::*;
-    use std::test::Fail;
-
-    #[test]
-    fn prints_refusals(rt: HostRuntime) -> Result<(), Fail> {
-        for (error, wanted) in [
-            (
-                SyntaxError::OpenQuote(5),
-                "the quote at byte 5 is not closed",
-            ),
-            (SyntaxError::TooDeep(896), "nested too deep at byte 896"),
-            (SyntaxError::Memory, "out of memory"),
-        ] {
-            let printed = format!(in rt.alloc(); "{error}")?;
-            assert_eq!(rt; printed.as_str(), wanted);
-        }
-        Ok(())
-    }
-}

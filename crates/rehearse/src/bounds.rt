@@ -61,6 +61,3 @@ impl Bounds {
         self.steps
     }
 }
-
-#[cfg(test)]
-mod tests;

@@ -134,6 +134,3 @@ impl Devices {
         Ok(())
     }
 }
-
-#[cfg(test)]
-mod tests;

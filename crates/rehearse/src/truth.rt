@@ -139,6 +139,3 @@ pub fn verdict(words: &[Vec<u8>]) -> bool
     }
     truth
 }
-
-#[cfg(test)]
-mod tests;

@@ -1,20 +1,12 @@
 //! How long scripts end.
+use crate::given::Given;
 use bootstore::{Plain, Store, Trail};
-use envtools::Env;
-use rehearse::{Bounds, Devices};
 use rehearse_runs::{Ending, Runs};
 use std::alloc::Global;
 use std::test::Fail;
 
-/// The letter of how the first run of a text ends, where `a` runs `b` and `b` runs `a`.
-fn ending<S: Store>(alloc: Global, text: &[u8], steps: u32) -> Result<u8, Fail> {
-    let mut env = Env::new(alloc);
-    env.set(b"bootcmd", text)?;
-    env.set(b"a", b"run b")?;
-    env.set(b"b", b"run a")?;
-    let devices = Devices::parse(alloc, b"load")?;
-    let bounds = Bounds::new(1, steps).ok_or("bounds")?;
-    let mut runs = Runs::<S>::new(alloc, &env, &devices, b"bootcmd", bounds)?;
+/// The letter of how the next run ends, or `-` where there is none.
+fn letter_of<S: Store>(runs: &mut Runs<'_, S>) -> Result<u8, Fail> {
     let Some(view) = runs.next()? else {
         return Ok(b'-');
     };
@@ -27,6 +19,13 @@ fn ending<S: Store>(alloc: Global, text: &[u8], steps: u32) -> Result<u8, Fail> 
         Ending::Size => b'z',
         Ending::Booted(_) => b'b',
     })
+}
+
+/// That of the first run of a text, where `a` runs `b` and `b` runs `a`.
+fn ending<S: Store>(alloc: Global, text: &[u8], steps: u32) -> Result<u8, Fail> {
+    let others: [(&[u8], &[u8]); 2] = [(b"a", b"run b"), (b"b", b"run a")];
+    let given = Given::new(alloc, text, &others, b"load", (1, steps))?;
+    letter_of(&mut given.runs::<S>(alloc, None)?)
 }
 
 #[test]

@@ -1,17 +1,13 @@
 //! The listings of worked examples, over both stores; they are worked by hand.
 ghost use Rattle.std.specs.Prelude.{◌≢◌, Some};
 
+use crate::given::{Given, Pair, list};
 use bootstore::{Plain, Store, Trail};
 use envimage::Over;
-use envtools::Env;
-use rehearse::{Bounds, Devices};
-use rehearse_runs::{Finish, RunError, Runs, write_listing};
+use rehearse_runs::{Finish, RunError};
 use std::alloc::Global;
 use std::process::Abort;
 use std::test::Fail;
-
-/// A variable and its value.
-type Pair<'a> = (&'a [u8], &'a [u8]);
 
 /// A script as `bootcmd` among other variables, the device list, the bounds, and the names asked for.
 #[derive(Clone, Copy)]
@@ -45,13 +41,10 @@ fn bounded<'a>(script: &'a [u8], devices: u32, steps: u32) -> Example<'a> {
     }
 }
 
-fn environment(alloc: Global, example: Example<'_>) -> Result<Env, Fail> {
-    let mut env = Env::new(alloc);
-    env.set(b"bootcmd", example.script)?;
-    for (name, value) in example.others {
-        env.set(name, value)?;
-    }
-    Ok(env)
+/// What is rehearsed in an example.
+fn given_of(alloc: Global, example: Example<'_>) -> Result<Given, Fail> {
+    let bounds = (example.devices, example.steps);
+    Given::new(alloc, example.script, example.others, example.list, bounds)
 }
 
 /// How a listing over one store finishes, and what is written: of all runs, or of those behind a word.
@@ -63,15 +56,10 @@ fn listed<S: Store>(
 ) -> Result<(Finish, Vec<u8>), Fail>
     requires { limit ≢ Some 0 }
 {
-    let env = environment(alloc, example)?;
-    let list = Devices::parse(alloc, example.list)?;
-    let bounds = Bounds::new(example.devices, example.steps).ok_or("bounds")?;
-    let mut runs = match after {
-        None => Runs::<S>::new(alloc, &env, &list, b"bootcmd", bounds)?,
-        Some(word) => Runs::<S>::after(alloc, &env, &list, b"bootcmd", bounds, word)?,
-    };
+    let given = given_of(alloc, example)?;
+    let mut runs = given.runs::<S>(alloc, after)?;
     let mut out = Over::new(Vec::new(alloc));
-    let finish = write_listing(&mut runs, example.names, limit, &mut out)?;
+    let finish = list(&mut runs, example.names, limit, &mut out)?;
     Ok((finish, out.into_writer()))
 }
 
@@ -157,14 +145,9 @@ fn runs_are_listed_page_by_page(rt: HostRuntime) -> Result<(), Fail> {
 
 /// Whether a start word is refused, over one store.
 fn is_no_run<S: Store>(alloc: Global, word: &[u8]) -> Result<bool, Fail> {
-    let env = environment(alloc, ATTEMPTS)?;
-    let list = Devices::parse(alloc, b"load")?;
-    let bounds = Bounds::new(16, 10_000).ok_or("bounds")?;
-    let refused = matches!(
-        Runs::<S>::after(alloc, &env, &list, b"bootcmd", bounds, word),
-        Err(RunError::NotARun)
-    );
-    Ok(refused)
+    let given = given_of(alloc, ATTEMPTS)?;
+    let runs = given.runs::<S>(alloc, Some(word));
+    Ok(matches!(runs, Err(RunError::NotARun)))
 }
 
 #[test]

@@ -1,32 +1,24 @@
 //! What kind of word a text is.
+use crate::given::Given;
 use bootstore::{Plain, Store, Trail};
-use envtools::Env;
-use rehearse::{Bounds, Devices};
 use rehearse_runs::{RunError, WordKind, try_word};
 use std::alloc::Global;
 use std::test::Fail;
 
+/// A letter for a kind.
+fn letter_of(kind: WordKind) -> u8 {
+    match kind {
+        WordKind::Run => b'r',
+        WordKind::Short => b's',
+        WordKind::Long => b'l',
+    }
+}
+
 /// The kinds of the words, a letter each, over one store.
-fn kinds<S: Store>(
-    alloc: Global,
-    text: &[u8],
-    other: &[u8],
-    devices: u32,
-    words: &[&[u8]],
-) -> Result<Vec<u8>, Fail> {
-    let mut env = Env::new(alloc);
-    env.set(b"bootcmd", text)?;
-    env.set(b"t", other)?;
-    let list = Devices::parse(alloc, b"load")?;
-    let bounds = Bounds::new(devices, 10000).ok_or("bounds")?;
+fn kinds<S: Store>(alloc: Global, given: &Given, words: &[&[u8]]) -> Result<Vec<u8>, Fail> {
     let mut found = Vec::new(alloc);
     for word in words {
-        let letter = match try_word::<S>(alloc, &env, &list, b"bootcmd", bounds, word)? {
-            WordKind::Run => b'r',
-            WordKind::Short => b's',
-            WordKind::Long => b'l',
-        };
-        found.push(letter)?;
+        found.push(letter_of(given.kind::<S>(alloc, word)?))?;
     }
     Ok(found)
 }
@@ -58,9 +50,16 @@ fn words_are_runs_too_short_or_too_long(rt: HostRuntime) -> Result<(), Fail> {
         ),
     ];
     for (text, other, devices, words, wanted) in rows {
-        let plain = kinds::<Plain>(rt.alloc(), text, other, devices, &words)?;
-        let trail = kinds::<Trail>(rt.alloc(), text, other, devices, &words)?;
+        let given = Given::new(
+            rt.alloc(),
+            text,
+            &[(b"t", other)],
+            b"load",
+            (devices, 10_000),
+        )?;
+        let plain = kinds::<Plain>(rt.alloc(), &given, &words)?;
         assert!(rt; plain.as_slice() == wanted);
+        let trail = kinds::<Trail>(rt.alloc(), &given, &words)?;
         assert!(rt; trail.as_slice() == wanted);
     }
     Ok(())
@@ -69,10 +68,13 @@ fn words_are_runs_too_short_or_too_long(rt: HostRuntime) -> Result<(), Fail> {
 #[test]
 fn a_variable_that_is_not_set_has_no_words(rt: HostRuntime) -> Result<(), Fail> {
     let alloc = rt.alloc();
-    let env = Env::new(alloc);
-    let list = Devices::parse(alloc, b"load")?;
-    let bounds = Bounds::new(16, 10000).ok_or("bounds")?;
-    let found = try_word::<Trail>(alloc, &env, &list, b"bootcmd", bounds, b"1x");
+    let given = Given::new(alloc, b"load", &[], b"load", (16, 10_000))?;
+    let Given {
+        env,
+        devices,
+        bounds,
+    } = &given;
+    let found = try_word::<Trail>(alloc, env, devices, b"q", *bounds, b"1x");
     assert!(rt; matches!(found, Err(RunError::NoSuchVariable)));
     Ok(())
 }

@@ -1,96 +1,71 @@
 //! How many steps are begun, and which runs are given.
+use crate::given::{Given, trace};
 use bootstore::{Plain, Store, Trail};
-use envtools::Env;
-use rehearse::{Bounds, Devices};
-use rehearse_runs::Runs;
 use std::alloc::Global;
 use std::process::Abort;
 use std::test::Fail;
 
-/// The words and the work after each run of a text, as `WORD:WORK` with a space behind.
-fn works<S: Store>(
-    alloc: Global,
-    text: &[u8],
-    list: &[u8],
-    devices: u32,
-    steps: u32,
-    after: Option<&[u8]>,
-) -> Result<Vec<u8>, Fail> {
-    let mut env = Env::new(alloc);
-    env.set(b"bootcmd", text)?;
-    let devices_found = Devices::parse(alloc, list)?;
-    let bounds = Bounds::new(devices, steps).ok_or("bounds")?;
+/// Puts the digits of a number behind a text.
+fn push_number(alloc: Global, text: &mut Vec<u8>, number: u64) -> Result<(), Fail> {
+    let digits = format!(in alloc; "{number}")?;
+    text.extend_from_slice(digits.as_bytes())?;
+    Ok(())
+}
+
+/// The words and the work after each run of a text, as `WORD:WORK` with a space behind; before them the work behind a
+/// start word, and at the end that of all.
+fn works<S: Store>(alloc: Global, given: &Given, after: Option<&[u8]>) -> Result<Vec<u8>, Fail> {
+    let traced = trace::<S>(alloc, given, after)?;
     let mut found = Vec::new(alloc);
-    let mut runs = match after {
-        None => Runs::<S>::new(alloc, &env, &devices_found, b"bootcmd", bounds)?,
-        Some(word) => Runs::<S>::after(alloc, &env, &devices_found, b"bootcmd", bounds, word)?,
-    };
     if after.is_some() {
-        let work = format!(in alloc; "{} ", runs.work())?;
-        found.extend_from_slice(work.as_bytes())?;
+        push_number(alloc, &mut found, traced.begun)?;
+        found.push(b' ')?;
     }
-    for _ in 0..70000u32 {
-        let Some(view) = runs.next()? else {
-            let work = format!(in alloc; "{}", runs.work())?;
-            found.extend_from_slice(work.as_bytes())?;
-            return Ok(found);
-        };
-        found.extend_from_slice(view.word())?;
-        let work = format!(in alloc; ":{} ", runs.work())?;
-        found.extend_from_slice(work.as_bytes())?;
+    for (word, work) in &traced.runs {
+        found.extend_from_slice(word)?;
+        found.push(b':')?;
+        push_number(alloc, &mut found, *work)?;
+        found.push(b' ')?;
     }
+    push_number(alloc, &mut found, traced.work)?;
     Ok(found)
 }
 
-/// The same over both stores, which must agree.
-fn both(
+/// Whether they are these over both stores.
+fn expect(
     rt: &impl Abort,
     alloc: Global,
-    text: &[u8],
-    list: &[u8],
-    devices: u32,
-    steps: u32,
+    given: &Given,
     after: Option<&[u8]>,
-) -> Result<Vec<u8>, Fail> {
-    let plain = works::<Plain>(alloc, text, list, devices, steps, after)?;
-    let trail = works::<Trail>(alloc, text, list, devices, steps, after)?;
-    assert!(rt; plain.as_slice() == trail.as_slice());
-    Ok(plain)
+    wanted: &[u8],
+) -> Result<(), Fail> {
+    let plain = works::<Plain>(alloc, given, after)?;
+    assert!(rt; plain.as_slice() == wanted);
+    let trail = works::<Trail>(alloc, given, after)?;
+    assert!(rt; trail.as_slice() == wanted);
+    Ok(())
 }
 
 #[test]
 fn each_command_is_begun_once(rt: HostRuntime) -> Result<(), Fail> {
-    let two = b"load a || load b; echo $?";
-    let found = both(&rt, rt.alloc(), two, b"load", 16, 10000, None)?;
-    assert!(rt; found.as_slice() == b"0:2 10:4 11:5 5".as_slice());
-    let found = both(&rt, rt.alloc(), two, b"load", 16, 10000, Some(b"10"))?;
-    assert!(rt; found.as_slice() == b"3 11:4 4".as_slice());
-    let found = both(
-        &rt,
-        rt.alloc(),
-        b"while load; do true; done",
-        b"load",
-        2,
-        10000,
-        None,
-    )?;
-    assert!(rt; found.as_slice() == b"00:5 01:5 1:5 5".as_slice());
-    let found = both(&rt, rt.alloc(), b"load", b"load", 0, 10000, None)?;
-    assert!(rt; found.as_slice() == b":1 1".as_slice());
+    let alloc = rt.alloc();
+    let rows: [(&[u8], u32, Option<&[u8]>, &[u8]); 4] = [
+        (b"load a || load b; echo $?", 16, None, b"0:2 10:4 11:5 5"),
+        (b"load a || load b; echo $?", 16, Some(b"10"), b"3 11:4 4"),
+        (b"while load; do true; done", 2, None, b"00:5 01:5 1:5 5"),
+        (b"load", 0, None, b":1 1"),
+    ];
+    for (text, devices, after, wanted) in rows {
+        let given = Given::new(alloc, text, &[], b"load", (devices, 10_000))?;
+        expect(&rt, alloc, &given, after, wanted)?;
+    }
     Ok(())
 }
 
 #[test]
 fn boots_begin_no_step(rt: HostRuntime) -> Result<(), Fail> {
-    let found = both(
-        &rt,
-        rt.alloc(),
-        b"load && bootm; echo no",
-        b"load filesize=1000\nfinal bootm",
-        16,
-        10000,
-        None,
-    )?;
-    assert!(rt; found.as_slice() == b"00:2 01:3 1:4 4".as_slice());
-    Ok(())
+    let list = b"load filesize=1000\nfinal bootm";
+    let text = b"load && bootm; echo no";
+    let given = Given::new(rt.alloc(), text, &[], list, (16, 10_000))?;
+    expect(&rt, rt.alloc(), &given, None, b"00:2 01:3 1:4 4")
 }

@@ -1,11 +1,10 @@
 //! Reads and writes that fail once and would then succeed: none is tried again.
+use crate::calls::{print_input, run_words};
 use crate::writers::{FailsOnce, Memory};
 use envimage::{ByteOrder, OutFault, Over, encode, write_all, write_parts};
 use std::io::{self, BufWriter, ErrorKind, Read, Write};
 use std::test::Fail;
-use ubtool_core::run_input;
 use ubtool_files::{MemoryFiles, UntilFailed};
-use ubtool_run::run_tool;
 
 const CONFIG: &str = "/etc/fw_env.config";
 
@@ -66,7 +65,7 @@ fn a_failed_read_is_told(rt: HostRuntime) {
         };
         let mut out = Memory::new(rt.alloc());
         let mut err = Memory::new(rt.alloc());
-        let status = run_input(rt.alloc(), &mut input, &mut out, &mut err);
+        let status = print_input(rt.alloc(), &mut input, &mut out, &mut err);
         assert_eq!(rt; status, 1);
         assert_eq!(rt; input.reads, failing + 1);
         assert_eq!(rt; out.bytes.len(), 0);
@@ -143,17 +142,9 @@ fn output_of(
     failing: usize,
 ) -> Result<(u8, FailsOnce, Memory), Fail> {
     let mut files = files_of(rt, image)?;
-    let mut input: &[u8] = b"";
     let mut out = FailsOnce::new(rt.alloc(), failing);
     let mut err = Memory::new(rt.alloc());
-    let status = run_tool(
-        rt.alloc(),
-        words,
-        &mut input,
-        &mut files,
-        &mut out,
-        &mut err,
-    );
+    let status = run_words(rt.alloc(), words, &mut files, &mut out, &mut err);
     Ok((status, out, err))
 }
 
@@ -194,18 +185,9 @@ fn a_fault_is_told_once(rt: HostRuntime) -> Result<(), Fail> {
     for failing in 0..=line.len() {
         let mut files = MemoryFiles::new(rt.alloc(), None);
         files.add(CONFIG, b"e 0 9\n")?;
-        let mut input: &[u8] = b"";
         let mut out = Memory::new(rt.alloc());
         let mut err = FailsOnce::new(rt.alloc(), failing);
-        let words = ["printenv"];
-        let status = run_tool(
-            rt.alloc(),
-            &words,
-            &mut input,
-            &mut files,
-            &mut out,
-            &mut err,
-        );
+        let status = run_words(rt.alloc(), &["printenv"], &mut files, &mut out, &mut err);
         assert_eq!(rt; status, 1);
         assert_eq!(rt; out.bytes.len(), 0);
         assert!(rt; line.starts_with(err.memory.bytes.as_slice()));

@@ -1,4 +1,5 @@
-use envimage::{ByteOrder, DataError, ImageError, Which, check_data, crc32, load};
+use crate::calls::{crc, fault_of_data};
+use envimage::{ByteOrder, DataError, ImageError, Which, load};
 
 /// The image of `a=1`, nine bytes.
 const ONE: [u8; 9] = [0x3B, 0x06, 0x98, 0x45, 0x61, 0x3D, 0x31, 0x00, 0x00];
@@ -35,27 +36,26 @@ fn refusal(first: &[u8], order: ByteOrder) -> Option<ImageError> {
 
 #[test]
 fn checksums_are_those_of_zlib(rt: HostRuntime) {
-    assert_eq!(rt; crc32(b""), 0);
-    assert_eq!(rt; crc32(b"123456789"), 0xcbf4_3926);
-    assert_eq!(rt; crc32(&[0x61, 0x3D, 0x31, 0x00, 0x00]), 0x4598_063b);
+    assert_eq!(rt; crc(b""), 0);
+    assert_eq!(rt; crc(b"123456789"), 0xcbf4_3926);
+    assert_eq!(rt; crc(&[0x61, 0x3D, 0x31, 0x00, 0x00]), 0x4598_063b);
 }
 
 #[test]
 fn the_first_fault_of_data_is_found(rt: HostRuntime) {
-    assert_eq!(rt;
-        check_data(&[0x61, 0x00, 0x00]),
-        Err(DataError::NoEquals(0))
-    );
-    assert_eq!(rt;
-        check_data(&[0x3D, 0x61, 0x00, 0x00]),
-        Err(DataError::EmptyName(0))
-    );
-    assert_eq!(rt;
-        check_data(&[0x61, 0x3D, 0x00, 0x3D, 0x00, 0x00]),
-        Err(DataError::EmptyName(3))
-    );
-    assert_eq!(rt; check_data(&[]), Err(DataError::NotTerminated));
-    assert_eq!(rt; check_data(&[0x61, 0x3D, 0x31, 0x00, 0x00]), Ok(()));
+    let rows: [(&[u8], Option<DataError>); 5] = [
+        (&[0x61, 0x00, 0x00], Some(DataError::NoEquals(0))),
+        (&[0x3D, 0x61, 0x00, 0x00], Some(DataError::EmptyName(0))),
+        (
+            &[0x61, 0x3D, 0x00, 0x3D, 0x00, 0x00],
+            Some(DataError::EmptyName(3)),
+        ),
+        (&[], Some(DataError::NotTerminated)),
+        (&[0x61, 0x3D, 0x31, 0x00, 0x00], None),
+    ];
+    for (data, fault) in rows {
+        assert_eq!(rt; fault_of_data(data), fault);
+    }
 }
 
 #[test]

@@ -1,10 +1,24 @@
-//! Tests that cross the crates: what no contract says, with values from outside.
+//! Tests of the images, of the programs and of what they call: what no contract says, with values from outside. The
+//! caller is shown in `CALLING.md` of `envimage`.
 #![tactic(auto)]
 
+pub mod callers;
+#[cfg(test)]
+mod calls;
+#[cfg(test)]
+mod checking;
+#[cfg(test)]
+mod commands;
 #[cfg(test)]
 mod failing_once;
 #[cfg(test)]
+mod faults;
+#[cfg(test)]
+mod files;
+#[cfg(test)]
 mod images;
+#[cfg(test)]
+mod making;
 #[cfg(test)]
 mod outputs;
 #[cfg(test)]

@@ -1,10 +1,11 @@
-use envimage::{ByteOrder, ConfigError, ImageError, encode, parse_config};
+use crate::calls::places_of;
+use envimage::{ByteOrder, ConfigError, ImageError, encode};
 use std::test::Fail;
 
 #[test]
 fn two_places_are_read(rt: HostRuntime) -> Result<(), Fail> {
     let text = b"# device offset size\n/dev/mmcblk0 0x3F8000 0x8000\nenv.bin 010 8000 200 2\n";
-    let places = parse_config(rt.alloc(), text)?;
+    let places = places_of(rt.alloc(), text)?;
     assert_eq!(rt; places.len(), 2);
     assert_eq!(rt; places[0].device.as_str(), "/dev/mmcblk0");
     assert_eq!(rt; places[0].offset, 4_161_536);
@@ -26,7 +27,7 @@ fn configurations_are_refused(rt: HostRuntime) {
         (b"a 0 10\nb 0 20", ConfigError::UnequalSizes),
     ];
     for (text, want) in rows {
-        let error = parse_config(rt.alloc(), text).err();
+        let error = places_of(rt.alloc(), text).err();
         assert_eq!(rt; error, Some(want));
     }
 }

@@ -1,15 +1,14 @@
 //! Rehearsals from the bytes of an image to those of the listing; the listings are worked by hand.
 ghost use Rattle.std.specs.Prelude.{◌≡◌, ◌≢◌, Some};
 
+use crate::calls;
+use crate::making::{self, Pair, with};
 use crate::writers::{Limited, Memory, Slow};
 use envimage::{ByteOrder, ImageError, Over, encode};
 use rehearse_runs::resume_point;
 use std::alloc::Global;
 use std::test::Fail;
-use ubtool_core::{Bounds, Edit, Finish, RehearseAsk, ToolError, rehearse_bytes, set_bytes};
-
-/// A variable and its value.
-type Pair<'a> = (&'a [u8], &'a [u8]);
+use ubtool_core::{Bounds, Finish, RehearseAsk, ToolError, rehearse_bytes};
 
 /// The script that most tests rehearse, and its listing.
 const SCRIPT: &[u8] = b"load a || load b; echo $?";
@@ -24,22 +23,6 @@ const SECOND: usize = 158;
 
 const THIRD: usize = 244;
 
-/// The image with this variable too.
-fn with(
-    alloc: Global,
-    image: &[u8],
-    order: ByteOrder,
-    name: &[u8],
-    value: &[u8],
-) -> Result<Vec<u8>, Fail> {
-    let change = Edit::One {
-        name,
-        words: &[value],
-    };
-    let (_, changed) = set_bytes(alloc, image, None, order, change)?;
-    Ok(changed)
-}
-
 /// An image of `bootcmd` with this script, and of these variables.
 fn image_of(
     alloc: Global,
@@ -47,8 +30,7 @@ fn image_of(
     script: &[u8],
     others: &[Pair<'_>],
 ) -> Result<Vec<u8>, Fail> {
-    let blank = encode(alloc, &[], 8192, None, order)?;
-    let mut image = with(alloc, &blank, order, b"bootcmd", script)?;
+    let mut image = making::image_of(alloc, order, &[(b"bootcmd", script)])?;
     for (name, value) in others {
         image = with(alloc, &image, order, name, value)?;
     }
@@ -456,8 +438,7 @@ fn each_broken_listing_goes_on(rt: HostRuntime) -> Result<(), Fail> {
             room,
         };
         let ask = ask_of(None, None);
-        let order = ByteOrder::Little;
-        let answer = rehearse_bytes(rt.alloc(), &image, None, order, b"load", &ask, &mut out);
+        let answer = calls::rehearse(rt.alloc(), &image, &ask, &mut out);
         assert_eq!(rt; answer, Err(ToolError::Write));
         assert_eq!(rt; out.memory.failures, 1);
         assert_eq!(rt;
@@ -469,7 +450,7 @@ fn each_broken_listing_goes_on(rt: HostRuntime) -> Result<(), Fail> {
             None => (None, 0),
         };
         assert_eq!(rt; length, whole_records(room));
-        let (answer, resumed) = rehearse(rt.alloc(), &image, order, word, None);
+        let (answer, resumed) = rehearse(rt.alloc(), &image, ByteOrder::Little, word, None);
         assert_eq!(rt; answer, Ok(Finish::Done));
         let kept = LISTING.get(..length).unwrap_or(b"");
         assert!(rt; is_page(LISTING, kept, &resumed));
@@ -484,8 +465,7 @@ fn slow_outputs_get_the_same(rt: HostRuntime) -> Result<(), Fail> {
         memory: Memory::new(rt.alloc()),
     };
     let ask = ask_of(None, None);
-    let order = ByteOrder::Little;
-    let answer = rehearse_bytes(rt.alloc(), &image, None, order, b"load", &ask, &mut slow);
+    let answer = calls::rehearse(rt.alloc(), &image, &ask, &mut slow);
     assert_eq!(rt; answer, Ok(Finish::Done));
     assert_eq!(rt; slow.memory.bytes.as_slice(), LISTING);
     Ok(())

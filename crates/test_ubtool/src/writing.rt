@@ -1,5 +1,6 @@
+use crate::calls::{apply, change, changed, copy_of, set};
 use envimage::{ByteOrder, ImageError, Which};
-use envtools::{Env, EnvError, ScriptError, apply_script};
+use envtools::{Env, EnvError, ScriptError};
 use std::test::Fail;
 use ubtool_core::{Edit, ToolError, set_bytes};
 
@@ -22,19 +23,19 @@ fn lines_of(rt: &HostRuntime, env: &Env) -> Result<Vec<u8>, Fail> {
 #[test]
 fn a_script_changes_an_environment(rt: HostRuntime) -> Result<(), Fail> {
     let mut env = Env::new(rt.alloc());
-    env.set(b"a", b"0")?;
-    apply_script(&mut env, b"# c\na\nb  x  y\nc=1\n")?;
+    set(&mut env, b"a", b"0")?;
+    apply(&mut env, b"# c\na\nb  x  y\nc=1\n")?;
     assert_eq!(rt;
         lines_of(&rt, &env)?.as_slice(),
         b"b=x  y\nc=1\n".as_slice()
     );
-    let error = apply_script(&mut env, b"d 4\n\r\n=x").err();
+    let error = apply(&mut env, b"d 4\n\r\n=x").err();
     assert_eq!(rt; error, Some(ScriptError::BadName(3)));
     assert_eq!(rt;
         lines_of(&rt, &env)?.as_slice(),
         b"b=x  y\nc=1\nd=4\n".as_slice()
     );
-    let copy = env.copy()?;
+    let copy = copy_of(&env)?;
     assert_eq!(rt;
         lines_of(&rt, &copy)?.as_slice(),
         b"b=x  y\nc=1\nd=4\n".as_slice()
@@ -46,16 +47,19 @@ fn a_script_changes_an_environment(rt: HostRuntime) -> Result<(), Fail> {
 fn an_environment_is_changed(rt: HostRuntime) -> Result<(), Fail> {
     let mut env = Env::from_data(rt.alloc(), b"a=1\0b=2\0a=3\0\0")?;
     assert_eq!(rt; lines_of(&rt, &env)?.as_slice(), b"a=3\nb=2\n".as_slice());
-    env.change(b"a", &[b"3"])?;
+    change(&mut env, b"a", &[b"3"])?;
     assert_eq!(rt; lines_of(&rt, &env)?.as_slice(), b"a=3\nb=2\n".as_slice());
-    env.set(b"a", b"3")?;
+    set(&mut env, b"a", b"3")?;
     assert_eq!(rt; lines_of(&rt, &env)?.as_slice(), b"b=2\na=3\n".as_slice());
-    env.change(b"b", &[b"x", b"", b"y"])?;
+    change(&mut env, b"b", &[b"x", b"", b"y"])?;
     assert_eq!(rt; env.get(b"b"), Some(b"x  y".as_slice()));
     assert_eq!(rt; env.remove(b"a"), true);
     assert_eq!(rt; env.remove(b"a"), false);
-    assert_eq!(rt; env.set(b"a=b", b"1").err(), Some(EnvError::BadName));
-    assert_eq!(rt; env.change(b"a", &[b"x\0"]).err(), Some(EnvError::BadValue));
+    assert_eq!(rt; set(&mut env, b"a=b", b"1").err(), Some(EnvError::BadName));
+    assert_eq!(rt;
+        change(&mut env, b"a", &[b"x\0"]).err(),
+        Some(EnvError::BadValue)
+    );
     Ok(())
 }
 
@@ -71,7 +75,7 @@ fn a_single_image_is_written(rt: HostRuntime) -> Result<(), Fail> {
     ];
     for (words, want) in rows {
         let edit = Edit::One { name: b"a", words };
-        let (which, image) = set_bytes(rt.alloc(), &ONE, None, ByteOrder::Little, edit)?;
+        let (which, image) = changed(rt.alloc(), &ONE, None, edit)?;
         assert_eq!(rt; which, Which::First);
         assert_eq!(rt; image.as_slice(), want.as_slice());
     }
@@ -97,7 +101,7 @@ fn changes_of_an_image_are_refused(rt: HostRuntime) {
         ),
     ];
     for (edit, want) in rows {
-        let error = set_bytes(rt.alloc(), &ONE, None, ByteOrder::Little, edit).err();
+        let error = changed(rt.alloc(), &ONE, None, edit).err();
         assert_eq!(rt; error, Some(want));
     }
 }
@@ -111,7 +115,7 @@ fn the_spare_copy_of_a_pair_is_written(rt: HostRuntime) -> Result<(), Fail> {
         name: b"a",
         words: &[b"3"],
     };
-    let (which, image) = set_bytes(rt.alloc(), &first, Some(&second), ByteOrder::Little, edit)?;
+    let (which, image) = changed(rt.alloc(), &first, Some(&second), edit)?;
     assert_eq!(rt; which, Which::First);
     assert_eq!(rt; image.as_slice(), want.as_slice());
     let first: [u8; 10] = [0x45, 0x98, 0x06, 0x3B, 0xFF, 0x61, 0x3D, 0x31, 0x00, 0x00];

@@ -13,6 +13,3 @@ pub use ask::{
 pub use called::words_called;
 pub use command::{lettered_option, long_flag, many};
 pub use read::{config_of, order_of, read_command, texts_of};
-
-#[cfg(test)]
-mod tests;

@@ -114,6 +114,3 @@ pub fn write_fault_of<O: Out, E: fmt::Display>(err: &mut O, program: &str, fault
 pub fn write_fault<O: Out, E: fmt::Display>(err: &mut O, fault: &E) {
     write_fault_of(err, "ubtool", fault);
 }
-
-#[cfg(test)]
-mod tests;

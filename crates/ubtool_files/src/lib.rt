@@ -6,8 +6,6 @@ mod files;
 mod input;
 mod machine;
 mod memory_files;
-#[cfg(test)]
-mod tests;
 mod until_failed;
 
 pub use files::{Action, FileFault, Files, LIMIT};

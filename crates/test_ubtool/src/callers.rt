@@ -1,8 +1,7 @@
 //! What a caller of `envimage` states and proves.
-#![tactic(auto)]
 
 ghost use Rattle.std.specs.Prelude.{◌≡◌};
-ghost use Rattle.envimage_uses.specs.Order.{order_of};
+ghost use Rattle.test_ubtool.specs.Order.{order_of};
 
 use envimage::{ByteOrder, load};
 

@@ -1,10 +1,6 @@
 //! The same calls on both stores: what no clause says is that they can succeed.
 
-use crate::frame::{At, Frame, FrameKind};
-use crate::log::LogEntry;
-use crate::plain::Plain;
-use crate::store::{Store, StoreError};
-use crate::trail::Trail;
+use bootstore::{At, Frame, FrameKind, LogEntry, Plain, Store, StoreError, Trail};
 use envtools::Env;
 use hushlang::tree::Script;
 use std::alloc::{AllocError, Global};

@@ -1,8 +1,8 @@
 //! What no clause says: that a call succeeds, and the texts.
-use crate::{Ask, read_command, words_called};
 use envimage::ByteOrder;
 use std::alloc::AllocError;
 use std::test::Fail;
+use ubtool_cli::{Ask, read_command, words_called};
 
 /// The answer to the words of a line, as text.
 fn answer(rt: &HostRuntime, line: &str) -> Result<String, AllocError> {

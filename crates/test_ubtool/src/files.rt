@@ -1,8 +1,8 @@
 //! What no clause says: that a call succeeds, and what the machine's own files do.
-use crate::{Action, FileFault, Files, LIMIT, Machine, MemoryFiles, ReadFault, read_up_to};
 use std::io::{ErrorKind, Read};
 use std::test::Fail;
 use std::{fs, io, process};
+use ubtool_files::{Action, FileFault, Files, LIMIT, Machine, MemoryFiles, ReadFault, read_up_to};
 
 /// Two files, of which `e` has ten bytes.
 fn two_files(rt: &HostRuntime, failing: Option<usize>) -> Result<MemoryFiles, Fail> {

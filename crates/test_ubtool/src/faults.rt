@@ -1,13 +1,11 @@
 //! The line of each fault.
-use super::{Fault, write_fault};
-use crate::error::ToolError;
-use crate::word_form::WordForm;
 use envimage::{ConfigError, DataError, ImageError, Over};
 use envtools::{EnvError, ScriptError};
 use rehearse::DevicesError;
 use std::alloc::AllocError;
 use std::fmt;
 use std::test::Fail;
+use ubtool_core::{Fault, ToolError, WordForm, write_fault};
 use ubtool_files::FileFault;
 
 /// The line that is written for a fault.

@@ -1,8 +1,20 @@
 //! Texts and what they are read as.
 
-use super::*;
-use crate::tree::Piece;
+use hushlang::parse::parse;
+use hushlang::token::SyntaxError;
+use hushlang::tree::{Command, Piece, Script};
+use std::alloc::Global;
 use std::test::Fail;
+
+/// The script of a text. The function promises nothing, so that the proof of a test has little to look at.
+fn script_of(alloc: Global, text: &[u8]) -> Result<Script, SyntaxError> {
+    parse(alloc, text)
+}
+
+/// Why a text is refused.
+fn fault_of(alloc: Global, text: &[u8]) -> Option<SyntaxError> {
+    parse(alloc, text).err()
+}
 
 #[test]
 fn refuses_at_places(rt: HostRuntime) -> Result<(), Fail> {
@@ -43,7 +55,7 @@ fn refuses_at_places(rt: HostRuntime) -> Result<(), Fail> {
         ("if then a; fi", SyntaxError::Unexpected(3)),
     ] {
         assert_eq!(rt;
-            parse(rt.alloc(), text.as_bytes()).err(),
+            fault_of(rt.alloc(), text.as_bytes()),
             Some(wanted),
             "{text}"
         );
@@ -59,7 +71,7 @@ fn refuses_each_cut(rt: HostRuntime) -> Result<(), Fail> {
             0 | 1 | 24 => None,
             _ => Some(SyntaxError::Unexpected(size)),
         };
-        assert_eq!(rt; parse(rt.alloc(), &text[..size]).err(), wanted, "{size}");
+        assert_eq!(rt; fault_of(rt.alloc(), &text[..size]), wanted, "{size}");
     }
     Ok(())
 }
@@ -94,7 +106,7 @@ fn nests_sixty_four_levels(rt: HostRuntime) -> Result<(), Fail> {
     ] {
         let text = nested(alloc, "if true; then ", opened, "fi; ", closed)?;
         assert_eq!(rt;
-            parse(alloc, text.as_bytes()).err(),
+            fault_of(alloc, text.as_bytes()),
             wanted,
             "{opened} and {closed}"
         );
@@ -102,31 +114,49 @@ fn nests_sixty_four_levels(rt: HostRuntime) -> Result<(), Fail> {
     Ok(())
 }
 
+/// Why a text is refused that opens so often, and closes as often.
+fn depth_fault(
+    alloc: Global,
+    opening: &str,
+    closing: &str,
+    depth: usize,
+) -> Result<Option<SyntaxError>, Fail> {
+    let text = nested(alloc, opening, depth, closing, depth)?;
+    Ok(fault_of(alloc, text.as_bytes()))
+}
+
+/// Why a text is refused that opens so inside 64 `if`s.
+fn inner_fault(alloc: Global, opening: &str) -> Result<Option<SyntaxError>, Fail> {
+    let mut text = nested(alloc, "if b; then ", 64, "", 0)?;
+    text.push_str(opening)?;
+    Ok(fault_of(alloc, text.as_bytes()))
+}
+
 #[test]
 fn nests_each_opening_word_as_deep(rt: HostRuntime) -> Result<(), Fail> {
     let alloc = rt.alloc();
-    for (opening, closing, wanted) in [
+    for (opening, closing, place) in [
         ("if b; then ", "fi; ", 704),
         ("while b; do ", "done; ", 768),
         ("until b; do ", "done; ", 768),
         ("for x in; do ", "done; ", 832),
     ] {
-        let deepest = nested(alloc, opening, 64, closing, 64)?;
-        assert_eq!(rt; parse(alloc, deepest.as_bytes()).err(), None, "{opening}");
-        let deeper = nested(alloc, opening, 65, closing, 65)?;
-        let error = Some(SyntaxError::TooDeep(wanted));
-        assert_eq!(rt; parse(alloc, deeper.as_bytes()).err(), error, "{opening}");
-        let mut mixed = nested(alloc, "if b; then ", 64, "", 0)?;
-        mixed.push_str(opening)?;
-        let error = Some(SyntaxError::TooDeep(707));
-        assert_eq!(rt; parse(alloc, mixed.as_bytes()).err(), error, "{opening}");
+        assert_eq!(rt;
+            depth_fault(alloc, opening, closing, 64)?,
+            None,
+            "{opening}"
+        );
+        let deeper = depth_fault(alloc, opening, closing, 65)?;
+        assert_eq!(rt; deeper, Some(SyntaxError::TooDeep(place)), "{opening}");
+        let inner = inner_fault(alloc, opening)?;
+        assert_eq!(rt; inner, Some(SyntaxError::TooDeep(707)), "{opening}");
     }
     Ok(())
 }
 
 #[test]
 fn joins_from_the_left(rt: HostRuntime) -> Result<(), Fail> {
-    let script = parse(rt.alloc(), b"a && b || c")?;
+    let script = script_of(rt.alloc(), b"a && b || c")?;
     let printed = format!(in rt.alloc(); "{script:?}")?;
     assert_eq!(rt;
         printed.as_str(),
@@ -137,7 +167,7 @@ fn joins_from_the_left(rt: HostRuntime) -> Result<(), Fail> {
 
 /// What the commands of a text are, a letter for each.
 fn kinds(alloc: Global, text: &[u8]) -> Result<String, Fail> {
-    let script = parse(alloc, text)?;
+    let script = script_of(alloc, text)?;
     let mut kinds = String::new(alloc);
     for list in &script.lists {
         let (kind, size) = match &list.first {
@@ -193,7 +223,7 @@ fn tells_commands_apart(rt: HostRuntime) -> Result<(), Fail> {
 
 /// The pieces of the values of a text's first assignments, printed.
 fn values(alloc: Global, text: &[u8]) -> Result<String, Fail> {
-    let script = parse(alloc, text)?;
+    let script = script_of(alloc, text)?;
     let mut printed = String::new(alloc);
     for list in &script.lists {
         if let Command::Assign(values) = &list.first {
@@ -218,6 +248,43 @@ fn splits_assignments(rt: HostRuntime) -> Result<(), Fail> {
         ),
     ] {
         let found = values(rt.alloc(), text.as_bytes())?;
+        assert_eq!(rt; found.as_str(), wanted, "{text}");
+    }
+    Ok(())
+}
+
+/// The pieces of the words of a text's simple commands, printed.
+fn pieces(alloc: Global, text: &[u8]) -> Result<String, Fail> {
+    let script = script_of(alloc, text)?;
+    let mut printed = String::new(alloc);
+    for list in &script.lists {
+        if let Command::Simple(words) = &list.first {
+            for word in words {
+                let pieces: &Vec<Piece> = &word.pieces;
+                let one = format!(in alloc; "{pieces:?};")?;
+                printed.push_str(one.as_str())?;
+            }
+        }
+    }
+    Ok(printed)
+}
+
+#[test]
+fn gathers_pieces(rt: HostRuntime) -> Result<(), Fail> {
+    for (text, wanted) in [
+        (
+            "a'b'\"c$d\"\\e #x",
+            "[Bytes([97]), Mark, Bytes([98]), Mark, Bytes([99]), Var { name: [100], split: false }, Bytes([101])];",
+        ),
+        ("''", "[Mark];"),
+        ("$1", "[Bytes([36, 49])];"),
+        ("$ab$?", "[Var { name: [97, 98], split: true }, Status];"),
+        (
+            "${?}${a.b}",
+            "[Status, Var { name: [97, 46, 98], split: true }];",
+        ),
+    ] {
+        let found = pieces(rt.alloc(), text.as_bytes())?;
         assert_eq!(rt; found.as_str(), wanted, "{text}");
     }
     Ok(())

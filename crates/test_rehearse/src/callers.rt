@@ -1,9 +1,8 @@
 //! What a caller of `hushlang` states and proves.
-#![tactic(auto)]
 
 ghost use Rattle.std.specs.Prelude.{◌≡◌, Some, true, false};
 ghost use Rattle.hushlang.specs.Texts.{HasNoTree};
-ghost use Rattle.hushlang_uses.specs.Tree.{HasTree};
+ghost use Rattle.test_rehearse.specs.Tree.{HasTree};
 
 use hushlang::parse::parse;
 use hushlang::token::SyntaxError;

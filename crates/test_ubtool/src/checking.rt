@@ -1,6 +1,6 @@
 //! The calls that other crates make, each once, and the text of each fault.
-use crate::{Place, Report, check, line_at, line_front, place_of};
 use envtools::Env;
+use hushcheck_core::{Place, Report, check, line_at, line_front, place_of};
 use std::alloc::Global;
 use std::test::Fail;
 

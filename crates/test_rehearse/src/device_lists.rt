@@ -1,12 +1,16 @@
 //! Worked examples of device lists.
-use super::{Devices, Effect};
-use crate::devices_error::DevicesError;
+use rehearse::{Devices, DevicesError, Effect};
 use std::alloc::AllocError;
 use std::test::Fail;
 
 /// Why a device list is refused.
 fn fault_of(rt: &HostRuntime, text: &str) -> Option<DevicesError> {
     Devices::parse(rt.alloc(), text.as_bytes()).err()
+}
+
+/// The device list of a text. The function promises nothing, so that the proof of a test has little to look at.
+fn parsed(rt: &HostRuntime, text: &[u8]) -> Result<Devices, DevicesError> {
+    Devices::parse(rt.alloc(), text)
 }
 
 /// Whether an effect is this one, with at most two settings.
@@ -24,7 +28,7 @@ fn is_effect(effect: Effect<'_>, ends: bool, sets: &[(&str, &str)]) -> bool {
 
 #[test]
 fn lists_names(rt: HostRuntime) -> Result<(), Fail> {
-    let devices = Devices::parse(rt.alloc(), b"# d\nload\n\nmmc")?;
+    let devices = parsed(&rt, b"# d\nload\n\nmmc")?;
     assert!(rt; devices.has(b"load"));
     assert!(rt; devices.has(b"mmc"));
     assert!(rt; !devices.has(b"# d"));
@@ -73,7 +77,7 @@ fn reads_final_commands(rt: HostRuntime) -> Result<(), Fail> {
         ("final final", "final", true),
     ];
     for (text, name, ends) in table {
-        let devices = Devices::parse(rt.alloc(), text.as_bytes())?;
+        let devices = parsed(&rt, text.as_bytes())?;
         let effect = devices.effect(name.as_bytes()).ok_or("the name is listed")?;
         assert_eq!(rt; effect.ends, ends, "{text}");
     }
@@ -82,7 +86,7 @@ fn reads_final_commands(rt: HostRuntime) -> Result<(), Fail> {
 
 #[test]
 fn joins_lines_of_one_name(rt: HostRuntime) -> Result<(), Fail> {
-    let devices = Devices::parse(rt.alloc(), b"load a=1\n\tfinal load \r\nload a=2 b=c=")?;
+    let devices = parsed(&rt, b"load a=1\n\tfinal load \r\nload a=2 b=c=")?;
     let effect = devices.effect(b"load").ok_or("load is listed")?;
     assert!(rt; is_effect(effect, true, &[("a", "1"), ("a", "2"), ("b", "c=")]));
     Ok(())
@@ -91,7 +95,7 @@ fn joins_lines_of_one_name(rt: HostRuntime) -> Result<(), Fail> {
 #[test]
 fn reads_a_long_name(rt: HostRuntime) -> Result<(), Fail> {
     let name = vec![in rt.alloc(); b'a'; 1_048_576]?;
-    let devices = Devices::parse(rt.alloc(), &name)?;
+    let devices = parsed(&rt, &name)?;
     assert!(rt; devices.has(&name));
     assert!(rt; !devices.has(b"a"));
     Ok(())

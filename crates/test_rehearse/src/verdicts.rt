@@ -1,5 +1,5 @@
 //! Worked examples of `test`.
-use super::verdict;
+use rehearse::verdict;
 use std::alloc::{AllocError, Global};
 use std::test::Fail;
 

@@ -1,0 +1,85 @@
+//! Calls of the product. None of these functions promises anything, so that the proof of a test has little to look at.
+ghost use Rattle.std.specs.Prelude.{◌≢◌, Some};
+
+use crate::writers::Memory;
+use envimage::{
+    ByteOrder, ConfigError, DataError, Out, Place, Which, check_data, crc32, parse_config,
+};
+use envtools::{Env, EnvError, ScriptError, apply_script};
+use std::alloc::Global;
+use std::io::Read;
+use ubtool_core::{Edit, Finish, RehearseAsk, ToolError, rehearse_bytes, run_input, set_bytes};
+use ubtool_files::MemoryFiles;
+use ubtool_run::run_tool;
+
+pub(crate) fn crc(bytes: &[u8]) -> u32 {
+    crc32(bytes)
+}
+
+pub(crate) fn fault_of_data(data: &[u8]) -> Option<DataError> {
+    check_data(data).err()
+}
+
+pub(crate) fn places_of(alloc: Global, text: &[u8]) -> Result<Vec<Place>, ConfigError> {
+    parse_config(alloc, text)
+}
+
+pub(crate) fn apply(env: &mut Env, script: &[u8]) -> Result<(), ScriptError> {
+    apply_script(env, script)
+}
+
+pub(crate) fn change(env: &mut Env, name: &[u8], words: &[&[u8]]) -> Result<(), EnvError> {
+    env.change(name, words)
+}
+
+pub(crate) fn set(env: &mut Env, name: &[u8], value: &[u8]) -> Result<(), EnvError> {
+    env.set(name, value)
+}
+
+pub(crate) fn copy_of(env: &Env) -> Result<Env, EnvError> {
+    env.copy()
+}
+
+/// The copy that is written of a little-endian image or pair.
+pub(crate) fn changed(
+    alloc: Global,
+    first: &[u8],
+    second: Option<&[u8]>,
+    edit: Edit<'_>,
+) -> Result<(Which, Vec<u8>), ToolError> {
+    set_bytes(alloc, first, second, ByteOrder::Little, edit)
+}
+
+/// Rehearses a single little-endian image, where `load` is listed.
+pub(crate) fn rehearse<O: Out>(
+    alloc: Global,
+    image: &[u8],
+    ask: &RehearseAsk<'_>,
+    out: &mut O,
+) -> Result<Finish, ToolError>
+    requires { ask.now.limit ≢ Some 0 }
+{
+    rehearse_bytes(alloc, image, None, ByteOrder::Little, b"load", ask, out)
+}
+
+/// The status of the program without words.
+pub(crate) fn print_input<R: Read, O: Out>(
+    alloc: Global,
+    input: &mut R,
+    out: &mut O,
+    err: &mut Memory,
+) -> u8 {
+    run_input(alloc, input, out, err)
+}
+
+/// The status of the program, over files in memory and without input.
+pub(crate) fn run_words<O: Out, E: Out>(
+    alloc: Global,
+    words: &[&str],
+    files: &mut MemoryFiles,
+    out: &mut O,
+    err: &mut E,
+) -> u8 {
+    let mut input: &[u8] = b"";
+    run_tool(alloc, words, &mut input, files, out, err)
+}
