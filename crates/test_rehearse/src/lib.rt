@@ -4,6 +4,8 @@
 
 #[cfg(test)]
 mod bounds;
+#[cfg(test)]
+mod broken;
 pub mod callers;
 #[cfg(test)]
 mod device_lists;

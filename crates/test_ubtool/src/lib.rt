@@ -10,11 +10,17 @@ mod checking;
 #[cfg(test)]
 mod commands;
 #[cfg(test)]
+mod environments;
+#[cfg(test)]
 mod failing_once;
 #[cfg(test)]
 mod faults;
 #[cfg(test)]
 mod files;
+#[cfg(test)]
+mod flags;
+#[cfg(test)]
+mod full_outputs;
 #[cfg(test)]
 mod images;
 #[cfg(test)]
@@ -28,7 +34,11 @@ mod reading;
 #[cfg(test)]
 mod rehearsing;
 #[cfg(test)]
+mod rehearsing_edges;
+#[cfg(test)]
 mod running;
+#[cfg(test)]
+mod running_rehearsals;
 pub mod writers;
 #[cfg(test)]
 mod writing;

@@ -1,4 +1,4 @@
-//! Outputs for tests: into memory, one byte at a time, and failing at a byte.
+//! Outputs for tests: into memory, one byte at a time, full, and failing at a byte or once.
 ghost use Rattle.std.specs.Prelude.{◌≡◌, [], Some};
 
 use envimage::{Out, OutFault};
@@ -75,6 +75,34 @@ impl Out for Limited {
         if taken == 0 && !bytes.is_empty() {
             self.memory.failures = self.memory.failures.saturating_add(1);
             return Err(OutFault::Failed);
+        }
+        let taken = self.memory.write(&bytes[..taken])?;
+        self.room -= taken;
+        Ok(taken)
+    }
+}
+
+/// An output into memory that takes `room` bytes more, and then none, without a fault.
+#[derive(Drop)]
+pub struct Full {
+    /// Where the bytes go.
+    pub memory: Memory,
+    /// How many bytes it still takes.
+    pub room: usize,
+}
+
+impl Out for Full {
+    ghost use Rattle.std.specs.Prelude.{Some};
+
+    ghost sink = { λ o. record { taken = Some o.memory.bytes.items; failures = o.memory.failures } };
+
+    fn write(&mut self, bytes: &[u8]) -> Result<usize, OutFault> {
+        let taken = bytes.len().min(self.room);
+        if taken == 0 {
+            if !bytes.is_empty() {
+                self.memory.failures = self.memory.failures.saturating_add(1);
+            }
+            return Ok(0);
         }
         let taken = self.memory.write(&bytes[..taken])?;
         self.room -= taken;
