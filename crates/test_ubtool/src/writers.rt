@@ -100,7 +100,8 @@ impl Out for Full {
         let taken = bytes.len().min(self.room);
         if taken == 0 {
             if !bytes.is_empty() {
-                self.memory.failures = self.memory.failures.saturating_add(1);
+                let counted = self.memory.failures.saturating_add(1);
+                self.memory.failures = counted;
             }
             return Ok(0);
         }
