@@ -95,7 +95,8 @@ fn push_warning(told: &mut Vec<u8>, name: &[u8], text: &[u8]) -> Result<(), Allo
 /// Puts what is told of a text that is well-formed behind a text.
 #[tactic(auto, using(crate::proofs::LinesLemmas::read_is))]
 pub(crate) fn push_read(told: &mut Vec<u8>, name: &[u8], text: &[u8]) -> Result<(), AllocError>
-    ensures { OnOk result (told.new.items ≡ told.old.items ++ (word_form name.now ++ codes ": ok\n" ++ spec.warning_lines name.now text.now)) }
+    ensures { OnOk result (told.new.items ≡ told.old.items
+        ++ (word_form name.now ++ codes ": ok\n" ++ spec.warning_lines name.now text.now)) }
 {
     push_named(told, name, b": ok\n")?;
     push_warning(told, name, text)

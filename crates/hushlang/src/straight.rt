@@ -9,7 +9,7 @@ use crate::words::Reserved;
 
 /// Where a token stands.
 #[derive(Clone, Copy, Debug, PartialEq, Eq)]
-pub enum Stand {
+enum Stand {
     /// A command may begin here.
     Begins,
     /// Among the words of a command, or of a `for`.
@@ -42,9 +42,9 @@ fn behind_word(stand: Stand, word: Option<Reserved>) -> Stand
     }
 }
 
-/// Where the first word begins that stands straight behind a compound command, as the second in `fi fi`: no separator and
-/// no operator stands between. A script may hold such words, and U-Boot's shell says `syntax error` to them. It takes no
-/// memory.
+/// Where the first word begins that stands straight behind a compound command, as the second in `fi fi`: no separator
+/// and no operator stands between. A script may hold such words, and U-Boot's shell says `syntax error` to them. It
+/// takes no memory.
 #[tactic(auto, using(crate::proofs::StraightWords::stepping))]
 pub fn word_straight_behind(text: &[u8]) -> Option<usize>
     ensures { result ≡ spec.straight (input_in text.now).tokens }

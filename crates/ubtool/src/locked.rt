@@ -54,8 +54,8 @@ fn lock_taken<R: rt::Files<File = File>>(rt: &R) -> Option<File> {
 }
 
 /// The machine's files. Before their first call, one that will write waits for the lock, and holds it as long as these
-/// files last. Where the lock file cannot be opened, as on a machine without its folder, or is no plain file, no lock is
-/// taken.
+/// files last. Where the lock file cannot be opened, as on a machine without its folder, or is no plain file, no lock
+/// is taken.
 #[derive(Drop)]
 pub struct Locked<'a, R> {
     rt: &'a R,
