@@ -1,6 +1,7 @@
 //! The bounds of a rehearsal.
 ghost use Rattle.std.specs.Prelude.{◌≡◌};
 
+use crate::run_bounds::RunBounds;
 use std::marker::Model;
 
 /// The greatest device bound.
@@ -9,7 +10,7 @@ pub const DEVICES_MAX: u32 = 32;
 /// The greatest step bound.
 pub const STEPS_MAX: u32 = 1_000_000;
 
-/// How many device commands a run may ask, and how many steps it may begin.
+/// How many device commands each run of a listing may ask, and how many steps it may begin.
 #[derive(Clone, Copy, Debug)]
 pub struct Bounds {
     devices: u32,
@@ -59,5 +60,12 @@ impl Bounds {
         ensures within { are_bounds self.now.devices self.now.steps ≡ true }
     {
         self.steps
+    }
+
+    /// The same, as bounds of a run.
+    pub fn of_run(self) -> RunBounds
+        ensures { result ≡ self }
+    {
+        RunBounds::of(self.devices, self.steps)
     }
 }

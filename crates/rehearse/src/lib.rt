@@ -9,10 +9,12 @@ mod devices;
 mod devices_error;
 pub mod laws;
 mod number;
+mod run_bounds;
 mod truth;
 
 pub use bounds::{Bounds, DEVICES_MAX, STEPS_MAX};
 pub use builtins::{Builtin, builtin_of};
 pub use devices::{Devices, Effect};
 pub use devices_error::DevicesError;
+pub use run_bounds::{RUN_DEVICES_MAX, RunBounds};
 pub use truth::verdict;

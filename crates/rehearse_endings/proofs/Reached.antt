@@ -1,7 +1,9 @@
 -- The search over the states in which device commands ask.
-use Rattle.std.proofs.Common.{ℕ, zero, suc, get_or, ◌+◌, ◌≤◌, ◌<◌, max, Bool, true, false, List, [], ◌∷◌, ◌++◌, map, length, Option, Some, None, refl, sym, ap, subst, ◌∙◌, ◌≡◌, arith, append-nil, length-append}
+use Rattle.std.proofs.Common.{ℕ, zero, suc, get_or, ◌+◌, ◌*◌, ◌≤◌, ◌<◌, max, Bool, true, false, List, [], ◌∷◌, ◌++◌, map, length, Option, Some, None, refl, sym, ap, subst, ◌∙◌, ◌≡◌, arith, append-nil, length-append}
 use Rattle.std.proofs.lemmas.List.Elements.{All-append}
-use Rattle.bootstore.specs.Record.{Record, with_mark, gone_back, returned}
+use Rattle.std.proofs.lemmas.Bool.{ltb-true}
+use Rattle.std.specs.Prelude.{nat_lt}
+use Rattle.bootstore.specs.Record.{Record, most_steps, with_mark, gone_back, returned}
 use Rattle.rehearse_machine.specs.Machine.{outcome_when}
 use Rattle.bootstore.specs.Moment.{Moment, RunningFrame}
 use Rattle.rehearse.specs.Outcomes.{OutcomeWord, Outcome, Success, Failure}
@@ -147,6 +149,10 @@ entry_there limits e t depth s h asks log core steps devices is =
           ∙ ap (λ (x : Summary). moved_by m.steps t.steps (length m.log) (length t.log) x) shown,
     )
 
+pub entry_in : (limits : Limits) (es slice : List Entry) (i : ℕ) (e : Entry) → slice ≡ es → true ≡ nat_lt i (length slice) → e ≡ get_or slice i e → AreEntries limits es → IsEntry limits e
+entry_in limits es slice i e same within is all =
+    subst (IsEntry limits) (sym is) ((subst (AreEntries limits) (sym same) all) i e (ltb-true i (length slice) (sym within)))
+
 -- what a look into the table finds
 pub look_there : (limits : Limits) (e : Entry) (t : Moment) (depth : ℕ) (o : Option kept.Summary) → IsEntry limits e → IsAsking limits t → length t.log ≡ depth → core_shown e.core ≡ core_of t
     → FitsIf e.summary.cut_steps e.steps t.steps e.summary.steps limits.step_bound → FitsIf e.summary.cut_devices e.devices depth e.summary.devices limits.device_bound
@@ -204,6 +210,38 @@ back_there r₀ r r₁ r₂ back e a b k =
 
 pub lost_on : (task : Task) (m : Moment) (back r₁ : Record) (stop : Stop) → back.present ≡ m → Stops task.limits stop (λ w. asked_at task.limits back.present (outcome_when false ∷ w)) r₁.present → Stops task.limits stop (λ w. asked_at task.limits m (Failure ∷ w)) r₁.present
 lost_on task m back r₁ stop e h = subst (λ (x : Moment). Stops task.limits stop (λ w. asked_at task.limits x (Failure ∷ w)) r₁.present) e h
+
+-- ---- the steps that were begun
+
+abbrev pub Room : (begun visited : ℕ) → Type 0
+Room begun visited = begun ≤ (2 * visited + 1) * most_steps
+
+-- the steps of so many states more
+abbrev pub Grows : (old new old_visited new_visited : ℕ) → Type 0
+Grows old new old_visited new_visited = new + 2 * old_visited * most_steps ≤ old + 2 * new_visited * most_steps
+
+pub begun_on : (r r₁ : Record) → r₁.begun + r.present.steps ≡ r.begun + r₁.present.steps → r₁.present.steps ≤ most_steps → r₁.begun ≤ r.begun + most_steps
+begun_on r r₁ e l = omega arith
+
+pub begun_marked : (r₀ r : Record) → r ≡ with_mark r₀ → r.begun ≡ r₀.begun
+begun_marked r₀ r e = ap (λ (x : Record). x.begun) e
+
+begun_by : (present : Moment) (begun : ℕ) (marked : List Moment) → (returned present begun marked).begun ≡ begun
+begun_by present begun [] = refl
+begun_by present begun (m ∷ ms) = refl
+
+pub begun_back : (r back : Record) → back ≡ gone_back r → back.begun ≡ r.begun
+begun_back r back e = ap (λ (x : Record). x.begun) e ∙ begun_by r.present r.begun r.marked
+
+-- the second stretch of steps from a state
+pub begun_lost : (r₀ r r₁ r₂ back r₃ : Record) (v₀ v₁ v₂ : ℕ) → r ≡ with_mark r₀ → r₁.begun + r.present.steps ≡ r.begun + r₁.present.steps → r₁.present.steps ≤ most_steps → Room r₀.begun v₀ → v₁ ≡ v₀ + 1
+    → Grows r₁.begun r₂.begun v₁ v₂ → back ≡ gone_back r₂ → r₃.begun + back.present.steps ≡ back.begun + r₃.present.steps → r₃.present.steps ≤ most_steps → Room r₃.begun v₂
+begun_lost r₀ r r₁ r₂ back r₃ v₀ v₁ v₂ marked on within room visited grows returns lost within' =
+    let a = begun_marked r₀ r marked in
+    let b = begun_on r r₁ on within in
+    let c = begun_back r₂ back returns in
+    let d = begun_on back r₃ lost within' in
+    omega (arith, a, b, c, d, room, visited, grows)
 
 none_there : (limits : Limits) (n : ℕ) (d : Entry) → n < 0 → IsEntry limits (get_or [] n d)
 none_there limits n d l = absurd (omega arith)

@@ -1,20 +1,20 @@
 -- Counts up to the greatest.
 use Rattle.std.proofs.Common.{ℕ, ◌+◌, min, Bool, true, false, List, [], ◌∷◌, map, refl, sym, ap, ◌∙◌, ◌≡◌, arith}
 use Rattle.rehearse.specs.Outcomes.{OutcomeWord, Outcome, Success, Failure}
-use Rattle.rehearse_endings.specs.Endings.{Row, ending_eq, with_row, merge, in_front, of_both}
-use Rattle.rehearse_endings.specs.RowsShown.{most_runs, saturated, with_row_up, merge_up, of_both_up}
+use Rattle.rehearse_endings.specs.Endings.{Row, ending_eq, joined, with_row, merge, in_front, of_both}
+use Rattle.rehearse_endings.specs.RowsShown.{most_runs, saturated, joined_up, with_row_up, merge_up, of_both_up}
 
 sum_up : (a b m : ℕ) → min (a + b) m ≡ min (min a m + min b m) m
 sum_up a b m = omega arith
 
 abbrev row_up_if : Bool → Row → List Row → Row → List Row
-row_up_if b r rs row = elim b [ true ↦ record r { count = min (r.count + row.count) most_runs } ∷ rs | false ↦ r ∷ with_row_up rs row ]
+row_up_if b r rs row = elim b [ true ↦ joined_up r row ∷ rs | false ↦ r ∷ with_row_up rs row ]
 
 abbrev row_if : Bool → Row → List Row → Row → List Row
-row_if b r rs row = elim b [ true ↦ record r { count = r.count + row.count } ∷ rs | false ↦ r ∷ with_row rs row ]
+row_if b r rs row = elim b [ true ↦ joined r row ∷ rs | false ↦ r ∷ with_row rs row ]
 
 put_up_if : (b : Bool) (r : Row) (rs : List Row) (row : Row) → map saturated (with_row rs row) ≡ with_row_up (map saturated rs) (saturated row) → map saturated (row_if b r rs row) ≡ row_up_if b (saturated r) (map saturated rs) (saturated row)
-put_up_if true r rs row h = ap (λ (n : ℕ). record r { count = n } ∷ map saturated rs) (sum_up r.count row.count most_runs)
+put_up_if true r rs row h = ap (λ (n : ℕ). record (joined r row) { count = n } ∷ map saturated rs) (sum_up r.count row.count most_runs)
 put_up_if false r rs row h = ap (λ (x : List Row). saturated r ∷ x) h
 
 put_up : (rs : List Row) (row : Row) → map saturated (with_row rs row) ≡ with_row_up (map saturated rs) (saturated row)

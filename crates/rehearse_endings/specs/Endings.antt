@@ -1,5 +1,5 @@
 -- How all runs end: for each ending how many runs do, and the first of them. Ours.
-use Rattle.std.specs.Prelude.{◌≡◌, ℕ, ◌+◌, nat_eq, Bool, true, false, List, [], ◌∷◌, map}
+use Rattle.std.specs.Prelude.{◌≡◌, ℕ, suc, ◌+◌, nat_eq, nat_le, Bool, true, false, cond, List, [], ◌∷◌, map}
 use Rattle.std.specs.Str.{bytes_eq}
 use Rattle.rehearse.specs.Outcomes.{OutcomeWord, Outcome, Success, Failure, WordKind, Run, Short, Long, runs_within, beyond}
 use Rattle.rehearse.specs.Execution.{Ending, End, CutDevices, CutSteps, Unknown, Syntax, Size, Booted}
@@ -15,18 +15,33 @@ ending_eq Size Size = true
 ending_eq (Booted a) (Booted b) = bytes_eq a b
 ending_eq _ _ = false
 
--- a way to end, how many runs end so, and the word of the first of them
+-- how many device commands failed
+abbrev pub failures : OutcomeWord → ℕ
+failures [] = 0
+failures (Success ∷ w) = failures w
+failures (Failure ∷ w) = suc (failures w)
+
+-- the word with fewer failures, and of as many the first
+abbrev pub fewer : OutcomeWord → OutcomeWord → OutcomeWord
+fewer v w = cond (nat_le (failures v) (failures w)) v w
+
+-- a way to end, how many runs end so, the word of the first of them, and of the first with the fewest failures
 pub record Row : Type 0 where
   pub ending : Ending
   pub count : ℕ
   pub word : OutcomeWord
+  pub fewest : OutcomeWord
+
+-- further runs that end alike
+abbrev pub joined : Row → Row → Row
+joined r row = record r { count = r.count + row.count; fewest = fewer r.fewest row.fewest }
 
 -- runs that end as others do raise their count; another ending comes behind those that are there
 abbrev pub with_row : List Row → Row → List Row
 with_row [] row = row ∷ []
 with_row (r ∷ rs) row =
     elim (ending_eq r.ending row.ending) [
-      | true ↦ record r { count = r.count + row.count } ∷ rs
+      | true ↦ joined r row ∷ rs
       | false ↦ r ∷ with_row rs row
     ]
 
@@ -35,7 +50,7 @@ merge rows [] = rows
 merge rows (r ∷ rs) = merge (with_row rows r) rs
 
 abbrev pub one_run : Ending × OutcomeWord → Row
-one_run e = record { ending = e.0; count = 1; word = e.1 }
+one_run e = record { ending = e.0; count = 1; word = e.1; fewest = e.1 }
 
 -- the rows of runs in their order
 abbrev pub gather : List (Ending × OutcomeWord) → List Row
@@ -56,7 +71,7 @@ endings task = gather (map (λ w. (ending task w, w)) (runs task))
 -- ---- from the rows of both sides
 
 abbrev pub in_front : Outcome → Row → Row
-in_front outcome r = record r { word = outcome ∷ r.word }
+in_front outcome r = record r { word = outcome ∷ r.word; fewest = outcome ∷ r.fewest }
 
 -- the runs past a success, then those past a failure
 abbrev pub of_both : (won lost : List Row) → List Row

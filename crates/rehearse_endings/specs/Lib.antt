@@ -5,3 +5,6 @@ pub mod Summaries
 pub mod Cores
 pub mod RowsShown
 pub mod Searching
+pub mod Lines
+pub mod TellingEndings
+pub mod Laws

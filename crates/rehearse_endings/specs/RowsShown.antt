@@ -5,7 +5,7 @@ use Rattle.rehearse.specs.Outcomes.{OutcomeWord, Outcome, Success, Failure}
 use Rattle.rehearse_machine.specs.Came.{Came}
 use Rattle.rehearse_machine.specs.EndingsShown.{halt_shown}
 use Rattle.rehearse_machine.specs.Machine.{outcome_when}
-use Rattle.rehearse_endings.specs.Endings.{Row, ending_eq, in_front}
+use Rattle.rehearse_endings.specs.Endings.{Row, ending_eq, fewer, in_front}
 use Rattle.rehearse_endings.specs.Summaries.{Summary, Sums}
 use Rattle.rehearse_endings.specs.declared.rows.Row as rt
 use Rattle.rehearse_endings.specs.declared.summary.Summary as kept
@@ -17,12 +17,15 @@ most_runs = 340282366920938463463374607431768211455
 abbrev pub saturated : Row → Row
 saturated r = record r { count = min r.count most_runs }
 
--- `with_row` and what is made of it, with counts up to the greatest
+-- `joined`, `with_row` and what is made of them, with counts up to the greatest
+abbrev pub joined_up : Row → Row → Row
+joined_up r row = record r { count = min (r.count + row.count) most_runs; fewest = fewer r.fewest row.fewest }
+
 abbrev pub with_row_up : List Row → Row → List Row
 with_row_up [] row = row ∷ []
 with_row_up (r ∷ rs) row =
     elim (ending_eq r.ending row.ending) [
-      | true ↦ record r { count = min (r.count + row.count) most_runs } ∷ rs
+      | true ↦ joined_up r row ∷ rs
       | false ↦ r ∷ with_row_up rs row
     ]
 
@@ -33,9 +36,17 @@ merge_up rows (r ∷ rs) = merge_up (with_row_up rows r) rs
 abbrev pub of_both_up : (won lost : List Row) → List Row
 of_both_up won lost = merge_up (map (in_front Success) won) (map (in_front Failure) lost)
 
+-- the outcomes of a word, of which the code holds the last one first
+abbrev pub word_shown : Vec Bool Global → OutcomeWord
+word_shown v = reverse (map outcome_when v.items)
+
 abbrev pub row_shown : rt.Row → Row
-row_shown r =
-    record { ending = halt_shown r.halt; count = r.count; word = reverse (map outcome_when r.digits.items) }
+row_shown r = record {
+  ending = halt_shown r.halt;
+  count = r.count;
+  word = word_shown r.word;
+  fewest = word_shown r.fewest;
+}
 
 abbrev pub rows_shown : Vec rt.Row Global → List Row
 rows_shown rows = map row_shown rows.items

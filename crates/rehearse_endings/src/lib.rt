@@ -2,12 +2,19 @@
 #![tactic(auto)]
 
 mod cores;
+mod hashing;
+pub mod laws;
+mod lines;
 mod rows;
 mod same;
 mod searching;
+mod sum_error;
 mod summary;
 mod table;
+mod telling;
 
 pub use cores::Core;
 pub use rows::Row;
-pub use searching::sum_endings;
+pub use searching::{Endings, sum_endings};
+pub use sum_error::SumError;
+pub use telling::{EndingsAsk, EndingsError, endings_env};

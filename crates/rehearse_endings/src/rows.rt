@@ -1,20 +1,25 @@
 //! Rows: how runs end, how many, and which is the first.
-ghost use Rattle.std.specs.Prelude.{◌≡◌, ◌∷◌, [], map, IfOk};
+ghost use Rattle.std.specs.Prelude.{◌≡◌, ◌≤◌, ◌∷◌, [], map, reverse, IfOk};
 ghost use Rattle.rehearse_machine.specs.EndingsShown.{halt_shown};
 ghost use Rattle.rehearse_machine.specs.Machine.{outcome_when};
-ghost use Rattle.rehearse_endings.specs.RowsShown.{row_shown, rows_shown, with_row_up, merge_up};
-ghost use Rattle.rehearse_endings.specs.Endings.{one_run, in_front, ending_eq};
+ghost use Rattle.rehearse_endings.specs.RowsShown.{row_shown, rows_shown, word_shown, joined_up, with_row_up, merge_up};
+ghost use Rattle.rehearse_endings.specs.Endings.{failures, fewer, one_run, in_front, ending_eq};
 
 use bootstore::StoreError;
 use rehearse_machine::Halt;
 use std::alloc::Global;
 
-/// A way to end, how many runs end so, and the word of the first of them, the last outcome first.
+/// How runs end, and which do. A word holds whether each of its device commands succeeded, the last one first.
 #[derive(Drop)]
 pub struct Row {
+    /// How they end.
     pub halt: Halt,
+    /// How many they are, or 2^128 - 1 where they are more.
     pub count: u128,
-    pub digits: Vec<bool>,
+    /// The word of the first of them.
+    pub word: Vec<bool>,
+    /// The word of the first of those with the fewest failures.
+    pub fewest: Vec<bool>,
 }
 
 /// The row of one run that is over.
@@ -25,7 +30,8 @@ pub(crate) fn one_row(alloc: Global, halt: Halt) -> Result<Vec<Row>, StoreError>
     rows.push(Row {
         halt,
         count: 1,
-        digits: Vec::new(alloc),
+        word: Vec::new(alloc),
+        fewest: Vec::new(alloc),
     })?;
     Ok(rows)
 }
@@ -67,11 +73,13 @@ pub(crate) fn copy_rows(alloc: Global, rows: &Vec<Row>) -> Result<Vec<Row>, Stor
     let mut copies = Vec::new(alloc);
     for row in rows {
         let halt = copy_halt(&row.halt)?;
-        let digits = Vec::from_slice(alloc, &row.digits)?;
+        let word = Vec::from_slice(alloc, &row.word)?;
+        let fewest = Vec::from_slice(alloc, &row.fewest)?;
         copies.push(Row {
             halt,
             count: row.count,
-            digits,
+            word,
+            fewest,
         })?;
     }
     Ok(copies)
@@ -87,34 +95,77 @@ pub(crate) fn put_in_front(
 {
     let mut made = Vec::new(alloc);
     for row in rows {
-        let mut digits = row.digits;
-        digits.push(success)?;
+        let mut word = row.word;
+        word.push(success)?;
+        let mut fewest = row.fewest;
+        fewest.push(success)?;
         made.push(Row {
             halt: row.halt,
             count: row.count,
-            digits,
+            word,
+            fewest,
         })?;
     }
     Ok(made)
 }
 
-/// The rows, where the count of the one that ends alike is raised, or the row stands behind the others.
+/// How many device commands failed where one did or did not.
+fn failed(success: bool) -> usize
+    ensures count { result ≡ failures (outcome_when success ∷ []) }
+    ensures within { result ≤ 1 }
+{
+    if success { 0 } else { 1 }
+}
+
+/// How many device commands of a word failed.
+pub(crate) fn failures(word: &[bool]) -> usize
+    ensures { result ≡ failures (reverse (map outcome_when word.now)) }
+{
+    let mut count = 0;
+    for success in word {
+        count += failed(*success);
+    }
+    count
+}
+
+/// The word with fewer failures, and of as many the first.
+fn fewer(alloc: Global, first: Vec<bool>, second: &Vec<bool>) -> Result<Vec<bool>, StoreError>
+    ensures { IfOk result (λ word. word_shown word ≡ fewer (word_shown first) (word_shown second.now)) }
+{
+    if failures(&first) <= failures(second) {
+        return Ok(first);
+    }
+    let copy = Vec::from_slice(alloc, second)?;
+    Ok(copy)
+}
+
+/// The row of the runs of both, which end alike.
+fn join(alloc: Global, row: Row, further: &Row) -> Result<Row, StoreError>
+    ensures { IfOk result (λ made. row_shown made ≡ joined_up (row_shown row) (row_shown further.now)) }
+{
+    let fewest = fewer(alloc, row.fewest, &further.fewest)?;
+    Ok(Row {
+        halt: row.halt,
+        count: row.count.saturating_add(further.count),
+        word: row.word,
+        fewest,
+    })
+}
+
+/// The rows, where that of the runs that end alike has these too, or they stand behind the others.
 fn put_row(alloc: Global, rows: Vec<Row>, row: Row) -> Result<Vec<Row>, StoreError>
     ensures { IfOk result (λ made. rows_shown made ≡ with_row_up (rows_shown rows) (row_shown row)) }
 {
     let mut made = Vec::new(alloc);
     let mut is_there = false;
     for old in rows {
-        let mut count = old.count;
         if !is_there && same_halt(&old.halt, &row.halt) {
             is_there = true;
-            count = count.saturating_add(row.count);
+            let both = join(alloc, old, &row)?;
+            made.push(both)?;
+        } else {
+            made.push(old)?;
         }
-        made.push(Row {
-            halt: old.halt,
-            count,
-            digits: old.digits,
-        })?;
     }
     if !is_there {
         made.push(row)?;

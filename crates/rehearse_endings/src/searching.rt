@@ -1,56 +1,49 @@
 //! The search through the states in which device commands ask.
-ghost use Rattle.std.specs.Prelude.{◌≡◌, ◌+◌, ◌≤◌, ◌<◌, ◌^◌, ◌∷◌, map, IfOk, OnOk};
+ghost use Rattle.std.specs.Prelude.{◌≡◌, ◌+◌, ◌*◌, ◌≤◌, ◌<◌, ◌^◌, map, IfOk, OnOk};
 ghost use Rattle.rehearse.specs.Bounds.{most_steps};
-ghost use Rattle.rehearse_machine.specs.Machine.{Stops, IsAsking, asked_at, outcome_when};
 ghost use Rattle.rehearse_machine.specs.Tasks.{task_in};
 ghost use Rattle.rehearse_endings.specs.RowsShown.{Summed, summary_shown, rows_shown, saturated};
 ghost use Rattle.rehearse_endings.specs.Endings.{endings};
 ghost use Rattle.rehearse_endings.specs.Searching.{future, IsReached, AreEntries};
 
 use crate::cores::take_core;
+use crate::hashing::hash_of;
 use crate::rows::Row;
+use crate::sum_error::SumError;
 use crate::summary::{Summary, of_end, of_sides};
-use crate::table::{Entry, keep, look_up};
-use bootstore::{Store, StoreError};
+use crate::table::Table;
+use bootstore::Store;
 use rehearse_machine::{Rehearsal, Stop, begin, resume};
 
-/// The most steps that a search begins.
-const BEGUN_MAX: u64 = 1 << 63;
-
-/// Gives the device command that asks an outcome, and goes on until the next one asks, or the run ends.
-fn go_on<S: Store>(
-    rehearsal: &Rehearsal<'_>,
-    store: &mut S,
-    success: bool,
-) -> Result<Stop, StoreError>
-    requires asks { IsAsking (task_in rehearsal.now).limits (S.record_of store.old).present }
-    ensures stops { IfOk result (λ stop. Stops (task_in rehearsal.now).limits stop (λ w. asked_at (task_in rehearsal.now).limits (S.record_of store.old).present (outcome_when success ∷ w)) (S.record_of store.new).present) }
-    ensures marks { OnOk result ((S.record_of store.new).marked ≡ (S.record_of store.old).marked) }
-    ensures within { OnOk result ((S.record_of store.new).present.steps ≤ most_steps) }
-    ensures grows { OnOk result ((S.record_of store.old).present.steps ≤ (S.record_of store.new).present.steps) }
-{
-    if store.begun() >= BEGUN_MAX {
-        return Err(StoreError::Memory);
-    }
-    let next = resume(rehearsal, store, success)?;
-    Ok(next)
+/// How the runs of a script end.
+#[derive(Drop)]
+pub struct Endings {
+    /// For each ending, in the order of the first run that ends so, which runs do.
+    pub rows: Vec<Row>,
+    /// How many states were gone through in which a device command asks.
+    pub states: u32,
 }
 
 /// The summary of what is to come of a text that has stopped. States that stand in the table are not gone through again.
 fn summed<S: Store>(
     rehearsal: &Rehearsal<'_>,
     store: &mut S,
-    table: &mut Vec<Entry>,
+    table: &mut Table,
     depth: u32,
     stop: Stop,
-) -> Result<Summary, StoreError>
+) -> Result<Summary, SumError>
     requires reached { IsReached (task_in rehearsal.now) depth stop (S.record_of store.old).present }
-    requires table { AreEntries (task_in rehearsal.now).limits table.old.items }
+    requires table { AreEntries (task_in rehearsal.now).limits table.old.entries.items }
     requires within { (S.record_of store.old).present.steps ≤ most_steps }
     requires bound { (task_in rehearsal.now).limits.device_bound < 2 ^ 32 }
+    requires begun { (S.record_of store.old).begun ≤ (2 * table.old.visited + 1) * most_steps }
+    requires room { table.old.visited ≤ table.old.most }
     ensures sums { IfOk result (λ s. Summed (future (task_in rehearsal.now).limits stop (S.record_of store.old).present) (summary_shown s)) }
     ensures marks { OnOk result ((S.record_of store.new).marked ≡ (S.record_of store.old).marked) }
-    ensures table { OnOk result (AreEntries (task_in rehearsal.now).limits table.new.items) }
+    ensures table { OnOk result (AreEntries (task_in rehearsal.now).limits table.new.entries.items) }
+    ensures begun { OnOk result ((S.record_of store.new).begun + 2 * table.old.visited * most_steps ≤ (S.record_of store.old).begun + 2 * table.new.visited * most_steps) }
+    ensures room { OnOk result (table.new.visited ≤ table.new.most) }
+    ensures most { OnOk result (table.new.most ≡ table.old.most) }
 {
     match stop {
         Stop::Ends(halt) => {
@@ -58,43 +51,52 @@ fn summed<S: Store>(
             Ok(summary)
         }
         Stop::Asks => {
-            if let Some(found) = look_up(
+            let hash = hash_of(store);
+            if let Some(found) = table.find(
                 rehearsal.alloc,
                 store,
                 rehearsal.devices,
                 rehearsal.bounds,
-                table,
+                hash,
                 depth,
             )? {
                 return Ok(found);
             }
+            table.enter()?;
             let core = take_core(rehearsal.alloc, store)?;
             let steps = store.steps();
             store.mark()?;
-            let won_stop = go_on(rehearsal, store, true)?;
+            let won_stop = resume(rehearsal, store, true)?;
             let won = summed(rehearsal, store, table, depth + 1, won_stop)?;
             store.back();
-            let lost_stop = go_on(rehearsal, store, false)?;
+            let lost_stop = resume(rehearsal, store, false)?;
             let lost = summed(rehearsal, store, table, depth + 1, lost_stop)?;
             let summary = of_sides(rehearsal.alloc, steps, depth, won, lost)?;
-            keep(rehearsal.alloc, table, core, steps, depth, &summary)?;
+            table.keep(rehearsal.alloc, hash, core, steps, depth, &summary)?;
             Ok(summary)
         }
     }
 }
 
 /// How all runs of the text of the variable end: for each ending how many runs do, or 2^128 - 1 where they
-/// are more, and the first of them, in the order of these first runs.
+/// are more, the first of them, and the first of those with the fewest failures, in the order of the first runs. No more
+/// states than allowed are entered; each is gone through once, so no more than two stretches of steps begin at it.
 pub fn sum_endings<S: Store>(
     rehearsal: &Rehearsal<'_>,
     store: &mut S,
-) -> Result<Vec<Row>, StoreError>
-    requires begun { (S.record_of store.old).begun + most_steps + 1 < 2 ^ 64 }
+    most_states: u32,
+) -> Result<Endings, SumError>
+    requires begun { (S.record_of store.old).begun ≡ 0 }
     requires bound { (task_in rehearsal.now).limits.device_bound < 2 ^ 32 }
-    ensures { IfOk result (λ rows. rows_shown rows ≡ map saturated (endings (task_in rehearsal.now))) }
+    ensures rows { IfOk result (λ e. rows_shown e.rows ≡ map saturated (endings (task_in rehearsal.now))) }
+    ensures states { IfOk result (λ e. e.states ≤ most_states) }
+    ensures once { IfOk result (λ e. (S.record_of store.new).begun ≤ (2 * e.states + 1) * most_steps) }
 {
     let stop = begin(rehearsal, store)?;
-    let mut table = Vec::new(rehearsal.alloc);
+    let mut table = Table::new(rehearsal.alloc, most_states);
     let summary = summed(rehearsal, store, &mut table, 0, stop)?;
-    Ok(summary.rows)
+    Ok(Endings {
+        rows: summary.rows,
+        states: table.visited,
+    })
 }

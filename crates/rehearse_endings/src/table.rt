@@ -9,10 +9,12 @@ ghost use Rattle.rehearse_endings.specs.Summaries.{FitsIf, moved_by};
 
 use crate::cores::{Core, has_core};
 use crate::rows::copy_rows;
+use crate::sum_error::SumError;
 use crate::summary::Summary;
 use bootstore::{Store, StoreError};
-use rehearse::{Bounds, Devices};
+use rehearse::{Devices, RunBounds};
 use std::alloc::Global;
+use std::collections::HashMap;
 
 /// A state in which a device command asked, and the summary of what is to come of it.
 #[derive(Drop)]
@@ -23,28 +25,137 @@ pub struct Entry {
     pub summary: Summary,
 }
 
-/// The summary of the present state, where the table has an entry that fits.
-pub(crate) fn look_up<S: Store>(
-    alloc: Global,
-    store: &S,
-    devices: &Devices,
-    bounds: Bounds,
-    table: &Vec<Entry>,
-    depth: u32,
-) -> Result<Option<Summary>, StoreError>
-    requires asks { IsAsking (limits_of devices.now bounds) (S.record_of store.now).present }
-    requires depth { length (S.record_of store.now).present.log ≡ depth }
-    requires table { AreEntries (limits_of devices.now bounds) table.now.items }
-    ensures { IfOk result (λ found. MatchOption found ⊤ (λ s. Summed (asked_at (limits_of devices.now bounds) (S.record_of store.now).present) (summary_shown s))) }
-{
-    let _devices = devices;
-    for entry in table {
-        if fits(store, bounds, entry, depth) {
-            let found = moved(alloc, entry, store.steps(), depth)?;
-            return Ok(found);
+/// The states that were gone through, and how many more may be.
+#[derive(Drop)]
+pub(crate) struct Table {
+    /// Those whose runs are all summed up.
+    pub(crate) entries: Vec<Entry>,
+    /// Where the entries of each number stand.
+    pub(crate) places: HashMap<u64, Vec<usize>>,
+    /// How many states were entered.
+    pub(crate) visited: u32,
+    /// How many may be.
+    pub(crate) most: u32,
+}
+
+impl Table {
+    ghost use Rattle.std.specs.Prelude.{IfErr, [], ◌+◌};
+    ghost use Rattle.rehearse_endings.specs.declared.sum_error.SumError.TheVariants.{States};
+
+    /// A table without entries. It takes no memory.
+    pub(crate) fn new(alloc: Global, most: u32) -> Table
+        ensures entries { result.entries.items ≡ [] }
+        ensures visited { result.visited ≡ 0 }
+        ensures most { result.most ≡ most }
+    {
+        Table {
+            entries: Vec::new(alloc),
+            places: HashMap::new(alloc),
+            visited: 0,
+            most,
         }
     }
-    Ok(None)
+
+    /// Enters a state, unless as many were entered as may be.
+    pub(crate) fn enter(&mut self) -> Result<(), SumError>
+        ensures entries { self.new.entries.items ≡ self.old.entries.items }
+        ensures most { self.new.most ≡ self.old.most }
+        ensures visited { OnOk result (self.new.visited ≡ self.old.visited + 1) }
+        ensures within { OnOk result (self.new.visited ≤ self.new.most) }
+        ensures err { IfErr result (λ e. e ≡ States) }
+    {
+        if self.visited >= self.most {
+            return Err(SumError::States);
+        }
+        self.visited += 1;
+        Ok(())
+    }
+
+    /// The summary of the present state, where an entry under this number fits.
+    pub(crate) fn find<S: Store>(
+        &self,
+        alloc: Global,
+        store: &S,
+        devices: &Devices,
+        bounds: RunBounds,
+        hash: u64,
+        depth: u32,
+    ) -> Result<Option<Summary>, StoreError>
+        requires asks { IsAsking (limits_of devices.now bounds) (S.record_of store.now).present }
+        requires depth { length (S.record_of store.now).present.log ≡ depth }
+        requires table { AreEntries (limits_of devices.now bounds) self.now.entries.items }
+        ensures { IfOk result (λ found. MatchOption found ⊤ (λ s. Summed (asked_at (limits_of devices.now bounds) (S.record_of store.now).present) (summary_shown s))) }
+    {
+        let _devices = devices;
+        let Some(places) = self.places.get(&hash) else {
+            return Ok(None);
+        };
+        for place in places {
+            if let Some(entry) = self.entries.get(*place) {
+                if fits(store, bounds, entry, depth) {
+                    let found = moved(alloc, entry, store.steps(), depth)?;
+                    return Ok(found);
+                }
+            }
+        }
+        Ok(None)
+    }
+
+    /// Keeps the summary of a state in which a device command asked, under a number.
+    pub(crate) fn keep(
+        &mut self,
+        alloc: Global,
+        hash: u64,
+        core: Core,
+        steps: u32,
+        devices: u32,
+        summary: &Summary,
+    ) -> Result<(), SumError>
+        ensures kept { OnOk result (IsKept self.old.entries.items self.new.entries.items (core_shown core) steps devices (summary_shown summary.now)) }
+        ensures visited { self.new.visited ≡ self.old.visited }
+        ensures most { self.new.most ≡ self.old.most }
+    {
+        let place = self.entries.len();
+        let copy = copy_summary(alloc, summary)?;
+        self.entries.push(Entry {
+            core,
+            steps,
+            devices,
+            summary: copy,
+        })?;
+        self.note(alloc, hash, place)?;
+        Ok(())
+    }
+
+    /// Notes that an entry of a number stands at a place.
+    fn note(&mut self, alloc: Global, hash: u64, place: usize) -> Result<(), SumError>
+        ensures entries { self.new.entries.items ≡ self.old.entries.items }
+        ensures visited { self.new.visited ≡ self.old.visited }
+        ensures most { self.new.most ≡ self.old.most }
+    {
+        if let Some(places) = self.places.get_mut(&hash) {
+            places.push(place)?;
+            return Ok(());
+        }
+        let mut places = Vec::new(alloc);
+        places.push(place)?;
+        self.places.insert(hash, places)?;
+        Ok(())
+    }
+}
+
+/// A copy of a summary.
+fn copy_summary(alloc: Global, summary: &Summary) -> Result<Summary, StoreError>
+    ensures { IfOk result (λ copy. summary_shown copy ≡ summary_shown summary.now) }
+{
+    let rows = copy_rows(alloc, &summary.rows)?;
+    Ok(Summary {
+        rows,
+        steps: summary.steps,
+        devices: summary.devices,
+        cut_steps: summary.cut_steps,
+        cut_devices: summary.cut_devices,
+    })
 }
 
 /// Whether there is as much room here as there.
@@ -62,7 +173,7 @@ fn has_room(cut: bool, here: u32, there: u32, reach: u64, bound: u32) -> bool
 }
 
 /// Whether an entry is of the present state, but for the text, the log and the steps, for which there is room.
-fn fits<S: Store>(store: &S, bounds: Bounds, entry: &Entry, depth: u32) -> bool
+fn fits<S: Store>(store: &S, bounds: RunBounds, entry: &Entry, depth: u32) -> bool
     ensures core { IsTrue result → core_shown entry.now.core ≡ core_of (S.record_of store.now).present }
     ensures steps { IsTrue result → FitsIf entry.now.summary.cut_steps entry.now.steps (S.record_of store.now).present.steps entry.now.summary.steps bounds.steps }
     ensures devices { IsTrue result → FitsIf entry.now.summary.cut_devices entry.now.devices depth entry.now.summary.devices bounds.devices }
@@ -110,32 +221,4 @@ fn moved(
         cut_steps: entry.summary.cut_steps,
         cut_devices: entry.summary.cut_devices,
     }))
-}
-
-/// Keeps the summary of a state in which a device command asked.
-pub(crate) fn keep(
-    alloc: Global,
-    table: &mut Vec<Entry>,
-    core: Core,
-    steps: u32,
-    devices: u32,
-    summary: &Summary,
-) -> Result<(), StoreError>
-    ensures { OnOk result (IsKept table.old.items table.new.items (core_shown core) steps devices (summary_shown summary.now)) }
-{
-    let rows = copy_rows(alloc, &summary.rows)?;
-    let copy = Summary {
-        rows,
-        steps: summary.steps,
-        devices: summary.devices,
-        cut_steps: summary.cut_steps,
-        cut_devices: summary.cut_devices,
-    };
-    table.push(Entry {
-        core,
-        steps,
-        devices,
-        summary: copy,
-    })?;
-    Ok(())
 }

@@ -11,7 +11,7 @@ use crate::simple::run_fields;
 use crate::steps::expanded;
 use bootstore::{Frame, Store, StoreError};
 use hushlang::tree::{Command, Word};
-use rehearse::{Bounds, Devices};
+use rehearse::{Devices, RunBounds};
 use std::alloc::Global;
 
 /// The words of the simple command that a frame stands behind.
@@ -41,7 +41,7 @@ fn find_behind<'d, S: Store>(
     store: &mut S,
     frame: &Frame,
     devices: &'d Devices,
-    bounds: Bounds,
+    bounds: RunBounds,
 ) -> Result<Step<'d>, StoreError>
     requires { IsTop frame.now (S.record_of store.old).present }
     ensures { Comes result (S.record_of store.old) (S.record_of store.new)
@@ -62,7 +62,7 @@ pub(crate) fn find_again<'d, S: Store>(
     alloc: Global,
     store: &mut S,
     devices: &'d Devices,
-    bounds: Bounds,
+    bounds: RunBounds,
 ) -> Result<Step<'d>, StoreError>
     ensures { Comes result (S.record_of store.old) (S.record_of store.new) (asking.found_again (limits_of devices.now bounds) (S.record_of store.old).present.frames) }
 {

@@ -12,7 +12,7 @@ use crate::halt::Halt;
 use crate::steps::{count, expanded_one};
 use bootstore::{Frame, Store, StoreError};
 use hushlang::tree::Word;
-use rehearse::Bounds;
+use rehearse::RunBounds;
 use std::alloc::Global;
 
 /// Assignments begin a step.
@@ -20,7 +20,7 @@ pub(crate) fn begin_assign<'d, S: Store>(
     alloc: Global,
     store: &mut S,
     frame: &Frame,
-    bounds: Bounds,
+    bounds: RunBounds,
     values: &[(Vec<u8>, Word)],
 ) -> Result<Step<'d>, StoreError>
     requires top { IsTop frame.now (S.record_of store.old).present }

@@ -15,7 +15,7 @@ ghost use Rattle.rehearse_machine.specs.CalledShown.{called_shown};
 use crate::ask::{Ask, Step};
 use crate::halt::Halt;
 use bootstore::{Store, StoreError};
-use rehearse::{Bounds, Builtin, Devices, Effect, builtin_of};
+use rehearse::{Builtin, Devices, Effect, RunBounds, builtin_of};
 use std::alloc::{AllocError, Global};
 
 /// What the first field of a command calls.
@@ -42,7 +42,7 @@ pub(crate) fn called_by<'a>(devices: &'a Devices, name: &[u8]) -> Called<'a>
 /// Asks for the outcome of a device command, where the bound allows one more.
 pub(crate) fn ask<'d, S: Store>(
     store: &S,
-    bounds: Bounds,
+    bounds: RunBounds,
     name: Vec<u8>,
     words: Vec<Vec<u8>>,
     effect: Effect<'d>,

@@ -10,7 +10,7 @@ use crate::frames::{behind, go_on, place};
 use crate::scripts::begin_command;
 use bootstore::{Frame, Store, StoreError};
 use hushlang::tree::{AndOr, Op};
-use rehearse::{Bounds, Devices};
+use rehearse::{Devices, RunBounds};
 use std::alloc::Global;
 
 /// Whether what is joined by an operator runs where the status is this one.
@@ -29,7 +29,7 @@ pub fn begin_in_list<'d, S: Store>(
     store: &mut S,
     frame: &Frame,
     devices: &'d Devices,
-    bounds: Bounds,
+    bounds: RunBounds,
     list: &AndOr,
 ) -> Result<Step<'d>, StoreError>
     requires top { IsTop frame.now (S.record_of store.old).present }

@@ -8,7 +8,7 @@ use crate::ask::Step;
 use crate::halt::Halt;
 use crate::running::{move_for, move_in_script, move_run};
 use bootstore::{FrameKind, Store, StoreError};
-use rehearse::{Bounds, Devices};
+use rehearse::{Devices, RunBounds};
 use std::alloc::Global;
 
 /// One move.
@@ -16,7 +16,7 @@ pub(crate) fn step<'d, S: Store>(
     alloc: Global,
     store: &mut S,
     devices: &'d Devices,
-    bounds: Bounds,
+    bounds: RunBounds,
 ) -> Result<Step<'d>, StoreError>
     requires { (S.record_of store.old).begun + 1 < 2 ^ 64 }
     ensures { Comes result (S.record_of store.old) (S.record_of store.new) (place_move (limits_of devices.now bounds) (S.record_of store.old).present.frames) }
@@ -38,7 +38,7 @@ pub(crate) fn turn<'d, S: Store>(
     alloc: Global,
     store: &mut S,
     devices: &'d Devices,
-    bounds: Bounds,
+    bounds: RunBounds,
 ) -> Result<Step<'d>, StoreError>
     requires sound { IsSound (S.record_of store.old).present }
     requires begun { (S.record_of store.old).begun + 1 < 2 ^ 64 }
@@ -63,7 +63,7 @@ pub(crate) fn drive<'d, S: Store>(
     alloc: Global,
     store: &mut S,
     devices: &'d Devices,
-    bounds: Bounds,
+    bounds: RunBounds,
 ) -> Result<Step<'d>, StoreError>
     requires sound { IsSound (S.record_of store.old).present }
     requires steps { (S.record_of store.old).present.steps ≤ bounds.steps }

@@ -18,7 +18,7 @@ use crate::outcomes::answer;
 use crate::reading::script_of;
 use bootstore::{Store, StoreError};
 use envtools::Env;
-use rehearse::{Bounds, Devices};
+use rehearse::{Devices, RunBounds};
 use std::alloc::Global;
 use std::rc::Rc;
 
@@ -43,7 +43,7 @@ pub struct Rehearsal<'a> {
     /// The variable whose text is run.
     pub name: &'a [u8],
     /// The bounds of a run.
-    pub bounds: Bounds,
+    pub bounds: RunBounds,
 }
 
 /// Goes on until a device command asks, or the run ends.

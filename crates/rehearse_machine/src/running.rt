@@ -15,7 +15,7 @@ use crate::reading::script_of;
 use crate::scripts::end_block;
 use bootstore::{Frame, Store, StoreError};
 use hushlang::tree::{Command, Script};
-use rehearse::{Bounds, Devices};
+use rehearse::{Devices, RunBounds};
 use std::alloc::Global;
 use std::rc::Rc;
 
@@ -25,7 +25,7 @@ pub(crate) fn move_in_script<'d, S: Store>(
     store: &mut S,
     frame: &Frame,
     devices: &'d Devices,
-    bounds: Bounds,
+    bounds: RunBounds,
 ) -> Result<Step<'d>, StoreError>
     requires top { IsTop frame.now (S.record_of store.old).present }
     requires begun { (S.record_of store.old).begun + 1 < 2 ^ 64 }

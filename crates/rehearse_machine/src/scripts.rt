@@ -11,7 +11,7 @@ use crate::frames::{behind, go_on};
 use crate::simple::{begin_for, begin_simple};
 use bootstore::{Frame, Store, StoreError};
 use hushlang::tree::Command;
-use rehearse::{Bounds, Devices};
+use rehearse::{Devices, RunBounds};
 use std::alloc::Global;
 
 /// A block of a command has ended, which stood in a turn of it.
@@ -47,7 +47,7 @@ pub fn begin_command<'d, S: Store>(
     store: &mut S,
     frame: &Frame,
     devices: &'d Devices,
-    bounds: Bounds,
+    bounds: RunBounds,
     command: &Command,
 ) -> Result<Step<'d>, StoreError>
     requires top { IsTop frame.now (S.record_of store.old).present }

@@ -21,7 +21,7 @@ use crate::steps::{count, expanded};
 use crate::texts::{begin_run, leave_text};
 use bootstore::{Frame, FrameKind, Store, StoreError};
 use hushlang::tree::{Script, Word};
-use rehearse::{Bounds, Builtin, Devices, Effect, verdict};
+use rehearse::{Builtin, Devices, Effect, RunBounds, verdict};
 use std::alloc::Global;
 use std::rc::Rc;
 
@@ -53,7 +53,7 @@ fn run_names<'d, S: Store>(
 /// `test`: whether its words hold; or a device command, where they are `-e` and three more.
 fn run_test<'d, S: Store>(
     store: &mut S,
-    bounds: Bounds,
+    bounds: RunBounds,
     name: Vec<u8>,
     words: Vec<Vec<u8>>,
 ) -> Result<Step<'d>, StoreError>
@@ -92,7 +92,7 @@ fn run_builtin<'d, S: Store>(
     alloc: Global,
     store: &mut S,
     script: &Rc<Script>,
-    bounds: Bounds,
+    bounds: RunBounds,
     builtin: Builtin,
     name: Vec<u8>,
     words: Vec<Vec<u8>>,
@@ -122,7 +122,7 @@ fn run_called<'d, S: Store>(
     alloc: Global,
     store: &mut S,
     script: &Rc<Script>,
-    bounds: Bounds,
+    bounds: RunBounds,
     called: Called<'d>,
     name: Vec<u8>,
     words: Vec<Vec<u8>>,
@@ -145,7 +145,7 @@ pub(crate) fn run_fields<'d, S: Store>(
     store: &mut S,
     script: &Rc<Script>,
     devices: &'d Devices,
-    bounds: Bounds,
+    bounds: RunBounds,
     mut fields: Vec<Vec<u8>>,
 ) -> Result<Step<'d>, StoreError>
     ensures { Comes result (S.record_of store.old) (S.record_of store.new)
@@ -165,7 +165,7 @@ pub(crate) fn begin_simple<'d, S: Store>(
     store: &mut S,
     frame: &Frame,
     devices: &'d Devices,
-    bounds: Bounds,
+    bounds: RunBounds,
     words: &[Word],
 ) -> Result<Step<'d>, StoreError>
     requires top { IsTop frame.now (S.record_of store.old).present }
@@ -190,7 +190,7 @@ pub(crate) fn begin_for<'d, S: Store>(
     alloc: Global,
     store: &mut S,
     frame: &Frame,
-    bounds: Bounds,
+    bounds: RunBounds,
     words: &[Word],
 ) -> Result<Step<'d>, StoreError>
     requires top { IsTop frame.now (S.record_of store.old).present }

@@ -9,11 +9,11 @@ use crate::memory::Memory;
 use bootstore::{Store, StoreError};
 use hushlang::expand::{ExpandError, expand, expand_one};
 use hushlang::tree::Word;
-use rehearse::Bounds;
+use rehearse::RunBounds;
 use std::alloc::Global;
 
 /// Begins a step where the bound allows one more; else the answer is false.
-pub(crate) fn count<S: Store>(store: &mut S, bounds: Bounds) -> Result<bool, StoreError>
+pub(crate) fn count<S: Store>(store: &mut S, bounds: RunBounds) -> Result<bool, StoreError>
     requires { (S.record_of store.old).begun + 1 < 2 ^ 64 }
     ensures { IfOk result (λ counted. IsCounted bounds counted (S.record_of store.old) (S.record_of store.new)) }
 {

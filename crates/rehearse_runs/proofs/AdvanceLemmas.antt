@@ -40,6 +40,9 @@ within_bound devices steps h = search rules
 pub are_within : (b : BoundsShown) → are_bounds b.devices b.steps ≡ true → b.devices ≤ most_devices
 are_within b h = within_bound b.devices b.steps h
 
+pub within_as : (b c : BoundsShown) → c ≡ b → b.devices ≤ most_devices → c.devices ≤ most_devices
+within_as b c e h = subst (λ (x : BoundsShown). x.devices ≤ most_devices) (sym e) h
+
 pub few_runs : (task : Task) → task.limits.device_bound ≤ most_devices → length (runs task) ≤ 8589934591
 few_runs task h =
     let f = filter_less (λ w. is_run_kind (kind task w)) (words task.limits.device_bound) in

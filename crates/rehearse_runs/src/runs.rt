@@ -111,13 +111,14 @@ impl<'a, S: Store> Runs<'a, S> {
             return Err(RunError::NoSuchVariable);
         }
         let _bound = bounds.devices();
+        let run_bounds = bounds.of_run();
         Ok(Runs {
             rehearsal: Rehearsal {
                 alloc,
                 env,
                 devices,
                 name,
-                bounds,
+                bounds: run_bounds,
             },
             start: None,
             store: S::new(alloc),
@@ -146,12 +147,13 @@ impl<'a, S: Store> Runs<'a, S> {
             return Err(RunError::NoSuchVariable);
         }
         let _bound = bounds.devices();
+        let run_bounds = bounds.of_run();
         let rehearsal = Rehearsal {
             alloc,
             env,
             devices,
             name,
-            bounds,
+            bounds: run_bounds,
         };
         let mut store = S::new(alloc);
         let mut digits = Bytes::new();

@@ -45,12 +45,13 @@ pub fn try_word<S: Store>(
         return Err(RunError::NoSuchVariable);
     }
     let _bound = bounds.devices();
+    let run_bounds = bounds.of_run();
     let rehearsal = Rehearsal {
         alloc,
         env,
         devices,
         name,
-        bounds,
+        bounds: run_bounds,
     };
     let mut store = S::new(alloc);
     let mut digits = Bytes::new();

@@ -12,8 +12,8 @@ loop-row-preserved c =
     let items = c.deref-row-items.result.now in
     let i = c.loop-row.row-index in
     let row : rt.Row = c.row-item.result in
-    let made : rt.Row = record { halt = c.in_ok-halt.halt; count = row.count; digits = c.in_ok-digits.digits } in
-    let same : row_shown made ≡ row_shown row = row_same (halt_shown made.halt) (halt_shown row.halt) row.count made.digits.items row.digits.items c.in_ok-halt.ensures (c.in_ok-digits.ensures.items ∙ c.deref.ensures.value) in
+    let made : rt.Row = record { halt = c.in_ok-halt.halt; count = row.count; word = c.in_ok-word.word; fewest = c.in_ok-fewest.fewest } in
+    let same : row_shown made ≡ row_shown row = row_same (halt_shown made.halt) (halt_shown row.halt) row.count made.word.items row.word.items made.fewest.items row.fewest.items c.in_ok-halt.ensures (c.in_ok-word.ensures.items ∙ c.deref.ensures.value) (c.in_ok-fewest.ensures.items ∙ c.deref-in-loop-row.ensures.value) in
     ap (map row_shown) c.in_ok-push.ensures.items
     ∙ map-append row_shown c.loop-row.copies.items (made ∷ [])
     ∙ ap (λ (x : List Row). x ++ row_shown made ∷ []) c.loop-row.invariant

@@ -7,12 +7,12 @@ use Rattle.rehearse_machine.specs.declared.rehearsal.Stop.{Stop}
 use Rattle.rehearse_machine.specs.declared.rehearsal.Stop.TheVariants.{Asks, Ends}
 use Rattle.rehearse_endings.specs.Cores.{core_shown}
 use Rattle.rehearse_endings.specs.RowsShown.{summary_shown, Summed}
-use Rattle.rehearse_endings.specs.Searching.{future, IsReached}
-use Rattle.rehearse_endings.proofs.Reached.{reached_log, reached_as, reached_below, reached_on, won_on, back_there, lost_on, summed_end, summed_sides, entries_more}
+use Rattle.rehearse_endings.specs.Searching.{future, AreEntries, IsReached}
+use Rattle.rehearse_endings.proofs.Reached.{Room, begun_marked, begun_on, begun_lost, reached_log, reached_as, reached_below, reached_on, won_on, back_there, lost_on, summed_end, summed_sides, entries_more}
 use Rattle.rehearse_endings.proofs.searching.+summed.Goals as goal
 
-pub look_up-requires-clause-depth : goal.look_up-requires-clause-depth
-look_up-requires-clause-depth g t c = reached_log (task_in c.args.rehearsal.now) c.args.depth c.args.stop (g.S.Store.record_of c.args.store.now).present c.requires.reached
+pub find-requires-clause-depth : goal.find-requires-clause-depth
+find-requires-clause-depth g t c = reached_log (task_in c.args.rehearsal.now) c.args.depth c.args.stop (g.S.Store.record_of c.args.store.now).present c.requires.reached
 
 pub overflow_add-depth : goal.overflow_add-depth
 overflow_add-depth g t c =
@@ -30,9 +30,15 @@ summed-requires g t c κs within =
     let reached = reached_as task c.args.depth c.args.stop Asks r.present c.in-Asks.is c.requires.reached in
     let l = reached_below task c.args.depth r.present reached in
     let b = c.requires.bound in
-    let r₁ = g.S.Store.record_of c.go_on.new.store in
+    let r₁ = g.S.Store.record_of c.resume.new.store in
     let stops = won_on task r (g.S.Store.record_of c.mark.new.self) r₁ c.in_ok-won_stop-in-Asks.won_stop c.in_ok-mark-in-Asks.ensures.ok c.in_ok-won_stop-in-Asks.ensures.stops in
-    (omega (arith, c.decreases), (within, (reached_on task c.args.depth r.present r₁.present Success c.in_ok-won_stop-in-Asks.won_stop reached stops, (c.requires.table, (c.in_ok-won_stop-in-Asks.ensures.within, b)))))
+    let entered = subst (AreEntries task.limits) (sym c.in_ok-enter-in-Asks.ensures.entries) c.requires.table in
+    let marked = begun_marked r (g.S.Store.record_of c.mark.new.self) c.in_ok-mark-in-Asks.ensures.ok in
+    let on = begun_on (g.S.Store.record_of c.mark.new.self) r₁ c.in_ok-won_stop-in-Asks.ensures.begun c.in_ok-won_stop-in-Asks.ensures.within in
+    let room = c.requires.begun in
+    let visited = c.in_ok-enter-in-Asks.ensures.visited in
+    let begun : Room r₁.begun c.enter.new.self.visited = omega (arith, marked, on, room, visited) in
+    (omega (arith, c.decreases), (within, (reached_on task c.args.depth r.present r₁.present Success c.in_ok-won_stop-in-Asks.won_stop reached stops, (entered, (c.in_ok-won_stop-in-Asks.ensures.within, (b, (begun, c.in_ok-enter-in-Asks.ensures.within)))))))
 
 pub overflow_add-depth-in-Asks : goal.overflow_add-depth-in-Asks
 overflow_add-depth-in-Asks g t c =
@@ -51,10 +57,11 @@ summed-requires-in-Asks g t c κs within =
     let l = reached_below task c.args.depth r.present reached in
     let b = c.requires.bound in
     let back = g.S.Store.record_of c.back.new.self in
-    let there = back_there r (g.S.Store.record_of c.mark.new.self) (g.S.Store.record_of c.go_on.new.store) (g.S.Store.record_of c.summed.new.store) back c.in_ok-mark-in-Asks.ensures.ok c.in_ok-won_stop-in-Asks.ensures.marks c.in_ok-won-in-Asks.ensures.marks c.back.ensures in
-    let r₁ = g.S.Store.record_of c.go_on-in-Asks.new.store in
+    let there = back_there r (g.S.Store.record_of c.mark.new.self) (g.S.Store.record_of c.resume.new.store) (g.S.Store.record_of c.summed.new.store) back c.in_ok-mark-in-Asks.ensures.ok c.in_ok-won_stop-in-Asks.ensures.marks c.in_ok-won-in-Asks.ensures.marks c.back.ensures in
+    let r₁ = g.S.Store.record_of c.resume-in-Asks.new.store in
     let stops = lost_on task r.present back r₁ c.in_ok-lost_stop-in-Asks.lost_stop there c.in_ok-lost_stop-in-Asks.ensures.stops in
-    (omega (arith, c.decreases), (within, (reached_on task c.args.depth r.present r₁.present Failure c.in_ok-lost_stop-in-Asks.lost_stop reached stops, (c.in_ok-won-in-Asks.ensures.table, (c.in_ok-lost_stop-in-Asks.ensures.within, b)))))
+    let begun : Room r₁.begun c.summed.new.table.visited = begun_lost r (g.S.Store.record_of c.mark.new.self) (g.S.Store.record_of c.resume.new.store) (g.S.Store.record_of c.summed.new.store) back r₁ c.args.table.now.visited c.enter.new.self.visited c.summed.new.table.visited c.in_ok-mark-in-Asks.ensures.ok c.in_ok-won_stop-in-Asks.ensures.begun c.in_ok-won_stop-in-Asks.ensures.within c.requires.begun c.in_ok-enter-in-Asks.ensures.visited c.in_ok-won-in-Asks.ensures.begun c.back.ensures c.in_ok-lost_stop-in-Asks.ensures.begun c.in_ok-lost_stop-in-Asks.ensures.within in
+    (omega (arith, c.decreases), (within, (reached_on task c.args.depth r.present r₁.present Failure c.in_ok-lost_stop-in-Asks.lost_stop reached stops, (c.in_ok-won-in-Asks.ensures.table, (c.in_ok-lost_stop-in-Asks.ensures.within, (b, (begun, c.in_ok-won-in-Asks.ensures.room)))))))
 
 pub returns-in_ok-summary-in-Ends-clause-sums : goal.returns-in_ok-summary-in-Ends-clause-sums
 returns-in_ok-summary-in-Ends-clause-sums g t c =
@@ -69,12 +76,12 @@ returns-in_ok-keep-in-Asks-clause-sums g t c =
     let task = task_in c.args.rehearsal.now in
     let r = g.S.Store.record_of c.args.store.now in
     let reached = reached_as task c.args.depth c.args.stop Asks r.present c.in-Asks.is c.requires.reached in
-    let won_at = (g.S.Store.record_of c.go_on.new.store).present in
-    let lost_at = (g.S.Store.record_of c.go_on-in-Asks.new.store).present in
-    let won_stops = won_on task r (g.S.Store.record_of c.mark.new.self) (g.S.Store.record_of c.go_on.new.store) c.in_ok-won_stop-in-Asks.won_stop c.in_ok-mark-in-Asks.ensures.ok c.in_ok-won_stop-in-Asks.ensures.stops in
+    let won_at = (g.S.Store.record_of c.resume.new.store).present in
+    let lost_at = (g.S.Store.record_of c.resume-in-Asks.new.store).present in
+    let won_stops = won_on task r (g.S.Store.record_of c.mark.new.self) (g.S.Store.record_of c.resume.new.store) c.in_ok-won_stop-in-Asks.won_stop c.in_ok-mark-in-Asks.ensures.ok c.in_ok-won_stop-in-Asks.ensures.stops in
     let back = g.S.Store.record_of c.back.new.self in
-    let there = back_there r (g.S.Store.record_of c.mark.new.self) (g.S.Store.record_of c.go_on.new.store) (g.S.Store.record_of c.summed.new.store) back c.in_ok-mark-in-Asks.ensures.ok c.in_ok-won_stop-in-Asks.ensures.marks c.in_ok-won-in-Asks.ensures.marks c.back.ensures in
-    let lost_stops = lost_on task r.present back (g.S.Store.record_of c.go_on-in-Asks.new.store) c.in_ok-lost_stop-in-Asks.lost_stop there c.in_ok-lost_stop-in-Asks.ensures.stops in
+    let there = back_there r (g.S.Store.record_of c.mark.new.self) (g.S.Store.record_of c.resume.new.store) (g.S.Store.record_of c.summed.new.store) back c.in_ok-mark-in-Asks.ensures.ok c.in_ok-won_stop-in-Asks.ensures.marks c.in_ok-won-in-Asks.ensures.marks c.back.ensures in
+    let lost_stops = lost_on task r.present back (g.S.Store.record_of c.resume-in-Asks.new.store) c.in_ok-lost_stop-in-Asks.lost_stop there c.in_ok-lost_stop-in-Asks.ensures.stops in
     subst (λ (x : Stop). Summed (future task.limits x r.present) (summary_shown c.in_ok-summary-in-Asks.summary)) (sym c.in-Asks.is)
     (summed_sides task c.args.depth r.present reached c.in_ok-won_stop-in-Asks.won_stop c.in_ok-lost_stop-in-Asks.lost_stop won_at lost_at (summary_shown c.in_ok-won-in-Asks.won) (summary_shown c.in_ok-lost-in-Asks.lost) (summary_shown c.in_ok-summary-in-Asks.summary) c.steps-steps.result c.steps-steps.ensures won_stops lost_stops c.in_ok-won-in-Asks.ensures.sums c.in_ok-lost-in-Asks.ensures.sums c.in_ok-summary-in-Asks.ensures)
 
@@ -83,11 +90,11 @@ returns-in_ok-keep-in-Asks-clause-table g t c =
     let task = task_in c.args.rehearsal.now in
     let r = g.S.Store.record_of c.args.store.now in
     let reached = reached_as task c.args.depth c.args.stop Asks r.present c.in-Asks.is c.requires.reached in
-    let won_at = (g.S.Store.record_of c.go_on.new.store).present in
-    let lost_at = (g.S.Store.record_of c.go_on-in-Asks.new.store).present in
-    let won_stops = won_on task r (g.S.Store.record_of c.mark.new.self) (g.S.Store.record_of c.go_on.new.store) c.in_ok-won_stop-in-Asks.won_stop c.in_ok-mark-in-Asks.ensures.ok c.in_ok-won_stop-in-Asks.ensures.stops in
+    let won_at = (g.S.Store.record_of c.resume.new.store).present in
+    let lost_at = (g.S.Store.record_of c.resume-in-Asks.new.store).present in
+    let won_stops = won_on task r (g.S.Store.record_of c.mark.new.self) (g.S.Store.record_of c.resume.new.store) c.in_ok-won_stop-in-Asks.won_stop c.in_ok-mark-in-Asks.ensures.ok c.in_ok-won_stop-in-Asks.ensures.stops in
     let back = g.S.Store.record_of c.back.new.self in
-    let there = back_there r (g.S.Store.record_of c.mark.new.self) (g.S.Store.record_of c.go_on.new.store) (g.S.Store.record_of c.summed.new.store) back c.in_ok-mark-in-Asks.ensures.ok c.in_ok-won_stop-in-Asks.ensures.marks c.in_ok-won-in-Asks.ensures.marks c.back.ensures in
-    let lost_stops = lost_on task r.present back (g.S.Store.record_of c.go_on-in-Asks.new.store) c.in_ok-lost_stop-in-Asks.lost_stop there c.in_ok-lost_stop-in-Asks.ensures.stops in
+    let there = back_there r (g.S.Store.record_of c.mark.new.self) (g.S.Store.record_of c.resume.new.store) (g.S.Store.record_of c.summed.new.store) back c.in_ok-mark-in-Asks.ensures.ok c.in_ok-won_stop-in-Asks.ensures.marks c.in_ok-won-in-Asks.ensures.marks c.back.ensures in
+    let lost_stops = lost_on task r.present back (g.S.Store.record_of c.resume-in-Asks.new.store) c.in_ok-lost_stop-in-Asks.lost_stop there c.in_ok-lost_stop-in-Asks.ensures.stops in
     let summed = summed_sides task c.args.depth r.present reached c.in_ok-won_stop-in-Asks.won_stop c.in_ok-lost_stop-in-Asks.lost_stop won_at lost_at (summary_shown c.in_ok-won-in-Asks.won) (summary_shown c.in_ok-lost-in-Asks.lost) (summary_shown c.in_ok-summary-in-Asks.summary) c.steps-steps.result c.steps-steps.ensures won_stops lost_stops c.in_ok-won-in-Asks.ensures.sums c.in_ok-lost-in-Asks.ensures.sums c.in_ok-summary-in-Asks.ensures in
-    entries_more task c.args.depth r.present c.summed-in-Asks.new.table.items c.keep.new.table.items (core_shown c.in_ok-core-in-Asks.core) c.steps-steps.result (summary_shown c.in_ok-summary-in-Asks.summary) reached c.in_ok-lost-in-Asks.ensures.table c.in_ok-core-in-Asks.ensures c.steps-steps.ensures summed c.in_ok-keep-in-Asks.ensures
+    entries_more task c.args.depth r.present c.summed-in-Asks.new.table.entries.items c.keep.new.self.entries.items (core_shown c.in_ok-core-in-Asks.core) c.steps-steps.result (summary_shown c.in_ok-summary-in-Asks.summary) reached c.in_ok-lost-in-Asks.ensures.table c.in_ok-core-in-Asks.ensures c.steps-steps.ensures summed c.in_ok-keep-in-Asks.ensures.kept

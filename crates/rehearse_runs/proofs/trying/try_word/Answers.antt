@@ -1,3 +1,6 @@
+use Rattle.std.proofs.Common.{subst, Some}
+use Rattle.rehearse.specs.Bounds.{BoundsShown}
+use Rattle.rehearse_runs.specs.Walking.{WalksTo}
 use Rattle.rehearse_runs.specs.RunsShown.{outcomes}
 use Rattle.rehearse_machine.specs.Tasks.{task_shown}
 use Rattle.rehearse_runs.specs.declared.walking.Walked.TheVariants.{Ends, Short}
@@ -9,13 +12,15 @@ returns-in-Ends-clause-ok g c =
     let task = task_shown c.args.env.now c.args.devices.now c.args.name.now c.args.bounds in
     let text = c.args.word.now in
     let all = c.walk_to.new.digits.items in
+    let walked = subst (λ (b : BoundsShown). WalksTo (task_shown c.args.env.now c.args.devices.now c.args.name.now b) text all (outcomes all) c.in-Ok.walked (g.S.Store.record_of c.new-store.result) (g.S.Store.record_of c.walk_to.new.store)) c.of_run-run_bounds.ensures c.in-Ok.ensures.ok in
     let old = g.S.Store.record_of c.new-store.result in
     let new = g.S.Store.record_of c.walk_to.new.store in
-    kind_run task text all c.in-Ends.field-0 old new (walked_at task text all (outcomes all) c.in-Ok.walked (Ends c.in-Ends.field-0) old new c.in-Ends.is c.in-Ok.ensures.ok)
+    kind_run task text all c.in-Ends.field-0 old new (walked_at task text all (outcomes all) c.in-Ok.walked (Ends c.in-Ends.field-0) old new c.in-Ends.is walked)
 
 pub returns-in-Short-clause-ok : goal.returns-in-Short-clause-ok
 returns-in-Short-clause-ok g c =
     let task = task_shown c.args.env.now c.args.devices.now c.args.name.now c.args.bounds in
     let text = c.args.word.now in
     let all = c.walk_to.new.digits.items in
-    kind_short task text (walked_at task text all (outcomes all) c.in-Ok.walked Short (g.S.Store.record_of c.new-store.result) (g.S.Store.record_of c.walk_to.new.store) c.in-Short.is c.in-Ok.ensures.ok)
+    let walked = subst (λ (b : BoundsShown). WalksTo (task_shown c.args.env.now c.args.devices.now c.args.name.now b) text all (outcomes all) c.in-Ok.walked (g.S.Store.record_of c.new-store.result) (g.S.Store.record_of c.walk_to.new.store)) c.of_run-run_bounds.ensures c.in-Ok.ensures.ok in
+    kind_short task text (walked_at task text all (outcomes all) c.in-Ok.walked Short (g.S.Store.record_of c.new-store.result) (g.S.Store.record_of c.walk_to.new.store) c.in-Short.is walked)

@@ -1,0 +1,130 @@
+-- Which runs the words of rows are.
+use Rattle.std.proofs.Common.{◌≡◌, ℕ, ◌<◌, ◌≤◌, nat_le, Bool, true, false, cond, List, [], ◌∷◌, ◌++◌, map, refl, sym, ap, subst, ◌∙◌, append_assoc, append-nil, arith}
+use Rattle.std.proofs.lemmas.Bool.{leb-true, leb-false}
+use Rattle.std.specs.List.{list_any}
+use Rattle.rehearse.specs.Outcomes.{OutcomeWord}
+use Rattle.rehearse.specs.Execution.{Ending}
+use Rattle.rehearse.specs.Runs.{Task, runs}
+use Rattle.rehearse_endings.specs.Endings.{Row, ending_eq, failures, fewer, joined, with_row, merge, one_run, ending, endings}
+use Rattle.rehearse_endings.specs.Laws.{Each, IsFirst, IsFewest}
+use Rattle.rehearse_endings.proofs.Gathering.{AreApart, Misses, Stands, row_if, apart_on, either_left, either_right, neither, ending_itself, ending_same, stands_on, stands_new}
+
+-- ---- each of some words
+
+each_append : (P : OutcomeWord → Type 0) (v w : List OutcomeWord) → Each P v → Each P w → Each P (v ++ w)
+each_append P [] w h k = k
+each_append P (x ∷ v) w h k = (h.0, each_append P v w h.1 k)
+
+each_weaker : (P Q : OutcomeWord → Type 0) (v : List OutcomeWord) → ((x : OutcomeWord) → P x → Q x) → Each P v → Each Q v
+each_weaker P Q [] f h = tt
+each_weaker P Q (x ∷ v) f h = (f x h.0, each_weaker P Q v f h.1)
+
+module _ (IsSo : OutcomeWord → Type 0) (seen : List OutcomeWord) (x : OutcomeWord) where
+  first_on : (w : OutcomeWord) → IsFirst IsSo w seen → IsFirst IsSo w (seen ++ x ∷ [])
+  first_on w h = record {
+    front = h.front;
+    rest = h.rest ++ x ∷ [];
+    stands = ap (λ (l : List OutcomeWord). l ++ x ∷ []) h.stands ∙ append_assoc h.front (w ∷ h.rest) (x ∷ []);
+    so = h.so;
+    none = h.none;
+  }
+
+  first_new : IsSo x → Each (λ v. IsSo v → ⊥) seen → IsFirst IsSo x (seen ++ x ∷ [])
+  first_new so none = record { front = seen; rest = []; stands = refl; so = so; none = none }
+
+  fewest_on : (w : OutcomeWord) → (IsSo x → failures w ≤ failures x) → IsFewest IsSo w seen → IsFewest IsSo w (seen ++ x ∷ [])
+  fewest_on w l h = record {
+    front = h.front;
+    rest = h.rest ++ x ∷ [];
+    stands = ap (λ (l : List OutcomeWord). l ++ x ∷ []) h.stands ∙ append_assoc h.front (w ∷ h.rest) (x ∷ []);
+    so = h.so;
+    more = h.more;
+    no_fewer = each_append (λ v. IsSo v → failures w ≤ failures v) h.rest (x ∷ []) h.no_fewer (l, tt);
+  }
+
+  fewest_new : IsSo x → Each (λ v. IsSo v → failures x < failures v) seen → IsFewest IsSo x (seen ++ x ∷ [])
+  fewest_new so more = record { front = seen; rest = []; stands = refl; so = so; more = more; no_fewer = tt }
+
+  all_more : (w : OutcomeWord) → failures x < failures w → IsFewest IsSo w seen → Each (λ v. IsSo v → failures x < failures v) seen
+  all_more w l h = subst (Each (λ v. IsSo v → failures x < failures v)) (sym h.stands)
+      (each_append (λ v. IsSo v → failures x < failures v) h.front (w ∷ h.rest)
+      (each_weaker (λ v. IsSo v → failures w < failures v) (λ v. IsSo v → failures x < failures v) h.front (λ v k s. let a = k s in omega arith) h.more)
+      ((λ s. l), each_weaker (λ v. IsSo v → failures w ≤ failures v) (λ v. IsSo v → failures x < failures v) h.rest (λ v k s. let a = k s in omega arith) h.no_fewer))
+
+  fewest_both : (w : OutcomeWord) (b : Bool) → nat_le (failures w) (failures x) ≡ b → IsSo x → IsFewest IsSo w seen → IsFewest IsSo (cond b w x) (seen ++ x ∷ [])
+  fewest_both w true e so h = fewest_on w (λ s. leb-true (failures w) (failures x) e) h
+  fewest_both w false e so h = fewest_new so (all_more w (leb-false (failures w) (failures x) e) h)
+
+-- ---- what rows tell of the runs that were seen
+
+module _ (ends : OutcomeWord → Ending) where
+  abbrev single : OutcomeWord → Row
+  single w = one_run (ends w, w)
+
+  abbrev EndsSo : Ending → OutcomeWord → Type 0
+  EndsSo e w = ends w ≡ e
+
+  abbrev IsTold : List OutcomeWord → Row → Type 0
+  IsTold seen r = IsFirst (EndsSo r.ending) r.word seen × IsFewest (EndsSo r.ending) r.fewest seen
+
+  abbrev AreTold : List OutcomeWord → List Row → Type 0
+  AreTold seen [] = Unit {0}
+  AreTold seen (r ∷ rs) = IsTold seen r × AreTold seen rs
+
+  abbrev NoneEnds : Ending → List OutcomeWord → Type 0
+  NoneEnds e seen = Each (λ w. EndsSo e w → ⊥) seen
+
+  module _ (seen : List OutcomeWord) (x : OutcomeWord) where
+    differs : (e : Ending) → ending_eq e (ends x) ≡ false → EndsSo e x → ⊥
+    differs e h k = let l : ending_eq e (ends x) ≡ true = ap (ending_eq e) k ∙ ending_itself e in cc
+
+    other_told : (r : Row) → ending_eq r.ending (ends x) ≡ false → IsTold seen r → IsTold (seen ++ x ∷ []) r
+    other_told r d h = (first_on (EndsSo r.ending) seen x r.word h.0, fewest_on (EndsSo r.ending) seen x r.fewest (λ s. absurd (differs r.ending d s)) h.1)
+
+    others_told : (rs : List Row) → Misses (ends x) rs → AreTold seen rs → AreTold (seen ++ x ∷ []) rs
+    others_told [] d h = tt
+    others_told (r ∷ rs) d h = (
+      other_told r (either_left (ending_eq r.ending (ends x)) (list_any (λ q. ending_eq q.ending (ends x)) rs) d) h.0,
+      others_told rs (either_right (ending_eq r.ending (ends x)) (list_any (λ q. ending_eq q.ending (ends x)) rs) d) h.1,
+    )
+
+    joined_told : (r : Row) → r.ending ≡ ends x → IsTold seen r → IsTold (seen ++ x ∷ []) (joined r (single x))
+    joined_told r same h =
+        (first_on (EndsSo r.ending) seen x r.word h.0, fewest_both (EndsSo r.ending) seen x r.fewest (nat_le (failures r.fewest) (failures x)) refl (sym same) h.1)
+
+    step_if : (b : Bool) (r : Row) (rs : List Row) → ending_eq r.ending (ends x) ≡ b → AreApart (r ∷ rs) → AreTold seen (r ∷ rs) → (b ≡ false → AreTold (seen ++ x ∷ []) (with_row rs (single x))) → AreTold (seen ++ x ∷ []) (row_if b r rs (single x))
+    step_if true r rs e d h k =
+        let same : r.ending ≡ ends x = ending_same r.ending (ends x) e in
+        (joined_told r same h.0, others_told rs (subst (λ (z : Ending). Misses z rs) same d.0) h.1)
+    step_if false r rs e d h k = (other_told r e h.0, k refl)
+
+    -- one run more
+    step : (rows : List Row) → AreApart rows → AreTold seen rows → (Misses (ends x) rows → NoneEnds (ends x) seen) → AreTold (seen ++ x ∷ []) (with_row rows (single x))
+    step [] d h none =
+        ((first_new (EndsSo (ends x)) seen x refl (none refl), fewest_new (EndsSo (ends x)) seen x refl (each_weaker (λ v. EndsSo (ends x) v → ⊥) (λ v. EndsSo (ends x) v → failures x < failures v) seen (λ v k s. absurd (k s)) (none refl))), tt)
+    step (r ∷ rs) d h none =
+        step_if (ending_eq r.ending (ends x)) r rs refl d h (λ e. step rs d.1 h.1 (λ m. none (neither (ending_eq r.ending (ends x)) (list_any (λ q. ending_eq q.ending (ends x)) rs) e m)))
+
+    before_if : (b : Bool) (e : Ending) (rs : List Row) → list_any (λ q. ending_eq q.ending e) rs ≡ b → Misses e (with_row rs (single x)) → Misses e rs
+    before_if true e rs k m = absurd (let s = stands_on e rs (single x) k in cc)
+    before_if false e rs k m = k
+
+    -- an ending that does not stand then, stands not now, and no run ends so
+    missing_on : (rows : List Row) → ((e : Ending) → Misses e rows → NoneEnds e seen) → (e : Ending) → Misses e (with_row rows (single x)) → NoneEnds e (seen ++ x ∷ [])
+    missing_on rows h e m =
+        each_append (λ w. EndsSo e w → ⊥) seen (x ∷ []) (h e (before_if (list_any (λ q. ending_eq q.ending e) rows) e rows refl m)) ((λ s. absurd (let k = stands_new e rows (single x) s in cc)), tt)
+
+  told_all : (ws seen : List OutcomeWord) (rows : List Row) → AreApart rows → AreTold seen rows → ((e : Ending) → Misses e rows → NoneEnds e seen) → AreTold (seen ++ ws) (merge rows (map one_run (map (λ w. (ends w, w)) ws)))
+  told_all [] seen rows d h m = subst (λ (s : List OutcomeWord). AreTold s rows) (sym (append-nil seen)) h
+  told_all (w ∷ ws) seen rows d h m =
+      subst (λ (s : List OutcomeWord). AreTold s (merge (with_row rows (single w)) (map one_run (map (λ v. (ends v, v)) ws)))) (append_assoc seen (w ∷ []) ws)
+      (told_all ws (seen ++ w ∷ []) (with_row rows (single w)) (apart_on rows (single w) d) (step seen w rows d h (m (ends w))) (missing_on seen w rows m))
+
+  told_in : (seen : List OutcomeWord) (before : List Row) (r : Row) (behind : List Row) → AreTold seen (before ++ r ∷ behind) → IsTold seen r
+  told_in seen [] r behind h = h.0
+  told_in seen (q ∷ before) r behind h = told_in seen before r behind h.1
+
+pub rows_tell_of_runs : (task : Task) (r : Row) (before behind : List Row) → endings task ≡ before ++ r ∷ behind → IsFirst (λ w. ending task w ≡ r.ending) r.word (runs task) × IsFewest (λ w. ending task w ≡ r.ending) r.fewest (runs task)
+rows_tell_of_runs task r before behind is =
+    told_in (ending task) (runs task) before r behind
+    (subst (AreTold (ending task) (runs task)) is (told_all (ending task) (runs task) [] [] tt tt (λ e m. tt)))

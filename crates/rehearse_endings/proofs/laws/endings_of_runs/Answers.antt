@@ -1,0 +1,13 @@
+use Rattle.rehearse_endings.proofs.LineLemmas.{counted_all}
+use Rattle.rehearse_endings.proofs.LawLemmas.{no_ending_twice}
+use Rattle.rehearse_endings.proofs.ToldLemmas.{rows_tell_of_runs}
+use Rattle.rehearse_endings.proofs.laws.endings_of_runs.Goals as goal
+
+pub returns-clause-counted : goal.returns-clause-counted
+returns-clause-counted c = counted_all
+
+pub returns-clause-apart : goal.returns-clause-apart
+returns-clause-apart c = no_ending_twice
+
+pub returns-clause-words : goal.returns-clause-words
+returns-clause-words c = rows_tell_of_runs

@@ -1,0 +1,43 @@
+-- What the rows of endings say of the list of all runs. Ours.
+use Rattle.std.specs.Prelude.{◌≡◌, ◌≢◌, ◌<◌, ◌≤◌, List, [], ◌∷◌, ◌++◌, length}
+use Rattle.rehearse.specs.Outcomes.{OutcomeWord}
+use Rattle.rehearse.specs.Runs.{Task, runs}
+use Rattle.rehearse_endings.specs.Endings.{Row, ending, endings, failures}
+use Rattle.rehearse_endings.specs.Lines.{counted}
+
+-- each run is counted, and once
+abbrev pub RunsAreCounted : Type 0
+RunsAreCounted = (task : Task) → counted (endings task) ≡ length (runs task)
+
+-- no ending stands twice
+abbrev pub NoEndingTwice : Type 0
+NoEndingTwice = (task : Task) (r s : Row) (before between behind : List Row) →
+    endings task ≡ before ++ r ∷ between ++ s ∷ behind → r.ending ≢ s.ending
+
+-- it holds of each of these words
+abbrev pub Each : (OutcomeWord → Type 0) → List OutcomeWord → Type 0
+Each IsSo [] = Unit {0}
+Each IsSo (w ∷ ws) = IsSo w × Each IsSo ws
+
+-- the word is the first of those of which it holds
+pub record IsFirst (IsSo : OutcomeWord → Type 0) (w : OutcomeWord) (words : List OutcomeWord) : Type 0 where
+  pub front : List OutcomeWord
+  pub rest : List OutcomeWord
+  pub stands : words ≡ front ++ w ∷ rest
+  pub so : IsSo w
+  pub none : Each (λ v. IsSo v → ⊥) front
+
+-- of those of which it holds, the word is the first with the fewest failures
+pub record IsFewest (IsSo : OutcomeWord → Type 0) (w : OutcomeWord) (words : List OutcomeWord) : Type 0 where
+  pub front : List OutcomeWord
+  pub rest : List OutcomeWord
+  pub stands : words ≡ front ++ w ∷ rest
+  pub so : IsSo w
+  pub more : Each (λ v. IsSo v → failures w < failures v) front
+  pub no_fewer : Each (λ v. IsSo v → failures w ≤ failures v) rest
+
+-- a row's words are the first run that ends so, and the first with the fewest failures
+abbrev pub RowsTellOfRuns : Type 0
+RowsTellOfRuns = (task : Task) (r : Row) (before behind : List Row) → endings task ≡ before ++ r ∷ behind →
+    IsFirst (λ w. ending task w ≡ r.ending) r.word (runs task)
+    × IsFewest (λ w. ending task w ≡ r.ending) r.fewest (runs task)

@@ -1,0 +1,54 @@
+-- What is told of the endings of an environment's variable, and why it is refused. Ours.
+use Rattle.std.specs.Prelude.{◌≡◌, ℕ, ◌≤◌, List, length, Option, Some, None, Ok, Err}
+use Rattle.envimage.specs.Sink.{Sink, Wrote, BrokeOff}
+use Rattle.rehearse.specs.State.{Text}
+use Rattle.rehearse.specs.DeviceList.{Devices, listed}
+use Rattle.rehearse.specs.Runs.{Task, runs}
+use Rattle.rehearse_machine.specs.Tasks.{task_set}
+use Rattle.rehearse_endings.specs.Endings.{endings}
+use Rattle.rehearse_endings.specs.Lines.{endings_text}
+use Rattle.rehearse_endings.specs.declared.telling.EndingsAsk.{EndingsAsk}
+use Rattle.rehearse_endings.specs.declared.telling.EndingsError.{EndingsError}
+use Rattle.rehearse_endings.specs.declared.telling.EndingsError.TheVariants.{DeviceList, NoSuchVariable, States, Write, Memory}
+
+-- the device list is one, and this holds of the task, if the variable is set
+pub record HasDevices (environment : List (Text × Text)) (devices_text : Text) (ask : EndingsAsk)
+    (IsSo : Option Task → Type 0) : Type 0 where
+  pub devices : Devices
+  pub listed_as : listed devices_text ≡ Ok devices
+  pub so : IsSo (task_set environment devices ask.name.now ask.bounds)
+
+-- the lines that tell how the runs of the task end, and of no more states than this
+abbrev pub AreLines : (most : ℕ) → Option Task → Text → Type 0
+AreLines most found text = (task : Task) × (states : ℕ) × (found ≡ Some task) × (states ≤ most)
+    × (text ≡ endings_text (endings task) (length (runs task)) states)
+
+-- why there are none
+abbrev pub IsUntold : Option Task → EndingsError → Type 0
+IsUntold found (DeviceList fault) = ⊥
+IsUntold found NoSuchVariable = found ≡ None
+IsUntold found States = (task : Task) × (found ≡ Some task)
+IsUntold found Write = ⊥
+IsUntold found Memory = Unit {0}
+
+-- the lines were written
+abbrev pub TellsEndings : List (Text × Text) → Text → EndingsAsk → (old new : Sink) → Type 0
+TellsEndings environment devices_text ask old new =
+    HasDevices environment devices_text ask (λ found. (text : Text) × AreLines ask.states found text
+    × Wrote old new text)
+
+-- the output failed inside the lines
+abbrev pub BreaksOff : List (Text × Text) → Text → EndingsAsk → (old new : Sink) → Type 0
+BreaksOff environment devices_text ask old new =
+    HasDevices environment devices_text ask (λ found. (text : Text) × AreLines ask.states found text
+    × BrokeOff old new text)
+
+abbrev pub RefusesEndings : List (Text × Text) → Text → EndingsAsk → (old new : Sink) → EndingsError → Type 0
+RefusesEndings environment devices_text ask old new (DeviceList fault) =
+    (listed devices_text ≡ Err fault) × (new ≡ old)
+RefusesEndings environment devices_text ask old new NoSuchVariable =
+    HasDevices environment devices_text ask (λ found. found ≡ None) × (new ≡ old)
+RefusesEndings environment devices_text ask old new States =
+    HasDevices environment devices_text ask (λ found. (task : Task) × (found ≡ Some task)) × (new ≡ old)
+RefusesEndings environment devices_text ask old new Write = BreaksOff environment devices_text ask old new
+RefusesEndings environment devices_text ask old new Memory = new ≡ old

@@ -1,0 +1,51 @@
+//! The number under which the table keeps a state. Equal states have equal numbers; nothing else rests on it but the
+//! time that a look takes.
+
+use bootstore::{Frame, Store, Variables};
+
+/// The number that all begin with.
+const SEED: u64 = 0xcbf2_9ce4_8422_2325;
+
+/// A part more.
+fn mix(hash: u64, part: u64) -> u64 {
+    (hash ^ part).wrapping_mul(0x0000_0100_0000_01b3)
+}
+
+/// The length of a text and its last bytes, since counters and numbers of devices stand there.
+fn mix_text(hash: u64, text: &[u8]) -> u64 {
+    let mut mixed = mix(hash, text.len() as u64);
+    for byte in text.iter().rev().take(8) {
+        mixed = mix(mixed, u64::from(*byte));
+    }
+    mixed
+}
+
+/// The names and values of variables.
+fn mix_variables(hash: u64, variables: Variables<'_>) -> u64 {
+    let mut mixed = hash;
+    for (name, value) in variables {
+        mixed = mix_text(mix_text(mixed, name), value);
+    }
+    mixed
+}
+
+/// The places to which frames have come.
+fn mix_frames(hash: u64, frames: &[Frame]) -> u64 {
+    let mut mixed = hash;
+    for frame in frames {
+        let at = frame.at();
+        mixed = mix(mixed, at.list as u64);
+        mixed = mix(mixed, at.command as u64);
+        mixed = mix(mixed, at.turn as u64);
+        mixed = mix(mixed, frame.script().lists.len() as u64);
+    }
+    mixed
+}
+
+/// The number of the present state of a store.
+pub(crate) fn hash_of<S: Store>(store: &S) -> u64 {
+    let status = mix(SEED, u64::from(store.get_status()));
+    let variables = mix_variables(status, store.variables());
+    let locals = mix_variables(variables, store.shell_variables());
+    mix_frames(locals, store.frames())
+}

@@ -1,0 +1,40 @@
+//! Why the endings of a script are not told.
+ghost use Rattle.std.specs.Prelude.{◌≡◌};
+ghost use Rattle.rehearse_endings.specs.declared.sum_error.SumError.TheVariants.{Memory};
+
+use bootstore::StoreError;
+use std::alloc::{AllocError, AllocFailed};
+use thiserror::Error;
+
+/// Why the endings of a script are not told.
+#[derive(Clone, Copy, Debug, PartialEq, Eq, Error)]
+pub enum SumError {
+    /// There is no memory for it.
+    #[error("out of memory")]
+    Memory,
+    /// There are more states than allowed.
+    #[error("more states than allowed")]
+    States,
+}
+
+impl From<StoreError> for SumError {
+    ghost from_gives = { λ _ e. e ≡ Memory };
+
+    fn from(_: StoreError) -> SumError {
+        SumError::Memory
+    }
+}
+
+impl From<AllocError> for SumError {
+    ghost from_gives = { λ _ e. e ≡ Memory };
+
+    fn from(_: AllocError) -> SumError {
+        SumError::Memory
+    }
+}
+
+impl<T: Drop> From<AllocFailed<T>> for SumError {
+    fn from(_: AllocFailed<T>) -> SumError {
+        SumError::Memory
+    }
+}

@@ -1,0 +1,107 @@
+//! How the runs of an environment's variable end, from the text of its device list to the lines.
+ghost use Rattle.std.specs.Prelude.{IfOk, IfErr, Some};
+ghost use Rattle.rehearse_machine.specs.Tasks.{task_in, task_set};
+ghost use Rattle.rehearse_endings.specs.TellingEndings.{AreLines, IsUntold, TellsEndings, RefusesEndings};
+
+use crate::lines::text_of;
+use crate::searching::sum_endings;
+use crate::sum_error::SumError;
+use bootstore::Store;
+use envimage::{Out, write_all};
+use envtools::Env;
+use rehearse::{Devices, DevicesError, RunBounds};
+use rehearse_machine::Rehearsal;
+use std::alloc::Global;
+
+/// What is asked of the endings of a script.
+#[derive(Clone, Copy)]
+pub struct EndingsAsk<'a> {
+    /// The variable whose text is rehearsed.
+    pub name: &'a [u8],
+    /// The bounds of its runs.
+    pub bounds: RunBounds,
+    /// How many states may be gone through.
+    pub states: u32,
+}
+
+/// Why the endings of a script are not told.
+#[derive(Clone, Copy, Debug, Drop, PartialEq, Eq)]
+pub enum EndingsError {
+    /// The device list.
+    DeviceList(DevicesError),
+    /// The variable is not set.
+    NoSuchVariable,
+    /// There are more states than allowed.
+    States,
+    /// The output failed.
+    Write,
+    /// There is no memory for it.
+    Memory,
+}
+
+/// The lines that tell how all runs of a rehearsal end.
+fn lines_of<S: Store>(rehearsal: &Rehearsal<'_>, most_states: u32) -> Result<Vec<u8>, SumError>
+    ensures { IfOk result (λ text. AreLines most_states (Some (task_in rehearsal.now)) text.items) }
+{
+    let _bound = rehearsal.bounds.devices();
+    let mut store = S::new(rehearsal.alloc);
+    let found = sum_endings(rehearsal, &mut store, most_states)?;
+    let text = text_of(rehearsal.alloc, &found.rows, found.states)?;
+    Ok(text)
+}
+
+/// The lines of all runs of a variable, if it is set.
+fn lines_in<S: Store>(
+    alloc: Global,
+    env: &Env,
+    devices: &Devices,
+    ask: &EndingsAsk<'_>,
+) -> Result<Vec<u8>, EndingsError>
+    ensures ok { IfOk result (λ text. AreLines ask.now.states (task_set env.now devices.now ask.now.name.now ask.now.bounds) text.items) }
+    ensures err { IfErr result (λ e. IsUntold (task_set env.now devices.now ask.now.name.now ask.now.bounds) e) }
+{
+    if env.get(ask.name).is_none() {
+        return Err(EndingsError::NoSuchVariable);
+    }
+    let rehearsal = Rehearsal {
+        alloc,
+        env,
+        devices,
+        name: ask.name,
+        bounds: ask.bounds,
+    };
+    match lines_of::<S>(&rehearsal, ask.states) {
+        Ok(text) => Ok(text),
+        Err(SumError::States) => Err(EndingsError::States),
+        Err(SumError::Memory) => Err(EndingsError::Memory),
+    }
+}
+
+/// Writes how all runs of a variable end: a line for each ending, and one for all. Refusals in order: the device list,
+/// the variable, `States` and `Memory`, and nothing is written then; `Write` as the lines go.
+pub fn endings_env<S: Store, O: Out>(
+    alloc: Global,
+    env: &Env,
+    devices_text: &[u8],
+    ask: &EndingsAsk<'_>,
+    out: &mut O,
+) -> Result<(), EndingsError>
+    ensures ok { IfOk result (λ _. TellsEndings env.now devices_text.now ask.now (O.sink out.old) (O.sink out.new)) }
+    ensures err { IfErr result (λ e. RefusesEndings env.now devices_text.now ask.now (O.sink out.old) (O.sink out.new) e) }
+{
+    let devices = match Devices::parse(alloc, devices_text) {
+        Ok(devices) => devices,
+        Err(DevicesError::Memory) => return Err(EndingsError::Memory),
+        Err(fault) => return Err(EndingsError::DeviceList(fault)),
+    };
+    let text = match lines_in::<S>(alloc, env, &devices, ask) {
+        Ok(text) => text,
+        Err(EndingsError::NoSuchVariable) => return Err(EndingsError::NoSuchVariable),
+        Err(EndingsError::States) => return Err(EndingsError::States),
+        Err(_) => return Err(EndingsError::Memory),
+    };
+    match write_all(out, &text) {
+        Ok(()) => Ok(()),
+        Err(_) => Err(EndingsError::Write),
+    }
+}
