@@ -23,45 +23,55 @@ fn kinds<S: Store>(alloc: Global, given: &Given, words: &[&[u8]]) -> Result<Vec<
     Ok(found)
 }
 
+/// The kinds of the words of a script, with a variable `t` beside it, over both stores.
+fn kinds_of(
+    alloc: Global,
+    text: &[u8],
+    other: &[u8],
+    devices: u32,
+    words: &[&[u8]],
+) -> Result<(Vec<u8>, Vec<u8>), Fail> {
+    let given = Given::new(alloc, text, &[(b"t", other)], b"load", (devices, 10_000))?;
+    let plain = kinds::<Plain>(alloc, &given, words)?;
+    let trail = kinds::<Trail>(alloc, &given, words)?;
+    Ok((plain, trail))
+}
+
 #[test]
 fn words_are_runs_too_short_or_too_long(rt: HostRuntime) -> Result<(), Fail> {
-    let rows: [(&[u8], &[u8], u32, [&[u8]; 4], &[u8]); 4] = [
-        (
-            b"load a || load b; echo $?",
-            b"",
-            16,
-            [b"1", b"10", b"100", b"1x"],
-            b"srll",
-        ),
-        (
-            b"while load; do true; done",
-            b"",
-            2,
-            [b"0", b"00", b"000", b"00"],
-            b"srlr",
-        ),
-        (b"load", b"", 0, [b"", b"0", b"", b"1"], b"rlrl"),
-        (
-            b"run t; load",
-            b"exit 3; load",
-            16,
-            [b"", b"0", b"1", b"01"],
-            b"srrl",
-        ),
-    ];
-    for (text, other, devices, words, wanted) in rows {
-        let given = Given::new(
-            rt.alloc(),
-            text,
-            &[(b"t", other)],
-            b"load",
-            (devices, 10_000),
-        )?;
-        let plain = kinds::<Plain>(rt.alloc(), &given, &words)?;
-        assert!(rt; plain.as_slice() == wanted);
-        let trail = kinds::<Trail>(rt.alloc(), &given, &words)?;
-        assert!(rt; trail.as_slice() == wanted);
-    }
+    let text = b"load a || load b; echo $?";
+    let words: [&[u8]; 4] = [b"1", b"10", b"100", b"1x"];
+    let (plain, trail) = kinds_of(rt.alloc(), text, b"", 16, &words)?;
+    assert!(rt; plain.as_slice() == b"srll".as_slice());
+    assert!(rt; trail.as_slice() == b"srll".as_slice());
+    Ok(())
+}
+
+#[test]
+fn a_loop_that_is_cut_takes_two_outcomes(rt: HostRuntime) -> Result<(), Fail> {
+    let text = b"while load; do true; done";
+    let words: [&[u8]; 4] = [b"0", b"00", b"000", b"00"];
+    let (plain, trail) = kinds_of(rt.alloc(), text, b"", 2, &words)?;
+    assert!(rt; plain.as_slice() == b"srlr".as_slice());
+    assert!(rt; trail.as_slice() == b"srlr".as_slice());
+    Ok(())
+}
+
+#[test]
+fn without_device_commands_the_empty_word_is_the_run(rt: HostRuntime) -> Result<(), Fail> {
+    let words: [&[u8]; 4] = [b"", b"0", b"", b"1"];
+    let (plain, trail) = kinds_of(rt.alloc(), b"load", b"", 0, &words)?;
+    assert!(rt; plain.as_slice() == b"rlrl".as_slice());
+    assert!(rt; trail.as_slice() == b"rlrl".as_slice());
+    Ok(())
+}
+
+#[test]
+fn an_exit_in_a_text_leaves_the_next_command(rt: HostRuntime) -> Result<(), Fail> {
+    let words: [&[u8]; 4] = [b"", b"0", b"1", b"01"];
+    let (plain, trail) = kinds_of(rt.alloc(), b"run t; load", b"exit 3; load", 16, &words)?;
+    assert!(rt; plain.as_slice() == b"srrl".as_slice());
+    assert!(rt; trail.as_slice() == b"srrl".as_slice());
     Ok(())
 }
 
