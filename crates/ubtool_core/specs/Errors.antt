@@ -7,10 +7,12 @@ use Rattle.envtools.specs.declared.print.PrintDataError.{PrintDataError}
 use Rattle.envtools.specs.declared.print.PrintDataError.TheVariants as print
 use Rattle.envtools.specs.declared.script.ScriptError.{ScriptError}
 use Rattle.envtools.specs.declared.script.ScriptError.TheVariants as script
+use Rattle.rehearse_endings.specs.declared.telling.EndingsError.{EndingsError}
+use Rattle.rehearse_endings.specs.declared.telling.EndingsError.TheVariants as endings
 use Rattle.rehearse_runs.specs.declared.rehearsing.RehearseError.{RehearseError}
 use Rattle.rehearse_runs.specs.declared.rehearsing.RehearseError.TheVariants as rehearsal
 use Rattle.ubtool_core.specs.declared.error.ToolError.{ToolError}
-use Rattle.ubtool_core.specs.declared.error.ToolError.TheVariants.{Image, Env, Script, Devices, NoSuchVariable, NotARun, Write, Memory}
+use Rattle.ubtool_core.specs.declared.error.ToolError.TheVariants.{Image, Env, Script, Devices, NoSuchVariable, NotARun, States, Write, Memory}
 use Rattle.ubtool_core.specs.declared.fault.Fault.{Fault}
 use Rattle.ubtool_core.specs.declared.fault.Fault.TheVariants as told
 
@@ -42,6 +44,13 @@ rehearse_fault rehearsal.NoSuchVariable = NoSuchVariable
 rehearse_fault rehearsal.NotARun = NotARun
 rehearse_fault rehearsal.Write = Write
 rehearse_fault rehearsal.Memory = Memory
+
+abbrev pub endings_fault : EndingsError → ToolError
+endings_fault (endings.DeviceList fault) = Devices fault
+endings_fault endings.NoSuchVariable = NoSuchVariable
+endings_fault endings.States = States
+endings_fault endings.Write = Write
+endings_fault endings.Memory = Memory
 
 -- what a program tells of it
 abbrev pub tool_fault : ToolError → Fault

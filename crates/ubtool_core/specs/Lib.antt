@@ -5,5 +5,6 @@ pub mod StartWord
 pub mod Given
 pub mod Headline
 pub mod Refusing
+pub mod EndingsOfImages
 pub mod ChangingImages
 pub mod FileFaults

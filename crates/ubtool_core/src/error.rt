@@ -1,6 +1,7 @@
 use envimage::ImageError;
 use envtools::{EnvError, PrintDataError, PrintError, ScriptError};
 use rehearse::DevicesError;
+use rehearse_endings::EndingsError;
 use rehearse_runs::RehearseError;
 use thiserror::Error;
 
@@ -25,6 +26,9 @@ pub enum ToolError {
     /// The start word spells no run.
     #[error("the word is no run")]
     NotARun,
+    /// Device commands ask in more states than the endings may go through.
+    #[error("more states than allowed")]
+    States,
     /// An output failed.
     #[error("output failed")]
     Write,
@@ -114,6 +118,23 @@ impl From<RehearseError> for ToolError {
             RehearseError::NotARun => ToolError::NotARun,
             RehearseError::Write => ToolError::Write,
             RehearseError::Memory => ToolError::Memory,
+        }
+    }
+}
+
+impl From<EndingsError> for ToolError {
+    ghost use Rattle.std.specs.Prelude.{◌≡◌};
+    ghost use Rattle.ubtool_core.specs.Errors.{endings_fault};
+
+    ghost from_gives = { λ error e. e ≡ endings_fault error };
+
+    fn from(error: EndingsError) -> ToolError {
+        match error {
+            EndingsError::DeviceList(fault) => ToolError::Devices(fault),
+            EndingsError::NoSuchVariable => ToolError::NoSuchVariable,
+            EndingsError::States => ToolError::States,
+            EndingsError::Write => ToolError::Write,
+            EndingsError::Memory => ToolError::Memory,
         }
     }
 }

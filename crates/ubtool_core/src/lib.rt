@@ -2,6 +2,7 @@
 #![tactic(auto)]
 
 mod change;
+mod endings;
 mod error;
 mod fault;
 mod print;
@@ -10,11 +11,13 @@ mod standard_input;
 mod word_form;
 
 pub use change::{Edit, set_bytes};
+pub use endings::endings_bytes;
 pub use error::ToolError;
 pub use fault::{Fault, write_fault, write_fault_of};
 pub use print::{PrintAsk, print_bytes};
 pub use rehearsal::{RehearseAsk, rehearse_bytes};
-pub use rehearse::Bounds;
+pub use rehearse::{Bounds, RunBounds};
+pub use rehearse_endings::EndingsAsk;
 pub use rehearse_runs::Finish;
 pub use standard_input::run_input;
 pub use word_form::WordForm;

@@ -1,0 +1,47 @@
+-- How all runs of an image's variable end, from the bytes of an image to the lines, and why that is refused. The order of
+-- the refusals is that of a rehearsal, and nothing is written before the lines. Ours.
+use Rattle.std.specs.Prelude.{◌≡◌, ℕ, List, [], Option, Some, None, Err}
+use Rattle.envimage.specs.Sink.{Sink, Wrote, BrokeOff}
+use Rattle.envimage.specs.declared.image.ByteOrder.{ByteOrder}
+use Rattle.rehearse.specs.DeviceList.{listed}
+use Rattle.rehearse.specs.Runs.{Task}
+use Rattle.rehearse.specs.State.{Text}
+use Rattle.rehearse_endings.specs.TellingEndings.{AreLines}
+use Rattle.rehearse_endings.specs.declared.telling.EndingsAsk.{EndingsAsk}
+use Rattle.ubtool_core.specs.Given.{Given}
+use Rattle.ubtool_core.specs.PrintingImages.{environment_in}
+use Rattle.ubtool_core.specs.Refusing.{HasImage, HasDevices}
+use Rattle.ubtool_core.specs.declared.error.ToolError.{ToolError}
+use Rattle.ubtool_core.specs.declared.error.ToolError.TheVariants.{Image, Devices, NoSuchVariable, States, Write, Memory}
+
+-- all runs, and so no start word and no limit
+abbrev pub endings_given : ByteOrder → List ℕ → Option (List ℕ) → Text → EndingsAsk → Given
+endings_given order first second device_list ask = record {
+  order = order;
+  first = first;
+  second = second;
+  device_list = device_list;
+  variable = ask.name.now;
+  bounds = ask.bounds;
+  after = None;
+  limit = None;
+  names = [];
+}
+
+-- the lines stand written, and tell of no more states than this
+abbrev pub TellsEndings : Given → (states : ℕ) → (old new : Sink) → Type 0
+TellsEndings g states old new = HasDevices g (λ found. (text : Text) × AreLines states found text × Wrote old new text)
+
+-- the output failed inside the lines
+abbrev pub BreaksOff : Given → (states : ℕ) → (old new : Sink) → Type 0
+BreaksOff g states old new = HasDevices g (λ found. (text : Text) × AreLines states found text × BrokeOff old new text)
+
+abbrev pub RefusesEndings : Given → (states : ℕ) → (old new : Sink) → ToolError → Type 0
+RefusesEndings g states old new (Image fault) = (environment_in g.order g.first g.second ≡ Err fault) × (new ≡ old)
+RefusesEndings g states old new (Devices fault) = HasImage g × (listed g.device_list ≡ Err fault) × (new ≡ old)
+RefusesEndings g states old new NoSuchVariable = HasDevices g (λ found. found ≡ None) × (new ≡ old)
+RefusesEndings g states old new States =
+    HasDevices g (λ found. (task : Task) × (found ≡ Some task)) × (new ≡ old)
+RefusesEndings g states old new Write = BreaksOff g states old new
+RefusesEndings g states old new Memory = HasImage g × (new ≡ old)
+RefusesEndings g states old new _ = ⊥

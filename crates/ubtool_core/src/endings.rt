@@ -1,0 +1,34 @@
+//! How all runs of an image's variable end, from the bytes of the image to the lines.
+ghost use Rattle.std.specs.Prelude.{IfOk, IfErr};
+ghost use Rattle.std.specs.Option.{option_copied};
+ghost use Rattle.ubtool_core.specs.EndingsOfImages.{RefusesEndings, TellsEndings, endings_given};
+
+use crate::error::ToolError;
+use bootstore::Trail;
+use envimage::{ByteOrder, Out, load};
+use envtools::Env;
+use rehearse_endings::{EndingsAsk, endings_env};
+use std::alloc::Global;
+
+/// Writes how all runs of a variable end, of an image or of the current copy of a pair: a line for each ending, and one
+/// for all runs.
+///
+/// Refusals in order: the image, the device list, `NoSuchVariable`, `States` and `Memory`, and nothing is written then;
+/// `Write` as the lines go, of which a prefix stands written then. `Memory` comes wherever a growth is made.
+pub fn endings_bytes<O: Out>(
+    alloc: Global,
+    first: &[u8],
+    second: Option<&[u8]>,
+    order: ByteOrder,
+    devices_text: &[u8],
+    ask: &EndingsAsk<'_>,
+    out: &mut O,
+) -> Result<(), ToolError>
+    ensures ok { IfOk result (λ _. TellsEndings (endings_given order first.now (option_copied second.entry) devices_text.now ask.now) ask.now.states (O.sink out.old) (O.sink out.new)) }
+    ensures err { IfErr result (λ e. RefusesEndings (endings_given order first.now (option_copied second.entry) devices_text.now ask.now) ask.now.states (O.sink out.old) (O.sink out.new) e) }
+{
+    let loaded = load(first, second, order)?;
+    let env = Env::from_checked(alloc, loaded.body)?;
+    endings_env::<Trail, O>(alloc, &env, devices_text, ask, out)?;
+    Ok(())
+}
