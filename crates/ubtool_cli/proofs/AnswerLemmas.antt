@@ -11,7 +11,7 @@ use Rattle.clap.specs.declared.error.kind.ErrorKind.{ErrorKind}
 use Rattle.clap.specs.declared.error.kind.ErrorKind.TheVariants.{DisplayHelp, DisplayVersion, OutOfMemory}
 use Rattle.clap.proofs.OnLiterals.{clap_on_literals}
 use Rattle.ubtool_cli.specs.declared.ask.Ask.{Ask}
-use Rattle.ubtool_cli.specs.declared.ask.Ask.TheVariants.{Print, Setenv, Rehearse, Help, Version}
+use Rattle.ubtool_cli.specs.declared.ask.Ask.TheVariants.{Print, Setenv, Rehearse, Endings, Help, Version}
 use Rattle.ubtool_cli.specs.declared.ask.UseError.{UseError}
 use Rattle.ubtool_cli.specs.declared.ask.UseError.TheVariants.{Line, NeedName, ScriptAndName, HeaderNeedsOne, Memory}
 use Rattle.ubtool_cli.specs.Asked.{Asked, asked_of}
@@ -33,6 +33,7 @@ accepted_answer words a (Ok Version) fine is says = absurd says
 accepted_answer words a (Ok (Print config what order)) fine is says = (fine, says ∙ is)
 accepted_answer words a (Ok (Setenv config change order)) fine is says = (fine, says ∙ is)
 accepted_answer words a (Ok (Rehearse config list what order)) fine is says = (fine, says ∙ is)
+accepted_answer words a (Ok (Endings config list what order)) fine is says = (fine, says ∙ is)
 accepted_answer words a (Err NeedName) fine is says = (fine, says ∙ is)
 accepted_answer words a (Err ScriptAndName) fine is says = (fine, says ∙ is)
 accepted_answer words a (Err HeaderNeedsOne) fine is says = (fine, says ∙ is)
@@ -56,6 +57,7 @@ refused_answer words k (Ok Version) among is = elim among [
 refused_answer words k (Ok (Print config what order)) among is = absurd is
 refused_answer words k (Ok (Setenv config change order)) among is = absurd is
 refused_answer words k (Ok (Rehearse config list what order)) among is = absurd is
+refused_answer words k (Ok (Endings config list what order)) among is = absurd is
 refused_answer words k (Err NeedName) among is = absurd is
 refused_answer words k (Err ScriptAndName) among is = absurd is
 refused_answer words k (Err HeaderNeedsOne) among is = absurd is

@@ -5,7 +5,7 @@ use Rattle.clap.specs.Words.{Text, fault_of}
 use Rattle.clap.proofs.OnLiterals.{clap_on_literals}
 use Rattle.envimage.specs.declared.image.ByteOrder.TheVariants.{Big, Little}
 use Rattle.ubtool_cli.specs.CommandAnswers.{IsAccepted, asked}
-use Rattle.ubtool_cli.specs.Asked.{Asked, header_needs_one, needs_name, printing, rehearsing, script_and_name, scripted, setting}
+use Rattle.ubtool_cli.specs.Asked.{Asked, ending, header_needs_one, needs_name, printing, rehearsing, script_and_name, scripted, setting}
 use Rattle.ubtool_cli.specs.CommandLine.{ubtool}
 
 -- the words are accepted and ask for this
@@ -99,3 +99,39 @@ too_many_devices = refl
 limit_of_none : IsRefused (codes "rehearse" ∷ codes "-d" ∷ codes "d" ∷ codes "--limit" ∷ codes "0" ∷ [])
 unfolding clap_on_literals ubtool
 limit_of_none = refl
+
+-- endings -d d
+all_endings : AsksFor (codes "endings" ∷ codes "-d" ∷ codes "d" ∷ [])
+    (ending (codes "/etc/fw_env.config") (codes "d") (record {
+      variable = codes "bootcmd";
+      bounds = record { devices = 1000; steps = 1000000 };
+      states = 1000000;
+    }) Little)
+unfolding clap_on_literals ubtool
+all_endings = (refl, refl)
+
+-- endings -c f -d d -b q --devices 0 --steps 7 --states 0 --big-endian
+few_endings : AsksFor
+    (codes "endings" ∷ codes "-c" ∷ codes "f" ∷ codes "-d" ∷ codes "d" ∷ codes "-b" ∷ codes "q" ∷ codes "--devices" ∷ codes "0" ∷ codes "--steps" ∷ codes "7" ∷ codes "--states" ∷ codes "0" ∷ codes "--big-endian" ∷ [])
+    (ending (codes "f") (codes "d") (record {
+      variable = codes "q";
+      bounds = record { devices = 0; steps = 7 };
+      states = 0;
+    }) Big)
+unfolding clap_on_literals ubtool
+few_endings = (refl, refl)
+
+-- endings -d d --devices 1001
+too_many_run_devices : IsRefused (codes "endings" ∷ codes "-d" ∷ codes "d" ∷ codes "--devices" ∷ codes "1001" ∷ [])
+unfolding clap_on_literals ubtool
+too_many_run_devices = refl
+
+-- endings -d d --states 4294967296
+too_many_states : IsRefused (codes "endings" ∷ codes "-d" ∷ codes "d" ∷ codes "--states" ∷ codes "4294967296" ∷ [])
+unfolding clap_on_literals ubtool
+too_many_states = refl
+
+-- endings
+endings_without_list : IsRefused (codes "endings" ∷ [])
+unfolding clap_on_literals ubtool
+endings_without_list = refl

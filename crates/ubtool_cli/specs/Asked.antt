@@ -11,8 +11,8 @@ use Rattle.clap.specs.Words.{Row, Text, all_of, first_of, one_of}
 use Rattle.clap.specs.ValueTests.{is_numeral}
 use Rattle.envimage.specs.declared.image.ByteOrder.{ByteOrder}
 use Rattle.envimage.specs.declared.image.ByteOrder.TheVariants.{Big, Little}
-use Rattle.rehearse.specs.Bounds.{BoundsShown, bounds_of, most_devices, most_steps}
-use Rattle.ubtool_cli.specs.CommandLine.{most_records}
+use Rattle.rehearse.specs.Bounds.{BoundsShown, bounds_of, run_bounds_of, most_devices, most_run_devices, most_steps}
+use Rattle.ubtool_cli.specs.CommandLine.{most_records, most_states}
 
 -- what a rehearsal is asked for
 pub record Rehearsal : Type 0 where
@@ -22,12 +22,19 @@ pub record Rehearsal : Type 0 where
   pub limit : Option ℕ
   pub names : List Text
 
+-- what the endings are asked for
+pub record Endings : Type 0 where
+  pub variable : Text
+  pub bounds : BoundsShown
+  pub states : ℕ
+
 -- what a call asks for, or which of the product's own refusals it meets
 pub data Asked : Type 0 where
   printing : (config : Text) (header : Bool) (names : List Text) (order : ByteOrder) → Asked
   setting : (config : Text) (name : Text) (words : List Text) (order : ByteOrder) → Asked
   scripted : (config : Text) (script : Text) (order : ByteOrder) → Asked
   rehearsing : (config : Text) (device_list : Text) (what : Rehearsal) (order : ByteOrder) → Asked
+  ending : (config : Text) (device_list : Text) (what : Endings) (order : ByteOrder) → Asked
   needs_name : Asked
   script_and_name : Asked
   header_needs_one : Asked
@@ -72,7 +79,7 @@ config_of rows = unwrap_or (first_of (codes "config") rows) (codes "/etc/fw_env.
 abbrev pub order_of : List Row → ByteOrder
 order_of rows = if is_set (codes "big-endian") rows then Big else Little
 
--- ---- the three subcommands
+-- ---- the four subcommands
 
 abbrev pub print_asked : List Row → Asked
 print_asked rows =
@@ -130,9 +137,36 @@ abbrev pub rehearse_asked : List Row → Option Asked
 rehearse_asked rows = rehearsal_with (first_of (codes "device-list") rows) (bounds_asked rows)
     (number_within 1 most_records (codes "limit") rows) rows
 
+-- 0 to 1,000 device commands and 0 to 1,000,000 steps, and where nothing is said the most
+abbrev pub run_bounds_asked : List Row → Option BoundsShown
+run_bounds_asked rows =
+    option_and_then (λ devices. option_and_then (λ steps.
+    run_bounds_of (unwrap_or devices most_run_devices) (unwrap_or steps most_steps))
+    (number_within 0 most_steps (codes "steps") rows))
+    (number_within 0 most_run_devices (codes "devices") rows)
+
+-- the states where nothing is said
+abbrev pub usual_states : ℕ
+usual_states = 1000000
+
+-- with a device list, bounds and a number of states that can be read
+abbrev pub endings_with : Option Text → Option BoundsShown → Option (Option ℕ) → List Row → Option Asked
+endings_with (Some device_list) (Some bounds) (Some states) rows =
+    Some (ending (config_of rows) device_list (record {
+      variable = variable_of rows;
+      bounds = bounds;
+      states = unwrap_or states usual_states;
+    }) (order_of rows))
+endings_with _ _ _ rows = None
+
+abbrev pub endings_asked : List Row → Option Asked
+endings_asked rows = endings_with (first_of (codes "device-list") rows) (run_bounds_asked rows)
+    (number_within 0 most_states (codes "states") rows) rows
+
 -- what the entries of the subcommand of this name ask for
 abbrev pub asked_of : Text → List Row → Option Asked
 asked_of name rows =
     if bytes_eq name (codes "printenv") then Some (print_asked rows)
     else (if bytes_eq name (codes "setenv") then Some (set_asked rows)
-    else (if bytes_eq name (codes "rehearse") then rehearse_asked rows else None))
+    else (if bytes_eq name (codes "rehearse") then rehearse_asked rows
+    else (if bytes_eq name (codes "endings") then endings_asked rows else None)))

@@ -8,14 +8,16 @@ use Rattle.clap.specs.declared.error.kind.ErrorKind.TheVariants.{DisplayHelp, Di
 use Rattle.clap.specs.declared.error.kind.ErrorKind.TheVariants.{OutOfMemory}
 use Rattle.envimage.specs.declared.image.ByteOrder.{ByteOrder}
 use Rattle.ubtool_cli.specs.declared.ask.Ask.{Ask}
-use Rattle.ubtool_cli.specs.declared.ask.Ask.TheVariants.{Print, Setenv, Rehearse, Help, Version}
+use Rattle.ubtool_cli.specs.declared.ask.Ask.TheVariants.{Print, Setenv, Rehearse, Endings, Help, Version}
 use Rattle.ubtool_cli.specs.declared.ask.Change.{Change}
 use Rattle.ubtool_cli.specs.declared.ask.Change.TheVariants.{One, Script}
+use Rattle.ubtool_cli.specs.declared.ask.EndingsAsk.{EndingsAsk}
 use Rattle.ubtool_cli.specs.declared.ask.RehearseAsk.{RehearseAsk}
 use Rattle.ubtool_cli.specs.declared.ask.UseError.{UseError}
 use Rattle.ubtool_cli.specs.declared.ask.UseError.TheVariants.{Line, NeedName, ScriptAndName}
 use Rattle.ubtool_cli.specs.declared.ask.UseError.TheVariants.{HeaderNeedsOne, Memory}
-use Rattle.ubtool_cli.specs.Asked.{Asked, Rehearsal, asked_of, printing, setting}
+use Rattle.ubtool_cli.specs.Asked as what
+use Rattle.ubtool_cli.specs.Asked.{Asked, Rehearsal, asked_of, ending, printing, setting}
 use Rattle.ubtool_cli.specs.Asked.{scripted, rehearsing, needs_name, script_and_name}
 use Rattle.ubtool_cli.specs.Asked.{header_needs_one}
 use Rattle.ubtool_cli.specs.CommandLine.{ubtool}
@@ -28,6 +30,9 @@ rehearsal_of r = record {
   limit = r.limit;
   names = map string_bytes r.names.items;
 }
+
+abbrev pub endings_of : EndingsAsk → what.Endings
+endings_of e = record { variable = string_bytes e.name; bounds = e.bounds; states = e.states }
 
 abbrev pub change_of : Text → Change → ByteOrder → Asked
 change_of config (One name words) order =
@@ -42,6 +47,8 @@ meaning_of (Setenv config change order) =
     Some (change_of (string_bytes config) change order)
 meaning_of (Rehearse config list what order) =
     Some (rehearsing (string_bytes config) (string_bytes list) (rehearsal_of what) order)
+meaning_of (Endings config list what order) =
+    Some (ending (string_bytes config) (string_bytes list) (endings_of what) order)
 meaning_of (Help text) = None
 meaning_of Version = None
 
@@ -58,8 +65,8 @@ abbrev pub IsMistaken : App → List Text → Type 0
 IsMistaken app words = (k : ErrorKind) × IsAmong k (fault_of app words) × (k ≢ DisplayHelp)
     × (k ≢ DisplayVersion)
 
--- the answer to words. A line that is no mistake would come of an accepted `rehearse` without its
--- device list or with a number out of its range, which `clap` accepts nowhere
+-- the answer to words. A line that is no mistake would come of an accepted `rehearse` or `endings` without
+-- its device list or with a number out of its range, which `clap` accepts nowhere
 abbrev pub Answers : List Text → Result Ask UseError → Type 0
 Answers words (Ok (Help text)) = IsAmong DisplayHelp (fault_of ubtool words)
 Answers words (Ok Version) = IsAmong DisplayVersion (fault_of ubtool words)

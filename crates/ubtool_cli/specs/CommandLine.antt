@@ -1,4 +1,4 @@
--- The command line that `clap` is given: three subcommands with their options and names. It is ours;
+-- The command line that `clap` is given: four subcommands with their options and names. It is ours;
 -- `-c`, `-n` and `-s` and their long forms are those of fw_printenv and fw_setenv (U-Boot, tools/env
 -- README), and `--no-header` is libubootenv's.
 use Rattle.std.specs.Prelude.{ℕ, [], ◌∷◌, Some, true, codes, pos}
@@ -6,7 +6,7 @@ use Rattle.clap.specs.Words.{App, Rule, Shape, Text, new_app, new_rule, with_rul
 use Rattle.clap.specs.Simple.{on_top}
 use Rattle.clap.specs.declared.builder.action.ArgAction.TheVariants.{Append, SetTrue}
 use Rattle.clap.specs.declared.builder.value_parser.ValueParser.TheVariants as parser
-use Rattle.rehearse.specs.Bounds.{most_devices, most_steps}
+use Rattle.rehearse.specs.Bounds.{most_devices, most_run_devices, most_steps}
 
 -- the byte of a letter
 abbrev letter : Text → ℕ
@@ -109,6 +109,23 @@ limit = number_option (codes "limit") 1 most_records
 abbrev pub rehearse : App
 rehearse = with_rule (with_rule (with_rule rehearse_options after) limit) names
 
+-- `-d FILE`, `-b NAME`, the two bounds, and how many states may be gone through
+abbrev pub run_devices : Rule
+run_devices = number_option (codes "devices") 0 most_run_devices
+
+-- the most states that can be allowed
+abbrev pub most_states : ℕ
+most_states = 4294967295
+
+abbrev pub states : Rule
+states = number_option (codes "states") 0 most_states
+
+abbrev pub endings_options : App
+endings_options = with_rule (with_rule (with_rule (subcommand (codes "endings")) device_list) variable) run_devices
+
+abbrev pub endings : App
+endings = with_rule (with_rule endings_options steps) states
+
 -- the program, which has no words of its own; its version can be asked for at each subcommand too
 abbrev pub base : App
 base = on_top (λ (s : Shape). record s {
@@ -121,4 +138,4 @@ base = on_top (λ (s : Shape). record s {
 
 unfoldable pub ubtool : App
 ubtool = with_subcommand
-    (with_subcommand (with_subcommand base printenv.top) setenv.top) rehearse.top
+    (with_subcommand (with_subcommand (with_subcommand base printenv.top) setenv.top) rehearse.top) endings.top

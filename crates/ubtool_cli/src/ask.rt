@@ -3,7 +3,7 @@ ghost use Rattle.std.specs.Prelude.{◌<◌};
 ghost use Rattle.std.specs.Option.{ForSome};
 
 use envimage::ByteOrder;
-use rehearse::Bounds;
+use rehearse::{Bounds, RunBounds};
 use thiserror::Error;
 
 /// The version of the program, and of the package that has it.
@@ -20,6 +20,15 @@ pub const DEFAULT_DEVICES: u32 = 16;
 
 /// The steps that a run may begin where a call sets no bound.
 pub const DEFAULT_STEPS: u32 = 10_000;
+
+/// The device commands that a run may have where the endings are asked for and a call sets no bound.
+pub const DEFAULT_RUN_DEVICES: u32 = 1_000;
+
+/// The steps that a run may begin where the endings are asked for and a call sets no bound.
+pub const DEFAULT_RUN_STEPS: u32 = 1_000_000;
+
+/// The states that the endings may go through where a call sets no bound.
+pub const DEFAULT_STATES: u32 = 1_000_000;
 
 /// What the words of a call ask for.
 #[derive(Debug, Drop)]
@@ -50,6 +59,17 @@ pub enum Ask {
         devices_file: String,
         /// What to list.
         what: RehearseAsk,
+        /// How the image's CRC is stored.
+        order: ByteOrder,
+    },
+    /// To tell how all runs of a boot script end.
+    Endings {
+        /// The path of the configuration.
+        config: String,
+        /// The path of the device list.
+        devices_file: String,
+        /// What to tell.
+        what: EndingsAsk,
         /// How the image's CRC is stored.
         order: ByteOrder,
     },
@@ -91,6 +111,17 @@ pub struct RehearseAsk {
     /// The variables to list after each run, in this order; none for all.
     pub names: Vec<String>,
     pub ghost limit_above_zero: { ForSome limit (λ n. 0 < n) },
+}
+
+/// What `endings` is to tell.
+#[derive(Debug, Drop)]
+pub struct EndingsAsk {
+    /// The variable whose text is run.
+    pub name: String,
+    /// How far each run may go.
+    pub bounds: RunBounds,
+    /// The most states to go through.
+    pub states: u32,
 }
 
 /// Why the words of a call are refused.

@@ -1,13 +1,13 @@
 //! The command line that `clap` is given.
 ghost use Rattle.std.specs.Prelude.{◌≡◌, IfOk, false};
 ghost use Rattle.clap.specs.Words.{new_app, rule_of};
-ghost use Rattle.ubtool_cli.specs.CommandLine.{after, base, big_endian, config, device_list, devices, lettered_flag, lettered_option, limit, long_flag, long_option, many, name, names, no_header, number_option, one, printenv, rehearse, rehearse_options, script, setenv, steps, subcommand, ubtool, values, variable};
+ghost use Rattle.ubtool_cli.specs.CommandLine.{after, base, big_endian, config, device_list, devices, endings, endings_options, lettered_flag, lettered_option, limit, long_flag, long_option, many, name, names, no_header, number_option, one, printenv, rehearse, rehearse_options, run_devices, script, setenv, states, steps, subcommand, ubtool, values, variable};
 ghost use Rattle.ubtool_cli.specs.Made.{IsMade};
 
 use crate::ask::VERSION;
 use clap::builder::ValueParser;
 use clap::{Arg, ArgAction, Command};
-use rehearse::{DEVICES_MAX, STEPS_MAX};
+use rehearse::{DEVICES_MAX, RUN_DEVICES_MAX, STEPS_MAX};
 use std::alloc::{AllocError, Global};
 
 const UBTOOL_NOTES: &str = "\
@@ -21,6 +21,7 @@ Examples:
   ubtool printenv bootcmd
   ubtool setenv bootdelay 3
   ubtool rehearse -d devices.txt
+  ubtool endings -d devices.txt
   ubtool < env.img
 
 'ubtool printenv --help' and its like tell more.
@@ -71,6 +72,27 @@ Examples:
   ubtool rehearse -d devices.txt -b altbootcmd bootargs fdtfile
   ubtool rehearse -d devices.txt --devices 8 --steps 1000
   ubtool rehearse -d devices.txt --limit 20 --after 0110
+";
+
+const ENDINGS_NOTES: &str = "\
+All runs are counted by how they end, also where they are too many to be listed.
+A line for each ending, in the order of the first run that ends so, and one for
+all runs are written:
+
+  ends COUNT first WORD fewest FAILURES WORD ENDING
+  all COUNT states STATES
+
+COUNT runs end so. The first WORD is that of the first of them, the second that
+of the first of those in which the fewest device commands fail. ENDING is the
+last line of their records, as rehearse lists them. A state is what variables,
+status and script are when a device command asks; each is gone through once.
+The image is read and never written.
+
+Examples:
+  ubtool endings -d devices.txt
+  ubtool endings -d devices.txt -b altbootcmd
+  ubtool endings -d devices.txt --devices 32 --steps 10000
+  ubtool endings -c fw_env.config -d devices.txt --states 5000000
 ";
 
 fn long_option<'a>(alloc: Global, id: &'a str, value: &'a str) -> Arg<'a>
@@ -321,6 +343,57 @@ fn rehearse<'a>(alloc: Global) -> Result<Command<'a>, AllocError>
     command.arg(after)?.arg(limit)?.arg(names)
 }
 
+fn run_devices<'a>(alloc: Global) -> Arg<'a>
+    ensures rule { rule_of result ≡ run_devices }
+    ensures local { result.global ≡ false }
+{
+    number_option(alloc, "devices", 0, RUN_DEVICES_MAX).help(
+        "At most N device commands a run, 0 to 1000 [default: 1000]",
+    )
+}
+
+fn run_steps<'a>(alloc: Global) -> Arg<'a>
+    ensures rule { rule_of result ≡ steps }
+    ensures local { result.global ≡ false }
+{
+    number_option(alloc, "steps", 0, STEPS_MAX).help(
+        "At most N steps (commands begun) a run, 0 to 1000000 [default: 1000000]",
+    )
+}
+
+fn states<'a>(alloc: Global) -> Arg<'a>
+    ensures rule { rule_of result ≡ states }
+    ensures local { result.global ≡ false }
+{
+    number_option(alloc, "states", 0, u32::MAX).help(
+        "At most N states in all, 0 to 4294967295 [default: 1000000]",
+    )
+}
+
+fn endings_options<'a>(alloc: Global) -> Result<Command<'a>, AllocError>
+    ensures { IfOk result (IsMade endings_options) }
+{
+    let list = device_list(alloc);
+    let variable = variable(alloc);
+    let devices = run_devices(alloc);
+    let command = subcommand(
+        alloc,
+        "endings",
+        "Tell how all runs of a boot script end",
+        ENDINGS_NOTES,
+    )?;
+    command.arg(list)?.arg(variable)?.arg(devices)
+}
+
+fn endings<'a>(alloc: Global) -> Result<Command<'a>, AllocError>
+    ensures { IfOk result (IsMade endings) }
+{
+    let steps = run_steps(alloc);
+    let states = states(alloc);
+    let command = endings_options(alloc)?;
+    command.arg(steps)?.arg(states)
+}
+
 /// The program, without its subcommands.
 fn base<'a>(alloc: Global) -> Result<Command<'a>, AllocError>
     ensures { IfOk result (IsMade base) }
@@ -344,8 +417,10 @@ pub(crate) fn ubtool<'a>(alloc: Global) -> Result<Command<'a>, AllocError>
     let printenv = printenv(alloc)?;
     let setenv = setenv(alloc)?;
     let rehearse = rehearse(alloc)?;
+    let endings = endings(alloc)?;
     command
         .subcommand(printenv)?
         .subcommand(setenv)?
-        .subcommand(rehearse)
+        .subcommand(rehearse)?
+        .subcommand(endings)
 }

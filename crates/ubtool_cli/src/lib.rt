@@ -7,8 +7,9 @@ mod command;
 mod read;
 
 pub use ask::{
-    Ask, Change, DEFAULT_CONFIG, DEFAULT_DEVICES, DEFAULT_STEPS, DEFAULT_VARIABLE, PrintAsk,
-    RehearseAsk, UseError, VERSION,
+    Ask, Change, DEFAULT_CONFIG, DEFAULT_DEVICES, DEFAULT_RUN_DEVICES, DEFAULT_RUN_STEPS,
+    DEFAULT_STATES, DEFAULT_STEPS, DEFAULT_VARIABLE, EndingsAsk, PrintAsk, RehearseAsk, UseError,
+    VERSION,
 };
 pub use called::words_called;
 pub use command::{big_endian_flag, config_option, names};

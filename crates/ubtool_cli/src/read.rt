@@ -1,19 +1,19 @@
 //! Reading the words.
 ghost use Rattle.std.specs.Prelude.{◌≡◌, ◌≤◌, Some, None, IfOk, IfSome, map, option_map, option_and_then, string_bytes};
 ghost use Rattle.clap.specs.Words.{first_of, found_of, kind_of, rows_of, subcommand_rows_of};
-ghost use Rattle.ubtool_cli.specs.Asked.{asked_of, bounds_asked, config_of, is_set, number_given, number_within, order_of, print_asked, rehearse_asked, set_asked, values_of, variable_of};
+ghost use Rattle.ubtool_cli.specs.Asked.{asked_of, bounds_asked, config_of, endings_asked, is_set, number_given, number_within, order_of, print_asked, rehearse_asked, run_bounds_asked, set_asked, values_of, variable_of};
 ghost use Rattle.ubtool_cli.specs.declared.ask.UseError.TheVariants.{Memory};
 ghost use Rattle.ubtool_cli.specs.CommandAnswers.{Answers, IsUnread, Reports, Says};
 
 use crate::ask::{
-    Ask, Change, DEFAULT_CONFIG, DEFAULT_DEVICES, DEFAULT_STEPS, DEFAULT_VARIABLE, PrintAsk,
-    RehearseAsk, UseError,
+    Ask, Change, DEFAULT_CONFIG, DEFAULT_DEVICES, DEFAULT_RUN_DEVICES, DEFAULT_RUN_STEPS,
+    DEFAULT_STATES, DEFAULT_STEPS, DEFAULT_VARIABLE, EndingsAsk, PrintAsk, RehearseAsk, UseError,
 };
 use crate::command::ubtool;
 use clap::ArgMatches;
 use clap::error::ErrorKind;
 use envimage::ByteOrder;
-use rehearse::{Bounds, DEVICES_MAX, STEPS_MAX};
+use rehearse::{Bounds, DEVICES_MAX, RUN_DEVICES_MAX, RunBounds, STEPS_MAX};
 use std::alloc::{AllocError, Global};
 use std::convert::AsStr;
 
@@ -104,7 +104,7 @@ pub fn order_of(matches: &ArgMatches<'_>) -> ByteOrder
     }
 }
 
-// ---- the three subcommands
+// ---- the four subcommands
 
 fn print_ask(alloc: Global, matches: &ArgMatches<'_>) -> Result<Ask, UseError>
     ensures { Says (Some (print_asked (rows_of (found_of matches.now)))) result }
@@ -201,6 +201,39 @@ fn rehearse_ask(alloc: Global, matches: &ArgMatches<'_>) -> Result<Ask, UseError
     })
 }
 
+/// The two bounds of runs that are not listed; nothing where one is out of its range.
+fn run_bounds_of(matches: &ArgMatches<'_>) -> Option<RunBounds>
+    ensures { result ≡ run_bounds_asked (rows_of (found_of matches.now)) }
+{
+    let devices = number_within(matches, "devices", 0, RUN_DEVICES_MAX)?;
+    let steps = number_within(matches, "steps", 0, STEPS_MAX)?;
+    RunBounds::new(
+        devices.unwrap_or(DEFAULT_RUN_DEVICES),
+        steps.unwrap_or(DEFAULT_RUN_STEPS),
+    )
+}
+
+fn endings_ask(alloc: Global, matches: &ArgMatches<'_>) -> Result<Ask, UseError>
+    ensures { Says (endings_asked (rows_of (found_of matches.now))) result }
+{
+    let list = text_of(alloc, matches, "device-list")?;
+    let bounds = run_bounds_of(matches);
+    let states = number_within(matches, "states", 0, u32::MAX);
+    let (Some(devices_file), Some(bounds), Some(states)) = (list, bounds, states) else {
+        return Err(unread(alloc));
+    };
+    Ok(Ask::Endings {
+        config: config_of(alloc, matches)?,
+        devices_file,
+        what: EndingsAsk {
+            name: variable_of(alloc, matches)?,
+            bounds,
+            states: states.unwrap_or(DEFAULT_STATES),
+        },
+        order: order_of(matches),
+    })
+}
+
 fn ask_of(alloc: Global, matches: &ArgMatches<'_>) -> Result<Ask, UseError>
     ensures { Says (option_and_then (λ s. asked_of s.0 s.1) (subcommand_rows_of matches.now)) result }
 {
@@ -211,6 +244,7 @@ fn ask_of(alloc: Global, matches: &ArgMatches<'_>) -> Result<Ask, UseError>
         "printenv" => print_ask(alloc, entries),
         "setenv" => set_ask(alloc, entries),
         "rehearse" => rehearse_ask(alloc, entries),
+        "endings" => endings_ask(alloc, entries),
         _ => Err(unread(alloc)),
     }
 }
