@@ -8,10 +8,10 @@ use Rattle.clap.specs.Words.{Row, Text, first_of, subcommand_of}
 use Rattle.envimage.specs.declared.image.ByteOrder.{ByteOrder}
 use Rattle.rehearse.specs.Bounds.{BoundsShown}
 use Rattle.ubtool_cli.specs.CommandAnswers.{Answers, asked, meaning_of}
-use Rattle.ubtool_cli.specs.Asked.{Asked, asked_of, bounds_asked, change_asked, config_of, header_needs_one, is_set, number_within, order_of, print_asked, printing, rehearsal_with, rehearse_asked, set_asked, values_of}
-use Rattle.ubtool_cli.specs.CommandLine.{most_records, ubtool}
+use Rattle.ubtool_cli.specs.Asked.{Asked, asked_of, bounds_asked, endings_asked, endings_with, run_bounds_asked, change_asked, config_of, header_needs_one, is_set, number_within, order_of, print_asked, printing, rehearsal_with, rehearse_asked, set_asked, values_of}
+use Rattle.ubtool_cli.specs.CommandLine.{most_records, most_states, ubtool}
 use Rattle.ubtool_cli.specs.declared.ask.Ask.{Ask}
-use Rattle.ubtool_cli.specs.declared.ask.Ask.TheVariants.{Help, Print, Rehearse, Setenv, Version}
+use Rattle.ubtool_cli.specs.declared.ask.Ask.TheVariants.{Endings, Help, Print, Rehearse, Setenv, Version}
 use Rattle.ubtool_run.specs.Performing.{IsComplete}
 
 -- a value without its name is asked for of one name
@@ -41,6 +41,12 @@ rehearse-fit None bounds limit rows = tt
 rehearse-fit (Some list) None limit rows = tt
 rehearse-fit (Some list) (Some bounds) None rows = tt
 
+endings-fit : (list : Option Text) (bounds : Option BoundsShown) (states : Option (Option ℕ)) (rows : List Row) → IsFit (endings_with list bounds states rows)
+endings-fit (Some list) (Some bounds) (Some states) rows = tt
+endings-fit None bounds states rows = tt
+endings-fit (Some list) None states rows = tt
+endings-fit (Some list) (Some bounds) None rows = tt
+
 asked-fit : (words : List Text) → IsFit (asked words)
 asked-fit words = by (subcommand_of ubtool words)
   where
@@ -50,10 +56,13 @@ asked-fit words = by (subcommand_of ubtool words)
         let printed = print-fit (is_set (codes "noheader") rows) (length names == 1) (config_of rows) names (order_of rows) refl in
         let set = set-fit (first_of (codes "script") rows) (first_of (codes "name") rows) rows in
         let rehearsed = rehearse-fit (first_of (codes "device-list") rows) (bounds_asked rows) (number_within 1 most_records (codes "limit") rows) rows in
-        let last = either (bytes_eq name (codes "rehearse")) (rehearse_asked rows) None rehearsed tt in
-        let two = either (bytes_eq name (codes "setenv")) (Some (set_asked rows)) (if bytes_eq name (codes "rehearse") then rehearse_asked rows else None) set last in
+        let ended = endings-fit (first_of (codes "device-list") rows) (run_bounds_asked rows) (number_within 0 most_states (codes "states") rows) rows in
+        let last = either (bytes_eq name (codes "endings")) (endings_asked rows) None ended tt in
+        let two = either (bytes_eq name (codes "rehearse")) (rehearse_asked rows) (if bytes_eq name (codes "endings") then endings_asked rows else None) rehearsed last in
+        let three = either (bytes_eq name (codes "setenv")) (Some (set_asked rows))
+        (if bytes_eq name (codes "rehearse") then rehearse_asked rows else (if bytes_eq name (codes "endings") then endings_asked rows else None)) set two in
         either (bytes_eq name (codes "printenv")) (Some (print_asked rows))
-        (if bytes_eq name (codes "setenv") then Some (set_asked rows) else (if bytes_eq name (codes "rehearse") then rehearse_asked rows else None)) printed two
+        (if bytes_eq name (codes "setenv") then Some (set_asked rows) else (if bytes_eq name (codes "rehearse") then rehearse_asked rows else (if bytes_eq name (codes "endings") then endings_asked rows else None))) printed three
 
     by : (found : Option (Text × List Row)) → IsFit (option_and_then (λ s. asked_of s.0 s.1) found)
     by None = tt
@@ -66,5 +75,6 @@ answer-complete words (Print config what order) h =
     λ none. sym (length-map what.names.items string_bytes) ∙ fit none
 answer-complete words (Setenv config change order) h = tt
 answer-complete words (Rehearse config list what order) h = tt
+answer-complete words (Endings config list what order) h = tt
 answer-complete words (Help text) h = tt
 answer-complete words Version h = tt

@@ -5,3 +5,4 @@ pub mod SetLemmas
 pub mod AskLemmas
 pub mod RunLemmas
 pub mod RehearseLemmas
+pub mod EndingsLemmas

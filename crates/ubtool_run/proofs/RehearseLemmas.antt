@@ -25,7 +25,7 @@ use Rattle.ubtool_run.specs.PrintingFiles.{first_bytes}
 use Rattle.ubtool_run.specs.declared.images.Images.{Images}
 use Rattle.ubtool_run.specs.declared.read.StoredCopy.{StoredCopy}
 use Rattle.ubtool_run.specs.ReadingFiles.{IsTextFault, ReadsText}
-use Rattle.ubtool_run.specs.RehearsingFiles.{FromFiles, IsUnlisted, LeavesOutput, RehearsesCopies, RehearsesFrom, no_run_of, refusal_of, rehearsal_of}
+use Rattle.ubtool_run.specs.RehearsingFiles.{AreRead, FromFiles, IsUnlisted, LeavesOutput, RehearsesCopies, RehearsesFrom, RunsOut, no_run_of, refusal_of, rehearsal_of}
 
 abbrev pub given_by : ByteOrder → (first : List ℕ) → (second : Option (List ℕ)) → (list variable : List ℕ) → BoundsShown → (after : Option (List ℕ)) → (limit : Option ℕ) → (names : List (List ℕ)) → Given
 given_by order first second list variable bounds after limit names =
@@ -68,13 +68,17 @@ rehearses-unlisted order config list what out found x y z f read h =
 
 -- ---- the rehearsal of what was read
 
+pub are-read : (config list : List ℕ) (found : List Copy) (text : Vec ℕ Global) (x y z : Told) (IsSo : List Copy → List ℕ → Type 0) → HasRead config x y found
+    → ReadsText list y z (Ok text) → IsSo found text.items → AreRead config list x z IsSo
+are-read config list found text x y z IsSo read listed so = record { found = found; after_images = y; read = read; text = text.items; listed = listed; so = so }
+
 from-files : (order : ByteOrder) (config list : List ℕ) (what : RehearseAsk) (found : List Copy) (text : Vec ℕ Global) (x y z : Told) (IsSo : Given → Type 0) → HasRead config x y found
     → ReadsText list y z (Ok text) → IsSo (rehearsal_of order found text.items what) → FromFiles order config list what x z IsSo
-from-files order config list what found text x y z IsSo read listed so = record { found = found; after_images = y; read = read; text = text.items; listed = listed; so = so }
+from-files order config list what found text x y z IsSo read listed so = are-read config list found text x y z (λ copies bytes. IsSo (rehearsal_of order copies bytes what)) read listed so
 
 pub rehearses-found : (order : ByteOrder) (config list : List ℕ) (what : RehearseAsk) (out out' : Sink) (found : List Copy) (text : Vec ℕ Global) (x y z : Told) (finish : Finish) → HasRead config x y found
     → ReadsText list y z (Ok text) → RehearsesCopies (rehearsal_of order found text.items what) out out' (Ok finish) → RehearsesFrom order config list what out out' x z (Ok true)
-rehearses-found order config list what out out' found text x y z finish read listed h = (refl, from-files order config list what found text x y z _ read listed (finish, h))
+rehearses-found order config list what out out' found text x y z finish read listed h = (refl, from-files order config list what found text x y z (λ g. (f : Finish) × Rehearses g out out' f) read listed (finish, h))
 
 no-run : (order : ByteOrder) (config list : List ℕ) (what : RehearseAsk) (out out' : Sink) (x z : Told) (after : Option (String Global)) → what.after ≡ after
     → FromFiles order config list what x z (λ g. Refuses g out out' tool.NotARun) → RehearsesFrom order config list what out out' x z (Err (no_run_of after))
@@ -83,15 +87,16 @@ no-run order config list what out out' x z (Some word) is h = (ap (option_map pa
 
 pub rehearses-refused : (order : ByteOrder) (config list : List ℕ) (what : RehearseAsk) (out out' : Sink) (found : List Copy) (text : Vec ℕ Global) (x y z : Told) (error : ToolError) → HasRead config x y found
     → ReadsText list y z (Ok text) → RehearsesCopies (rehearsal_of order found text.items what) out out' (Err error) → RehearsesFrom order config list what out out' x z (Err (refusal_of what error))
-rehearses-refused order config list what out out' found text x y z (tool.Image error) read listed h = from-files order config list what found text x y z _ read listed h
+rehearses-refused order config list what out out' found text x y z (tool.Image error) read listed h = from-files order config list what found text x y z (λ g. Refuses g out out' (tool.Image error)) read listed h
 rehearses-refused order config list what out out' found text x y z (tool.Env error) read listed h = absurd h
 rehearses-refused order config list what out out' found text x y z (tool.Script error) read listed h = absurd h
-rehearses-refused order config list what out out' found text x y z (tool.Devices error) read listed h = from-files order config list what found text x y z _ read listed h
-rehearses-refused order config list what out out' found text x y z tool.NoSuchVariable read listed h = (refl, from-files order config list what found text x y z _ read listed h)
+rehearses-refused order config list what out out' found text x y z (tool.Devices error) read listed h = from-files order config list what found text x y z (λ g. Refuses g out out' (tool.Devices error)) read listed h
+rehearses-refused order config list what out out' found text x y z tool.NoSuchVariable read listed h = (refl, from-files order config list what found text x y z (λ g. Refuses g out out' tool.NoSuchVariable) read listed h)
+rehearses-refused order config list what out out' found text x y z tool.States read listed h = absurd h
 rehearses-refused order config list what out out' found text x y z tool.NotARun read listed h =
-    no-run order config list what out out' x z what.after refl (from-files order config list what found text x y z _ read listed h)
-rehearses-refused order config list what out out' found text x y z tool.Write read listed h = from-files order config list what found text x y z _ read listed h
-rehearses-refused order config list what out out' found text x y z tool.Memory read listed h = inr (from-files order config list what found text x y z _ read listed h)
+    no-run order config list what out out' x z what.after refl (from-files order config list what found text x y z (λ g. Refuses g out out' tool.NotARun) read listed h)
+rehearses-refused order config list what out out' found text x y z tool.Write read listed h = from-files order config list what found text x y z (λ g. Refuses g out out' tool.Write) read listed h
+rehearses-refused order config list what out out' found text x y z tool.Memory read listed h = inr (from-files order config list what found text x y z (λ g. RunsOut g out out') read listed h)
 
 -- ---- what the rehearsal of copies is given
 
@@ -100,7 +105,7 @@ made : (order : ByteOrder) (first first' : List ℕ) (second second' : Option (L
     → given_by order first second list variable bounds after limit names ≡ given_by order first' second' list variable' bounds after' limit names'
 made order first first' second second' list variable variable' bounds after after' limit names names' e f v a n = rw (e, f, v, a, n) refl
 
-first-bytes : (images : Images) → images.first.bytes.items ≡ first_bytes (copies images)
+pub first-bytes : (images : Images) → images.first.bytes.items ≡ first_bytes (copies images)
 first-bytes images = by images.first images.second
   where
     by : (x : StoredCopy) (y : Option StoredCopy) → x.bytes.items ≡ first_bytes (copies (record { first = x; second = y }))
@@ -120,6 +125,7 @@ copies-rehearsed g out out' (Err (tool.Env error)) ok err = err
 copies-rehearsed g out out' (Err (tool.Script error)) ok err = err
 copies-rehearsed g out out' (Err (tool.Devices error)) ok err = err
 copies-rehearsed g out out' (Err tool.NoSuchVariable) ok err = err
+copies-rehearsed g out out' (Err tool.States) ok err = err
 copies-rehearsed g out out' (Err tool.NotARun) ok err = err
 copies-rehearsed g out out' (Err tool.Write) ok err = err
 copies-rehearsed g out out' (Err tool.Memory) ok (inl same) = inl same.1
@@ -140,6 +146,7 @@ leaves-refused g what out out' (tool.Env error) h = absurd h
 leaves-refused g what out out' (tool.Script error) h = absurd h
 leaves-refused g what out out' (tool.Devices error) h = h.2
 leaves-refused g what out out' tool.NoSuchVariable h = h.1
+leaves-refused g what out out' tool.States h = absurd h
 leaves-refused g what out out' tool.NotARun h = leaves-no-run out out' what.after h.1
 leaves-refused g what out out' tool.Write h = h.broke.failed
 leaves-refused g what out out' tool.Memory (inl same) = ap (λ (s : Sink). s.failures) same

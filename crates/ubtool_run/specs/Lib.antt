@@ -6,3 +6,4 @@ pub mod ReadingFiles
 pub mod Running
 pub mod ChangingFiles
 pub mod RehearsingFiles
+pub mod EndingsOfFiles

@@ -4,7 +4,7 @@ use Rattle.std.specs.Prelude.{◌≡◌, ◌++◌, ℕ, Bool, true, false, List,
 use Rattle.envimage.specs.Sink.{BrokeOff, Sink, Wrote}
 use Rattle.envimage.specs.declared.image.ByteOrder.{ByteOrder}
 use Rattle.ubtool_cli.specs.declared.ask.Ask.{Ask}
-use Rattle.ubtool_cli.specs.declared.ask.Ask.TheVariants.{Help, Print, Rehearse, Setenv, Version}
+use Rattle.ubtool_cli.specs.declared.ask.Ask.TheVariants.{Endings, Help, Print, Rehearse, Setenv, Version}
 use Rattle.ubtool_cli.specs.declared.ask.Change.{Change}
 use Rattle.ubtool_cli.specs.declared.ask.TheConstants.{VERSION}
 use Rattle.ubtool_core.specs.PrintingImages.{AreUnchanged, Outputs}
@@ -12,6 +12,7 @@ use Rattle.ubtool_files.specs.Told.{IfTold, Told}
 use Rattle.ubtool_core.specs.declared.error.ToolError.TheVariants.{Write}
 use Rattle.ubtool_core.specs.declared.fault.Fault.{Fault}
 use Rattle.ubtool_core.specs.declared.fault.Fault.TheVariants.{Tool}
+use Rattle.ubtool_run.specs.EndingsOfFiles.{TellsFrom}
 use Rattle.ubtool_run.specs.PrintingFiles.{LeavesOutputs, PrintsFrom}
 use Rattle.ubtool_run.specs.RehearsingFiles.{LeavesOutput, RehearsesFrom}
 use Rattle.ubtool_run.specs.ChangingFiles.{Sets}
@@ -54,6 +55,11 @@ Does (Setenv config change order) before after outputs result =
 Does (Rehearse config device_list what order) before after outputs result =
     IfTold before after (λ old new.
     RehearsesFrom order (string_bytes config) (string_bytes device_list) what outputs.out outputs.out' old new result)
+    × LeavesOutput result outputs.out outputs.out'
+    × (outputs.err' ≡ outputs.err)
+Does (Endings config device_list what order) before after outputs result =
+    IfTold before after (λ old new.
+    TellsFrom order (string_bytes config) (string_bytes device_list) what outputs.out outputs.out' old new result)
     × LeavesOutput result outputs.out outputs.out'
     × (outputs.err' ≡ outputs.err)
 Does (Help text) before after outputs result = Shows (string_bytes text) before after outputs result

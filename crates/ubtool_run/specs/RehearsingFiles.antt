@@ -57,14 +57,20 @@ RehearsesCopies g old new (Err tool.Memory) = RunsOut g old new
 RehearsesCopies g old new (Err error) = Refuses g old new error
 
 -- The images were read, and then the device list, and this holds of what they give.
-pub record FromFiles (order : ByteOrder) (config device_list : List ℕ) (what : RehearseAsk) (old new : Told)
-    (IsSo : Given → Type 0) : Type 0 where
-  pub found : List Copy
-  pub after_images : Told
-  pub read : HasRead config old after_images found
-  pub text : List ℕ
-  pub listed : Reads (device_list, ReadAll) (file_at device_list after_images.stored) after_images new text
-  pub so : IsSo (rehearsal_of order found text what)
+pub record AreRead (config device_list : List ℕ) (old new : Told) (IsSo : List Copy → (text : List ℕ) → Type 0) : Type 0
+  where
+    pub found : List Copy
+    pub after_images : Told
+    pub read : HasRead config old after_images found
+    pub text : List ℕ
+    pub listed : Reads (device_list, ReadAll) (file_at device_list after_images.stored) after_images new text
+    pub so : IsSo found text
+
+-- and this holds of the rehearsal of what they give
+abbrev pub FromFiles : ByteOrder → (config device_list : List ℕ) → RehearseAsk → (old new : Told) → (Given → Type 0) →
+    Type 0
+FromFiles order config device_list what old new IsSo =
+    AreRead config device_list old new (λ found text. IsSo (rehearsal_of order found text what))
 
 -- The images were read, and the device list is refused for this.
 pub record IsUnlisted (config device_list : List ℕ) (old : Told) (fault : Fault) : Type 0 where

@@ -2,6 +2,7 @@
 #![tactic(auto)]
 
 mod ending;
+mod endings;
 mod images;
 mod perform;
 mod print;

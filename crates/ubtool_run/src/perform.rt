@@ -3,6 +3,7 @@ ghost use Rattle.ubtool_core.specs.PrintingImages.{outputs};
 ghost use Rattle.ubtool_run.specs.Performing.{Does, IsComplete};
 ghost use Rattle.ubtool_run.specs.Faults.{CountsTold};
 
+use crate::endings::endings;
 use crate::print::print;
 use crate::rehearsing::rehearse;
 use crate::set::set;
@@ -47,6 +48,12 @@ pub fn perform<F: Files, O: Out, E: Out>(
             what,
             order,
         } => rehearse(alloc, files, config, devices_file, what, order, out),
+        Ask::Endings {
+            config,
+            devices_file,
+            what,
+            order,
+        } => endings(alloc, files, config, devices_file, what, order, out),
         Ask::Help(text) => show_help(out, &text),
         Ask::Version => show_version(out, PROGRAM),
     }

@@ -1,0 +1,65 @@
+-- How all runs of the images of a configuration end, from files that tell what stands in them. The order of work is that
+-- of a rehearsal. Ours.
+use Rattle.std.specs.Prelude.{◌≡◌, ◌⊎◌, ℕ, Bool, true, List, [], None, Result, Ok, Err, string_bytes}
+use Rattle.envimage.specs.Sink.{Sink}
+use Rattle.envimage.specs.declared.image.ByteOrder.{ByteOrder}
+use Rattle.ubtool_cli.specs.declared.ask.EndingsAsk.{EndingsAsk}
+use Rattle.ubtool_core.specs.EndingsOfImages.{RefusesEndings, TellsEndings}
+use Rattle.ubtool_core.specs.Errors.{tool_fault}
+use Rattle.ubtool_core.specs.FileFaults.{path_form}
+use Rattle.ubtool_core.specs.Given.{Given}
+use Rattle.ubtool_core.specs.declared.error.ToolError.{ToolError}
+use Rattle.ubtool_core.specs.declared.error.ToolError.TheVariants as tool
+use Rattle.ubtool_core.specs.declared.fault.Fault.{Fault}
+use Rattle.ubtool_core.specs.declared.fault.Fault.TheVariants.{Memory, NoSuchVariable, Tool}
+use Rattle.ubtool_files.specs.CallOrder.{OnlyReads}
+use Rattle.ubtool_files.specs.Told.{Told}
+use Rattle.ubtool_run.specs.Images.{Copy, IsImagesFault}
+use Rattle.ubtool_run.specs.PrintingFiles.{first_bytes, second_bytes}
+use Rattle.ubtool_run.specs.RehearsingFiles.{AreRead, IsUnlisted}
+
+-- what is rehearsed: the bytes of these copies, by the text of the device list, in all runs
+abbrev pub endings_of : ByteOrder → List Copy → (device_list : List ℕ) → EndingsAsk → Given
+endings_of order found device_list what = record {
+  order = order;
+  first = first_bytes found;
+  second = second_bytes found;
+  device_list = device_list;
+  variable = string_bytes what.name;
+  bounds = what.bounds;
+  after = None;
+  limit = None;
+  names = [];
+}
+
+-- what a refusal is told as: a variable that is not set by its name
+abbrev pub endings_refusal : EndingsAsk → ToolError → Fault
+endings_refusal what tool.NoSuchVariable = NoSuchVariable (path_form what.name)
+endings_refusal what error = tool_fault error
+
+-- each answer to the endings of copies
+abbrev pub TellsCopies : Given → (states : ℕ) → (old new : Sink) → Result (Unit {0}) ToolError → Type 0
+TellsCopies g states old new (Ok done) = TellsEndings g states old new
+TellsCopies g states old new (Err error) = RefusesEndings g states old new error
+
+-- the images and the device list were read, and this holds of the endings of what they give
+abbrev pub FromFiles : ByteOrder → (config device_list : List ℕ) → EndingsAsk → (old new : Told) → (Given → Type 0) →
+    Type 0
+FromFiles order config device_list what old new IsSo =
+    AreRead config device_list old new (λ found text. IsSo (endings_of order found text what))
+
+-- The images and the device list were read, and the lines were written; or the endings are refused; or a read is
+-- refused, and files were only read. Where memory runs out nothing is written.
+abbrev pub TellsFrom : ByteOrder → (config device_list : List ℕ) → EndingsAsk → (out out' : Sink) → (old new : Told) →
+    Result Bool Fault → Type 0
+TellsFrom order config device_list what out out' old new (Ok all) =
+    (all ≡ true) × FromFiles order config device_list what old new (λ g. TellsEndings g what.states out out')
+TellsFrom order config device_list what out out' old new (Err Memory) = OnlyReads old new × (out' ≡ out)
+TellsFrom order config device_list what out out' old new (Err (Tool tool.Memory)) = ⊥
+TellsFrom order config device_list what out out' old new (Err (Tool error)) =
+    FromFiles order config device_list what old new (λ g. RefusesEndings g what.states out out' error)
+TellsFrom order config device_list what out out' old new (Err (NoSuchVariable name)) =
+    (name ≡ path_form what.name) × FromFiles order config device_list what old new (λ g.
+    RefusesEndings g what.states out out' tool.NoSuchVariable)
+TellsFrom order config device_list what out out' old new (Err fault) =
+    OnlyReads old new × (IsImagesFault config old.stored fault ⊎ IsUnlisted config device_list old fault)
