@@ -12,6 +12,8 @@ mod device_lists;
 #[cfg(test)]
 mod ending;
 #[cfg(test)]
+mod endings;
+#[cfg(test)]
 mod expanding;
 #[cfg(test)]
 mod given;
