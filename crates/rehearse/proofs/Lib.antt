@@ -24,6 +24,8 @@ pub mod JoinedLines
 pub mod MapLemmas
 pub mod QuietNames
 pub mod PlainLists
+pub mod PlainRuns
+mod PlainExecutionExamples
 pub mod VerdictLemmas
 mod VerdictExamples
 mod ListedExamples

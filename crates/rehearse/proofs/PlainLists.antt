@@ -17,7 +17,7 @@ use Rattle.rehearse.specs.declared.devices_error.DevicesError.TheVariants.{BadLi
 use Rattle.rehearse.proofs.JoinedLines.{ok-same}
 
 -- the commands of a list that says nothing but names
-abbrev quiet_names : List Text → Devices
+abbrev pub quiet_names : List Text → Devices
 quiet_names = map (λ name. (name, quiet))
 
 -- ---- one name more

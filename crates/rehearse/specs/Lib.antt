@@ -16,5 +16,6 @@ pub mod CommandsShown
 pub mod DeviceLaws
 pub mod DevicesShown
 pub mod PlainList
+pub mod PlainExecution
 pub mod DeviceListAnswers
 pub mod TextsShown

@@ -1,6 +1,7 @@
 //! Laws of device lists, each the contract of a function that does nothing.
 
 ghost use Rattle.rehearse.specs.DeviceLaws.{LinesAreJoined, NamesAreQuiet};
+ghost use Rattle.rehearse.specs.PlainExecution.{PlainListingsStand, PlainRestsStand, PlainRunsStand};
 ghost use Rattle.rehearse.specs.PlainList.{PlainListsStand};
 
 /// A name is listed where a line names it, and does what all lines of that name say: it is final where
@@ -22,4 +23,24 @@ pub fn names_are_quiet()
 #[tactic(auto, using(crate::proofs::PlainLists::plain_lists_stand))]
 pub fn plain_lists_stand()
     ensures { PlainListsStand }
+{}
+
+/// A run over a list in the plain form is the run that it was before lists could say more than names: a
+/// command of the list asks for an outcome, which the log and the status have, and changes nothing else.
+#[tactic(auto, using(crate::proofs::PlainRuns::plain_runs_stand))]
+pub fn plain_runs_stand()
+    ensures { PlainRunsStand }
+{}
+
+/// The listing over a list in the plain form has the same bytes as before lists could say more than
+/// names.
+#[tactic(auto, using(crate::proofs::PlainRuns::plain_listings_stand))]
+pub fn plain_listings_stand()
+    ensures { PlainListingsStand }
+{}
+
+/// The listing of the runs that follow a word has, over such a list, the same bytes too.
+#[tactic(auto, using(crate::proofs::PlainRuns::plain_rests_stand))]
+pub fn plain_rests_stand()
+    ensures { PlainRestsStand }
 {}
