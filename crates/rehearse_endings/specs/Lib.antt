@@ -5,6 +5,7 @@ pub mod Summaries
 pub mod Cores
 pub mod RowsShown
 pub mod Searching
+pub mod States
 pub mod Lines
 pub mod TellingEndings
 pub mod Laws

@@ -1,5 +1,5 @@
 -- What is told of the endings of an environment's variable, and why it is refused. Ours.
-use Rattle.std.specs.Prelude.{◌≡◌, ℕ, ◌≤◌, List, length, Option, Some, None, Ok, Err}
+use Rattle.std.specs.Prelude.{◌≡◌, ℕ, ◌+◌, ◌≤◌, List, length, Option, Some, None, Ok, Err}
 use Rattle.envimage.specs.Sink.{Sink, Wrote, BrokeOff}
 use Rattle.rehearse.specs.State.{Text}
 use Rattle.rehearse.specs.DeviceList.{Devices, listed}
@@ -7,6 +7,7 @@ use Rattle.rehearse.specs.Runs.{Task, runs}
 use Rattle.rehearse_machine.specs.Tasks.{task_set}
 use Rattle.rehearse_endings.specs.Endings.{endings}
 use Rattle.rehearse_endings.specs.Lines.{endings_text}
+use Rattle.rehearse_endings.specs.States.{HasStates}
 use Rattle.rehearse_endings.specs.declared.telling.EndingsAsk.{EndingsAsk}
 use Rattle.rehearse_endings.specs.declared.telling.EndingsError.{EndingsError}
 use Rattle.rehearse_endings.specs.declared.telling.EndingsError.TheVariants.{DeviceList, NoSuchVariable, States, Write, Memory}
@@ -18,18 +19,22 @@ pub record HasDevices (environment : List (Text × Text)) (devices_text : Text) 
   pub listed_as : listed devices_text ≡ Ok devices
   pub so : IsSo (task_set environment devices ask.name.now ask.bounds)
 
--- the lines that tell how the runs of the task end, and of no more states than this
+-- the lines that tell how the runs of the task end, and to how many states, no two alike, they come; no more than this
 abbrev pub AreLines : (most : ℕ) → Option Task → Text → Type 0
-AreLines most found text = (task : Task) × (states : ℕ) × (found ≡ Some task) × (states ≤ most)
+AreLines most found text = (task : Task) × (states : ℕ) × (found ≡ Some task) × (states ≤ most) × HasStates task states
     × (text ≡ endings_text (endings task) (length (runs task)) states)
 
+-- the runs of the task come to more states than this, no two of them alike
+abbrev pub HasMoreStates : (most : ℕ) → Option Task → Type 0
+HasMoreStates most found = (task : Task) × (found ≡ Some task) × HasStates task (most + 1)
+
 -- why there are none
-abbrev pub IsUntold : Option Task → EndingsError → Type 0
-IsUntold found (DeviceList fault) = ⊥
-IsUntold found NoSuchVariable = found ≡ None
-IsUntold found States = (task : Task) × (found ≡ Some task)
-IsUntold found Write = ⊥
-IsUntold found Memory = Unit {0}
+abbrev pub IsUntold : (most : ℕ) → Option Task → EndingsError → Type 0
+IsUntold most found (DeviceList fault) = ⊥
+IsUntold most found NoSuchVariable = found ≡ None
+IsUntold most found States = HasMoreStates most found
+IsUntold most found Write = ⊥
+IsUntold most found Memory = Unit {0}
 
 -- the lines were written
 abbrev pub TellsEndings : List (Text × Text) → Text → EndingsAsk → (old new : Sink) → Type 0
@@ -49,6 +54,6 @@ RefusesEndings environment devices_text ask old new (DeviceList fault) =
 RefusesEndings environment devices_text ask old new NoSuchVariable =
     HasDevices environment devices_text ask (λ found. found ≡ None) × (new ≡ old)
 RefusesEndings environment devices_text ask old new States =
-    HasDevices environment devices_text ask (λ found. (task : Task) × (found ≡ Some task)) × (new ≡ old)
+    HasDevices environment devices_text ask (HasMoreStates ask.states) × (new ≡ old)
 RefusesEndings environment devices_text ask old new Write = BreaksOff environment devices_text ask old new
 RefusesEndings environment devices_text ask old new Memory = new ≡ old

@@ -1,10 +1,14 @@
 //! The search through the states in which device commands ask.
-ghost use Rattle.std.specs.Prelude.{◌≡◌, ◌+◌, ◌*◌, ◌≤◌, ◌<◌, ◌^◌, map, IfOk, OnOk};
+ghost use Rattle.std.specs.Prelude.{◌≡◌, ◌+◌, ◌*◌, ◌≤◌, ◌<◌, ◌^◌, List, map, IfOk, IfErr, OnOk};
 ghost use Rattle.rehearse.specs.Bounds.{most_steps};
+ghost use Rattle.rehearse.specs.Outcomes.{OutcomeWord};
 ghost use Rattle.rehearse_machine.specs.Tasks.{task_in};
+ghost use Rattle.rehearse_runs.specs.Searching.{StoppedAt};
 ghost use Rattle.rehearse_endings.specs.RowsShown.{Summed, summary_shown, rows_shown, saturated};
 ghost use Rattle.rehearse_endings.specs.Endings.{endings};
 ghost use Rattle.rehearse_endings.specs.Searching.{future, IsReached, AreEntries};
+ghost use Rattle.rehearse_endings.specs.States.{Asked, HasStates, Entered, IsNewAt, HasEntered};
+ghost use Rattle.rehearse_endings.specs.declared.sum_error.SumError.TheVariants.{States};
 
 use crate::cores::take_core;
 use crate::hashing::hash_of;
@@ -44,6 +48,8 @@ fn summed<S: Store>(
     ensures begun { OnOk result ((S.record_of store.new).begun + 2 * table.old.visited * most_steps ≤ (S.record_of store.old).begun + 2 * table.new.visited * most_steps) }
     ensures room { OnOk result (table.new.visited ≤ table.new.most) }
     ensures most { OnOk result (table.new.most ≡ table.old.most) }
+    ensures entered { (p : OutcomeWord) (kept pending : List Asked) → StoppedAt (task_in rehearsal.now) p stop (S.record_of store.old).present → IsNewAt p kept pending → Entered (task_in rehearsal.now) kept pending table.old → OnOk result (HasEntered (task_in rehearsal.now) p kept pending table.new) }
+    ensures refused { (p : OutcomeWord) (kept pending : List Asked) → StoppedAt (task_in rehearsal.now) p stop (S.record_of store.old).present → IsNewAt p kept pending → Entered (task_in rehearsal.now) kept pending table.old → IfErr result (λ e. e ≡ States → HasStates (task_in rehearsal.now) (table.old.most + 1)) }
 {
     match stop {
         Stop::Ends(halt) => {
@@ -79,8 +85,9 @@ fn summed<S: Store>(
 }
 
 /// How all runs of the text of the variable end: for each ending how many runs do, or 2^128 - 1 where they
-/// are more, the first of them, and the first of those with the fewest failures, in the order of the first runs. No more
-/// states than allowed are entered; each is gone through once, so no more than two stretches of steps begin at it.
+/// are more, the first of them, and the first of those with the fewest failures, in the order of the first runs. Enters
+/// no more states than allowed, and goes through each once, so no more than two stretches of steps begin at it.
+/// Refuses with `States` if the runs come to more states than allowed, no two of them alike.
 pub fn sum_endings<S: Store>(
     rehearsal: &Rehearsal<'_>,
     store: &mut S,
@@ -90,6 +97,8 @@ pub fn sum_endings<S: Store>(
     requires bound { (task_in rehearsal.now).limits.device_bound < 2 ^ 32 }
     ensures rows { IfOk result (λ e. rows_shown e.rows ≡ map saturated (endings (task_in rehearsal.now))) }
     ensures states { IfOk result (λ e. e.states ≤ most_states) }
+    ensures met { IfOk result (λ e. HasStates (task_in rehearsal.now) e.states) }
+    ensures refused { IfErr result (λ e. e ≡ States → HasStates (task_in rehearsal.now) (most_states + 1)) }
     ensures once { IfOk result (λ e. (S.record_of store.new).begun ≤ (2 * e.states + 1) * most_steps) }
 {
     let stop = begin(rehearsal, store)?;

@@ -34,6 +34,8 @@ impl From<AllocError> for SumError {
 }
 
 impl<T: Drop> From<AllocFailed<T>> for SumError {
+    ghost from_gives = { λ _ e. e ≡ Memory };
+
     fn from(_: AllocFailed<T>) -> SumError {
         SumError::Memory
     }

@@ -39,8 +39,8 @@ pub(crate) struct Table {
 }
 
 impl Table {
-    ghost use Rattle.std.specs.Prelude.{IfErr, [], ◌+◌};
-    ghost use Rattle.rehearse_endings.specs.declared.sum_error.SumError.TheVariants.{States};
+    ghost use Rattle.std.specs.Prelude.{IfErr, OnErr, [], ◌+◌};
+    ghost use Rattle.rehearse_endings.specs.declared.sum_error.SumError.TheVariants.{Memory, States};
 
     /// A table without entries. It takes no memory.
     pub(crate) fn new(alloc: Global, most: u32) -> Table
@@ -63,6 +63,7 @@ impl Table {
         ensures visited { OnOk result (self.new.visited ≡ self.old.visited + 1) }
         ensures within { OnOk result (self.new.visited ≤ self.new.most) }
         ensures err { IfErr result (λ e. e ≡ States) }
+        ensures full { OnErr result (self.old.most ≤ self.old.visited) }
     {
         if self.visited >= self.most {
             return Err(SumError::States);
@@ -111,6 +112,7 @@ impl Table {
         devices: u32,
         summary: &Summary,
     ) -> Result<(), SumError>
+        ensures err { IfErr result (λ e. e ≡ Memory) }
         ensures kept { OnOk result (IsKept self.old.entries.items self.new.entries.items (core_shown core) steps devices (summary_shown summary.now)) }
         ensures visited { self.new.visited ≡ self.old.visited }
         ensures most { self.new.most ≡ self.old.most }
@@ -129,6 +131,7 @@ impl Table {
 
     /// Notes that an entry of a number stands at a place.
     fn note(&mut self, alloc: Global, hash: u64, place: usize) -> Result<(), SumError>
+        ensures err { IfErr result (λ e. e ≡ Memory) }
         ensures entries { self.new.entries.items ≡ self.old.entries.items }
         ensures visited { self.new.visited ≡ self.old.visited }
         ensures most { self.new.most ≡ self.old.most }

@@ -1,6 +1,8 @@
 //! How the runs of an environment's variable end, from the text of its device list to the lines.
-ghost use Rattle.std.specs.Prelude.{IfOk, IfErr, Some};
+ghost use Rattle.std.specs.Prelude.{◌≡◌, ◌+◌, IfOk, IfErr, Some};
 ghost use Rattle.rehearse_machine.specs.Tasks.{task_in, task_set};
+ghost use Rattle.rehearse_endings.specs.declared.sum_error.SumError.TheVariants.{States};
+ghost use Rattle.rehearse_endings.specs.States.{HasStates};
 ghost use Rattle.rehearse_endings.specs.TellingEndings.{AreLines, IsUntold, TellsEndings, RefusesEndings};
 
 use crate::lines::text_of;
@@ -41,7 +43,8 @@ pub enum EndingsError {
 
 /// The lines that tell how all runs of a rehearsal end.
 fn lines_of<S: Store>(rehearsal: &Rehearsal<'_>, most_states: u32) -> Result<Vec<u8>, SumError>
-    ensures { IfOk result (λ text. AreLines most_states (Some (task_in rehearsal.now)) text.items) }
+    ensures ok { IfOk result (λ text. AreLines most_states (Some (task_in rehearsal.now)) text.items) }
+    ensures err { IfErr result (λ e. e ≡ States → HasStates (task_in rehearsal.now) (most_states + 1)) }
 {
     let _bound = rehearsal.bounds.devices();
     let mut store = S::new(rehearsal.alloc);
@@ -58,7 +61,7 @@ fn lines_in<S: Store>(
     ask: &EndingsAsk<'_>,
 ) -> Result<Vec<u8>, EndingsError>
     ensures ok { IfOk result (λ text. AreLines ask.now.states (task_set env.now devices.now ask.now.name.now ask.now.bounds) text.items) }
-    ensures err { IfErr result (λ e. IsUntold (task_set env.now devices.now ask.now.name.now ask.now.bounds) e) }
+    ensures err { IfErr result (λ e. IsUntold ask.now.states (task_set env.now devices.now ask.now.name.now ask.now.bounds) e) }
 {
     if env.get(ask.name).is_none() {
         return Err(EndingsError::NoSuchVariable);

@@ -1,3 +1,7 @@
+use Rattle.std.proofs.Common.{ℕ, ◌+◌, [], ap, subst, ◌∙◌, Err}
+use Rattle.std.proofs.lemmas.Result.{err_from_is_err_and}
+use Rattle.rehearse_endings.specs.States.{HasStates}
+use Rattle.rehearse_endings.proofs.Entering.{first_entered, first_new, whole_states, refused_as}
 use Rattle.rehearse_machine.specs.Tasks.{task_in}
 use Rattle.rehearse_endings.specs.RowsShown.{summary_shown}
 use Rattle.rehearse_endings.proofs.Reached.{reached_first, no_entries, whole_rows}
@@ -8,3 +12,18 @@ summed-requires-clause-reached g c = reached_first (task_in c.args.rehearsal.now
 
 pub returns-clause-rows : goal.returns-clause-rows
 returns-clause-rows g c = whole_rows (task_in c.args.rehearsal.now) c.in_ok-stop.stop (g.S.Store.record_of c.begin.new.store).present (summary_shown c.in_ok-summary.summary) c.in_ok-stop.ensures.stops c.in_ok-summary.ensures.sums
+
+pub returns-clause-met : goal.returns-clause-met
+returns-clause-met g c =
+    let task = task_in c.args.rehearsal.now in
+    let m = (g.S.Store.record_of c.begin.new.store).present in
+    let first = first_entered task c.new-table.result c.new-table.ensures.entries c.new-table.ensures.visited in
+    whole_states task c.summed.new.table (c.in_ok-summary.ensures.entered [] [] [] c.in_ok-stop.ensures.stops first_new first)
+
+pub returns-in_err-summary-clause-refused : goal.returns-in_err-summary-clause-refused
+returns-in_err-summary-clause-refused g c =
+    let task = task_in c.args.rehearsal.now in
+    let first = first_entered task c.new-table.result c.new-table.ensures.entries c.new-table.ensures.visited in
+    let error = err_from_is_err_and c.from_residual-in_err-summary.result c.from_residual-in_err-summary.ensures.1 in
+    refused_as task (c.args.most_states + 1) c.from_residual-in_err-summary.result c.in_err-summary.field-0.0 (error.1 ∙ ap Err error.2)
+    (λ is. subst (λ (n : ℕ). HasStates task (n + 1)) c.new-table.ensures.most (c.in_err-summary.ensures.refused [] [] [] c.in_ok-stop.ensures.stops first_new first is))
