@@ -1,12 +1,11 @@
 -- How all runs of an image's variable end, from the bytes of an image to the lines, and why that is refused. The order of
 -- the refusals is that of a rehearsal, and nothing is written before the lines. Ours.
-use Rattle.std.specs.Prelude.{◌≡◌, ℕ, List, [], Option, Some, None, Err}
+use Rattle.std.specs.Prelude.{◌≡◌, ℕ, List, [], Option, None, Err}
 use Rattle.envimage.specs.Sink.{Sink, Wrote, BrokeOff}
 use Rattle.envimage.specs.declared.image.ByteOrder.{ByteOrder}
 use Rattle.rehearse.specs.DeviceList.{listed}
-use Rattle.rehearse.specs.Runs.{Task}
 use Rattle.rehearse.specs.State.{Text}
-use Rattle.rehearse_endings.specs.TellingEndings.{AreLines}
+use Rattle.rehearse_endings.specs.TellingEndings.{AreLines, HasMoreStates}
 use Rattle.rehearse_endings.specs.declared.telling.EndingsAsk.{EndingsAsk}
 use Rattle.ubtool_core.specs.Given.{Given}
 use Rattle.ubtool_core.specs.PrintingImages.{environment_in}
@@ -41,7 +40,7 @@ RefusesEndings g states old new (Image fault) = (environment_in g.order g.first 
 RefusesEndings g states old new (Devices fault) = HasImage g × (listed g.device_list ≡ Err fault) × (new ≡ old)
 RefusesEndings g states old new NoSuchVariable = HasDevices g (λ found. found ≡ None) × (new ≡ old)
 RefusesEndings g states old new States =
-    HasDevices g (λ found. (task : Task) × (found ≡ Some task)) × (new ≡ old)
+    HasDevices g (HasMoreStates states) × (new ≡ old)
 RefusesEndings g states old new Write = BreaksOff g states old new
 RefusesEndings g states old new Memory = HasImage g × (new ≡ old)
 RefusesEndings g states old new _ = ⊥
