@@ -2,8 +2,8 @@
 # growth_program.sh PROGRAM: runs the built program ubtool once for each growth of memory that it makes, with that one
 # growth refused, for each of its commands. It does its work with status 0, or tells the line `ubtool: out of memory`
 # alone: with status 2 and no output until the words are read, then with status 1 and a front of the output, of a
-# listing whole records, behind which it goes on. Where it refused, the image stands as it was, else it is the wanted
-# one; and nothing is written before the last read.
+# listing whole records, behind which it goes on, of endings nothing. Where it refused, the image stands as it was, else
+# it is the wanted one; and nothing is written before the last read.
 set -eu
 
 program=$(realpath "$1")
@@ -63,6 +63,7 @@ each_growth() {
             head -c "$(wc -c < output)" ample | cmp -s - output ||
                 { echo "$*, growth $number: no front of the output"; exit 1; }
             [ "${1:-}" != rehearse ] || goes_on "$@"
+            [ "${1:-}" != endings ] || [ ! -s output ] || { echo "$*, growth $number: an output"; exit 1; }
             before=$status
         fi
         number=$((number + 1))
@@ -83,6 +84,8 @@ begin() {
 }
 begin rehearse -c fw_env.config -d devices.txt
 begin rehearse -c fw_env.config -d devices.txt a v
+begin endings -c fw_env.config -d devices.txt
+begin endings -c fw_env.config -d devices.txt --devices 5 --steps 40
 begin
 begin printenv -c fw_env.config
 begin printenv -c fw_env.config t bootcmd t

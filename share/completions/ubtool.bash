@@ -48,13 +48,17 @@ _ubtool() {
     COMPREPLY=()
     case $last-${line[1]} in
         1-*)
-            mapfile -t COMPREPLY < <(compgen -W 'printenv setenv rehearse -h --help -V --version' -- "$word")
+            mapfile -t COMPREPLY < <(compgen -W 'printenv setenv rehearse endings -h --help -V --version' -- "$word")
             return
             ;;
         *-printenv) options='-c --config --big-endian -n --noheader -h --help -V --version' ;;
         *-setenv) options='-c --config --big-endian -s --script -h --help -V --version' ;;
         *-rehearse)
             options='-c --config --big-endian -d --device-list -b --variable --devices --steps --after --limit'
+            options+=' -h --help -V --version'
+            ;;
+        *-endings)
+            options='-c --config --big-endian -d --device-list -b --variable --devices --steps --states'
             options+=' -h --help -V --version'
             ;;
         *) return ;;
@@ -68,10 +72,14 @@ _ubtool() {
             mapfile -t COMPREPLY < <(compgen -f -- "$word")
             return
             ;;
-        --devices | --steps | --after | --limit) return ;;
+        --devices | --steps | --after | --limit | --states) return ;;
     esac
     if [[ $word == -* && -n $options ]]; then
         words=$options
+    elif [ "${line[1]}" = endings ]; then
+        case ${options:+${line[last - 1]}} in
+            -b | --variable) words=$(_ubtool_names "$1") ;;
+        esac
     elif [ "${line[1]}" != setenv ] || _ubtool_first; then
         words=$(_ubtool_names "$1")
     fi

@@ -43,20 +43,24 @@ complete -c ubtool -s V -l version -d 'Print version'
 complete -c ubtool -n __fish_use_subcommand -a printenv -d 'Print variables of the environment'
 complete -c ubtool -n __fish_use_subcommand -a setenv -d 'Set or delete variables of the environment'
 complete -c ubtool -n __fish_use_subcommand -a rehearse -d 'List every run of a boot script'
+complete -c ubtool -n __fish_use_subcommand -a endings -d 'Tell how all runs of a boot script end'
 
-set -l any '__fish_seen_subcommand_from printenv setenv rehearse'
+set -l any '__fish_seen_subcommand_from printenv setenv rehearse endings'
 complete -c ubtool -n $any -s c -l config -r -F -d 'Configuration'
 complete -c ubtool -n $any -l big-endian -d 'The CRC is stored big-endian'
 complete -c ubtool -n '__fish_seen_subcommand_from printenv' -s n -l noheader -d 'Print the value alone'
 complete -c ubtool -n '__fish_seen_subcommand_from setenv' -s s -l script -r -F -d 'Script of changes'
 
+set -l runs '__fish_seen_subcommand_from rehearse endings'
+complete -c ubtool -n $runs -s d -l device-list -r -F -d 'Device list'
+complete -c ubtool -n $runs -s b -l variable -x -a '(__ubtool_names)' -d 'Variable whose text is run'
+complete -c ubtool -n $runs -l devices -x -d 'At most so many device commands a run'
+complete -c ubtool -n $runs -l steps -x -d 'At most so many steps a run'
+
 set -l rehearse '__fish_seen_subcommand_from rehearse'
-complete -c ubtool -n $rehearse -s d -l device-list -r -F -d 'Device list'
-complete -c ubtool -n $rehearse -s b -l variable -x -a '(__ubtool_names)' -d 'Variable whose text is run'
-complete -c ubtool -n $rehearse -l devices -x -d 'At most so many device commands a run'
-complete -c ubtool -n $rehearse -l steps -x -d 'At most so many steps a run'
 complete -c ubtool -n $rehearse -l after -x -d 'Begin after the run of a word'
 complete -c ubtool -n $rehearse -l limit -x -d 'At most so many records'
+complete -c ubtool -n '__fish_seen_subcommand_from endings' -l states -x -d 'At most so many states'
 
 complete -c ubtool -n '__fish_seen_subcommand_from printenv rehearse' -a '(__ubtool_names)' -d Variable
 complete -c ubtool -n __ubtool_setenv_first -a '(__ubtool_names)' -d Variable

@@ -16,17 +16,24 @@ _ubtool_names() {
 _ubtool() {
     local curcontext=$curcontext state line
     local -A opt_args
-    local -a common commands
+    local -a common runs commands
     common=(
         '(-c --config)'{-c,--config}'[configuration]:configuration:_files'
         '--big-endian[the CRC is stored big-endian]'
         '(- *)'{-h,--help}'[print help]'
         '(- *)'{-V,--version}'[print version]'
     )
+    runs=(
+        '(-d --device-list)'{-d,--device-list}'[device list]:device list:_files'
+        '(-b --variable)'{-b,--variable}'[variable whose text is run]: :_ubtool_names'
+        '--devices[at most so many device commands a run]:number: '
+        '--steps[at most so many steps a run]:number: '
+    )
     commands=(
         'printenv:print variables of the environment'
         'setenv:set or delete variables of the environment'
         'rehearse:list every run of a boot script'
+        'endings:tell how all runs of a boot script end'
     )
     _arguments -C '(- *)'{-h,--help}'[print help]' '(- *)'{-V,--version}'[print version]' \
         '1: :->command' '*:: :->words' && return
@@ -44,14 +51,13 @@ _ubtool() {
                         '1: :_ubtool_names' '*:value: '
                     ;;
                 rehearse)
-                    _arguments -S $common \
-                        '(-d --device-list)'{-d,--device-list}'[device list]:device list:_files' \
-                        '(-b --variable)'{-b,--variable}'[variable whose text is run]: :_ubtool_names' \
-                        '--devices[at most so many device commands a run]:number: ' \
-                        '--steps[at most so many steps a run]:number: ' \
+                    _arguments -S $common $runs \
                         '--after[begin after the run of a word]:word: ' \
                         '--limit[at most so many records]:number: ' \
                         '*: :_ubtool_names'
+                    ;;
+                endings)
+                    _arguments -S $common $runs '--states[at most so many states]:number: '
                     ;;
             esac
             ;;
