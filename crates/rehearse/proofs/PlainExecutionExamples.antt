@@ -83,6 +83,11 @@ cut_steps : plain_listed (among load 2 1 [] (codes "load; load")) z ≡ codes "r
 unfolding plain_listed
 cut_steps = refl
 
+-- an assignment is a step too
+assigned : plain_listed (among load 2 1 [] (codes "x=1; load")) z ≡ codes "run .\nunset z\ncut steps\ndone\n"
+unfolding plain_listed
+assigned = refl
+
 -- ---- the tree
 
 -- what is skipped leaves the status
@@ -114,6 +119,11 @@ each_field = refl
 variables : plain_listed (with_load (codes "x=a; load $x; setenv z b")) z ≡ codes "run 0\ndev 0 load a\nvar z=b\nend 0\nrun 1\ndev 1 load a\nvar z=b\nend 0\ndone\n"
 unfolding plain_listed
 variables = refl
+
+-- without a field no body is run, and the status is 0
+no_field : plain_listed (with_load (codes "false; for i in; do load; done; echo $?")) z ≡ codes "run .\ntext 0\\n\nunset z\nend 0\ndone\n"
+unfolding plain_listed
+no_field = refl
 
 -- ---- texts that `run` starts
 
