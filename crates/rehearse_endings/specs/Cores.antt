@@ -18,7 +18,7 @@ pairs_shown pairs = map (λ p. (p.0.items, p.1.items)) pairs
 
 abbrev pub core_shown : Core → CoreShown
 core_shown c = record {
-  environment = pairs_shown c.environment.items;
+  environment = pairs_shown c.environment.value.items;
   locals = pairs_shown c.locals.items;
   status = c.status;
   frames = reverse c.frames.items;
