@@ -1,5 +1,5 @@
 -- The states that the search enters: by the outcomes that lead to them no two are alike.
-use Rattle.std.proofs.Common.{ℕ, zero, suc, ◌+◌, ◌≤◌, ◌<◌, List, [], ◌∷◌, ◌++◌, length, refl, sym, ap, subst, ◌∙◌, ◌≡◌, ◌≢◌, arith, append_assoc, append-nil, length-append}
+use Rattle.std.proofs.Common.{ℕ, ◌+◌, ◌≤◌, ◌<◌, List, [], ◌∷◌, ◌++◌, length, sym, ap, subst, ◌∙◌, ◌≡◌, arith, append_assoc, append-nil, length-append}
 use Rattle.std.specs.Prelude.{Result, Err, IfErr}
 use Rattle.std.specs.List.{AllByRecursion}
 use Rattle.bootstore.specs.Moment.{Moment}
@@ -14,7 +14,6 @@ use Rattle.rehearse_endings.specs.Summaries.{Summary}
 use Rattle.rehearse_endings.specs.declared.sum_error.SumError.{SumError}
 use Rattle.rehearse_endings.specs.declared.sum_error.SumError.TheVariants.{States}
 use Rattle.rehearse_endings.specs.declared.table.Table.{Table}
-use Rattle.rehearse_endings.specs.declared.table.Entry.{Entry}
 
 -- ---- lists
 

@@ -1,13 +1,11 @@
-use Rattle.std.proofs.Common.{ℕ, arith, ap, sym, subst, ◌∙◌, ◌+◌, ◌<◌, ◌≡◌, [], ◌∷◌, ◌++◌}
+use Rattle.std.proofs.Common.{ℕ, arith, ap, sym, subst, ◌∙◌, ◌+◌, [], ◌∷◌, ◌++◌}
 use Rattle.rehearse.specs.Outcomes.{Success, Failure}
 use Rattle.rehearse_machine.specs.Tasks.{task_in}
-use Rattle.rehearse_machine.specs.Machine.{Stops, asked_at}
-use Rattle.rehearse_machine.specs.EndingsShown.{halt_shown}
 use Rattle.rehearse_machine.specs.declared.rehearsal.Stop.{Stop}
-use Rattle.rehearse_machine.specs.declared.rehearsal.Stop.TheVariants.{Asks, Ends}
+use Rattle.rehearse_machine.specs.declared.rehearsal.Stop.TheVariants.{Asks}
 use Rattle.rehearse_endings.specs.Cores.{core_shown}
 use Rattle.rehearse_endings.specs.RowsShown.{summary_shown, Summed}
-use Rattle.rehearse_endings.specs.Searching.{future, AreEntries, IsReached}
+use Rattle.rehearse_endings.specs.Searching.{future, AreEntries}
 use Rattle.rehearse_endings.specs.States.{HasStates}
 use Rattle.rehearse_runs.proofs.SearchLemmas.{stopped_on}
 use Rattle.std.proofs.Common.{Err}
