@@ -248,7 +248,7 @@ none_there limits n d l = absurd (omega arith)
 
 -- ---- the whole
 
-kind_settled : (a : Answer) → came_kind (settled a) ≡ kind_of a
+pub kind_settled : (a : Answer) → came_kind (settled a) ≡ kind_of a
 kind_settled (Normal s) = refl
 kind_settled (Exit s) = refl
 kind_settled (Ended ending s) = refl
