@@ -1,7 +1,7 @@
 -- A script comes to the same elsewhere, as far as the bounds allow.
-use Rattle.std.proofs.Common.{ℕ, zero, suc, Bool, true, false, cond, List, [], ◌∷◌, ◌++◌, length, Option, Some, None, refl, sym, ap, subst, ◌∙◌, ◌≡◌, ◌<◌, ◌≤◌, inl, inr, length-append, arith, ◌+◌, nat_lt, nat_le, nat_eq, bytes_eq, codes, ltb-true, ltb-false}
+use Rattle.std.proofs.Common.{ℕ, zero, suc, Bool, true, false, cond, List, [], ◌∷◌, ◌++◌, length, Option, Some, None, refl, sym, subst, ◌≡◌, ◌<◌, ◌≤◌, inl, inr, length-append, arith, ◌+◌, nat_lt, nat_le, nat_eq, bytes_eq, codes, ltb-true, ltb-false}
 use Rattle.bootstore.specs.Moment.{LoggedCommand}
-use Rattle.rehearse.specs.Outcomes.{OutcomeWord, Outcome, Success, Failure}
+use Rattle.rehearse.specs.Outcomes.{OutcomeWord, Success, Failure}
 use Rattle.hushlang.specs.Tree as tree
 use Rattle.hushlang.specs.Tree.{Script, AndOr, Joined, Command, Arms}
 use Rattle.rehearse.specs.State.{Text, get, Memory, State, parameters_in, with_value, without}
@@ -12,10 +12,10 @@ use Rattle.rehearse.specs.Trees.{tree_of}
 use Rattle.rehearse.specs.Verdict.{verdict}
 use Rattle.rehearse.specs.Builtins.{SetEnv, Run as RunTexts, Test, Echo, True, False, Leave}
 use Rattle.rehearse.specs.Commands.{Called, BuiltIn, Device, NoCommand, called_by, asks_device, setenv, echo, exit_status, is_bad_name}
-use Rattle.rehearse.specs.Execution.{Limits, Answer, Normal, Exit, Ended, Dry, Ending, CutDevices, CutSteps, Unknown, Syntax, Size, go_on, remember, set_status, set_local, status_when, goes, holds, begin, take_outcome, device, Request, no_effect, logged, set_environment, boot, text_end, run_text, run_all, command, simple, sized, assign, turns, for_each, exec_script, exec_list, exec_joined, exec_command, exec_arms, exec, succeeds}
+use Rattle.rehearse.specs.Execution.{Limits, Answer, Normal, Exit, Ended, Dry, Ending, CutDevices, CutSteps, Unknown, Syntax, Size, go_on, remember, set_status, set_local, status_when, goes, holds, begin, take_outcome, device, Request, no_effect, logged, set_environment, boot, text_end, run_text, run_all, command, simple, sized, assign, turns, for_each, exec_script, exec_list, exec_joined, exec_command, exec_arms, exec}
 use Rattle.rehearse.specs.Runs.{state_of}
-use Rattle.rehearse.proofs.Keeping.{GoesTo, Track, Track-of, Keeps, KeepsAll, Keeps-script, Keeps-joined, Keeps-list, Keeps-one, Keeps-arms, Keeps-exec, Keeps-run, Keeps-turns, Keeps-for, Keeps-if, Keeps-stays, after_condition, Keeps-after_condition, Keeps-text, Keeps-take, Keeps-ended, Keeps-simple, Keeps-sized, Keeps-assign}
-use Rattle.rehearse_endings.specs.Elsewhere.{elsewhere, devices_of, AreApart, IsElsewhere, IsSame, IsCutBy, IsCutHere, IsBeyond, IsAlike, same, cut_here, beyond, Alike}
+use Rattle.rehearse.proofs.Keeping.{Track-of, KeepsAll, Keeps-script, Keeps-joined, Keeps-arms, Keeps-exec, Keeps-run, Keeps-turns, Keeps-for, Keeps-if, Keeps-stays, after_condition, Keeps-after_condition, Keeps-ended, Keeps-simple, Keeps-sized, Keeps-assign}
+use Rattle.rehearse_endings.specs.Elsewhere.{elsewhere, devices_of, AreApart, IsBeyond, IsAlike, same, cut_here, beyond, Alike}
 
 -- a change of memory that leaves all but the text alone elsewhere
 abbrev pub Reaches : (Memory → Memory) → Memory → Type 0

@@ -1,11 +1,14 @@
 -- The states that the search enters: by the outcomes that lead to them no two are alike.
-use Rattle.std.proofs.Common.{ℕ, zero, suc, ◌+◌, ◌≤◌, ◌<◌, List, [], ◌∷◌, ◌++◌, length, refl, sym, ap, subst, ◌∙◌, ◌≡◌, ◌≢◌, arith, append_assoc, append-nil, length-append}
+use Rattle.std.proofs.Common.{ℕ, ◌+◌, ◌≤◌, ◌<◌, List, [], ◌∷◌, ◌++◌, length, sym, ap, subst, ◌∙◌, ◌≡◌, arith, append_assoc, append-nil, length-append}
 use Rattle.std.specs.Prelude.{Result, Err, IfErr}
 use Rattle.std.specs.List.{AllByRecursion}
 use Rattle.bootstore.specs.Moment.{Moment}
 use Rattle.rehearse.specs.Outcomes.{OutcomeWord, Outcome, Success, Failure}
-use Rattle.rehearse.specs.Runs.{Task}
+use Rattle.rehearse.specs.Runs.{Task, kind, run_on}
 use Rattle.rehearse_machine.specs.declared.rehearsal.Stop.{Stop}
+use Rattle.rehearse_machine.specs.declared.rehearsal.Stop.TheVariants.{Asks}
+use Rattle.rehearse_endings.specs.Futures.{came_kind}
+use Rattle.rehearse_endings.proofs.Reached.{kind_settled}
 use Rattle.rehearse_runs.specs.Searching.{StoppedAt}
 use Rattle.rehearse_endings.specs.States.{Asked, IsMet, IsUnlike, NoTwoAlike, HasStates, Entered, BeginsWith, IsNewAt, HasEntered}
 use Rattle.rehearse_endings.specs.Searching.{IsKept}
@@ -14,7 +17,6 @@ use Rattle.rehearse_endings.specs.Summaries.{Summary}
 use Rattle.rehearse_endings.specs.declared.sum_error.SumError.{SumError}
 use Rattle.rehearse_endings.specs.declared.sum_error.SumError.TheVariants.{States}
 use Rattle.rehearse_endings.specs.declared.table.Table.{Table}
-use Rattle.rehearse_endings.specs.declared.table.Entry.{Entry}
 
 -- ---- lists
 
@@ -86,15 +88,18 @@ new_lost p m kept further pending h k =
 pub met_as : (task : Task) (p : OutcomeWord) (stop other : Stop) (m : Moment) → stop ≡ other → StoppedAt task p stop m → StoppedAt task p other m
 met_as task p stop other m e h = subst (λ (x : Stop). StoppedAt task p x m) e h
 
+is_met : (task : Task) (p : OutcomeWord) (m : Moment) → StoppedAt task p Asks m → IsMet task (p, m)
+is_met task p m at = (ap (kind task) (sym (append-nil p)) ∙ sym (kind_settled (run_on task (p ++ []))) ∙ ap came_kind at.2, at)
+
 kept_unlike : (p : OutcomeWord) (m : Moment) (kept : List Asked) → AllByRecursion (λ s. BeginsWith p s.0 → ⊥) kept → AllByRecursion (λ s. IsUnlike s (p, m)) kept
 kept_unlike p m kept h = all_as (λ s. BeginsWith p s.0 → ⊥) (λ s. IsUnlike s (p, m)) kept (λ s k e. k ([], e ∙ sym (append-nil p))) h
 
 pending_unlike : (p : OutcomeWord) (m : Moment) (pending : List Asked) → AllByRecursion (λ s. length s.0 < length p) pending → AllByRecursion (IsUnlike (p, m)) pending
 pending_unlike p m pending h = all_as (λ s. length s.0 < length p) (IsUnlike (p, m)) pending (λ s l e. let a = ap length e in absurd (omega arith)) h
 
-module _ (task : Task) (p : OutcomeWord) (m : Moment) (kept pending : List Asked) (met : IsMet task (p, m)) (new_at : IsNewAt p kept pending) (old : Table) (entered : Entered task kept pending old) where
+module _ (task : Task) (p : OutcomeWord) (m : Moment) (kept pending : List Asked) (at : StoppedAt task p Asks m) (new_at : IsNewAt p kept pending) (old : Table) (entered : Entered task kept pending old) where
   all_met : AllByRecursion (IsMet task) (kept ++ (p, m) ∷ pending)
-  all_met = all_insert (IsMet task) kept pending (p, m) entered.met met
+  all_met = all_insert (IsMet task) kept pending (p, m) entered.met (is_met task p m at)
 
   no_two_alike : NoTwoAlike (kept ++ (p, m) ∷ pending)
   no_two_alike = unlike_insert kept pending (p, m) entered.unlike (kept_unlike p m kept new_at.fresh) (pending_unlike p m pending new_at.before)

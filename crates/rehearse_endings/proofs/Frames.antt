@@ -1,13 +1,13 @@
 -- What frames make of answers that are alike is alike.
-use Rattle.std.proofs.Common.{ℕ, zero, suc, Bool, true, false, List, [], ◌∷◌, length, Option, Some, None, refl, sym, ap, subst, ◌∙◌, ◌≡◌, ◌<◌, ◌≤◌, inl, inr, arith, ◌+◌, nat_eq}
-use Rattle.hushlang.specs.Tree.{Script, Joined, Command, Arms}
-use Rattle.rehearse.specs.State.{Text, State}
-use Rattle.rehearse.specs.Execution.{Limits, Answer, Normal, Exit, Ended, Dry, Ending, go_on, set_status, holds, text_end, run_all, turns, for_each, exec_script, exec_joined, exec_arms, exec}
-use Rattle.rehearse.proofs.Keeping.{KeepsAll, Keeps-script, Keeps-joined, Keeps-arms, Keeps-exec, Keeps-run, Keeps-turns, Keeps-for, Keeps-if, Keeps-stays, after_condition, Keeps-after_condition}
-use Rattle.rehearse_machine.specs.Came.{Came, Over, Wants, settled}
+use Rattle.std.proofs.Common.{ℕ, Bool, true, false, List, [], ◌∷◌, refl, sym, subst, arith, nat_eq}
+use Rattle.hushlang.specs.Tree.{Script}
+use Rattle.rehearse.specs.State.{State}
+use Rattle.rehearse.specs.Execution.{Limits, Answer, Normal, Exit, Ended, Dry, run_all, for_each}
+use Rattle.rehearse.proofs.Keeping.{KeepsAll, Keeps-script, Keeps-joined, Keeps-arms, Keeps-exec, Keeps-run, Keeps-turns, Keeps-for, Keeps-if, after_condition, Keeps-after_condition}
+use Rattle.rehearse_machine.specs.Came.{settled}
 use Rattle.rehearse_machine.specs.Frames.{Frame, Lists, Linked, IfCondition, LoopCondition, LoopBody, ForBody, RunNames, RunText}
 use Rattle.rehearse_machine.specs.Meaning.{first_or_next, full, script, joined_of, arms_of, again, resume, continue}
-use Rattle.rehearse_endings.specs.Elsewhere.{elsewhere, IsAlike, same, cut_here, beyond}
+use Rattle.rehearse_endings.specs.Elsewhere.{IsAlike, same, cut_here, beyond}
 use Rattle.rehearse_endings.specs.Futures as futures
 use Rattle.rehearse_endings.specs.Futures.{CameAlike}
 use Rattle.rehearse_endings.proofs.Alike.{AlwaysDoes, go_on_alike, normal_later, text_end_alike, Alike-if, Alike-script, Alike-joined, Alike-arms, Alike-exec, Alike-run, Alike-turns, Alike-for, Alike-after}

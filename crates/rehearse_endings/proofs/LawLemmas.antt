@@ -1,9 +1,9 @@
 -- Laws of the rows of endings.
-use Rattle.std.proofs.Common.{◌≡◌, ◌≢◌, Bool, true, false, ◌||◌, List, [], ◌∷◌, ◌++◌, map, refl, sym, ap, subst, ◌∙◌, append_assoc}
+use Rattle.std.proofs.Common.{◌≡◌, ◌≢◌, true, false, List, [], ◌∷◌, ◌++◌, map, ap, subst, ◌∙◌, append_assoc}
 use Rattle.std.specs.List.{list_any}
 use Rattle.rehearse.specs.Execution.{Ending}
 use Rattle.rehearse.specs.Runs.{Task, runs}
-use Rattle.rehearse_endings.specs.Endings.{Row, ending_eq, with_row, merge, one_run, gather, ending, endings}
+use Rattle.rehearse_endings.specs.Endings.{Row, ending_eq, with_row, merge, one_run, ending, endings}
 use Rattle.rehearse_endings.proofs.Gathering.{AreApart, Misses, apart_on, either_left, either_right, ending_itself}
 
 -- ---- no ending stands twice

@@ -1,5 +1,5 @@
 -- The lines of endings: counts that are too great, and the number of all runs.
-use Rattle.std.proofs.Common.{ℕ, zero, suc, ◌+◌, ◌<◌, ◌≤◌, min, Bool, true, false, List, [], ◌∷◌, ◌++◌, map, flat_map, length, reverse, refl, sym, ap, ◌∙◌, ◌≡◌, nat_lt, codes, decimal, if◌then◌else◌, arith}
+use Rattle.std.proofs.Common.{ℕ, ◌+◌, ◌<◌, min, Bool, true, false, List, [], ◌∷◌, ◌++◌, map, flat_map, length, reverse, refl, sym, ap, ◌∙◌, ◌≡◌, nat_lt, codes, decimal, if◌then◌else◌, arith}
 use Rattle.std.proofs.lemmas.Bool.{ltb-true, ltb-false}
 use Rattle.std.proofs.lemmas.List.{length-map, length-reverse, map-append, reverse-append}
 use Rattle.rehearse.specs.State.{Text}
@@ -8,7 +8,7 @@ use Rattle.rehearse.specs.Outcomes.{OutcomeWord, Outcome}
 use Rattle.rehearse_machine.specs.Machine.{outcome_when}
 use Rattle.rehearse.specs.Execution.{Ending}
 use Rattle.rehearse.specs.Runs.{Task, runs}
-use Rattle.rehearse_endings.specs.Endings.{Row, ending_eq, failures, joined, with_row, merge, one_run, gather, ending, endings}
+use Rattle.rehearse_endings.specs.Endings.{Row, ending_eq, failures, joined, with_row, merge, one_run, ending, endings}
 use Rattle.rehearse_endings.specs.RowsShown.{most_runs, saturated}
 use Rattle.rehearse_endings.specs.Lines.{count_text, row_text, all_text, endings_text, counted}
 

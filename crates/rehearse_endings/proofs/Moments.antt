@@ -1,5 +1,5 @@
 -- Where a device command asks at two moments of one core, the same is to come, as far as the bounds allow.
-use Rattle.std.proofs.Common.{ℕ, Bool, true, false, List, [], ◌∷◌, length, Option, Some, None, refl, sym, ap, subst, ◌∙◌, ◌≡◌, arith, ◌+◌, nat_lt, nat_le}
+use Rattle.std.proofs.Common.{ℕ, Bool, true, false, List, [], ◌∷◌, length, Option, Some, None, refl, sym, ap, subst, ◌∙◌, ◌≡◌, arith, nat_lt, nat_le}
 use Rattle.std.specs.FinMap.{entries}
 use Rattle.hushlang.specs.Tree as tree
 use Rattle.hushlang.specs.Tree.{Script}
@@ -13,7 +13,7 @@ use Rattle.rehearse.specs.Commands.{Called, BuiltIn, NoCommand, Device, called_b
 use Rattle.rehearse.specs.Execution.{Limits, CutDevices, Size, Request, no_effect, set_status, status_when, take_outcome}
 use Rattle.rehearse_machine.specs.Came.{Came}
 use Rattle.rehearse_machine.specs.Meaning.{continue, comes_to}
-use Rattle.rehearse_machine.specs.Places.{PlaceNext, GoOn, AskOn, StopOn, next_of, frames_of, left, to_run, place_exit, place_fitting, place_ask, place_called, place_fields}
+use Rattle.rehearse_machine.specs.Places.{PlaceNext, GoOn, AskOn, StopOn, next_of, frames_of, left, to_run, place_exit, place_ask, place_called, place_fields}
 use Rattle.rehearse_machine.specs.AskingCommand.{words_in_front, fields_again, found_again}
 use Rattle.rehearse_machine.specs.Machine.{Asking, IsAsking, asked_at}
 use Rattle.rehearse_endings.specs.Elsewhere.{elsewhere}

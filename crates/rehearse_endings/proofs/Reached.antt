@@ -1,18 +1,18 @@
 -- The search over the states in which device commands ask.
-use Rattle.std.proofs.Common.{ℕ, zero, suc, get_or, ◌+◌, ◌*◌, ◌≤◌, ◌<◌, max, Bool, true, false, List, [], ◌∷◌, ◌++◌, map, length, Option, Some, None, refl, sym, ap, subst, ◌∙◌, ◌≡◌, arith, append-nil, length-append}
+use Rattle.std.proofs.Common.{ℕ, zero, suc, get_or, ◌+◌, ◌*◌, ◌≤◌, ◌<◌, true, false, List, [], ◌∷◌, ◌++◌, map, length, Option, Some, None, refl, sym, ap, subst, ◌∙◌, ◌≡◌, arith, append-nil, length-append}
 use Rattle.std.proofs.lemmas.List.Elements.{All-append}
 use Rattle.std.proofs.lemmas.Bool.{ltb-true}
 use Rattle.std.specs.Prelude.{nat_lt}
 use Rattle.bootstore.specs.Record.{Record, most_steps, with_mark, gone_back, returned}
 use Rattle.rehearse_machine.specs.Machine.{outcome_when}
-use Rattle.bootstore.specs.Moment.{Moment, RunningFrame}
+use Rattle.bootstore.specs.Moment.{Moment}
 use Rattle.rehearse.specs.Outcomes.{OutcomeWord, Outcome, Success, Failure}
-use Rattle.rehearse.specs.State.{Variables, State, state_at, start}
+use Rattle.rehearse.specs.State.{State, state_at, start}
 use Rattle.rehearse.specs.Execution.{Limits, Answer, Normal, Exit, Ended, Dry, Ending}
 use Rattle.rehearse.specs.Runs.{Task, run_on, state_of, kind, kind_of, ending_of}
 use Rattle.rehearse.proofs.Keeping.{GoesTo, Track-of}
 use Rattle.rehearse.proofs.TaskChoices.{Keeps-run_on, task_chooses}
-use Rattle.rehearse_machine.specs.Came.{Came, Over, Wants, settled}
+use Rattle.rehearse_machine.specs.Came.{Came, Wants, settled}
 use Rattle.rehearse_machine.specs.EndingsShown.{halt_shown}
 use Rattle.rehearse_machine.specs.Machine.{Stops, IsAsking, asked_at}
 use Rattle.rehearse_machine.specs.declared.halt.Halt.{Halt}
@@ -21,7 +21,7 @@ use Rattle.rehearse_machine.specs.declared.rehearsal.Stop.TheVariants.{Asks, End
 use Rattle.rehearse_runs.specs.Searching.{StoppedAt}
 use Rattle.rehearse_runs.proofs.SearchLemmas.{asked_within, stopped_on}
 use Rattle.rehearse_endings.specs.Futures.{came_kind, came_ending, came_state, came_steps, came_devices, HaveSameCore}
-use Rattle.rehearse_endings.specs.Endings.{Row, HasRows, of_both, ending, endings}
+use Rattle.rehearse_endings.specs.Endings.{Row, HasRows, ending, endings}
 use Rattle.rehearse_endings.specs.Cores.{CoreShown, core_shown, core_of}
 use Rattle.rehearse_endings.specs.Summaries.{Summary, Sums, FitsIf, Fits, moved_by, moved_on, of_end, of_sides, summary_of_sides, summary_at_end}
 use Rattle.rehearse_endings.specs.RowsShown.{saturated, of_both_up, summary_shown, saturated_summary, Summed}
@@ -248,7 +248,7 @@ none_there limits n d l = absurd (omega arith)
 
 -- ---- the whole
 
-kind_settled : (a : Answer) → came_kind (settled a) ≡ kind_of a
+pub kind_settled : (a : Answer) → came_kind (settled a) ≡ kind_of a
 kind_settled (Normal s) = refl
 kind_settled (Exit s) = refl
 kind_settled (Ended ending s) = refl

@@ -1,13 +1,13 @@
 -- Which runs the words of rows are.
-use Rattle.std.proofs.Common.{◌≡◌, ℕ, ◌<◌, ◌≤◌, nat_le, Bool, true, false, cond, List, [], ◌∷◌, ◌++◌, map, refl, sym, ap, subst, ◌∙◌, append_assoc, append-nil, arith}
+use Rattle.std.proofs.Common.{◌≡◌, ◌<◌, ◌≤◌, nat_le, Bool, true, false, cond, List, [], ◌∷◌, ◌++◌, map, refl, sym, ap, subst, ◌∙◌, append_assoc, append-nil, arith}
 use Rattle.std.proofs.lemmas.Bool.{leb-true, leb-false}
 use Rattle.std.specs.List.{list_any}
 use Rattle.rehearse.specs.Outcomes.{OutcomeWord}
 use Rattle.rehearse.specs.Execution.{Ending}
 use Rattle.rehearse.specs.Runs.{Task, runs}
-use Rattle.rehearse_endings.specs.Endings.{Row, ending_eq, failures, fewer, joined, with_row, merge, one_run, ending, endings}
+use Rattle.rehearse_endings.specs.Endings.{Row, ending_eq, failures, joined, with_row, merge, one_run, ending, endings}
 use Rattle.rehearse_endings.specs.Laws.{Each, IsFirst, IsFewest}
-use Rattle.rehearse_endings.proofs.Gathering.{AreApart, Misses, Stands, row_if, apart_on, either_left, either_right, neither, ending_itself, ending_same, stands_on, stands_new}
+use Rattle.rehearse_endings.proofs.Gathering.{AreApart, Misses, row_if, apart_on, either_left, either_right, neither, ending_itself, ending_same, stands_on, stands_new}
 
 -- ---- each of some words
 

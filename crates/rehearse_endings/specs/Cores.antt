@@ -3,7 +3,7 @@ use Rattle.std.specs.Prelude.{ℕ, List, map, reverse, Vec}
 use Rattle.std.specs.FinMap.{entries}
 use Rattle.std.specs.declared.alloc.Global.{Global}
 use Rattle.bootstore.specs.Moment.{Moment, RunningFrame}
-use Rattle.rehearse.specs.State.{Text, Variables}
+use Rattle.rehearse.specs.State.{Variables}
 use Rattle.rehearse_endings.specs.declared.cores.Core.{Core}
 
 -- what the runs still to come of a state depend on, but for the room that the bounds leave
@@ -18,7 +18,7 @@ pairs_shown pairs = map (λ p. (p.0.items, p.1.items)) pairs
 
 abbrev pub core_shown : Core → CoreShown
 core_shown c = record {
-  environment = pairs_shown c.environment.items;
+  environment = pairs_shown c.environment.value.items;
   locals = pairs_shown c.locals.items;
   status = c.status;
   frames = reverse c.frames.items;

@@ -1,10 +1,10 @@
 -- What is to come where a device command asks, for every rest of the word. Ours.
-use Rattle.std.specs.Prelude.{◌≡◌, ℕ, suc, ◌+◌, ◌<◌, ◌≤◌, ◌⊎◌, List, length, Bool, true, false}
+use Rattle.std.specs.Prelude.{◌≡◌, ℕ, suc, ◌+◌, ◌<◌, ◌⊎◌, length}
 use Rattle.std.specs.FinMap.{entries}
 use Rattle.bootstore.specs.Moment.{Moment}
-use Rattle.rehearse.specs.Outcomes.{OutcomeWord, WordKind, Short}
+use Rattle.rehearse.specs.Outcomes.{WordKind, Short}
 use Rattle.rehearse.specs.State.{State}
-use Rattle.rehearse.specs.Execution.{Limits, Ending, End, CutDevices, CutSteps}
+use Rattle.rehearse.specs.Execution.{Limits, Ending, End}
 use Rattle.rehearse.specs.Runs.{taken_kind}
 use Rattle.rehearse_machine.specs.Came.{Came, Over, Wants}
 use Rattle.rehearse_endings.specs.Elsewhere.{IsCutBy}

@@ -1,5 +1,5 @@
 -- The lines that tell how runs end. Ours.
-use Rattle.std.specs.Prelude.{ℕ, ◌+◌, nat_lt, List, [], ◌∷◌, ◌++◌, map, flat_map, codes, decimal, if◌then◌else◌}
+use Rattle.std.specs.Prelude.{ℕ, ◌+◌, nat_lt, List, [], ◌∷◌, ◌++◌, flat_map, codes, decimal, if◌then◌else◌}
 use Rattle.rehearse.specs.State.{Text}
 use Rattle.rehearse.specs.Listing.{spelled, line, last_line}
 use Rattle.rehearse_endings.specs.Endings.{Row, failures}

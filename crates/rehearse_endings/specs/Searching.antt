@@ -5,7 +5,7 @@ use Rattle.rehearse.specs.Outcomes.{OutcomeWord}
 use Rattle.rehearse.specs.State.{state_at}
 use Rattle.rehearse.specs.Execution.{Limits}
 use Rattle.rehearse.specs.Runs.{Task}
-use Rattle.rehearse_machine.specs.Came.{Came, Over, Wants}
+use Rattle.rehearse_machine.specs.Came.{Came, Over}
 use Rattle.rehearse_machine.specs.EndingsShown.{halt_shown}
 use Rattle.rehearse_machine.specs.Machine.{IsAsking, asked_at}
 use Rattle.rehearse_machine.specs.declared.rehearsal.Stop.{Stop}
@@ -13,7 +13,7 @@ use Rattle.rehearse_machine.specs.declared.rehearsal.Stop.TheVariants.{Asks, End
 use Rattle.rehearse_runs.specs.Searching.{StoppedAt}
 use Rattle.rehearse_endings.specs.Cores.{CoreShown, core_shown, core_of}
 use Rattle.rehearse_endings.specs.Summaries.{Summary, Sums}
-use Rattle.rehearse_endings.specs.RowsShown.{summary_shown, saturated_summary, Summed}
+use Rattle.rehearse_endings.specs.RowsShown.{summary_shown, saturated_summary}
 use Rattle.rehearse_endings.specs.declared.table.Entry.{Entry}
 
 -- what is to come of a text that has stopped

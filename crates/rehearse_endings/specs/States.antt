@@ -2,8 +2,8 @@
 use Rattle.std.specs.Prelude.{◌≡◌, ◌≢◌, ℕ, ◌+◌, ◌<◌, List, [], ◌∷◌, ◌++◌, length}
 use Rattle.std.specs.List.{AllByRecursion}
 use Rattle.bootstore.specs.Moment.{Moment}
-use Rattle.rehearse.specs.Outcomes.{OutcomeWord}
-use Rattle.rehearse.specs.Runs.{Task}
+use Rattle.rehearse.specs.Outcomes.{OutcomeWord, Short}
+use Rattle.rehearse.specs.Runs.{Task, kind}
 use Rattle.rehearse_machine.specs.declared.rehearsal.Stop.TheVariants.{Asks}
 use Rattle.rehearse_runs.specs.Searching.{StoppedAt}
 use Rattle.rehearse_endings.specs.declared.table.Table.{Table}
@@ -12,9 +12,9 @@ use Rattle.rehearse_endings.specs.declared.table.Table.{Table}
 abbrev pub Asked : Type 0
 Asked = OutcomeWord × Moment
 
--- with these outcomes the text comes to this state, in which a device command asks
+-- a run that begins with these outcomes goes on: the text comes to this state, in which a device command asks
 abbrev pub IsMet : Task → Asked → Type 0
-IsMet task s = StoppedAt task s.0 Asks s.1
+IsMet task s = (kind task s.0 ≡ Short) × StoppedAt task s.0 Asks s.1
 
 -- other outcomes led to the one than to the other
 abbrev pub IsUnlike : Asked → Asked → Type 0

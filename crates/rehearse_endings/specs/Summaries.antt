@@ -2,7 +2,7 @@
 use Rattle.std.specs.Prelude.{◌≡◌, ℕ, suc, ◌+◌, ◌-◌, ◌≤◌, max, List, [], ◌∷◌, length, Bool, true, false, ◌||◌}
 use Rattle.bootstore.specs.Moment.{Moment}
 use Rattle.rehearse.specs.Outcomes.{OutcomeWord}
-use Rattle.rehearse.specs.Execution.{Limits, Ending, End, CutDevices, CutSteps, Unknown, Syntax, Size, Booted}
+use Rattle.rehearse.specs.Execution.{Limits, Ending, CutDevices, CutSteps}
 use Rattle.rehearse_machine.specs.Came.{Came}
 use Rattle.rehearse_endings.specs.Futures.{came_kind, came_ending, came_steps, came_devices, HaveSameCore}
 use Rattle.rehearse_endings.specs.Endings.{Row, HasRows, one_run, of_both}

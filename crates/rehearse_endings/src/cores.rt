@@ -2,21 +2,24 @@
 ghost use Rattle.std.specs.Prelude.{◌≡◌, IfOk, IsTrue};
 ghost use Rattle.rehearse_endings.specs.Cores.{core_shown, core_of, pairs_shown};
 
+use crate::environments::Environments;
 use crate::same::same_frame;
 use bootstore::{Frame, Store, StoreError, Variables};
 use std::alloc::Global;
+use std::rc::Rc;
 
-/// A copy of the variables, the status and the frames of a state, the innermost frame last.
+/// The variables, the status and the frames of a state, the innermost frame last. States share their environments;
+/// the rest is copied.
 #[derive(Drop)]
 pub struct Core {
-    pub environment: Vec<(Vec<u8>, Vec<u8>)>,
+    pub environment: Rc<Vec<(Vec<u8>, Vec<u8>)>>,
     pub locals: Vec<(Vec<u8>, Vec<u8>)>,
     pub status: u8,
     pub frames: Vec<Frame>,
 }
 
 /// A copy of variables.
-fn copy_pairs(
+pub(crate) fn copy_pairs(
     alloc: Global,
     variables: Variables<'_>,
 ) -> Result<Vec<(Vec<u8>, Vec<u8>)>, StoreError>
@@ -42,11 +45,15 @@ fn copy_frames(alloc: Global, frames: &[Frame]) -> Result<Vec<Frame>, StoreError
     Ok(copies)
 }
 
-/// A copy of the core of the present state of a store.
-pub(crate) fn take_core<S: Store>(alloc: Global, store: &S) -> Result<Core, StoreError>
+/// The core of the present state of a store. Its environment is shared with states that have the same.
+pub(crate) fn take_core<S: Store>(
+    alloc: Global,
+    environments: &mut Environments,
+    store: &S,
+) -> Result<Core, StoreError>
     ensures { IfOk result (λ core. core_shown core ≡ core_of (S.record_of store.now).present) }
 {
-    let environment = copy_pairs(alloc, store.variables())?;
+    let environment = environments.share(alloc, store)?;
     let locals = copy_pairs(alloc, store.shell_variables())?;
     let frames = copy_frames(alloc, store.frames())?;
     Ok(Core {
@@ -58,7 +65,7 @@ pub(crate) fn take_core<S: Store>(alloc: Global, store: &S) -> Result<Core, Stor
 }
 
 /// Whether variables are these.
-fn same_pairs(variables: Variables<'_>, pairs: &[(Vec<u8>, Vec<u8>)]) -> bool
+pub(crate) fn same_pairs(variables: Variables<'_>, pairs: &[(Vec<u8>, Vec<u8>)]) -> bool
     ensures { IsTrue result → pairs_shown pairs.now ≡ variables.entry }
 {
     let mut others = pairs;
@@ -100,6 +107,6 @@ pub(crate) fn has_core<S: Store>(store: &S, core: &Core) -> bool
 {
     core.status == store.get_status()
         && same_frames(&core.frames, store.frames())
-        && same_pairs(store.variables(), &core.environment)
+        && same_pairs(store.variables(), core.environment.as_slice())
         && same_pairs(store.shell_variables(), &core.locals)
 }

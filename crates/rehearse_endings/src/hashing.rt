@@ -42,10 +42,15 @@ fn mix_frames(hash: u64, frames: &[Frame]) -> u64 {
     mixed
 }
 
+/// The number of the environment of the present state of a store.
+pub(crate) fn hash_of_environment<S: Store>(store: &S) -> u64 {
+    mix_variables(SEED, store.variables())
+}
+
 /// The number of the present state of a store.
 pub(crate) fn hash_of<S: Store>(store: &S) -> u64 {
-    let status = mix(SEED, u64::from(store.get_status()));
-    let variables = mix_variables(status, store.variables());
-    let locals = mix_variables(variables, store.shell_variables());
+    let environment = hash_of_environment(store);
+    let status = mix(environment, u64::from(store.get_status()));
+    let locals = mix_variables(status, store.shell_variables());
     mix_frames(locals, store.frames())
 }

@@ -2,6 +2,7 @@
 #![tactic(auto)]
 
 mod cores;
+mod environments;
 mod hashing;
 pub mod laws;
 mod lines;

@@ -10,7 +10,6 @@ ghost use Rattle.rehearse_endings.specs.Searching.{future, IsReached, AreEntries
 ghost use Rattle.rehearse_endings.specs.States.{Asked, HasStates, Entered, IsNewAt, HasEntered};
 ghost use Rattle.rehearse_endings.specs.declared.sum_error.SumError.TheVariants.{States};
 
-use crate::cores::take_core;
 use crate::hashing::hash_of;
 use crate::rows::Row;
 use crate::sum_error::SumError;
@@ -68,8 +67,7 @@ fn summed<S: Store>(
             )? {
                 return Ok(found);
             }
-            table.enter()?;
-            let core = take_core(rehearsal.alloc, store)?;
+            let core = table.enter(rehearsal.alloc, store)?;
             let steps = store.steps();
             store.mark()?;
             let won_stop = resume(rehearsal, store, true)?;

@@ -7,7 +7,8 @@ ghost use Rattle.rehearse_endings.specs.Searching.{AreEntries, IsKept};
 ghost use Rattle.rehearse_endings.specs.Cores.{core_shown, core_of};
 ghost use Rattle.rehearse_endings.specs.Summaries.{FitsIf, moved_by};
 
-use crate::cores::{Core, has_core};
+use crate::cores::{Core, has_core, take_core};
+use crate::environments::Environments;
 use crate::rows::copy_rows;
 use crate::sum_error::SumError;
 use crate::summary::Summary;
@@ -32,6 +33,8 @@ pub(crate) struct Table {
     pub(crate) entries: Vec<Entry>,
     /// Where the entries of each number stand.
     pub(crate) places: HashMap<u64, Vec<usize>>,
+    /// The environments of the states.
+    pub(crate) environments: Environments,
     /// How many states were entered.
     pub(crate) visited: u32,
     /// How many may be.
@@ -39,7 +42,7 @@ pub(crate) struct Table {
 }
 
 impl Table {
-    ghost use Rattle.std.specs.Prelude.{IfErr, OnErr, [], ◌+◌};
+    ghost use Rattle.std.specs.Prelude.{IfErr, [], ◌+◌};
     ghost use Rattle.rehearse_endings.specs.declared.sum_error.SumError.TheVariants.{Memory, States};
 
     /// A table without entries. It takes no memory.
@@ -51,25 +54,27 @@ impl Table {
         Table {
             entries: Vec::new(alloc),
             places: HashMap::new(alloc),
+            environments: Environments::new(alloc),
             visited: 0,
             most,
         }
     }
 
-    /// Enters a state, unless as many were entered as may be.
-    pub(crate) fn enter(&mut self) -> Result<(), SumError>
+    /// Enters the present state of a store, unless as many were entered as may be, and gives its core.
+    pub(crate) fn enter<S: Store>(&mut self, alloc: Global, store: &S) -> Result<Core, SumError>
+        ensures core { IfOk result (λ core. core_shown core ≡ core_of (S.record_of store.now).present) }
         ensures entries { self.new.entries.items ≡ self.old.entries.items }
         ensures most { self.new.most ≡ self.old.most }
         ensures visited { OnOk result (self.new.visited ≡ self.old.visited + 1) }
         ensures within { OnOk result (self.new.visited ≤ self.new.most) }
-        ensures err { IfErr result (λ e. e ≡ States) }
-        ensures full { OnErr result (self.old.most ≤ self.old.visited) }
+        ensures full { IfErr result (λ e. e ≡ States → self.old.most ≤ self.old.visited) }
     {
         if self.visited >= self.most {
             return Err(SumError::States);
         }
         self.visited += 1;
-        Ok(())
+        let core = take_core(alloc, &mut self.environments, store)?;
+        Ok(core)
     }
 
     /// The summary of the present state, where an entry under this number fits.

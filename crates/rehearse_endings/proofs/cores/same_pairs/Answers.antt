@@ -1,4 +1,4 @@
-use Rattle.std.proofs.Common.{rules, ◌≡◌, ◌∷◌, List, ℕ, ap, sym, ◌∙◌}
+use Rattle.std.proofs.Common.{rules, ◌≡◌, ◌∷◌, ap, sym, ◌∙◌}
 use Rattle.rehearse_endings.specs.Cores.{pairs_shown}
 use Rattle.rehearse_endings.proofs.SameLemmas.{same_pair, pairs_step, same_bytes}
 use Rattle.rehearse_endings.proofs.cores.same_pairs.Goals as goal

@@ -1,4 +1,4 @@
-use Rattle.std.proofs.Common.{◌≡◌, ◌++◌, map, List}
+use Rattle.std.proofs.Common.{◌≡◌, ◌++◌, List}
 use Rattle.rehearse.specs.State.{Text}
 use Rattle.rehearse_endings.specs.Cores.{pairs_shown}
 use Rattle.rehearse_endings.proofs.cores.same_pairs.Given as goal

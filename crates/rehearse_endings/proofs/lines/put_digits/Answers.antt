@@ -1,4 +1,4 @@
-use Rattle.std.proofs.Common.{rules, ◌≡◌, ◌<◌, ◌++◌, ◌∙◌, ap, sym, length, List, ℕ}
+use Rattle.std.proofs.Common.{rules, ◌<◌, ◌++◌, ◌∙◌, ap, sym, length, List, ℕ}
 use Rattle.rehearse_endings.proofs.LineLemmas.{spelled_shown}
 use Rattle.rehearse_endings.proofs.lines.put_digits.Goals as goal
 

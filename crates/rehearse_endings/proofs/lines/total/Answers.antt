@@ -1,4 +1,4 @@
-use Rattle.std.proofs.Common.{◌≡◌, ◌∙◌, ◌+◌, ◌++◌, ◌∷◌, [], ap, sym, map, take, List}
+use Rattle.std.proofs.Common.{◌∙◌, ◌+◌, ◌++◌, ◌∷◌, [], ap, sym, map, take}
 use Rattle.std.proofs.lemmas.List.{map_more}
 use Rattle.rehearse_endings.specs.Endings.{Row}
 use Rattle.rehearse_endings.specs.RowsShown.{row_shown}

@@ -1,4 +1,4 @@
-use Rattle.std.proofs.Common.{◌∙◌, ap, sym, ◌≡◌, map, take, get_or, List, ◌++◌, ◌∷◌, [], arith}
+use Rattle.std.proofs.Common.{◌∙◌, ap, sym, ◌≡◌, map, take, List, ◌++◌, ◌∷◌, []}
 use Rattle.std.proofs.lemmas.List.{map_more, map-append}
 use Rattle.rehearse_machine.specs.EndingsShown.{halt_shown}
 use Rattle.rehearse_endings.specs.Endings.{Row}

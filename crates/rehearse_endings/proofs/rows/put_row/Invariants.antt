@@ -1,8 +1,5 @@
-use Rattle.std.proofs.Common.{Bool, true, false, ◌++◌, take, drop, ◌≡◌, ◌∷◌, [], map, IfOk, ℕ, ◌+◌, ◌-◌, ◌*◌, ◌<◌, ◌≤◌, length}
-use Rattle.rehearse_machine.specs.EndingsShown.{halt_shown}
-use Rattle.rehearse_machine.specs.Machine.{outcome_when}
-use Rattle.rehearse_endings.specs.RowsShown.{row_shown, rows_shown, with_row_up, merge_up}
-use Rattle.rehearse_endings.specs.Endings.{one_run, in_front, ending_eq}
+use Rattle.std.proofs.Common.{true, false, ◌++◌, ◌≡◌, map}
+use Rattle.rehearse_endings.specs.RowsShown.{row_shown, with_row_up}
 use Rattle.rehearse_endings.proofs.rows.put_row.Given as goal
 
 abbrev pub invariant-loop-old : goal.invariant-loop-old

@@ -1,4 +1,4 @@
-use Rattle.std.proofs.Common.{rules, ◌≡◌, ◌∷◌, List}
+use Rattle.std.proofs.Common.{rules, ◌≡◌, ◌∷◌}
 use Rattle.rehearse_endings.proofs.SameLemmas.{same_step, same_bytes}
 use Rattle.rehearse_endings.proofs.same.same_texts.Goals as goal
 

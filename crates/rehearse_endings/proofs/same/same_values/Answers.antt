@@ -1,4 +1,4 @@
-use Rattle.std.proofs.Common.{refl, rules, ◌≡◌, ◌∷◌, List}
+use Rattle.std.proofs.Common.{refl, rules, ◌≡◌, ◌∷◌}
 use Rattle.hushlang.specs.TreesShown as view
 use Rattle.rehearse_endings.proofs.SameLemmas.{same_step, same_value, same_bytes}
 use Rattle.rehearse_endings.proofs.same.same_values.Goals as goal

@@ -1,13 +1,11 @@
-use Rattle.std.proofs.Common.{ℕ, arith, ap, sym, subst, ◌∙◌, ◌+◌, ◌<◌, ◌≡◌, [], ◌∷◌, ◌++◌}
+use Rattle.std.proofs.Common.{ℕ, arith, ap, sym, subst, ◌∙◌, ◌+◌, [], ◌∷◌, ◌++◌}
 use Rattle.rehearse.specs.Outcomes.{Success, Failure}
 use Rattle.rehearse_machine.specs.Tasks.{task_in}
-use Rattle.rehearse_machine.specs.Machine.{Stops, asked_at}
-use Rattle.rehearse_machine.specs.EndingsShown.{halt_shown}
 use Rattle.rehearse_machine.specs.declared.rehearsal.Stop.{Stop}
-use Rattle.rehearse_machine.specs.declared.rehearsal.Stop.TheVariants.{Asks, Ends}
+use Rattle.rehearse_machine.specs.declared.rehearsal.Stop.TheVariants.{Asks}
 use Rattle.rehearse_endings.specs.Cores.{core_shown}
 use Rattle.rehearse_endings.specs.RowsShown.{summary_shown, Summed}
-use Rattle.rehearse_endings.specs.Searching.{future, AreEntries, IsReached}
+use Rattle.rehearse_endings.specs.Searching.{future, AreEntries}
 use Rattle.rehearse_endings.specs.States.{HasStates}
 use Rattle.rehearse_runs.proofs.SearchLemmas.{stopped_on}
 use Rattle.std.proofs.Common.{Err}
@@ -37,13 +35,13 @@ summed-requires g t c κs within =
     let b = c.requires.bound in
     let r₁ = g.S.Store.record_of c.resume.new.store in
     let stops = won_on task r (g.S.Store.record_of c.mark.new.self) r₁ c.in_ok-won_stop-in-Asks.won_stop c.in_ok-mark-in-Asks.ensures.ok c.in_ok-won_stop-in-Asks.ensures.stops in
-    let entered = subst (AreEntries task.limits) (sym c.in_ok-enter-in-Asks.ensures.entries) c.requires.table in
+    let entered = subst (AreEntries task.limits) (sym c.in_ok-core-in-Asks.ensures.entries) c.requires.table in
     let marked = begun_marked r (g.S.Store.record_of c.mark.new.self) c.in_ok-mark-in-Asks.ensures.ok in
     let on = begun_on (g.S.Store.record_of c.mark.new.self) r₁ c.in_ok-won_stop-in-Asks.ensures.begun c.in_ok-won_stop-in-Asks.ensures.within in
     let room = c.requires.begun in
-    let visited = c.in_ok-enter-in-Asks.ensures.visited in
+    let visited = c.in_ok-core-in-Asks.ensures.visited in
     let begun : Room r₁.begun c.enter.new.self.visited = omega (arith, marked, on, room, visited) in
-    (omega (arith, c.decreases), (within, (reached_on task c.args.depth r.present r₁.present Success c.in_ok-won_stop-in-Asks.won_stop reached stops, (entered, (c.in_ok-won_stop-in-Asks.ensures.within, (b, (begun, c.in_ok-enter-in-Asks.ensures.within)))))))
+    (omega (arith, c.decreases), (within, (reached_on task c.args.depth r.present r₁.present Success c.in_ok-won_stop-in-Asks.won_stop reached stops, (entered, (c.in_ok-won_stop-in-Asks.ensures.within, (b, (begun, c.in_ok-core-in-Asks.ensures.within)))))))
 
 pub overflow_add-depth-in-Asks : goal.overflow_add-depth-in-Asks
 overflow_add-depth-in-Asks g t c =
@@ -65,7 +63,7 @@ summed-requires-in-Asks g t c κs within =
     let there = back_there r (g.S.Store.record_of c.mark.new.self) (g.S.Store.record_of c.resume.new.store) (g.S.Store.record_of c.summed.new.store) back c.in_ok-mark-in-Asks.ensures.ok c.in_ok-won_stop-in-Asks.ensures.marks c.in_ok-won-in-Asks.ensures.marks c.back.ensures in
     let r₁ = g.S.Store.record_of c.resume-in-Asks.new.store in
     let stops = lost_on task r.present back r₁ c.in_ok-lost_stop-in-Asks.lost_stop there c.in_ok-lost_stop-in-Asks.ensures.stops in
-    let begun : Room r₁.begun c.summed.new.table.visited = begun_lost r (g.S.Store.record_of c.mark.new.self) (g.S.Store.record_of c.resume.new.store) (g.S.Store.record_of c.summed.new.store) back r₁ c.args.table.now.visited c.enter.new.self.visited c.summed.new.table.visited c.in_ok-mark-in-Asks.ensures.ok c.in_ok-won_stop-in-Asks.ensures.begun c.in_ok-won_stop-in-Asks.ensures.within c.requires.begun c.in_ok-enter-in-Asks.ensures.visited c.in_ok-won-in-Asks.ensures.begun c.back.ensures c.in_ok-lost_stop-in-Asks.ensures.begun c.in_ok-lost_stop-in-Asks.ensures.within in
+    let begun : Room r₁.begun c.summed.new.table.visited = begun_lost r (g.S.Store.record_of c.mark.new.self) (g.S.Store.record_of c.resume.new.store) (g.S.Store.record_of c.summed.new.store) back r₁ c.args.table.now.visited c.enter.new.self.visited c.summed.new.table.visited c.in_ok-mark-in-Asks.ensures.ok c.in_ok-won_stop-in-Asks.ensures.begun c.in_ok-won_stop-in-Asks.ensures.within c.requires.begun c.in_ok-core-in-Asks.ensures.visited c.in_ok-won-in-Asks.ensures.begun c.back.ensures c.in_ok-lost_stop-in-Asks.ensures.begun c.in_ok-lost_stop-in-Asks.ensures.within in
     (omega (arith, c.decreases), (within, (reached_on task c.args.depth r.present r₁.present Failure c.in_ok-lost_stop-in-Asks.lost_stop reached stops, (c.in_ok-won-in-Asks.ensures.table, (c.in_ok-lost_stop-in-Asks.ensures.within, (b, (begun, c.in_ok-won-in-Asks.ensures.room)))))))
 
 pub returns-in_ok-summary-in-Ends-clause-sums : goal.returns-in_ok-summary-in-Ends-clause-sums
@@ -102,20 +100,20 @@ returns-in_ok-keep-in-Asks-clause-table g t c =
     let there = back_there r (g.S.Store.record_of c.mark.new.self) (g.S.Store.record_of c.resume.new.store) (g.S.Store.record_of c.summed.new.store) back c.in_ok-mark-in-Asks.ensures.ok c.in_ok-won_stop-in-Asks.ensures.marks c.in_ok-won-in-Asks.ensures.marks c.back.ensures in
     let lost_stops = lost_on task r.present back (g.S.Store.record_of c.resume-in-Asks.new.store) c.in_ok-lost_stop-in-Asks.lost_stop there c.in_ok-lost_stop-in-Asks.ensures.stops in
     let summed = summed_sides task c.args.depth r.present reached c.in_ok-won_stop-in-Asks.won_stop c.in_ok-lost_stop-in-Asks.lost_stop won_at lost_at (summary_shown c.in_ok-won-in-Asks.won) (summary_shown c.in_ok-lost-in-Asks.lost) (summary_shown c.in_ok-summary-in-Asks.summary) c.steps-steps.result c.steps-steps.ensures won_stops lost_stops c.in_ok-won-in-Asks.ensures.sums c.in_ok-lost-in-Asks.ensures.sums c.in_ok-summary-in-Asks.ensures in
-    entries_more task c.args.depth r.present c.summed-in-Asks.new.table.entries.items c.keep.new.self.entries.items (core_shown c.in_ok-core-in-Asks.core) c.steps-steps.result (summary_shown c.in_ok-summary-in-Asks.summary) reached c.in_ok-lost-in-Asks.ensures.table c.in_ok-core-in-Asks.ensures c.steps-steps.ensures summed c.in_ok-keep-in-Asks.ensures.kept
+    entries_more task c.args.depth r.present c.summed-in-Asks.new.table.entries.items c.keep.new.self.entries.items (core_shown c.in_ok-core-in-Asks.core) c.steps-steps.result (summary_shown c.in_ok-summary-in-Asks.summary) reached c.in_ok-lost-in-Asks.ensures.table c.in_ok-core-in-Asks.ensures.core c.steps-steps.ensures summed c.in_ok-keep-in-Asks.ensures.kept
 
 -- ---- the states that are entered
 
 pub returns-in_ok-summary-in-Ends-clause-entered : goal.returns-in_ok-summary-in-Ends-clause-entered
 returns-in_ok-summary-in-Ends-clause-entered g t c = λ p kept pending at new entered. none_further (task_in c.args.rehearsal.now) p kept pending c.args.table.now entered
 
-pub returns-in_err-enter-in-Asks-clause-refused : goal.returns-in_err-enter-in-Asks-clause-refused
-returns-in_err-enter-in-Asks-clause-refused g t c = λ p kept pending at new entered.
+pub returns-in_err-core-in-Asks-clause-refused : goal.returns-in_err-core-in-Asks-clause-refused
+returns-in_err-core-in-Asks-clause-refused g t c = λ p kept pending at new entered.
     let task = task_in c.args.rehearsal.now in
     let m = (g.S.Store.record_of c.args.store.now).present in
-    let error = err_from_is_err_and c.from_residual-in_err-enter-in-Asks.result c.from_residual-in_err-enter-in-Asks.ensures.1 in
-    refused_as task (c.args.table.now.most + 1) c.from_residual-in_err-enter-in-Asks.result c.in_err-enter-in-Asks.field-0.0 (error.1 ∙ ap Err error.2)
-    (λ is. too_many task p m kept pending (met_as task p c.args.stop Asks m c.in-Asks.is at) new c.args.table.now entered c.requires.room c.in_err-enter-in-Asks.ensures.full)
+    let error = err_from_is_err_and c.from_residual-in_err-core-in-Asks.result c.from_residual-in_err-core-in-Asks.ensures.1 in
+    refused_as task (c.args.table.now.most + 1) c.from_residual-in_err-core-in-Asks.result c.in_err-core-in-Asks.field-0.0 (error.1 ∙ ap Err error.2)
+    (λ is. too_many task p m kept pending (met_as task p c.args.stop Asks m c.in-Asks.is at) new c.args.table.now entered c.requires.room (c.in_err-core-in-Asks.ensures.full is))
 
 pub returns-in_err-won-in-Asks-clause-refused : goal.returns-in_err-won-in-Asks-clause-refused
 returns-in_err-won-in-Asks-clause-refused g t c = λ p kept pending at new entered.
@@ -126,9 +124,9 @@ returns-in_err-won-in-Asks-clause-refused g t c = λ p kept pending at new enter
     let won_stops = won_on task r (g.S.Store.record_of c.mark.new.self) (g.S.Store.record_of c.resume.new.store) c.in_ok-won_stop-in-Asks.won_stop c.in_ok-mark-in-Asks.ensures.ok c.in_ok-won_stop-in-Asks.ensures.stops in
     let error = err_from_is_err_and c.from_residual-in_err-won-in-Asks.result c.from_residual-in_err-won-in-Asks.ensures.1 in
     refused_as task (c.args.table.now.most + 1) c.from_residual-in_err-won-in-Asks.result c.in_err-won-in-Asks.field-0.0 (error.1 ∙ ap Err error.2)
-    (λ is. subst (λ (n : ℕ). HasStates task (n + 1)) c.in_ok-enter-in-Asks.ensures.most
+    (λ is. subst (λ (n : ℕ). HasStates task (n + 1)) c.in_ok-core-in-Asks.ensures.most
     (c.in_err-won-in-Asks.ensures.refused (p ++ Success ∷ []) kept ((p, r.present) ∷ pending) (stopped_on task p r.present won_at Success c.in_ok-won_stop-in-Asks.won_stop met won_stops) (new_won p r.present kept pending new)
-    (enters task p r.present kept pending met new c.args.table.now entered c.enter.new.self c.in_ok-enter-in-Asks.ensures.entries c.in_ok-enter-in-Asks.ensures.visited) is))
+    (enters task p r.present kept pending met new c.args.table.now entered c.enter.new.self c.in_ok-core-in-Asks.ensures.entries c.in_ok-core-in-Asks.ensures.visited) is))
 
 pub returns-in_err-lost-in-Asks-clause-refused : goal.returns-in_err-lost-in-Asks-clause-refused
 returns-in_err-lost-in-Asks-clause-refused g t c = λ p kept pending at new entered.
@@ -143,10 +141,10 @@ returns-in_err-lost-in-Asks-clause-refused g t c = λ p kept pending at new ente
     let lost_stops = lost_on task r.present back (g.S.Store.record_of c.resume-in-Asks.new.store) c.in_ok-lost_stop-in-Asks.lost_stop there c.in_ok-lost_stop-in-Asks.ensures.stops in
     let won =
     c.in_ok-won-in-Asks.ensures.entered (p ++ Success ∷ []) kept ((p, r.present) ∷ pending) (stopped_on task p r.present won_at Success c.in_ok-won_stop-in-Asks.won_stop met won_stops) (new_won p r.present kept pending new)
-    (enters task p r.present kept pending met new c.args.table.now entered c.enter.new.self c.in_ok-enter-in-Asks.ensures.entries c.in_ok-enter-in-Asks.ensures.visited) in
+    (enters task p r.present kept pending met new c.args.table.now entered c.enter.new.self c.in_ok-core-in-Asks.ensures.entries c.in_ok-core-in-Asks.ensures.visited) in
     let error = err_from_is_err_and c.from_residual-in_err-lost-in-Asks.result c.from_residual-in_err-lost-in-Asks.ensures.1 in
     refused_as task (c.args.table.now.most + 1) c.from_residual-in_err-lost-in-Asks.result c.in_err-lost-in-Asks.field-0.0 (error.1 ∙ ap Err error.2)
-    (λ is. subst (λ (n : ℕ). HasStates task (n + 1)) (c.in_ok-won-in-Asks.ensures.most ∙ c.in_ok-enter-in-Asks.ensures.most)
+    (λ is. subst (λ (n : ℕ). HasStates task (n + 1)) (c.in_ok-won-in-Asks.ensures.most ∙ c.in_ok-core-in-Asks.ensures.most)
     (c.in_err-lost-in-Asks.ensures.refused (p ++ Failure ∷ []) (kept ++ won.further) ((p, r.present) ∷ pending) (stopped_on task p r.present lost_at Failure c.in_ok-lost_stop-in-Asks.lost_stop met lost_stops)
     (new_lost p r.present kept won.further pending new won.behind) won.entered is))
 
@@ -163,7 +161,7 @@ returns-in_ok-keep-in-Asks-clause-entered g t c = λ p kept pending at new enter
     let lost_stops = lost_on task r.present back (g.S.Store.record_of c.resume-in-Asks.new.store) c.in_ok-lost_stop-in-Asks.lost_stop there c.in_ok-lost_stop-in-Asks.ensures.stops in
     let won =
     c.in_ok-won-in-Asks.ensures.entered (p ++ Success ∷ []) kept ((p, r.present) ∷ pending) (stopped_on task p r.present won_at Success c.in_ok-won_stop-in-Asks.won_stop met won_stops) (new_won p r.present kept pending new)
-    (enters task p r.present kept pending met new c.args.table.now entered c.enter.new.self c.in_ok-enter-in-Asks.ensures.entries c.in_ok-enter-in-Asks.ensures.visited) in
+    (enters task p r.present kept pending met new c.args.table.now entered c.enter.new.self c.in_ok-core-in-Asks.ensures.entries c.in_ok-core-in-Asks.ensures.visited) in
     let lost =
     c.in_ok-lost-in-Asks.ensures.entered (p ++ Failure ∷ []) (kept ++ won.further) ((p, r.present) ∷ pending) (stopped_on task p r.present lost_at Failure c.in_ok-lost_stop-in-Asks.lost_stop met lost_stops)
     (new_lost p r.present kept won.further pending new won.behind) won.entered in

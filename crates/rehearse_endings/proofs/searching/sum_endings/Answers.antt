@@ -4,7 +4,7 @@ use Rattle.rehearse_endings.specs.States.{HasStates}
 use Rattle.rehearse_endings.proofs.Entering.{first_entered, first_new, whole_states, refused_as}
 use Rattle.rehearse_machine.specs.Tasks.{task_in}
 use Rattle.rehearse_endings.specs.RowsShown.{summary_shown}
-use Rattle.rehearse_endings.proofs.Reached.{reached_first, no_entries, whole_rows}
+use Rattle.rehearse_endings.proofs.Reached.{reached_first, whole_rows}
 use Rattle.rehearse_endings.proofs.searching.sum_endings.Goals as goal
 
 pub summed-requires-clause-reached : goal.summed-requires-clause-reached

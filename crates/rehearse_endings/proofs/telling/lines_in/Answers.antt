@@ -1,4 +1,4 @@
-use Rattle.std.proofs.Common.{rules, sym, subst, Option, Some, None}
+use Rattle.std.proofs.Common.{rules, sym, subst, Option}
 use Rattle.rehearse.specs.Runs.{Task}
 use Rattle.rehearse_machine.specs.Tasks.{task_shown}
 use Rattle.rehearse_runs.proofs.TaskSet.{task_is_set, task_is_unset}

@@ -1,6 +1,5 @@
-use Rattle.std.proofs.Common.{◌≡◌, refl, sym, subst, ap, ◌∙◌, get_or}
+use Rattle.std.proofs.Common.{refl, get_or}
 use Rattle.rehearse_machine.specs.MovesShown.{limits_of}
-use Rattle.rehearse_endings.specs.Searching.{IsEntry}
 use Rattle.rehearse_endings.specs.declared.table.Entry.{Entry}
 use Rattle.rehearse_endings.proofs.Reached.{entry_in, look_there}
 use Rattle.rehearse_endings.proofs.table.Table.find.Goals as goal
