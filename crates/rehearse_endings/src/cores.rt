@@ -66,7 +66,8 @@ pub(crate) fn take_core<S: Store>(
 
 /// Whether variables are these.
 pub(crate) fn same_pairs(variables: Variables<'_>, pairs: &[(Vec<u8>, Vec<u8>)]) -> bool
-    ensures { IsTrue result → pairs_shown pairs.now ≡ variables.entry }
+    ensures same { IsTrue result → pairs_shown pairs.now ≡ variables.entry }
+    ensures told { pairs_shown pairs.now ≡ variables.entry → IsTrue result }
 {
     let mut others = pairs;
     for (name, value) in variables {
@@ -86,7 +87,8 @@ pub(crate) fn same_pairs(variables: Variables<'_>, pairs: &[(Vec<u8>, Vec<u8>)])
 
 /// Whether both lists of frames are the same.
 fn same_frames(a: &[Frame], b: &[Frame]) -> bool
-    ensures { IsTrue result → a.now ≡ b.now }
+    ensures same { IsTrue result → a.now ≡ b.now }
+    ensures told { a.now ≡ b.now → IsTrue result }
 {
     let mut others = b;
     for frame in a {
@@ -103,10 +105,17 @@ fn same_frames(a: &[Frame], b: &[Frame]) -> bool
 
 /// Whether the present state of a store has this core.
 pub(crate) fn has_core<S: Store>(store: &S, core: &Core) -> bool
-    ensures { IsTrue result → core_shown core.now ≡ core_of (S.record_of store.now).present }
+    ensures same { IsTrue result → core_shown core.now ≡ core_of (S.record_of store.now).present }
+    ensures told { core_shown core.now ≡ core_of (S.record_of store.now).present → IsTrue result }
 {
-    core.status == store.get_status()
-        && same_frames(&core.frames, store.frames())
-        && same_pairs(store.variables(), core.environment.as_slice())
-        && same_pairs(store.shell_variables(), &core.locals)
+    if core.status != store.get_status() {
+        return false;
+    }
+    if !same_frames(&core.frames, store.frames()) {
+        return false;
+    }
+    if !same_pairs(store.variables(), core.environment.as_slice()) {
+        return false;
+    }
+    same_pairs(store.shell_variables(), &core.locals)
 }
