@@ -1,5 +1,5 @@
 #!/bin/sh
-# growth_script.sh PROGRAM: runs the part `script` of the built program crates/test_growths/out/test_growths once for
+# growth_script.sh PROGRAM: runs the part `script` of the built program crates/test_tool/out/test_tool once for
 # each growth of memory that it makes, with that one growth refused, until a run meets no refusal. Whichever growth is
 # refused, the variables are those after the first lines of the script, never fewer lines than at the growth before; and
 # refused growths reach the last line.
@@ -23,7 +23,7 @@ STATES
 number=1
 lines=0
 while :; do
-    REFUSE=$number REFUSE_MET=$work/met LD_PRELOAD=$work/refuse.so "$program" script > "$work/output"
+    REFUSE=$number REFUSE_MET=$work/met LD_PRELOAD=$work/refuse.so "$program" growths script > "$work/output"
     found=$(cat "$work/output")
     [ "$(cat "$work/met")" != "not met" ] || break
     case $found in

@@ -1,5 +1,5 @@
 #!/bin/sh
-# growths.sh PROGRAM PART: runs a part of the built program crates/test_growths/out/test_growths, as `store`, once for
+# growths.sh PROGRAM PART: runs a part of the built program crates/test_tool/out/test_tool, as `store`, once for
 # each growth of memory that it makes, with that one growth refused, until a run meets no refusal. The program prints a
 # line NAME:STATE for the beginning and after each change, and a line `refused NAME:STATE` after a change that was
 # refused for want of memory, which it then makes again. So, of each run:
@@ -14,13 +14,13 @@ work=$(mktemp -d)
 trap 'rm -rf "$work"' EXIT
 
 gcc -O2 -shared -fPIC -o "$work/refuse.so" "$here/refuse.c" -ldl
-"$program" "$part" > "$work/ample"
+"$program" growths "$part" > "$work/ample"
 
 number=1
 refusals=0
 while :; do
     status=0
-    REFUSE=$number REFUSE_MET=$work/met LD_PRELOAD=$work/refuse.so "$program" "$part" > "$work/output" 2> "$work/error" ||
+    REFUSE=$number REFUSE_MET=$work/met LD_PRELOAD=$work/refuse.so "$program" growths "$part" > "$work/output" 2> "$work/error" ||
         status=$?
     if [ "$status" -ne 0 ]; then
         echo "growth $number: status $status"

@@ -1,6 +1,6 @@
 //! Worked examples of device lists.
 use rehearse::{Devices, DevicesError, Effect};
-use std::alloc::AllocError;
+use std::alloc::{AllocError, Global};
 use std::test::Fail;
 
 /// Why a device list is refused.
@@ -13,29 +13,47 @@ fn parsed(rt: &HostRuntime, text: &[u8]) -> Result<Devices, DevicesError> {
     Devices::parse(rt.alloc(), text)
 }
 
-/// Whether an effect is this one, with at most two settings.
-fn is_effect(effect: Effect<'_>, ends: bool, sets: &[(&str, &str)]) -> bool {
-    if effect.ends != ends || effect.sets.len() != sets.len() {
-        return false;
+/// An effect as a line: `final` if it ends the run, and its settings, each as its name, a colon, its value and a comma.
+fn line_of(alloc: Global, effect: Effect<'_>) -> Result<Vec<u8>, AllocError> {
+    let mut line = Vec::new(alloc);
+    if effect.ends {
+        line.extend_from_slice(b"final ")?;
     }
-    for (found, wanted) in effect.sets.iter().zip(sets.iter()) {
-        if found.0.as_slice() != wanted.0.as_bytes() || found.1.as_slice() != wanted.1.as_bytes() {
-            return false;
-        }
+    for (name, value) in effect.sets {
+        push_setting(&mut line, name, value)?;
     }
-    true
+    Ok(line)
+}
+
+fn push_setting(line: &mut Vec<u8>, name: &[u8], value: &[u8]) -> Result<(), AllocError> {
+    line.extend_from_slice(name)?;
+    line.push(b':')?;
+    line.extend_from_slice(value)?;
+    line.push(b',')?;
+    Ok(())
+}
+
+/// The line of the effect that a device list gives a name.
+fn effect_of(rt: &HostRuntime, text: &str, name: &str) -> Result<Vec<u8>, Fail> {
+    let devices = parsed(rt, text.as_bytes())?;
+    let effect = devices.effect(name.as_bytes()).ok_or("no such name")?;
+    Ok(line_of(rt.alloc(), effect)?)
 }
 
 #[test]
 fn lists_names(rt: HostRuntime) -> Result<(), Fail> {
     let devices = parsed(&rt, b"# d\nload\n\nmmc")?;
-    assert!(rt; devices.has(b"load"));
-    assert!(rt; devices.has(b"mmc"));
-    assert!(rt; !devices.has(b"# d"));
-    assert!(rt; !devices.has(b""));
+    for (name, is_listed) in [("load", true), ("mmc", true), ("# d", false), ("", false)] {
+        assert!(rt; devices.has(name.as_bytes()) == is_listed);
+    }
     assert!(rt; devices.effect(b"d").is_none());
-    let effect = devices.effect(b"mmc").ok_or("mmc is listed")?;
-    assert!(rt; is_effect(effect, false, &[]));
+    Ok(())
+}
+
+#[test]
+fn a_name_alone_has_no_effect(rt: HostRuntime) -> Result<(), Fail> {
+    let effect = effect_of(&rt, "# d\nload\n\nmmc", "mmc")?;
+    assert!(rt; effect.is_empty());
     Ok(())
 }
 
@@ -70,25 +88,22 @@ fn knows_each_built_in(rt: HostRuntime) {
 
 #[test]
 fn reads_final_commands(rt: HostRuntime) -> Result<(), Fail> {
-    let table = [
-        ("final", "final", false),
-        ("final a=b", "final", false),
-        ("final x", "x", true),
-        ("final final", "final", true),
-    ];
-    for (text, name, ends) in table {
-        let devices = parsed(&rt, text.as_bytes())?;
-        let effect = devices.effect(name.as_bytes()).ok_or("the name is listed")?;
-        assert_eq!(rt; effect.ends, ends, "{text}");
+    for (text, name, wanted) in [
+        ("final", "final", ""),
+        ("final a=b", "final", "a:b,"),
+        ("final x", "x", "final "),
+        ("final final", "final", "final "),
+    ] {
+        let effect = effect_of(&rt, text, name)?;
+        assert!(rt; effect.as_slice() == wanted.as_bytes());
     }
     Ok(())
 }
 
 #[test]
 fn joins_lines_of_one_name(rt: HostRuntime) -> Result<(), Fail> {
-    let devices = parsed(&rt, b"load a=1\n\tfinal load \r\nload a=2 b=c=")?;
-    let effect = devices.effect(b"load").ok_or("load is listed")?;
-    assert!(rt; is_effect(effect, true, &[("a", "1"), ("a", "2"), ("b", "c=")]));
+    let effect = effect_of(&rt, "load a=1\n\tfinal load \r\nload a=2 b=c=", "load")?;
+    assert!(rt; effect.as_slice() == b"final a:1,a:2,b:c=,".as_slice());
     Ok(())
 }
 

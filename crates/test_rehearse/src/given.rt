@@ -31,6 +31,16 @@ fn environment(alloc: Global, text: &[u8], others: &[Pair<'_>]) -> Result<Env, F
     Ok(env)
 }
 
+/// The device list of a text.
+fn devices_of(alloc: Global, list: &[u8]) -> Result<Devices, Fail> {
+    Ok(Devices::parse(alloc, list)?)
+}
+
+/// The bounds of these numbers of device commands and of steps.
+fn bounds_of(bounds: (u32, u32)) -> Result<Bounds, Fail> {
+    Ok(Bounds::new(bounds.0, bounds.1).ok_or("bounds")?)
+}
+
 impl Given {
     /// A text as `bootcmd` among other variables, the text of a device list, and the bounds.
     pub(crate) fn new(
@@ -40,10 +50,13 @@ impl Given {
         list: &[u8],
         bounds: (u32, u32),
     ) -> Result<Self, Fail> {
+        let bounds = bounds_of(bounds)?;
+        let devices = devices_of(alloc, list)?;
+        let env = environment(alloc, text, others)?;
         Ok(Given {
-            env: environment(alloc, text, others)?,
-            devices: Devices::parse(alloc, list)?,
-            bounds: Bounds::new(bounds.0, bounds.1).ok_or("bounds")?,
+            env,
+            devices,
+            bounds,
         })
     }
 

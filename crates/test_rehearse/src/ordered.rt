@@ -33,26 +33,41 @@ fn words<S: Store>(alloc: Global, given: &Given, after: Option<&[u8]>) -> Result
     Ok(found)
 }
 
+/// The first word of a text, and what stands behind its space.
+fn first_word(text: &[u8]) -> Option<(&[u8], &[u8])> {
+    let at = text.iter().position(|byte| *byte == b' ')?;
+    Some((text.get(..at)?, text.get(at.saturating_add(1)..)?))
+}
+
+/// Whether the words behind a run are these.
+fn goes_on<S: Store>(alloc: Global, given: &Given, word: &[u8], rest: &[u8]) -> Result<bool, Fail> {
+    let found = words::<S>(alloc, given, Some(word))?;
+    Ok(found.as_slice() == rest)
+}
+
 /// Whether the words behind each run are those that stand behind it in all of them.
 fn goes_on_behind_each<S: Store>(alloc: Global, given: &Given, all: &[u8]) -> Result<bool, Fail> {
     let mut rest = all;
     for _ in 0..70_000u32 {
-        let Some(at) = rest.iter().position(|byte| *byte == b' ') else {
+        let Some((word, behind)) = first_word(rest) else {
             return Ok(rest.is_empty());
         };
-        let Some(word) = rest.get(..at) else {
-            return Ok(false);
-        };
-        let Some(behind) = rest.get(at.saturating_add(1)..) else {
-            return Ok(false);
-        };
-        let found = words::<S>(alloc, given, Some(word))?;
-        if found.as_slice() != behind {
+        if !goes_on::<S>(alloc, given, word, behind)? {
             return Ok(false);
         }
         rest = behind;
     }
     Ok(false)
+}
+
+/// The words of the runs, which must be the same over both stores.
+fn words_of_both(alloc: Global, given: &Given) -> Result<Vec<u8>, Fail> {
+    let plain = words::<Plain>(alloc, given, None)?;
+    let trail = words::<Trail>(alloc, given, None)?;
+    if plain.as_slice() != trail.as_slice() {
+        return Err(Fail::from("the stores differ"));
+    }
+    Ok(plain)
 }
 
 #[test]
@@ -68,17 +83,12 @@ fn words_grow(rt: HostRuntime) -> Result<(), Fail> {
 
 #[test]
 fn runs_go_on_behind_each(rt: HostRuntime) -> Result<(), Fail> {
-    let alloc = rt.alloc();
     let text =
         b"load a || load b; for i in 1 2; do if load $i; then load x && setenv y $i; else load z; fi; done";
-    let given = given_of(alloc, text)?;
-    let plain = words::<Plain>(alloc, &given, None)?;
-    let trail = words::<Trail>(alloc, &given, None)?;
-    assert!(rt; plain.as_slice() == trail.as_slice());
-    assert!(rt; plain.as_slice().starts_with(b"00000 00001 00010 "));
-    let from_plain = goes_on_behind_each::<Plain>(alloc, &given, &plain)?;
-    assert!(rt; from_plain);
-    let from_trail = goes_on_behind_each::<Trail>(alloc, &given, &trail)?;
-    assert!(rt; from_trail);
+    let given = given_of(rt.alloc(), text)?;
+    let all = words_of_both(rt.alloc(), &given)?;
+    assert!(rt; all.starts_with(b"00000 00001 00010 "));
+    assert!(rt; goes_on_behind_each::<Plain>(rt.alloc(), &given, &all)?);
+    assert!(rt; goes_on_behind_each::<Trail>(rt.alloc(), &given, &all)?);
     Ok(())
 }

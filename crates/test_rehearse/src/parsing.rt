@@ -165,31 +165,38 @@ fn joins_from_the_left(rt: HostRuntime) -> Result<(), Fail> {
     Ok(())
 }
 
-/// What the commands of a text are, a letter for each.
+/// What a command is, and how many parts it has.
+fn kind_of(command: &Command) -> (&'static str, usize) {
+    match command {
+        Command::Simple(words) => ("simple", words.len()),
+        Command::Assign(values) => ("assign", values.len()),
+        Command::If { arms, other } => ("if", 2 * arms.len().min(9) + usize::from(other.is_some())),
+        Command::Loop {
+            until,
+            cond,
+            body: _,
+        } => ("loop", 2 * cond.lists.len().min(9) + usize::from(*until)),
+        Command::For {
+            name,
+            words,
+            body: _,
+        } => ("for", 10 * name.len().min(9) + words.len().min(9)),
+    }
+}
+
+/// Puts what a command is behind a text.
+fn push_kind(alloc: Global, kinds: &mut String, command: &Command) -> Result<(), Fail> {
+    let (kind, size) = kind_of(command);
+    let one = format!(in alloc; "{kind} {size};")?;
+    Ok(kinds.push_str(one.as_str())?)
+}
+
+/// What the commands of a text are, and how many parts each has.
 fn kinds(alloc: Global, text: &[u8]) -> Result<String, Fail> {
     let script = script_of(alloc, text)?;
     let mut kinds = String::new(alloc);
     for list in &script.lists {
-        let (kind, size) = match &list.first {
-            Command::Simple(words) => ("simple", words.len()),
-            Command::Assign(values) => ("assign", values.len()),
-            Command::If { arms, other } => (
-                "if",
-                2 * arms.len().min(9) + usize::from(other.is_some()),
-            ),
-            Command::Loop {
-                until,
-                cond,
-                body: _,
-            } => ("loop", 2 * cond.lists.len().min(9) + usize::from(*until)),
-            Command::For {
-                name,
-                words,
-                body: _,
-            } => ("for", 10 * name.len().min(9) + words.len().min(9)),
-        };
-        let one = format!(in alloc; "{kind} {size};")?;
-        kinds.push_str(one.as_str())?;
+        push_kind(alloc, &mut kinds, &list.first)?;
     }
     Ok(kinds)
 }

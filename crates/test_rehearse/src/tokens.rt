@@ -9,6 +9,35 @@ fn next<'a>(lexer: &mut Lexer<'a>) -> Result<Option<Token<'a>>, SyntaxError> {
     lexer.next()
 }
 
+/// Whether a token is of a kind, between two places of its text.
+fn is_token(token: Option<Token<'_>>, kind: Kind, start: usize, stop: usize) -> bool {
+    match token {
+        Some(token) => {
+            token.kind == kind
+                && token.start == start
+                && token.stop == stop
+                && token.text.len() == stop.saturating_sub(start)
+        }
+        None => false,
+    }
+}
+
+/// Whether a lexer gives so many words, and then refuses again and again for a cause.
+fn refuses_behind(text: &str, words: u32, fault: SyntaxError) -> Result<bool, SyntaxError> {
+    let mut lexer = Lexer::new(text.as_bytes());
+    for _ in 0..words {
+        if next(&mut lexer)?.is_none() {
+            return Ok(false);
+        }
+    }
+    for _ in 0..3 {
+        if next(&mut lexer).err() != Some(fault) {
+            return Ok(false);
+        }
+    }
+    Ok(true)
+}
+
 #[test]
 fn cuts_signs(rt: HostRuntime) -> Result<(), Fail> {
     let mut lexer = Lexer::new(b"a;b&&c\n");
@@ -20,16 +49,8 @@ fn cuts_signs(rt: HostRuntime) -> Result<(), Fail> {
         (Kind::Word, 5, 6),
         (Kind::Newline, 6, 7),
     ] {
-        let token = next(&mut lexer)?.unwrap_or(Token {
-            kind: Kind::OrOr,
-            start: 9,
-            stop: 9,
-            text: b"",
-        });
-        assert_eq!(rt; token.kind, kind, "at {start}");
-        assert_eq!(rt; token.start, start);
-        assert_eq!(rt; token.stop, stop);
-        assert_eq!(rt; token.text.len(), stop - start);
+        let token = next(&mut lexer)?;
+        assert!(rt; is_token(token, kind, start, stop));
     }
     assert!(rt; next(&mut lexer)?.is_none());
     assert!(rt; next(&mut lexer)?.is_none());
@@ -47,12 +68,7 @@ fn cuts_first_words(rt: HostRuntime) -> Result<(), Fail> {
         ("${?}$1", 0, 6),
     ] {
         let token = next(&mut Lexer::new(text.as_bytes()))?;
-        assert!(rt; token.is_some(), "{text}");
-        if let Some(token) = token {
-            assert_eq!(rt; token.kind, Kind::Word, "{text}");
-            assert_eq!(rt; token.start, start, "{text}");
-            assert_eq!(rt; token.stop, stop, "{text}");
-        }
+        assert!(rt; is_token(token, Kind::Word, start, stop), "{text}");
     }
     Ok(())
 }
@@ -72,13 +88,7 @@ fn refuses(rt: HostRuntime) -> Result<(), Fail> {
         ("&\\\n&", 0, SyntaxError::SingleAmp(0)),
         ("echo \"a${b", 1, SyntaxError::OpenBrace(7)),
     ] {
-        let mut lexer = Lexer::new(text.as_bytes());
-        for _ in 0..words {
-            assert!(rt; next(&mut lexer)?.is_some(), "{text}");
-        }
-        for _ in 0..3 {
-            assert_eq!(rt; next(&mut lexer).err(), Some(fault), "{text}");
-        }
+        assert!(rt; refuses_behind(text, words, fault)?, "{text}");
     }
     Ok(())
 }

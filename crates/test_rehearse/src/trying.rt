@@ -23,68 +23,67 @@ fn kinds<S: Store>(alloc: Global, given: &Given, words: &[&[u8]]) -> Result<Vec<
     Ok(found)
 }
 
-/// The kinds of the words of a script, with a variable `t` beside it, over both stores.
-fn kinds_of(
-    alloc: Global,
-    text: &[u8],
-    other: &[u8],
-    devices: u32,
-    words: &[&[u8]],
-) -> Result<(Vec<u8>, Vec<u8>), Fail> {
-    let given = Given::new(alloc, text, &[(b"t", other)], b"load", (devices, 10_000))?;
-    let plain = kinds::<Plain>(alloc, &given, words)?;
-    let trail = kinds::<Trail>(alloc, &given, words)?;
-    Ok((plain, trail))
+/// Whether the words of a script, with a variable `t` beside it, are of these kinds over both stores.
+fn are_kinds(alloc: Global, given: &Given, words: &[&[u8]], wanted: &[u8]) -> Result<bool, Fail> {
+    let plain = kinds::<Plain>(alloc, given, words)?;
+    if plain.as_slice() != wanted {
+        return Ok(false);
+    }
+    let trail = kinds::<Trail>(alloc, given, words)?;
+    Ok(trail.as_slice() == wanted)
+}
+
+/// A script with a variable `t` beside it, which may ask so many device commands.
+fn given_of(alloc: Global, text: &[u8], other: &[u8], devices: u32) -> Result<Given, Fail> {
+    Given::new(alloc, text, &[(b"t", other)], b"load", (devices, 10_000))
 }
 
 #[test]
 fn words_are_runs_too_short_or_too_long(rt: HostRuntime) -> Result<(), Fail> {
-    let text = b"load a || load b; echo $?";
+    let given = given_of(rt.alloc(), b"load a || load b; echo $?", b"", 16)?;
     let words: [&[u8]; 4] = [b"1", b"10", b"100", b"1x"];
-    let (plain, trail) = kinds_of(rt.alloc(), text, b"", 16, &words)?;
-    assert!(rt; plain.as_slice() == b"srll".as_slice());
-    assert!(rt; trail.as_slice() == b"srll".as_slice());
+    assert!(rt; are_kinds(rt.alloc(), &given, &words, b"srll")?);
     Ok(())
 }
 
 #[test]
 fn a_loop_that_is_cut_takes_two_outcomes(rt: HostRuntime) -> Result<(), Fail> {
-    let text = b"while load; do true; done";
+    let given = given_of(rt.alloc(), b"while load; do true; done", b"", 2)?;
     let words: [&[u8]; 4] = [b"0", b"00", b"000", b"00"];
-    let (plain, trail) = kinds_of(rt.alloc(), text, b"", 2, &words)?;
-    assert!(rt; plain.as_slice() == b"srlr".as_slice());
-    assert!(rt; trail.as_slice() == b"srlr".as_slice());
+    assert!(rt; are_kinds(rt.alloc(), &given, &words, b"srlr")?);
     Ok(())
 }
 
 #[test]
 fn without_device_commands_the_empty_word_is_the_run(rt: HostRuntime) -> Result<(), Fail> {
+    let given = given_of(rt.alloc(), b"load", b"", 0)?;
     let words: [&[u8]; 4] = [b"", b"0", b"", b"1"];
-    let (plain, trail) = kinds_of(rt.alloc(), b"load", b"", 0, &words)?;
-    assert!(rt; plain.as_slice() == b"rlrl".as_slice());
-    assert!(rt; trail.as_slice() == b"rlrl".as_slice());
+    assert!(rt; are_kinds(rt.alloc(), &given, &words, b"rlrl")?);
     Ok(())
 }
 
 #[test]
 fn an_exit_in_a_text_leaves_the_next_command(rt: HostRuntime) -> Result<(), Fail> {
+    let given = given_of(rt.alloc(), b"run t; load", b"exit 3; load", 16)?;
     let words: [&[u8]; 4] = [b"", b"0", b"1", b"01"];
-    let (plain, trail) = kinds_of(rt.alloc(), b"run t; load", b"exit 3; load", 16, &words)?;
-    assert!(rt; plain.as_slice() == b"srrl".as_slice());
-    assert!(rt; trail.as_slice() == b"srrl".as_slice());
+    assert!(rt; are_kinds(rt.alloc(), &given, &words, b"srrl")?);
     Ok(())
 }
 
-#[test]
-fn a_variable_that_is_not_set_has_no_words(rt: HostRuntime) -> Result<(), Fail> {
-    let alloc = rt.alloc();
-    let given = Given::new(alloc, b"load", &[], b"load", (16, 10_000))?;
+/// What kind of word of a variable a text is.
+fn kind_of(alloc: Global, given: &Given, name: &[u8], word: &[u8]) -> Result<WordKind, RunError> {
     let Given {
         env,
         devices,
         bounds,
-    } = &given;
-    let found = try_word::<Trail>(alloc, env, devices, b"q", *bounds, b"1x");
+    } = given;
+    try_word::<Trail>(alloc, env, devices, name, *bounds, word)
+}
+
+#[test]
+fn a_variable_that_is_not_set_has_no_words(rt: HostRuntime) -> Result<(), Fail> {
+    let given = Given::new(rt.alloc(), b"load", &[], b"load", (16, 10_000))?;
+    let found = kind_of(rt.alloc(), &given, b"q", b"1x");
     assert!(rt; matches!(found, Err(RunError::NoSuchVariable)));
     Ok(())
 }

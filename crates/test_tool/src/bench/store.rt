@@ -2,7 +2,7 @@
 //! for each store; and the same of 32 marks over an environment of 1,000 variables. The small ones come first, since
 //! memory that was given back serves what comes after and is not seen. The output is the same each time.
 
-use crate::rows::{Row, run_turns};
+use crate::bench::rows::{Row, run_turns};
 use bootstore::{Plain, Store, StoreError, Trail};
 use envtools::{Env, EnvError};
 use std::alloc::Global;
@@ -41,71 +41,101 @@ fn held_pages(rt: &HostRuntime) -> io::Result<u64> {
     Ok(second.and_then(|word| word.parse().ok()).unwrap_or(0))
 }
 
-fn measure<S: Store>(rt: &HostRuntime, name: &str, mut store: S) -> io::Result<()> {
-    let Ok(env) = environment(rt.alloc()) else {
-        return eprintln!(rt; "{name}: no memory");
-    };
-    if store.start(&env).is_err() {
-        return eprintln!(rt; "{name}: no memory");
-    }
+/// What some changes took, in microseconds and in pages of memory.
+#[derive(Clone, Copy)]
+struct Cost {
+    time: u128,
+    pages: u64,
+}
+
+/// Begins with the environment of many variables.
+fn begin<S: Store>(alloc: Global, store: &mut S) -> Option<()> {
+    let env = environment(alloc).ok()?;
+    store.start(&env).ok()
+}
+
+/// Marks the state again and again, and tells the cost.
+fn time_marks<S: Store>(rt: &HostRuntime, store: &mut S) -> io::Result<Option<Cost>> {
     let pages_before = held_pages(rt)?;
     let start = Instant::now(rt)?;
-    let marked = mark_often(&mut store);
+    let marked = mark_often(store);
     let time = start.elapsed(rt)?.as_micros();
     let pages = held_pages(rt)?.saturating_sub(pages_before);
-    let start_of_return = Instant::now(rt)?;
-    for _ in 0..MARKS {
+    Ok(marked.ok().map(|_| Cost { time, pages }))
+}
+
+/// Goes back so often, and tells the microseconds.
+fn time_back<S: Store>(rt: &HostRuntime, store: &mut S, times: u32) -> io::Result<u128> {
+    let start = Instant::now(rt)?;
+    for _ in 0..times {
         store.back();
     }
-    let time_back = start_of_return.elapsed(rt)?.as_micros();
-    if marked.is_err() {
+    Ok(start.elapsed(rt)?.as_micros())
+}
+
+fn measure<S: Store>(rt: &HostRuntime, name: &str, store: &mut S) -> io::Result<()> {
+    if begin(rt.alloc(), store).is_none() {
         return eprintln!(rt; "{name}: no memory");
     }
+    let cost = time_marks(rt, store)?;
+    let back = time_back(rt, store, MARKS)?;
+    let Some(Cost { time, pages }) = cost else {
+        return eprintln!(rt; "{name}: no memory");
+    };
     eprintln!(rt;
-        "{name}: {MARKS} marks in {time} us and {pages} pages of memory, back in {time_back} us"
+        "{name}: {MARKS} marks in {time} us and {pages} pages of memory, back in {back} us"
     )
 }
 
-fn count_variables<S: Store>(store: &S) -> u64 {
+/// How many variables there are, and the microseconds of listing them.
+fn time_list<S: Store>(rt: &HostRuntime, store: &S) -> io::Result<(u64, u128)> {
+    let start = Instant::now(rt)?;
     let mut count: u64 = 0;
     for _ in store.variables() {
         count = count.saturating_add(1);
     }
-    count
+    Ok((count, start.elapsed(rt)?.as_micros()))
+}
+
+/// Makes a row of changes, and tells the cost.
+fn time_row<S: Store>(
+    rt: &HostRuntime,
+    store: &mut S,
+    row: Row,
+    turns: u32,
+) -> io::Result<Option<Cost>> {
+    let pages_before = held_pages(rt)?;
+    let start = Instant::now(rt)?;
+    let made = run_turns(rt.alloc(), store, row, turns);
+    let time = start.elapsed(rt)?.as_micros();
+    let pages = held_pages(rt)?.saturating_sub(pages_before);
+    Ok(made.ok().map(|_| Cost { time, pages }))
 }
 
 /// Makes a row of changes, goes back and lists the variables, with the time of each and the memory before the way back.
 fn measure_row<S: Store>(
     rt: &HostRuntime,
     name: &str,
-    mut store: S,
+    store: &mut S,
     row: Row,
     turns: u32,
 ) -> io::Result<()> {
-    let pages_before = held_pages(rt)?;
-    let start = Instant::now(rt)?;
-    let made = run_turns(rt.alloc(), &mut store, row, turns);
-    let time = start.elapsed(rt)?.as_micros();
-    let pages = held_pages(rt)?.saturating_sub(pages_before);
-    let start_of_return = Instant::now(rt)?;
-    store.back();
-    let time_back = start_of_return.elapsed(rt)?.as_micros();
-    let start_of_list = Instant::now(rt)?;
-    let left = count_variables(&store);
-    let time_list = start_of_list.elapsed(rt)?.as_micros();
-    if made.is_err() {
+    let cost = time_row(rt, store, row, turns)?;
+    let back = time_back(rt, store, 1)?;
+    let (left, listed) = time_list(rt, store)?;
+    let Some(Cost { time, pages }) = cost else {
         return eprintln!(rt; "{name}: no memory");
-    }
+    };
     eprintln!(rt;
-        "{name}: {turns} {row:?} in {time} us and {pages} pages of memory, back in {time_back} us, {left} variables in {time_list} us"
+        "{name}: {turns} {row:?} in {time} us and {pages} pages of memory, back in {back} us, {left} variables in {listed} us"
     )
 }
 
 /// Makes rows of changes of three sizes on a store of each kind.
 fn measure_rows(rt: &HostRuntime, row: Row, sizes: [u32; 3]) -> io::Result<()> {
     for turns in sizes {
-        measure_row(rt, "Plain", Plain::new(rt.alloc()), row, turns)?;
-        measure_row(rt, "Trail", Trail::new(rt.alloc()), row, turns)?;
+        measure_row(rt, "Plain", &mut Plain::new(rt.alloc()), row, turns)?;
+        measure_row(rt, "Trail", &mut Trail::new(rt.alloc()), row, turns)?;
     }
     Ok(())
 }
@@ -115,7 +145,7 @@ pub(crate) fn run(rt: &HostRuntime) -> io::Result<()> {
     measure_rows(rt, Row::NewNames, [1_000, 4_000, 16_000])?;
     measure_rows(rt, Row::Turns, [10_000, 100_000, 1_000_000])?;
     measure_rows(rt, Row::SameNames, [10_000, 100_000, 1_000_000])?;
-    measure(rt, "Plain", Plain::new(rt.alloc()))?;
-    measure(rt, "Trail", Trail::new(rt.alloc()))?;
+    measure(rt, "Plain", &mut Plain::new(rt.alloc()))?;
+    measure(rt, "Trail", &mut Trail::new(rt.alloc()))?;
     println!(rt; "measured")
 }

@@ -1,8 +1,9 @@
 //! Makes the calls that the other parts leave out, and prints the variables of an environment after each. Where memory
 //! is refused it prints those that are left, and makes the call again.
 
-use crate::parts::{encodes, expands, expands_one, reaches_files, tries};
-use crate::trouble::{Trouble, told_apart};
+use crate::growths::bytes::print_pair;
+use crate::growths::parts::{encodes, expands, expands_one, reaches_files, tries};
+use crate::growths::trouble::{Trouble, told_apart};
 use bootstore::{Plain, Trail};
 use envtools::{Env, EnvError, ScriptError, apply_script};
 use std::alloc::Global;
@@ -48,44 +49,44 @@ fn print_state(rt: &impl Print, env: &Env) -> io::Result<()> {
         let Some((name, value)) = env.pair(at) else {
             break;
         };
-        print!(rt; " ")?;
-        for byte in name {
-            print!(rt; "{}", char::from(*byte))?;
-        }
-        print!(rt; "=")?;
-        for byte in value {
-            print!(rt; "{}", char::from(*byte))?;
-        }
+        print_pair(rt, name, value)?;
     }
     println!(rt; "")
 }
 
 /// Takes the copy of an environment in its place.
-fn copy(env: &mut Env) -> Result<(), EnvError> {
-    let copied = env.copy()?;
-    *env = copied;
-    Ok(())
+fn copy(env: &mut Env) -> Result<bool, Trouble> {
+    *env = told_apart(env.copy(), EnvError::Memory)?;
+    Ok(true)
 }
 
-/// What a change of the environment, or a copy of it, ends with.
-fn changed(answer: Result<(), EnvError>) -> Result<bool, Trouble> {
-    told_apart(answer, EnvError::Memory)?;
+// The next three functions promise nothing, so that the proof of their caller has little to look at.
+
+fn set(env: &mut Env, name: &[u8], value: &[u8]) -> Result<bool, Trouble> {
+    told_apart(env.set(name, value), EnvError::Memory)?;
+    Ok(true)
+}
+
+fn change(env: &mut Env, name: &[u8], words: &[&[u8]]) -> Result<bool, Trouble> {
+    told_apart(env.change(name, words), EnvError::Memory)?;
+    Ok(true)
+}
+
+fn apply(env: &mut Env, script: &[u8]) -> Result<bool, Trouble> {
+    told_apart(apply_script(env, script), ScriptError::Memory)?;
     Ok(true)
 }
 
 /// Makes a call. The answer is whether it gives what it should.
 fn make(alloc: Global, env: &mut Env, call: Call) -> Result<bool, Trouble> {
     match call {
-        Call::Set => changed(env.set(b"c", b"1")),
-        Call::SetAgain => changed(env.set(b"a", b"a longer value")),
-        Call::Change => changed(env.change(b"b", &[b"x ", b"y"])),
-        Call::ChangeSame => changed(env.change(b"c", &[b"1"])),
-        Call::Delete => changed(env.change(b"a", &[])),
-        Call::Copy => changed(copy(env)),
-        Call::Script => {
-            told_apart(apply_script(env, b"d 4"), ScriptError::Memory)?;
-            Ok(true)
-        }
+        Call::Set => set(env, b"c", b"1"),
+        Call::SetAgain => set(env, b"a", b"a longer value"),
+        Call::Change => change(env, b"b", &[b"x ", b"y"]),
+        Call::ChangeSame => change(env, b"c", &[b"1"]),
+        Call::Delete => change(env, b"a", &[]),
+        Call::Copy => copy(env),
+        Call::Script => apply(env, b"d 4"),
         Call::TryPlain => tries::<Plain>(alloc, env),
         Call::TryTrail => tries::<Trail>(alloc, env),
         Call::Encode => encodes(alloc),
@@ -108,17 +109,22 @@ pub(crate) fn run(rt: &HostRuntime) -> io::Result<()> {
     print!(rt; "New:")?;
     print_state(rt, &env)?;
     for call in ROW {
-        let mut made = make(rt.alloc(), &mut env, call);
-        if made == Err(Trouble::Memory) {
-            print!(rt; "refused {call:?}:")?;
-            print_state(rt, &env)?;
-            made = make(rt.alloc(), &mut env, call);
-        }
-        if made != Ok(true) {
+        if make_told(rt, &mut env, call)? != Ok(true) {
             return println!(rt; "given up");
         }
         print!(rt; "{call:?}:")?;
         print_state(rt, &env)?;
     }
     Ok(())
+}
+
+/// Makes a call, and where memory is refused prints what is left, and makes it again.
+fn make_told(rt: &HostRuntime, env: &mut Env, call: Call) -> io::Result<Result<bool, Trouble>> {
+    let made = make(rt.alloc(), env, call);
+    if made != Err(Trouble::Memory) {
+        return Ok(made);
+    }
+    print!(rt; "refused {call:?}:")?;
+    print_state(rt, env)?;
+    Ok(make(rt.alloc(), env, call))
 }

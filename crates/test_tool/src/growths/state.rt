@@ -1,14 +1,8 @@
 //! The state of a store as one line.
 
+use crate::growths::bytes::{print_bytes, print_pair};
 use bootstore::Store;
 use std::io;
-
-fn print_bytes(rt: &impl Print, bytes: &[u8]) -> io::Result<()> {
-    for byte in bytes {
-        print!(rt; "{}", char::from(*byte))?;
-    }
-    Ok(())
-}
 
 /// Prints all that a store tells of its state.
 pub(crate) fn print_state<S: Store>(rt: &impl Print, store: &S) -> io::Result<()> {
@@ -20,18 +14,21 @@ pub(crate) fn print_state<S: Store>(rt: &impl Print, store: &S) -> io::Result<()
         store.log().len()
     )?;
     print_top(rt, store)?;
+    print_texts(rt, store)?;
+    print!(rt; " env")?;
+    for (name, value) in store.variables() {
+        print_pair(rt, name, value)?;
+    }
+    println!(rt; "")
+}
+
+/// Prints the text, and the value of the variable `x` of the shell.
+fn print_texts<S: Store>(rt: &impl Print, store: &S) -> io::Result<()> {
     print!(rt; " text [")?;
     print_bytes(rt, store.text())?;
     print!(rt; "] local x [")?;
     print_bytes(rt, store.get_local(b"x").unwrap_or(b"unset"))?;
-    print!(rt; "] env")?;
-    for (name, value) in store.variables() {
-        print!(rt; " ")?;
-        print_bytes(rt, name)?;
-        print!(rt; "=")?;
-        print_bytes(rt, value)?;
-    }
-    println!(rt; "")
+    print!(rt; "]")
 }
 
 fn print_top<S: Store>(rt: &impl Print, store: &S) -> io::Result<()> {

@@ -1,13 +1,11 @@
-//! Changes one variable of an image in a file, or of a pair in two files, as `set_bytes` does, for
-//! the comparisons with other tools. Not installed.
+//! Changes one variable of an image in a file, or of a pair in two files, as `set_bytes` does, for the comparisons with
+//! other tools.
 //!
-//! `test_set_image little|big FIRST SECOND NAME WORD..`, where SECOND is `-` for a single image.
-#![tactic(auto)]
+//! Its words are `little|big FIRST SECOND NAME WORD..`, where SECOND is `-` for a single image.
 
 use envimage::{ByteOrder, SIZE_MAX, Which};
 use std::alloc::AllocError;
-use std::process::ExitCode;
-use std::{env, fs, io};
+use std::fs;
 use ubtool_core::{Edit, set_bytes};
 use ubtool_files::read_up_to;
 
@@ -52,16 +50,9 @@ fn set(
     fs::write(rt, path, image.as_slice()).ok()
 }
 
-fn run(rt: &HostRuntime) -> Option<()> {
-    let words: io::Result<Vec<String>> = match env::args(rt) {
-        Ok(args) => args
-            .skip(1)
-            .collect(rt.alloc())
-            .map_err(|error| error.into()),
-        Err(error) => Err(error),
-    };
-    let words = words.ok()?;
-    let [order, first, second, name, values @ ..] = words.as_slice() else {
+/// Changes an image as the words say.
+pub(crate) fn run(rt: &HostRuntime, words: &[String]) -> Option<()> {
+    let [order, first, second, name, values @ ..] = words else {
         return None;
     };
     let order = if order.as_str() == "big" {
@@ -76,11 +67,4 @@ fn run(rt: &HostRuntime) -> Option<()> {
         name.as_str(),
         values,
     )
-}
-
-fn main(rt: HostRuntime) -> ExitCode {
-    match run(&rt) {
-        Some(()) => ExitCode::from(0),
-        None => ExitCode::from(1),
-    }
 }

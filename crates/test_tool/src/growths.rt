@@ -1,7 +1,7 @@
-//! Runs under refused growths of memory what its first word names, and all parts in turn without a word. The scripts
-//! `tools/growth*.sh` run it, with one growth after another refused. Not installed.
-#![tactic(auto)]
+//! Runs under refused growths of memory what its word names, and all parts in turn without a word. The scripts
+//! `tools/growth*.sh` run it, with one growth after another refused.
 
+mod bytes;
 mod calls;
 mod change;
 mod parts;
@@ -11,7 +11,7 @@ mod state;
 mod store;
 mod trouble;
 
-use std::{env, io};
+use std::io;
 
 /// The words of the parts, in their order.
 const PARTS: [&str; 5] = ["store", "calls", "rehearse", "long", "script"];
@@ -37,12 +37,10 @@ fn run_all(rt: &HostRuntime) -> io::Result<()> {
     Ok(())
 }
 
-fn main(rt: HostRuntime) -> io::Result<()> {
-    let Ok(mut words) = env::args(&rt) else {
-        return println!(rt; "no memory to begin with");
-    };
-    match words.nth(1) {
-        Some(part) => run_part(&rt, part.as_str()),
-        None => run_all(&rt),
+/// Runs the part of a word, or all.
+pub(crate) fn run(rt: &HostRuntime, part: Option<&str>) -> io::Result<()> {
+    match part {
+        Some(part) => run_part(rt, part),
+        None => run_all(rt),
     }
 }

@@ -1,8 +1,8 @@
 //! Makes one row of changes on a store of each kind and prints the state after each. Where a change is refused it
 //! prints the state that is left, and makes the change again.
 
-use crate::change::{Parts, ROW, make};
-use crate::state::print_state;
+use crate::growths::change::{Parts, ROW, make};
+use crate::growths::state::print_state;
 use bootstore::{Plain, Store, Trail};
 use std::io;
 

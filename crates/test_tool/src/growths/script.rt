@@ -1,7 +1,8 @@
 //! Applies a script of six lines to an environment of two variables, and prints whether memory was refused and the
 //! variables that are left.
 
-use crate::trouble::{Trouble, told_apart};
+use crate::growths::bytes::print_pair;
+use crate::growths::trouble::{Trouble, told_apart};
 use envtools::{Env, EnvError, ScriptError, apply_script};
 use std::alloc::Global;
 use std::io;
@@ -22,14 +23,7 @@ fn print_variables(rt: &impl Print, env: &Env) -> io::Result<()> {
         let Some(value) = env.get(name) else {
             continue;
         };
-        print!(rt; " ")?;
-        for byte in name {
-            print!(rt; "{}", char::from(*byte))?;
-        }
-        print!(rt; "=")?;
-        for byte in value {
-            print!(rt; "{}", char::from(*byte))?;
-        }
+        print_pair(rt, name, value)?;
     }
     println!(rt; "")
 }

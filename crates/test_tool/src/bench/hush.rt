@@ -1,7 +1,7 @@
 //! Times the lexer, the parser and the expansion over many shapes, each at two sizes or three: the bytes read in
 //! a second must not fall with the size.
 
-use crate::shape::{Shape, blanks, many_names, nested_ifs};
+use crate::bench::shape::{Shape, blanks, many_names, nested_ifs};
 use hushlang::expand::{ExpandError, OneVariable, expand};
 use hushlang::lexer::Lexer;
 use hushlang::parse::parse;
@@ -56,6 +56,19 @@ fn first_words(script: &Script) -> &[Word] {
     }
 }
 
+/// The nanoseconds of the fastest turn of some work.
+fn best_of<E: Drop, F: Fn() -> Result<usize, E>>(rt: &HostRuntime, work: &F) -> io::Result<u128>
+    requires { F.IsAlwaysCallable work.now }
+{
+    let mut best = u128::MAX;
+    for _ in 0..TURNS {
+        let start = Instant::now(rt)?;
+        let _ = work();
+        best = best.min(start.elapsed(rt)?.as_nanos());
+    }
+    Ok(best)
+}
+
 /// Writes what some work finds, and how fast its fastest turn is.
 fn time<E: Display + Drop, F: Fn() -> Result<usize, E>>(
     rt: &HostRuntime,
@@ -65,12 +78,7 @@ fn time<E: Display + Drop, F: Fn() -> Result<usize, E>>(
 ) -> io::Result<()>
     requires { F.IsAlwaysCallable work }
 {
-    let mut best = u128::MAX;
-    for _ in 0..TURNS {
-        let start = Instant::now(rt)?;
-        let _ = work();
-        best = best.min(start.elapsed(rt)?.as_nanos());
-    }
+    let best = best_of(rt, &work)?;
     match work() {
         Ok(count) => println!(rt; "{name} of {size}: {count}")?,
         Err(error) => println!(rt; "{name} of {size}: {error}")?,
@@ -109,8 +117,8 @@ fn time_expansion(
     time(rt, name, size, || count_fields(rt.alloc(), words, vars))
 }
 
-fn time_texts(rt: &HostRuntime, size: usize) -> io::Result<()> {
-    let ifs = nested_ifs(rt.alloc())?;
+/// Times the lexer over one word, of letters, of quotes and of backslashes.
+fn time_tokens(rt: &HostRuntime, size: usize) -> io::Result<()> {
     for (name, row) in [
         ("tokens: a word", b"a".as_slice()),
         ("tokens: quotes", b"'"),
@@ -118,6 +126,11 @@ fn time_texts(rt: &HostRuntime, size: usize) -> io::Result<()> {
     ] {
         time_lexer(rt, Shape::of(name, row), size)?;
     }
+    Ok(())
+}
+
+/// Times the parser over rows of bytes.
+fn time_trees(rt: &HostRuntime, size: usize) -> io::Result<()> {
     for (name, row) in [
         ("lists: commands", b"a;".as_slice()),
         ("lists: a word", b"a"),
@@ -126,10 +139,16 @@ fn time_texts(rt: &HostRuntime, size: usize) -> io::Result<()> {
         ("lists: quoted words", b"\"a b\" "),
         ("lists: dollars", b"$"),
         ("lists: variables", b"$a"),
-        ("lists: nested ifs", &ifs),
     ] {
         time_parser(rt, Shape::of(name, row), size)?;
     }
+    Ok(())
+}
+
+/// Times the parser over `if`s, in one another and with many arms.
+fn time_ifs(rt: &HostRuntime, size: usize) -> io::Result<()> {
+    let ifs = nested_ifs(rt.alloc())?;
+    time_parser(rt, Shape::of("lists: nested ifs", &ifs), size)?;
     let arms = Shape {
         name: "lists: arms of an if",
         begin: b"if a; then b; ",
@@ -139,25 +158,34 @@ fn time_texts(rt: &HostRuntime, size: usize) -> io::Result<()> {
     time_parser(rt, arms, size)
 }
 
+/// Times `$x` over and over, where its value is blanks and what stands behind them.
+fn time_blanks(rt: &HostRuntime, name: &str, behind: &[u8], size: usize) -> io::Result<()> {
+    let uses = Shape::echo("", b" $x").text(rt.alloc(), size / 2)?;
+    let value = blanks(rt.alloc(), size / 2, behind)?;
+    time_expansion(rt, name, &uses, &value, size)
+}
+
+/// Times a word over and over, where `x` is empty.
+fn time_words(rt: &HostRuntime, name: &str, word: &[u8], size: usize) -> io::Result<()> {
+    let text = Shape::echo("", word).text(rt.alloc(), size)?;
+    time_expansion(rt, name, &text, b"", size)
+}
+
 fn time_expansions(rt: &HostRuntime, size: usize) -> io::Result<()> {
-    let alloc = rt.alloc();
-    let uses = Shape::echo("", b" $x").text(alloc, size / 2)?;
-    let spaces = blanks(alloc, size / 2, b"")?;
-    time_expansion(rt, "fields: blanks", &uses, &spaces, size)?;
-    let letter = blanks(alloc, size / 2, b"b")?;
-    time_expansion(rt, "fields: blanks and a letter", &uses, &letter, size)?;
-    let unset = Shape::echo("", b" $y").text(alloc, size)?;
-    time_expansion(rt, "fields: an unset name", &unset, b"", size)?;
-    let names = many_names(alloc, size)?;
+    time_blanks(rt, "fields: blanks", b"", size)?;
+    time_blanks(rt, "fields: blanks and a letter", b"b", size)?;
+    time_words(rt, "fields: an unset name", b" $y", size)?;
+    let names = many_names(rt.alloc(), size)?;
     time_expansion(rt, "fields: unset names", &names, b"", size)?;
-    let quotes = Shape::echo("", b" ''").text(alloc, size)?;
-    time_expansion(rt, "fields: quotes", &quotes, b"", size)
+    time_words(rt, "fields: quotes", b" ''", size)
 }
 
 /// Times all shapes.
 pub(crate) fn run(rt: &HostRuntime) -> io::Result<()> {
     for size in SIZES {
-        time_texts(rt, size)?;
+        time_tokens(rt, size)?;
+        time_trees(rt, size)?;
+        time_ifs(rt, size)?;
     }
     for size in EXPANDED_SIZES {
         time_expansions(rt, size)?;

@@ -1,6 +1,5 @@
-//! Prints on the error output how long what its first word names takes: stores, images, scripts or rehearsals, and all
-//! in turn without a word. The output is the same each time. Not installed.
-#![tactic(auto)]
+//! Prints on the error output how long what its word names takes: stores, images, scripts or rehearsals, and all in
+//! turn without a word. The output is the same each time.
 
 mod hush;
 mod image;
@@ -9,7 +8,7 @@ mod rows;
 mod shape;
 mod store;
 
-use std::{env, io};
+use std::io;
 
 /// The words of the parts, in their order. Stores are the first, since their memory is told too.
 const PARTS: [&str; 4] = ["store", "image", "hush", "rehearse"];
@@ -34,10 +33,10 @@ fn time_all(rt: &HostRuntime) -> io::Result<()> {
     Ok(())
 }
 
-fn main(rt: HostRuntime) -> io::Result<()> {
-    let mut words = env::args(&rt)?;
-    match words.nth(1) {
-        Some(part) => time_part(&rt, part.as_str()),
-        None => time_all(&rt),
+/// Times the part of a word, or all.
+pub(crate) fn run(rt: &HostRuntime, part: Option<&str>) -> io::Result<()> {
+    match part {
+        Some(part) => time_part(rt, part),
+        None => time_all(rt),
     }
 }

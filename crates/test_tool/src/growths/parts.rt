@@ -1,6 +1,6 @@
 //! Calls that change no environment: whether each gives what it should.
 
-use crate::trouble::{Trouble, told_apart};
+use crate::growths::trouble::{Trouble, told_apart};
 use bootstore::Store;
 use envimage::{ByteOrder, ImageError, encode};
 use envtools::Env;
@@ -47,12 +47,17 @@ pub(crate) fn expands(alloc: Global) -> Result<bool, Trouble> {
         _ => &[],
     };
     let fields = told_apart(expand(alloc, words, &variables()), ExpandError::Memory)?;
+    Ok(are_fields(&fields))
+}
+
+/// Whether fields are those of the words.
+fn are_fields(fields: &[Vec<u8>]) -> bool {
     let wanted: [&[u8]; 5] = [b"echo", b"1", b"2", b"a b", b"1  2"];
     let mut is_so = fields.len() == wanted.len();
     for (field, right) in fields.iter().zip(wanted) {
         is_so = is_so && field.as_slice() == right;
     }
-    Ok(is_so)
+    is_so
 }
 
 /// Whether the value of an assignment is expanded uncut.
@@ -72,26 +77,42 @@ pub(crate) fn expands_one(alloc: Global) -> Result<bool, Trouble> {
 pub(crate) fn reaches_files(alloc: Global) -> Result<bool, Trouble> {
     let mut files = MemoryFiles::new(alloc, None);
     told_apart(files.add("e", b"0123456789"), AllocError)?;
+    Ok(reads_part(alloc, &mut files)? && writes_part(alloc, &mut files)?)
+}
+
+/// Whether a part of the file has its bytes.
+fn reads_part(alloc: Global, files: &mut MemoryFiles) -> Result<bool, Trouble> {
     let part = told_apart(files.read_at(alloc, "e", 2, 3), FileFault::Memory)?;
+    Ok(part.as_slice() == b"234".as_slice())
+}
+
+/// Whether the file has two bytes that are written.
+fn writes_part(alloc: Global, files: &mut MemoryFiles) -> Result<bool, Trouble> {
     told_apart(files.write_at("e", 8, b"ab"), FileFault::Memory)?;
     let whole = told_apart(files.read_all(alloc, "e"), FileFault::Memory)?;
-    Ok(part.as_slice() == b"234".as_slice() && whole.as_slice() == b"01234567ab".as_slice())
+    Ok(whole.as_slice() == b"01234567ab".as_slice())
 }
 
 /// Whether `10` is the word of a run and `1` is too short for one.
 pub(crate) fn tries<S: Store>(alloc: Global, env: &Env) -> Result<bool, Trouble> {
     let devices = told_apart(Devices::parse(alloc, b"load"), DevicesError::Memory)?;
+    Ok(
+        is_word::<S>(alloc, env, &devices, b"1", WordKind::Short)?
+            && is_word::<S>(alloc, env, &devices, b"10", WordKind::Run)?,
+    )
+}
+
+/// Whether a text is a word of this kind.
+fn is_word<S: Store>(
+    alloc: Global,
+    env: &Env,
+    devices: &Devices,
+    word: &[u8],
+    wanted: WordKind,
+) -> Result<bool, Trouble> {
     let Some(bounds) = Bounds::new(16, 10_000) else {
         return Ok(false);
     };
-    for (word, right) in [
-        (b"1".as_slice(), WordKind::Short),
-        (b"10".as_slice(), WordKind::Run),
-    ] {
-        let kind = try_word::<S>(alloc, env, &devices, b"bootcmd", bounds, word);
-        if told_apart(kind, RunError::Memory)? != right {
-            return Ok(false);
-        }
-    }
-    Ok(true)
+    let kind = try_word::<S>(alloc, env, devices, b"bootcmd", bounds, word);
+    Ok(told_apart(kind, RunError::Memory)? == wanted)
 }

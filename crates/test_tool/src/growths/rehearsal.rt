@@ -7,7 +7,7 @@ use envimage::{Out, Over, write_all};
 use envtools::Env;
 use rehearse::{Bounds, Devices};
 use rehearse_runs::{ListError, RunError, Runs, write_listing};
-use std::alloc::Global;
+use std::alloc::{AllocError, Global};
 use std::io;
 
 /// What is rehearsed.
@@ -21,25 +21,59 @@ struct Script {
 impl Script {
     /// A text that asks two device commands, or 1,000 commands and then seven device commands.
     fn new(alloc: Global, is_long: bool) -> Option<Self> {
-        let mut text = Vec::new(alloc);
-        if is_long {
-            for _ in 0..1000u32 {
-                text.extend_from_slice(b"true;").ok()?;
-            }
-            text.extend_from_slice(b"load; load; load; load; load; load; load")
-                .ok()?;
-        } else {
-            text.extend_from_slice(b"load a || load b; echo $?").ok()?;
-        }
-        let mut env = Env::new(alloc);
-        env.set(b"bootcmd", &text).ok()?;
-        let devices = Devices::parse(alloc, b"load").ok()?;
         let bounds = Bounds::new(7, 10_000)?;
+        let env = environment(alloc, is_long)?;
+        let devices = devices(alloc)?;
         Some(Script {
             env,
             devices,
             bounds,
         })
+    }
+}
+
+/// The text of `bootcmd`.
+fn text_of(alloc: Global, is_long: bool) -> Result<Vec<u8>, AllocError> {
+    let mut text = Vec::new(alloc);
+    if is_long {
+        for _ in 0..1000u32 {
+            text.extend_from_slice(b"true;")?;
+        }
+        text.extend_from_slice(b"load; load; load; load; load; load; load")?;
+    } else {
+        text.extend_from_slice(b"load a || load b; echo $?")?;
+    }
+    Ok(text)
+}
+
+fn environment(alloc: Global, is_long: bool) -> Option<Env> {
+    let text = text_of(alloc, is_long).ok()?;
+    let mut env = Env::new(alloc);
+    env.set(b"bootcmd", &text).ok()?;
+    Some(env)
+}
+
+fn devices(alloc: Global) -> Option<Devices> {
+    Devices::parse(alloc, b"load").ok()
+}
+
+/// The word of the last run that was given, in room of its own.
+#[derive(Drop)]
+struct Last {
+    room: [u8; 32],
+    size: Option<usize>,
+}
+
+impl Last {
+    fn word(&self) -> Option<&[u8]> {
+        self.room.get(..self.size?)
+    }
+
+    fn keep(&mut self, word: &[u8]) {
+        if let Some(room) = self.room.get_mut(..word.len()) {
+            room.copy_from_slice(word);
+            self.size = Some(word.len());
+        }
     }
 }
 
@@ -73,38 +107,53 @@ fn has_failed<S: Store>(runs: &mut Runs<'_, S>) -> bool {
     matches!(runs.next(), Err(RunError::Failed))
 }
 
+/// Writes the listing of some runs, and tells whether it is whole. After want of memory it keeps the word of the last
+/// run that was given.
+fn write_runs<S: Store, O: Out>(
+    runs: &mut Runs<'_, S>,
+    last: &mut Last,
+    out: &mut O,
+) -> Option<bool> {
+    match write_listing(runs, &[], None, out) {
+        Ok(_) => return Some(true),
+        Err(ListError::Memory) => write_all(out, b"refused\n").ok()?,
+        Err(_) => return None,
+    }
+    if !has_failed(runs) {
+        return None;
+    }
+    if let Some(word) = runs.given() {
+        last.keep(word);
+    }
+    Some(false)
+}
+
+/// Writes the listing behind the last run that was given, and tells whether it is whole.
+fn list_once<S: Store, O: Out>(
+    alloc: Global,
+    script: &Script,
+    last: &mut Last,
+    out: &mut O,
+) -> Option<bool> {
+    match runs_of::<S>(alloc, script, last.word()) {
+        Ok(mut runs) => write_runs(&mut runs, last, out),
+        Err(RunError::Memory) => {
+            write_all(out, b"refused\n").ok()?;
+            Some(false)
+        }
+        Err(_) => None,
+    }
+}
+
 /// Writes the listing, and after want of memory the rest of it.
 fn list<S: Store, O: Out>(alloc: Global, script: &Script, out: &mut O) -> Option<()> {
-    let mut given = [0u8; 32];
-    let mut count = None;
+    let mut last = Last {
+        room: [0; 32],
+        size: None,
+    };
     for _ in 0..4u32 {
-        let after = match count {
-            Some(count) => given.get(..count),
-            None => None,
-        };
-        let mut runs = match runs_of::<S>(alloc, script, after) {
-            Ok(runs) => runs,
-            Err(RunError::Memory) => {
-                write_all(out, b"refused\n").ok()?;
-                continue;
-            }
-            Err(_) => return None,
-        };
-        match write_listing(&mut runs, &[], None, out) {
-            Ok(_) => return Some(()),
-            Err(ListError::Memory) => {
-                write_all(out, b"refused\n").ok()?;
-                if !has_failed(&mut runs) {
-                    return None;
-                }
-                if let Some(word) = runs.given() {
-                    if let Some(room) = given.get_mut(..word.len()) {
-                        room.copy_from_slice(word);
-                    }
-                    count = Some(word.len());
-                }
-            }
-            Err(_) => return None,
+        if list_once::<S, O>(alloc, script, &mut last, out)? {
+            return Some(());
         }
     }
     None

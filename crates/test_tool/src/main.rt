@@ -1,0 +1,54 @@
+//! What the tools and the suites run of the libraries beside the programs. Not installed.
+//!
+//! - `test_tool bench [PART]` times what a part names.
+//! - `test_tool growths [PART]` makes calls again and again, for refused growths of memory.
+//! - `test_tool set_image ORDER FIRST SECOND NAME WORD..` changes an image in a file.
+//!
+//! Without a word it runs what prints the same each time: all growths, and the timings of scripts.
+#![tactic(auto)]
+
+mod bench;
+mod growths;
+mod set_image;
+
+use std::process::ExitCode;
+use std::{env, io};
+
+/// The words behind the program's name.
+fn words_of(rt: &HostRuntime) -> Option<Vec<String>> {
+    let words = env::args(rt).ok()?;
+    words.skip(1).collect(rt.alloc()).ok()
+}
+
+/// The first word, if there is one.
+fn first(words: &[String]) -> Option<&str> {
+    match words.first() {
+        Some(word) => Some(word.as_str()),
+        None => None,
+    }
+}
+
+/// Runs what the words say, and tells whether it was done.
+fn run(rt: &HostRuntime, words: &[String]) -> io::Result<bool> {
+    let [what, rest @ ..] = words else {
+        growths::run(rt, None)?;
+        bench::run(rt, Some("hush"))?;
+        return Ok(true);
+    };
+    match what.as_str() {
+        "bench" => bench::run(rt, first(rest))?,
+        "growths" => growths::run(rt, first(rest))?,
+        "set_image" => return Ok(set_image::run(rt, rest).is_some()),
+        _ => return Ok(false),
+    }
+    Ok(true)
+}
+
+fn main(rt: HostRuntime) -> io::Result<ExitCode> {
+    let Some(words) = words_of(&rt) else {
+        println!(rt; "no memory to begin with")?;
+        return Ok(ExitCode::from(0));
+    };
+    let is_done = run(&rt, &words)?;
+    Ok(ExitCode::from(u8::from(!is_done)))
+}
