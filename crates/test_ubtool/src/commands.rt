@@ -1,6 +1,5 @@
 //! What no clause says: that a call succeeds, and the texts.
-use envimage::ByteOrder;
-use std::alloc::AllocError;
+use std::alloc::{AllocError, Global};
 use std::test::Fail;
 use ubtool_cli::{Ask, read_command, words_called};
 
@@ -18,6 +17,15 @@ fn answer(rt: &HostRuntime, line: &str) -> Result<String, AllocError> {
     }
 }
 
+/// The words that a call by the words of a line has.
+fn called(alloc: Global, line: &str) -> Result<String, AllocError> {
+    let mut args = Vec::new(alloc);
+    for word in line.split_whitespace() {
+        args.push(String::from_str(alloc, word)?)?;
+    }
+    Ok(words_called(args)?.join(alloc, " ")?)
+}
+
 #[test]
 fn is_called_by_other_names(rt: HostRuntime) -> Result<(), Fail> {
     let table = [
@@ -32,11 +40,7 @@ fn is_called_by_other_names(rt: HostRuntime) -> Result<(), Fail> {
         ("", ""),
     ];
     for (line, wanted) in table {
-        let mut args = Vec::new(rt.alloc());
-        for word in line.split_whitespace() {
-            args.push(String::from_str(rt.alloc(), word)?)?;
-        }
-        let words = words_called(args)?.join(rt.alloc(), " ")?;
+        let words = called(rt.alloc(), line)?;
         assert_eq!(rt; words.as_str(), wanted, "for {line}");
     }
     Ok(())
@@ -44,26 +48,11 @@ fn is_called_by_other_names(rt: HostRuntime) -> Result<(), Fail> {
 
 #[test]
 fn reads_a_rehearsal(rt: HostRuntime) -> Result<(), Fail> {
-    let words = ["rehearse", "-d", "d.txt", "--limit", "1", "z"];
-    let Ask::Rehearse {
-        config,
-        devices_file,
-        what,
-        order,
-    } = read_command(rt.alloc(), words.as_slice())?
-    else {
-        return Err(Fail::from("no rehearsal"));
-    };
-    assert_eq!(rt; config.as_str(), "/etc/fw_env.config");
-    assert_eq!(rt; devices_file.as_str(), "d.txt");
-    assert_eq!(rt; what.name.as_str(), "bootcmd");
-    assert_eq!(rt; what.bounds.devices(), 16);
-    assert_eq!(rt; what.bounds.steps(), 10_000);
-    assert!(rt; what.after.is_none());
-    assert_eq!(rt; what.limit, Some(1));
-    assert_eq!(rt; what.names.len(), 1);
-    assert_eq!(rt; what.names[0].as_str(), "z");
-    assert_eq!(rt; order, ByteOrder::Little);
+    let given = answer(&rt, "rehearse -d d.txt --limit 1 z")?;
+    assert_eq!(rt;
+        given.as_str(),
+        "Rehearse { config: \"/etc/fw_env.config\", devices_file: \"d.txt\", what: RehearseAsk { name: \"bootcmd\", bounds: Bounds { devices: 16, steps: 10000 }, after: None, limit: Some(1), names: [\"z\"] }, order: Little }"
+    );
     Ok(())
 }
 

@@ -2,6 +2,7 @@
 use crate::calls::{print_input, run_words};
 use crate::writers::{FailsOnce, Memory};
 use envimage::{ByteOrder, OutFault, Over, encode, write_all, write_parts};
+use std::alloc::Global;
 use std::io::{self, BufWriter, ErrorKind, Read, Write};
 use std::test::Fail;
 use ubtool_files::{MemoryFiles, UntilFailed};
@@ -55,24 +56,26 @@ impl Write for Writer<'_> {
     }
 }
 
+/// Whether the read of a number is told where it fails, and is the last.
+fn is_told_of_read(alloc: Global, failing: u64) -> bool {
+    let mut input = Reader {
+        bytes: ONE,
+        failing,
+        reads: 0,
+    };
+    let mut out = Memory::new(alloc);
+    let mut err = Memory::new(alloc);
+    let status = print_input(alloc, &mut input, &mut out, &mut err);
+    status == 1
+        && input.reads == failing.saturating_add(1)
+        && out.bytes.is_empty()
+        && err.bytes.as_slice() == b"ubtool: cannot read standard input\n".as_slice()
+}
+
 #[test]
 fn a_failed_read_is_told(rt: HostRuntime) {
     for failing in 0..4u64 {
-        let mut input = Reader {
-            bytes: ONE,
-            failing,
-            reads: 0,
-        };
-        let mut out = Memory::new(rt.alloc());
-        let mut err = Memory::new(rt.alloc());
-        let status = print_input(rt.alloc(), &mut input, &mut out, &mut err);
-        assert_eq!(rt; status, 1);
-        assert_eq!(rt; input.reads, failing + 1);
-        assert_eq!(rt; out.bytes.len(), 0);
-        assert_eq!(rt;
-            err.bytes.as_slice(),
-            b"ubtool: cannot read standard input\n".as_slice()
-        );
+        assert!(rt; is_told_of_read(rt.alloc(), failing));
     }
 }
 
@@ -133,32 +136,47 @@ fn files_of(rt: &HostRuntime, image: &[u8]) -> Result<MemoryFiles, Fail> {
     Ok(files)
 }
 
-/// What the words write on an output of which one write fails, or of which none does; the writes; and the
-/// error output.
+/// What a call wrote on an output of which one write fails, or of which none does, with its status.
+#[derive(Drop)]
+struct Written {
+    status: u8,
+    out: FailsOnce,
+    err: Memory,
+}
+
 fn output_of(
     rt: &HostRuntime,
     image: &[u8],
     words: &[&str],
     failing: usize,
-) -> Result<(u8, FailsOnce, Memory), Fail> {
+) -> Result<Written, Fail> {
     let mut files = files_of(rt, image)?;
     let mut out = FailsOnce::new(rt.alloc(), failing);
     let mut err = Memory::new(rt.alloc());
     let status = run_words(rt.alloc(), words, &mut files, &mut out, &mut err);
-    Ok((status, out, err))
+    Ok(Written { status, out, err })
 }
 
-/// Whether, whichever write on the output fails once, a front stands, it is told, and nothing more is written.
+/// Whether no write failed, and there was one.
+fn is_whole(written: &Written) -> bool {
+    written.status == 0 && written.err.bytes.is_empty() && written.out.writes > 0
+}
+
+/// Whether a front of the whole output stands, the failed write is told, and nothing more is written.
+fn is_front(written: &Written, whole: &[u8], failing: usize) -> bool {
+    written.status == 1
+        && written.out.writes == failing.saturating_add(1)
+        && whole.starts_with(written.out.memory.bytes.as_slice())
+        && written.err.bytes.as_slice() == b"ubtool: output failed\n".as_slice()
+}
+
+/// Whether that is so, whichever write on the output fails once.
 fn breaks_off(rt: &HostRuntime, image: &[u8], words: &[&str]) -> Result<bool, Fail> {
-    let (status, whole, err) = output_of(rt, image, words, usize::MAX)?;
-    let mut is_so = status == 0 && err.bytes.is_empty() && whole.writes > 0;
-    for failing in 0..whole.writes {
-        let (status, out, err) = output_of(rt, image, words, failing)?;
-        is_so = is_so
-            && status == 1
-            && out.writes == failing.saturating_add(1)
-            && whole.memory.bytes.starts_with(out.memory.bytes.as_slice())
-            && err.bytes.as_slice() == b"ubtool: output failed\n".as_slice();
+    let whole = output_of(rt, image, words, usize::MAX)?;
+    let mut is_so = is_whole(&whole);
+    for failing in 0..whole.out.writes {
+        let written = output_of(rt, image, words, failing)?;
+        is_so = is_so && is_front(&written, &whole.out.memory.bytes, failing);
     }
     Ok(is_so)
 }
@@ -179,24 +197,39 @@ fn a_failed_output_of_the_program_is_told(rt: HostRuntime) -> Result<(), Fail> {
     Ok(())
 }
 
+/// The line of the fault of a file that cannot be read.
+const LINE: &[u8] = b"ubtool: cannot read e\n";
+
+/// What is written on an error output of which one write fails, where `e` cannot be read, if the status is 1 and
+/// nothing is printed.
+fn told_of(alloc: Global, failing: usize) -> Result<FailsOnce, Fail> {
+    let mut files = MemoryFiles::new(alloc, None);
+    files.add(CONFIG, b"e 0 9\n")?;
+    let mut out = Memory::new(alloc);
+    let mut err = FailsOnce::new(alloc, failing);
+    let status = run_words(alloc, &["printenv"], &mut files, &mut out, &mut err);
+    if status == 1 && out.bytes.is_empty() {
+        return Ok(err);
+    }
+    Err(Fail::from("another status, or an output"))
+}
+
+/// Whether the line is told, or where a write failed a front of it and nothing behind that.
+fn is_told_once(err: &FailsOnce, failing: usize) -> bool {
+    if err.writes > failing {
+        err.writes == failing.saturating_add(1)
+            && err.memory.bytes.len() < LINE.len()
+            && LINE.starts_with(err.memory.bytes.as_slice())
+    } else {
+        err.memory.bytes.as_slice() == LINE
+    }
+}
+
 #[test]
 fn a_fault_is_told_once(rt: HostRuntime) -> Result<(), Fail> {
-    let line = b"ubtool: cannot read e\n".as_slice();
-    for failing in 0..=line.len() {
-        let mut files = MemoryFiles::new(rt.alloc(), None);
-        files.add(CONFIG, b"e 0 9\n")?;
-        let mut out = Memory::new(rt.alloc());
-        let mut err = FailsOnce::new(rt.alloc(), failing);
-        let status = run_words(rt.alloc(), &["printenv"], &mut files, &mut out, &mut err);
-        assert_eq!(rt; status, 1);
-        assert_eq!(rt; out.bytes.len(), 0);
-        assert!(rt; line.starts_with(err.memory.bytes.as_slice()));
-        if err.writes > failing {
-            assert_eq!(rt; err.writes, failing + 1);
-            assert!(rt; err.memory.bytes.len() < line.len());
-        } else {
-            assert_eq!(rt; err.memory.bytes.as_slice(), line);
-        }
+    for failing in 0..=LINE.len() {
+        let err = told_of(rt.alloc(), failing)?;
+        assert!(rt; is_told_once(&err, failing));
     }
     Ok(())
 }

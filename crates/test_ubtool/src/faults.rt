@@ -97,43 +97,63 @@ fn tells_of_images(rt: HostRuntime) {
     }
 }
 
+/// Whether a fault has this line.
+fn is_told(rt: &HostRuntime, fault: &Fault, wanted: &str) -> bool {
+    line_of(rt, fault).as_slice() == wanted.as_bytes()
+}
+
+/// Whether the fault of reading a path has this line.
+fn is_told_of_read(
+    rt: &HostRuntime,
+    path: &str,
+    fault: FileFault,
+    wanted: &str,
+) -> Result<bool, Fail> {
+    Ok(is_told(rt, &Fault::of_read(text(rt, path)?, fault), wanted))
+}
+
+#[test]
+fn tells_of_files(rt: HostRuntime) -> Result<(), Fail> {
+    for (path, fault, wanted) in [
+        (
+            "/etc/fw_env.config",
+            FileFault::Failed,
+            "ubtool: cannot read /etc/fw_env.config\n",
+        ),
+        ("e", FileFault::Short, "ubtool: e is too short\n"),
+        ("", FileFault::TooLong, "ubtool: \\e is too long\n"),
+    ] {
+        assert!(rt; is_told_of_read(&rt, path, fault, wanted)?, "{path}");
+    }
+    Ok(())
+}
+
+#[test]
+fn tells_of_a_write(rt: HostRuntime) -> Result<(), Fail> {
+    let spaced = Fault::of_write(text(&rt, "a b")?, FileFault::Failed);
+    assert!(rt; is_told(&rt, &spaced, "ubtool: cannot write a\\x20b\n"));
+    Ok(())
+}
+
+#[test]
+fn tells_of_a_variable(rt: HostRuntime) -> Result<(), Fail> {
+    let missing = Fault::NoSuchVariable(WordForm(text(&rt, "q")?));
+    assert!(rt; is_told(&rt, &missing, "ubtool: no variable q\n"));
+    Ok(())
+}
+
 #[test]
 fn tells_of_words(rt: HostRuntime) -> Result<(), Fail> {
-    let config = Fault::of_read(text(&rt, "/etc/fw_env.config")?, FileFault::Failed);
-    assert_eq!(rt;
-        line_of(&rt, &config).as_slice(),
-        b"ubtool: cannot read /etc/fw_env.config\n".as_slice()
-    );
-    let spaced = Fault::of_write(text(&rt, "a b")?, FileFault::Failed);
-    assert_eq!(rt;
-        line_of(&rt, &spaced).as_slice(),
-        b"ubtool: cannot write a\\x20b\n".as_slice()
-    );
-    let short = Fault::of_read(text(&rt, "e")?, FileFault::Short);
-    assert_eq!(rt;
-        line_of(&rt, &short).as_slice(),
-        b"ubtool: e is too short\n".as_slice()
-    );
-    let unnamed = Fault::of_read(text(&rt, "")?, FileFault::TooLong);
-    assert_eq!(rt;
-        line_of(&rt, &unnamed).as_slice(),
-        b"ubtool: \\e is too long\n".as_slice()
-    );
-    let missing = Fault::NoSuchVariable(WordForm(text(&rt, "q")?));
-    assert_eq!(rt;
-        line_of(&rt, &missing).as_slice(),
-        b"ubtool: no variable q\n".as_slice()
-    );
-    let empty = Fault::NotARun(WordForm(text(&rt, ".")?));
-    assert_eq!(rt;
-        line_of(&rt, &empty).as_slice(),
-        b"ubtool: no run has the word .\n".as_slice()
-    );
-    let odd = Fault::NotARun(WordForm(text(&rt, "\n\\\u{7f}~!\u{e9}\0")?));
-    assert_eq!(rt;
-        line_of(&rt, &odd).as_slice(),
-        b"ubtool: no run has the word \\n\\\\\\x7f~!\\xc3\\xa9\\x00\n".as_slice()
-    );
+    for (word, wanted) in [
+        (".", "ubtool: no run has the word .\n"),
+        (
+            "\n\\\u{7f}~!\u{e9}\0",
+            "ubtool: no run has the word \\n\\\\\\x7f~!\\xc3\\xa9\\x00\n",
+        ),
+    ] {
+        let fault = Fault::NotARun(WordForm(text(&rt, word)?));
+        assert!(rt; is_told(&rt, &fault, wanted));
+    }
     Ok(())
 }
 

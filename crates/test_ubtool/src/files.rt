@@ -1,4 +1,5 @@
 //! What no clause says: that a call succeeds, and what the machine's own files do.
+use std::alloc::{AllocError, Global};
 use std::io::{ErrorKind, Read};
 use std::test::Fail;
 use std::{fs, io, process};
@@ -12,26 +13,72 @@ fn two_files(rt: &HostRuntime, failing: Option<usize>) -> Result<MemoryFiles, Fa
     Ok(files)
 }
 
+/// Whether an answer is this one.
+fn is_answer(found: Result<Vec<u8>, FileFault>, wanted: Result<&[u8], FileFault>) -> bool {
+    match (found, wanted) {
+        (Ok(found), Ok(wanted)) => found.as_slice() == wanted,
+        (Err(found), Err(wanted)) => found == wanted,
+        _ => false,
+    }
+}
+
+// The next functions promise nothing, so that the proof of a test has little to look at.
+
+/// Whether a file has these bytes, or is refused so.
+fn has<F: Files>(
+    alloc: Global,
+    files: &mut F,
+    path: &str,
+    wanted: Result<&[u8], FileFault>,
+) -> bool {
+    is_answer(files.read_all(alloc, path), wanted)
+}
+
+/// Whether a part of a file has these bytes, or is refused so.
+fn has_part<F: Files>(
+    alloc: Global,
+    files: &mut F,
+    path: &str,
+    place: (u64, usize),
+    wanted: Result<&[u8], FileFault>,
+) -> bool {
+    is_answer(files.read_at(alloc, path, place.0, place.1), wanted)
+}
+
+fn write<F: Files>(files: &mut F, path: &str, offset: u64, bytes: &[u8]) -> Result<(), FileFault> {
+    files.write_at(path, offset, bytes)
+}
+
+/// The bytes of `e`.
+fn bytes_of(files: &MemoryFiles) -> &[u8] {
+    files.bytes("e").unwrap_or(b"")
+}
+
 #[test]
-fn reads_and_writes_in_memory(rt: HostRuntime) -> Result<(), Fail> {
-    let alloc = rt.alloc();
+fn reads_in_memory(rt: HostRuntime) -> Result<(), Fail> {
     let mut files = two_files(&rt, None)?;
-    assert_eq!(rt;
-        files.read_all(alloc, "/etc/fw_env.config")?.as_slice(),
-        b"e 0 a\n".as_slice()
-    );
-    assert_eq!(rt;
-        files.read_at(alloc, "e", 2, 3)?.as_slice(),
-        b"234".as_slice()
-    );
-    assert_eq!(rt; files.read_at(alloc, "e", 10, 0)?.len(), 0);
-    files.write_at("e", 8, b"ab")?;
-    assert_eq!(rt; files.bytes("e").unwrap_or(b""), b"01234567ab".as_slice());
-    assert_eq!(rt; files.read_at(alloc, "e", 8, 3), Err(FileFault::Short));
-    assert_eq!(rt; files.read_all(alloc, "f"), Err(FileFault::Failed));
-    assert_eq!(rt; files.write_at("f", 0, b"a"), Err(FileFault::Failed));
-    assert_eq!(rt; files.write_at("e", 9, b"xy"), Err(FileFault::Failed));
-    assert_eq!(rt; files.bytes("e").unwrap_or(b""), b"01234567ab".as_slice());
+    assert!(rt; has(rt.alloc(), &mut files, "/etc/fw_env.config", Ok(b"e 0 a\n")));
+    assert!(rt; has(rt.alloc(), &mut files, "f", Err(FileFault::Failed)));
+    Ok(())
+}
+
+#[test]
+fn reads_parts_in_memory(rt: HostRuntime) -> Result<(), Fail> {
+    let mut files = two_files(&rt, None)?;
+    assert!(rt; has_part(rt.alloc(), &mut files, "e", (2, 3), Ok(b"234")));
+    assert!(rt; has_part(rt.alloc(), &mut files, "e", (10, 0), Ok(b"")));
+    assert!(rt; has_part(rt.alloc(), &mut files, "e", (8, 3), Err(FileFault::Short)));
+    Ok(())
+}
+
+#[test]
+fn writes_in_memory(rt: HostRuntime) -> Result<(), Fail> {
+    let mut files = two_files(&rt, None)?;
+    write(&mut files, "e", 8, b"ab")?;
+    assert!(rt; bytes_of(&files) == b"01234567ab".as_slice());
+    assert!(rt; write(&mut files, "f", 0, b"a") == Err(FileFault::Failed));
+    assert!(rt; write(&mut files, "e", 9, b"xy") == Err(FileFault::Failed));
+    assert!(rt; bytes_of(&files) == b"01234567ab".as_slice());
     Ok(())
 }
 
@@ -69,87 +116,92 @@ fn records_calls_in_memory(rt: HostRuntime) -> Result<(), Fail> {
     Ok(())
 }
 
+/// Whether the call of one number fails, and no other.
+fn fails_alone(rt: &HostRuntime, failing: usize) -> Result<bool, Fail> {
+    let alloc = rt.alloc();
+    let mut files = two_files(rt, Some(failing))?;
+    let first = has(alloc, &mut files, "/etc/fw_env.config", Ok(b"e 0 a\n"));
+    let second = has_part(alloc, &mut files, "e", (0, 4), Ok(b"0123"));
+    let third = write(&mut files, "e", 0, b"abcd").is_ok();
+    Ok(
+        first == (failing != 0)
+            && second == (failing != 1)
+            && third == (failing != 2)
+            && bytes_of(&files) == left_behind(failing),
+    )
+}
+
+/// What `e` has where the call of one number fails: of a write, its first half.
+fn left_behind(failing: usize) -> &'static [u8] {
+    if failing == 2 {
+        b"ab23456789"
+    } else {
+        b"abcd456789"
+    }
+}
+
 #[test]
 fn fails_the_named_call_in_memory(rt: HostRuntime) -> Result<(), Fail> {
-    let alloc = rt.alloc();
     for failing in 0..4 {
-        let mut files = two_files(&rt, Some(failing))?;
-        let first = files.read_all(alloc, "/etc/fw_env.config").is_ok();
-        let second = files.read_at(alloc, "e", 0, 4).is_ok();
-        let third = files.write_at("e", 0, b"abcd");
-        assert_eq!(rt; first, failing != 0, "for {failing}");
-        assert_eq!(rt; second, failing != 1, "for {failing}");
-        assert_eq!(rt; third.is_ok(), failing != 2, "for {failing}");
-        let left = if failing == 2 {
-            b"ab23456789"
-        } else {
-            b"abcd456789"
-        };
-        assert_eq!(rt;
-            files.bytes("e").unwrap_or(b""),
-            left.as_slice(),
-            "for {failing}"
-        );
+        assert!(rt; fails_alone(&rt, failing)?, "for {failing}");
     }
     Ok(())
 }
 
+/// The path of a file of this process.
+fn own_path(rt: &HostRuntime) -> Result<String, AllocError> {
+    let id = process::id(rt.process());
+    format!(in rt.alloc(); "/tmp/ubtool_core.{id}")
+}
+
+/// Whether a file of ten digits is read, in part too, and then written.
+fn is_reached(rt: &HostRuntime, path: &str) -> Result<bool, Fail> {
+    let alloc = rt.alloc();
+    let mut files = Machine::new(rt);
+    let is_read = has(alloc, &mut files, path, Ok(b"0123456789"))
+        && has_part(alloc, &mut files, path, (6, 3), Ok(b"678"))
+        && has_part(alloc, &mut files, path, (6, 5), Err(FileFault::Short));
+    write(&mut files, path, 4, b"ab")?;
+    Ok(is_read && has(alloc, &mut files, path, Ok(b"0123ab6789")))
+}
+
+/// Whether a file that is not there is refused, and not made by a write.
+fn is_missing(rt: &HostRuntime, path: &str) -> bool {
+    let alloc = rt.alloc();
+    let mut files = Machine::new(rt);
+    has(alloc, &mut files, path, Err(FileFault::Failed))
+        && write(&mut files, path, 0, b"a") == Err(FileFault::Failed)
+        && has(alloc, &mut files, path, Err(FileFault::Failed))
+}
+
 #[test]
 fn reaches_the_machine(rt: HostRuntime) -> Result<(), Fail> {
-    let alloc = rt.alloc();
-    let id = process::id(rt.process());
-    let path = format!(in alloc; "/tmp/ubtool_core.{id}")?;
+    let path = own_path(&rt)?;
     fs::write(&rt, path.as_str(), "0123456789")?;
-    let mut files = Machine::new(&rt);
-    assert_eq!(rt;
-        files.read_all(alloc, path.as_str())?.as_slice(),
-        b"0123456789".as_slice()
-    );
-    assert_eq!(rt;
-        files.read_at(alloc, path.as_str(), 6, 3)?.as_slice(),
-        b"678".as_slice()
-    );
-    assert_eq!(rt;
-        files.read_at(alloc, path.as_str(), 6, 5),
-        Err(FileFault::Short)
-    );
-    files.write_at(path.as_str(), 4, b"ab")?;
-    assert_eq!(rt;
-        files.read_all(alloc, path.as_str())?.as_slice(),
-        b"0123ab6789".as_slice()
-    );
+    assert!(rt; is_reached(&rt, path.as_str())?);
     fs::remove_file(&rt, path.as_str())?;
-    assert_eq!(rt;
-        files.read_all(alloc, path.as_str()),
-        Err(FileFault::Failed)
-    );
-    assert_eq!(rt;
-        files.write_at(path.as_str(), 0, b"a"),
-        Err(FileFault::Failed)
-    );
-    assert_eq!(rt;
-        files.read_all(alloc, path.as_str()),
-        Err(FileFault::Failed)
-    );
+    assert!(rt; is_missing(&rt, path.as_str()));
     Ok(())
+}
+
+/// Whether a device is refused so when it is read as a whole.
+fn is_refused(rt: &HostRuntime, path: &str, fault: FileFault) -> bool {
+    has(rt.alloc(), &mut Machine::new(rt), path, Err(fault))
+}
+
+#[test]
+fn reads_devices(rt: HostRuntime) {
+    assert!(rt; has(rt.alloc(), &mut Machine::new(&rt), "/dev/null", Ok(b"")));
+    assert!(rt; is_refused(&rt, "/dev/zero", FileFault::TooLong));
+    assert!(rt; is_refused(&rt, "/dev", FileFault::Failed));
 }
 
 #[test]
 fn reaches_devices(rt: HostRuntime) -> Result<(), Fail> {
-    let alloc = rt.alloc();
     let mut files = Machine::new(&rt);
-    assert_eq!(rt; files.read_all(alloc, "/dev/null")?.len(), 0);
-    assert_eq!(rt; files.read_all(alloc, "/dev/zero"), Err(FileFault::TooLong));
-    assert_eq!(rt; files.read_all(alloc, "/dev"), Err(FileFault::Failed));
-    assert_eq!(rt;
-        files.read_at(alloc, "/dev/zero", 0, 2)?.as_slice(),
-        b"\0\0".as_slice()
-    );
-    files.write_at("/dev/null", 0, b"a")?;
-    assert_eq!(rt;
-        files.write_at("/dev/full", 0, b"a"),
-        Err(FileFault::Failed)
-    );
+    assert!(rt; has_part(rt.alloc(), &mut files, "/dev/zero", (0, 2), Ok(b"\0\0")));
+    write(&mut files, "/dev/null", 0, b"a")?;
+    assert!(rt; write(&mut files, "/dev/full", 0, b"a") == Err(FileFault::Failed));
     Ok(())
 }
 

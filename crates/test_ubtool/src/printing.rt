@@ -69,48 +69,43 @@ fn run(alloc: Global, mut input: &[u8]) -> (u8, Memory, Memory) {
     (status, out, err)
 }
 
+/// Whether a call answers and prints so.
+fn is_printed(printed: &Printed, answer: bool, out: &[u8], err: &[u8]) -> bool {
+    printed.answer == Ok(answer)
+        && printed.out.bytes.as_slice() == out
+        && printed.err.bytes.as_slice() == err
+}
+
+/// Whether a little-endian image is printed so.
+fn prints(alloc: Global, image: &[u8], names: &[&[u8]], out: &[u8]) -> bool {
+    let printed = print(alloc, image, None, ByteOrder::Little, names);
+    is_printed(&printed, true, out, b"")
+}
+
 #[test]
 fn variables_are_printed_in_order(rt: HostRuntime) {
-    let Printed { answer, out, err } = print(rt.alloc(), &ONE, None, ByteOrder::Little, &[]);
-    assert_eq!(rt; answer, Ok(true));
-    assert_eq!(rt; out.bytes.as_slice(), b"a=1\n".as_slice());
-    assert_eq!(rt; err.bytes.as_slice(), b"".as_slice());
+    assert!(rt; prints(rt.alloc(), &ONE, &[], b"a=1\n"));
+}
+
+/// Whether an image of `mkenvimage`, or a pair, has its variables.
+fn prints_both(alloc: Global, first: &[u8], second: Option<&[u8]>, order: ByteOrder) -> bool {
+    let printed = print(alloc, first, second, order, &[]);
+    is_printed(&printed, true, b"a=1\nb=x  y\n", b"")
 }
 
 #[test]
 fn images_of_mkenvimage_are_printed(rt: HostRuntime) {
-    let want = b"a=1\nb=x  y\n".as_slice();
     let little = ByteOrder::Little;
     let big = ByteOrder::Big;
-    assert_eq!(rt;
-        print(rt.alloc(), &SINGLE, None, little, &[])
-            .out
-            .bytes
-            .as_slice(),
-        want
-    );
-    assert_eq!(rt;
-        print(rt.alloc(), &SINGLE_BIG, None, big, &[])
-            .out
-            .bytes
-            .as_slice(),
-        want
-    );
-    assert_eq!(rt;
-        print(rt.alloc(), &COPY, Some(&COPY), little, &[])
-            .out
-            .bytes
-            .as_slice(),
-        want
-    );
-    assert_eq!(rt;
-        print(rt.alloc(), &COPY_BIG, Some(&COPY_BIG), big, &[])
-            .out
-            .bytes
-            .as_slice(),
-        want
-    );
-    let refused = print(rt.alloc(), &SINGLE_BIG, None, little, &[]).answer;
+    assert!(rt; prints_both(rt.alloc(), &SINGLE, None, little));
+    assert!(rt; prints_both(rt.alloc(), &SINGLE_BIG, None, big));
+    assert!(rt; prints_both(rt.alloc(), &COPY, Some(&COPY), little));
+    assert!(rt; prints_both(rt.alloc(), &COPY_BIG, Some(&COPY_BIG), big));
+}
+
+#[test]
+fn an_image_of_the_other_byte_order_is_refused(rt: HostRuntime) {
+    let refused = print(rt.alloc(), &SINGLE_BIG, None, ByteOrder::Little, &[]).answer;
     assert_eq!(rt; refused, Err(ToolError::Image(ImageError::BadCrc)));
 }
 
@@ -119,8 +114,7 @@ fn the_filling_may_be_anything(rt: HostRuntime) {
     let filled: [u8; 12] = [
         0xC4, 0x49, 0x4F, 0x7F, 0x61, 0x3D, 0x31, 0x00, 0x00, 0xFF, 0xFF, 0xFF,
     ];
-    let printed = print(rt.alloc(), &filled, None, ByteOrder::Little, &[]);
-    assert_eq!(rt; printed.out.bytes.as_slice(), b"a=1\n".as_slice());
+    assert!(rt; prints(rt.alloc(), &filled, &[], b"a=1\n"));
 }
 
 #[test]
@@ -134,34 +128,22 @@ fn the_current_copy_of_a_pair_is_printed(rt: HostRuntime) {
 #[test]
 fn names_are_printed_in_the_order_asked(rt: HostRuntime) {
     let names: [&[u8]; 2] = [b"b", b"a"];
-    let Printed { answer, out, err } = print(rt.alloc(), &ONE, None, ByteOrder::Little, &names);
-    assert_eq!(rt; answer, Ok(false));
-    assert_eq!(rt; out.bytes.as_slice(), b"a=1\n".as_slice());
-    assert_eq!(rt;
-        err.bytes.as_slice(),
-        b"## Error: \"b\" not defined\n".as_slice()
-    );
+    let printed = print(rt.alloc(), &ONE, None, ByteOrder::Little, &names);
+    assert!(rt; is_printed(&printed, false, b"a=1\n", b"## Error: \"b\" not defined\n"));
 }
 
 #[test]
 fn a_repeated_name_has_its_last_value(rt: HostRuntime) {
-    let printed = print(rt.alloc(), &TWICE, None, ByteOrder::Little, &[]);
-    assert_eq!(rt; printed.out.bytes.as_slice(), b"a=3\nb=2\n".as_slice());
-    let named = print(rt.alloc(), &TWICE, None, ByteOrder::Little, &[b"b", b"a"]);
-    assert_eq!(rt; named.answer, Ok(true));
-    assert_eq!(rt; named.out.bytes.as_slice(), b"b=2\na=3\n".as_slice());
+    assert!(rt; prints(rt.alloc(), &TWICE, &[], b"a=3\nb=2\n"));
+    assert!(rt; prints(rt.alloc(), &TWICE, &[b"b", b"a"], b"b=2\na=3\n"));
 }
 
 #[test]
 fn many_names_are_printed_in_the_order_asked(rt: HostRuntime) {
     let names: [&[u8]; 5] = [b"b", b"a", b"z", b"a", b"b"];
-    let Printed { answer, out, err } = print(rt.alloc(), &TWICE, None, ByteOrder::Little, &names);
-    assert_eq!(rt; answer, Ok(false));
-    assert_eq!(rt; out.bytes.as_slice(), b"b=2\na=3\na=3\nb=2\n".as_slice());
-    assert_eq!(rt;
-        err.bytes.as_slice(),
-        b"## Error: \"z\" not defined\n".as_slice()
-    );
+    let printed = print(rt.alloc(), &TWICE, None, ByteOrder::Little, &names);
+    let out = b"b=2\na=3\na=3\nb=2\n";
+    assert!(rt; is_printed(&printed, false, out, b"## Error: \"z\" not defined\n"));
 }
 
 #[test]
@@ -198,20 +180,24 @@ fn a_failing_output_keeps_a_front_of_the_lines(rt: HostRuntime) {
     }
 }
 
+/// Whether the program ends and prints so on an input.
+fn runs(alloc: Global, input: &[u8], wanted: u8, out: &[u8], err: &[u8]) -> bool {
+    let (status, printed, told) = run(alloc, input);
+    status == wanted && printed.bytes.as_slice() == out && told.bytes.as_slice() == err
+}
+
 #[test]
 fn standard_input_is_printed(rt: HostRuntime) {
-    let (status, out, err) = run(rt.alloc(), &ONE);
-    assert_eq!(rt; status, 0);
-    assert_eq!(rt; out.bytes.as_slice(), b"a=1\n".as_slice());
-    assert_eq!(rt; err.bytes.as_slice(), b"".as_slice());
+    assert!(rt; runs(rt.alloc(), &ONE, 0, b"a=1\n", b""));
+}
+
+#[test]
+fn the_smallest_images_print_nothing(rt: HostRuntime) {
     for smallest in [
         [0x1C, 0xDF, 0x44, 0x21, 0, 0, 0, 0].as_slice(),
         &[0x8D, 0xEF, 0x02, 0xD2, 0x00],
     ] {
-        let (status, out, err) = run(rt.alloc(), smallest);
-        assert_eq!(rt; status, 0);
-        assert_eq!(rt; out.bytes.as_slice(), b"".as_slice());
-        assert_eq!(rt; err.bytes.as_slice(), b"".as_slice());
+        assert!(rt; runs(rt.alloc(), smallest, 0, b"", b""));
     }
 }
 
@@ -225,10 +211,7 @@ fn faults_of_standard_input_are_told(rt: HostRuntime) {
         (&cut, b"ubtool: image is not terminated\n"),
     ];
     for (image, line) in rows {
-        let (status, out, err) = run(rt.alloc(), image);
-        assert_eq!(rt; status, 1);
-        assert_eq!(rt; out.bytes.as_slice(), b"".as_slice());
-        assert_eq!(rt; err.bytes.as_slice(), line);
+        assert!(rt; runs(rt.alloc(), image, 1, b"", line));
     }
 }
 

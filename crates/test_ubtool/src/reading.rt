@@ -1,18 +1,24 @@
 use crate::calls::places_of;
-use envimage::{ByteOrder, ConfigError, ImageError, encode};
+use envimage::{ByteOrder, ConfigError, ImageError, Place, encode};
 use std::test::Fail;
+
+/// Whether a place is this one, of 32,768 bytes.
+fn is_place(place: Option<&Place>, device: &str, offset: u64) -> bool {
+    match place {
+        Some(place) => {
+            place.device.as_str() == device && place.offset == offset && place.size == 32_768
+        }
+        None => false,
+    }
+}
 
 #[test]
 fn two_places_are_read(rt: HostRuntime) -> Result<(), Fail> {
     let text = b"# device offset size\n/dev/mmcblk0 0x3F8000 0x8000\nenv.bin 010 8000 200 2\n";
     let places = places_of(rt.alloc(), text)?;
     assert_eq!(rt; places.len(), 2);
-    assert_eq!(rt; places[0].device.as_str(), "/dev/mmcblk0");
-    assert_eq!(rt; places[0].offset, 4_161_536);
-    assert_eq!(rt; places[0].size, 32_768);
-    assert_eq!(rt; places[1].device.as_str(), "env.bin");
-    assert_eq!(rt; places[1].offset, 8);
-    assert_eq!(rt; places[1].size, 32_768);
+    assert!(rt; is_place(places.first(), "/dev/mmcblk0", 4_161_536));
+    assert!(rt; is_place(places.last(), "env.bin", 8));
     Ok(())
 }
 

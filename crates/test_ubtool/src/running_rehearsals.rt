@@ -20,13 +20,22 @@ fn run(rt: &HostRuntime, pairs: &[Pair<'_>], words: &[&str]) -> Result<(u8, Memo
     Ok((status, out, err))
 }
 
+/// Whether it ends and prints so.
+fn ends_so(
+    rt: &HostRuntime,
+    script: &[u8],
+    words: &[&str],
+    wanted: u8,
+    texts: (&[u8], &[u8]),
+) -> Result<bool, Fail> {
+    let (status, out, err) = run(rt, &[(b"bootcmd", script)], words)?;
+    Ok(status == wanted && out.bytes.as_slice() == texts.0 && err.bytes.as_slice() == texts.1)
+}
+
 #[test]
 fn a_variable_that_is_not_set_is_named(rt: HostRuntime) -> Result<(), Fail> {
     let words = ["rehearse", "-d", "d", "-b", "q"];
-    let (status, out, err) = run(&rt, &[(b"bootcmd", b"load")], &words)?;
-    assert_eq!(rt; status, 1);
-    assert_eq!(rt; out.bytes.len(), 0);
-    assert_eq!(rt; err.bytes.as_slice(), b"ubtool: no variable q\n".as_slice());
+    assert!(rt; ends_so(&rt, b"load", &words, 1, (b"", b"ubtool: no variable q\n"))?);
     Ok(())
 }
 
@@ -34,13 +43,9 @@ fn a_variable_that_is_not_set_is_named(rt: HostRuntime) -> Result<(), Fail> {
 fn a_listing_goes_on_behind_a_word(rt: HostRuntime) -> Result<(), Fail> {
     let words = ["rehearse", "-d", "d", "--after", "10"];
     let script: &[u8] = b"load a || load b; echo $?";
-    let (status, out, err) = run(&rt, &[(b"bootcmd", script)], &words)?;
-    assert_eq!(rt; status, 0);
-    assert_eq!(rt; err.bytes.len(), 0);
-    assert_eq!(rt;
-        out.bytes.as_slice(),
-        b"run 11\ndev 1 load a\ndev 1 load b\ntext 1\\n\nvar bootcmd=load a || load b; echo $?\nend 0\ndone\n".as_slice()
-    );
+    let listing: &[u8] =
+        b"run 11\ndev 1 load a\ndev 1 load b\ntext 1\\n\nvar bootcmd=load a || load b; echo $?\nend 0\ndone\n";
+    assert!(rt; ends_so(&rt, script, &words, 0, (listing, b""))?);
     Ok(())
 }
 
@@ -59,6 +64,22 @@ fn page_behind(rt: &HostRuntime, devices: &str, after: &str) -> Result<(u8, Memo
         "z",
     ];
     run(rt, &[(b"bootcmd", b"while true; do load; done")], &words)
+}
+
+/// Whether such a page begins and ends so.
+fn is_page_behind(
+    rt: &HostRuntime,
+    devices: &str,
+    after: &str,
+    texts: (&str, &str),
+) -> Result<bool, Fail> {
+    let (status, out, err) = page_behind(rt, devices, after)?;
+    Ok(
+        status == 0
+            && err.bytes.is_empty()
+            && out.bytes.starts_with(texts.0.as_bytes())
+            && out.bytes.ends_with(texts.1.as_bytes()),
+    )
 }
 
 #[test]
@@ -85,11 +106,10 @@ fn start_words_have_up_to_32_digits(rt: HostRuntime) -> Result<(), Fail> {
         ("32", "11111111111111111111111111111111", "done\n", "done\n"),
     ];
     for (devices, after, begin, end) in rows {
-        let (status, out, err) = page_behind(&rt, devices, after)?;
-        assert_eq!(rt; status, 0, "{after}");
-        assert_eq!(rt; err.bytes.len(), 0, "{after}");
-        assert!(rt; out.bytes.starts_with(begin.as_bytes()), "{after}");
-        assert!(rt; out.bytes.ends_with(end.as_bytes()), "{after}");
+        assert!(rt;
+            is_page_behind(&rt, devices, after, (begin, end))?,
+            "{after}"
+        );
     }
     Ok(())
 }
