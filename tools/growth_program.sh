@@ -2,7 +2,7 @@
 # growth_program.sh PROGRAM: runs the built program ubtool once for each growth of memory that it makes, with that one
 # growth refused, for each of its commands. It does its work with status 0, or tells the line `ubtool: out of memory`
 # alone: with status 2 and no output until the words are read, then with status 1 and a front of the output, of a
-# listing whole records, behind which it goes on, of endings nothing. Where it refused, the image stands as it was, else
+# listing whole records, after which it goes on, of endings nothing. If it refused, the image is as it was, else
 # it is the wanted one; and nothing is written before the last read.
 set -eu
 

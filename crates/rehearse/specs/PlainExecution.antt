@@ -38,7 +38,7 @@ task_over devices task = record {
 abbrev pub bounds_alone : PlainTask → Limits
 bounds_alone task = (task_over [] task).limits
 
--- a listed command, by its words, takes the next outcome: it stands in the log with them, and is the status
+-- a listed command, by its words, takes the next outcome: the log has it with them, and it is the status
 abbrev pub answer : (words : List Text) → OutcomeWord → State → Answer
 answer words [] s = Dry s
 answer words (outcome ∷ more) s =
@@ -121,7 +121,7 @@ module _ (task : PlainTask) where
   abbrev pub plain_record : (names : List Text) → OutcomeWord → Text
   plain_record names w = record_text w (state_of (plain_run_on w)) (ending_of (plain_run_on w)) names
 
-  -- those behind u
+  -- those after u
   abbrev pub plain_rest : OutcomeWord → List OutcomeWord
   plain_rest u = after u plain_runs
 
@@ -140,7 +140,7 @@ PlainListingsStand =
     plain_names text ≡ Ok task.names → listed text ≡ Ok devices → let rich = task_over devices task in
     listing (record_of rich names) (runs rich) limit ≡ listing (plain_record task names) (plain_runs task) limit
 
--- and so has the listing of the runs behind a word.
+-- and so has the listing of the runs after a word.
 abbrev pub PlainRestsStand : Type 0
 PlainRestsStand =
     (text : Text) (devices : Devices) (task : PlainTask) (names : List Text) (u : OutcomeWord) (limit : Option ℕ) →

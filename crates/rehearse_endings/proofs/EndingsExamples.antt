@@ -32,7 +32,7 @@ later_has_fewer : lines (task 3 (codes "if load a; then load b || load c || exit
 unfolding tree_of fields joined atoms digits
 later_has_fewer = refl
 
--- of two runs with as many failures the first is told
+-- of two runs with as many failures, the first is the one with the fewest
 first_of_as_many : lines (task 3 (codes "if load a; then load b || exit 3; else exit 3; fi")) 2 ≡ codes "ends 1 first 00 fewest 0 00 end 0\nends 2 first 01 fewest 1 01 end 3\nall 3 states 2\n"
 unfolding tree_of fields joined atoms digits
 first_of_as_many = refl
@@ -42,7 +42,7 @@ no_device : lines (task 3 (codes "exit 4")) 0 ≡ codes "ends 1 first . fewest 0
 unfolding tree_of fields joined atoms digits
 no_device = refl
 
--- an ending whose first run comes behind that of another, though more runs end so
+-- an ending whose first run comes after the first run of another, though more runs end so
 in_order_of_first : lines (task 2 (codes "load a && true; load b")) 3 ≡ codes "ends 2 first 00 fewest 0 00 end 0\nends 2 first 01 fewest 1 01 end 1\nall 4 states 3\n"
 unfolding tree_of fields joined atoms digits
 in_order_of_first = refl
@@ -103,7 +103,7 @@ row ending count word fewest = record { ending = ending; count = count; word = w
 joined_row : with_further (row (End 3) 2 (Failure ∷ Failure ∷ []) (Success ∷ Failure ∷ [])) (row (End 3) 5 (Failure ∷ []) []) ≡ row (End 3) 7 (Failure ∷ Failure ∷ []) []
 joined_row = refl
 
--- another ending comes behind those that are there
+-- another ending comes after those that are there
 row_behind : with_row (row (End 0) 2 [] [] ∷ row Size 3 [] [] ∷ []) (row CutSteps 4 [] []) ≡ row (End 0) 2 [] [] ∷ row Size 3 [] [] ∷ row CutSteps 4 [] [] ∷ []
 row_behind = refl
 

@@ -44,12 +44,12 @@ pub record Entered (task : Task) (kept pending : List Asked) (table : Table) : T
 abbrev pub BeginsWith : (p w : OutcomeWord) → Type 0
 BeginsWith p w = (rest : OutcomeWord) × (w ≡ p ++ rest)
 
--- the search has come to the outcomes p: it entered no state behind them, and the pending ones are before them
+-- the search has come to the outcomes p: it entered no state after them, and the pending ones are before them
 pub record IsNewAt (p : OutcomeWord) (kept pending : List Asked) : Type 0 where
   pub fresh : AllByRecursion (λ s. BeginsWith p s.0 → ⊥) kept
   pub before : AllByRecursion (λ s. length s.0 < length p) pending
 
--- the search has gone through all behind p
+-- the search has gone through all that starts with p
 pub record HasEntered (task : Task) (p : OutcomeWord) (kept pending : List Asked) (table : Table) : Type 0 where
   pub further : List Asked
   pub behind : AllByRecursion (λ s. BeginsWith p s.0) further

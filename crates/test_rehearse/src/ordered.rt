@@ -33,7 +33,7 @@ fn words<S: Store>(alloc: Global, given: &Given, after: Option<&[u8]>) -> Result
     Ok(found)
 }
 
-/// The first word of a text, and what stands behind its space.
+/// The first word of a text, and what comes after its space.
 fn first_word(text: &[u8]) -> Option<(&[u8], &[u8])> {
     let at = text.iter().position(|byte| *byte == b' ')?;
     Some((text.get(..at)?, text.get(at.saturating_add(1)..)?))

@@ -56,7 +56,7 @@ impl Write for Writer<'_> {
     }
 }
 
-/// Whether the read of a number is told where it fails, and is the last.
+/// Whether the read of a number is reported if it fails, and is the last.
 fn is_told_of_read(alloc: Global, failing: u64) -> bool {
     let mut input = Reader {
         bytes: ONE,
@@ -162,7 +162,7 @@ fn is_whole(written: &Written) -> bool {
     written.status == 0 && written.err.bytes.is_empty() && written.out.writes > 0
 }
 
-/// Whether a front of the whole output stands, the failed write is told, and nothing more is written.
+/// Whether a prefix of the whole output is written, the failed write is reported, and nothing more is written.
 fn is_front(written: &Written, whole: &[u8], failing: usize) -> bool {
     written.status == 1
         && written.out.writes == failing.saturating_add(1)
@@ -214,7 +214,7 @@ fn told_of(alloc: Global, failing: usize) -> Result<FailsOnce, Fail> {
     Err(Fail::from("another status, or an output"))
 }
 
-/// Whether the line is told, or where a write failed a front of it and nothing behind that.
+/// Whether the line is written, or, if a write failed, a prefix of it and nothing after that.
 fn is_told_once(err: &FailsOnce, failing: usize) -> bool {
     if err.writes > failing {
         err.writes == failing.saturating_add(1)

@@ -147,7 +147,7 @@ fn a_single_image_is_printed(rt: HostRuntime) -> Result<(), Fail> {
     Ok(())
 }
 
-/// Whether the words of a line are told to be wrong, and no call is made.
+/// Whether the words of a line are reported to be wrong, and no call is made.
 fn is_wrong(rt: &HostRuntime, line: &str) -> Result<bool, Fail> {
     let mut files = files_of(rt, b"e 0 9\n", ONE, None)?;
     let words = words_of(rt, line)?;
@@ -259,7 +259,7 @@ fn an_environment_that_is_too_large_is_told(rt: HostRuntime) -> Result<(), Fail>
     Ok(())
 }
 
-/// Whether a fault of these files is told so.
+/// Whether a fault of these files is reported so.
 fn is_fault(rt: &HostRuntime, config: &[u8], image: &[u8], err: &[u8]) -> Result<bool, Fail> {
     let mut files = files_of(rt, config, image, None)?;
     line_ends_so(rt, &mut files, "printenv", 1, (b"", err))
@@ -299,7 +299,7 @@ fn a_missing_configuration_is_told(rt: HostRuntime) -> Result<(), Fail> {
     Ok(())
 }
 
-/// Whether the failing call of one number of `printenv` on the pair is told so, and is the last.
+/// Whether the failing call of one number of `printenv` on the pair is reported so, and is the last.
 fn fails_printing(rt: &HostRuntime, failing: usize, line: &[u8]) -> Result<bool, Fail> {
     let mut files = files_of(rt, PAIR_CONFIG, PAIR, Some(failing))?;
     let is_told = line_ends_so(rt, &mut files, "printenv", 1, (b"", line))?;
@@ -328,7 +328,7 @@ fn is_pair_or_half(image: &[u8], is_written: bool) -> bool {
     }
 }
 
-/// Whether the failing call of one number of `setenv -s` on the pair is told so, and is the last. The call of number 4
+/// Whether the failing call of one number of `setenv -s` on the pair is reported so, and is the last. The call of number 4
 /// is the write.
 fn fails_setting(rt: &HostRuntime, failing: usize, line: &[u8]) -> Result<bool, Fail> {
     let mut files = files_of(rt, PAIR_CONFIG, PAIR, Some(failing))?;
@@ -460,7 +460,7 @@ fn an_empty_start_word_is_told(rt: HostRuntime) -> Result<(), Fail> {
     Ok(())
 }
 
-/// Whether the failing call of one number of a rehearsal is told so, and is the last.
+/// Whether the failing call of one number of a rehearsal is reported so, and is the last.
 fn fails_rehearsing(rt: &HostRuntime, failing: usize, line: &[u8]) -> Result<bool, Fail> {
     let mut files = script_files(rt, Some(failing))?;
     let is_told = line_ends_so(rt, &mut files, "rehearse -d d -b q", 1, (b"", line))?;

@@ -52,7 +52,7 @@ fn a_script_stops_at_its_first_fault(rt: HostRuntime) -> Result<(), Fail> {
     Ok(())
 }
 
-/// The variables of an image's data in which `a` stands twice.
+/// The variables of an image's data that has `a` twice.
 fn repeated(rt: &HostRuntime) -> Result<Env, Fail> {
     Ok(Env::from_data(rt.alloc(), b"a=1\0b=2\0a=3\0\0")?)
 }

@@ -27,7 +27,7 @@ endings_given order first second device_list ask = record {
   names = [];
 }
 
--- the lines stand written, and tell of no more states than this
+-- the lines are written, and count no more states than this
 abbrev pub TellsEndings : Given → (states : ℕ) → (old new : Sink) → Type 0
 TellsEndings g states old new = HasDevices g (λ found. (text : Text) × AreLines states found text × Wrote old new text)
 

@@ -14,7 +14,7 @@ use std::alloc::Global;
 /// for all runs.
 ///
 /// Refusals in order: the image, the device list, `NoSuchVariable`, `States` and `Memory`, and nothing is written then;
-/// `Write` as the lines go, of which a prefix stands written then. `Memory` comes wherever a growth is made.
+/// `Write` if the output fails, and then a prefix of the lines is written. `Memory` comes wherever a growth is made.
 pub fn endings_bytes<O: Out>(
     alloc: Global,
     first: &[u8],

@@ -1,4 +1,4 @@
--- How all runs of the images of a configuration end, from files that tell what stands in them. The order of work is that
+-- How all runs of the images of a configuration end, from files that report what they hold. The order of work is that
 -- of a rehearsal. Ours.
 use Rattle.std.specs.Prelude.{◌≡◌, ◌⊎◌, ℕ, Bool, true, List, [], None, Result, Ok, Err, string_bytes}
 use Rattle.envimage.specs.Sink.{Sink}
@@ -32,7 +32,7 @@ endings_of order found device_list what = record {
   names = [];
 }
 
--- what a refusal is told as: a variable that is not set by its name
+-- how a refusal is reported: a variable that is not set, by its name
 abbrev pub endings_refusal : EndingsAsk → ToolError → Fault
 endings_refusal what tool.NoSuchVariable = NoSuchVariable (path_form what.name)
 endings_refusal what error = tool_fault error

@@ -14,7 +14,7 @@ use ubtool_cli::EndingsAsk;
 use ubtool_core::{Fault, ToolError, WordForm, endings_bytes};
 use ubtool_files::Files;
 
-/// What a refusal of the endings is told as.
+/// How a refusal of the endings is reported.
 fn refusal_of(error: ToolError, what: EndingsAsk) -> Fault
     ensures { result ≡ endings_refusal what error }
 {

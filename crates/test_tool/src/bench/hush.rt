@@ -158,7 +158,7 @@ fn time_ifs(rt: &HostRuntime, size: usize) -> io::Result<()> {
     time_parser(rt, arms, size)
 }
 
-/// Times `$x` over and over, where its value is blanks and what stands behind them.
+/// Times `$x` over and over, if its value is blanks and what comes after them.
 fn time_blanks(rt: &HostRuntime, name: &str, behind: &[u8], size: usize) -> io::Result<()> {
     let uses = Shape::echo("", b" $x").text(rt.alloc(), size / 2)?;
     let value = blanks(rt.alloc(), size / 2, behind)?;

@@ -16,7 +16,7 @@ struct Case {
     name: &'static str,
     /// How many commands `bootcmd` begins with.
     front: u32,
-    /// What stands behind them.
+    /// What comes after them.
     behind: &'static [u8],
     /// How many further variables the environment has.
     variables: u32,

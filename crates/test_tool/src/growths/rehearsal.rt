@@ -107,7 +107,7 @@ fn has_failed<S: Store>(runs: &mut Runs<'_, S>) -> bool {
     matches!(runs.next(), Err(RunError::Failed))
 }
 
-/// Writes the listing of some runs, and tells whether it is whole. After want of memory it keeps the word of the last
+/// Writes the listing of some runs, and answers whether it is whole. If memory ran out, it keeps the word of the last
 /// run that was given.
 fn write_runs<S: Store, O: Out>(
     runs: &mut Runs<'_, S>,

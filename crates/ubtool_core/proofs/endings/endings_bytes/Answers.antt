@@ -12,7 +12,7 @@ use Rattle.ubtool_core.proofs.EndingsLemmas.{refused-endings, tells-image}
 use Rattle.ubtool_core.proofs.RehearsalLemmas.{image-env}
 use Rattle.ubtool_core.proofs.endings.endings_bytes.Goals as goal
 
--- data without a fault is refused for want of memory alone
+-- data without a fault is refused only if memory runs out
 pub returns-in_err-env-clause-err : goal.returns-in_err-env-clause-err
 returns-in_err-env-clause-err g c =
     let second = option_copied c.args.second in
