@@ -1,31 +1,21 @@
 -- How all runs of an image's variable end, from the bytes of an image to the lines, and why that is refused. The order of
 -- the refusals is that of a rehearsal, and nothing is written before the lines. Ours.
-use Rattle.std.specs.Prelude.{◌≡◌, ℕ, List, [], Option, None, Err}
+use Rattle.std.specs.Prelude.{◌≡◌, ℕ, List, Option, None, Err}
 use Rattle.envimage.specs.Sink.{Sink, Wrote, BrokeOff}
 use Rattle.envimage.specs.declared.image.ByteOrder.{ByteOrder}
 use Rattle.rehearse.specs.DeviceList.{listed}
 use Rattle.rehearse.specs.State.{Text}
 use Rattle.rehearse_endings.specs.TellingEndings.{AreLines, HasMoreStates}
 use Rattle.rehearse_endings.specs.declared.telling.EndingsAsk.{EndingsAsk}
-use Rattle.ubtool_core.specs.Given.{Given}
+use Rattle.ubtool_core.specs.Given.{Given, given_all}
 use Rattle.ubtool_core.specs.PrintingImages.{environment_in}
 use Rattle.ubtool_core.specs.Refusing.{HasImage, HasDevices}
 use Rattle.ubtool_core.specs.declared.error.ToolError.{ToolError}
 use Rattle.ubtool_core.specs.declared.error.ToolError.TheVariants.{Image, Devices, NoSuchVariable, States, Write, Memory}
 
--- all runs, and so no start word and no limit
+-- what is given: all runs of the variable that is asked for, within its bounds
 abbrev pub endings_given : ByteOrder → List ℕ → Option (List ℕ) → Text → EndingsAsk → Given
-endings_given order first second device_list ask = record {
-  order = order;
-  first = first;
-  second = second;
-  device_list = device_list;
-  variable = ask.name.now;
-  bounds = ask.bounds;
-  after = None;
-  limit = None;
-  names = [];
-}
+endings_given order first second device_list ask = given_all order first second device_list ask.name.now ask.bounds
 
 -- the lines are written, and count no more states than this
 abbrev pub TellsEndings : Given → (states : ℕ) → (old new : Sink) → Type 0

@@ -1,5 +1,5 @@
 -- What a rehearsal is given. Ours.
-use Rattle.std.specs.Prelude.{ℕ, List, map, Option}
+use Rattle.std.specs.Prelude.{ℕ, List, [], map, Option, None}
 use Rattle.bootstore.specs.Moment.{option_bytes}
 use Rattle.envimage.specs.declared.image.ByteOrder.{ByteOrder}
 use Rattle.rehearse.specs.Bounds.{BoundsShown}
@@ -34,4 +34,18 @@ given order first second device_list ask = record {
   after = option_bytes ask.after;
   limit = ask.limit;
   names = map (λ n. n.now) ask.names.now;
+}
+
+-- all runs of a variable: no start word and no limit, and no name asked for
+abbrev pub given_all : ByteOrder → List ℕ → Option (List ℕ) → Text → (variable : Text) → BoundsShown → Given
+given_all order first second device_list variable bounds = record {
+  order = order;
+  first = first;
+  second = second;
+  device_list = device_list;
+  variable = variable;
+  bounds = bounds;
+  after = None;
+  limit = None;
+  names = [];
 }

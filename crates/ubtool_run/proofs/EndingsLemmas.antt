@@ -1,12 +1,12 @@
 -- Telling how the runs of what was read end.
 use Rattle.std.proofs.Common.{◌≡◌, ◌∙◌, ℕ, true, refl, sym, ap, subst, List, IfOk, IfErr, Option, Ok, Err, inl, inr, ◌⊎◌}
-use Rattle.std.specs.Prelude.{[], None, Result, Vec, option_map, string_bytes}
+use Rattle.std.specs.Prelude.{Result, Vec, option_map, string_bytes}
 use Rattle.std.specs.declared.alloc.Global.{Global}
 use Rattle.envimage.specs.Sink.{Sink}
 use Rattle.envimage.specs.declared.image.ByteOrder.{ByteOrder}
 use Rattle.ubtool_cli.specs.declared.ask.EndingsAsk.{EndingsAsk}
 use Rattle.ubtool_core.specs.EndingsOfImages.{RefusesEndings, TellsEndings}
-use Rattle.ubtool_core.specs.Given.{Given}
+use Rattle.ubtool_core.specs.Given.{Given, given_all}
 use Rattle.ubtool_core.specs.declared.error.ToolError.{ToolError}
 use Rattle.ubtool_core.specs.declared.error.ToolError.TheVariants as tool
 use Rattle.ubtool_core.specs.declared.fault.Fault.{Fault}
@@ -17,7 +17,7 @@ use Rattle.ubtool_files.specs.Told.{Stored, Told, file_at}
 use Rattle.ubtool_files.specs.declared.files.Action.TheVariants.{ReadAll}
 use Rattle.ubtool_run.proofs.PrintLemmas.{image-bytes}
 use Rattle.ubtool_run.proofs.ReadingLemmas.{found-reads}
-use Rattle.ubtool_run.proofs.RehearseLemmas.{are-read, first-bytes, given_by}
+use Rattle.ubtool_run.proofs.RehearseLemmas.{are-read, first-bytes}
 use Rattle.ubtool_run.specs.EndingsOfFiles.{FromFiles, TellsCopies, TellsFrom, endings_of, endings_refusal}
 use Rattle.ubtool_run.specs.Images.{Copy, HasRead, IsImagesFault, ReadsImages, copies}
 use Rattle.ubtool_run.specs.ReadingFiles.{IsTextFault, ReadsText}
@@ -86,12 +86,12 @@ tells-refused order config list what out out' found text x y z tool.Memory read 
 -- ---- what the endings of copies are given
 
 made : (order : ByteOrder) (first first' : List ℕ) (second second' : Option (List ℕ)) (list variable variable' : List ℕ) (what : EndingsAsk) → first ≡ first' → second ≡ second' → variable ≡ variable'
-    → given_by order first second list variable what.bounds None None [] ≡ given_by order first' second' list variable' what.bounds None None []
+    → given_all order first second list variable what.bounds ≡ given_all order first' second' list variable' what.bounds
 made order first first' second second' list variable variable' what e f v = rw (e, f, v) refl
 
 pub endings-given : (order : ByteOrder) (images : Images) (list : List ℕ) (what : EndingsAsk) (first : List ℕ) (second : Option (List ℕ)) (variable : List ℕ)
     → first ≡ images.first.bytes.items → second ≡ option_map (λ copy. copy.bytes.items) images.second → variable ≡ string_bytes what.name
-    → given_by order first second list variable what.bounds None None [] ≡ endings_of order (copies images) list what
+    → given_all order first second list variable what.bounds ≡ endings_of order (copies images) list what
 endings-given order images list what first second variable e f v = made order _ _ _ _ list _ _ what (e ∙ first-bytes images) (f ∙ sym (image-bytes images)) v
 
 pub copies-told : (g : Given) (states : ℕ) (out out' : Sink) (r : Result (Unit {0}) ToolError) → IfOk r (λ done. TellsEndings g states out out') → IfErr r (λ e. RefusesEndings g states out out' e) → TellsCopies g states out out' r

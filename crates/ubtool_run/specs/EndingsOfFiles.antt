@@ -1,13 +1,13 @@
 -- How all runs of the images of a configuration end, from files that report what they hold. The order of work is that
 -- of a rehearsal. Ours.
-use Rattle.std.specs.Prelude.{◌≡◌, ◌⊎◌, ℕ, Bool, true, List, [], None, Result, Ok, Err, string_bytes}
+use Rattle.std.specs.Prelude.{◌≡◌, ◌⊎◌, ℕ, Bool, true, List, Result, Ok, Err, string_bytes}
 use Rattle.envimage.specs.Sink.{Sink}
 use Rattle.envimage.specs.declared.image.ByteOrder.{ByteOrder}
 use Rattle.ubtool_cli.specs.declared.ask.EndingsAsk.{EndingsAsk}
 use Rattle.ubtool_core.specs.EndingsOfImages.{RefusesEndings, TellsEndings}
 use Rattle.ubtool_core.specs.Errors.{tool_fault}
 use Rattle.ubtool_core.specs.FileFaults.{path_form}
-use Rattle.ubtool_core.specs.Given.{Given}
+use Rattle.ubtool_core.specs.Given.{Given, given_all}
 use Rattle.ubtool_core.specs.declared.error.ToolError.{ToolError}
 use Rattle.ubtool_core.specs.declared.error.ToolError.TheVariants as tool
 use Rattle.ubtool_core.specs.declared.fault.Fault.{Fault}
@@ -20,17 +20,8 @@ use Rattle.ubtool_run.specs.RehearsingFiles.{AreRead, IsUnlisted}
 
 -- what is rehearsed: the bytes of these copies, by the text of the device list, in all runs
 abbrev pub endings_of : ByteOrder → List Copy → (device_list : List ℕ) → EndingsAsk → Given
-endings_of order found device_list what = record {
-  order = order;
-  first = first_bytes found;
-  second = second_bytes found;
-  device_list = device_list;
-  variable = string_bytes what.name;
-  bounds = what.bounds;
-  after = None;
-  limit = None;
-  names = [];
-}
+endings_of order found device_list what =
+    given_all order (first_bytes found) (second_bytes found) device_list (string_bytes what.name) what.bounds
 
 -- how a refusal is reported: a variable that is not set, by its name
 abbrev pub endings_refusal : EndingsAsk → ToolError → Fault

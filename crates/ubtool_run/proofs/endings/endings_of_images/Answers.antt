@@ -1,9 +1,8 @@
-use Rattle.std.proofs.Common.{◌≡◌, ◌∙◌, subst, None, [], string_bytes}
+use Rattle.std.proofs.Common.{◌≡◌, subst}
 use Rattle.std.specs.Option.{option_copied}
-use Rattle.ubtool_core.specs.Given.{Given}
+use Rattle.ubtool_core.specs.Given.{Given, given_all}
 use Rattle.ubtool_run.specs.EndingsOfFiles.{TellsCopies}
 use Rattle.ubtool_run.proofs.EndingsLemmas.{copies-told, endings-given}
-use Rattle.ubtool_run.proofs.RehearseLemmas.{given_by}
 use Rattle.ubtool_run.proofs.endings.endings_of_images.Goals as goal
 
 pub returns : goal.returns
@@ -13,5 +12,5 @@ returns g c =
     let what = c.args.what.now in
     let second = option_copied c.second_bytes-second.result in
     let same = endings-given c.args.order c.args.images.now c.args.device_list.now what c.deref.result.now second c.as_bytes.result.now c.deref.ensures.value c.second_bytes-second.ensures c.as_bytes.ensures.value in
-    let made = given_by c.args.order c.deref.result.now second c.args.device_list.now c.as_bytes.result.now what.bounds None None [] in
+    let made = given_all c.args.order c.deref.result.now second c.args.device_list.now c.as_bytes.result.now what.bounds in
     subst (λ (x : Given). TellsCopies x what.states out out' c.endings_bytes.result) same (copies-told made what.states out out' c.endings_bytes.result c.endings_bytes.ensures.ok c.endings_bytes.ensures.err)
