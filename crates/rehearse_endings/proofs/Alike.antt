@@ -1,5 +1,5 @@
 -- A script comes to the same elsewhere, as far as the bounds allow.
-use Rattle.std.proofs.Common.{ℕ, zero, suc, Bool, true, false, cond, List, [], ◌∷◌, ◌++◌, length, Option, Some, None, refl, sym, subst, ◌≡◌, ◌<◌, ◌≤◌, inl, inr, length-append, arith, ◌+◌, nat_lt, nat_le, nat_eq, bytes_eq, codes, ltb-true, ltb-false}
+use Rattle.std.proofs.Common.{ℕ, zero, suc, Bool, true, false, cond, List, [], ◌∷◌, ◌++◌, length, Option, Some, None, refl, sym, ap, subst, ◌∙◌, append_assoc, ◌≡◌, ◌<◌, ◌≤◌, inl, inr, length-append, arith, ◌+◌, nat_lt, nat_le, nat_eq, bytes_eq, codes, ltb-true, ltb-false}
 use Rattle.bootstore.specs.Moment.{LoggedCommand}
 use Rattle.rehearse.specs.Outcomes.{OutcomeWord, Success, Failure}
 use Rattle.hushlang.specs.Tree as tree
@@ -15,7 +15,7 @@ use Rattle.rehearse.specs.Commands.{Called, BuiltIn, Device, NoCommand, called_b
 use Rattle.rehearse.specs.Execution.{Limits, Answer, Normal, Exit, Ended, Dry, Ending, CutDevices, CutSteps, Unknown, Syntax, Size, go_on, remember, set_status, set_local, status_when, goes, holds, begin, take_outcome, device, Request, no_effect, logged, set_environment, boot, text_end, run_text, run_all, command, simple, sized, assign, turns, for_each, exec_script, exec_list, exec_joined, exec_command, exec_arms, exec}
 use Rattle.rehearse.specs.Runs.{state_of}
 use Rattle.rehearse.proofs.Keeping.{Track-of, KeepsAll, Keeps-script, Keeps-joined, Keeps-arms, Keeps-exec, Keeps-run, Keeps-turns, Keeps-for, Keeps-if, Keeps-stays, after_condition, Keeps-after_condition, Keeps-ended, Keeps-simple, Keeps-sized, Keeps-assign}
-use Rattle.rehearse_endings.specs.Elsewhere.{elsewhere, devices_of, AreApart, IsBeyond, IsAlike, same, cut_here, beyond, Alike}
+use Rattle.rehearse_endings.specs.Elsewhere.{elsewhere, devices_of, HaveFurther, AreApart, IsBeyond, IsAlike, same, cut_here, beyond, Alike}
 
 -- a change of memory that leaves all but the text alone elsewhere
 abbrev pub Reaches : (Memory → Memory) → Memory → Type 0
@@ -28,7 +28,24 @@ log_within (Exit s) = omega arith
 log_within (Ended ending s) = omega arith
 log_within (Dry s) = omega arith
 
-module _ (limits : Limits) (i j k l : ℕ) where
+-- logs that go on alike are apart by as much as those that they began with
+pub further_apart : (k l here there : List LoggedCommand) → HaveFurther k l here there → length k + length there ≡ length l + length here
+further_apart k l here there h =
+    let a = ap length h.goes_on_here in
+    let b = ap length h.goes_on_there in
+    let c = length-append k h.further in
+    let d = length-append l h.further in
+    omega arith
+
+-- one entry more
+pub further_on : (k l here there : List LoggedCommand) (entry : LoggedCommand) → HaveFurther k l here there → HaveFurther k l (here ++ entry ∷ []) (there ++ entry ∷ [])
+further_on k l here there entry h = record {
+  further = h.further ++ entry ∷ [];
+  goes_on_here = ap (λ (x : List LoggedCommand). x ++ entry ∷ []) h.goes_on_here ∙ append_assoc k h.further (entry ∷ []);
+  goes_on_there = ap (λ (x : List LoggedCommand). x ++ entry ∷ []) h.goes_on_there ∙ append_assoc l h.further (entry ∷ []);
+}
+
+module _ (limits : Limits) (i j : ℕ) (k l : List LoggedCommand) where
   abbrev Is : Answer → Answer → Type 0
   Is a b = IsAlike limits i j k l a b
 
@@ -141,8 +158,8 @@ module _ (limits : Limits) (i j k l : ℕ) where
   Alike-boot true name s = λ text log n e. same (record { text = text; log = log; steps = n; is = refl; apart = e })
   Alike-boot false name s = λ text log n e. same (record { text = text; log = log; steps = n; is = refl; apart = e })
 
-  one_more : (s : State) (log : List LoggedCommand) (n : ℕ) (entry : LoggedCommand) → AreApart limits i j k l s log n → k + length (log ++ entry ∷ []) ≡ l + length (s.log ++ entry ∷ [])
-  one_more s log n entry e = let a = length-append log (entry ∷ []) in let b = length-append s.log (entry ∷ []) in let c = e.1 in omega arith
+  one_more : (s : State) (log : List LoggedCommand) (n : ℕ) (entry : LoggedCommand) → AreApart limits i j k l s log n → HaveFurther k l (s.log ++ entry ∷ []) (log ++ entry ∷ [])
+  one_more s log n entry e = further_on k l s.log log entry e.1
 
   pub take_alike : (request : Request) (w : OutcomeWord) (s : State) (text : Text) (log : List LoggedCommand) (n : ℕ) → AreApart limits i j k l s log n → Is (take_outcome request w s) (take_outcome request w (elsewhere text log n s))
   take_alike request [] s text log n e = same (record { text = text; log = log; steps = n; is = refl; apart = e })
@@ -175,14 +192,14 @@ module _ (limits : Limits) (i j k l : ℕ) where
   device_by request s text log n e true false p q =
       let full = ltb-false (length log) limits.device_bound q in
       let room = ltb-true (length s.log) limits.device_bound p in
-      let a = e.1 in
+      let a = further_apart k l s.log log e.1 in
       let needs = take_needs request s.word s in
       beyond (inr (omega arith, omega arith))
   device_by request s text log n e false true p q =
       let full = ltb-false (length s.log) limits.device_bound p in
       let room = ltb-true (length log) limits.device_bound q in
-      let a = e.1 in
-      cut_here (let less : l < k = omega arith in less)
+      let a = further_apart k l s.log log e.1 in
+      cut_here (let less : length l < length k = omega arith in less)
   device_by request s text log n e false false p q = same (record { text = text; log = log; steps = n; is = refl; apart = e })
 
   pub Alike-device : (request : Request) → AlwaysDoes (device limits request)

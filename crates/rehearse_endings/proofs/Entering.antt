@@ -137,10 +137,10 @@ behind_both p m won lost h k =
     (all_and (λ s. BeginsWith p s.0) won lost (all_as (λ s. BeginsWith (p ++ Success ∷ []) s.0) (λ s. BeginsWith p s.0) won (λ s b. begins_before p s.0 Success b) h) (all_as (λ s. BeginsWith (p ++ Failure ∷ []) s.0) (λ s. BeginsWith p s.0) lost (λ s b. begins_before p s.0 Failure b) k))
     (begins_self p, tt)
 
-pub gone_through : (task : Task) (p : OutcomeWord) (m : Moment) (kept won lost pending : List Asked) (old new : Table) (core : CoreShown) (steps devices : ℕ) (shown : Summary)
+pub gone_through : (task : Task) (p : OutcomeWord) (m : Moment) (kept won lost pending : List Asked) (old new : Table) (core : CoreShown) (steps devices place : ℕ) (shown : Summary)
     → AllByRecursion (λ s. BeginsWith (p ++ Success ∷ []) s.0) won → AllByRecursion (λ s. BeginsWith (p ++ Failure ∷ []) s.0) lost
-    → Entered task ((kept ++ won) ++ lost) ((p, m) ∷ pending) old → IsKept old.entries.items new.entries.items core steps devices shown → new.visited ≡ old.visited → HasEntered task p kept pending new
-gone_through task p m kept won lost pending old new core steps devices shown h k entered is visited =
+    → Entered task ((kept ++ won) ++ lost) ((p, m) ∷ pending) old → IsKept old.entries.items new.entries.items core steps devices place shown → new.visited ≡ old.visited → HasEntered task p kept pending new
+gone_through task p m kept won lost pending old new core steps devices place shown h k entered is visited =
     let same = regrouped kept won lost pending (p, m) in
     record {
       further = (won ++ lost) ++ (p, m) ∷ [];
@@ -156,6 +156,14 @@ gone_through task p m kept won lost pending old new core steps devices shown h k
 
 pub none_further : (task : Task) (p : OutcomeWord) (kept pending : List Asked) (table : Table) → Entered task kept pending table → HasEntered task p kept pending table
 none_further task p kept pending table h = record { further = []; behind = tt; entered = subst (λ (xs : List Asked). Entered task xs pending table) (sym (append-nil kept)) h }
+
+pub none_entered : (task : Task) (p : OutcomeWord) (kept pending : List Asked) (old new : Table) → new.entries.items ≡ old.entries.items → new.visited ≡ old.visited → Entered task kept pending old → HasEntered task p kept pending new
+none_entered task p kept pending old new e v h = none_further task p kept pending new (record {
+  kept_as = h.kept_as ∙ sym (ap length e);
+  many = h.many ∙ sym v;
+  met = h.met;
+  unlike = h.unlike;
+})
 
 -- ---- the whole
 

@@ -1,6 +1,7 @@
 -- What frames make of answers that are alike is alike.
 use Rattle.std.proofs.Common.{ℕ, Bool, true, false, List, [], ◌∷◌, refl, sym, subst, arith, nat_eq}
 use Rattle.hushlang.specs.Tree.{Script}
+use Rattle.bootstore.specs.Moment.{LoggedCommand}
 use Rattle.rehearse.specs.State.{State}
 use Rattle.rehearse.specs.Execution.{Limits, Answer, Normal, Exit, Ended, Dry, run_all, for_each}
 use Rattle.rehearse.proofs.Keeping.{KeepsAll, Keeps-script, Keeps-joined, Keeps-arms, Keeps-exec, Keeps-run, Keeps-turns, Keeps-for, Keeps-if, after_condition, Keeps-after_condition}
@@ -10,9 +11,9 @@ use Rattle.rehearse_machine.specs.Meaning.{first_or_next, full, script, joined_o
 use Rattle.rehearse_endings.specs.Elsewhere.{IsAlike, same, cut_here, beyond}
 use Rattle.rehearse_endings.specs.Futures as futures
 use Rattle.rehearse_endings.specs.Futures.{CameAlike}
-use Rattle.rehearse_endings.proofs.Alike.{AlwaysDoes, go_on_alike, normal_later, text_end_alike, Alike-if, Alike-script, Alike-joined, Alike-arms, Alike-exec, Alike-run, Alike-turns, Alike-for, Alike-after}
+use Rattle.rehearse_endings.proofs.Alike.{further_apart, AlwaysDoes, go_on_alike, normal_later, text_end_alike, Alike-if, Alike-script, Alike-joined, Alike-arms, Alike-exec, Alike-run, Alike-turns, Alike-for, Alike-after}
 
-module _ (limits : Limits) (i j k l : ℕ) where
+module _ (limits : Limits) (i j : ℕ) (k l : List LoggedCommand) where
   abbrev Is : Answer → Answer → Type 0
   Is a b = IsAlike limits i j k l a b
 
@@ -71,16 +72,16 @@ module _ (limits : Limits) (i j k l : ℕ) where
   resume_alike (RunText names) a b h = text_end_alike limits i j k l a b (run_all limits (full limits) names) (Alike-run limits i j k l (full limits) kept_full full_does names) (Keeps-run limits (full limits) kept_full names) h
 
   settled_alike : (a b : Answer) → Is a b → CameAlike limits i j k l (settled a) (settled b)
-  settled_alike (Normal u) b (same h) = subst (λ (x : Answer). CameAlike limits i j k l (settled (Normal u)) (settled x)) (sym h.is) (futures.same (record { kind = refl; ending = refl; steps = h.apart.0; devices = h.apart.1 }))
+  settled_alike (Normal u) b (same h) = subst (λ (x : Answer). CameAlike limits i j k l (settled (Normal u)) (settled x)) (sym h.is) (futures.same (record { kind = refl; ending = refl; ended = refl; steps = h.apart.0; devices = further_apart k l u.log h.log h.apart.1; logs = h.apart.1 }))
   settled_alike (Normal u) b (cut_here h) = absurd h
   settled_alike (Normal u) b (beyond h) = futures.beyond h
-  settled_alike (Exit u) b (same h) = subst (λ (x : Answer). CameAlike limits i j k l (settled (Exit u)) (settled x)) (sym h.is) (futures.same (record { kind = refl; ending = refl; steps = h.apart.0; devices = h.apart.1 }))
+  settled_alike (Exit u) b (same h) = subst (λ (x : Answer). CameAlike limits i j k l (settled (Exit u)) (settled x)) (sym h.is) (futures.same (record { kind = refl; ending = refl; ended = refl; steps = h.apart.0; devices = further_apart k l u.log h.log h.apart.1; logs = h.apart.1 }))
   settled_alike (Exit u) b (cut_here h) = absurd h
   settled_alike (Exit u) b (beyond h) = futures.beyond h
-  settled_alike (Ended ending u) b (same h) = subst (λ (x : Answer). CameAlike limits i j k l (settled (Ended ending u)) (settled x)) (sym h.is) (futures.same (record { kind = refl; ending = refl; steps = h.apart.0; devices = h.apart.1 }))
+  settled_alike (Ended ending u) b (same h) = subst (λ (x : Answer). CameAlike limits i j k l (settled (Ended ending u)) (settled x)) (sym h.is) (futures.same (record { kind = refl; ending = refl; ended = refl; steps = h.apart.0; devices = further_apart k l u.log h.log h.apart.1; logs = h.apart.1 }))
   settled_alike (Ended ending u) b (cut_here h) = futures.cut_here h
   settled_alike (Ended ending u) b (beyond h) = futures.beyond h
-  settled_alike (Dry u) b (same h) = subst (λ (x : Answer). CameAlike limits i j k l (settled (Dry u)) (settled x)) (sym h.is) (futures.same (record { kind = refl; ending = refl; steps = h.apart.0; devices = (let e = h.apart.1 in omega arith) }))
+  settled_alike (Dry u) b (same h) = subst (λ (x : Answer). CameAlike limits i j k l (settled (Dry u)) (settled x)) (sym h.is) (futures.same (record { kind = refl; ending = refl; ended = refl; steps = h.apart.0; devices = (let e = further_apart k l u.log h.log h.apart.1 in omega arith); logs = h.apart.1 }))
   settled_alike (Dry u) b (cut_here h) = absurd h
   settled_alike (Dry u) b (beyond h) = futures.beyond h
 

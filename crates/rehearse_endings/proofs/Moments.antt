@@ -1,5 +1,5 @@
 -- Where a device command asks at two moments of one core, the same is to come, as far as the bounds allow.
-use Rattle.std.proofs.Common.{ℕ, Bool, true, false, List, [], ◌∷◌, length, Option, Some, None, refl, sym, ap, subst, ◌∙◌, ◌≡◌, arith, nat_lt, nat_le}
+use Rattle.std.proofs.Common.{ℕ, Bool, true, false, List, [], ◌∷◌, length, Option, Some, None, refl, sym, ap, subst, ◌∙◌, ◌≡◌, append-nil, arith, nat_lt, nat_le}
 use Rattle.std.specs.FinMap.{entries}
 use Rattle.hushlang.specs.Tree as tree
 use Rattle.hushlang.specs.Tree.{Script}
@@ -95,7 +95,7 @@ state_there m t w h =
     ∙ ap (λ (v : Variables). made (entries m.environment) v t.status t w) h.locals
     ∙ ap (λ (n : ℕ). made (entries m.environment) (entries m.locals) n t w) h.status
 
-asks_so : (limits : Limits) (m : Moment) (a : Asking limits m) (w : OutcomeWord) → asked_at limits m w ≡ continue limits (frames_of m.frames) (take_outcome a.request w (state_at m w))
+pub asks_so : (limits : Limits) (m : Moment) (a : Asking limits m) (w : OutcomeWord) → asked_at limits m w ≡ continue limits (frames_of m.frames) (take_outcome a.request w (state_at m w))
 unfolding asked_at
 asks_so limits m a w = ap (λ (x : PlaceNext). comes_to limits w (next_of x)) (a.again w)
 
@@ -113,17 +113,17 @@ module _ (limits : Limits) (m t : Moment) (am : Asking limits m) (at : Asking li
       ∙ ap (λ (r : Request). continue limits (frames_of m.frames) (take_outcome r w (state_at t w))) (sym asks_same)
       ∙ ap (λ (s : State). continue limits (frames_of m.frames) (take_outcome am.request w s)) (state_there m t w core)
 
-  alike_there : (w : OutcomeWord) → CameAlike limits m.steps t.steps (length m.log) (length t.log) (asked_at limits m w) (asked_at limits t w)
+  alike_there : (w : OutcomeWord) → CameAlike limits m.steps t.steps m.log t.log (asked_at limits m w) (asked_at limits t w)
   alike_there w =
       let here : Came = continue limits (frames_of m.frames) (take_outcome am.request w (state_at m w)) in
       let there' : Came = continue limits (frames_of m.frames) (take_outcome am.request w (elsewhere t.text t.log t.steps (state_at m w))) in
-      let same : CameAlike limits m.steps t.steps (length m.log) (length t.log) here there' =
-      continue_alike limits m.steps t.steps (length m.log) (length t.log) (frames_of m.frames) (take_outcome am.request w (state_at m w)) (take_outcome am.request w (elsewhere t.text t.log t.steps (state_at m w)))
-      (take_alike limits m.steps t.steps (length m.log) (length t.log) am.request w (state_at m w) t.text t.log t.steps (omega arith, omega arith)) in
-      subst (λ (c : Came). CameAlike limits m.steps t.steps (length m.log) (length t.log) c (asked_at limits t w)) (sym (asks_so limits m am w))
-      (subst (λ (c : Came). CameAlike limits m.steps t.steps (length m.log) (length t.log) here c) (sym (there_so w)) same)
+      let same : CameAlike limits m.steps t.steps m.log t.log here there' =
+      continue_alike limits m.steps t.steps m.log t.log (frames_of m.frames) (take_outcome am.request w (state_at m w)) (take_outcome am.request w (elsewhere t.text t.log t.steps (state_at m w)))
+      (take_alike limits m.steps t.steps m.log t.log am.request w (state_at m w) t.text t.log t.steps (omega arith, record { further = []; goes_on_here = sym (append-nil m.log); goes_on_there = sym (append-nil t.log) })) in
+      subst (λ (c : Came). CameAlike limits m.steps t.steps m.log t.log c (asked_at limits t w)) (sym (asks_so limits m am w))
+      (subst (λ (c : Came). CameAlike limits m.steps t.steps m.log t.log here c) (sym (there_so w)) same)
 
 -- the law: for every rest of the word
-pub asked_alike : (limits : Limits) (m t : Moment) → IsAsking limits m → IsAsking limits t → HaveSameCore m t → (w : OutcomeWord) → CameAlike limits m.steps t.steps (length m.log) (length t.log) (asked_at limits m w) (asked_at limits t w)
+pub asked_alike : (limits : Limits) (m t : Moment) → IsAsking limits m → IsAsking limits t → HaveSameCore m t → (w : OutcomeWord) → CameAlike limits m.steps t.steps m.log t.log (asked_at limits m w) (asked_at limits t w)
 unfolding IsAsking
 asked_alike limits m t am at core w = alike_there limits m t am at core w

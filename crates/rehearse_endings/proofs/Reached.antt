@@ -1,5 +1,5 @@
 -- The search over the states in which device commands ask.
-use Rattle.std.proofs.Common.{ℕ, zero, suc, get_or, ◌+◌, ◌*◌, ◌≤◌, ◌<◌, true, false, List, [], ◌∷◌, ◌++◌, map, length, Option, Some, None, refl, sym, ap, subst, ◌∙◌, ◌≡◌, arith, append-nil, length-append}
+use Rattle.std.proofs.Common.{ℕ, zero, suc, get_or, ◌+◌, ◌*◌, ◌≤◌, ◌<◌, true, false, List, [], ◌∷◌, ◌++◌, map, length, Option, Some, None, refl, sym, ap, subst, ◌∙◌, ◌≡◌, ◌≢◌, arith, append-nil, length-append}
 use Rattle.std.proofs.lemmas.List.Elements.{All-append}
 use Rattle.std.proofs.lemmas.Bool.{ltb-true}
 use Rattle.std.specs.Prelude.{nat_lt}
@@ -29,7 +29,10 @@ use Rattle.rehearse_endings.specs.Searching.{future, IsReached, IsEntry, AreEntr
 use Rattle.rehearse_endings.specs.declared.table.Entry.{Entry}
 use Rattle.rehearse_endings.specs.declared.summary.Summary as kept
 use Rattle.std.specs.Prelude.{MatchOption, ⊤}
-use Rattle.rehearse_endings.proofs.Summing.{rows_as, sums_same, sums_there, sums_end, sums_sides}
+use Rattle.rehearse_endings.specs.Flow.{Node}
+use Rattle.rehearse_endings.specs.Drawing.{Draws, HasMore, seen_at}
+use Rattle.rehearse_endings.proofs.Drawn.{draws_on, draws_there}
+use Rattle.rehearse_endings.proofs.Summing.{rows_as, sums_same, came_same, sums_there, sums_end, sums_sides}
 use Rattle.rehearse_endings.proofs.Gathering.{are_rows}
 use Rattle.rehearse_endings.proofs.Saturating.{both_up}
 
@@ -72,14 +75,14 @@ reached_below task depth m h = let l = asked_within task h.0 m h.2 in let e = h.
 pub reached_asks : (task : Task) (depth : ℕ) (m : Moment) → IsReached task depth Asks m → IsAsking task.limits m
 reached_asks task depth m h = h.2.0
 
-reached_wants : (task : Task) (depth : ℕ) (m : Moment) → IsReached task depth Asks m → asked_at task.limits m [] ≡ Wants (state_at m [])
+pub reached_wants : (task : Task) (depth : ℕ) (m : Moment) → IsReached task depth Asks m → asked_at task.limits m [] ≡ Wants (state_at m [])
 reached_wants task depth m h = let k = h.2 in sym (k.1 []) ∙ k.2
 
 -- one outcome further
 pub reached_on : (task : Task) (depth : ℕ) (m n : Moment) (d : Outcome) (stop : Stop) → IsReached task depth Asks m → Stops task.limits stop (λ w. asked_at task.limits m (d ∷ w)) n → IsReached task (depth + 1) stop n
 reached_on task depth m n d stop h k = (h.0 ++ d ∷ [], (let a = length-append h.0 (d ∷ []) in let b = h.1 in omega arith), stopped_on task h.0 m n d stop h.2 k)
 
-future_is : (limits : Limits) (stop : Stop) (f : OutcomeWord → Came) (n : Moment) → Stops limits stop f n → (w : OutcomeWord) → f w ≡ future limits stop n w
+pub future_is : (limits : Limits) (stop : Stop) (f : OutcomeWord → Came) (n : Moment) → Stops limits stop f n → (w : OutcomeWord) → f w ≡ future limits stop n w
 future_is limits Asks f n h w = h.1 w
 future_is limits (Ends halt) f n h w = h w
 
@@ -125,41 +128,58 @@ same_core m t e = record {
   frames = sym (ap (λ (c : CoreShown). c.frames) e);
 }
 
+-- where an entry stands there is one
+pub some_there : (es slice : List Entry) (i : ℕ) → slice ≡ es → true ≡ nat_lt i (length slice) → (o : Option kept.Summary) → MatchOption o ⊤ (λ s. es ≢ [])
+some_there es slice i same within None = tt
+some_there es slice i same within (Some s) = λ none. let l = ltb-true i (length slice) (sym within) in let a : length slice ≡ 0 = ap length (same ∙ none) in absurd (omega arith)
+
 -- an entry that fits
-pub entry_there : (limits : Limits) (e : Entry) (t : Moment) (depth : ℕ) (s : Summary) → IsEntry limits e → IsAsking limits t → length t.log ≡ depth → core_shown e.core ≡ core_of t
-    → FitsIf e.summary.cut_steps e.steps t.steps e.summary.steps limits.step_bound → FitsIf e.summary.cut_devices e.devices depth e.summary.devices limits.device_bound
-    → s ≡ moved_by e.steps t.steps e.devices depth (summary_shown e.summary) → Summed (asked_at limits t) s
-entry_there limits e t depth s h asks log core steps devices is =
-    let m : Moment = h.moment in
-    let kept : Summary = h.summary in
-    let shown : summary_shown e.summary ≡ saturated_summary kept = h.shown in
-    let fits_steps : FitsIf kept.cut_steps m.steps t.steps kept.steps limits.step_bound =
-    subst (λ (x : Summary). FitsIf x.cut_steps m.steps t.steps x.steps limits.step_bound) shown (subst (λ (n : ℕ). FitsIf e.summary.cut_steps n t.steps e.summary.steps limits.step_bound) h.steps steps) in
-    let fits_devices : FitsIf kept.cut_devices (length m.log) (length t.log) kept.devices limits.device_bound =
-    subst (λ (x : Summary). FitsIf x.cut_devices (length m.log) (length t.log) x.devices limits.device_bound) shown
-    (subst (λ (n : ℕ). FitsIf e.summary.cut_devices (length m.log) n e.summary.devices limits.device_bound) (sym log)
-    (subst (λ (n : ℕ). FitsIf e.summary.cut_devices n depth e.summary.devices limits.device_bound) h.devices devices)) in
-    let fits : Fits limits kept m t = record { core = same_core m t (sym h.core ∙ core); steps = fits_steps; devices = fits_devices } in (
-      moved_on m t kept,
-      sums_there limits m t kept h.sums h.reach_steps h.reach_devices fits h.asks asks,
-      is
-          ∙ ap (λ (n : ℕ). moved_by n t.steps e.devices depth (summary_shown e.summary)) h.steps
-          ∙ ap (λ (n : ℕ). moved_by m.steps t.steps n depth (summary_shown e.summary)) h.devices
-          ∙ ap (λ (n : ℕ). moved_by m.steps t.steps (length m.log) n (summary_shown e.summary)) (sym log)
-          ∙ ap (λ (x : Summary). moved_by m.steps t.steps (length m.log) (length t.log) x) shown,
-    )
+module _ (limits : Limits) (nodes : List Node) (e : Entry) (t : Moment) (depth : ℕ) (h : IsEntry limits nodes e) (asks : IsAsking limits t) (log : length t.log ≡ depth) (core : core_shown e.core ≡ core_of t)
+    (steps : FitsIf e.summary.cut_steps e.steps t.steps e.summary.steps limits.step_bound) (devices : FitsIf e.summary.cut_devices e.devices depth e.summary.devices limits.device_bound) where
+  fits_there : Fits limits h.summary h.moment t
+  fits_there =
+      let m : Moment = h.moment in
+      let kept : Summary = h.summary in
+      let shown : summary_shown e.summary ≡ saturated_summary kept = h.shown in
+      let fits_steps : FitsIf kept.cut_steps m.steps t.steps kept.steps limits.step_bound =
+      subst (λ (x : Summary). FitsIf x.cut_steps m.steps t.steps x.steps limits.step_bound) shown (subst (λ (n : ℕ). FitsIf e.summary.cut_steps n t.steps e.summary.steps limits.step_bound) h.steps steps) in
+      let fits_devices : FitsIf kept.cut_devices (length m.log) (length t.log) kept.devices limits.device_bound =
+      subst (λ (x : Summary). FitsIf x.cut_devices (length m.log) (length t.log) x.devices limits.device_bound) shown
+      (subst (λ (n : ℕ). FitsIf e.summary.cut_devices (length m.log) n e.summary.devices limits.device_bound) (sym log)
+      (subst (λ (n : ℕ). FitsIf e.summary.cut_devices n depth e.summary.devices limits.device_bound) h.devices devices)) in
+      record { core = same_core m t (sym h.core ∙ core); steps = fits_steps; devices = fits_devices }
 
-pub entry_in : (limits : Limits) (es slice : List Entry) (i : ℕ) (e : Entry) → slice ≡ es → true ≡ nat_lt i (length slice) → e ≡ get_or slice i e → AreEntries limits es → IsEntry limits e
-entry_in limits es slice i e same within is all =
-    subst (IsEntry limits) (sym is) ((subst (AreEntries limits) (sym same) all) i e (ltb-true i (length slice) (sym within)))
+  summed_there : (s : Summary) → s ≡ moved_by e.steps t.steps e.devices depth (summary_shown e.summary) → Summed (asked_at limits t) s
+  summed_there s is =
+      let m : Moment = h.moment in
+      let kept : Summary = h.summary in
+      let shown : summary_shown e.summary ≡ saturated_summary kept = h.shown in (
+        moved_on m t kept,
+        sums_there limits m t kept h.sums h.reach_steps h.reach_devices fits_there h.asks asks,
+        is
+            ∙ ap (λ (n : ℕ). moved_by n t.steps e.devices depth (summary_shown e.summary)) h.steps
+            ∙ ap (λ (n : ℕ). moved_by m.steps t.steps n depth (summary_shown e.summary)) h.devices
+            ∙ ap (λ (n : ℕ). moved_by m.steps t.steps (length m.log) n (summary_shown e.summary)) (sym log)
+            ∙ ap (λ (x : Summary). moved_by m.steps t.steps (length m.log) (length t.log) x) shown,
+      )
 
--- what a look into the table finds
-pub look_there : (limits : Limits) (e : Entry) (t : Moment) (depth : ℕ) (o : Option kept.Summary) → IsEntry limits e → IsAsking limits t → length t.log ≡ depth → core_shown e.core ≡ core_of t
-    → FitsIf e.summary.cut_steps e.steps t.steps e.summary.steps limits.step_bound → FitsIf e.summary.cut_devices e.devices depth e.summary.devices limits.device_bound
-    → (steps : ℕ) → steps ≡ t.steps → MatchOption o ⊤ (λ s. summary_shown s ≡ moved_by e.steps steps e.devices depth (summary_shown e.summary)) → MatchOption o ⊤ (λ s. Summed (asked_at limits t) (summary_shown s))
-look_there limits e t depth None h asks log core fits_steps fits_devices steps at is = is
-look_there limits e t depth (Some s) h asks log core fits_steps fits_devices steps at is =
-    entry_there limits e t depth (summary_shown s) h asks log core fits_steps fits_devices (is ∙ ap (λ (n : ℕ). moved_by e.steps n e.devices depth (summary_shown e.summary)) at)
+  drawn_there : (place : ℕ) → place ≡ e.summary.place → Draws nodes place (seen_at limits t)
+  drawn_there place is =
+      subst (λ (p : ℕ). Draws nodes p (seen_at limits t)) (sym is)
+      (draws_there limits h.moment t nodes e.summary.place (came_same limits h.moment t h.summary h.sums h.reach_steps h.reach_devices fits_there h.asks asks) h.draws)
+
+  -- what a look into the table finds
+  pub look_there : (o : Option kept.Summary) (steps_now : ℕ) → steps_now ≡ t.steps → MatchOption o ⊤ (λ s. summary_shown s ≡ moved_by e.steps steps_now e.devices depth (summary_shown e.summary)) → MatchOption o ⊤ (λ s. Summed (asked_at limits t) (summary_shown s))
+  look_there None steps_now at is = is
+  look_there (Some s) steps_now at is = summed_there (summary_shown s) (is ∙ ap (λ (n : ℕ). moved_by e.steps n e.devices depth (summary_shown e.summary)) at)
+
+  pub place_there : (o : Option kept.Summary) → MatchOption o ⊤ (λ s. s.place ≡ e.summary.place) → MatchOption o ⊤ (λ s. Draws nodes s.place (seen_at limits t))
+  place_there None is = is
+  place_there (Some s) is = drawn_there s.place is
+
+pub entry_in : (limits : Limits) (nodes : List Node) (es slice : List Entry) (i : ℕ) (e : Entry) → slice ≡ es → true ≡ nat_lt i (length slice) → e ≡ get_or slice i e → AreEntries limits nodes es → IsEntry limits nodes e
+entry_in limits nodes es slice i e same within is all =
+    subst (IsEntry limits nodes) (sym is) ((subst (AreEntries limits nodes) (sym same) all) i e (ltb-true i (length slice) (sym within)))
 
 reach_steps_of : (task : Task) (m : Moment) (s : Summary) → asked_at task.limits m [] ≡ Wants (state_at m []) → Sums (asked_at task.limits m) s → m.steps ≤ s.steps
 reach_steps_of task m s e h = let a = h.steps [] in let b : came_steps (asked_at task.limits m []) ≡ m.steps = ap came_steps e in omega arith
@@ -167,22 +187,42 @@ reach_steps_of task m s e h = let a = h.steps [] in let b : came_steps (asked_at
 reach_devices_of : (task : Task) (m : Moment) (s : Summary) → asked_at task.limits m [] ≡ Wants (state_at m []) → Sums (asked_at task.limits m) s → length m.log ≤ s.devices
 reach_devices_of task m s e h = let a = h.devices [] in let b : came_devices (asked_at task.limits m []) ≡ suc (length m.log) = ap came_devices e in omega arith
 
-one_at : (limits : Limits) (e : Entry) → IsEntry limits e → (n : ℕ) (d : Entry) → n < 1 → IsEntry limits (get_or (e ∷ []) n d)
-one_at limits e k zero d l = k
-one_at limits e k (suc n) d l = absurd (omega arith)
+module _ (limits : Limits) (nodes : List Node) where
+  one_at : (e : Entry) → IsEntry limits nodes e → (n : ℕ) (d : Entry) → n < 1 → IsEntry limits nodes (get_or (e ∷ []) n d)
+  one_at e k zero d l = k
+  one_at e k (suc n) d l = absurd (omega arith)
 
-one_entry : (limits : Limits) (e : Entry) → IsEntry limits e → AreEntries limits (e ∷ [])
-one_entry limits e k = one_at limits e k
+  all_append : (es : List Entry) (e : Entry) → AreEntries limits nodes es → IsEntry limits nodes e → AreEntries limits nodes (es ++ e ∷ [])
+  all_append es e h k = All-append (IsEntry limits nodes) es (e ∷ []) h (one_at e k)
 
-all_append : (limits : Limits) (es : List Entry) (e : Entry) → AreEntries limits es → IsEntry limits e → AreEntries limits (es ++ e ∷ [])
-all_append limits es e h k = All-append (IsEntry limits) es (e ∷ []) h (one_entry limits e k)
+  -- more nodes
+  wider : (new : List Node) (e : Entry) → HasMore nodes new → IsEntry limits nodes e → IsEntry limits new e
+  wider new e h k = record {
+    moment = k.moment;
+    asks = k.asks;
+    core = k.core;
+    steps = k.steps;
+    devices = k.devices;
+    summary = k.summary;
+    sums = k.sums;
+    reach_steps = k.reach_steps;
+    reach_devices = k.reach_devices;
+    shown = k.shown;
+    draws = draws_on nodes new e.summary.place (seen_at limits k.moment) h k.draws;
+  }
+
+  pub entries_as : (old new : List Entry) → new ≡ old → AreEntries limits nodes old → AreEntries limits nodes new
+  entries_as old new e h = subst (AreEntries limits nodes) (sym e) h
+
+  pub all_wider : (new : List Node) (es : List Entry) → HasMore nodes new → AreEntries limits nodes es → AreEntries limits new es
+  all_wider new es h k = λ n d l. wider new (get_or es n d) h (k n d l)
 
 -- one entry more
-pub entries_more : (task : Task) (depth : ℕ) (m : Moment) (old new : List Entry) (core : CoreShown) (steps : ℕ) (s : Summary) → IsReached task depth Asks m → AreEntries task.limits old → core ≡ core_of m → steps ≡ m.steps → Summed (asked_at task.limits m) s → IsKept old new core steps depth s → AreEntries task.limits new
-entries_more task depth m old new core steps s reached all same at summed kept =
+pub entries_more : (task : Task) (nodes : List Node) (depth : ℕ) (m : Moment) (old new : List Entry) (core : CoreShown) (steps place : ℕ) (s : Summary) → IsReached task depth Asks m → AreEntries task.limits nodes old → core ≡ core_of m → steps ≡ m.steps → Summed (asked_at task.limits m) s → Draws nodes place (seen_at task.limits m) → IsKept old new core steps depth place s → AreEntries task.limits nodes new
+entries_more task nodes depth m old new core steps place s reached all same at summed draws kept =
     let log = reached_log task depth Asks m reached in
     let wants = reached_wants task depth m reached in
-    let entry : IsEntry task.limits kept.0 = record {
+    let entry : IsEntry task.limits nodes kept.0 = record {
       moment = m;
       asks = reached_asks task depth m reached;
       core = kept.2 ∙ same;
@@ -193,8 +233,9 @@ entries_more task depth m old new core steps s reached all same at summed kept =
       reach_steps = reach_steps_of task m summed.0 wants summed.1;
       reach_devices = reach_devices_of task m summed.0 wants summed.1;
       shown = kept.5 ∙ summed.2;
+      draws = subst (λ (p : ℕ). Draws nodes p (seen_at task.limits m)) (sym kept.6) draws;
     } in
-    subst (AreEntries task.limits) (sym kept.1) (all_append task.limits old kept.0 all entry)
+    subst (AreEntries task.limits nodes) (sym kept.1) (all_append task.limits nodes old kept.0 all entry)
 
 -- ---- marks
 
@@ -243,8 +284,8 @@ begun_lost r₀ r r₁ r₂ back r₃ v₀ v₁ v₂ marked on within room visit
     let d = begun_on back r₃ lost within' in
     omega (arith, a, b, c, d, room, visited, grows)
 
-none_there : (limits : Limits) (n : ℕ) (d : Entry) → n < 0 → IsEntry limits (get_or [] n d)
-none_there limits n d l = absurd (omega arith)
+none_there : (limits : Limits) (nodes : List Node) (n : ℕ) (d : Entry) → n < 0 → IsEntry limits nodes (get_or [] n d)
+none_there limits nodes n d l = absurd (omega arith)
 
 -- ---- the whole
 
@@ -263,8 +304,8 @@ ending_settled (Dry s) = refl
 pub reached_first : (task : Task) (stop : Stop) (m : Moment) → Stops task.limits stop (λ w. settled (run_on task w)) m → IsReached task 0 stop m
 reached_first task stop m h = ([], refl, h)
 
-pub no_entries : (limits : Limits) (es : List Entry) → es ≡ [] → AreEntries limits es
-no_entries limits es e = subst (AreEntries limits) (sym e) (none_there limits)
+pub no_entries : (limits : Limits) (nodes : List Node) (es : List Entry) → es ≡ [] → AreEntries limits nodes es
+no_entries limits nodes es e = subst (AreEntries limits nodes) (sym e) (none_there limits nodes)
 
 pub whole_rows : (task : Task) (stop : Stop) (m : Moment) (s : Summary) → Stops task.limits stop (λ w. settled (run_on task w)) m → Summed (future task.limits stop m) s → s.rows ≡ map saturated (endings task)
 whole_rows task stop m s h k =

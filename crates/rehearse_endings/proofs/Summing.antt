@@ -34,7 +34,7 @@ sums_same f g s e h = subst (λ (x : OutcomeWord → Came). Sums x s) (same_func
 
 module _ (limits : Limits) (m t : Moment) (s : Summary) (sums : Sums (asked_at limits m) s) (reach_steps : m.steps ≤ s.steps) (reach_devices : length m.log ≤ s.devices) (fits : Fits limits s m t) where
   abbrev Alike : OutcomeWord → Type 0
-  Alike w = CameAlike limits m.steps t.steps (length m.log) (length t.log) (asked_at limits m w) (asked_at limits t w)
+  Alike w = CameAlike limits m.steps t.steps m.log t.log (asked_at limits m w) (asked_at limits t w)
 
   never_cut_steps : (cut : Bool) (here there reach bound : ℕ) (c : Came) → FitsIf cut here there reach bound → (cut ≡ false → came_ending c ≡ CutSteps → ⊥) → came_ending c ≡ CutSteps → there < here → ⊥
   never_cut_steps true here there reach bound c f u e l = absurd (omega (arith, f))
@@ -44,7 +44,7 @@ module _ (limits : Limits) (m t : Moment) (s : Summary) (sums : Sums (asked_at l
   never_cut_devices true here there reach bound c f u e l = absurd (omega (arith, f))
   never_cut_devices false here there reach bound c f u e l = u refl e
 
-  never_by : (w : OutcomeWord) (ending : Ending) → came_ending (asked_at limits m w) ≡ ending → IsCutBy limits m.steps t.steps (length m.log) (length t.log) ending → ⊥
+  never_by : (w : OutcomeWord) (ending : Ending) → came_ending (asked_at limits m w) ≡ ending → IsCutBy limits m.steps t.steps m.log t.log ending → ⊥
   never_by w (End status) e h = h
   never_by w CutDevices e h = never_cut_devices s.cut_devices (length m.log) (length t.log) s.devices limits.device_bound (asked_at limits m w) fits.devices (λ u. sums.uncut_devices u w) e h
   never_by w CutSteps e h = never_cut_steps s.cut_steps m.steps t.steps s.steps limits.step_bound (asked_at limits m w) fits.steps (λ u. sums.uncut_steps u w) e h
@@ -53,7 +53,7 @@ module _ (limits : Limits) (m t : Moment) (s : Summary) (sums : Sums (asked_at l
   never_by w Size e h = h
   never_by w (Booted name) e h = h
 
-  never_cut : (w : OutcomeWord) (c : Came) → asked_at limits m w ≡ c → CameCut limits m.steps t.steps (length m.log) (length t.log) c → ⊥
+  never_cut : (w : OutcomeWord) (c : Came) → asked_at limits m w ≡ c → CameCut limits m.steps t.steps m.log t.log c → ⊥
   never_cut w (Over ending x) e h = never_by w ending (ap came_ending e) h
   never_cut w (Wants x) e h = h
 
@@ -61,16 +61,19 @@ module _ (limits : Limits) (m t : Moment) (s : Summary) (sums : Sums (asked_at l
   never_beyond true here there reach bound came f l a b = absurd (omega (arith, f))
   never_beyond false here there reach bound came f l a b = absurd (omega (arith, f))
 
-  same_there : (w : OutcomeWord) → Alike w → IsSameCame limits m.steps t.steps (length m.log) (length t.log) (asked_at limits m w) (asked_at limits t w)
+  same_there : (w : OutcomeWord) → Alike w → IsSameCame limits m.steps t.steps m.log t.log (asked_at limits m w) (asked_at limits t w)
   same_there w (futures.same h) = h
   same_there w (futures.cut_here h) = absurd (never_cut w (asked_at limits m w) refl h)
   same_there w (futures.beyond (inl h)) = absurd (never_beyond s.cut_steps m.steps t.steps s.steps limits.step_bound (came_steps (asked_at limits m w)) fits.steps (sums.steps w) h.0 h.1)
   same_there w (futures.beyond (inr h)) = absurd (never_beyond s.cut_devices (length m.log) (length t.log) s.devices limits.device_bound (came_devices (asked_at limits m w)) fits.devices (sums.devices w) h.0 h.1)
 
+  pub came_same : IsAsking limits m → IsAsking limits t → (w : OutcomeWord) → IsSameCame limits m.steps t.steps m.log t.log (asked_at limits m w) (asked_at limits t w)
+  came_same am at w = same_there w (asked_alike limits m t am at fits.core w)
+
   -- the law of the table: what was summed at one moment is the summary of another
   pub sums_there : IsAsking limits m → IsAsking limits t → Sums (asked_at limits t) (moved_on m t s)
   sums_there am at =
-      let same = λ (w : OutcomeWord). same_there w (asked_alike limits m t am at fits.core w) in
+      let same = came_same am at in
       record {
         has_rows = same_rows (asked_at limits m) (asked_at limits t) s.rows (λ w. sym (same w).kind) (λ w. sym (same w).ending) sums.has_rows;
         steps = λ w. let a = (same w).steps in let b = sums.steps w in omega arith;

@@ -1,13 +1,13 @@
 -- What is to come where a device command asks, for every rest of the word. Ours.
-use Rattle.std.specs.Prelude.{◌≡◌, ℕ, suc, ◌+◌, ◌<◌, ◌⊎◌, length}
+use Rattle.std.specs.Prelude.{◌≡◌, ℕ, suc, ◌+◌, ◌<◌, ◌⊎◌, List, length, Option, Some, None}
 use Rattle.std.specs.FinMap.{entries}
-use Rattle.bootstore.specs.Moment.{Moment}
+use Rattle.bootstore.specs.Moment.{Moment, LoggedCommand}
 use Rattle.rehearse.specs.Outcomes.{WordKind, Short}
 use Rattle.rehearse.specs.State.{State}
 use Rattle.rehearse.specs.Execution.{Limits, Ending, End}
 use Rattle.rehearse.specs.Runs.{taken_kind}
 use Rattle.rehearse_machine.specs.Came.{Came, Over, Wants}
-use Rattle.rehearse_endings.specs.Elsewhere.{IsCutBy}
+use Rattle.rehearse_endings.specs.Elsewhere.{HaveFurther, IsCutBy}
 
 -- whether the word is a run, too short or too long
 abbrev pub came_kind : Came → WordKind
@@ -19,9 +19,17 @@ abbrev pub came_ending : Came → Ending
 came_ending (Over ending s) = ending
 came_ending (Wants s) = End s.memory.status
 
+-- how the run ended, if it did
+abbrev pub came_to_end : Came → Option Ending
+came_to_end (Over ending s) = Some ending
+came_to_end (Wants s) = None
+
 abbrev pub came_state : Came → State
 came_state (Over ending s) = s
 came_state (Wants s) = s
+
+abbrev pub came_log : Came → List LoggedCommand
+came_log c = (came_state c).log
 
 -- how many steps were begun, and for how many device commands room was needed, with the one that asks
 abbrev pub came_steps : Came → ℕ
@@ -38,21 +46,24 @@ pub record HaveSameCore (m n : Moment) : Type 0 where
   pub status : n.status ≡ m.status
   pub frames : n.frames ≡ m.frames
 
-module _ (limits : Limits) (steps_here steps_there devices_here devices_there : ℕ) where
+module _ (limits : Limits) (steps_here steps_there : ℕ) (log_here log_there : List LoggedCommand) where
   -- the same, but for the text, the log and the steps
   pub record IsSameCame (c d : Came) : Type 0 where
     pub kind : came_kind d ≡ came_kind c
     pub ending : came_ending d ≡ came_ending c
+    pub ended : came_to_end d ≡ came_to_end c
     pub steps : steps_here + came_steps d ≡ steps_there + came_steps c
-    pub devices : devices_here + came_devices d ≡ devices_there + came_devices c
+    pub devices : length log_here + came_devices d ≡ length log_there + came_devices c
+    pub logs : HaveFurther log_here log_there (came_log c) (came_log d)
 
   abbrev pub CameCut : Came → Type 0
-  CameCut (Over ending s) = IsCutBy limits steps_here steps_there devices_here devices_there ending
+  CameCut (Over ending s) = IsCutBy limits steps_here steps_there log_here log_there ending
   CameCut (Wants s) = ⊥
 
   abbrev pub CameBeyond : Came → Type 0
   CameBeyond c = ((steps_here < steps_there) × (steps_here + limits.step_bound < steps_there + came_steps c))
-      ⊎ ((devices_here < devices_there) × (devices_here + limits.device_bound < devices_there + came_devices c))
+      ⊎ ((length log_here < length log_there)
+      × (length log_here + limits.device_bound < length log_there + came_devices c))
 
   -- the same, or a bound was in the way
   pub data CameAlike : Came → Came → Type 0 where

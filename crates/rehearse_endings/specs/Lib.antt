@@ -1,6 +1,8 @@
 pub mod Elsewhere
 pub mod Futures
 pub mod Endings
+pub mod Flow
+pub mod Drawing
 pub mod Summaries
 pub mod Cores
 pub mod RowsShown

@@ -12,6 +12,8 @@ use Rattle.rehearse_machine.specs.declared.rehearsal.Stop.{Stop}
 use Rattle.rehearse_machine.specs.declared.rehearsal.Stop.TheVariants.{Asks, Ends}
 use Rattle.rehearse_runs.specs.Searching.{StoppedAt}
 use Rattle.rehearse_endings.specs.Cores.{CoreShown, core_shown, core_of}
+use Rattle.rehearse_endings.specs.Flow.{Node, Seen}
+use Rattle.rehearse_endings.specs.Drawing.{Draws, seen_behind, seen_at}
 use Rattle.rehearse_endings.specs.Summaries.{Summary, Sums}
 use Rattle.rehearse_endings.specs.RowsShown.{summary_shown, saturated_summary}
 use Rattle.rehearse_endings.specs.declared.table.Entry.{Entry}
@@ -21,12 +23,16 @@ abbrev pub future : Limits → Stop → Moment → OutcomeWord → Came
 future limits Asks m w = asked_at limits m w
 future limits (Ends halt) m w = Over (halt_shown halt) (state_at m w)
 
+-- what is seen of it
+abbrev pub seen_from : Limits → Stop → Moment → OutcomeWord → Seen
+seen_from limits stop m w = seen_behind (length m.log) (future limits stop m w)
+
 -- the text has stopped behind so many device commands
 abbrev pub IsReached : Task → (depth : ℕ) → Stop → Moment → Type 0
 IsReached task depth stop m = (p : OutcomeWord) × (length p ≡ depth) × StoppedAt task p stop m
 
--- an entry is the summary of a moment at which a device command asks
-pub record IsEntry (limits : Limits) (e : Entry) : Type 0 where
+-- an entry is the summary of a moment at which a device command asks, and the nodes draw what is to come of it
+pub record IsEntry (limits : Limits) (nodes : List Node) (e : Entry) : Type 0 where
   pub moment : Moment
   pub asks : IsAsking limits moment
   pub core : core_shown e.core ≡ core_of moment
@@ -37,11 +43,12 @@ pub record IsEntry (limits : Limits) (e : Entry) : Type 0 where
   pub reach_steps : moment.steps ≤ summary.steps
   pub reach_devices : length moment.log ≤ summary.devices
   pub shown : summary_shown e.summary ≡ saturated_summary summary
+  pub draws : Draws nodes e.summary.place (seen_at limits moment)
 
-abbrev pub AreEntries : Limits → List Entry → Type 0
-AreEntries limits entries = All (IsEntry limits) entries
+abbrev pub AreEntries : Limits → List Node → List Entry → Type 0
+AreEntries limits nodes entries = All (IsEntry limits nodes) entries
 
 -- one entry more
-abbrev pub IsKept : (old new : List Entry) → CoreShown → (steps devices : ℕ) → Summary → Type 0
-IsKept old new core steps devices shown = (e : Entry) × (new ≡ old ++ e ∷ []) × (core_shown e.core ≡ core)
-    × (e.steps ≡ steps) × (e.devices ≡ devices) × (summary_shown e.summary ≡ shown)
+abbrev pub IsKept : (old new : List Entry) → CoreShown → (steps devices place : ℕ) → Summary → Type 0
+IsKept old new core steps devices place shown = (e : Entry) × (new ≡ old ++ e ∷ []) × (core_shown e.core ≡ core)
+    × (e.steps ≡ steps) × (e.devices ≡ devices) × (summary_shown e.summary ≡ shown) × (e.summary.place ≡ place)

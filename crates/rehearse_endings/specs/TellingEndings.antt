@@ -1,11 +1,12 @@
 -- What is told of the endings of an environment's variable, and why it is refused. Ours.
-use Rattle.std.specs.Prelude.{◌≡◌, ℕ, ◌+◌, ◌≤◌, List, length, Option, Some, None, Ok, Err}
+use Rattle.std.specs.Prelude.{◌≡◌, ℕ, ◌+◌, ◌≤◌, Bool, true, false, List, length, Option, Some, None, Ok, Err}
 use Rattle.envimage.specs.Sink.{Sink, Wrote, BrokeOff}
 use Rattle.rehearse.specs.State.{Text}
 use Rattle.rehearse.specs.DeviceList.{Devices, listed}
 use Rattle.rehearse.specs.Runs.{Task, runs}
 use Rattle.rehearse_machine.specs.Tasks.{task_set}
 use Rattle.rehearse_endings.specs.Endings.{endings}
+use Rattle.rehearse_endings.specs.Flow.{Node, IsFlow, flow_text}
 use Rattle.rehearse_endings.specs.Lines.{endings_text}
 use Rattle.rehearse_endings.specs.States.{HasStates}
 use Rattle.rehearse_endings.specs.declared.telling.EndingsAsk.{EndingsAsk}
@@ -19,10 +20,15 @@ pub record HasDevices (environment : List (Text × Text)) (devices_text : Text) 
   pub listed_as : listed devices_text ≡ Ok devices
   pub so : IsSo (task_set environment devices ask.name.now ask.bounds)
 
--- the lines that tell how the runs of the task end, and to how many states, no two alike, they come; no more than this
-abbrev pub AreLines : (most : ℕ) → Option Task → Text → Type 0
-AreLines most found text = (task : Task) × (states : ℕ) × (found ≡ Some task) × (states ≤ most) × HasStates task states
-    × (text ≡ endings_text (endings task) (length (runs task)) states)
+-- the flow of the task, or how its runs end, which come to so many states
+abbrev pub Tells : (flow : Bool) → Task → (states : ℕ) → Text → Type 0
+Tells true task states text = (nodes : List Node) × IsFlow task nodes × (text ≡ flow_text nodes)
+Tells false task states text = text ≡ endings_text (endings task) (length (runs task)) states
+
+-- the lines of the task, whose runs come to so many states, no two alike, and no more than this
+abbrev pub AreLines : (flow : Bool) → (most : ℕ) → Option Task → Text → Type 0
+AreLines flow most found text = (task : Task) × (states : ℕ) × (found ≡ Some task) × (states ≤ most)
+    × HasStates task states × Tells flow task states text
 
 -- the runs of the task come to more states than this, no two of them alike
 abbrev pub HasMoreStates : (most : ℕ) → Option Task → Type 0
@@ -39,13 +45,13 @@ IsUntold most found Memory = Unit {0}
 -- the lines were written
 abbrev pub TellsEndings : List (Text × Text) → Text → EndingsAsk → (old new : Sink) → Type 0
 TellsEndings environment devices_text ask old new =
-    HasDevices environment devices_text ask (λ found. (text : Text) × AreLines ask.states found text
+    HasDevices environment devices_text ask (λ found. (text : Text) × AreLines ask.flow ask.states found text
     × Wrote old new text)
 
 -- the output failed inside the lines
 abbrev pub BreaksOff : List (Text × Text) → Text → EndingsAsk → (old new : Sink) → Type 0
 BreaksOff environment devices_text ask old new =
-    HasDevices environment devices_text ask (λ found. (text : Text) × AreLines ask.states found text
+    HasDevices environment devices_text ask (λ found. (text : Text) × AreLines ask.flow ask.states found text
     × BrokeOff old new text)
 
 abbrev pub RefusesEndings : List (Text × Text) → Text → EndingsAsk → (old new : Sink) → EndingsError → Type 0

@@ -3,6 +3,8 @@
 
 mod cores;
 mod environments;
+mod flow;
+mod flow_lines;
 mod hashing;
 pub mod laws;
 mod lines;
@@ -15,6 +17,7 @@ mod table;
 mod telling;
 
 pub use cores::Core;
+pub use flow::Node;
 pub use rows::Row;
 pub use searching::{Endings, sum_endings};
 pub use sum_error::SumError;

@@ -16,7 +16,7 @@ use std::alloc::Global;
 use text::Escaped;
 
 /// Bytes more behind a text.
-fn put(text: &mut Vec<u8>, bytes: &[u8]) -> Result<(), StoreError>
+pub(crate) fn put(text: &mut Vec<u8>, bytes: &[u8]) -> Result<(), StoreError>
     ensures { OnOk result (text.new.items ≡ text.old.items ++ bytes.now) }
 {
     text.extend_from_slice(bytes)?;
@@ -24,7 +24,7 @@ fn put(text: &mut Vec<u8>, bytes: &[u8]) -> Result<(), StoreError>
 }
 
 /// A number more behind it.
-fn put_number(text: &mut Vec<u8>, number: u128) -> Result<(), StoreError>
+pub(crate) fn put_number(text: &mut Vec<u8>, number: u128) -> Result<(), StoreError>
     ensures { OnOk result (text.new.items ≡ text.old.items ++ decimal number) }
 {
     let mut digits = itoa::Buffer::new();
@@ -66,7 +66,7 @@ fn put_digits(alloc: Global, text: &mut Vec<u8>, word: &[bool]) -> Result<(), St
 }
 
 /// Bytes in word form.
-fn put_word(text: &mut Vec<u8>, word: &[u8]) -> Result<(), StoreError>
+pub(crate) fn put_word(text: &mut Vec<u8>, word: &[u8]) -> Result<(), StoreError>
     ensures { OnOk result (text.new.items ≡ text.old.items ++ word_form word.now) }
 {
     if word.is_empty() {
@@ -79,7 +79,7 @@ fn put_word(text: &mut Vec<u8>, word: &[u8]) -> Result<(), StoreError>
 }
 
 /// The last line of the record of a run that ends so.
-fn put_ending(text: &mut Vec<u8>, halt: &Halt) -> Result<(), StoreError>
+pub(crate) fn put_ending(text: &mut Vec<u8>, halt: &Halt) -> Result<(), StoreError>
     ensures { OnOk result (text.new.items ≡ text.old.items ++ last_line (halt_shown halt.now)) }
 {
     match halt {

@@ -37,7 +37,7 @@ pub(crate) fn one_row(alloc: Global, halt: Halt) -> Result<Vec<Row>, StoreError>
 }
 
 /// Whether both end alike.
-fn same_halt(a: &Halt, b: &Halt) -> bool
+pub(crate) fn same_halt(a: &Halt, b: &Halt) -> bool
     ensures { result ≡ ending_eq (halt_shown a.now) (halt_shown b.now) }
 {
     match (a, b) {
@@ -52,7 +52,7 @@ fn same_halt(a: &Halt, b: &Halt) -> bool
     }
 }
 
-fn copy_halt(halt: &Halt) -> Result<Halt, StoreError>
+pub(crate) fn copy_halt(halt: &Halt) -> Result<Halt, StoreError>
     ensures { IfOk result (λ copy. halt_shown copy ≡ halt_shown halt.now) }
 {
     Ok(match halt {

@@ -1,15 +1,18 @@
 //! The search through the states in which device commands ask.
-ghost use Rattle.std.specs.Prelude.{◌≡◌, ◌+◌, ◌*◌, ◌≤◌, ◌<◌, ◌^◌, List, map, IfOk, IfErr, OnOk};
+ghost use Rattle.std.specs.Prelude.{◌≡◌, ◌+◌, ◌*◌, ◌≤◌, ◌<◌, ◌^◌, List, [], length, map, IfOk, IfErr, OnOk};
 ghost use Rattle.rehearse.specs.Bounds.{most_steps};
 ghost use Rattle.rehearse.specs.Outcomes.{OutcomeWord};
 ghost use Rattle.rehearse_machine.specs.Tasks.{task_in};
 ghost use Rattle.rehearse_runs.specs.Searching.{StoppedAt};
 ghost use Rattle.rehearse_endings.specs.RowsShown.{Summed, summary_shown, rows_shown, saturated};
 ghost use Rattle.rehearse_endings.specs.Endings.{endings};
-ghost use Rattle.rehearse_endings.specs.Searching.{future, IsReached, AreEntries};
+ghost use Rattle.rehearse_endings.specs.Flow.{IsFlow};
+ghost use Rattle.rehearse_endings.specs.Drawing.{Draws, HasMore, nodes_shown};
+ghost use Rattle.rehearse_endings.specs.Searching.{future, seen_from, IsReached, AreEntries};
 ghost use Rattle.rehearse_endings.specs.States.{Asked, HasStates, Entered, IsNewAt, HasEntered};
 ghost use Rattle.rehearse_endings.specs.declared.sum_error.SumError.TheVariants.{States};
 
+use crate::flow::{Node, words_at};
 use crate::hashing::hash_of;
 use crate::rows::Row;
 use crate::sum_error::SumError;
@@ -25,6 +28,8 @@ pub struct Endings {
     pub rows: Vec<Row>,
     /// How many states were gone through in which a device command asks.
     pub states: u32,
+    /// All runs as a graph: a node for each of these states, and one for each way to end. A run begins at the first.
+    pub nodes: Vec<Node>,
 }
 
 /// The summary of what is to come of a text that has stopped. States that stand in the table are not gone through again.
@@ -36,14 +41,17 @@ fn summed<S: Store>(
     stop: Stop,
 ) -> Result<Summary, SumError>
     requires reached { IsReached (task_in rehearsal.now) depth stop (S.record_of store.old).present }
-    requires table { AreEntries (task_in rehearsal.now).limits table.old.entries.items }
+    requires table { AreEntries (task_in rehearsal.now).limits (nodes_shown table.old.flow.nodes) table.old.entries.items }
     requires within { (S.record_of store.old).present.steps ≤ most_steps }
     requires bound { (task_in rehearsal.now).limits.device_bound < 2 ^ 32 }
     requires begun { (S.record_of store.old).begun ≤ (2 * table.old.visited + 1) * most_steps }
     requires room { table.old.visited ≤ table.old.most }
     ensures sums { IfOk result (λ s. Summed (future (task_in rehearsal.now).limits stop (S.record_of store.old).present) (summary_shown s)) }
+    ensures draws { IfOk result (λ s. Draws (nodes_shown table.new.flow.nodes) s.place (seen_from (task_in rehearsal.now).limits stop (S.record_of store.old).present)) }
+    ensures grows { OnOk result (HasMore (nodes_shown table.old.flow.nodes) (nodes_shown table.new.flow.nodes)) }
+    ensures last { IfOk result (λ s. table.old.entries.items ≡ [] → table.old.flow.nodes.items ≡ [] → s.place + 1 ≡ length table.new.flow.nodes.items) }
     ensures marks { OnOk result ((S.record_of store.new).marked ≡ (S.record_of store.old).marked) }
-    ensures table { OnOk result (AreEntries (task_in rehearsal.now).limits table.new.entries.items) }
+    ensures table { OnOk result (AreEntries (task_in rehearsal.now).limits (nodes_shown table.new.flow.nodes) table.new.entries.items) }
     ensures begun { OnOk result ((S.record_of store.new).begun + 2 * table.old.visited * most_steps ≤ (S.record_of store.old).begun + 2 * table.new.visited * most_steps) }
     ensures room { OnOk result (table.new.visited ≤ table.new.most) }
     ensures most { OnOk result (table.new.most ≡ table.old.most) }
@@ -52,7 +60,8 @@ fn summed<S: Store>(
 {
     match stop {
         Stop::Ends(halt) => {
-            let summary = of_end(rehearsal.alloc, store.steps(), depth, halt)?;
+            let place = table.flow.end(&halt)?;
+            let summary = of_end(rehearsal.alloc, store.steps(), depth, halt, place)?;
             Ok(summary)
         }
         Stop::Asks => {
@@ -71,11 +80,13 @@ fn summed<S: Store>(
             let steps = store.steps();
             store.mark()?;
             let won_stop = resume(rehearsal, store, true)?;
+            let words = words_at(rehearsal.alloc, store, depth)?;
             let won = summed(rehearsal, store, table, depth + 1, won_stop)?;
             store.back();
             let lost_stop = resume(rehearsal, store, false)?;
             let lost = summed(rehearsal, store, table, depth + 1, lost_stop)?;
-            let summary = of_sides(rehearsal.alloc, steps, depth, won, lost)?;
+            let place = table.flow.ask(words, won.place, lost.place)?;
+            let summary = of_sides(rehearsal.alloc, steps, depth, won, lost, place)?;
             table.keep(rehearsal.alloc, hash, core, steps, depth, &summary)?;
             Ok(summary)
         }
@@ -94,6 +105,7 @@ pub fn sum_endings<S: Store>(
     requires begun { (S.record_of store.old).begun ≡ 0 }
     requires bound { (task_in rehearsal.now).limits.device_bound < 2 ^ 32 }
     ensures rows { IfOk result (λ e. rows_shown e.rows ≡ map saturated (endings (task_in rehearsal.now))) }
+    ensures flow { IfOk result (λ e. IsFlow (task_in rehearsal.now) (nodes_shown e.nodes)) }
     ensures states { IfOk result (λ e. e.states ≤ most_states) }
     ensures met { IfOk result (λ e. HasStates (task_in rehearsal.now) e.states) }
     ensures refused { IfErr result (λ e. e ≡ States → HasStates (task_in rehearsal.now) (most_states + 1)) }
@@ -102,8 +114,11 @@ pub fn sum_endings<S: Store>(
     let stop = begin(rehearsal, store)?;
     let mut table = Table::new(rehearsal.alloc, most_states);
     let summary = summed(rehearsal, store, &mut table, 0, stop)?;
+    let states = table.visited;
+    let nodes = table.flow.into_lines(rehearsal.alloc)?;
     Ok(Endings {
         rows: summary.rows,
-        states: table.visited,
+        states,
+        nodes,
     })
 }

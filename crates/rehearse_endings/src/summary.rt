@@ -17,6 +17,8 @@ pub struct Summary {
     pub devices: u64,
     pub cut_steps: bool,
     pub cut_devices: bool,
+    /// The place of the state in the flow.
+    pub place: usize,
 }
 
 /// The summary of a run that is over.
@@ -25,8 +27,10 @@ pub(crate) fn of_end(
     steps: u32,
     devices: u32,
     halt: Halt,
+    place: usize,
 ) -> Result<Summary, StoreError>
-    ensures { IfOk result (λ s. summary_shown s ≡ summary_at_end (halt_shown halt) steps devices) }
+    ensures sums { IfOk result (λ s. summary_shown s ≡ summary_at_end (halt_shown halt) steps devices) }
+    ensures place { IfOk result (λ s. s.place ≡ place) }
 {
     let cut_steps = matches!(halt, Halt::CutSteps);
     let cut_devices = matches!(halt, Halt::CutDevices);
@@ -37,6 +41,7 @@ pub(crate) fn of_end(
         devices: u64::from(devices),
         cut_steps,
         cut_devices,
+        place,
     })
 }
 
@@ -47,8 +52,10 @@ pub(crate) fn of_sides(
     devices: u32,
     won: Summary,
     lost: Summary,
+    place: usize,
 ) -> Result<Summary, StoreError>
-    ensures { IfOk result (λ s. summary_shown s ≡ summary_of_sides of_both_up steps devices (summary_shown won) (summary_shown lost)) }
+    ensures sums { IfOk result (λ s. summary_shown s ≡ summary_of_sides of_both_up steps devices (summary_shown won) (summary_shown lost)) }
+    ensures place { IfOk result (λ s. s.place ≡ place) }
 {
     let front = put_in_front(alloc, won.rows, true)?;
     let others = put_in_front(alloc, lost.rows, false)?;
@@ -59,5 +66,6 @@ pub(crate) fn of_sides(
         devices: (u64::from(devices) + 1).max(won.devices.max(lost.devices)),
         cut_steps: won.cut_steps || lost.cut_steps,
         cut_devices: won.cut_devices || lost.cut_devices,
+        place,
     })
 }

@@ -1,14 +1,16 @@
 //! The table of the states in which device commands asked.
-ghost use Rattle.std.specs.Prelude.{◌≡◌, ◌≤◌, ◌<◌, ◌^◌, IfOk, OnOk, MatchOption, IsTrue, length, ⊤};
+ghost use Rattle.std.specs.Prelude.{◌≡◌, ◌≢◌, ◌≤◌, ◌<◌, ◌^◌, IfOk, OnOk, MatchOption, IsTrue, length, [], ⊤};
 ghost use Rattle.rehearse_machine.specs.Machine.{IsAsking, asked_at};
 ghost use Rattle.rehearse_machine.specs.MovesShown.{limits_of};
 ghost use Rattle.rehearse_endings.specs.RowsShown.{Summed, summary_shown};
 ghost use Rattle.rehearse_endings.specs.Searching.{AreEntries, IsKept};
 ghost use Rattle.rehearse_endings.specs.Cores.{core_shown, core_of};
 ghost use Rattle.rehearse_endings.specs.Summaries.{FitsIf, moved_by};
+ghost use Rattle.rehearse_endings.specs.Drawing.{Draws, nodes_shown, seen_at};
 
 use crate::cores::{Core, has_core, take_core};
 use crate::environments::Environments;
+use crate::flow::Flow;
 use crate::rows::copy_rows;
 use crate::sum_error::SumError;
 use crate::summary::Summary;
@@ -35,6 +37,8 @@ pub(crate) struct Table {
     pub(crate) places: HashMap<u64, Vec<usize>>,
     /// The environments of the states.
     pub(crate) environments: Environments,
+    /// The nodes of the states, and of the ways to end.
+    pub(crate) flow: Flow,
     /// How many states were entered.
     pub(crate) visited: u32,
     /// How many may be.
@@ -42,12 +46,13 @@ pub(crate) struct Table {
 }
 
 impl Table {
-    ghost use Rattle.std.specs.Prelude.{IfErr, [], ◌+◌};
+    ghost use Rattle.std.specs.Prelude.{IfErr, ◌+◌};
     ghost use Rattle.rehearse_endings.specs.declared.sum_error.SumError.TheVariants.{Memory, States};
 
     /// A table without entries. It takes no memory.
     pub(crate) fn new(alloc: Global, most: u32) -> Table
         ensures entries { result.entries.items ≡ [] }
+        ensures flow { result.flow.nodes.items ≡ [] }
         ensures visited { result.visited ≡ 0 }
         ensures most { result.most ≡ most }
     {
@@ -55,6 +60,7 @@ impl Table {
             entries: Vec::new(alloc),
             places: HashMap::new(alloc),
             environments: Environments::new(alloc),
+            flow: Flow::new(alloc),
             visited: 0,
             most,
         }
@@ -64,6 +70,7 @@ impl Table {
     pub(crate) fn enter<S: Store>(&mut self, alloc: Global, store: &S) -> Result<Core, SumError>
         ensures core { IfOk result (λ core. core_shown core ≡ core_of (S.record_of store.now).present) }
         ensures entries { self.new.entries.items ≡ self.old.entries.items }
+        ensures flow { self.new.flow ≡ self.old.flow }
         ensures most { self.new.most ≡ self.old.most }
         ensures visited { OnOk result (self.new.visited ≡ self.old.visited + 1) }
         ensures within { OnOk result (self.new.visited ≤ self.new.most) }
@@ -89,8 +96,10 @@ impl Table {
     ) -> Result<Option<Summary>, StoreError>
         requires asks { IsAsking (limits_of devices.now bounds) (S.record_of store.now).present }
         requires depth { length (S.record_of store.now).present.log ≡ depth }
-        requires table { AreEntries (limits_of devices.now bounds) self.now.entries.items }
-        ensures { IfOk result (λ found. MatchOption found ⊤ (λ s. Summed (asked_at (limits_of devices.now bounds) (S.record_of store.now).present) (summary_shown s))) }
+        requires table { AreEntries (limits_of devices.now bounds) (nodes_shown self.now.flow.nodes) self.now.entries.items }
+        ensures sums { IfOk result (λ found. MatchOption found ⊤ (λ s. Summed (asked_at (limits_of devices.now bounds) (S.record_of store.now).present) (summary_shown s))) }
+        ensures draws { IfOk result (λ found. MatchOption found ⊤ (λ s. Draws (nodes_shown self.now.flow.nodes) s.place (seen_at (limits_of devices.now bounds) (S.record_of store.now).present))) }
+        ensures some { IfOk result (λ found. MatchOption found ⊤ (λ s. self.now.entries.items ≢ [])) }
     {
         let _devices = devices;
         let Some(places) = self.places.get(&hash) else {
@@ -118,7 +127,8 @@ impl Table {
         summary: &Summary,
     ) -> Result<(), SumError>
         ensures err { IfErr result (λ e. e ≡ Memory) }
-        ensures kept { OnOk result (IsKept self.old.entries.items self.new.entries.items (core_shown core) steps devices (summary_shown summary.now)) }
+        ensures kept { OnOk result (IsKept self.old.entries.items self.new.entries.items (core_shown core) steps devices summary.now.place (summary_shown summary.now)) }
+        ensures flow { self.new.flow ≡ self.old.flow }
         ensures visited { self.new.visited ≡ self.old.visited }
         ensures most { self.new.most ≡ self.old.most }
     {
@@ -138,6 +148,7 @@ impl Table {
     fn note(&mut self, alloc: Global, hash: u64, place: usize) -> Result<(), SumError>
         ensures err { IfErr result (λ e. e ≡ Memory) }
         ensures entries { self.new.entries.items ≡ self.old.entries.items }
+        ensures flow { self.new.flow ≡ self.old.flow }
         ensures visited { self.new.visited ≡ self.old.visited }
         ensures most { self.new.most ≡ self.old.most }
     {
@@ -154,7 +165,8 @@ impl Table {
 
 /// A copy of a summary.
 fn copy_summary(alloc: Global, summary: &Summary) -> Result<Summary, StoreError>
-    ensures { IfOk result (λ copy. summary_shown copy ≡ summary_shown summary.now) }
+    ensures sums { IfOk result (λ copy. summary_shown copy ≡ summary_shown summary.now) }
+    ensures place { IfOk result (λ copy. copy.place ≡ summary.now.place) }
 {
     let rows = copy_rows(alloc, &summary.rows)?;
     Ok(Summary {
@@ -163,6 +175,7 @@ fn copy_summary(alloc: Global, summary: &Summary) -> Result<Summary, StoreError>
         devices: summary.devices,
         cut_steps: summary.cut_steps,
         cut_devices: summary.cut_devices,
+        place: summary.place,
     })
 }
 
@@ -208,7 +221,8 @@ fn moved(
     steps: u32,
     devices: u32,
 ) -> Result<Option<Summary>, StoreError>
-    ensures { IfOk result (λ found. MatchOption found ⊤ (λ s. summary_shown s ≡ moved_by entry.now.steps steps entry.now.devices devices (summary_shown entry.now.summary))) }
+    ensures sums { IfOk result (λ found. MatchOption found ⊤ (λ s. summary_shown s ≡ moved_by entry.now.steps steps entry.now.devices devices (summary_shown entry.now.summary))) }
+    ensures place { IfOk result (λ found. MatchOption found ⊤ (λ s. s.place ≡ entry.now.summary.place)) }
 {
     let further = entry.summary.steps.saturating_sub(u64::from(entry.steps));
     let more = entry
@@ -228,5 +242,6 @@ fn moved(
         devices: reach_devices,
         cut_steps: entry.summary.cut_steps,
         cut_devices: entry.summary.cut_devices,
+        place: entry.summary.place,
     }))
 }

@@ -5,6 +5,7 @@ ghost use Rattle.rehearse_endings.specs.declared.sum_error.SumError.TheVariants.
 ghost use Rattle.rehearse_endings.specs.States.{HasStates};
 ghost use Rattle.rehearse_endings.specs.TellingEndings.{AreLines, IsUntold, TellsEndings, RefusesEndings};
 
+use crate::flow_lines::flow_text_of;
 use crate::lines::text_of;
 use crate::searching::sum_endings;
 use crate::sum_error::SumError;
@@ -24,6 +25,8 @@ pub struct EndingsAsk<'a> {
     pub bounds: RunBounds,
     /// How many states may be gone through.
     pub states: u32,
+    /// Whether the flow is told.
+    pub flow: bool,
 }
 
 /// Why the endings of a script are not told.
@@ -41,14 +44,22 @@ pub enum EndingsError {
     Memory,
 }
 
-/// The lines that tell how all runs of a rehearsal end.
-fn lines_of<S: Store>(rehearsal: &Rehearsal<'_>, most_states: u32) -> Result<Vec<u8>, SumError>
-    ensures ok { IfOk result (λ text. AreLines most_states (Some (task_in rehearsal.now)) text.items) }
+/// The lines that tell how all runs of a rehearsal end, or their flow.
+fn lines_of<S: Store>(
+    rehearsal: &Rehearsal<'_>,
+    most_states: u32,
+    flow: bool,
+) -> Result<Vec<u8>, SumError>
+    ensures ok { IfOk result (λ text. AreLines flow most_states (Some (task_in rehearsal.now)) text.items) }
     ensures err { IfErr result (λ e. e ≡ States → HasStates (task_in rehearsal.now) (most_states + 1)) }
 {
     let _bound = rehearsal.bounds.devices();
     let mut store = S::new(rehearsal.alloc);
     let found = sum_endings(rehearsal, &mut store, most_states)?;
+    if flow {
+        let text = flow_text_of(rehearsal.alloc, &found.nodes)?;
+        return Ok(text);
+    }
     let text = text_of(rehearsal.alloc, &found.rows, found.states)?;
     Ok(text)
 }
@@ -60,7 +71,7 @@ fn lines_in<S: Store>(
     devices: &Devices,
     ask: &EndingsAsk<'_>,
 ) -> Result<Vec<u8>, EndingsError>
-    ensures ok { IfOk result (λ text. AreLines ask.now.states (task_set env.now devices.now ask.now.name.now ask.now.bounds) text.items) }
+    ensures ok { IfOk result (λ text. AreLines ask.now.flow ask.now.states (task_set env.now devices.now ask.now.name.now ask.now.bounds) text.items) }
     ensures err { IfErr result (λ e. IsUntold ask.now.states (task_set env.now devices.now ask.now.name.now ask.now.bounds) e) }
 {
     if env.get(ask.name).is_none() {
@@ -73,14 +84,15 @@ fn lines_in<S: Store>(
         name: ask.name,
         bounds: ask.bounds,
     };
-    match lines_of::<S>(&rehearsal, ask.states) {
+    match lines_of::<S>(&rehearsal, ask.states, ask.flow) {
         Ok(text) => Ok(text),
         Err(SumError::States) => Err(EndingsError::States),
         Err(SumError::Memory) => Err(EndingsError::Memory),
     }
 }
 
-/// Writes how all runs of a variable end: a line for each ending, and one for all. Refusals in order: the device list,
+/// Writes how all runs of a variable end: a line for each ending, and one for all. Or it writes their flow: a line for
+/// each state in which a device command asks, and for each way to end. Refusals in order: the device list,
 /// the variable, `States` and `Memory`, and nothing is written then; `Write` as the lines go.
 pub fn endings_env<S: Store, O: Out>(
     alloc: Global,

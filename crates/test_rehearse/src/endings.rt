@@ -14,11 +14,23 @@ fn told<S: Store>(
     devices: u32,
     states: u32,
 ) -> Result<(Result<(), EndingsError>, Vec<u8>), Fail> {
+    asked::<S>(alloc, text, devices, states, false)
+}
+
+/// The same, or the flow.
+fn asked<S: Store>(
+    alloc: Global,
+    text: &[u8],
+    devices: u32,
+    states: u32,
+    flow: bool,
+) -> Result<(Result<(), EndingsError>, Vec<u8>), Fail> {
     let given = Given::new(alloc, text, &[], b"load", (0, 0))?;
     let ask = EndingsAsk {
         name: b"bootcmd",
         bounds: RunBounds::new(devices, 1_000).ok_or("bounds")?,
         states,
+        flow,
     };
     let mut out = Over::new(Vec::new(alloc));
     let answer = endings_env::<S, _>(alloc, &given.env, b"load", &ask, &mut out);
@@ -61,5 +73,19 @@ fn more_states_than_allowed_write_nothing(rt: HostRuntime) -> Result<(), Fail> {
     let (answer, trail) = told::<Trail>(rt.alloc(), text, 16, 1)?;
     assert!(rt; matches!(answer, Err(EndingsError::States)));
     assert!(rt; trail.is_empty());
+    Ok(())
+}
+
+#[test]
+fn the_flow_leads_from_line_to_line(rt: HostRuntime) -> Result<(), Fail> {
+    let text = b"load a || load b";
+    let lines =
+        b"1 ask load a success 4 failure 2\n2 ask load b success 4 failure 3\n3 ends end 1\n4 ends end 0\n".as_slice();
+    let (answer, plain) = asked::<Plain>(rt.alloc(), text, 16, 2, true)?;
+    assert!(rt; matches!(answer, Ok(())));
+    assert!(rt; plain.as_slice() == lines);
+    let (answer, trail) = asked::<Trail>(rt.alloc(), text, 16, 2, true)?;
+    assert!(rt; matches!(answer, Ok(())));
+    assert!(rt; trail.as_slice() == lines);
     Ok(())
 }

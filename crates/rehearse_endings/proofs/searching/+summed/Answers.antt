@@ -1,17 +1,22 @@
-use Rattle.std.proofs.Common.{ℕ, arith, ap, sym, subst, ◌∙◌, ◌+◌, [], ◌∷◌, ◌++◌}
+use Rattle.std.proofs.Common.{ℕ, refl, arith, ap, sym, subst, ◌∙◌, ◌+◌, [], ◌∷◌, ◌++◌}
 use Rattle.rehearse.specs.Outcomes.{Success, Failure}
 use Rattle.rehearse_machine.specs.Tasks.{task_in}
 use Rattle.rehearse_machine.specs.declared.rehearsal.Stop.{Stop}
 use Rattle.rehearse_machine.specs.declared.rehearsal.Stop.TheVariants.{Asks}
 use Rattle.rehearse_endings.specs.Cores.{core_shown}
 use Rattle.rehearse_endings.specs.RowsShown.{summary_shown, Summed}
-use Rattle.rehearse_endings.specs.Searching.{future, AreEntries}
+use Rattle.bootstore.specs.Moment.{bytes_of_words}
+use Rattle.std.proofs.lemmas.List.{length-map}
+use Rattle.rehearse_endings.specs.Drawing.{Draws, node_shown, nodes_shown}
+use Rattle.rehearse_endings.specs.declared.flow.Flow.{Flow}
+use Rattle.rehearse_endings.specs.Searching.{future, seen_from}
 use Rattle.rehearse_endings.specs.States.{HasStates}
 use Rattle.rehearse_runs.proofs.SearchLemmas.{stopped_on}
 use Rattle.std.proofs.Common.{Err}
 use Rattle.std.proofs.lemmas.Result.{err_from_is_err_and}
-use Rattle.rehearse_endings.proofs.Entering.{refused_as, met_as, enters, too_many, new_won, new_lost, gone_through, none_further}
-use Rattle.rehearse_endings.proofs.Reached.{Room, begun_marked, begun_on, begun_lost, reached_log, reached_as, reached_below, reached_on, won_on, back_there, lost_on, summed_end, summed_sides, entries_more}
+use Rattle.rehearse_endings.proofs.Entering.{refused_as, met_as, enters, too_many, new_won, new_lost, gone_through, none_entered}
+use Rattle.rehearse_endings.proofs.Flowing.{state_drawn, kept_drawn, ended_drawn, more_on, more_nodes, no_more, entered_as}
+use Rattle.rehearse_endings.proofs.Reached.{Room, begun_marked, begun_on, begun_lost, reached_log, reached_as, reached_below, reached_on, won_on, back_there, lost_on, summed_end, summed_sides, all_wider, entries_more}
 use Rattle.rehearse_endings.proofs.searching.+summed.Goals as goal
 
 pub find-requires-clause-depth : goal.find-requires-clause-depth
@@ -35,7 +40,7 @@ summed-requires g t c κs within =
     let b = c.requires.bound in
     let r₁ = g.S.Store.record_of c.resume.new.store in
     let stops = won_on task r (g.S.Store.record_of c.mark.new.self) r₁ c.in_ok-won_stop-in-Asks.won_stop c.in_ok-mark-in-Asks.ensures.ok c.in_ok-won_stop-in-Asks.ensures.stops in
-    let entered = subst (AreEntries task.limits) (sym c.in_ok-core-in-Asks.ensures.entries) c.requires.table in
+    let entered = entered_as task.limits c.args.table.now c.enter.new.self c.in_ok-core-in-Asks.ensures.entries c.in_ok-core-in-Asks.ensures.flow c.requires.table in
     let marked = begun_marked r (g.S.Store.record_of c.mark.new.self) c.in_ok-mark-in-Asks.ensures.ok in
     let on = begun_on (g.S.Store.record_of c.mark.new.self) r₁ c.in_ok-won_stop-in-Asks.ensures.begun c.in_ok-won_stop-in-Asks.ensures.within in
     let room = c.requires.begun in
@@ -72,7 +77,7 @@ returns-in_ok-summary-in-Ends-clause-sums g t c =
     let m = (g.S.Store.record_of c.args.store.now).present in
     let log = reached_log task c.args.depth c.args.stop m c.requires.reached in
     subst (λ (x : Stop). Summed (future task.limits x m) (summary_shown c.in_ok-summary-in-Ends.summary)) (sym c.in-Ends.is)
-    (summed_end task.limits c.in-Ends.halt m c.args.depth c.steps.result (summary_shown c.in_ok-summary-in-Ends.summary) log c.steps.ensures c.in_ok-summary-in-Ends.ensures)
+    (summed_end task.limits c.in-Ends.halt m c.args.depth c.steps.result (summary_shown c.in_ok-summary-in-Ends.summary) log c.steps.ensures c.in_ok-summary-in-Ends.ensures.sums)
 
 pub returns-in_ok-keep-in-Asks-clause-sums : goal.returns-in_ok-keep-in-Asks-clause-sums
 returns-in_ok-keep-in-Asks-clause-sums g t c =
@@ -86,7 +91,7 @@ returns-in_ok-keep-in-Asks-clause-sums g t c =
     let there = back_there r (g.S.Store.record_of c.mark.new.self) (g.S.Store.record_of c.resume.new.store) (g.S.Store.record_of c.summed.new.store) back c.in_ok-mark-in-Asks.ensures.ok c.in_ok-won_stop-in-Asks.ensures.marks c.in_ok-won-in-Asks.ensures.marks c.back.ensures in
     let lost_stops = lost_on task r.present back (g.S.Store.record_of c.resume-in-Asks.new.store) c.in_ok-lost_stop-in-Asks.lost_stop there c.in_ok-lost_stop-in-Asks.ensures.stops in
     subst (λ (x : Stop). Summed (future task.limits x r.present) (summary_shown c.in_ok-summary-in-Asks.summary)) (sym c.in-Asks.is)
-    (summed_sides task c.args.depth r.present reached c.in_ok-won_stop-in-Asks.won_stop c.in_ok-lost_stop-in-Asks.lost_stop won_at lost_at (summary_shown c.in_ok-won-in-Asks.won) (summary_shown c.in_ok-lost-in-Asks.lost) (summary_shown c.in_ok-summary-in-Asks.summary) c.steps-steps.result c.steps-steps.ensures won_stops lost_stops c.in_ok-won-in-Asks.ensures.sums c.in_ok-lost-in-Asks.ensures.sums c.in_ok-summary-in-Asks.ensures)
+    (summed_sides task c.args.depth r.present reached c.in_ok-won_stop-in-Asks.won_stop c.in_ok-lost_stop-in-Asks.lost_stop won_at lost_at (summary_shown c.in_ok-won-in-Asks.won) (summary_shown c.in_ok-lost-in-Asks.lost) (summary_shown c.in_ok-summary-in-Asks.summary) c.steps-steps.result c.steps-steps.ensures won_stops lost_stops c.in_ok-won-in-Asks.ensures.sums c.in_ok-lost-in-Asks.ensures.sums c.in_ok-summary-in-Asks.ensures.sums)
 
 pub returns-in_ok-keep-in-Asks-clause-table : goal.returns-in_ok-keep-in-Asks-clause-table
 returns-in_ok-keep-in-Asks-clause-table g t c =
@@ -99,13 +104,76 @@ returns-in_ok-keep-in-Asks-clause-table g t c =
     let back = g.S.Store.record_of c.back.new.self in
     let there = back_there r (g.S.Store.record_of c.mark.new.self) (g.S.Store.record_of c.resume.new.store) (g.S.Store.record_of c.summed.new.store) back c.in_ok-mark-in-Asks.ensures.ok c.in_ok-won_stop-in-Asks.ensures.marks c.in_ok-won-in-Asks.ensures.marks c.back.ensures in
     let lost_stops = lost_on task r.present back (g.S.Store.record_of c.resume-in-Asks.new.store) c.in_ok-lost_stop-in-Asks.lost_stop there c.in_ok-lost_stop-in-Asks.ensures.stops in
-    let summed = summed_sides task c.args.depth r.present reached c.in_ok-won_stop-in-Asks.won_stop c.in_ok-lost_stop-in-Asks.lost_stop won_at lost_at (summary_shown c.in_ok-won-in-Asks.won) (summary_shown c.in_ok-lost-in-Asks.lost) (summary_shown c.in_ok-summary-in-Asks.summary) c.steps-steps.result c.steps-steps.ensures won_stops lost_stops c.in_ok-won-in-Asks.ensures.sums c.in_ok-lost-in-Asks.ensures.sums c.in_ok-summary-in-Asks.ensures in
-    entries_more task c.args.depth r.present c.summed-in-Asks.new.table.entries.items c.keep.new.self.entries.items (core_shown c.in_ok-core-in-Asks.core) c.steps-steps.result (summary_shown c.in_ok-summary-in-Asks.summary) reached c.in_ok-lost-in-Asks.ensures.table c.in_ok-core-in-Asks.ensures.core c.steps-steps.ensures summed c.in_ok-keep-in-Asks.ensures.kept
+    let summed = summed_sides task c.args.depth r.present reached c.in_ok-won_stop-in-Asks.won_stop c.in_ok-lost_stop-in-Asks.lost_stop won_at lost_at (summary_shown c.in_ok-won-in-Asks.won) (summary_shown c.in_ok-lost-in-Asks.lost) (summary_shown c.in_ok-summary-in-Asks.summary) c.steps-steps.result c.steps-steps.ensures won_stops lost_stops c.in_ok-won-in-Asks.ensures.sums c.in_ok-lost-in-Asks.ensures.sums c.in_ok-summary-in-Asks.ensures.sums in
+    let won_nodes = nodes_shown c.summed.new.table.flow.nodes in
+    let nodes = c.summed-in-Asks.new.table.flow.nodes in
+    let same = ap (λ (x : Flow). nodes_shown x.nodes) c.in_ok-keep-in-Asks.ensures.flow in
+    let words = bytes_of_words c.in_ok-words-in-Asks.words.items in
+    let place = c.in_ok-place-in-Asks.place in
+    let at = c.in_ok-place-in-Asks.ensures.place ∙ sym (length-map nodes.items node_shown) in
+    let kept_at = c.in_ok-summary-in-Asks.ensures.place in
+    let drawn =
+    state_drawn task c.args.depth r.present c.in_ok-won_stop-in-Asks.won_stop c.in_ok-lost_stop-in-Asks.lost_stop won_at lost_at won_nodes (nodes_shown nodes) (nodes_shown c.ask.new.self.nodes) c.in_ok-won-in-Asks.won.place c.in_ok-lost-in-Asks.lost.place place words
+    reached won_stops lost_stops c.in_ok-words-in-Asks.ensures c.in_ok-won-in-Asks.ensures.draws c.in_ok-lost-in-Asks.ensures.grows c.in_ok-lost-in-Asks.ensures.draws at c.in_ok-place-in-Asks.ensures.nodes in
+    let draws = kept_drawn task.limits r.present (nodes_shown c.ask.new.self.nodes) (nodes_shown c.keep.new.self.flow.nodes) place c.in_ok-summary-in-Asks.summary.place same kept_at drawn in
+    let more = more_nodes (nodes_shown nodes) (nodes_shown c.ask.new.self.nodes) (nodes_shown c.keep.new.self.flow.nodes) _ c.in_ok-place-in-Asks.ensures.nodes same in
+    entries_more task (nodes_shown c.keep.new.self.flow.nodes) c.args.depth r.present c.summed-in-Asks.new.table.entries.items c.keep.new.self.entries.items (core_shown c.in_ok-core-in-Asks.core) c.steps-steps.result c.in_ok-summary-in-Asks.summary.place (summary_shown c.in_ok-summary-in-Asks.summary) reached
+    (all_wider task.limits (nodes_shown nodes) (nodes_shown c.keep.new.self.flow.nodes) c.summed-in-Asks.new.table.entries.items more c.in_ok-lost-in-Asks.ensures.table)
+    c.in_ok-core-in-Asks.ensures.core c.steps-steps.ensures summed draws c.in_ok-keep-in-Asks.ensures.kept
+
+-- ---- the nodes
+
+pub returns-in_ok-summary-in-Ends-clause-draws : goal.returns-in_ok-summary-in-Ends-clause-draws
+returns-in_ok-summary-in-Ends-clause-draws g t c =
+    let limits = (task_in c.args.rehearsal.now).limits in
+    let m = (g.S.Store.record_of c.args.store.now).present in
+    let nodes = nodes_shown c.end.new.self.nodes in
+    ended_drawn limits nodes c.in_ok-place-in-Ends.place c.in_ok-summary-in-Ends.summary.place c.in-Ends.halt c.args.stop m c.in-Ends.is c.in_ok-summary-in-Ends.ensures.place c.in_ok-place-in-Ends.ensures.place
+
+pub returns-in_ok-summary-in-Ends-clause-table : goal.returns-in_ok-summary-in-Ends-clause-table
+returns-in_ok-summary-in-Ends-clause-table g t c =
+    all_wider (task_in c.args.rehearsal.now).limits (nodes_shown c.args.table.now.flow.nodes) (nodes_shown c.end.new.self.nodes) c.args.table.now.entries.items c.in_ok-place-in-Ends.ensures.grows c.requires.table
+
+pub returns-in_ok-keep-in-Asks-clause-draws : goal.returns-in_ok-keep-in-Asks-clause-draws
+returns-in_ok-keep-in-Asks-clause-draws g t c =
+    let task = task_in c.args.rehearsal.now in
+    let r = g.S.Store.record_of c.args.store.now in
+    let reached = reached_as task c.args.depth c.args.stop Asks r.present c.in-Asks.is c.requires.reached in
+    let won_at = (g.S.Store.record_of c.resume.new.store).present in
+    let lost_at = (g.S.Store.record_of c.resume-in-Asks.new.store).present in
+    let won_stops = won_on task r (g.S.Store.record_of c.mark.new.self) (g.S.Store.record_of c.resume.new.store) c.in_ok-won_stop-in-Asks.won_stop c.in_ok-mark-in-Asks.ensures.ok c.in_ok-won_stop-in-Asks.ensures.stops in
+    let back = g.S.Store.record_of c.back.new.self in
+    let there = back_there r (g.S.Store.record_of c.mark.new.self) (g.S.Store.record_of c.resume.new.store) (g.S.Store.record_of c.summed.new.store) back c.in_ok-mark-in-Asks.ensures.ok c.in_ok-won_stop-in-Asks.ensures.marks c.in_ok-won-in-Asks.ensures.marks c.back.ensures in
+    let lost_stops = lost_on task r.present back (g.S.Store.record_of c.resume-in-Asks.new.store) c.in_ok-lost_stop-in-Asks.lost_stop there c.in_ok-lost_stop-in-Asks.ensures.stops in
+    let won_nodes = nodes_shown c.summed.new.table.flow.nodes in
+    let nodes = c.summed-in-Asks.new.table.flow.nodes in
+    let same = ap (λ (x : Flow). nodes_shown x.nodes) c.in_ok-keep-in-Asks.ensures.flow in
+    let words = bytes_of_words c.in_ok-words-in-Asks.words.items in
+    let place = c.in_ok-place-in-Asks.place in
+    let at = c.in_ok-place-in-Asks.ensures.place ∙ sym (length-map nodes.items node_shown) in
+    let kept_at = c.in_ok-summary-in-Asks.ensures.place in
+    let drawn =
+    state_drawn task c.args.depth r.present c.in_ok-won_stop-in-Asks.won_stop c.in_ok-lost_stop-in-Asks.lost_stop won_at lost_at won_nodes (nodes_shown nodes) (nodes_shown c.ask.new.self.nodes) c.in_ok-won-in-Asks.won.place c.in_ok-lost-in-Asks.lost.place place words
+    reached won_stops lost_stops c.in_ok-words-in-Asks.ensures c.in_ok-won-in-Asks.ensures.draws c.in_ok-lost-in-Asks.ensures.grows c.in_ok-lost-in-Asks.ensures.draws at c.in_ok-place-in-Asks.ensures.nodes in
+    let draws = kept_drawn task.limits r.present (nodes_shown c.ask.new.self.nodes) (nodes_shown c.keep.new.self.flow.nodes) place c.in_ok-summary-in-Asks.summary.place same kept_at drawn in
+    subst (λ (x : Stop). Draws (nodes_shown c.keep.new.self.flow.nodes) c.in_ok-summary-in-Asks.summary.place (seen_from task.limits x r.present)) (sym c.in-Asks.is) draws
+
+pub returns-in_ok-keep-in-Asks-clause-grows : goal.returns-in_ok-keep-in-Asks-clause-grows
+returns-in_ok-keep-in-Asks-clause-grows g t c =
+    let first = nodes_shown c.args.table.now.flow.nodes in
+    let entered = nodes_shown c.enter.new.self.flow.nodes in
+    let won = nodes_shown c.summed.new.table.flow.nodes in
+    let lost = nodes_shown c.summed-in-Asks.new.table.flow.nodes in
+    let kept = nodes_shown c.keep.new.self.flow.nodes in
+    let shown = λ (x : Flow). nodes_shown x.nodes in
+    more_on first lost kept
+    (more_on first won lost (more_on first entered won (no_more first entered (ap shown c.in_ok-core-in-Asks.ensures.flow)) c.in_ok-won-in-Asks.ensures.grows) c.in_ok-lost-in-Asks.ensures.grows)
+    (more_nodes lost (nodes_shown c.ask.new.self.nodes) kept _ c.in_ok-place-in-Asks.ensures.nodes (ap shown c.in_ok-keep-in-Asks.ensures.flow))
 
 -- ---- the states that are entered
 
 pub returns-in_ok-summary-in-Ends-clause-entered : goal.returns-in_ok-summary-in-Ends-clause-entered
-returns-in_ok-summary-in-Ends-clause-entered g t c = λ p kept pending at new entered. none_further (task_in c.args.rehearsal.now) p kept pending c.args.table.now entered
+returns-in_ok-summary-in-Ends-clause-entered g t c = λ p kept pending at new entered. none_entered (task_in c.args.rehearsal.now) p kept pending c.args.table.now _ refl refl entered
 
 pub returns-in_err-core-in-Asks-clause-refused : goal.returns-in_err-core-in-Asks-clause-refused
 returns-in_err-core-in-Asks-clause-refused g t c = λ p kept pending at new entered.
@@ -165,4 +233,4 @@ returns-in_ok-keep-in-Asks-clause-entered g t c = λ p kept pending at new enter
     let lost =
     c.in_ok-lost-in-Asks.ensures.entered (p ++ Failure ∷ []) (kept ++ won.further) ((p, r.present) ∷ pending) (stopped_on task p r.present lost_at Failure c.in_ok-lost_stop-in-Asks.lost_stop met lost_stops)
     (new_lost p r.present kept won.further pending new won.behind) won.entered in
-    gone_through task p r.present kept won.further lost.further pending c.summed-in-Asks.new.table c.keep.new.self (core_shown c.in_ok-core-in-Asks.core) c.steps-steps.result c.args.depth (summary_shown c.in_ok-summary-in-Asks.summary) won.behind lost.behind lost.entered c.in_ok-keep-in-Asks.ensures.kept c.keep.ensures.visited
+    gone_through task p r.present kept won.further lost.further pending c.summed-in-Asks.new.table c.keep.new.self (core_shown c.in_ok-core-in-Asks.core) c.steps-steps.result c.args.depth c.in_ok-summary-in-Asks.summary.place (summary_shown c.in_ok-summary-in-Asks.summary) won.behind lost.behind lost.entered c.in_ok-keep-in-Asks.ensures.kept c.keep.ensures.visited

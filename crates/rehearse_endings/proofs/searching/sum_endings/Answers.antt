@@ -1,4 +1,7 @@
-use Rattle.std.proofs.Common.{ℕ, ◌+◌, [], ap, subst, ◌∙◌, Err}
+use Rattle.std.proofs.Common.{ℕ, ◌+◌, [], length, ap, sym, subst, ◌∙◌, Err}
+use Rattle.std.proofs.lemmas.List.{length-map}
+use Rattle.rehearse_endings.specs.Drawing.{node_shown, nodes_shown}
+use Rattle.rehearse_endings.proofs.Flowing.{whole_flow}
 use Rattle.std.proofs.lemmas.Result.{err_from_is_err_and}
 use Rattle.rehearse_endings.specs.States.{HasStates}
 use Rattle.rehearse_endings.proofs.Entering.{first_entered, first_new, whole_states, refused_as}
@@ -27,3 +30,11 @@ returns-in_err-summary-clause-refused g c =
     let error = err_from_is_err_and c.from_residual-in_err-summary.result c.from_residual-in_err-summary.ensures.1 in
     refused_as task (c.args.most_states + 1) c.from_residual-in_err-summary.result c.in_err-summary.field-0.0 (error.1 ∙ ap Err error.2)
     (λ is. subst (λ (n : ℕ). HasStates task (n + 1)) c.new-table.ensures.most (c.in_err-summary.ensures.refused [] [] [] c.in_ok-stop.ensures.stops first_new first is))
+
+pub returns-clause-flow : goal.returns-clause-flow
+returns-clause-flow g c =
+    let task = task_in c.args.rehearsal.now in
+    let m = (g.S.Store.record_of c.begin.new.store).present in
+    let nodes = c.summed.new.table.flow.nodes in
+    whole_flow task c.in_ok-stop.stop m (nodes_shown nodes) (nodes_shown c.in_ok-nodes.nodes) c.in_ok-summary.summary.place (length nodes.items) c.in_ok-stop.ensures.stops c.in_ok-summary.ensures.draws
+    (c.in_ok-summary.ensures.last c.new-table.ensures.entries c.new-table.ensures.flow) (sym (length-map nodes.items node_shown)) c.in_ok-nodes.ensures

@@ -11,7 +11,7 @@ returns-then-is_none-clause-err g c = task_is_unset c.args.env.now c.args.device
 pub returns-in-Ok-clause-ok : goal.returns-in-Ok-clause-ok
 returns-in-Ok-clause-ok g c =
     let set = task_is_set c.args.env.now c.args.devices.now c.args.ask.now.name.now c.args.ask.now.bounds (search rules) in
-    subst (λ (found : Option Task). AreLines c.args.ask.now.states found c.in-Ok.text.items) (sym set) c.in-Ok.ensures.ok
+    subst (λ (found : Option Task). AreLines c.args.ask.now.flow c.args.ask.now.states found c.in-Ok.text.items) (sym set) c.in-Ok.ensures.ok
 
 pub returns-in-Err-States-clause-err : goal.returns-in-Err-States-clause-err
 returns-in-Err-States-clause-err g c =

@@ -1,11 +1,24 @@
-use Rattle.std.proofs.Common.{refl}
+use Rattle.std.proofs.Common.{rules, refl, sym, subst, ◌≡◌, Bool, true, false}
 use Rattle.rehearse_machine.specs.Tasks.{task_in}
+use Rattle.rehearse_endings.specs.Drawing.{nodes_shown}
 use Rattle.rehearse_endings.specs.RowsShown.{rows_shown}
+use Rattle.rehearse_endings.specs.TellingEndings.{Tells}
 use Rattle.rehearse_endings.proofs.LineLemmas.{text_told}
 use Rattle.rehearse_endings.proofs.telling.lines_of.Goals as goal
+
+pub returns-then-flow-clause-ok : goal.returns-then-flow-clause-ok
+returns-then-flow-clause-ok g c =
+    let task = task_in c.args.rehearsal.now in
+    let states = c.in_ok-found.found.states in
+    let is : c.args.flow ≡ true = search rules in
+    let told : Tells true task states c.in_ok-text.text.items = (nodes_shown c.in_ok-found.found.nodes, c.in_ok-found.ensures.flow, c.in_ok-text.ensures) in
+    (task, states, refl, c.in_ok-found.ensures.states, c.in_ok-found.ensures.met, subst (λ (flow : Bool). Tells flow task states c.in_ok-text.text.items) (sym is) told)
 
 pub returns-clause-ok : goal.returns-clause-ok
 returns-clause-ok g c =
     let task = task_in c.args.rehearsal.now in
-    let told = text_told task (rows_shown c.in_ok-found.found.rows) c.in_ok-text.text.items c.in_ok-found.found.states c.in_ok-found.ensures.rows c.in_ok-text.ensures in
-    (task, c.in_ok-found.found.states, refl, c.in_ok-found.ensures.states, c.in_ok-found.ensures.met, told)
+    let states = c.in_ok-found.found.states in
+    let is : c.args.flow ≡ false = search rules in
+    let text = c.in_ok-text-2.text.items in
+    let told : Tells false task states text = text_told task (rows_shown c.in_ok-found.found.rows) text states c.in_ok-found.ensures.rows c.in_ok-text-2.ensures in
+    (task, states, refl, c.in_ok-found.ensures.states, c.in_ok-found.ensures.met, subst (λ (flow : Bool). Tells flow task states text) (sym is) told)

@@ -1,0 +1,59 @@
+-- The nodes of a flow while they are made: those that a node leads to stand before it, and places count from 0. Ours.
+use Rattle.std.specs.Prelude.{◌≡◌, ℕ, zero, suc, ◌-◌, List, [], ◌∷◌, ◌++◌, map, length, Option, Some, None, Vec}
+use Rattle.std.specs.List.{slice_get}
+use Rattle.std.specs.declared.alloc.Global.{Global}
+use Rattle.bootstore.specs.Moment.{Moment, LoggedCommand, bytes_of_words}
+use Rattle.rehearse.specs.Outcomes.{OutcomeWord}
+use Rattle.rehearse.specs.State.{Text}
+use Rattle.rehearse.specs.Execution.{Limits}
+use Rattle.rehearse_machine.specs.Came.{Came}
+use Rattle.rehearse_machine.specs.EndingsShown.{halt_shown}
+use Rattle.rehearse_machine.specs.Machine.{asked_at}
+use Rattle.rehearse_endings.specs.Flow.{Node, Asks, Ends, Seen, walk}
+use Rattle.rehearse_endings.specs.Futures.{came_kind, came_to_end, came_log}
+use Rattle.rehearse_endings.specs.declared.flow.Node as rt
+use Rattle.rehearse_endings.specs.declared.flow.Node.TheVariants as made
+
+abbrev pub node_shown : rt.Node → Node
+node_shown (made.Asks words success failure) = Asks (bytes_of_words words.items) success failure
+node_shown (made.Ends halt) = Ends (halt_shown halt)
+
+abbrev pub nodes_shown : Vec rt.Node Global → List Node
+nodes_shown nodes = map node_shown nodes.items
+
+-- what stands behind the first commands of a log
+abbrev pub further : ℕ → List LoggedCommand → List LoggedCommand
+further zero log = log
+further (suc n) [] = []
+further (suc n) (command ∷ log) = further n log
+
+-- what is seen of what a run comes to, behind so many device commands
+abbrev pub seen_behind : (devices : ℕ) → Came → Seen
+seen_behind devices came = record {
+  kind = came_kind came;
+  ending = came_to_end came;
+  log = further devices (came_log came);
+}
+
+-- the walk from a place by any word sees this, whatever nodes come after
+abbrev pub Draws : List Node → (place : ℕ) → (OutcomeWord → Seen) → Type 0
+Draws nodes place sees = (more : List Node) (w : OutcomeWord) → walk (slice_get (nodes ++ more)) w place ≡ sees w
+
+-- what is seen of the runs from a moment at which a device command asks
+abbrev pub seen_at : Limits → Moment → OutcomeWord → Seen
+seen_at limits m w = seen_behind (length m.log) (asked_at limits m w)
+
+-- nodes behind those that are there
+abbrev pub HasMore : (old new : List Node) → Type 0
+HasMore old new = (more : List Node) × (new ≡ old ++ more)
+
+-- the words of the device command at a place of a log
+abbrev pub words_in : Option LoggedCommand → List Text
+words_in (Some command) = command.words
+words_in None = []
+
+-- ---- the order of the lines: the node that was made last is the first
+
+abbrev pub renumbered : ℕ → Node → Node
+renumbered count (Asks words success failure) = Asks words (count - success) (count - failure)
+renumbered count (Ends ending) = Ends ending

@@ -1,0 +1,154 @@
+//! The flow: a node where a device command asks, and one for each way to end.
+ghost use Rattle.std.specs.Prelude.{◌≡◌, ◌+◌, ◌∷◌, ◌++◌, [], Some, length, map, reverse, IfOk, MatchOption, OnOk, ⊤};
+ghost use Rattle.std.specs.List.{slice_get};
+ghost use Rattle.bootstore.specs.Moment.{bytes_of_words};
+ghost use Rattle.rehearse_machine.specs.EndingsShown.{halt_shown};
+ghost use Rattle.rehearse_endings.specs.Flow.{Asks, Ends};
+ghost use Rattle.rehearse_endings.specs.Drawing.{node_shown, nodes_shown, words_in, renumbered, HasMore};
+
+use crate::rows::{copy_halt, same_halt};
+use bootstore::{Store, StoreError};
+use rehearse_machine::Halt;
+use std::alloc::Global;
+
+/// A node of the flow.
+#[derive(Drop)]
+pub enum Node {
+    /// A device command asks.
+    Asks {
+        /// All its fields, its name first.
+        words: Vec<Vec<u8>>,
+        /// The node that follows its success.
+        success: usize,
+        /// The node that follows its failure.
+        failure: usize,
+    },
+    /// The run ends.
+    Ends(Halt),
+}
+
+/// The nodes that were made. Those to which a node leads stand before it, and places count from 0.
+#[derive(Drop)]
+pub(crate) struct Flow {
+    pub(crate) nodes: Vec<Node>,
+    /// Where the ways to end stand.
+    pub(crate) ends: Vec<usize>,
+}
+
+impl Flow {
+    /// No nodes. It takes no memory.
+    pub(crate) fn new(alloc: Global) -> Flow
+        ensures { result.nodes.items ≡ [] }
+    {
+        Flow {
+            nodes: Vec::new(alloc),
+            ends: Vec::new(alloc),
+        }
+    }
+
+    /// Where this way to end stands, if it does.
+    fn find(&self, halt: &Halt) -> Option<usize>
+        ensures { MatchOption result ⊤ (λ place. slice_get (nodes_shown self.now.nodes) place ≡ Some (Ends (halt_shown halt.now))) }
+    {
+        for place in &self.ends {
+            if let Some(Node::Ends(other)) = self.nodes.get(*place) {
+                if same_halt(other, halt) {
+                    return Some(*place);
+                }
+            }
+        }
+        None
+    }
+
+    /// The place of a way to end. A new one gets its node.
+    pub(crate) fn end(&mut self, halt: &Halt) -> Result<usize, StoreError>
+        ensures place { IfOk result (λ place. slice_get (nodes_shown self.new.nodes) place ≡ Some (Ends (halt_shown halt.now))) }
+        ensures grows { OnOk result (HasMore (nodes_shown self.old.nodes) (nodes_shown self.new.nodes)) }
+        ensures last { IfOk result (λ place. self.old.nodes.items ≡ [] → place + 1 ≡ length self.new.nodes.items) }
+    {
+        if let Some(place) = self.find(halt) {
+            return Ok(place);
+        }
+        let place = self.nodes.len();
+        let copy = copy_halt(halt)?;
+        self.nodes.push(Node::Ends(copy))?;
+        self.ends.push(place)?;
+        Ok(place)
+    }
+
+    /// The place of a new node, where a device command asks.
+    pub(crate) fn ask(
+        &mut self,
+        words: Vec<Vec<u8>>,
+        success: usize,
+        failure: usize,
+    ) -> Result<usize, StoreError>
+        ensures place { IfOk result (λ place. place ≡ length self.old.nodes.items) }
+        ensures nodes { OnOk result (nodes_shown self.new.nodes ≡ nodes_shown self.old.nodes ++ Asks (bytes_of_words words.items) success failure ∷ []) }
+    {
+        let place = self.nodes.len();
+        self.nodes.push(Node::Asks {
+            words,
+            success,
+            failure,
+        })?;
+        Ok(place)
+    }
+
+    /// The nodes in the order of their lines: the one that was made last is the first, and numbers count from 1.
+    pub(crate) fn into_lines(self, alloc: Global) -> Result<Vec<Node>, StoreError>
+        ensures { IfOk result (λ lines. nodes_shown lines ≡ reverse (map (renumbered (length self.nodes.items)) (nodes_shown self.nodes))) }
+    {
+        let count = self.nodes.len();
+        let mut left = self.nodes;
+        let mut lines = Vec::new(alloc);
+        while let Some(node) = left.pop() {
+            lines.push(renumber(node, count))?;
+        }
+        Ok(lines)
+    }
+}
+
+/// The node as it is told, where there are so many.
+fn renumber(node: Node, count: usize) -> Node
+    ensures { node_shown result ≡ renumbered count (node_shown node) }
+{
+    match node {
+        Node::Asks {
+            words,
+            success,
+            failure,
+        } => Node::Asks {
+            words,
+            success: count.saturating_sub(success),
+            failure: count.saturating_sub(failure),
+        },
+        Node::Ends(halt) => Node::Ends(halt),
+    }
+}
+
+/// A copy of words.
+fn copy_words(alloc: Global, words: &[Vec<u8>]) -> Result<Vec<Vec<u8>>, StoreError>
+    ensures { IfOk result (λ copies. bytes_of_words copies.items ≡ bytes_of_words words.now) }
+{
+    let mut copies = Vec::new(alloc);
+    for word in words {
+        let copy = Vec::from_slice(alloc, word)?;
+        copies.push(copy)?;
+    }
+    Ok(copies)
+}
+
+/// The words of the device command at a place of the log.
+pub(crate) fn words_at<S: Store>(
+    alloc: Global,
+    store: &S,
+    place: u32,
+) -> Result<Vec<Vec<u8>>, StoreError>
+    ensures { IfOk result (λ words. bytes_of_words words.items ≡ words_in (slice_get (S.record_of store.now).present.log place)) }
+{
+    match store.log().get(place as usize) {
+        Some(command) => copy_words(alloc, &command.words),
+        None => Ok(Vec::new(alloc)),
+    }
+}
