@@ -58,7 +58,7 @@ _ubtool() {
             options+=' -h --help -V --version'
             ;;
         *-endings)
-            options='-c --config --big-endian -d --device-list -b --variable --devices --steps --states'
+            options='-c --config --big-endian -d --device-list -b --variable --devices --steps --states --flow'
             options+=' -h --help -V --version'
             ;;
         *) return ;;

@@ -61,6 +61,7 @@ set -l rehearse '__fish_seen_subcommand_from rehearse'
 complete -c ubtool -n $rehearse -l after -x -d 'Begin after the run of a word'
 complete -c ubtool -n $rehearse -l limit -x -d 'At most so many records'
 complete -c ubtool -n '__fish_seen_subcommand_from endings' -l states -x -d 'At most so many states'
+complete -c ubtool -n '__fish_seen_subcommand_from endings' -l flow -d 'Write the states as a graph'
 
 complete -c ubtool -n '__fish_seen_subcommand_from printenv rehearse' -a '(__ubtool_names)' -d Variable
 complete -c ubtool -n __ubtool_setenv_first -a '(__ubtool_names)' -d Variable

@@ -57,7 +57,8 @@ _ubtool() {
                         '*: :_ubtool_names'
                     ;;
                 endings)
-                    _arguments -S $common $runs '--states[at most so many states]:number: '
+                    _arguments -S $common $runs '--states[at most so many states]:number: ' \
+                        '--flow[write the states as a graph]'
                     ;;
             esac
             ;;

@@ -1,5 +1,5 @@
 -- Worked calls, computed: what the words ask for, and that `clap` accepts them or not.
-use Rattle.std.proofs.Common.{◌≡◌, true, refl, List, [], ◌∷◌, length, Some, None, codes}
+use Rattle.std.proofs.Common.{◌≡◌, refl, List, [], ◌∷◌, length, Some, None, codes, true, false}
 use Rattle.std.specs.Prelude.{nat_lt}
 use Rattle.clap.specs.Words.{Text, fault_of}
 use Rattle.clap.proofs.OnLiterals.{clap_on_literals}
@@ -106,17 +106,19 @@ all_endings : AsksFor (codes "endings" ∷ codes "-d" ∷ codes "d" ∷ [])
       variable = codes "bootcmd";
       bounds = record { devices = 1000; steps = 1000000 };
       states = 1000000;
+      flow = false;
     }) Little)
 unfolding clap_on_literals ubtool
 all_endings = (refl, refl)
 
--- endings -c f -d d -b q --devices 0 --steps 7 --states 0 --big-endian
+-- endings -c f -d d -b q --devices 0 --steps 7 --states 0 --flow --big-endian
 few_endings : AsksFor
-    (codes "endings" ∷ codes "-c" ∷ codes "f" ∷ codes "-d" ∷ codes "d" ∷ codes "-b" ∷ codes "q" ∷ codes "--devices" ∷ codes "0" ∷ codes "--steps" ∷ codes "7" ∷ codes "--states" ∷ codes "0" ∷ codes "--big-endian" ∷ [])
+    (codes "endings" ∷ codes "-c" ∷ codes "f" ∷ codes "-d" ∷ codes "d" ∷ codes "-b" ∷ codes "q" ∷ codes "--devices" ∷ codes "0" ∷ codes "--steps" ∷ codes "7" ∷ codes "--states" ∷ codes "0" ∷ codes "--flow" ∷ codes "--big-endian" ∷ [])
     (ending (codes "f") (codes "d") (record {
       variable = codes "q";
       bounds = record { devices = 0; steps = 7 };
       states = 0;
+      flow = true;
     }) Big)
 unfolding clap_on_literals ubtool
 few_endings = (refl, refl)

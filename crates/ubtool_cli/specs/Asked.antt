@@ -27,6 +27,7 @@ pub record Endings : Type 0 where
   pub variable : Text
   pub bounds : BoundsShown
   pub states : ℕ
+  pub flow : Bool
 
 -- what a call asks for, or which of the product's own refusals it meets
 pub data Asked : Type 0 where
@@ -156,6 +157,7 @@ endings_with (Some device_list) (Some bounds) (Some states) rows =
       variable = variable_of rows;
       bounds = bounds;
       states = unwrap_or states usual_states;
+      flow = is_set (codes "flow") rows;
     }) (order_of rows))
 endings_with _ _ _ rows = None
 

@@ -32,7 +32,7 @@ rehearsal_of r = record {
 }
 
 abbrev pub endings_of : EndingsAsk → what.Endings
-endings_of e = record { variable = string_bytes e.name; bounds = e.bounds; states = e.states }
+endings_of e = record { variable = string_bytes e.name; bounds = e.bounds; states = e.states; flow = e.flow }
 
 abbrev pub change_of : Text → Change → ByteOrder → Asked
 change_of config (One name words) order =

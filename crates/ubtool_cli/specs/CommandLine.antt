@@ -109,7 +109,7 @@ limit = number_option (codes "limit") 1 most_records
 abbrev pub rehearse : App
 rehearse = with_rule (with_rule (with_rule rehearse_options after) limit) names
 
--- `-d FILE`, `-b NAME`, the two bounds, and how many states may be gone through
+-- `-d FILE`, `-b NAME`, the two bounds, how many states may be gone through, and whether the flow is told
 abbrev pub run_devices : Rule
 run_devices = number_option (codes "devices") 0 most_run_devices
 
@@ -123,8 +123,12 @@ states = number_option (codes "states") 0 most_states
 abbrev pub endings_options : App
 endings_options = with_rule (with_rule (with_rule (subcommand (codes "endings")) device_list) variable) run_devices
 
+-- to tell the flow
+abbrev pub flow : Rule
+flow = long_flag (codes "flow")
+
 abbrev pub endings : App
-endings = with_rule (with_rule endings_options steps) states
+endings = with_rule (with_rule (with_rule endings_options steps) states) flow
 
 -- the program, which has no words of its own; its version can be asked for at each subcommand too
 abbrev pub base : App

@@ -122,6 +122,8 @@ pub struct EndingsAsk {
     pub bounds: RunBounds,
     /// The most states to go through.
     pub states: u32,
+    /// Whether to tell the flow, not the endings.
+    pub flow: bool,
 }
 
 /// Why the words of a call are refused.

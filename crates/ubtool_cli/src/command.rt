@@ -1,7 +1,7 @@
 //! The command line that `clap` is given.
 ghost use Rattle.std.specs.Prelude.{◌≡◌, IfOk, false};
 ghost use Rattle.clap.specs.Words.{new_app, rule_of};
-ghost use Rattle.ubtool_cli.specs.CommandLine.{after, base, big_endian, config, device_list, devices, endings, endings_options, lettered_flag, lettered_option, limit, long_flag, long_option, many, name, names, no_header, number_option, one, printenv, rehearse, rehearse_options, run_devices, script, setenv, states, steps, subcommand, ubtool, values, variable};
+ghost use Rattle.ubtool_cli.specs.CommandLine.{after, base, big_endian, config, device_list, devices, endings, endings_options, flow, lettered_flag, lettered_option, limit, long_flag, long_option, many, name, names, no_header, number_option, one, printenv, rehearse, rehearse_options, run_devices, script, setenv, states, steps, subcommand, ubtool, values, variable};
 ghost use Rattle.ubtool_cli.specs.Made.{IsMade};
 
 use crate::ask::VERSION;
@@ -86,6 +86,13 @@ COUNT runs end so. The first WORD is that of the first of them, the second that
 of the first of those in which the fewest device commands fail. ENDING is the
 last line of their records, as rehearse lists them. A state is what variables,
 status and script are when a device command asks; each is gone through once.
+
+With --flow a line for each state and for each way to end is written instead.
+Numbers count from 1, where a run begins, and a word leads from line to line:
+
+  NUMBER ask WORDS success NUMBER failure NUMBER
+  NUMBER ends ENDING
+
 The image is read and never written.
 
 Examples:
@@ -93,6 +100,7 @@ Examples:
   ubtool endings -d devices.txt -b altbootcmd
   ubtool endings -d devices.txt --devices 32 --steps 10000
   ubtool endings -c fw_env.config -d devices.txt --states 5000000
+  ubtool endings -d devices.txt --flow
 ";
 
 fn long_option<'a>(alloc: Global, id: &'a str, value: &'a str) -> Arg<'a>
@@ -370,6 +378,13 @@ fn states<'a>(alloc: Global) -> Arg<'a>
     )
 }
 
+fn flow<'a>(alloc: Global) -> Arg<'a>
+    ensures rule { rule_of result ≡ flow }
+    ensures local { result.global ≡ false }
+{
+    long_flag(alloc, "flow").help("Write the states as a graph, a line each")
+}
+
 fn endings_options<'a>(alloc: Global) -> Result<Command<'a>, AllocError>
     ensures { IfOk result (IsMade endings_options) }
 {
@@ -390,8 +405,9 @@ fn endings<'a>(alloc: Global) -> Result<Command<'a>, AllocError>
 {
     let steps = run_steps(alloc);
     let states = states(alloc);
+    let flow = flow(alloc);
     let command = endings_options(alloc)?;
-    command.arg(steps)?.arg(states)
+    command.arg(steps)?.arg(states)?.arg(flow)
 }
 
 /// The program, without its subcommands.

@@ -229,6 +229,7 @@ fn endings_ask(alloc: Global, matches: &ArgMatches<'_>) -> Result<Ask, UseError>
             name: variable_of(alloc, matches)?,
             bounds,
             states: states.unwrap_or(DEFAULT_STATES),
+            flow: is_set(matches, "flow"),
         },
         order: order_of(matches),
     })

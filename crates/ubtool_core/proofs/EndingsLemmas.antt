@@ -1,5 +1,5 @@
 -- From the endings of an environment's runs to those of an image.
-use Rattle.std.proofs.Common.{◌≡◌, ℕ, refl, List, Option, Ok}
+use Rattle.std.proofs.Common.{◌≡◌, ℕ, List, Option, Ok}
 use Rattle.envimage.specs.Data.{Pair}
 use Rattle.envimage.specs.Sink.{Sink}
 use Rattle.envimage.specs.declared.image.ByteOrder.{ByteOrder}
@@ -20,11 +20,11 @@ with_image : (order : ByteOrder) (first : List ℕ) (second : Option (List ℕ))
 with_image order first second list ask environment IsSo image h = record { environment = environment; devices = h.devices; image = image; device_list = h.listed_as; so = h.so }
 
 pub tells-image : (order : ByteOrder) (first : List ℕ) (second : Option (List ℕ)) (list : Text) (ask : EndingsAsk) (environment : List Pair) (old new : Sink) → environment_in order first second ≡ Ok environment
-    → below.TellsEndings environment list ask old new → TellsEndings (endings_given order first second list ask) ask.states old new
+    → below.TellsEndings environment list ask old new → TellsEndings (endings_given order first second list ask) ask.flow ask.states old new
 tells-image order first second list ask environment old new image h = with_image order first second list ask environment _ image h
 
 pub refused-endings : (order : ByteOrder) (first : List ℕ) (second : Option (List ℕ)) (list : Text) (ask : EndingsAsk) (environment : List Pair) (old new : Sink) (error : EndingsError) → environment_in order first second ≡ Ok environment
-    → below.RefusesEndings environment list ask old new error → RefusesEndings (endings_given order first second list ask) ask.states old new (endings_fault error)
+    → below.RefusesEndings environment list ask old new error → RefusesEndings (endings_given order first second list ask) ask.flow ask.states old new (endings_fault error)
 refused-endings order first second list ask environment old new (endings.DeviceList fault) image h = (record { environment = environment; image = image }, h.0, h.1)
 refused-endings order first second list ask environment old new endings.NoSuchVariable image h = (with_image order first second list ask environment _ image h.0, h.1)
 refused-endings order first second list ask environment old new endings.States image h = (with_image order first second list ask environment _ image h.0, h.1)

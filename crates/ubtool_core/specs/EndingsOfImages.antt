@@ -1,6 +1,6 @@
 -- How all runs of an image's variable end, from the bytes of an image to the lines, and why that is refused. The order of
 -- the refusals is that of a rehearsal, and nothing is written before the lines. Ours.
-use Rattle.std.specs.Prelude.{◌≡◌, ℕ, List, Option, None, Err}
+use Rattle.std.specs.Prelude.{◌≡◌, ℕ, Bool, List, Option, None, Err}
 use Rattle.envimage.specs.Sink.{Sink, Wrote, BrokeOff}
 use Rattle.envimage.specs.declared.image.ByteOrder.{ByteOrder}
 use Rattle.rehearse.specs.DeviceList.{listed}
@@ -17,20 +17,22 @@ use Rattle.ubtool_core.specs.declared.error.ToolError.TheVariants.{Image, Device
 abbrev pub endings_given : ByteOrder → List ℕ → Option (List ℕ) → Text → EndingsAsk → Given
 endings_given order first second device_list ask = given_all order first second device_list ask.name.now ask.bounds
 
--- the lines are written, and count no more states than this
-abbrev pub TellsEndings : Given → (states : ℕ) → (old new : Sink) → Type 0
-TellsEndings g states old new = HasDevices g (λ found. (text : Text) × AreLines states found text × Wrote old new text)
+-- the lines are written, or those of the flow, of no more states than this
+abbrev pub TellsEndings : Given → (flow : Bool) → (states : ℕ) → (old new : Sink) → Type 0
+TellsEndings g flow states old new =
+    HasDevices g (λ found. (text : Text) × AreLines flow states found text × Wrote old new text)
 
 -- the output failed inside the lines
-abbrev pub BreaksOff : Given → (states : ℕ) → (old new : Sink) → Type 0
-BreaksOff g states old new = HasDevices g (λ found. (text : Text) × AreLines states found text × BrokeOff old new text)
+abbrev pub BreaksOff : Given → (flow : Bool) → (states : ℕ) → (old new : Sink) → Type 0
+BreaksOff g flow states old new =
+    HasDevices g (λ found. (text : Text) × AreLines flow states found text × BrokeOff old new text)
 
-abbrev pub RefusesEndings : Given → (states : ℕ) → (old new : Sink) → ToolError → Type 0
-RefusesEndings g states old new (Image fault) = (environment_in g.order g.first g.second ≡ Err fault) × (new ≡ old)
-RefusesEndings g states old new (Devices fault) = HasImage g × (listed g.device_list ≡ Err fault) × (new ≡ old)
-RefusesEndings g states old new NoSuchVariable = HasDevices g (λ found. found ≡ None) × (new ≡ old)
-RefusesEndings g states old new States =
+abbrev pub RefusesEndings : Given → (flow : Bool) → (states : ℕ) → (old new : Sink) → ToolError → Type 0
+RefusesEndings g flow states old new (Image fault) = (environment_in g.order g.first g.second ≡ Err fault) × (new ≡ old)
+RefusesEndings g flow states old new (Devices fault) = HasImage g × (listed g.device_list ≡ Err fault) × (new ≡ old)
+RefusesEndings g flow states old new NoSuchVariable = HasDevices g (λ found. found ≡ None) × (new ≡ old)
+RefusesEndings g flow states old new States =
     HasDevices g (HasMoreStates states) × (new ≡ old)
-RefusesEndings g states old new Write = BreaksOff g states old new
-RefusesEndings g states old new Memory = HasImage g × (new ≡ old)
-RefusesEndings g states old new _ = ⊥
+RefusesEndings g flow states old new Write = BreaksOff g flow states old new
+RefusesEndings g flow states old new Memory = HasImage g × (new ≡ old)
+RefusesEndings g flow states old new _ = ⊥

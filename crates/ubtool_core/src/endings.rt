@@ -11,7 +11,7 @@ use rehearse_endings::{EndingsAsk, endings_env};
 use std::alloc::Global;
 
 /// Writes how all runs of a variable end, of an image or of the current copy of a pair: a line for each ending, and one
-/// for all runs.
+/// for all runs; or their flow, a line for each state in which a device command asks and for each way to end.
 ///
 /// Refusals in order: the image, the device list, `NoSuchVariable`, `States` and `Memory`, and nothing is written then;
 /// `Write` if the output fails, and then a prefix of the lines is written. `Memory` comes wherever a growth is made.
@@ -24,8 +24,8 @@ pub fn endings_bytes<O: Out>(
     ask: &EndingsAsk<'_>,
     out: &mut O,
 ) -> Result<(), ToolError>
-    ensures ok { IfOk result (λ _. TellsEndings (endings_given order first.now (option_copied second.entry) devices_text.now ask.now) ask.now.states (O.sink out.old) (O.sink out.new)) }
-    ensures err { IfErr result (λ e. RefusesEndings (endings_given order first.now (option_copied second.entry) devices_text.now ask.now) ask.now.states (O.sink out.old) (O.sink out.new) e) }
+    ensures ok { IfOk result (λ _. TellsEndings (endings_given order first.now (option_copied second.entry) devices_text.now ask.now) ask.now.flow ask.now.states (O.sink out.old) (O.sink out.new)) }
+    ensures err { IfErr result (λ e. RefusesEndings (endings_given order first.now (option_copied second.entry) devices_text.now ask.now) ask.now.flow ask.now.states (O.sink out.old) (O.sink out.new) e) }
 {
     let loaded = load(first, second, order)?;
     let env = Env::from_checked(alloc, loaded.body)?;

@@ -1,5 +1,5 @@
 -- Telling how the runs of what was read end.
-use Rattle.std.proofs.Common.{◌≡◌, ◌∙◌, ℕ, true, refl, sym, ap, subst, List, IfOk, IfErr, Option, Ok, Err, inl, inr, ◌⊎◌}
+use Rattle.std.proofs.Common.{◌≡◌, ◌∙◌, ℕ, Bool, true, refl, sym, ap, subst, List, IfOk, IfErr, Option, Ok, Err, inl, inr, ◌⊎◌}
 use Rattle.std.specs.Prelude.{Result, Vec, option_map, string_bytes}
 use Rattle.std.specs.declared.alloc.Global.{Global}
 use Rattle.envimage.specs.Sink.{Sink}
@@ -68,19 +68,19 @@ only-read : (config list : List ℕ) (found : List Copy) (text : Vec ℕ Global)
 only-read config list found text x y z read listed = OnlyReads-then x y z (found-reads config x y found read) (OnlyReads-one list ReadAll y z refl listed.calls listed.stored)
 
 pub tells-found : (order : ByteOrder) (config list : List ℕ) (what : EndingsAsk) (out out' : Sink) (found : List Copy) (text : Vec ℕ Global) (x y z : Told) → HasRead config x y found
-    → ReadsText list y z (Ok text) → TellsEndings (endings_of order found text.items what) what.states out out' → TellsFrom order config list what out out' x z (Ok true)
-tells-found order config list what out out' found text x y z read listed h = (refl, from-files order config list what found text x y z (λ g. TellsEndings g what.states out out') read listed h)
+    → ReadsText list y z (Ok text) → TellsEndings (endings_of order found text.items what) what.flow what.states out out' → TellsFrom order config list what out out' x z (Ok true)
+tells-found order config list what out out' found text x y z read listed h = (refl, from-files order config list what found text x y z (λ g. TellsEndings g what.flow what.states out out') read listed h)
 
 pub tells-refused : (order : ByteOrder) (config list : List ℕ) (what : EndingsAsk) (out out' : Sink) (found : List Copy) (text : Vec ℕ Global) (x y z : Told) (error : ToolError) → HasRead config x y found
-    → ReadsText list y z (Ok text) → RefusesEndings (endings_of order found text.items what) what.states out out' error → TellsFrom order config list what out out' x z (Err (endings_refusal what error))
-tells-refused order config list what out out' found text x y z (tool.Image error) read listed h = from-files order config list what found text x y z (λ g. RefusesEndings g what.states out out' (tool.Image error)) read listed h
+    → ReadsText list y z (Ok text) → RefusesEndings (endings_of order found text.items what) what.flow what.states out out' error → TellsFrom order config list what out out' x z (Err (endings_refusal what error))
+tells-refused order config list what out out' found text x y z (tool.Image error) read listed h = from-files order config list what found text x y z (λ g. RefusesEndings g what.flow what.states out out' (tool.Image error)) read listed h
 tells-refused order config list what out out' found text x y z (tool.Env error) read listed h = absurd h
 tells-refused order config list what out out' found text x y z (tool.Script error) read listed h = absurd h
-tells-refused order config list what out out' found text x y z (tool.Devices error) read listed h = from-files order config list what found text x y z (λ g. RefusesEndings g what.states out out' (tool.Devices error)) read listed h
-tells-refused order config list what out out' found text x y z tool.NoSuchVariable read listed h = (refl, from-files order config list what found text x y z (λ g. RefusesEndings g what.states out out' tool.NoSuchVariable) read listed h)
+tells-refused order config list what out out' found text x y z (tool.Devices error) read listed h = from-files order config list what found text x y z (λ g. RefusesEndings g what.flow what.states out out' (tool.Devices error)) read listed h
+tells-refused order config list what out out' found text x y z tool.NoSuchVariable read listed h = (refl, from-files order config list what found text x y z (λ g. RefusesEndings g what.flow what.states out out' tool.NoSuchVariable) read listed h)
 tells-refused order config list what out out' found text x y z tool.NotARun read listed h = absurd h
-tells-refused order config list what out out' found text x y z tool.States read listed h = from-files order config list what found text x y z (λ g. RefusesEndings g what.states out out' tool.States) read listed h
-tells-refused order config list what out out' found text x y z tool.Write read listed h = from-files order config list what found text x y z (λ g. RefusesEndings g what.states out out' tool.Write) read listed h
+tells-refused order config list what out out' found text x y z tool.States read listed h = from-files order config list what found text x y z (λ g. RefusesEndings g what.flow what.states out out' tool.States) read listed h
+tells-refused order config list what out out' found text x y z tool.Write read listed h = from-files order config list what found text x y z (λ g. RefusesEndings g what.flow what.states out out' tool.Write) read listed h
 tells-refused order config list what out out' found text x y z tool.Memory read listed h = (only-read config list found text x y z read listed, h.1)
 
 -- ---- what the endings of copies are given
@@ -94,16 +94,16 @@ pub endings-given : (order : ByteOrder) (images : Images) (list : List ℕ) (wha
     → given_all order first second list variable what.bounds ≡ endings_of order (copies images) list what
 endings-given order images list what first second variable e f v = made order _ _ _ _ list _ _ what (e ∙ first-bytes images) (f ∙ sym (image-bytes images)) v
 
-pub copies-told : (g : Given) (states : ℕ) (out out' : Sink) (r : Result (Unit {0}) ToolError) → IfOk r (λ done. TellsEndings g states out out') → IfErr r (λ e. RefusesEndings g states out out' e) → TellsCopies g states out out' r
-copies-told g states out out' (Ok done) ok err = ok
-copies-told g states out out' (Err error) ok err = err
+pub copies-told : (g : Given) (flow : Bool) (states : ℕ) (out out' : Sink) (r : Result (Unit {0}) ToolError) → IfOk r (λ done. TellsEndings g flow states out out') → IfErr r (λ e. RefusesEndings g flow states out out' e) → TellsCopies g flow states out out' r
+copies-told g flow states out out' (Ok done) ok err = ok
+copies-told g flow states out out' (Err error) ok err = err
 
 -- ---- the output, over any files
 
-pub leaves-told : (g : Given) (states : ℕ) (out out' : Sink) → TellsEndings g states out out' → LeavesOutput (Ok true) out out'
-leaves-told g states out out' h = h.so.2.sound
+pub leaves-told : (g : Given) (flow : Bool) (states : ℕ) (out out' : Sink) → TellsEndings g flow states out out' → LeavesOutput (Ok true) out out'
+leaves-told g flow states out out' h = h.so.2.sound
 
-pub leaves-untold : (g : Given) (what : EndingsAsk) (out out' : Sink) (error : ToolError) → RefusesEndings g what.states out out' error → LeavesOutput (Err (endings_refusal what error)) out out'
+pub leaves-untold : (g : Given) (what : EndingsAsk) (out out' : Sink) (error : ToolError) → RefusesEndings g what.flow what.states out out' error → LeavesOutput (Err (endings_refusal what error)) out out'
 leaves-untold g what out out' (tool.Image error) h = h.1
 leaves-untold g what out out' (tool.Env error) h = absurd h
 leaves-untold g what out out' (tool.Script error) h = absurd h

@@ -29,9 +29,9 @@ endings_refusal what tool.NoSuchVariable = NoSuchVariable (path_form what.name)
 endings_refusal what error = tool_fault error
 
 -- each answer to the endings of copies
-abbrev pub TellsCopies : Given → (states : ℕ) → (old new : Sink) → Result (Unit {0}) ToolError → Type 0
-TellsCopies g states old new (Ok done) = TellsEndings g states old new
-TellsCopies g states old new (Err error) = RefusesEndings g states old new error
+abbrev pub TellsCopies : Given → (flow : Bool) → (states : ℕ) → (old new : Sink) → Result (Unit {0}) ToolError → Type 0
+TellsCopies g flow states old new (Ok done) = TellsEndings g flow states old new
+TellsCopies g flow states old new (Err error) = RefusesEndings g flow states old new error
 
 -- the images and the device list were read, and this holds of the endings of what they give
 abbrev pub FromFiles : ByteOrder → (config device_list : List ℕ) → EndingsAsk → (old new : Told) → (Given → Type 0) →
@@ -44,13 +44,13 @@ FromFiles order config device_list what old new IsSo =
 abbrev pub TellsFrom : ByteOrder → (config device_list : List ℕ) → EndingsAsk → (out out' : Sink) → (old new : Told) →
     Result Bool Fault → Type 0
 TellsFrom order config device_list what out out' old new (Ok all) =
-    (all ≡ true) × FromFiles order config device_list what old new (λ g. TellsEndings g what.states out out')
+    (all ≡ true) × FromFiles order config device_list what old new (λ g. TellsEndings g what.flow what.states out out')
 TellsFrom order config device_list what out out' old new (Err Memory) = OnlyReads old new × (out' ≡ out)
 TellsFrom order config device_list what out out' old new (Err (Tool tool.Memory)) = ⊥
 TellsFrom order config device_list what out out' old new (Err (Tool error)) =
-    FromFiles order config device_list what old new (λ g. RefusesEndings g what.states out out' error)
+    FromFiles order config device_list what old new (λ g. RefusesEndings g what.flow what.states out out' error)
 TellsFrom order config device_list what out out' old new (Err (NoSuchVariable name)) =
     (name ≡ path_form what.name) × FromFiles order config device_list what old new (λ g.
-    RefusesEndings g what.states out out' tool.NoSuchVariable)
+    RefusesEndings g what.flow what.states out out' tool.NoSuchVariable)
 TellsFrom order config device_list what out out' old new (Err fault) =
     OnlyReads old new × (IsImagesFault config old.stored fault ⊎ IsUnlisted config device_list old fault)

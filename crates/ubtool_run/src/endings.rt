@@ -33,12 +33,13 @@ fn endings_of_images<O: Out>(
     what: &EndingsAsk,
     out: &mut O,
 ) -> Result<(), ToolError>
-    ensures { TellsCopies (endings_of order (copies images.now) device_list.now what.now) what.now.states (O.sink out.old) (O.sink out.new) result }
+    ensures { TellsCopies (endings_of order (copies images.now) device_list.now what.now) what.now.flow what.now.states (O.sink out.old) (O.sink out.new) result }
 {
     let ask = ubtool_core::EndingsAsk {
         name: what.name.as_bytes(),
         bounds: what.bounds,
         states: what.states,
+        flow: what.flow,
     };
     let second = images.second_bytes();
     endings_bytes(

@@ -20,7 +20,7 @@ returns-in_err-env-clause-err g c =
     let s = loaded_shown c.in_ok-loaded.loaded in
     let p = err_from_is_err_and c.from_residual-in_err-env.result c.from_residual-in_err-env.ensures.1 in
     let answer : c.from_residual-in_err-env.result ≡ Err Memory = p.1 ∙ ap Err (p.2 ∙ ap env_fault c.in_err-env.ensures.err) in
-    let P : Result (Unit {0}) ToolError → Type 0 = λ r. IfErr r (λ e. RefusesEndings (endings_given c.args.order c.args.first.now second c.args.devices_text.now c.args.ask.now) c.args.ask.now.states out out e) in
+    let P : Result (Unit {0}) ToolError → Type 0 = λ r. IfErr r (λ e. RefusesEndings (endings_given c.args.order c.args.first.now second c.args.devices_text.now c.args.ask.now) c.args.ask.now.flow c.args.ask.now.states out out e) in
     let image = image-env c.args.order c.args.first.now second s (env_of (pairs_of s.body)) c.in_ok-loaded.ensures.answer refl in
     subst P (sym answer) (record { environment = env_of (pairs_of s.body); image = image }, refl)
 
@@ -32,7 +32,7 @@ returns-in_err-endings_env-clause-err g c =
     let image = image-env c.args.order c.args.first.now second (loaded_shown c.in_ok-loaded.loaded) _ c.in_ok-loaded.ensures.answer c.in_ok-env.ensures.ok in
     let p = err_from_is_err_and c.from_residual-in_err-endings_env.result c.from_residual-in_err-endings_env.ensures.1 in
     let answer : c.from_residual-in_err-endings_env.result ≡ Err (endings_fault c.in_err-endings_env.field-0.0) = p.1 ∙ ap Err p.2 in
-    let P : Result (Unit {0}) ToolError → Type 0 = λ r. IfErr r (λ e. RefusesEndings (endings_given c.args.order c.args.first.now second c.args.devices_text.now c.args.ask.now) c.args.ask.now.states out out' e) in
+    let P : Result (Unit {0}) ToolError → Type 0 = λ r. IfErr r (λ e. RefusesEndings (endings_given c.args.order c.args.first.now second c.args.devices_text.now c.args.ask.now) c.args.ask.now.flow c.args.ask.now.states out out' e) in
     subst P (sym answer) (refused-endings c.args.order c.args.first.now second c.args.devices_text.now c.args.ask.now _ out out' c.in_err-endings_env.field-0.0 image c.in_err-endings_env.ensures.err)
 
 pub returns-clause-ok : goal.returns-clause-ok

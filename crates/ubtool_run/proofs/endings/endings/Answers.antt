@@ -35,7 +35,7 @@ returns-in-Err-clause-told g c =
     let list = string_bytes c.args.device_list in
     let found = copies c.in_ok-images.images in
     let text = c.in_ok-device_list.device_list in
-    let Q : List ℕ → Type 0 = λ t. RefusesEndings (endings_of c.args.order found t c.args.what) c.args.what.states out out' c.in-Err.error in
+    let Q : List ℕ → Type 0 = λ t. RefusesEndings (endings_of c.args.order found t c.args.what) c.args.what.flow c.args.what.states out out' c.in-Err.error in
     let refused : Q text.items = subst Q c.deref.ensures.value c.in-Err.ensures in
     let P : Fault → Type 0 = λ f. IfTold a d (λ old new. TellsFrom c.args.order config list c.args.what out out' old new (Err f)) in
     subst P (sym c.refusal_of.ensures)

@@ -13,4 +13,4 @@ returns g c =
     let second = option_copied c.second_bytes-second.result in
     let same = endings-given c.args.order c.args.images.now c.args.device_list.now what c.deref.result.now second c.as_bytes.result.now c.deref.ensures.value c.second_bytes-second.ensures c.as_bytes.ensures.value in
     let made = given_all c.args.order c.deref.result.now second c.args.device_list.now c.as_bytes.result.now what.bounds in
-    subst (λ (x : Given). TellsCopies x what.states out out' c.endings_bytes.result) same (copies-told made what.states out out' c.endings_bytes.result c.endings_bytes.ensures.ok c.endings_bytes.ensures.err)
+    subst (λ (x : Given). TellsCopies x what.flow what.states out out' c.endings_bytes.result) same (copies-told made what.flow what.states out out' c.endings_bytes.result c.endings_bytes.ensures.ok c.endings_bytes.ensures.err)
