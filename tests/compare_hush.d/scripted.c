@@ -5,13 +5,20 @@
  *
  * - `load` and `dhcp` take the next digit of a word: 0 is success, 1 is failure. `test -e` asks in the same
  *   way whether a file is there.
- * - `scripted COUNT DEVICES` takes the images 1.image, 2.image and so on, and writes to 1.theirs, 2.theirs a
- *   record of each run of bootcmd, in the form of docs/RUNNING.md. A device command beyond the word is taken
+ * - `scripted COUNT DEVICES SHELL` takes the images 1.image, 2.image and so on, and writes to 1.theirs, 2.theirs
+ *   a record of each run of bootcmd, in the form of docs/RUNNING.md. A device command beyond the word is taken
  *   to succeed; the next word is the last one that was used up, with its last 0 made 1 and what stood behind
- *   it left out. So the runs come in dictionary order, each once. Each run is a process of its own.
+ *   it left out. So the runs come in dictionary order, each once. Each run is a process of its own, which has
+ *   20 seconds.
  *   The variables of N.image are set as they stand there; N.imported in its place is read by U-Boot's import.
+ *   SHELL is `old` or, in a U-Boot that has it, `modern`.
+ *
+ * Three endings are U-Boot's own: `broken`, if a run reads or writes where nothing is; `panic`, if the modern shell
+ * gives up, on which a board resets or hangs; `prompt STATUS`, if the modern shell asks for a command before the
+ * script has come back to who started it.
  */
-#include <common.h>
+#include <config.h>
+#include <linux/types.h>
 #include <cli.h>
 #include <cli_hush.h>
 #include <command.h>
@@ -23,7 +30,10 @@
 #include <membuff.h>
 #include <os.h>
 #include <search.h>
+#include <stdio.h>
+#include <vsprintf.h>
 #include <asm/global_data.h>
+#include <linux/string.h>
 
 DECLARE_GLOBAL_DATA_PTR;
 
@@ -38,7 +48,7 @@ enum { LONGEST_WORD = 64, LARGEST_TEXT = 0x40000, SECONDS = 20, BAD_ADDRESS = 11
 
 static char outcomes[LONGEST_WORD + 1];
 static int asked, bound, listing, report;
-static bool own_import;
+static bool own_import, modern;
 static char record[8 * LARGEST_TEXT];
 static int record_size;
 static char text[LARGEST_TEXT];
@@ -175,6 +185,69 @@ int scripted_exists(const char *interface, const char *part, const char *path, i
 	return !ask(5, words);
 }
 
+#ifdef CONFIG_HUSH_MODERN_PARSER
+static void choose_modern(void)
+{
+	gd->flags &= ~GD_FLG_HUSH_OLD_PARSER;
+	gd->flags |= GD_FLG_HUSH_MODERN_PARSER;
+	u_boot_hush_start_modern();
+}
+
+/* In the place of cli_readline, in the modern shell. What is typed at the prompt is a command with the status. */
+int scripted_readline(const char *const prompt)
+{
+	static bool typed;
+
+	if (typed)
+		end_run("prompt", "");
+	typed = true;
+	strcpy(console_buffer, "scripted_prompt $?");
+	return strlen(console_buffer);
+}
+
+static int do_prompt(struct cmd_tbl *cmdtp, int flag, int argc, char *const argv[])
+{
+	end_run("prompt ", argc > 1 ? argv[1] : "");
+	return 0;
+}
+
+U_BOOT_CMD(scripted_prompt, 2, 0, do_prompt, "ends a run at the prompt", "STATUS");
+
+/* In the place of panic and panic_str, in the modern shell. */
+void scripted_panic(const char *format, ...)
+{
+	end_run("panic", "");
+}
+
+void scripted_panic_str(const char *why)
+{
+	end_run("panic", "");
+}
+#else
+static void choose_modern(void)
+{
+	fail("this U-Boot has no modern shell");
+}
+#endif
+
+#ifndef CONFIG_BLK
+/* The sandbox's host device refers to these even if U-Boot has no block devices. No script comes to them. */
+int blk_get_from_parent(void)
+{
+	return -1;
+}
+
+int blk_find_from_parent(void)
+{
+	return -1;
+}
+
+int blk_create_devicef(void)
+{
+	return -1;
+}
+#endif
+
 /* A run that read or wrote where nothing is. */
 static void end_broken_run(int number)
 {
@@ -207,14 +280,18 @@ static void set_variables(const char *image, int size)
 
 static void run_word(const char *image, int size)
 {
+	char number[16];
+	int status;
+
 	set_variables(image, size);
 	disable_ctrlc(1);
 	signal(BAD_ADDRESS, end_broken_run);
 	console_record_reset_enable();
-	run_command_list(env_get("bootcmd"), -1, 0);
+	status = run_command_list(env_get("bootcmd"), -1, 0);
 	if (gd->flags & GD_FLG_RECORD_OVF)
 		fail("the text is too large");
-	end_run("end ", get_local_var("$?"));
+	sprintf(number, "%d", status);
+	end_run("end ", modern ? number : get_local_var("$?"));
 }
 
 /*
@@ -287,12 +364,15 @@ static int do_scripted(struct cmd_tbl *cmdtp, int flag, int argc, char *const ar
 {
 	int number, count;
 
-	if (argc != 3)
+	if (argc != 4)
 		return CMD_RET_USAGE;
 	count = dectoul(argv[1], NULL);
 	bound = dectoul(argv[2], NULL);
 	if (bound > LONGEST_WORD - 1)
 		fail("more device commands than a word can hold");
+	modern = !strcmp(argv[3], "modern");
+	if (modern)
+		choose_modern();
 	for (number = 1; number <= count; number++)
 		list_runs(number);
 	os_exit(0);
@@ -301,4 +381,4 @@ static int do_scripted(struct cmd_tbl *cmdtp, int flag, int argc, char *const ar
 
 U_BOOT_CMD(load, CONFIG_SYS_MAXARGS, 1, do_device, "a scripted command", "WORDS");
 U_BOOT_CMD(dhcp, CONFIG_SYS_MAXARGS, 1, do_device, "a scripted command", "WORDS");
-U_BOOT_CMD(scripted, 3, 0, do_scripted, "all runs of each bootcmd", "COUNT DEVICES");
+U_BOOT_CMD(scripted, 4, 0, do_scripted, "all runs of each bootcmd", "COUNT DEVICES SHELL");
