@@ -37,7 +37,7 @@ fn run(rt: &HostRuntime, files: &mut MemoryFiles, words: &[&str]) -> Ended {
     let mut out = Over::new(Vec::new(rt.alloc()));
     let mut err = Over::new(Vec::new(rt.alloc()));
     let mut input: &[u8] = ONE;
-    let status = run_tool(rt.alloc(), words, &mut input, files, &mut out, &mut err);
+    let status = run_tool(rt.alloc(), CalledAs::Ubtool, words, &mut input, files, &mut out, &mut err);
     Ended {
         status,
         out: out.into_writer(),
