@@ -51,9 +51,9 @@ fn run_words<S: AsStr, R: Read, F: Files, O: Out, E: Out>(
 }
 
 /// The whole program, from what it was called as and its words to its status. Without words the single
-/// image on `input` is printed, its checksum little-endian. Called as one of U-Boot's tools, the script of
-/// `-s -` is read from `input`. The status is 0 where all was done, 1 where something was
-/// refused or a variable to be printed is missing, and 2 where the words were not understood. A fault
+/// image on `input` is printed, its checksum little-endian. If the program was called as one of U-Boot's
+/// tools, the script of `-s -` is read from `input`. The status is 0 where all was done, 1 where something
+/// was refused or a variable to be printed is missing, and 2 where the words were not understood. A fault
 /// is told on `err` by one line; where `err` fails, nothing more is written there.
 pub fn run_tool<S: AsStr, R: Read, F: Files, O: Out, E: Out>(
     alloc: Global,
