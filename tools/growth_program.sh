@@ -41,14 +41,14 @@ each_growth() {
     mkdir "$folder" && cd "$folder"
     cp ../image ../fw_env.config ../devices.txt ../changes.txt ../wanted ../single .
     cp image env.img
-    "$program" "$@" < single > ample
+    "$called" "$@" < "$input" > ample
     cp env.img changed
     number=1
     before=2
     while :; do
         cp image env.img
         status=0
-        REFUSE=$number REFUSE_MET=met TELL_CALLS=calls LD_PRELOAD="../refuse.so ../calls.so" "$program" "$@" < single > output 2> error ||
+        REFUSE=$number REFUSE_MET=met TELL_CALLS=calls LD_PRELOAD="../refuse.so ../calls.so" "$called" "$@" < "$input" > output 2> error ||
             status=$?
         [ "$(cat met)" != "not met" ] || break
         [ -z "$(sed '1,/^write [1>]/d' calls | grep '^read')" ] || { echo "$*, growth $number: a write before a read"; exit 1; }
@@ -74,8 +74,12 @@ each_growth() {
 }
 
 printf '\073\006\230\105\141\075\061\000\000' > single
+ln -s "$program" fw_setenv
 began=
 folder=0
+# What is called, and what is on its standard input.
+called=$program
+input=single
 # begin WORD..: the same beside the other commands.
 begin() {
     folder=$((folder + 1))
@@ -94,6 +98,11 @@ begin setenv -c fw_env.config b 1
 begin setenv -c fw_env.config b 1 2 3
 begin setenv -c fw_env.config t
 begin setenv -c fw_env.config -s changes.txt
+begin setenv -c fw_env.config -l . b 1
+begin printenv -c fw_env.config -l . t
+called=../fw_setenv
+input=changes.txt
+begin -c fw_env.config -s -
 failed=0
 for process in $began; do
     wait "$process" || failed=1

@@ -34,7 +34,7 @@ _ubtool_first() {
     local number
     for ((number = 2; number < last; number++)); do
         case ${line[number]} in
-            -c | --config | -s | --script) ((number++)) ;;
+            -c | --config | -l | --lock | -s | --script) ((number++)) ;;
             -*) ;;
             *) return 1 ;;
         esac
@@ -51,8 +51,8 @@ _ubtool() {
             mapfile -t COMPREPLY < <(compgen -W 'printenv setenv rehearse endings -h --help -V --version' -- "$word")
             return
             ;;
-        *-printenv) options='-c --config --big-endian -n --noheader -h --help -V --version' ;;
-        *-setenv) options='-c --config --big-endian -s --script -h --help -V --version' ;;
+        *-printenv) options='-c --config --big-endian -l --lock -n --noheader -h --help -V --version' ;;
+        *-setenv) options='-c --config --big-endian -l --lock -s --script -h --help -V --version' ;;
         *-rehearse)
             options='-c --config --big-endian -d --device-list -b --variable --devices --steps --after --limit'
             options+=' -h --help -V --version'
@@ -70,6 +70,11 @@ _ubtool() {
         -c | --config | -d | --device-list | -s | --script)
             compopt -o filenames 2>/dev/null
             mapfile -t COMPREPLY < <(compgen -f -- "$word")
+            return
+            ;;
+        -l | --lock)
+            compopt -o filenames 2>/dev/null
+            mapfile -t COMPREPLY < <(compgen -d -- "$word")
             return
             ;;
         --devices | --steps | --after | --limit | --states) return ;;

@@ -28,7 +28,7 @@ function __ubtool_setenv_first
             continue
         end
         switch $word
-            case -c --config -s --script
+            case -c --config -l --lock -s --script
                 set value yes
             case '-*'
             case '*'
@@ -48,6 +48,7 @@ complete -c ubtool -n __fish_use_subcommand -a endings -d 'Tell how all runs of 
 set -l any '__fish_seen_subcommand_from printenv setenv rehearse endings'
 complete -c ubtool -n $any -s c -l config -r -F -d 'Configuration'
 complete -c ubtool -n $any -l big-endian -d 'The CRC is stored big-endian'
+complete -c ubtool -n '__fish_seen_subcommand_from printenv setenv' -s l -l lock -x -a '(__fish_complete_directories)' -d 'Folder of the lock file'
 complete -c ubtool -n '__fish_seen_subcommand_from printenv' -s n -l noheader -d 'Print the value alone'
 complete -c ubtool -n '__fish_seen_subcommand_from setenv' -s s -l script -r -F -d 'Script of changes'
 

@@ -16,7 +16,7 @@ _ubtool_names() {
 _ubtool() {
     local curcontext=$curcontext state line
     local -A opt_args
-    local -a common runs commands
+    local -a common runs lock commands
     common=(
         '(-c --config)'{-c,--config}'[configuration]:configuration:_files'
         '--big-endian[the CRC is stored big-endian]'
@@ -29,6 +29,7 @@ _ubtool() {
         '--devices[at most so many device commands a run]:number: '
         '--steps[at most so many steps a run]:number: '
     )
+    lock=('(-l --lock)'{-l,--lock}'[folder of the lock file]:folder:_files -/')
     commands=(
         'printenv:print variables of the environment'
         'setenv:set or delete variables of the environment'
@@ -43,11 +44,11 @@ _ubtool() {
             curcontext=${curcontext%:*:*}:ubtool-$words[1]:
             case $words[1] in
                 printenv)
-                    _arguments -S $common '(-n --noheader)'{-n,--noheader}'[print the value alone]' \
+                    _arguments -S $common $lock '(-n --noheader)'{-n,--noheader}'[print the value alone]' \
                         '*: :_ubtool_names'
                     ;;
                 setenv)
-                    _arguments -S $common '(-s --script)'{-s,--script}'[script of changes]:script:_files' \
+                    _arguments -S $common $lock '(-s --script)'{-s,--script}'[script of changes]:script:_files' \
                         '1: :_ubtool_names' '*:value: '
                     ;;
                 rehearse)

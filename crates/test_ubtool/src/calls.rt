@@ -8,6 +8,7 @@ use envimage::{
 use envtools::{Env, EnvError, ScriptError, apply_script};
 use std::alloc::Global;
 use std::io::Read;
+use ubtool_cli::CalledAs;
 use ubtool_core::{Edit, Finish, RehearseAsk, ToolError, rehearse_bytes, run_input, set_bytes};
 use ubtool_files::MemoryFiles;
 use ubtool_run::run_tool;
@@ -81,5 +82,18 @@ pub(crate) fn run_words<O: Out, E: Out>(
     err: &mut E,
 ) -> u8 {
     let mut input: &[u8] = b"";
-    run_tool(alloc, words, &mut input, files, out, err)
+    run_tool(alloc, CalledAs::Ubtool, words, &mut input, files, out, err)
+}
+
+/// The status of `setenv -s -` over files in memory, by what the program was called as, with an input.
+pub(crate) fn run_script_on_input<R: Read>(
+    alloc: Global,
+    called: CalledAs,
+    input: &mut R,
+    files: &mut MemoryFiles,
+    err: &mut Memory,
+) -> u8 {
+    let mut out = Memory::new(alloc);
+    let words = ["setenv", "-s", "-"];
+    run_tool(alloc, called, &words, input, files, &mut out, err)
 }

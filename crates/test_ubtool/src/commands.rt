@@ -1,7 +1,7 @@
 //! What no clause says: that a call succeeds, and the texts.
 use std::alloc::{AllocError, Global};
 use std::test::Fail;
-use ubtool_cli::{Ask, read_command, words_called};
+use ubtool_cli::{Ask, CalledAs, called_as, read_command, read_lock, words_called};
 
 /// The answer to the words of a line, as text.
 fn answer(rt: &HostRuntime, line: &str) -> Result<String, AllocError> {
@@ -10,20 +10,25 @@ fn answer(rt: &HostRuntime, line: &str) -> Result<String, AllocError> {
     for word in line.split_whitespace() {
         words.push(word)?;
     }
-    match read_command(alloc, words.as_slice()) {
+    match read_command(alloc, CalledAs::Ubtool, words.as_slice()) {
         Ok(Ask::Help(text)) => Ok(text),
         Ok(ask) => format!(in alloc; "{ask:?}"),
         Err(error) => error.to_string(alloc),
     }
 }
 
-/// The words that a call by the words of a line has.
-fn called(alloc: Global, line: &str) -> Result<String, AllocError> {
+/// The words of a line.
+fn args_of(alloc: Global, line: &str) -> Result<Vec<String>, AllocError> {
     let mut args = Vec::new(alloc);
     for word in line.split_whitespace() {
         args.push(String::from_str(alloc, word)?)?;
     }
-    Ok(words_called(args)?.join(alloc, " ")?)
+    Ok(args)
+}
+
+/// The words that a call by the words of a line has.
+fn called(alloc: Global, line: &str) -> Result<String, AllocError> {
+    Ok(words_called(args_of(alloc, line)?)?.join(alloc, " ")?)
 }
 
 #[test]
@@ -42,6 +47,46 @@ fn is_called_by_other_names(rt: HostRuntime) -> Result<(), Fail> {
     for (line, wanted) in table {
         let words = called(rt.alloc(), line)?;
         assert_eq!(rt; words.as_str(), wanted, "for {line}");
+    }
+    Ok(())
+}
+
+#[test]
+fn is_told_what_it_was_called_as(rt: HostRuntime) -> Result<(), Fail> {
+    let table = [
+        ("/usr/bin/fw_setenv -s -", CalledAs::FwTool),
+        ("fw_printenv", CalledAs::FwTool),
+        ("ubtool setenv -s -", CalledAs::Ubtool),
+        ("xfw_setenv", CalledAs::Ubtool),
+        ("fw_setenv/", CalledAs::Ubtool),
+        ("", CalledAs::Ubtool),
+    ];
+    for (line, wanted) in table {
+        assert!(rt;
+            called_as(&args_of(rt.alloc(), line)?) == wanted,
+            "for {line}"
+        );
+    }
+    Ok(())
+}
+
+#[test]
+fn finds_the_folder_of_the_lock(rt: HostRuntime) -> Result<(), Fail> {
+    let table = [
+        ("setenv -l d a 1", Some("d")),
+        ("printenv --lock=d -n a", Some("d")),
+        ("setenv -l d -s f", Some("d")),
+        ("setenv a -- -l d", None),
+        ("setenv a 1", None),
+        ("setenv -l d -x", None),
+        ("rehearse -d d -l d", None),
+        ("--version", None),
+        ("", None),
+    ];
+    for (line, wanted) in table {
+        let words = args_of(rt.alloc(), line)?;
+        let folder = read_lock(rt.alloc(), &words)?;
+        assert!(rt; folder.as_deref() == wanted, "for {line}");
     }
     Ok(())
 }
@@ -188,6 +233,8 @@ fn helps(rt: HostRuntime) -> Result<(), Fail> {
         ("printenv --help", "  -c, --config <FILE> "),
         ("printenv --help", "  -n, --noheader "),
         ("setenv --help", "  -s, --script <FILE> "),
+        ("setenv --help", "  -l, --lock <DIR> "),
+        ("printenv --help", "  -l, --lock <DIR> "),
         ("setenv --help", "\n  ubtool setenv bootdelay 3\n"),
         (
             "rehearse -h",

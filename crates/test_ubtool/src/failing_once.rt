@@ -14,10 +14,13 @@ const ONE: &[u8] = b"\x3B\x06\x98\x45a=1\0\0";
 
 /// A reader of which one read fails. It gives three bytes a read.
 #[derive(Drop)]
-struct Reader<'a> {
-    bytes: &'a [u8],
-    failing: u64,
-    reads: u64,
+pub(crate) struct Reader<'a> {
+    /// What is still to be read.
+    pub(crate) bytes: &'a [u8],
+    /// The number of the read that fails.
+    pub(crate) failing: u64,
+    /// How many reads there were.
+    pub(crate) reads: u64,
 }
 
 impl Read for Reader<'_> {

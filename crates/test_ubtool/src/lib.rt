@@ -41,6 +41,8 @@ mod rehearsing_edges;
 mod running;
 #[cfg(test)]
 mod running_rehearsals;
+#[cfg(test)]
+mod scripts_on_input;
 pub mod writers;
 #[cfg(test)]
 mod writing;

@@ -1,14 +1,40 @@
-//! The machine's files, under the lock of U-Boot's tools.
+//! The lock of U-Boot's tools, and the machine's files under it.
 ghost use Rattle.std.specs.Prelude.{◌≡◌, None};
 ghost use Rattle.ubtool_files.specs.MachineShown.{faults_of};
+ghost use Rattle.ubtool.specs.declared.locked.LockError.TheVariants.{Memory};
 
-use std::alloc::Global;
+use std::alloc::{AllocError, Global};
 use std::fs::{self, File, Metadata, OpenOptions};
+use std::os::fd::AsRawFd;
 use std::{io, rt};
+use thiserror::Error;
+use ubtool_core::WordForm;
 use ubtool_files::{FileFault, Files, Machine};
 
 /// The file that `fw_printenv` and `fw_setenv` lock, those of U-Boot and those of libubootenv.
 const LOCK_FILE: &str = "/var/lock/fw_printenv.lock";
+
+/// Why the lock in a folder is not taken. U-Boot's tools have these texts.
+#[derive(Debug, Drop, Error)]
+pub enum LockError {
+    /// The lock file can neither be made nor opened, or is no plain file.
+    #[error("Error opening lock file {0}")]
+    NoFile(WordForm),
+    /// The lock file cannot be locked.
+    #[error("Error locking file {0}")]
+    NoLock(WordForm),
+    /// A growth was refused.
+    #[error("out of memory")]
+    Memory,
+}
+
+impl From<AllocError> for LockError {
+    ghost from_gives = { λ _ e. e ≡ Memory };
+
+    fn from(_error: AllocError) -> LockError {
+        LockError::Memory
+    }
+}
 
 /// Whether these are what is known of a plain file: of no pipe, folder or device.
 fn is_plain(known: io::Result<Metadata>) -> bool {
@@ -18,44 +44,69 @@ fn is_plain(known: io::Result<Metadata>) -> bool {
     }
 }
 
-/// The lock file, opened to be read. To open a pipe so could wait without end, so that it is looked at first.
-fn readable<R: rt::Files>(rt: &R) -> Option<R::File> {
-    if !is_plain(fs::metadata(rt, LOCK_FILE)) {
+/// A lock file, opened to be read. To open a pipe so could wait without end, so that it is looked at first.
+fn readable<R: rt::Files>(rt: &R, path: &str) -> Option<R::File> {
+    if !is_plain(fs::metadata(rt, path)) {
         return None;
     }
-    File::open(rt, LOCK_FILE).ok()
+    File::open(rt, path).ok()
 }
 
-/// The lock file, made where it is not there; one that cannot be written is opened to be read. What is no plain file is
+/// The file under a number above those of the three standard streams. A file that is opened while one of them is closed has
+/// that one's number: a script on standard input would be read from it, and a fault be told in it.
+fn above_streams(file: File) -> Option<File> {
+    if file.as_raw_fd() > 2 {
+        return Some(file);
+    }
+    file.try_clone().ok()
+}
+
+/// A lock file, made where it is not there; one that cannot be written is opened to be read. What is no plain file is
 /// no lock file: to open a pipe for both reading and writing does not wait for its other end.
-fn lock_file<R: rt::Files<File = File>>(rt: &R) -> Option<File> {
+fn lock_file<R: rt::Files<File = File>>(rt: &R, path: &str) -> Option<File> {
     let mut how = OpenOptions::new();
     how.read(true);
     how.write(true);
     how.create(true);
-    let file = match how.open(rt, LOCK_FILE) {
+    let file = match how.open(rt, path) {
         Ok(file) => file,
-        Err(_) => readable(rt)?,
+        Err(_) => readable(rt, path)?,
     };
     if is_plain(file.metadata()) {
-        Some(file)
+        above_streams(file)
     } else {
         None
     }
 }
 
-/// The lock, once no other call holds it; nothing where the lock file cannot be opened.
+/// The usual lock, once no other call holds it; nothing where its file cannot be opened.
 fn lock_taken<R: rt::Files<File = File>>(rt: &R) -> Option<File> {
-    let file = lock_file(rt)?;
+    let file = lock_file(rt, LOCK_FILE)?;
     match file.lock() {
         Ok(()) => Some(file),
         Err(_) => None,
     }
 }
 
-/// The machine's files. Before their first call, one that will write waits for the lock, and holds it as long as these
-/// files last. Where the lock file cannot be opened, as on a machine without its folder, or is no plain file, no lock
-/// is taken.
+/// The lock in a folder, once no other call holds it. Refusals: `NoFile`, `NoLock`, `Memory`.
+pub fn lock_in<R: rt::Files<File = File>>(
+    rt: &R,
+    alloc: Global,
+    folder: &str,
+) -> Result<File, LockError> {
+    let path = format!(in alloc; "{folder}/fw_printenv.lock")?;
+    let Some(file) = lock_file(rt, &path) else {
+        return Err(LockError::NoFile(WordForm(path)));
+    };
+    match file.lock() {
+        Ok(()) => Ok(file),
+        Err(_) => Err(LockError::NoLock(WordForm(path))),
+    }
+}
+
+/// The machine's files. If a call holds no lock yet and will write, it waits for the usual lock before its first call on
+/// files. A lock is held as long as these files last. Where the file of the usual lock cannot be opened, as on a machine
+/// without its folder, or is no plain file, no lock is taken.
 #[derive(Drop)]
 pub struct Locked<'a, R> {
     rt: &'a R,
@@ -65,13 +116,13 @@ pub struct Locked<'a, R> {
 }
 
 impl<'a, R: rt::Files<File = File>> Locked<'a, R> {
-    /// The files that `rt` reaches, and whether one of them is to be written.
-    pub fn new(rt: &'a R, writes: bool) -> Locked<'a, R> {
+    /// The files that `rt` reaches, whether one of them is to be written, and the lock that is held already.
+    pub fn new(rt: &'a R, writes: bool, lock: Option<File>) -> Locked<'a, R> {
         Locked {
             rt,
             files: Machine::new(rt),
             writes,
-            lock: None,
+            lock,
         }
     }
 

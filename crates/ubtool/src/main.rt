@@ -4,24 +4,52 @@
 mod locked;
 
 use envimage::{Out, Over, write_all};
-use locked::Locked;
+use locked::{LockError, Locked, lock_in};
+use std::fs::File;
 use std::io;
 use std::process::ExitCode;
-use ubtool_cli::words_called;
+use ubtool_cli::{called_as, read_lock, words_called};
+use ubtool_core::write_fault_of;
 use ubtool_run::{PROGRAM, StartError, Telling, buffered, end, finish, run_tool, words_of_call};
 
 /// What is told where memory for a buffer before the error output is refused.
 const OUT_OF_MEMORY: &[u8] = b"ubtool: out of memory\n";
 
-/// Reads the words of the command line, and does what they ask for; the name that the program was called by counts as one
-/// where it is that of U-Boot's tools. The answer is the status.
+/// The lock in the folder that the words name, if they name one.
+fn named_lock(rt: &HostRuntime, words: &[String]) -> Result<Option<File>, LockError> {
+    match read_lock(rt.alloc(), words)? {
+        Some(folder) => Ok(Some(lock_in(rt, rt.alloc(), &folder)?)),
+        None => Ok(None),
+    }
+}
+
+/// Reads the words of the command line, takes the lock that they name, and does what they ask for. The name that the
+/// program was called by counts as a word where it is that of one of U-Boot's tools. The answer is the status.
 fn run<E: Out>(rt: &HostRuntime, err: &mut Telling<E>) -> Result<u8, StartError> {
-    let words = words_called(words_of_call(rt)?)?;
+    let args = words_of_call(rt)?;
+    let called = called_as(&args);
+    let words = words_called(args)?;
+    let lock = match named_lock(rt, &words) {
+        Ok(lock) => lock,
+        Err(LockError::Memory) => return Err(StartError::Memory),
+        Err(error) => {
+            write_fault_of(err, PROGRAM, &error);
+            return Ok(1);
+        }
+    };
     let mut out = buffered(rt.alloc(), io::writer(rt))?;
     let changes = matches!(words.first(), Some(word) if word.as_str() == "setenv");
-    let mut files = Locked::new(rt, changes);
+    let mut files = Locked::new(rt, changes, lock);
     let mut input = rt.reader();
-    let status = run_tool(rt.alloc(), &words, &mut input, &mut files, &mut out, err);
+    let status = run_tool(
+        rt.alloc(),
+        called,
+        &words,
+        &mut input,
+        &mut files,
+        &mut out,
+        err,
+    );
     Ok(finish(out, err, PROGRAM, status))
 }
 

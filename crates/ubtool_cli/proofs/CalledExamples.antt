@@ -1,6 +1,7 @@
 -- Worked calls by other names, computed.
 use Rattle.std.proofs.Common.{◌≡◌, refl, [], ◌∷◌, codes}
-use Rattle.ubtool_cli.specs.Called.{words_called}
+use Rattle.ubtool_cli.specs.Called.{called_as, words_called}
+use Rattle.ubtool_cli.specs.declared.called.CalledAs.TheVariants.{FwTool, Ubtool}
 
 -- by its path, without words
 printenv_without_words : words_called (codes "/usr/bin/fw_printenv" ∷ []) ≡ codes "printenv" ∷ []
@@ -25,3 +26,19 @@ no_last_part = refl
 -- no name at all
 nothing_called : words_called [] ≡ []
 nothing_called = refl
+
+-- what the program is called as: by the path of one of U-Boot's tools
+called_by_path : called_as (codes "/usr/bin/fw_setenv" ∷ codes "-s" ∷ codes "-" ∷ []) ≡ FwTool
+called_by_path = refl
+
+-- by a name that only ends so
+called_by_longer_name : called_as (codes "xfw_setenv" ∷ []) ≡ Ubtool
+called_by_longer_name = refl
+
+-- by its own name, with another's as a word
+called_by_own_name : called_as (codes "ubtool" ∷ codes "fw_setenv" ∷ []) ≡ Ubtool
+called_by_own_name = refl
+
+-- by no name
+called_by_none : called_as [] ≡ Ubtool
+called_by_none = refl

@@ -1,16 +1,22 @@
 -- Worked calls, computed: what the words ask for, and that `clap` accepts them or not.
-use Rattle.std.proofs.Common.{◌≡◌, refl, List, [], ◌∷◌, length, Some, None, codes, true, false}
-use Rattle.std.specs.Prelude.{nat_lt}
-use Rattle.clap.specs.Words.{Text, fault_of}
+use Rattle.std.proofs.Common.{◌≡◌, true, false, refl, List, [], ◌∷◌, length, Some, None, codes}
+use Rattle.std.specs.Prelude.{nat_lt, option_and_then}
+use Rattle.clap.specs.Words.{Text, fault_of, subcommand_of}
 use Rattle.clap.proofs.OnLiterals.{clap_on_literals}
 use Rattle.envimage.specs.declared.image.ByteOrder.TheVariants.{Big, Little}
 use Rattle.ubtool_cli.specs.CommandAnswers.{IsAccepted, asked}
-use Rattle.ubtool_cli.specs.Asked.{Asked, ending, header_needs_one, needs_name, printing, rehearsing, script_and_name, scripted, setting}
+use Rattle.ubtool_cli.specs.declared.called.CalledAs.{CalledAs}
+use Rattle.ubtool_cli.specs.declared.called.CalledAs.TheVariants.{FwTool, Ubtool}
+use Rattle.ubtool_cli.specs.Asked.{Asked, ending, header_needs_one, input_scripted, lock_of, needs_name, printing, rehearsing, script_and_name, scripted, setting}
 use Rattle.ubtool_cli.specs.CommandLine.{ubtool}
 
 -- the words are accepted and ask for this
+abbrev AsksForAs : CalledAs → List Text → Asked → Type 0
+AsksForAs called words what = IsAccepted ubtool words × (asked called words ≡ Some what)
+
+-- the words are accepted and ask for this, called as ubtool
 abbrev pub AsksFor : List Text → Asked → Type 0
-AsksFor words what = IsAccepted ubtool words × (asked words ≡ Some what)
+AsksFor words what = AsksForAs Ubtool words what
 
 -- the words are refused
 abbrev IsRefused : List Text → Type 0
@@ -61,11 +67,51 @@ script_beside_name : AsksFor (codes "setenv" ∷ codes "-s" ∷ codes "f" ∷ co
 unfolding clap_on_literals ubtool
 script_beside_name = (refl, refl)
 
+-- setenv -l d a 1
+locked_change : AsksFor (codes "setenv" ∷ codes "-l" ∷ codes "d" ∷ codes "a" ∷ codes "1" ∷ [])
+    (setting (codes "/etc/fw_env.config") (codes "a") (codes "1" ∷ []) Little)
+unfolding clap_on_literals ubtool
+locked_change = (refl, refl)
+
+-- printenv --lock d a: the folder that is named
+named_lock : option_and_then (λ s. lock_of s.1) (subcommand_of ubtool (codes "printenv" ∷ codes "--lock" ∷ codes "d" ∷ codes "a" ∷ []))
+    ≡ Some (codes "d")
+unfolding clap_on_literals ubtool
+named_lock = refl
+
+-- rehearse -l d
+locked_rehearsal : IsRefused (codes "rehearse" ∷ codes "-d" ∷ codes "d" ∷ codes "-l" ∷ codes "d" ∷ [])
+unfolding clap_on_literals ubtool
+locked_rehearsal = refl
+
 -- setenv -s f --big-endian
 big_script : AsksFor (codes "setenv" ∷ codes "-s" ∷ codes "f" ∷ codes "--big-endian" ∷ [])
     (scripted (codes "/etc/fw_env.config") (codes "f") Big)
 unfolding clap_on_literals ubtool
 big_script = (refl, refl)
+
+-- setenv -s -: a file of that name
+dashed_script : AsksFor (codes "setenv" ∷ codes "-s" ∷ codes "-" ∷ [])
+    (scripted (codes "/etc/fw_env.config") (codes "-") Little)
+unfolding clap_on_literals ubtool
+dashed_script = (refl, refl)
+
+-- fw_setenv -s -: standard input
+input_script : AsksForAs FwTool (codes "setenv" ∷ codes "-s" ∷ codes "-" ∷ [])
+    (input_scripted (codes "/etc/fw_env.config") Little)
+unfolding clap_on_literals ubtool
+input_script = (refl, refl)
+
+-- fw_setenv -s f: a file
+named_script : AsksForAs FwTool (codes "setenv" ∷ codes "-s" ∷ codes "f" ∷ [])
+    (scripted (codes "/etc/fw_env.config") (codes "f") Little)
+unfolding clap_on_literals ubtool
+named_script = (refl, refl)
+
+-- fw_setenv -s - a
+input_beside_name : AsksForAs FwTool (codes "setenv" ∷ codes "-s" ∷ codes "-" ∷ codes "a" ∷ []) script_and_name
+unfolding clap_on_literals ubtool
+input_beside_name = (refl, refl)
 
 -- rehearse -d d --devices 32 --steps 0 --after . --big-endian
 bounded : AsksFor

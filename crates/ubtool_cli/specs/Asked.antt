@@ -11,6 +11,8 @@ use Rattle.clap.specs.Words.{Row, Text, all_of, first_of, one_of}
 use Rattle.clap.specs.ValueTests.{is_numeral}
 use Rattle.envimage.specs.declared.image.ByteOrder.{ByteOrder}
 use Rattle.envimage.specs.declared.image.ByteOrder.TheVariants.{Big, Little}
+use Rattle.ubtool_cli.specs.declared.called.CalledAs.{CalledAs}
+use Rattle.ubtool_cli.specs.declared.called.CalledAs.TheVariants.{FwTool, Ubtool}
 use Rattle.rehearse.specs.Bounds.{BoundsShown, bounds_of, run_bounds_of, most_devices, most_run_devices, most_steps}
 use Rattle.ubtool_cli.specs.CommandLine.{most_records, most_states}
 
@@ -34,6 +36,7 @@ pub data Asked : Type 0 where
   printing : (config : Text) (header : Bool) (names : List Text) (order : ByteOrder) → Asked
   setting : (config : Text) (name : Text) (words : List Text) (order : ByteOrder) → Asked
   scripted : (config : Text) (script : Text) (order : ByteOrder) → Asked
+  input_scripted : (config : Text) (order : ByteOrder) → Asked
   rehearsing : (config : Text) (device_list : Text) (what : Rehearsal) (order : ByteOrder) → Asked
   ending : (config : Text) (device_list : Text) (what : Endings) (order : ByteOrder) → Asked
   needs_name : Asked
@@ -80,6 +83,10 @@ config_of rows = unwrap_or (first_of (codes "config") rows) (codes "/etc/fw_env.
 abbrev pub order_of : List Row → ByteOrder
 order_of rows = if is_set (codes "big-endian") rows then Big else Little
 
+-- the folder of the lock that is named, if any is
+abbrev pub lock_of : List Row → Option Text
+lock_of rows = first_of (codes "lock") rows
+
 -- ---- the four subcommands
 
 abbrev pub print_asked : List Row → Asked
@@ -89,18 +96,24 @@ print_asked rows =
     if no_header && not (length names == 1) then header_needs_one
     else printing (config_of rows) (not no_header) names (order_of rows)
 
--- from the script and the name that were given
-abbrev pub change_asked : Option Text → Option Text → List Row → Asked
-change_asked (Some script) None rows =
-    scripted (config_of rows) script (order_of rows)
-change_asked (Some script) (Some name) rows = script_and_name
-change_asked None (Some name) rows = setting (config_of rows) name
-    (values_of (codes "values") rows) (order_of rows)
-change_asked None None rows = needs_name
+-- the script at a path; called as one of U-Boot's tools, the one on standard input where the path is `-`
+abbrev pub script_asked : CalledAs → (config path : Text) → ByteOrder → Asked
+script_asked Ubtool config path order = scripted config path order
+script_asked FwTool config path order =
+    if bytes_eq path (codes "-") then input_scripted config order else scripted config path order
 
-abbrev pub set_asked : List Row → Asked
-set_asked rows =
-    change_asked (first_of (codes "script") rows) (first_of (codes "name") rows) rows
+-- from the script and the name that were given
+abbrev pub change_asked : CalledAs → Option Text → Option Text → List Row → Asked
+change_asked called (Some script) None rows =
+    script_asked called (config_of rows) script (order_of rows)
+change_asked called (Some script) (Some name) rows = script_and_name
+change_asked called None (Some name) rows = setting (config_of rows) name
+    (values_of (codes "values") rows) (order_of rows)
+change_asked called None None rows = needs_name
+
+abbrev pub set_asked : CalledAs → List Row → Asked
+set_asked called rows =
+    change_asked called (first_of (codes "script") rows) (first_of (codes "name") rows) rows
 
 abbrev pub variable_of : List Row → Text
 variable_of rows = unwrap_or (first_of (codes "variable") rows) (codes "bootcmd")
@@ -166,9 +179,9 @@ endings_asked rows = endings_with (first_of (codes "device-list") rows) (run_bou
     (number_within 0 most_states (codes "states") rows) rows
 
 -- what the entries of the subcommand of this name ask for
-abbrev pub asked_of : Text → List Row → Option Asked
-asked_of name rows =
+abbrev pub asked_of : CalledAs → Text → List Row → Option Asked
+asked_of called name rows =
     if bytes_eq name (codes "printenv") then Some (print_asked rows)
-    else (if bytes_eq name (codes "setenv") then Some (set_asked rows)
+    else (if bytes_eq name (codes "setenv") then Some (set_asked called rows)
     else (if bytes_eq name (codes "rehearse") then rehearse_asked rows
     else (if bytes_eq name (codes "endings") then endings_asked rows else None)))

@@ -1,10 +1,12 @@
--- The words that the program reads, by the name that it was called by. The names are those of U-Boot's
+-- What the program was called as, and the words that it reads. The names are those of U-Boot's
 -- tools (tools/env README); that the last part of the path decides is ours.
 use Rattle.std.specs.Prelude.{◌==◌, ◌++◌, ℕ, List, [], ◌∷◌, Option, Some, None, codes, slice_index, if◌then◌else◌}
 use Rattle.std.specs.Prelude.{option_to_list}
 use Rattle.std.specs.List.{after_last}
 use Rattle.std.specs.Str.{bytes_eq}
 use Rattle.clap.specs.Words.{Text}
+use Rattle.ubtool_cli.specs.declared.called.CalledAs.{CalledAs}
+use Rattle.ubtool_cli.specs.declared.called.CalledAs.TheVariants.{FwTool, Ubtool}
 
 -- `/`
 abbrev pub slash : ℕ
@@ -19,6 +21,16 @@ abbrev pub subcommand_called : Text → Option Text
 subcommand_called name =
     if bytes_eq name (codes "fw_printenv") then Some (codes "printenv")
     else (if bytes_eq name (codes "fw_setenv") then Some (codes "setenv") else None)
+
+-- what a program is called as whose name stands for this subcommand, or for none
+abbrev pub called_for : Option Text → CalledAs
+called_for (Some subcommand) = FwTool
+called_for None = Ubtool
+
+-- of the path and the words behind it: what the program is called as
+abbrev pub called_as : List Text → CalledAs
+called_as [] = Ubtool
+called_as (path ∷ words) = called_for (subcommand_called (last_part path))
 
 -- of the path and the words behind it: these words, behind the subcommand that the path stands for
 abbrev pub words_called : List Text → List Text

@@ -10,14 +10,15 @@ use Rattle.envimage.specs.declared.image.ByteOrder.{ByteOrder}
 use Rattle.ubtool_cli.specs.declared.ask.Ask.{Ask}
 use Rattle.ubtool_cli.specs.declared.ask.Ask.TheVariants.{Print, Setenv, Rehearse, Endings, Help, Version}
 use Rattle.ubtool_cli.specs.declared.ask.Change.{Change}
-use Rattle.ubtool_cli.specs.declared.ask.Change.TheVariants.{One, Script}
+use Rattle.ubtool_cli.specs.declared.ask.Change.TheVariants.{Input, One, Script}
 use Rattle.ubtool_cli.specs.declared.ask.EndingsAsk.{EndingsAsk}
+use Rattle.ubtool_cli.specs.declared.called.CalledAs.{CalledAs}
 use Rattle.ubtool_cli.specs.declared.ask.RehearseAsk.{RehearseAsk}
 use Rattle.ubtool_cli.specs.declared.ask.UseError.{UseError}
 use Rattle.ubtool_cli.specs.declared.ask.UseError.TheVariants.{Line, NeedName, ScriptAndName}
 use Rattle.ubtool_cli.specs.declared.ask.UseError.TheVariants.{HeaderNeedsOne, Memory}
 use Rattle.ubtool_cli.specs.Asked as what
-use Rattle.ubtool_cli.specs.Asked.{Asked, Rehearsal, asked_of, ending, printing, setting}
+use Rattle.ubtool_cli.specs.Asked.{Asked, Rehearsal, asked_of, ending, input_scripted, lock_of, printing, setting}
 use Rattle.ubtool_cli.specs.Asked.{scripted, rehearsing, needs_name, script_and_name}
 use Rattle.ubtool_cli.specs.Asked.{header_needs_one}
 use Rattle.ubtool_cli.specs.CommandLine.{ubtool}
@@ -38,6 +39,7 @@ abbrev pub change_of : Text → Change → ByteOrder → Asked
 change_of config (One name words) order =
     setting config (string_bytes name) (map string_bytes words.items) order
 change_of config (Script file) order = scripted config (string_bytes file) order
+change_of config Input order = input_scripted config order
 
 -- what the value asks for, where it is neither a help text nor the version
 abbrev pub meaning_of : Ask → Option Asked
@@ -53,8 +55,8 @@ meaning_of (Help text) = None
 meaning_of Version = None
 
 -- what the words ask for, by the subcommand that `clap` finds in them and its entries
-abbrev pub asked : List Text → Option Asked
-asked words = option_and_then (λ s. asked_of s.0 s.1) (subcommand_of ubtool words)
+abbrev pub asked : CalledAs → List Text → Option Asked
+asked called words = option_and_then (λ s. asked_of called s.0 s.1) (subcommand_of ubtool words)
 
 -- `clap` finds no fault in the words
 abbrev pub IsAccepted : App → List Text → Type 0
@@ -67,15 +69,21 @@ IsMistaken app words = (k : ErrorKind) × IsAmong k (fault_of app words) × (k �
 
 -- the answer to words. A line that is no mistake would come of an accepted `rehearse` or `endings` without
 -- its device list or with a number out of its range, which `clap` accepts nowhere
-abbrev pub Answers : List Text → Result Ask UseError → Type 0
-Answers words (Ok (Help text)) = IsAmong DisplayHelp (fault_of ubtool words)
-Answers words (Ok Version) = IsAmong DisplayVersion (fault_of ubtool words)
-Answers words (Ok ask) = IsAccepted ubtool words × (meaning_of ask ≡ asked words)
-Answers words (Err NeedName) = IsAccepted ubtool words × (Some needs_name ≡ asked words)
-Answers words (Err ScriptAndName) = IsAccepted ubtool words × (Some script_and_name ≡ asked words)
-Answers words (Err HeaderNeedsOne) = IsAccepted ubtool words × (Some header_needs_one ≡ asked words)
-Answers words (Err (Line text)) = IsMistaken ubtool words ⊎ (IsAccepted ubtool words × (None ≡ asked words))
-Answers words (Err Memory) = Unit {0}
+abbrev pub Answers : CalledAs → List Text → Result Ask UseError → Type 0
+Answers called words (Ok (Help text)) = IsAmong DisplayHelp (fault_of ubtool words)
+Answers called words (Ok Version) = IsAmong DisplayVersion (fault_of ubtool words)
+Answers called words (Ok ask) = IsAccepted ubtool words × (meaning_of ask ≡ asked called words)
+Answers called words (Err NeedName) = IsAccepted ubtool words × (Some needs_name ≡ asked called words)
+Answers called words (Err ScriptAndName) = IsAccepted ubtool words × (Some script_and_name ≡ asked called words)
+Answers called words (Err HeaderNeedsOne) = IsAccepted ubtool words × (Some header_needs_one ≡ asked called words)
+Answers called words (Err (Line text)) = IsMistaken ubtool words ⊎ (IsAccepted ubtool words × (None ≡ asked called words))
+Answers called words (Err Memory) = Unit {0}
+
+-- the folder of the lock that accepted words name, if they name one; words that `clap` refuses name none
+abbrev pub NamesLock : List Text → Option Text → Type 0
+NamesLock words folder =
+    (IsAccepted ubtool words × (folder ≡ option_and_then (λ s. lock_of s.1) (subcommand_of ubtool words)))
+    ⊎ (((k : ErrorKind) × IsAmong k (fault_of ubtool words)) × (folder ≡ None))
 
 -- the answer says this, or memory ran out; a line says nothing
 abbrev pub Says : Option Asked → Result Ask UseError → Type 0

@@ -1,5 +1,5 @@
 -- The command line that `clap` is given: four subcommands with their options and names. It is ours;
--- `-c`, `-n` and `-s` and their long forms are those of fw_printenv and fw_setenv (U-Boot, tools/env
+-- `-c`, `-l`, `-n` and `-s` and their long forms are those of fw_printenv and fw_setenv (U-Boot, tools/env
 -- README), and `--no-header` is libubootenv's.
 use Rattle.std.specs.Prelude.{ℕ, [], ◌∷◌, Some, true, codes, pos}
 use Rattle.clap.specs.Words.{App, Rule, Shape, Text, new_app, new_rule, with_rule, with_subcommand}
@@ -53,6 +53,10 @@ config = lettered_option (codes "config") (letter (codes "c"))
 abbrev pub big_endian : Rule
 big_endian = long_flag (codes "big-endian")
 
+-- `-l DIR`
+abbrev pub lock : Rule
+lock = lettered_option (codes "lock") (letter (codes "l"))
+
 -- a subcommand, with the two options that all of them have
 abbrev pub subcommand : Text → App
 subcommand name = with_rule (with_rule (new_app name) config) big_endian
@@ -66,7 +70,7 @@ abbrev pub names : Rule
 names = many (codes "names")
 
 abbrev pub printenv : App
-printenv = with_rule (with_rule (subcommand (codes "printenv")) no_header) names
+printenv = with_rule (with_rule (with_rule (subcommand (codes "printenv")) lock) no_header) names
 
 -- `-s FILE`, `[NAME]` and `[VALUE]..`
 abbrev pub script : Rule
@@ -79,7 +83,7 @@ abbrev pub values : Rule
 values = many (codes "values")
 
 abbrev pub setenv : App
-setenv = with_rule (with_rule (with_rule (subcommand (codes "setenv")) script) name) values
+setenv = with_rule (with_rule (with_rule (with_rule (subcommand (codes "setenv")) lock) script) name) values
 
 -- `-d FILE`, which no call leaves out
 abbrev pub device_list : Rule

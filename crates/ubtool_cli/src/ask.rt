@@ -95,6 +95,8 @@ pub enum Change {
     One { name: String, words: Vec<String> },
     /// The changes stand in the script at this path.
     Script(String),
+    /// The changes are in the script on standard input.
+    Input,
 }
 
 /// What `rehearse` is to list.

@@ -1,9 +1,18 @@
-//! The words of a call, by the name that the program was called by.
+//! What the program was called as, and the words of the call.
 ghost use Rattle.std.specs.Prelude.{◌≡◌, IfOk, map, string_bytes};
 ghost use Rattle.std.specs.Option.{option_copied};
-ghost use Rattle.ubtool_cli.specs.Called.{last_part, subcommand_called, words_called};
+ghost use Rattle.ubtool_cli.specs.Called.{called_as, last_part, subcommand_called, words_called};
 
 use std::alloc::AllocError;
+
+/// What the program was called as.
+#[derive(Clone, Copy, Debug, PartialEq, Eq)]
+pub enum CalledAs {
+    /// As `ubtool`, or by any name that is not one of U-Boot's tools.
+    Ubtool,
+    /// As one of U-Boot's tools: `fw_printenv` or `fw_setenv`.
+    FwTool,
+}
 
 /// What stands behind the last slash of a path, or all of it.
 fn last_part(path: &[u8]) -> &[u8]
@@ -25,6 +34,19 @@ fn subcommand_called(name: &[u8]) -> Option<&'static str>
         Some("setenv")
     } else {
         None
+    }
+}
+
+/// What the program was called as, of the path that it was called by and the words after it.
+pub fn called_as(args: &[String]) -> CalledAs
+    ensures { result ≡ called_as (map string_bytes args.now) }
+{
+    let Some(path) = args.first() else {
+        return CalledAs::Ubtool;
+    };
+    match subcommand_called(last_part(path.as_bytes())) {
+        Some(_) => CalledAs::FwTool,
+        None => CalledAs::Ubtool,
     }
 }
 

@@ -1,7 +1,7 @@
 //! The command line that `clap` is given.
 ghost use Rattle.std.specs.Prelude.{◌≡◌, IfOk, false};
 ghost use Rattle.clap.specs.Words.{new_app, rule_of};
-ghost use Rattle.ubtool_cli.specs.CommandLine.{after, base, big_endian, config, device_list, devices, endings, endings_options, flow, lettered_flag, lettered_option, limit, long_flag, long_option, many, name, names, no_header, number_option, one, printenv, rehearse, rehearse_options, run_devices, script, setenv, states, steps, subcommand, ubtool, values, variable};
+ghost use Rattle.ubtool_cli.specs.CommandLine.{after, base, big_endian, config, device_list, devices, endings, endings_options, flow, lettered_flag, lettered_option, limit, lock, long_flag, long_option, many, name, names, no_header, number_option, one, printenv, rehearse, rehearse_options, run_devices, script, setenv, states, steps, subcommand, ubtool, values, variable};
 ghost use Rattle.ubtool_cli.specs.Made.{IsMade};
 
 use crate::ask::VERSION;
@@ -49,6 +49,7 @@ redundant pair the copy that is not current is written, and becomes current.
 
 A line of a script is 'NAME VALUE', or 'NAME' alone to delete the variable.
 Lines that begin with # are skipped. A script has at most 1048576 bytes.
+Called as fw_setenv, the script of '-s -' is read from standard input.
 
 Examples:
   ubtool setenv bootdelay 3
@@ -97,8 +98,7 @@ The image is read and never written.
 
 Examples:
   ubtool endings -d devices.txt
-  ubtool endings -d devices.txt -b altbootcmd
-  ubtool endings -d devices.txt --devices 32 --steps 10000
+  ubtool endings -d devices.txt -b altbootcmd --devices 32
   ubtool endings -c fw_env.config -d devices.txt --states 5000000
   ubtool endings -d devices.txt --flow
 ";
@@ -174,6 +174,14 @@ pub fn big_endian_flag<'a>(alloc: Global) -> Arg<'a>
     long_flag(alloc, "big-endian").help("The CRC is stored big-endian [default: little-endian]")
 }
 
+/// The option that names the folder of the lock, with a help text.
+fn lock<'a>(alloc: Global, help: &'a str) -> Arg<'a>
+    ensures rule { rule_of result ≡ lock }
+    ensures local { result.global ≡ false }
+{
+    lettered_option(alloc, "lock", 'l', "DIR").help(help)
+}
+
 /// A command with its texts and no arguments.
 fn described<'a>(alloc: Global, name: &'a str, about: &'a str, notes: &'a str) -> Command<'a>
     ensures { IsMade (new_app name.entry.now) result }
@@ -216,6 +224,10 @@ pub fn names<'a>(alloc: Global, help: &'a str) -> Arg<'a>
 fn printenv<'a>(alloc: Global) -> Result<Command<'a>, AllocError>
     ensures { IfOk result (IsMade printenv) }
 {
+    let lock = lock(
+        alloc,
+        "Wait for the lock file in DIR [default: do not wait]",
+    );
     let header = no_header(alloc)?;
     let names = names(
         alloc,
@@ -227,7 +239,7 @@ fn printenv<'a>(alloc: Global) -> Result<Command<'a>, AllocError>
         "Print variables of the environment",
         PRINTENV_NOTES,
     )?;
-    command.arg(header)?.arg(names)
+    command.arg(lock)?.arg(header)?.arg(names)
 }
 
 fn script<'a>(alloc: Global) -> Arg<'a>
@@ -256,6 +268,7 @@ fn values<'a>(alloc: Global) -> Arg<'a>
 fn setenv<'a>(alloc: Global) -> Result<Command<'a>, AllocError>
     ensures { IfOk result (IsMade setenv) }
 {
+    let lock = lock(alloc, "Folder of the lock file [default: /var/lock]");
     let script = script(alloc);
     let name = name(alloc);
     let values = values(alloc);
@@ -265,7 +278,7 @@ fn setenv<'a>(alloc: Global) -> Result<Command<'a>, AllocError>
         "Set or delete variables of the environment",
         SETENV_NOTES,
     )?;
-    command.arg(script)?.arg(name)?.arg(values)
+    command.arg(lock)?.arg(script)?.arg(name)?.arg(values)
 }
 
 fn device_list<'a>(alloc: Global) -> Arg<'a>

@@ -11,6 +11,6 @@ pub use ask::{
     DEFAULT_STATES, DEFAULT_STEPS, DEFAULT_VARIABLE, EndingsAsk, PrintAsk, RehearseAsk, UseError,
     VERSION,
 };
-pub use called::words_called;
+pub use called::{CalledAs, called_as, words_called};
 pub use command::{big_endian_flag, config_option, names};
-pub use read::{config_of, order_of, read_command, texts_of};
+pub use read::{config_of, order_of, read_command, read_lock, texts_of};

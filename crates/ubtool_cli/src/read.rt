@@ -1,14 +1,16 @@
 //! Reading the words.
 ghost use Rattle.std.specs.Prelude.{◌≡◌, ◌≤◌, Some, None, IfOk, IfSome, map, option_map, option_and_then, string_bytes};
-ghost use Rattle.clap.specs.Words.{first_of, found_of, kind_of, rows_of, subcommand_rows_of};
-ghost use Rattle.ubtool_cli.specs.Asked.{asked_of, bounds_asked, config_of, endings_asked, is_set, number_given, number_within, order_of, print_asked, rehearse_asked, run_bounds_asked, set_asked, values_of, variable_of};
+ghost use Rattle.clap.specs.Words.{Text, first_of, found_of, kind_of, rows_of, subcommand_rows_of};
+ghost use Rattle.envimage.specs.declared.image.ByteOrder.{ByteOrder as Order};
+ghost use Rattle.ubtool_cli.specs.Asked.{asked_of, bounds_asked, config_of, endings_asked, is_set, lock_of, number_given, number_within, order_of, print_asked, rehearse_asked, run_bounds_asked, script_asked, set_asked, values_of, variable_of};
 ghost use Rattle.ubtool_cli.specs.declared.ask.UseError.TheVariants.{Memory};
-ghost use Rattle.ubtool_cli.specs.CommandAnswers.{Answers, IsUnread, Reports, Says};
+ghost use Rattle.ubtool_cli.specs.CommandAnswers.{Answers, IsUnread, NamesLock, Reports, Says, change_of};
 
 use crate::ask::{
     Ask, Change, DEFAULT_CONFIG, DEFAULT_DEVICES, DEFAULT_RUN_DEVICES, DEFAULT_RUN_STEPS,
     DEFAULT_STATES, DEFAULT_STEPS, DEFAULT_VARIABLE, EndingsAsk, PrintAsk, RehearseAsk, UseError,
 };
+use crate::called::CalledAs;
 use crate::command::ubtool;
 use clap::ArgMatches;
 use clap::error::ErrorKind;
@@ -125,13 +127,25 @@ fn print_ask(alloc: Global, matches: &ArgMatches<'_>) -> Result<Ask, UseError>
     })
 }
 
-fn set_ask(alloc: Global, matches: &ArgMatches<'_>) -> Result<Ask, UseError>
-    ensures { Says (Some (set_asked (rows_of (found_of matches.now)))) result }
+/// The change by the script at a path. Called as one of U-Boot's tools, the path `-` is standard input.
+fn script_change(called: CalledAs, path: String) -> Change
+    ensures { (config : Text) → (order : Order) →
+        change_of config result order ≡ script_asked called config (string_bytes path) order }
+{
+    if called == CalledAs::FwTool && path.as_str() == "-" {
+        Change::Input
+    } else {
+        Change::Script(path)
+    }
+}
+
+fn set_ask(alloc: Global, called: CalledAs, matches: &ArgMatches<'_>) -> Result<Ask, UseError>
+    ensures { Says (Some (set_asked called (rows_of (found_of matches.now)))) result }
 {
     let script = text_of(alloc, matches, "script")?;
     let name = text_of(alloc, matches, "name")?;
     let change = match (script, name) {
-        (Some(script), None) => Change::Script(script),
+        (Some(script), None) => script_change(called, script),
         (None, Some(name)) => Change::One {
             name,
             words: texts_of(alloc, matches, "values")?,
@@ -235,15 +249,15 @@ fn endings_ask(alloc: Global, matches: &ArgMatches<'_>) -> Result<Ask, UseError>
     })
 }
 
-fn ask_of(alloc: Global, matches: &ArgMatches<'_>) -> Result<Ask, UseError>
-    ensures { Says (option_and_then (λ s. asked_of s.0 s.1) (subcommand_rows_of matches.now)) result }
+fn ask_of(alloc: Global, called: CalledAs, matches: &ArgMatches<'_>) -> Result<Ask, UseError>
+    ensures { Says (option_and_then (λ s. asked_of called s.0 s.1) (subcommand_rows_of matches.now)) result }
 {
     let Some((name, entries)) = matches.subcommand() else {
         return Err(unread(alloc));
     };
     match name {
         "printenv" => print_ask(alloc, entries),
-        "setenv" => set_ask(alloc, entries),
+        "setenv" => set_ask(alloc, called, entries),
         "rehearse" => rehearse_ask(alloc, entries),
         "endings" => endings_ask(alloc, entries),
         _ => Err(unread(alloc)),
@@ -262,16 +276,42 @@ fn report(alloc: Global, error: &clap::Error) -> Result<Ask, UseError>
     }
 }
 
-/// Reads the words after the program's name.
+/// The folder of the lock that a subcommand's entries name, if they name one.
+fn lock_of(alloc: Global, matches: &ArgMatches<'_>) -> Result<Option<String>, AllocError>
+    ensures { IfOk result (λ folder. option_map string_bytes folder
+        ≡ option_and_then (λ s. lock_of s.1) (subcommand_rows_of matches.now)) }
+{
+    match matches.subcommand() {
+        Some((_, entries)) => text_of(alloc, entries, "lock"),
+        None => Ok(None),
+    }
+}
+
+/// The folder of the lock that the words after the program's name ask for, if they name one. Words that
+/// `clap` refuses name none.
+pub fn read_lock<S: AsStr>(alloc: Global, words: &[S]) -> Result<Option<String>, AllocError>
+    ensures { IfOk result (λ folder. NamesLock (map S.text words.now) (option_map string_bytes folder)) }
+{
+    match ubtool(alloc)?.try_get_matches_from(words) {
+        Ok(matches) => lock_of(alloc, &matches),
+        Err(error) => match error.kind() {
+            ErrorKind::OutOfMemory => Err(AllocError),
+            _ => Ok(None),
+        },
+    }
+}
+
+/// Reads the words after the program's name. Called as one of U-Boot's tools, the script of `-s -` is the
+/// one on standard input.
 ///
 /// Refusals of `clap`, each a `Line`, come first. Then `setenv` refuses to have no name (`NeedName`) or
 /// a script and a name (`ScriptAndName`), and `printenv -n` any number of names but one
 /// (`HeaderNeedsOne`).
-pub fn read_command<S: AsStr>(alloc: Global, words: &[S]) -> Result<Ask, UseError>
-    ensures { Answers (map S.text words.now) result }
+pub fn read_command<S: AsStr>(alloc: Global, called: CalledAs, words: &[S]) -> Result<Ask, UseError>
+    ensures { Answers called (map S.text words.now) result }
 {
     match ubtool(alloc)?.try_get_matches_from(words) {
-        Ok(matches) => ask_of(alloc, &matches),
+        Ok(matches) => ask_of(alloc, called, &matches),
         Err(error) => report(alloc, &error),
     }
 }

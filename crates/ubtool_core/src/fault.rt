@@ -32,6 +32,9 @@ pub enum Fault {
     /// Standard input failed.
     #[error("cannot read standard input")]
     CannotReadInput,
+    /// Standard input has more bytes than are read.
+    #[error("standard input is too long")]
+    InputTooLong,
     /// The variable to be rehearsed is not set.
     #[error("no variable {0}")]
     NoSuchVariable(WordForm),

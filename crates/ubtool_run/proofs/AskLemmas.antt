@@ -8,8 +8,10 @@ use Rattle.clap.specs.Words.{Row, Text, first_of, subcommand_of}
 use Rattle.envimage.specs.declared.image.ByteOrder.{ByteOrder}
 use Rattle.rehearse.specs.Bounds.{BoundsShown}
 use Rattle.ubtool_cli.specs.CommandAnswers.{Answers, asked, meaning_of}
-use Rattle.ubtool_cli.specs.Asked.{Asked, asked_of, bounds_asked, endings_asked, endings_with, run_bounds_asked, change_asked, config_of, header_needs_one, is_set, number_within, order_of, print_asked, printing, rehearsal_with, rehearse_asked, set_asked, values_of}
+use Rattle.ubtool_cli.specs.Asked.{Asked, asked_of, bounds_asked, endings_asked, endings_with, run_bounds_asked, change_asked, config_of, header_needs_one, input_scripted, is_set, number_within, order_of, print_asked, printing, rehearsal_with, rehearse_asked, scripted, set_asked, values_of}
 use Rattle.ubtool_cli.specs.CommandLine.{most_records, most_states, ubtool}
+use Rattle.ubtool_cli.specs.declared.called.CalledAs.{CalledAs}
+use Rattle.ubtool_cli.specs.declared.called.CalledAs.TheVariants.{FwTool, Ubtool}
 use Rattle.ubtool_cli.specs.declared.ask.Ask.{Ask}
 use Rattle.ubtool_cli.specs.declared.ask.Ask.TheVariants.{Endings, Help, Print, Rehearse, Setenv, Version}
 use Rattle.ubtool_run.specs.Performing.{IsComplete}
@@ -23,17 +25,23 @@ either : (b : Bool) (x y : Option Asked) → IsFit x → IsFit y → IsFit (if b
 either true x y first second = first
 either false x y first second = second
 
+either-asked : (b : Bool) (x y : Asked) → IsFit (Some x) → IsFit (Some y) → IsFit (Some (if b then x else y))
+either-asked true x y first second = first
+either-asked false x y first second = second
+
 print-fit : (no_header one : Bool) (config : Text) (names : List Text) (order : ByteOrder) → (length names == 1) ≡ one
     → IsFit (Some (if no_header && not one then header_needs_one else printing config (not no_header) names order))
 print-fit true true config names order e = λ h. eqb-true (length names) 1 e
 print-fit true false config names order e = tt
 print-fit false one config names order e = λ h. let none : ⊥ = cc in absurd none
 
-set-fit : (script name : Option Text) (rows : List Row) → IsFit (Some (change_asked script name rows))
-set-fit (Some script) None rows = tt
-set-fit (Some script) (Some name) rows = tt
-set-fit None (Some name) rows = tt
-set-fit None None rows = tt
+set-fit : (called : CalledAs) (script name : Option Text) (rows : List Row) → IsFit (Some (change_asked called script name rows))
+set-fit Ubtool (Some script) None rows = tt
+set-fit FwTool (Some script) None rows =
+    either-asked (bytes_eq script (codes "-")) (input_scripted (config_of rows) (order_of rows)) (scripted (config_of rows) script (order_of rows)) tt tt
+set-fit called (Some script) (Some name) rows = tt
+set-fit called None (Some name) rows = tt
+set-fit called None None rows = tt
 
 rehearse-fit : (list : Option Text) (bounds : Option BoundsShown) (limit : Option (Option ℕ)) (rows : List Row) → IsFit (rehearsal_with list bounds limit rows)
 rehearse-fit (Some list) (Some bounds) (Some limit) rows = tt
@@ -47,34 +55,34 @@ endings-fit None bounds states rows = tt
 endings-fit (Some list) None states rows = tt
 endings-fit (Some list) (Some bounds) None rows = tt
 
-asked-fit : (words : List Text) → IsFit (asked words)
-asked-fit words = by (subcommand_of ubtool words)
+asked-fit : (called : CalledAs) (words : List Text) → IsFit (asked called words)
+asked-fit called words = by (subcommand_of ubtool words)
   where
-    of : (name : Text) (rows : List Row) → IsFit (asked_of name rows)
+    of : (name : Text) (rows : List Row) → IsFit (asked_of called name rows)
     of name rows =
         let names = values_of (codes "names") rows in
         let printed = print-fit (is_set (codes "noheader") rows) (length names == 1) (config_of rows) names (order_of rows) refl in
-        let set = set-fit (first_of (codes "script") rows) (first_of (codes "name") rows) rows in
+        let set = set-fit called (first_of (codes "script") rows) (first_of (codes "name") rows) rows in
         let rehearsed = rehearse-fit (first_of (codes "device-list") rows) (bounds_asked rows) (number_within 1 most_records (codes "limit") rows) rows in
         let ended = endings-fit (first_of (codes "device-list") rows) (run_bounds_asked rows) (number_within 0 most_states (codes "states") rows) rows in
         let last = either (bytes_eq name (codes "endings")) (endings_asked rows) None ended tt in
         let two = either (bytes_eq name (codes "rehearse")) (rehearse_asked rows) (if bytes_eq name (codes "endings") then endings_asked rows else None) rehearsed last in
-        let three = either (bytes_eq name (codes "setenv")) (Some (set_asked rows))
+        let three = either (bytes_eq name (codes "setenv")) (Some (set_asked called rows))
         (if bytes_eq name (codes "rehearse") then rehearse_asked rows else (if bytes_eq name (codes "endings") then endings_asked rows else None)) set two in
         either (bytes_eq name (codes "printenv")) (Some (print_asked rows))
-        (if bytes_eq name (codes "setenv") then Some (set_asked rows) else (if bytes_eq name (codes "rehearse") then rehearse_asked rows else (if bytes_eq name (codes "endings") then endings_asked rows else None))) printed three
+        (if bytes_eq name (codes "setenv") then Some (set_asked called rows) else (if bytes_eq name (codes "rehearse") then rehearse_asked rows else (if bytes_eq name (codes "endings") then endings_asked rows else None))) printed three
 
-    by : (found : Option (Text × List Row)) → IsFit (option_and_then (λ s. asked_of s.0 s.1) found)
+    by : (found : Option (Text × List Row)) → IsFit (option_and_then (λ s. asked_of called s.0 s.1) found)
     by None = tt
     by (Some s) = of s.0 s.1
 
 -- what was asked for is complete
-pub answer-complete : (words : List Text) (ask : Ask) → Answers words (Ok ask) → IsComplete ask
-answer-complete words (Print config what order) h =
-    let fit : IsFit (meaning_of (Print config what order)) = subst IsFit (sym h.1) (asked-fit words) in
+pub answer-complete : (called : CalledAs) (words : List Text) (ask : Ask) → Answers called words (Ok ask) → IsComplete ask
+answer-complete called words (Print config what order) h =
+    let fit : IsFit (meaning_of (Print config what order)) = subst IsFit (sym h.1) (asked-fit called words) in
     λ none. sym (length-map what.names.items string_bytes) ∙ fit none
-answer-complete words (Setenv config change order) h = tt
-answer-complete words (Rehearse config list what order) h = tt
-answer-complete words (Endings config list what order) h = tt
-answer-complete words (Help text) h = tt
-answer-complete words Version h = tt
+answer-complete called words (Setenv config change order) h = tt
+answer-complete called words (Rehearse config list what order) h = tt
+answer-complete called words (Endings config list what order) h = tt
+answer-complete called words (Help text) h = tt
+answer-complete called words Version h = tt

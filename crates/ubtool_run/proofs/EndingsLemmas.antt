@@ -41,6 +41,7 @@ unread order config list what out old new (fault.CannotWrite path) h = h
 unread order config list what out old new (fault.FileShort path) h = h
 unread order config list what out old new (fault.FileTooLong path) h = h
 unread order config list what out old new fault.CannotReadInput h = h
+unread order config list what out old new fault.InputTooLong h = h
 unread order config list what out old new (fault.NoSuchVariable name) (reads, inl h) = absurd h
 unread order config list what out old new (fault.NoSuchVariable name) (reads, inr h) = absurd h.refused
 unread order config list what out old new (fault.NotARun word) h = h

@@ -2,6 +2,7 @@ pub mod PlaceLemmas
 pub mod ReadingLemmas
 pub mod PrintLemmas
 pub mod SetLemmas
+pub mod InputLemmas
 pub mod AskLemmas
 pub mod RunLemmas
 pub mod RehearseLemmas

@@ -119,6 +119,7 @@ images-unread config old new (fault.CannotWrite path) h = absurd h.1
 images-unread config old new (fault.FileShort path) h = absurd h.1
 images-unread config old new (fault.FileTooLong path) h = h
 images-unread config old new fault.CannotReadInput h = absurd h.1
+images-unread config old new fault.InputTooLong h = absurd h.1
 images-unread config old new (fault.NoSuchVariable name) h = absurd h.1
 images-unread config old new (fault.NotARun word) h = absurd h.1
 images-unread config old new fault.Memory h = h
@@ -133,6 +134,7 @@ images-unnamed config text old new (fault.CannotWrite path) read h = absurd h
 images-unnamed config text old new (fault.FileShort path) read h = absurd h
 images-unnamed config text old new (fault.FileTooLong path) read h = absurd h
 images-unnamed config text old new fault.CannotReadInput read h = absurd h
+images-unnamed config text old new fault.InputTooLong read h = absurd h
 images-unnamed config text old new (fault.NoSuchVariable name) read h = absurd h
 images-unnamed config text old new (fault.NotARun word) read h = absurd h
 images-unnamed config text old new fault.Memory read h = absurd h
@@ -150,6 +152,7 @@ copy-unread config text place named a b c (fault.FileShort told) reads there is 
     (OnlyReads-then a b c reads h.0, record { text = text; there = there; says = (named, is, among (λ p. IsPathOf told p.device × IsShort a.stored p) (h.1.0, short)) })
 copy-unread config text place named a b c (fault.FileTooLong path) reads there is among h = absurd h.1
 copy-unread config text place named a b c fault.CannotReadInput reads there is among h = absurd h.1
+copy-unread config text place named a b c fault.InputTooLong reads there is among h = absurd h.1
 copy-unread config text place named a b c (fault.NoSuchVariable name) reads there is among h = absurd h.1
 copy-unread config text place named a b c (fault.NotARun word) reads there is among h = absurd h.1
 copy-unread config text place named a b c fault.Memory reads there is among h = (OnlyReads-then a b c reads h.0, tt)

@@ -48,6 +48,7 @@ refused-read order config list what out old new (fault.CannotWrite path) h = h
 refused-read order config list what out old new (fault.FileShort path) h = h
 refused-read order config list what out old new (fault.FileTooLong path) h = h
 refused-read order config list what out old new fault.CannotReadInput h = h
+refused-read order config list what out old new fault.InputTooLong h = h
 refused-read order config list what out old new (fault.NoSuchVariable name) (reads, inl h) = absurd h
 refused-read order config list what out old new (fault.NoSuchVariable name) (reads, inr h) = absurd h.refused
 refused-read order config list what out old new (fault.NotARun word) (reads, inl h) = absurd h

@@ -1,13 +1,14 @@
 -- What changing the environment in the images of a configuration does, on files that tell what stands
--- in them. It follows fw_setenv (U-Boot, tools/env README); the order of work is ours.
-use Rattle.std.specs.Prelude.{◌≡◌, ◌⊎◌, ℕ, List, [], ◌∷◌, ◌++◌, map, Some, Result, Ok, Err, Vec, string_bytes}
+-- in them, with an input that tells its bytes, or does not. It follows fw_setenv (U-Boot, tools/env README); the order
+-- of work is ours.
+use Rattle.std.specs.Prelude.{◌≡◌, ◌⊎◌, ℕ, List, [], ◌∷◌, ◌++◌, map, Option, Some, Result, Ok, Err, Vec, string_bytes}
 use Rattle.std.specs.declared.alloc.Global.{Global}
 use Rattle.envimage.specs.Config.{PlaceShown}
 use Rattle.envimage.specs.declared.image.ByteOrder.{ByteOrder}
 use Rattle.envimage.specs.declared.image.Which.{Which}
 use Rattle.envimage.specs.declared.image.Which.TheVariants.{First, Second}
 use Rattle.ubtool_cli.specs.declared.ask.Change.{Change}
-use Rattle.ubtool_cli.specs.declared.ask.Change.TheVariants.{One, Script}
+use Rattle.ubtool_cli.specs.declared.ask.Change.TheVariants.{Input, One, Script}
 use Rattle.ubtool_files.specs.CallOrder.{OnlyReads}
 use Rattle.ubtool_core.specs.ChangingImages.{IsSafe, set_of}
 use Rattle.ubtool_files.specs.Told.{Stored, Told, WritesAt, file_at}
@@ -26,7 +27,7 @@ use Rattle.ubtool_files.specs.declared.files.FileFault.TheVariants.{Failed}
 use Rattle.ubtool_core.specs.declared.word_form.WordForm.{WordForm}
 use Rattle.ubtool_run.specs.Images.{Copy, HasRead, IsImagesFault}
 use Rattle.ubtool_run.specs.PrintingFiles.{first_bytes, second_bytes}
-use Rattle.ubtool_run.specs.ReadingFiles.{IsTextFault}
+use Rattle.ubtool_run.specs.ReadingFiles.{IsInput, IsInputFault, IsTextFault}
 
 -- which copy is written after an edit, and its bytes, or the refusal
 abbrev pub edited : ByteOrder → List Copy → Edit → Result (Which × List ℕ) ToolError
@@ -45,45 +46,50 @@ IsEdited order found change (Err (Tool error)) = IsRefusal error (edited order f
 IsEdited order found change (Err faults.Memory) = Unit {0}
 IsEdited order found change (Err fault) = ⊥
 
--- what a change says: a variable and its words, or the text of the script in the files
-abbrev pub IsEdit : Change → Stored → Edit → Type 0
-IsEdit (One name words) stored (edit.One n ws) =
+-- what a change says: a variable and its words, or the text of the script in the files or on the input
+abbrev pub IsEdit : (input : Option (List ℕ)) → Change → Stored → Edit → Type 0
+IsEdit input (One name words) stored (edit.One n ws) =
     (n.now ≡ string_bytes name) × (map (λ w. w.now) ws.now ≡ map string_bytes words.items)
-IsEdit (Script path) stored (edit.Script text) = file_at (string_bytes path) stored ≡ Some text.now
-IsEdit change stored _ = ⊥
+IsEdit input (Script path) stored (edit.Script text) = file_at (string_bytes path) stored ≡ Some text.now
+IsEdit input Input stored (edit.Script text) = IsInput input text.now
+IsEdit input change stored _ = ⊥
 
--- the reads that a change asks for
+-- the reads of files that a change asks for
 abbrev pub reads_of : Change → List (List ℕ × Action)
 reads_of (One name words) = []
 reads_of (Script path) = (string_bytes path, ReadAll) ∷ []
+reads_of Input = []
 
 -- The change was made, in memory, of copies that were found.
-pub record HasEdited (order : ByteOrder) (change : Change) (found : List Copy) (old new : Told) (which : Which)
-    (bytes : List ℕ) : Type 0 where
+pub record HasEdited (input : Option (List ℕ)) (order : ByteOrder) (change : Change) (found : List Copy)
+    (old new : Told) (which : Which) (bytes : List ℕ) : Type 0 where
   pub edit : Edit
-  pub says : IsEdit change old.stored edit
+  pub says : IsEdit input change old.stored edit
   pub made : edited order found edit ≡ Ok (which, bytes)
   pub calls : new.calls ≡ old.calls ++ reads_of change
   pub stored : new.stored ≡ old.stored
 
 -- The change is refused, for what it says.
-pub record IsUnmade (order : ByteOrder) (change : Change) (found : List Copy) (stored : Stored) (error : ToolError) :
-    Type 0 where
+pub record IsUnmade (input : Option (List ℕ)) (order : ByteOrder) (change : Change) (found : List Copy)
+    (stored : Stored) (error : ToolError) : Type 0 where
   pub edit : Edit
-  pub says : IsEdit change stored edit
+  pub says : IsEdit input change stored edit
   pub refusal : IsRefusal error (edited order found edit)
 
--- why a change may be refused: by what it says of these copies, or as the file of its script
-abbrev pub IsChangeFault : ByteOrder → Change → List Copy → Stored → Fault → Type 0
-IsChangeFault order change found stored (Tool error) = IsUnmade order change found stored error
-IsChangeFault order (One name words) found stored fault = fault ≡ faults.Memory
-IsChangeFault order (Script path) found stored fault =
+-- why a change may be refused: by what it says of these copies, or as the file or the input of its script
+abbrev pub IsChangeFault : (input : Option (List ℕ)) → ByteOrder → Change → List Copy → Stored → Fault → Type 0
+IsChangeFault input order change found stored (Tool error) = IsUnmade input order change found stored error
+IsChangeFault input order (One name words) found stored fault = fault ≡ faults.Memory
+IsChangeFault input order (Script path) found stored fault =
     IsTextFault (string_bytes path) (file_at (string_bytes path) stored) fault
+IsChangeFault input order Input found stored fault = IsInputFault input fault
 
 -- the change was made, or refused, and files were only read
-abbrev pub Edits : ByteOrder → Change → List Copy → Told → Told → Result (Which × Vec ℕ Global) Fault → Type 0
-Edits order change found old new (Ok w) = HasEdited order change found old new w.0 w.1.items
-Edits order change found old new (Err fault) = OnlyReads old new × IsChangeFault order change found old.stored fault
+abbrev pub Edits : (input : Option (List ℕ)) → ByteOrder → Change → List Copy → Told → Told →
+    Result (Which × Vec ℕ Global) Fault → Type 0
+Edits input order change found old new (Ok w) = HasEdited input order change found old new w.0 w.1.items
+Edits input order change found old new (Err fault) =
+    OnlyReads old new × IsChangeFault input order change found old.stored fault
 
 -- the place of a copy; a single image has one
 abbrev pub IsPlaceOf : Which → List Copy → PlaceShown → Type 0
@@ -114,7 +120,7 @@ WritesCopy which found bytes old new (Err fault) = ⊥
 
 -- The images were read, the change was made, and then one copy was written, or that write was tried. Of a pair,
 -- whatever front of the bytes came to stand there, loading gives what it gave before, or that copy is right.
-pub record HasSet (order : ByteOrder) (config : List ℕ) (change : Change) (old new : Told)
+pub record HasSet (input : Option (List ℕ)) (order : ByteOrder) (config : List ℕ) (change : Change) (old new : Told)
     (answer : Result (Unit {0}) FileFault) : Type 0 where
   pub found : List Copy
   pub which : Which
@@ -122,32 +128,35 @@ pub record HasSet (order : ByteOrder) (config : List ℕ) (change : Change) (old
   pub after_images : Told
   pub read : HasRead config old after_images found
   pub after_change : Told
-  pub edited : HasEdited order change found after_images after_change which bytes
+  pub edited : HasEdited input order change found after_images after_change which bytes
   pub safe : IsSafe order (first_bytes found) (second_bytes found) which bytes
   pub written : WritesIn which found bytes after_change new answer
 
 -- That write was tried and failed, and the fault names the device.
-pub record HasNotWritten (order : ByteOrder) (config : List ℕ) (change : Change) (old new : Told) (told : WordForm) :
-    Type 0 where
-  pub tried : HasSet order config change old new (Err Failed)
+pub record HasNotWritten (input : Option (List ℕ)) (order : ByteOrder) (config : List ℕ) (change : Change)
+    (old new : Told) (told : WordForm) : Type 0 where
+  pub tried : HasSet input order config change old new (Err Failed)
   pub path : IsPathOf told tried.written.place.device
 
 -- The images were read, and the change of them is refused for this.
-pub record IsRefusedChange (order : ByteOrder) (config : List ℕ) (change : Change) (old : Told) (fault : Fault) : Type
-    0 where
+pub record IsRefusedChange (input : Option (List ℕ)) (order : ByteOrder) (config : List ℕ) (change : Change)
+    (old : Told) (fault : Fault) : Type 0 where
   pub found : List Copy
   pub after_images : Told
   pub read : HasRead config old after_images found
-  pub refused : IsChangeFault order change found old.stored fault
+  pub refused : IsChangeFault input order change found old.stored fault
 
 -- why nothing may be written: memory; or the images are refused, or the change of them
-abbrev pub IsSetFault : ByteOrder → List ℕ → Change → Told → Fault → Type 0
-IsSetFault order config change old faults.Memory = Unit {0}
-IsSetFault order config change old fault = IsImagesFault config old.stored fault
-    ⊎ IsRefusedChange order config change old fault
+abbrev pub IsSetFault : (input : Option (List ℕ)) → ByteOrder → List ℕ → Change → Told → Fault → Type 0
+IsSetFault input order config change old faults.Memory = Unit {0}
+IsSetFault input order config change old fault = IsImagesFault config old.stored fault
+    ⊎ IsRefusedChange input order config change old fault
 
 -- the change was written; or its write failed; or it was refused, and files were only read
-abbrev pub Sets : ByteOrder → List ℕ → Change → Told → Told → Result (Unit {0}) Fault → Type 0
-Sets order config change old new (Ok done) = HasSet order config change old new (Ok done)
-Sets order config change old new (Err (CannotWrite told)) = HasNotWritten order config change old new told
-Sets order config change old new (Err fault) = OnlyReads old new × IsSetFault order config change old fault
+abbrev pub Sets : (input : Option (List ℕ)) → ByteOrder → List ℕ → Change → Told → Told → Result (Unit {0}) Fault →
+    Type 0
+Sets input order config change old new (Ok done) = HasSet input order config change old new (Ok done)
+Sets input order config change old new (Err (CannotWrite told)) =
+    HasNotWritten input order config change old new told
+Sets input order config change old new (Err fault) =
+    OnlyReads old new × IsSetFault input order config change old fault

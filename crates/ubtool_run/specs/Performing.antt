@@ -39,28 +39,30 @@ Shows text before after outputs result =
     × ((after ≡ before) × (outputs.err' ≡ outputs.err))
 
 -- a change was made, which is all that the answer says
-abbrev pub SetsOf : ByteOrder → List ℕ → Change → Told → Told → Result Bool Fault → Type 0
-SetsOf order config change old new (Ok all) = (all ≡ true) × Sets order config change old new (Ok tt)
-SetsOf order config change old new (Err fault) = Sets order config change old new (Err fault)
+abbrev pub SetsOf : (input : Option (List ℕ)) → ByteOrder → List ℕ → Change → Told → Told → Result Bool Fault →
+    Type 0
+SetsOf input order config change old new (Ok all) = (all ≡ true) × Sets input order config change old new (Ok tt)
+SetsOf input order config change old new (Err fault) = Sets input order config change old new (Err fault)
 
--- What doing it comes to: with the files from before to after, and on the outputs.
-abbrev pub Does : Ask → Option Told → Option Told → Outputs → Result Bool Fault → Type 0
-Does (Print config what order) before after outputs result =
+-- What doing it comes to: with an input of these bytes, if it tells them, with the files from before to after, and on
+-- the outputs.
+abbrev pub Does : (input : Option (List ℕ)) → Ask → Option Told → Option Told → Outputs → Result Bool Fault → Type 0
+Does input (Print config what order) before after outputs result =
     IfTold before after (λ old new.
     PrintsFrom order (string_bytes config) (map string_bytes what.names.items) what.header outputs old new result)
     × LeavesOutputs result outputs
-Does (Setenv config change order) before after outputs result =
-    IfTold before after (λ old new. SetsOf order (string_bytes config) change old new result)
+Does input (Setenv config change order) before after outputs result =
+    IfTold before after (λ old new. SetsOf input order (string_bytes config) change old new result)
     × AreUnchanged outputs
-Does (Rehearse config device_list what order) before after outputs result =
+Does input (Rehearse config device_list what order) before after outputs result =
     IfTold before after (λ old new.
     RehearsesFrom order (string_bytes config) (string_bytes device_list) what outputs.out outputs.out' old new result)
     × LeavesOutput result outputs.out outputs.out'
     × (outputs.err' ≡ outputs.err)
-Does (Endings config device_list what order) before after outputs result =
+Does input (Endings config device_list what order) before after outputs result =
     IfTold before after (λ old new.
     TellsFrom order (string_bytes config) (string_bytes device_list) what outputs.out outputs.out' old new result)
     × LeavesOutput result outputs.out outputs.out'
     × (outputs.err' ≡ outputs.err)
-Does (Help text) before after outputs result = Shows (string_bytes text) before after outputs result
-Does Version before after outputs result = Shows (version_line (codes "ubtool")) before after outputs result
+Does input (Help text) before after outputs result = Shows (string_bytes text) before after outputs result
+Does input Version before after outputs result = Shows (version_line (codes "ubtool")) before after outputs result

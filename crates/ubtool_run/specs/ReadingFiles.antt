@@ -1,6 +1,6 @@
 -- What is read before an image is printed or changed, from files that tell what stands in them.
 -- The order of work is ours; the configuration is fw_env.config (U-Boot, tools/env README).
-use Rattle.std.specs.Prelude.{◌≡◌, ◌<◌, ◌+◌, IsSomeAnd, ℕ, List, [], ◌∷◌, ◌++◌, take, drop, length, nat_le, Option, Some, None, Result, Ok, Err, Vec, if◌then◌else◌, option_and_then}
+use Rattle.std.specs.Prelude.{◌≡◌, ◌<◌, ◌+◌, IfSome, IsSomeAnd, ℕ, List, [], ◌∷◌, ◌++◌, take, drop, length, nat_le, Option, Some, None, Result, Ok, Err, Vec, if◌then◌else◌, option_and_then}
 use Rattle.std.specs.declared.alloc.Global.{Global}
 use Rattle.envimage.specs.Config.{PlaceShown}
 use Rattle.envimage.specs.Place.{place_shown}
@@ -9,7 +9,7 @@ use Rattle.ubtool_files.specs.CallOrder.{OnlyReads}
 use Rattle.ubtool_files.specs.Told.{Stored, Told, file_at, read_limit}
 use Rattle.ubtool_core.specs.FileFaults.{IsPathOf}
 use Rattle.ubtool_core.specs.declared.fault.Fault.{Fault}
-use Rattle.ubtool_core.specs.declared.fault.Fault.TheVariants.{CannotRead, FileShort, FileTooLong, Memory}
+use Rattle.ubtool_core.specs.declared.fault.Fault.TheVariants.{CannotRead, CannotReadInput, FileShort, FileTooLong, InputTooLong, Memory}
 use Rattle.ubtool_files.specs.declared.files.Action.{Action}
 use Rattle.ubtool_files.specs.declared.files.Action.TheVariants.{ReadAll, ReadAt}
 use Rattle.ubtool_run.specs.declared.read.StoredCopy.{StoredCopy}
@@ -53,6 +53,22 @@ IsCopyFault stored place _ = ⊥
 abbrev pub ReadsText : List ℕ → Told → Told → Result (Vec ℕ Global) Fault → Type 0
 ReadsText path old new (Ok text) = Reads (path, ReadAll) (file_at path old.stored) old new text.items
 ReadsText path old new (Err fault) = OnlyReads old new × IsTextFault path (file_at path old.stored) fault
+
+-- the text is the whole input, where the input tells its bytes
+abbrev pub IsInput : Option (List ℕ) → List ℕ → Type 0
+IsInput input text = IfSome input (λ all. text ≡ all)
+
+-- why an input may be refused as a text: it fails; it is too long, where it tells its bytes; or memory
+abbrev pub IsInputFault : Option (List ℕ) → Fault → Type 0
+IsInputFault input CannotReadInput = Unit {0}
+IsInputFault input InputTooLong = IfSome input (λ all. read_limit < length all)
+IsInputFault input Memory = Unit {0}
+IsInputFault input _ = ⊥
+
+-- the whole input was read, or refused
+abbrev pub ReadsInput : Option (List ℕ) → Result (Vec ℕ Global) Fault → Type 0
+ReadsInput input (Ok text) = IsInput input text.items
+ReadsInput input (Err fault) = IsInputFault input fault
 
 -- a copy was read, or refused
 abbrev pub ReadsCopy : Place → Told → Told → Result StoredCopy Fault → Type 0

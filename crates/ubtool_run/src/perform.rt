@@ -11,21 +11,24 @@ use crate::showing::{show_help, show_version};
 use crate::tool::PROGRAM;
 use envimage::Out;
 use std::alloc::Global;
+use std::io::Read;
 use ubtool_cli::Ask;
 use ubtool_core::Fault;
 use ubtool_files::Files;
 
-/// Does what is asked for. The answer is false where a variable that was to be printed is missing.
-pub fn perform<F: Files, O: Out, E: Out>(
+/// Does what is asked for; a script of changes may be on `input`. The answer is false where a variable that was to be
+/// printed is missing.
+pub fn perform<R: Read, F: Files, O: Out, E: Out>(
     alloc: Global,
     ask: Ask,
+    input: &mut R,
     files: &mut F,
     out: &mut O,
     err: &mut E,
 ) -> Result<bool, Fault>
     requires { IsComplete ask }
     ensures count { CountsTold (F.faults files.old) (F.faults files.new) result }
-    ensures does { Does ask (F.told files.old) (F.told files.new)
+    ensures does { Does (R.remaining input.old) ask (F.told files.old) (F.told files.new)
         (outputs (O.sink out.old) (O.sink out.new) (E.sink err.old) (E.sink err.new)) result }
 {
     match ask {
@@ -38,7 +41,7 @@ pub fn perform<F: Files, O: Out, E: Out>(
             config,
             change,
             order,
-        } => match set(alloc, files, config, change, order) {
+        } => match set(alloc, input, files, config, change, order) {
             Ok(()) => Ok(true),
             Err(fault) => Err(fault),
         },

@@ -1,13 +1,14 @@
-//! Reading what a call needs: texts, and the copies that a configuration names.
+//! Reading what a call needs: texts, also the one on an input, and the copies that a configuration names.
 ghost use Rattle.std.specs.Prelude.{◌≡◌, IfErr, IfOk, string_bytes};
 ghost use Rattle.ubtool_files.specs.Told.{IfTold};
 ghost use Rattle.ubtool_run.specs.Faults.{CountsTold, IsReadFault};
-ghost use Rattle.ubtool_run.specs.ReadingFiles.{ReadsCopy, ReadsText};
+ghost use Rattle.ubtool_run.specs.ReadingFiles.{ReadsCopy, ReadsInput, ReadsText};
 
 use envimage::Place;
 use std::alloc::Global;
+use std::io::Read;
 use ubtool_core::Fault;
-use ubtool_files::Files;
+use ubtool_files::{Files, LIMIT, ReadFault, read_up_to};
 
 /// A copy of an image, and where it stands.
 #[derive(Debug, Drop)]
@@ -29,6 +30,21 @@ pub fn read_text<F: Files>(alloc: Global, files: &mut F, path: String) -> Result
         Ok(text) => Ok(text),
         Err(fault) => Err(Fault::of_read(path, fault)),
     }
+}
+
+/// The whole text on an input, of at most `LIMIT` bytes. No more than one byte after them is read.
+pub fn read_input<R: Read>(alloc: Global, input: &mut R) -> Result<Vec<u8>, Fault>
+    ensures { ReadsInput (R.remaining input.old) result }
+{
+    let text = match read_up_to(alloc, input, LIMIT + 1) {
+        Ok(text) => text,
+        Err(ReadFault::Failed) => return Err(Fault::CannotReadInput),
+        Err(ReadFault::Memory) => return Err(Fault::Memory),
+    };
+    if text.len() > LIMIT {
+        return Err(Fault::InputTooLong);
+    }
+    Ok(text)
 }
 
 /// The copy at a place.

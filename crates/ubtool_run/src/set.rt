@@ -8,9 +8,10 @@ ghost use Rattle.ubtool_run.specs.ChangingFiles.{Edits, IsEdited, IsPlaceOf, Set
 
 use crate::images::{Images, read_images};
 use crate::print::slices_of;
-use crate::read::read_text;
+use crate::read::{read_input, read_text};
 use envimage::{ByteOrder, Place, Which};
 use std::alloc::Global;
+use std::io::Read;
 use ubtool_cli::Change;
 use ubtool_core::{Edit, Fault, set_bytes};
 use ubtool_files::Files;
@@ -29,9 +30,10 @@ fn edited_copy(
 }
 
 /// Which copy of the images is to be written after a change, and its bytes. The text of a script is
-/// read from its file.
-fn changed_copy<F: Files>(
+/// read from its file, or from the input.
+fn changed_copy<R: Read, F: Files>(
     alloc: Global,
+    input: &mut R,
     files: &mut F,
     images: &Images,
     order: ByteOrder,
@@ -39,7 +41,7 @@ fn changed_copy<F: Files>(
 ) -> Result<(Which, Vec<u8>), Fault>
     ensures count { CountsTold (F.faults files.old) (F.faults files.new) result }
     ensures told { IfTold (F.told files.old) (F.told files.new)
-        (λ old new. Edits order change (copies images.now) old new result) }
+        (λ old new. Edits (R.remaining input.old) order change (copies images.now) old new result) }
 {
     match change {
         Change::One { name, words } => {
@@ -52,6 +54,10 @@ fn changed_copy<F: Files>(
         }
         Change::Script(path) => {
             let text = read_text(alloc, files, path)?;
+            edited_copy(alloc, images, order, Edit::Script(&text))
+        }
+        Change::Input => {
+            let text = read_input(alloc, input)?;
             edited_copy(alloc, images, order, Edit::Script(&text))
         }
     }
@@ -87,9 +93,11 @@ fn write_copy<F: Files>(
 }
 
 /// Changes the environment in the images that a configuration names: they are read, then the
-/// script, if there is one, and at last one copy is written. Of a pair that is not the current one.
-pub fn set<F: Files>(
+/// script, if there is one, from its file or from the input, and at last one copy is written. Of a pair
+/// that is not the current one.
+pub fn set<R: Read, F: Files>(
     alloc: Global,
+    input: &mut R,
     files: &mut F,
     config: String,
     change: Change,
@@ -97,9 +105,9 @@ pub fn set<F: Files>(
 ) -> Result<(), Fault>
     ensures count { CountsTold (F.faults files.old) (F.faults files.new) result }
     ensures told { IfTold (F.told files.old) (F.told files.new)
-        (λ old new. Sets order (string_bytes config) change old new result) }
+        (λ old new. Sets (R.remaining input.old) order (string_bytes config) change old new result) }
 {
     let images = read_images(alloc, files, config)?;
-    let (which, bytes) = changed_copy(alloc, files, &images, order, change)?;
+    let (which, bytes) = changed_copy(alloc, input, files, &images, order, change)?;
     write_copy(files, images, which, &bytes)
 }

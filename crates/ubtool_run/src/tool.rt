@@ -13,7 +13,7 @@ use envimage::Out;
 use std::alloc::Global;
 use std::convert::AsStr;
 use std::io::Read;
-use ubtool_cli::read_command;
+use ubtool_cli::{CalledAs, read_command};
 use ubtool_core::run_input;
 use ubtool_files::Files;
 
@@ -21,24 +21,26 @@ use ubtool_files::Files;
 pub const PROGRAM: &str = "ubtool";
 
 /// Reads the words and does what they ask for.
-fn run_words<S: AsStr, F: Files, O: Out, E: Out>(
+fn run_words<S: AsStr, R: Read, F: Files, O: Out, E: Out>(
     alloc: Global,
+    called: CalledAs,
     words: &[S],
+    input: &mut R,
     files: &mut F,
     out: &mut O,
     err: &mut E,
 ) -> u8
     ensures status { result ≤ 2 }
-    ensures done { result ≡ 0 → HasDone Answers Does (map S.text words.now) (files_shown F.Files files.old) (files_shown F.Files files.new)
+    ensures done { result ≡ 0 → HasDone (Answers called) (Does (R.remaining input.old)) (map S.text words.now) (files_shown F.Files files.old) (files_shown F.Files files.new)
         (outputs (O.sink out.old) (O.sink out.new) (E.sink err.old) (E.sink err.new)) }
-    ensures refused { result ≡ 1 → HasRefused Answers Does (map S.text words.now) (files_shown F.Files files.old) (files_shown F.Files files.new)
+    ensures refused { result ≡ 1 → HasRefused (Answers called) (Does (R.remaining input.old)) (map S.text words.now) (files_shown F.Files files.old) (files_shown F.Files files.new)
         (outputs (O.sink out.old) (O.sink out.new) (E.sink err.old) (E.sink err.new)) }
-    ensures misused { result ≡ 2 → IsMisused Answers (map S.text words.now) (files_shown F.Files files.old) (files_shown F.Files files.new)
+    ensures misused { result ≡ 2 → IsMisused (Answers called) (map S.text words.now) (files_shown F.Files files.old) (files_shown F.Files files.new)
         (outputs (O.sink out.old) (O.sink out.new) (E.sink err.old) (E.sink err.new)) }
 {
-    match read_command(alloc, words) {
+    match read_command(alloc, called, words) {
         Ok(ask) => {
-            let answer = perform(alloc, ask, files, out, err);
+            let answer = perform(alloc, ask, input, files, out, err);
             status_of(err, PROGRAM, answer)
         }
         Err(error) => {
@@ -48,12 +50,14 @@ fn run_words<S: AsStr, F: Files, O: Out, E: Out>(
     }
 }
 
-/// The whole program, from its words to its status. Without words the single image on `input` is
-/// printed, its checksum little-endian. The status is 0 where all was done, 1 where something was
-/// refused or a variable to be printed is missing, and 2 where the words were not understood. A fault
+/// The whole program, from what it was called as and its words to its status. Without words the single
+/// image on `input` is printed, its checksum little-endian. If the program was called as one of U-Boot's
+/// tools, the script of `-s -` is read from `input`. The status is 0 where all was done, 1 where something
+/// was refused or a variable to be printed is missing, and 2 where the words were not understood. A fault
 /// is told on `err` by one line; where `err` fails, nothing more is written there.
 pub fn run_tool<S: AsStr, R: Read, F: Files, O: Out, E: Out>(
     alloc: Global,
+    called: CalledAs,
     words: &[S],
     input: &mut R,
     files: &mut F,
@@ -65,16 +69,16 @@ pub fn run_tool<S: AsStr, R: Read, F: Files, O: Out, E: Out>(
     ensures quiet { length words.now ≡ 0 → result ≡ 0 → Wrote (E.sink err.old) (E.sink err.new) [] }
     ensures refused_input { length words.now ≡ 0 → result ≡ 1 → RefusesInput (R.remaining input.old) (O.sink out.old) (O.sink out.new) }
     ensures untouched { length words.now ≡ 0 → (F.told files.new ≡ F.told files.old) × (F.faults files.new ≡ F.faults files.old) }
-    ensures done { 0 < length words.now → result ≡ 0 → HasDone Answers Does (map S.text words.now) (files_shown F.Files files.old) (files_shown F.Files files.new)
+    ensures done { 0 < length words.now → result ≡ 0 → HasDone (Answers called) (Does (R.remaining input.old)) (map S.text words.now) (files_shown F.Files files.old) (files_shown F.Files files.new)
         (outputs (O.sink out.old) (O.sink out.new) (E.sink err.old) (E.sink err.new)) }
-    ensures refused { 0 < length words.now → result ≡ 1 → HasRefused Answers Does (map S.text words.now) (files_shown F.Files files.old) (files_shown F.Files files.new)
+    ensures refused { 0 < length words.now → result ≡ 1 → HasRefused (Answers called) (Does (R.remaining input.old)) (map S.text words.now) (files_shown F.Files files.old) (files_shown F.Files files.new)
         (outputs (O.sink out.old) (O.sink out.new) (E.sink err.old) (E.sink err.new)) }
-    ensures misused { result ≡ 2 → IsMisused Answers (map S.text words.now) (files_shown F.Files files.old) (files_shown F.Files files.new)
+    ensures misused { result ≡ 2 → IsMisused (Answers called) (map S.text words.now) (files_shown F.Files files.old) (files_shown F.Files files.new)
         (outputs (O.sink out.old) (O.sink out.new) (E.sink err.old) (E.sink err.new)) }
 {
     if words.is_empty() {
         run_input(alloc, input, out, err)
     } else {
-        run_words(alloc, words, files, out, err)
+        run_words(alloc, called, words, input, files, out, err)
     }
 }
