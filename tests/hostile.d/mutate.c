@@ -1,7 +1,7 @@
-/* mutate PROGRAM SEEDS FOLDER COUNT [FIRST [JOBS]]: feeds the program COUNT hostile inputs, from number FIRST on, by
- * JOBS processes at a time: mutated images, configurations, scripts, device lists, boot scripts and words. The seeds
+/* mutate PROGRAM SEEDS FOLDER COUNT [FIRST [JOBS [SECONDS]]]: feeds the program COUNT hostile inputs, from number FIRST on,
+ * by JOBS processes at a time: mutated images, configurations, scripts, device lists, boot scripts and words. The seeds
  * are the files of SEEDS; number N is the same input on every machine. Of each run:
- *   - no signal ends it, it takes less than ten seconds, and its status is 0, 1 or 2;
+ *   - no signal ends it, it takes less than SECONDS (10 where none are given), and its status is 0, 1 or 2;
  *   - nothing stands on the error output where the status is 0; one line `ubtool: ..` where it is 1, or of printenv a
  *     line `## Error: "NAME" not defined` for some of its names, in their order, and no other; one line `ubtool: ..`
  *     or the lines of wrong words where it is 2;
@@ -50,6 +50,7 @@ struct tally {
 };
 static struct tally *tallies;
 static const char *program;
+static double seconds = 10;
 
 static void read_seeds(const char *folder, const char *name, struct seeds *seeds) {
     char path[4096];
@@ -289,7 +290,7 @@ static void write_input(const struct input *input) {
 
 static void run_words(struct bytes *words, size_t count, bool has_input, struct ran *ran) {
     char *pointers[MOST_WORDS + 4] = {(char *)program};
-    struct start start = {program, pointers, NULL, has_input ? "first" : NULL, 1 << 27, 10, 0};
+    struct start start = {program, pointers, NULL, has_input ? "first" : NULL, 1 << 27, seconds, 0};
     for (size_t at = 0; at < count; at++) {
         pointers[at + 1] = (char *)text_of(&words[at]);
     }
@@ -433,7 +434,7 @@ static const char *fault_of_following(struct input *input, const struct ran *ran
 static const char *fault_of(struct input *input, const struct ran *ran, struct tally *tally) {
     const char *fault = NULL;
     if (ran->is_late) {
-        return "above ten seconds";
+        return "too late";
     }
     if (ran->signal != 0) {
         return "a signal";
@@ -522,12 +523,13 @@ static size_t tell(size_t jobs, size_t count) {
 
 int main(int argc, char **argv) {
     if (argc < 5) {
-        fprintf(stderr, "usage: mutate PROGRAM SEEDS FOLDER COUNT [FIRST [JOBS]]\n");
+        fprintf(stderr, "usage: mutate PROGRAM SEEDS FOLDER COUNT [FIRST [JOBS [SECONDS]]]\n");
         return 2;
     }
     program = realpath(argv[1], NULL);
     size_t count = strtoul(argv[4], NULL, 10), first = argc > 5 ? strtoul(argv[5], NULL, 10) : 0;
     size_t jobs = argc > 6 ? strtoul(argv[6], NULL, 10) : 1, lost = 0;
+    seconds = argc > 7 ? strtod(argv[7], NULL) : seconds;
     read_seeds(argv[2], "environments", &environments);
     read_seeds(argv[2], "devices", &devices);
     read_seeds(argv[2], "changes", &changes);
