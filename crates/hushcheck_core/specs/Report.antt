@@ -62,10 +62,10 @@ lines_at name text at what =
 abbrev pub fault_lines : (name text : Text) → SyntaxError → Text
 fault_lines name text error = lines_at name text (byte_of error) (what_of (length text) error)
 
--- a word that U-Boot refuses in a text that is well-formed
+-- a word that U-Boot's old shell refuses in a text that is well-formed
 abbrev pub warned_at : (name text : Text) → Option ℕ → Text
 warned_at name text None = []
-warned_at name text (Some at) = lines_at name text at (codes "warning: U-Boot wants ; before this word")
+warned_at name text (Some at) = lines_at name text at (codes "warning: U-Boot's old shell wants ; before this word")
 
 abbrev pub warning_lines : (name text : Text) → Text
 warning_lines name text = warned_at name text (straight (input_in text).tokens)

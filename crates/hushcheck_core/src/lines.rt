@@ -76,7 +76,8 @@ pub(crate) fn push_fault(
     push_at(told, name, text, byte_of(error), what_of(text.len(), error))
 }
 
-/// Puts a warning behind a text where U-Boot refuses the first word that stands straight behind a compound command.
+/// Puts a warning after a text where U-Boot's old shell refuses the first word that stands straight after a compound
+/// command.
 fn push_warning(told: &mut Vec<u8>, name: &[u8], text: &[u8]) -> Result<(), AllocError>
     ensures { OnOk result (told.new.items ≡ told.old.items ++ spec.warning_lines name.now text.now) }
 {
@@ -86,7 +87,7 @@ fn push_warning(told: &mut Vec<u8>, name: &[u8], text: &[u8]) -> Result<(), Allo
             name,
             text,
             at,
-            b"warning: U-Boot wants ; before this word",
+            b"warning: U-Boot's old shell wants ; before this word",
         ),
         None => Ok(()),
     }
