@@ -1,12 +1,12 @@
-use Rattle.std.proofs.Common.{◌≡◌, ◌∙◌, ap, sym, subst, string_bytes, Bool, Err, Result, List, ℕ, true, Ok}
+use Rattle.std.proofs.Common.{◌≡◌, ◌∙◌, ap, sym, subst, string_bytes, Bool, Err, Result, List, ℕ}
 use Rattle.std.proofs.lemmas.Result.{err_from_is_err_and}
 use Rattle.ubtool_files.proofs.ToldLemmas.{IfTold-then}
 use Rattle.ubtool_files.specs.Told.{IfTold}
-use Rattle.ubtool_core.specs.EndingsOfImages.{RefusesEndings, TellsEndings}
+use Rattle.ubtool_core.specs.EndingsOfImages.{RefusesEndings}
 use Rattle.ubtool_core.specs.declared.fault.Fault.{Fault}
 use Rattle.ubtool_run.specs.EndingsOfFiles.{TellsFrom, endings_of}
 use Rattle.ubtool_run.specs.Images.{copies}
-use Rattle.ubtool_run.proofs.EndingsLemmas.{tells-found, tells-refused, tells-unlisted}
+use Rattle.ubtool_run.proofs.EndingsLemmas.{tells-refused, tells-unlisted}
 use Rattle.ubtool_run.proofs.endings.endings.Goals as goal
 
 pub returns-in_err-device_list-clause-told : goal.returns-in_err-device_list-clause-told

@@ -1,4 +1,4 @@
-use Rattle.std.proofs.Common.{◌≡◌, subst}
+use Rattle.std.proofs.Common.{subst}
 use Rattle.std.specs.Option.{option_copied}
 use Rattle.ubtool_core.specs.Given.{Given, given_all}
 use Rattle.ubtool_run.specs.EndingsOfFiles.{TellsCopies}
