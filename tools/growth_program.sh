@@ -90,6 +90,7 @@ begin rehearse -c fw_env.config -d devices.txt
 begin rehearse -c fw_env.config -d devices.txt a v
 begin endings -c fw_env.config -d devices.txt
 begin endings -c fw_env.config -d devices.txt --devices 5 --steps 40
+begin endings -c fw_env.config -d devices.txt --flow
 begin
 begin printenv -c fw_env.config
 begin printenv -c fw_env.config t bootcmd t
