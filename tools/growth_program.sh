@@ -31,7 +31,7 @@ cp env.img image
 # goes_on WORD..: the listing that was broken off goes on behind its last record, or anew.
 goes_on() {
     after=$(awk '/^run /{word=$2} /^(end|cut|stop|booted) /{last=word} END{print last}' output)
-    [ -z "$(tail -n 1 output | grep -Ev '^(end|cut|stop|booted) ')" ] || { echo "a record in part: $(tail -n 1 output)"; exit 1; }
+    ! tail -n 1 output | grep -qEv '^(end|cut|stop|booted) ' || { echo "a record in part: $(tail -n 1 output)"; exit 1; }
     "$program" "$@" ${after:+--after "$after"} >> output
     cmp output ample
 }
@@ -51,7 +51,7 @@ each_growth() {
         REFUSE=$number REFUSE_MET=met TELL_CALLS=calls LD_PRELOAD="../refuse.so ../calls.so" "$called" "$@" < "$input" > output 2> error ||
             status=$?
         [ "$(cat met)" != "not met" ] || break
-        [ -z "$(sed '1,/^write [1>]/d' calls | grep '^read')" ] || { echo "$*, growth $number: a write before a read"; exit 1; }
+        ! sed '1,/^write [1>]/d' calls | grep -q '^read' || { echo "$*, growth $number: a write before a read"; exit 1; }
         if [ "$status" -eq 0 ]; then
             cmp -s output ample || { echo "$*, growth $number: another output"; exit 1; }
             cmp -s env.img changed || { echo "$*, growth $number: another changed image"; exit 1; }
