@@ -5,6 +5,4 @@ pub mod Encoding
 pub mod Entries
 pub mod Image
 pub mod Laws
-pub mod Over
 pub mod Place
-pub mod Sink

@@ -1,3 +1,4 @@
+//! The CRC-32 of zlib, 16 bytes at a time.
 ghost use Rattle.std.specs.Prelude.{◌≡◌, ◌+◌, ◌≤◌, fold};
 ghost use Rattle.envimage.specs.Crc.{crc, after_byte, register_after, after_zeros};
 

@@ -1,3 +1,4 @@
+//! The image of a list of variables.
 ghost use Rattle.std.specs.Prelude.{◌≡◌, ◌+◌, ◌<◌, ◌-◌, ◌^◌, min, ◌++◌, ◌↔◌, length, map, replicate, true, false, OnOk, IfOk, IfErr, Err};
 ghost use Rattle.std.specs.List.{flat_map, AllByRecursion};
 ghost use Rattle.envimage.specs.Data.{entry, IsVariable};

@@ -1,3 +1,4 @@
+//! Images: which copy is right and current, and what it holds.
 ghost use Rattle.std.specs.Prelude.{◌≡◌, ◌≤◌, length, IfOk, None};
 ghost use Rattle.std.specs.Option.{option_copied};
 ghost use Rattle.envimage.specs.Data.{data_fault};

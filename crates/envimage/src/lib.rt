@@ -1,5 +1,4 @@
-//! U-Boot environment images: their checksum, their data, and the outputs that everything above
-//! writes to.
+//! U-Boot environment images: their checksum, their data, and the configurations that say where they are.
 #![tactic(auto)]
 
 mod config;
@@ -10,7 +9,6 @@ mod encoding;
 mod image;
 pub mod laws;
 mod number;
-mod output;
 mod walk;
 
 pub use config::{ConfigError, Place, parse_config};
@@ -18,5 +16,4 @@ pub use content::{DataError, check_data, entries};
 pub use crc::crc32;
 pub use encoding::encode;
 pub use image::{ByteOrder, COPY_MIN, ImageError, Loaded, SINGLE_MIN, SIZE_MAX, Which, load};
-pub use output::{Out, OutFault, Over, write_all, write_parts};
 pub use walk::Entries;

@@ -1,3 +1,4 @@
+//! An iterator over the variables of an image.
 ghost use Rattle.std.specs.Prelude.{◌≡◌};
 
 use crate::content::cut_at_nul;

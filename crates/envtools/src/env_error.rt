@@ -1,3 +1,4 @@
+//! Why an environment or a change of it is refused.
 use envimage::DataError;
 use std::alloc::{AllocError, AllocFailed};
 use thiserror::Error;

@@ -1,3 +1,4 @@
+//! The image that replaces a loaded one.
 ghost use Rattle.std.specs.Prelude.{◌≡◌, ◌↔◌, ◌<◌, true, IfOk, IfErr, Err};
 ghost use Rattle.envimage.specs.Encoding.{header_len, is_image_size, needed, ReadsBack};
 ghost use Rattle.envimage.specs.Image.{loaded_shown};

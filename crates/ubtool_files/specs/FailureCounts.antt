@@ -1,6 +1,6 @@
 -- What an answer of a call on files says of the count of the device's failures. The count is ours.
 use Rattle.std.specs.Prelude.{◌≡◌, ℕ, Result, Err}
-use Rattle.envimage.specs.Sink.{counted}
+use Rattle.output.specs.Sink.{counted}
 use Rattle.ubtool_files.specs.declared.files.FileFault.{FileFault}
 use Rattle.ubtool_files.specs.declared.files.FileFault.TheVariants.{Failed}
 

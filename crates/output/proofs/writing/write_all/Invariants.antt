@@ -1,6 +1,6 @@
 use Rattle.std.proofs.Common.{◌≡◌, ℕ, List, ◌++◌, length}
-use Rattle.envimage.specs.Sink.{Wrote}
-use Rattle.envimage.proofs.output.write_all.Given as goal
+use Rattle.output.specs.Sink.{Wrote}
+use Rattle.output.proofs.writing.write_all.Given as goal
 
 -- a front of the bytes was written, and the rest is left
 abbrev pub invariant-loop-rest : goal.invariant-loop-rest

@@ -1,6 +1,6 @@
 -- What contracts see of an output over a writer of std.
 use Rattle.std.specs.Prelude.{ℕ}
-use Rattle.envimage.specs.declared.output.Over.{Over}
+use Rattle.output.specs.declared.over.Over.{Over}
 
 -- the writer, which tells the bytes
 abbrev pub writer_of : {W : Type 0} → Over W → W

@@ -1,7 +1,7 @@
 use Rattle.std.proofs.Common.{take}
 use Rattle.std.specs.List.{flat_map}
-use Rattle.envimage.specs.Sink.{Wrote}
-use Rattle.envimage.proofs.output.write_parts.Given as goal
+use Rattle.output.specs.Sink.{Wrote}
+use Rattle.output.proofs.writing.write_parts.Given as goal
 
 -- the parts so far were written
 abbrev pub invariant-loop-part : goal.invariant-loop-part

@@ -1,6 +1,6 @@
 use Rattle.std.proofs.Common.{◌++◌, take, length, refl}
-use Rattle.envimage.proofs.SinkLemmas.{Wrote-append, Wrote-write, rest_after}
-use Rattle.envimage.proofs.output.write_all.Goals as goal
+use Rattle.output.proofs.SinkLemmas.{Wrote-append, Wrote-write, rest_after}
+use Rattle.output.proofs.writing.write_all.Goals as goal
 
 pub loop-rest-preserved : goal.loop-rest-preserved
 loop-rest-preserved g c =

@@ -1,6 +1,6 @@
 use Rattle.std.proofs.lemmas.Result.{err_from_is_err_and}
-use Rattle.envimage.proofs.SinkLemmas.{BrokeOff-item}
-use Rattle.envimage.proofs.output.write_parts.Goals as goal
+use Rattle.output.proofs.SinkLemmas.{BrokeOff-item}
+use Rattle.output.proofs.writing.write_parts.Goals as goal
 
 pub returns-in_err-write_all : goal.returns-in_err-write_all
 returns-in_err-write_all g c =

@@ -1,0 +1,28 @@
+//! Where bytes are written to.
+ghost use Rattle.std.specs.Prelude.{◌≡◌, ◌≤◌, length, IfOk};
+ghost use Rattle.std.specs.Io.KnownBytes.{WriteAppends};
+ghost use Rattle.output.specs.Sink.{Sink, failures_after};
+
+use thiserror::Error;
+
+/// Why an output took no bytes.
+#[derive(Clone, Copy, Debug, Drop, PartialEq, Eq, Error)]
+pub enum OutFault {
+    /// The device refused the bytes.
+    #[error("the output failed")]
+    Failed,
+}
+
+/// Where bytes are written to.
+pub trait Out {
+    /// The bytes taken and the failures counted.
+    ghost sink: { Self → Sink };
+
+    /// Takes the first bytes of `bytes` and says how many. A fault takes none, and counts as one
+    /// failure; so does a 0 for bytes that are there. At its greatest value the count stays.
+    fn write(&mut self, bytes: &[u8]) -> Result<usize, OutFault>
+        ensures within { IfOk result (λ n. n ≤ length bytes.now) }
+        ensures taken { WriteAppends (sink self.old).taken (sink self.new).taken result bytes.now }
+        ensures failures { (sink self.new).failures
+            ≡ failures_after result bytes.now (sink self.old).failures };
+}

@@ -1,0 +1,59 @@
+//! An output over a writer of std.
+ghost use Rattle.std.specs.Prelude.{◌≡◌};
+
+use crate::out::{Out, OutFault};
+use std::io::Write;
+
+/// An output over any writer of std. Its bytes are those that the writer tells.
+#[derive(Drop)]
+pub struct Over<W> {
+    writer: W,
+    failures: u64,
+}
+
+impl<W> Over<W> {
+    ghost use Rattle.output.specs.Over.{writer_of, failures_of};
+
+    /// An output over this writer, with no failure so far.
+    pub fn new(writer: W) -> Self
+        ensures writer { writer_of result ≡ writer }
+        ensures failures { failures_of result ≡ 0 }
+    {
+        Over {
+            writer,
+            failures: 0,
+        }
+    }
+
+    /// The writer, with all that it took.
+    pub fn into_writer(self) -> W
+        ensures { result ≡ writer_of self }
+    {
+        let Over {
+            writer,
+            failures: _,
+        } = self;
+        writer
+    }
+}
+
+impl<W: Write> Out for Over<W> {
+    ghost use Rattle.output.specs.Over.{writer_of, failures_of};
+
+    ghost sink = { λ o. record { taken = W.contents (writer_of o); failures = failures_of o } };
+
+    fn write(&mut self, bytes: &[u8]) -> Result<usize, OutFault> {
+        match self.writer.write(bytes) {
+            Ok(taken) => {
+                if taken == 0 && !bytes.is_empty() {
+                    self.failures = self.failures.saturating_add(1);
+                }
+                Ok(taken)
+            }
+            Err(_) => {
+                self.failures = self.failures.saturating_add(1);
+                Err(OutFault::Failed)
+            }
+        }
+    }
+}

@@ -1,0 +1,20 @@
+-- The texts that values of the program hold.
+use Rattle.std.specs.Prelude.{ℕ, List, map, Option, Some, None}
+use Rattle.std.specs.Borrow.{Bor}
+use Rattle.std.specs.declared.alloc.Global.{Global}
+use Rattle.std.specs.declared.vec.Vec.{Vec}
+use Rattle.text.specs.Lines.{Text}
+
+-- the texts that a vector of byte vectors holds
+abbrev pub bytes_of_words : List (Vec ℕ Global) → List Text
+bytes_of_words ws = map (λ w. w.items) ws
+
+-- the text of a vector that may be there
+abbrev pub option_items : Option (Vec ℕ Global) → Option Text
+option_items None = None
+option_items (Some v) = Some v.items
+
+-- the text behind a reference that may be there
+abbrev pub option_bytes : Option (Bor (List ℕ)) → Option Text
+option_bytes None = None
+option_bytes (Some b) = Some b.now
