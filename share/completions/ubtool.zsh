@@ -53,6 +53,7 @@ _ubtool() {
                     ;;
                 rehearse)
                     _arguments -S $common $runs \
+                        '--word[write the run of a word alone]:word: ' \
                         '--after[begin after the run of a word]:word: ' \
                         '--limit[at most so many records]:number: ' \
                         '*: :_ubtool_names'

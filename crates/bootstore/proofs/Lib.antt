@@ -2,3 +2,4 @@ mod StoreExamples
 pub mod Tables
 pub mod Trails
 pub mod Onces
+pub mod StateLemmas

@@ -18,7 +18,8 @@ use Rattle.std.specs.List.{slice_get}
 use Rattle.std.proofs.Common.{drop, drop-cons, suc, ◌+◌, add-one}
 use Rattle.std.proofs.lemmas.Option.{slice_get_within, get_or_from_slice_get}
 use Rattle.std.proofs.lemmas.List.{nil_from_length}
-use Rattle.bootstore.specs.Moment.{Bytes, Variables, option_items, bytes_of_words, set_in_turn}
+use Rattle.bootstore.specs.Moment.{Bytes, Variables, set_in_turn}
+use Rattle.text.specs.TextsShown.{option_items, bytes_of_words}
 use Rattle.bootstore.specs.Record.{assigned}
 use Rattle.bootstore.specs.declared.table.Place.{Place}
 use Rattle.bootstore.specs.Slots.{Slot, live, live_before}

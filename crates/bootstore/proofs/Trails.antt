@@ -17,7 +17,9 @@ use Rattle.bootstore.specs.declared.inverse.Kept.{Kept}
 use Rattle.bootstore.specs.declared.inverse.Kept.TheVariants.{Mark, Change}
 use Rattle.bootstore.specs.declared.present.Present.{Present}
 use Rattle.bootstore.specs.declared.frame.At.{At}
-use Rattle.bootstore.specs.Moment.{Bytes, Variables, Moment, RunningFrame, LoggedCommand, option_bytes}
+use Rattle.bootstore.specs.Moment.{Bytes, Variables, Moment, RunningFrame}
+use Rattle.rehearse.specs.State.{LoggedCommand}
+use Rattle.text.specs.TextsShown.{option_bytes}
 use Rattle.bootstore.specs.Record.{Record, assigned, moved, without_first, with_place, without_frame, with_frame, with_echo, with_device}
 use Rattle.bootstore.specs.Present.{moment_of}
 use Rattle.bootstore.specs.Table.{Names, AreWithin, has_slot, names_before, stands_among, place_value}

@@ -7,3 +7,4 @@ pub mod Present
 pub mod Plain
 pub mod Inverse
 pub mod Trail
+pub mod StoredState

@@ -1,8 +1,7 @@
 -- What a run of a boot script is made of at a moment: the state of the script (U-Boot documentation,
 -- doc/usage/cmdline and doc/usage/environment, on variables and `$?`), and what it still has to do (ours).
-use Rattle.std.specs.Prelude.{ℕ, Bool, List, [], ◌∷◌, map, Option, Some, None, refl}
+use Rattle.std.specs.Prelude.{ℕ, List, [], ◌∷◌, Option, Some, None, refl}
 use Rattle.std.specs.FinMap.{FinMap, empty, insert}
-use Rattle.std.specs.Borrow.{Bor}
 use Rattle.std.specs.Ordering.{nat_cmp}
 use Rattle.std.specs.Cmp.Lexicographic.{slice_cmp}
 use Rattle.std.specs.declared.alloc.Global.{Global}
@@ -12,27 +11,15 @@ use Rattle.std.specs.Coded.{Coded, code_by, coded×, coded_ℕ, coded_list}
 use Rattle.bootstore.specs.ScriptCode.{coded_script}
 use Rattle.bootstore.specs.contracts.frame.FrameKind as kind_type
 use Rattle.bootstore.specs.contracts.frame.At as at_type
+use Rattle.text.specs.TextsShown.{bytes_of_words}
 use Rattle.hushlang.specs.Tree.{Script}
+use Rattle.rehearse.specs.State.{LoggedCommand}
 use Rattle.bootstore.specs.declared.frame.FrameKind.{FrameKind}
 use Rattle.bootstore.specs.declared.frame.At.{At}
 
 -- a text of any bytes
 abbrev pub Bytes : Type 0
 Bytes = List ℕ
-
--- the texts that a vector of byte vectors holds
-abbrev pub bytes_of_words : List (Vec ℕ Global) → List Bytes
-bytes_of_words ws = map (λ w. w.items) ws
-
--- the text of a vector that may be there
-abbrev pub option_items : Option (Vec ℕ Global) → Option Bytes
-option_items None = None
-option_items (Some v) = Some v.items
-
--- the text behind a reference that may be there
-abbrev pub option_bytes : Option (Bor (List ℕ)) → Option Bytes
-option_bytes None = None
-option_bytes (Some b) = Some b.now
 
 -- values by name, in byte order of the names
 abbrev pub Variables : Type 0
@@ -45,11 +32,6 @@ set_in_turn variables (pair ∷ pairs) = set_in_turn (insert variables pair.0 pa
 
 abbrev pub environment_of : List (Bytes × Bytes) → Variables
 environment_of pairs = set_in_turn empty pairs
-
--- a device command in the log, with its outcome
-pub record LoggedCommand : Type 0 where
-  pub success : Bool
-  pub words : List Bytes
 
 -- a script that is running: what it says, the fields of its `for` or the names of its `run`, and the place that it
 -- has come to

@@ -4,7 +4,8 @@
 use Rattle.std.specs.Prelude.{ℕ, ◌+◌, List, [], ◌∷◌, ◌++◌, Option, Some, None}
 use Rattle.std.specs.FinMap.{empty, insert, remove}
 use Rattle.bootstore.specs.declared.frame.At.{At}
-use Rattle.bootstore.specs.Moment.{Bytes, Variables, LoggedCommand, RunningFrame, Moment}
+use Rattle.rehearse.specs.State.{LoggedCommand}
+use Rattle.bootstore.specs.Moment.{Bytes, Variables, RunningFrame, Moment}
 
 -- the present moment, the marked ones, the last first, and how many steps were ever begun
 pub record Record : Type 0 where
@@ -65,10 +66,6 @@ changed change r = record r { present = change r.present }
 -- a run in this environment begins, and nothing is marked
 abbrev pub started : Variables → Record → Record
 started environment r = record r { present = beginning environment; marked = [] }
-
--- the most steps that a run may begin
-abbrev pub most_steps : ℕ
-most_steps = 1000000
 
 -- a step begins
 abbrev pub stepped : Record → Record

@@ -8,7 +8,8 @@ use Rattle.std.specs.declared.alloc.Global.{Global}
 use Rattle.std.specs.declared.vec.Vec.{Vec}
 use Rattle.bootstore.specs.declared.table.Table.{Table}
 use Rattle.bootstore.specs.declared.table.Place.{Place}
-use Rattle.bootstore.specs.Moment.{Bytes, Variables, option_items}
+use Rattle.bootstore.specs.Moment.{Bytes, Variables}
+use Rattle.text.specs.TextsShown.{option_items}
 use Rattle.bootstore.specs.Record.{assigned}
 use Rattle.bootstore.specs.Slots.{Slot}
 

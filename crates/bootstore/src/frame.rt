@@ -1,7 +1,7 @@
 //! What a run still has to do: a stack of frames.
 ghost use Rattle.std.specs.Prelude.{◌≡◌, [], IfOk};
 ghost use Rattle.hushlang.specs.TreesShown as view;
-ghost use Rattle.bootstore.specs.Moment.{bytes_of_words};
+ghost use Rattle.text.specs.TextsShown.{bytes_of_words};
 
 use hushlang::tree::Script;
 use std::alloc::AllocError;

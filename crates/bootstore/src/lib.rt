@@ -3,6 +3,7 @@
 
 mod frame;
 mod inverse;
+pub mod laws;
 mod log;
 mod plain;
 mod present;
@@ -13,6 +14,7 @@ mod trail;
 pub use frame::{At, Frame, FrameKind};
 pub use log::LogEntry;
 pub use plain::Plain;
+pub use present::Present;
 pub use store::{Store, StoreError};
 pub use table::Variables;
 pub use trail::Trail;

@@ -14,7 +14,8 @@ pub struct LogEntry {
 }
 
 impl Model for LogEntry {
-    ghost use Rattle.bootstore.specs.Moment.{LoggedCommand, bytes_of_words};
+    ghost use Rattle.rehearse.specs.State.{LoggedCommand};
+    ghost use Rattle.text.specs.TextsShown.{bytes_of_words};
 
     ghost Value = { LoggedCommand };
 

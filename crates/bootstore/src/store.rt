@@ -1,11 +1,15 @@
 //! What a store of states can do.
 ghost use Rattle.std.specs.Prelude.{◌≡◌, ◌+◌, ◌<◌, ◌^◌, OnOk, OnErr, option_map, reverse, slice_get};
 ghost use Rattle.std.specs.FinMap.{get, entries};
-ghost use Rattle.bootstore.specs.Moment.{environment_of, option_bytes};
-ghost use Rattle.bootstore.specs.Record.{Record, fresh, most_steps, started, stepped, with_mark, gone_back, changed, with_environment, with_local, with_echo, with_device, with_status, with_frame, with_place, without_frame};
+ghost use Rattle.bootstore.specs.Moment.{environment_of};
+ghost use Rattle.text.specs.TextsShown.{option_bytes};
+ghost use Rattle.bootstore.specs.Present.{moment_of};
+ghost use Rattle.bootstore.specs.Record.{Record, fresh, started, stepped, with_mark, gone_back, changed, with_environment, with_local, with_echo, with_device, with_status, with_frame, with_place, without_frame};
+ghost use Rattle.rehearse.specs.Bounds.{most_steps};
 
 use crate::frame::{At, Frame};
 use crate::log::LogEntry;
+use crate::present::Present;
 use crate::table::Variables;
 use envtools::Env;
 use std::alloc::{AllocError, AllocFailed, Global};
@@ -103,47 +107,81 @@ pub trait Store: Drop {
     fn back(&mut self)
         ensures { record_of self.new ≡ gone_back (record_of self.old) };
 
-    /// The value of an environment variable.
-    fn get_env(&self, name: &[u8]) -> Option<&[u8]>
-        ensures { option_bytes result ≡ get (record_of self.now).present.environment name.now };
-
-    /// The value of a shell variable.
-    fn get_local(&self, name: &[u8]) -> Option<&[u8]>
-        ensures { option_bytes result ≡ get (record_of self.now).present.locals name.now };
-
-    /// The status of the last command.
-    fn get_status(&self) -> u8
-        ensures { result ≡ (record_of self.now).present.status };
-
-    /// How many steps the run has begun.
-    fn steps(&self) -> u32
-        ensures { result ≡ (record_of self.now).present.steps };
+    /// The present state, from which the readers below read.
+    fn present(&self) -> &Present
+        ensures { moment_of result.now ≡ (record_of self.now).present };
 
     /// How many steps were begun in all, in whatever run.
     fn begun(&self) -> u64
         ensures { result ≡ (record_of self.now).begun };
 
+    /// The value of an environment variable.
+    fn get_env(&self, name: &[u8]) -> Option<&[u8]>
+        ensures { option_bytes result ≡ get (record_of self.now).present.environment name.now }
+    {
+        self.present().environment.get(name)
+    }
+
+    /// The value of a shell variable.
+    fn get_local(&self, name: &[u8]) -> Option<&[u8]>
+        ensures { option_bytes result ≡ get (record_of self.now).present.locals name.now }
+    {
+        self.present().locals.get(name)
+    }
+
+    /// The status of the last command.
+    fn get_status(&self) -> u8
+        ensures { result ≡ (record_of self.now).present.status }
+    {
+        self.present().status
+    }
+
+    /// How many steps the run has begun.
+    fn steps(&self) -> u32
+        ensures { result ≡ (record_of self.now).present.steps }
+    {
+        self.present().steps
+    }
+
     /// The bytes that the run has written.
     fn text(&self) -> &[u8]
-        ensures { result.now ≡ (record_of self.now).present.text };
+        ensures { result.now ≡ (record_of self.now).present.text }
+    {
+        &self.present().text
+    }
 
     /// The device commands that were run, in order.
     fn log(&self) -> &[LogEntry]
-        ensures { result.now ≡ (record_of self.now).present.log };
+        ensures { result.now ≡ (record_of self.now).present.log }
+    {
+        &self.present().log
+    }
 
     /// The variables of the environment, in byte order of their names.
     fn variables(&self) -> Variables<'_>
-        ensures { result ≡ entries (record_of self.now).present.environment };
+        ensures { result ≡ entries (record_of self.now).present.environment }
+    {
+        self.present().environment.iter()
+    }
 
     /// The shell variables, in byte order of their names.
     fn shell_variables(&self) -> Variables<'_>
-        ensures { result ≡ entries (record_of self.now).present.locals };
+        ensures { result ≡ entries (record_of self.now).present.locals }
+    {
+        self.present().locals.iter()
+    }
 
     /// The frames, the innermost last.
     fn frames(&self) -> &[Frame]
-        ensures { reverse result.now ≡ (record_of self.now).present.frames };
+        ensures { reverse result.now ≡ (record_of self.now).present.frames }
+    {
+        &self.present().frames
+    }
 
     /// The innermost frame.
     fn top(&self) -> Option<&Frame>
-        ensures { option_map (λ frame. frame.now) result ≡ slice_get (record_of self.now).present.frames 0 };
+        ensures { option_map (λ frame. frame.now) result ≡ slice_get (record_of self.now).present.frames 0 }
+    {
+        self.present().top()
+    }
 }

@@ -1,6 +1,6 @@
 //! Variables by name. The place of a name can be kept empty, so that its value can come back without memory.
 ghost use Rattle.std.specs.Prelude.{◌≡◌, IfOk, OnOk, OnErr, None, Some, true, false};
-ghost use Rattle.bootstore.specs.Moment.{option_bytes, option_items};
+ghost use Rattle.text.specs.TextsShown.{option_bytes, option_items};
 
 use std::alloc::{AllocError, Global};
 use std::collections::BTreeMap;
@@ -19,7 +19,7 @@ pub struct Place {
 
 impl Clone for Place {
     ghost use Rattle.std.specs.Prelude.{◌≡◌};
-    ghost use Rattle.bootstore.specs.Moment.{option_items};
+    ghost use Rattle.text.specs.TextsShown.{option_items};
 
     ghost is_clone = { λ place copy. option_items copy.value ≡ option_items place.value };
 
@@ -39,7 +39,7 @@ pub struct Table {
 
 impl Table {
     ghost use Rattle.std.specs.FinMap.{get, empty, entries};
-    ghost use Rattle.bootstore.specs.Moment.{option_bytes, option_items};
+    ghost use Rattle.text.specs.TextsShown.{option_bytes, option_items};
     ghost use Rattle.bootstore.specs.Record.{assigned};
     ghost use Rattle.bootstore.specs.Table.{variables_of, has_slot, KeepsSlots, AreEqual, IsWith, without, names_before, stands_among, place_at, place_value, last_kept, kept_of, KeepsNothing};
 

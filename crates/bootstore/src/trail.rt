@@ -7,7 +7,6 @@ use crate::inverse::{Inverse, Kept, Marked, Since, undo_to_mark};
 use crate::log::LogEntry;
 use crate::present::Present;
 use crate::store::{Store, StoreError};
-use crate::table::Variables;
 use envtools::Env;
 use std::alloc::Global;
 
@@ -184,47 +183,11 @@ impl Store for Trail {
         self.since = undo_to_mark(&mut self.present, &mut self.kept);
     }
 
-    fn get_env(&self, name: &[u8]) -> Option<&[u8]> {
-        self.present.environment.get(name)
-    }
-
-    fn get_local(&self, name: &[u8]) -> Option<&[u8]> {
-        self.present.locals.get(name)
-    }
-
-    fn get_status(&self) -> u8 {
-        self.present.status
-    }
-
-    fn steps(&self) -> u32 {
-        self.present.steps
+    fn present(&self) -> &Present {
+        &self.present
     }
 
     fn begun(&self) -> u64 {
         self.begun
-    }
-
-    fn text(&self) -> &[u8] {
-        &self.present.text
-    }
-
-    fn log(&self) -> &[LogEntry] {
-        &self.present.log
-    }
-
-    fn variables(&self) -> Variables<'_> {
-        self.present.environment.iter()
-    }
-
-    fn shell_variables(&self) -> Variables<'_> {
-        self.present.locals.iter()
-    }
-
-    fn frames(&self) -> &[Frame] {
-        &self.present.frames
-    }
-
-    fn top(&self) -> Option<&Frame> {
-        self.present.top()
     }
 }

@@ -11,7 +11,7 @@ use Rattle.hushcheck.specs.declared.ask.Ask.{Ask}
 use Rattle.hushcheck.specs.declared.ask.Ask.TheVariants.{Check, Help, Version}
 use Rattle.ubtool_cli.specs.CommandAnswers.{IsAccepted}
 use Rattle.ubtool_cli.specs.declared.ask.UseError.{UseError}
-use Rattle.ubtool_cli.specs.declared.ask.UseError.TheVariants.{HeaderNeedsOne, Line, Memory, NeedName, ScriptAndName}
+use Rattle.ubtool_cli.specs.declared.ask.UseError.TheVariants.{HeaderNeedsOne, WordAlone, TooManyDevices, Line, Memory, NeedName, ScriptAndName}
 use Rattle.hushcheck.specs.Asked.{Asked, asked_of}
 use Rattle.hushcheck.specs.CommandAnswers.{Answers, Reports, Says, asked}
 use Rattle.hushcheck.specs.CommandLine.{hushcheck}
@@ -34,6 +34,8 @@ accepted_answer words a (Err Memory) fine is says = tt
 accepted_answer words a (Err NeedName) fine is says = absurd says
 accepted_answer words a (Err ScriptAndName) fine is says = absurd says
 accepted_answer words a (Err HeaderNeedsOne) fine is says = absurd says
+accepted_answer words a (Err WordAlone) fine is says = absurd says
+accepted_answer words a (Err TooManyDevices) fine is says = absurd says
 
 -- where they are not
 refused_answer : (words : List Text) (k : ErrorKind) (r : Result Ask UseError) → (k ≡ OutOfMemory) ⊎ IsAmong k (fault_of hushcheck words) → Reports k r → Answers words r
@@ -58,6 +60,8 @@ refused_answer words k (Err Memory) among is = tt
 refused_answer words k (Err NeedName) among is = absurd is
 refused_answer words k (Err ScriptAndName) among is = absurd is
 refused_answer words k (Err HeaderNeedsOne) among is = absurd is
+refused_answer words k (Err WordAlone) among is = absurd is
+refused_answer words k (Err TooManyDevices) among is = absurd is
 
 -- a parse that succeeds
 pub parsed_answer : (app : App) (words : List Text) (m : ArgMatches) (r : Result Ask UseError) → app ≡ hushcheck → HasMatchesOf app words m

@@ -1,7 +1,7 @@
 -- What checking the texts of an image does, from files that tell what stands in them. Ours.
 use Rattle.std.specs.Prelude.{◌≡◌, Bool, List, Result, Ok, Err}
 use Rattle.envimage.specs.Data.{Pair}
-use Rattle.envimage.specs.Sink.{BrokeOff, Sink, Wrote}
+use Rattle.output.specs.Sink.{BrokeOff, Sink, Wrote}
 use Rattle.envimage.specs.declared.image.ByteOrder.{ByteOrder}
 use Rattle.envimage.specs.declared.image.ImageError.{ImageError}
 use Rattle.hushcheck_core.specs.Names.{Text}

@@ -3,18 +3,20 @@ use Rattle.std.specs.Prelude.{◌≡◌, Bool, map, Option, Result, codes, strin
 use Rattle.hushcheck.specs.Checking.{ChecksFrom, LeavesOutput}
 use Rattle.hushcheck.specs.declared.ask.Ask.{Ask}
 use Rattle.hushcheck.specs.declared.ask.Ask.TheVariants.{Check, Help, Version}
-use Rattle.ubtool_core.specs.PrintingImages.{Outputs}
+use Rattle.output.specs.Outputs.{Outputs}
 use Rattle.ubtool_files.specs.Told.{IfTold, Told}
 use Rattle.ubtool_core.specs.declared.fault.Fault.{Fault}
-use Rattle.ubtool_run.specs.Performing.{Shows, version_line}
+use Rattle.ubtool_run.specs.Builds.{version_line}
+use Rattle.ubtool_run.specs.declared.build.Build.{Build}
+use Rattle.ubtool_run.specs.Performing.{Shows}
 
--- What doing it comes to: with the files from before to after, and on the outputs. With status 0 each text is
+-- What doing it comes to, by a program of this build: with the files from before to after, and on the outputs. With status 0 each text is
 -- well-formed and each name that was asked for is set, or the help or the version was shown.
-abbrev pub Does : Ask → Option Told → Option Told → Outputs → Result Bool Fault → Type 0
-Does (Check config names order) before after outputs result =
+abbrev pub Does : Build → Ask → Option Told → Option Told → Outputs → Result Bool Fault → Type 0
+Does build (Check config names order) before after outputs result =
     IfTold before after (λ old new.
     ChecksFrom order (string_bytes config) (map string_bytes names.items) outputs.out outputs.out' old new result)
     × LeavesOutput result outputs.out outputs.out'
     × (outputs.err' ≡ outputs.err)
-Does (Help text) before after outputs result = Shows (string_bytes text) before after outputs result
-Does Version before after outputs result = Shows (version_line (codes "hushcheck")) before after outputs result
+Does build (Help text) before after outputs result = Shows (string_bytes text) before after outputs result
+Does build Version before after outputs result = Shows (version_line (codes "hushcheck") build) before after outputs result

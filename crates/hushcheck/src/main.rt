@@ -8,11 +8,14 @@ mod texts;
 mod words;
 
 use crate::program::{PROGRAM, run_check};
-use envimage::{Out, Over, write_all};
+use output::{Out, Over, write_all};
 use std::io;
 use std::process::ExitCode;
 use ubtool_files::Machine;
-use ubtool_run::{StartError, Telling, buffered, end, finish, words_of_call};
+use ubtool_run::{Build, StartError, Telling, buffered, end, finish, words_of_call};
+
+/// What this program is built for. The build for another processor, or with another link, has another word here.
+const BUILD: Build = Build::X86_64;
 
 /// What is told where memory for a buffer before the error output is refused.
 const OUT_OF_MEMORY: &[u8] = b"hushcheck: out of memory\n";
@@ -23,7 +26,7 @@ fn run<E: Out>(rt: &HostRuntime, err: &mut Telling<E>) -> Result<u8, StartError>
     let words = args.get(1..).unwrap_or(&[]);
     let mut out = buffered(rt.alloc(), io::writer(rt))?;
     let mut files = Machine::new(rt);
-    let status = run_check(rt.alloc(), words, &mut files, &mut out, err);
+    let status = run_check(rt.alloc(), BUILD, words, &mut files, &mut out, err);
     Ok(finish(out, err, PROGRAM, status))
 }
 

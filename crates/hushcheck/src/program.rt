@@ -1,21 +1,21 @@
 //! The whole program.
 ghost use Rattle.std.specs.Prelude.{◌≡◌, ◌≤◌, map};
-ghost use Rattle.envimage.specs.Sink.{Sink};
+ghost use Rattle.output.specs.Sink.{Sink};
 ghost use Rattle.hushcheck.specs.CommandAnswers.{Answers};
 ghost use Rattle.hushcheck.specs.Doing.{Does};
-ghost use Rattle.ubtool_core.specs.PrintingImages.{outputs};
+ghost use Rattle.output.specs.Outputs.{outputs};
 ghost use Rattle.ubtool_run.specs.Faults.{CountsTold};
 ghost use Rattle.ubtool_run.specs.Running.{HasDone, HasRefused, IsMisused, files_shown};
 
 use crate::ask::Ask;
 use crate::texts::check_files;
 use crate::words::read_words;
-use envimage::Out;
+use output::Out;
 use std::alloc::Global;
 use std::convert::AsStr;
 use ubtool_core::Fault;
 use ubtool_files::Files;
-use ubtool_run::{refuse, show_help, show_version, status_of};
+use ubtool_run::{Build, refuse, show_help, show_version, status_of};
 
 /// The name in front of what is told of a refusal.
 pub const PROGRAM: &str = "hushcheck";
@@ -23,12 +23,13 @@ pub const PROGRAM: &str = "hushcheck";
 /// Does what is asked for. The answer is false where a text is not well-formed, or a name not set.
 fn perform<F: Files, O: Out>(
     alloc: Global,
+    build: Build,
     ask: Ask,
     files: &mut F,
     out: &mut O,
 ) -> Result<bool, Fault>
     ensures count { CountsTold (F.faults files.old) (F.faults files.new) result }
-    ensures does { (err : Sink) → Does ask (F.told files.old) (F.told files.new)
+    ensures does { (err : Sink) → Does build ask (F.told files.old) (F.told files.new)
         (outputs (O.sink out.old) (O.sink out.new) err err) result }
 {
     match ask {
@@ -38,7 +39,7 @@ fn perform<F: Files, O: Out>(
             order,
         } => check_files(alloc, files, config, &names, order, out),
         Ask::Help(text) => show_help(out, &text),
-        Ask::Version => show_version(out, PROGRAM),
+        Ask::Version => show_version(out, PROGRAM, build),
     }
 }
 
@@ -47,22 +48,23 @@ fn perform<F: Files, O: Out>(
 /// understood. A fault is told on `err` by one line; where `err` fails, nothing more is written there.
 pub fn run_check<S: AsStr, F: Files, O: Out, E: Out>(
     alloc: Global,
+    build: Build,
     words: &[S],
     files: &mut F,
     out: &mut O,
     err: &mut E,
 ) -> u8
     ensures status { result ≤ 2 }
-    ensures done { result ≡ 0 → HasDone Answers Does (map S.text words.now) (files_shown F.Files files.old) (files_shown F.Files files.new)
+    ensures done { result ≡ 0 → HasDone Answers (Does build) (map S.text words.now) (files_shown F.Files files.old) (files_shown F.Files files.new)
         (outputs (O.sink out.old) (O.sink out.new) (E.sink err.old) (E.sink err.new)) }
-    ensures refused { result ≡ 1 → HasRefused Answers Does (map S.text words.now) (files_shown F.Files files.old) (files_shown F.Files files.new)
+    ensures refused { result ≡ 1 → HasRefused Answers (Does build) (map S.text words.now) (files_shown F.Files files.old) (files_shown F.Files files.new)
         (outputs (O.sink out.old) (O.sink out.new) (E.sink err.old) (E.sink err.new)) }
     ensures misused { result ≡ 2 → IsMisused Answers (map S.text words.now) (files_shown F.Files files.old) (files_shown F.Files files.new)
         (outputs (O.sink out.old) (O.sink out.new) (E.sink err.old) (E.sink err.new)) }
 {
     match read_words(alloc, words) {
         Ok(ask) => {
-            let answer = perform(alloc, ask, files, out);
+            let answer = perform(alloc, build, ask, files, out);
             status_of(err, PROGRAM, answer)
         }
         Err(error) => {

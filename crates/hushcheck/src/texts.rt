@@ -8,9 +8,10 @@ ghost use Rattle.ubtool_run.specs.Faults.{CountsTold};
 ghost use Rattle.ubtool_run.specs.Images.{copies};
 ghost use Rattle.ubtool_run.specs.PrintingFiles.{environment};
 
-use envimage::{ByteOrder, Out, load, write_all};
+use envimage::{ByteOrder, load};
 use envtools::Env;
 use hushcheck_core::check;
+use output::{Out, write_all};
 use std::alloc::Global;
 use ubtool_core::{Fault, ToolError};
 use ubtool_files::Files;

@@ -5,6 +5,7 @@ use Rattle.hushlang.specs.Expansion.{fields, joined, atoms}
 use Rattle.rehearse.specs.Outcomes.{Success, Failure}
 use Rattle.rehearse.specs.Trees.{tree_of}
 use Rattle.rehearse.specs.State.{Text}
+use Rattle.rehearse.specs.DeviceList.{Variable, only}
 use Rattle.rehearse.specs.Execution.{End, CutSteps, Size}
 use Rattle.rehearse.specs.Runs.{steps, work}
 use Rattle.rehearse.specs.DeviceLaws.{is_name_alone}
@@ -48,11 +49,11 @@ unfolding told_of
 loops_at_step_bound_0 = refl
 
 -- steps and work with a final command and settings: a setting is no step
-steps_of_a_final_command : map (steps (bootcmd (limits ((codes "go", record { ends = true; sets = (codes "a", codes "1") ∷ (codes "b", codes "2") ∷ [] }) ∷ []) 3 100) (codes "for i in 1 2; do x=1; go $i; done; true"))) ((Success ∷ []) ∷ (Failure ∷ Success ∷ []) ∷ (Failure ∷ Failure ∷ []) ∷ []) ≡ 3 ∷ 5 ∷ 6 ∷ []
+steps_of_a_final_command : map (steps (bootcmd (limits (only ((codes "go", record { ends = true; sets = (Variable (codes "a"), codes "1") ∷ (Variable (codes "b"), codes "2") ∷ [] }) ∷ [])) 3 100) (codes "for i in 1 2; do x=1; go $i; done; true"))) ((Success ∷ []) ∷ (Failure ∷ Success ∷ []) ∷ (Failure ∷ Failure ∷ []) ∷ []) ≡ 3 ∷ 5 ∷ 6 ∷ []
 unfolding tree_of fields joined atoms digits
 steps_of_a_final_command = refl
 
-work_of_a_final_command : work (bootcmd (limits ((codes "go", record { ends = true; sets = [] }) ∷ []) 3 100) (codes "for i in 1 2; do x=1; go $i; done; true")) ((Success ∷ []) ∷ (Failure ∷ Success ∷ []) ∷ (Failure ∷ Failure ∷ []) ∷ []) ≡ 6
+work_of_a_final_command : work (bootcmd (limits (only ((codes "go", record { ends = true; sets = [] }) ∷ [])) 3 100) (codes "for i in 1 2; do x=1; go $i; done; true")) ((Success ∷ []) ∷ (Failure ∷ Success ∷ []) ∷ (Failure ∷ Failure ∷ []) ∷ []) ≡ 6
 unfolding tree_of fields joined atoms digits
 work_of_a_final_command = refl
 

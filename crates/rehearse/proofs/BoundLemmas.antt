@@ -8,7 +8,7 @@ use Rattle.rehearse.specs.Trees.{tree_of}
 use Rattle.rehearse.specs.State.{Text, get, State, start, parameters_in}
 use Rattle.rehearse.specs.Verdict.{verdict}
 use Rattle.rehearse.specs.Builtins.{SetEnv, Run as RunTexts, Test, Echo, True, False, Leave}
-use Rattle.rehearse.specs.Commands.{Called, BuiltIn, Device, NoCommand, called_by, asks_device, exit_status}
+use Rattle.rehearse.specs.Commands.{Called, BuiltIn, Device, NoCommand, called_by, sets_in, asks_device, exit_status}
 use Rattle.hushlang.specs.Tree.{IsProper, IsProperList, IsProperJoined, IsProperCommand, HasArm, AreProperArms, HoldsCommand}
 use Rattle.rehearse.specs.Execution.{Limits, Answer, Normal, Exit, Ended, Dry, Ending, CutDevices, CutSteps, Syntax, Size, go_on, set_status, set_local, status_when, goes, holds, begin, take_outcome, device, Request, no_effect, logged, set_environment, boot, text_end, run_text, run_all, command, simple, sized, assign, turns, for_each, exec_script, exec_list, exec_joined, exec_command, exec_arms, exec}
 use Rattle.rehearse.specs.Runs.{Task, run_on, state_of, steps}
@@ -70,7 +70,7 @@ module _ (limits : Limits) where
 
   taken-ends : (s : State) (r : Request) (w : OutcomeWord) → length s.log < limits.device_bound → IsWithin s → Ends (take_outcome r w s)
   taken-ends s r [] room h = h
-  taken-ends s r (Success ∷ rest) room h = boot-ends r.effect.ends r.name (set_environment r.effect.sets (logged Success r (record s { word = rest }))) (one_more s Success r rest room h)
+  taken-ends s r (Success ∷ rest) room h = boot-ends r.effect.ends r.name (set_environment (sets_in r.words r.effect.sets) (logged Success r (record s { word = rest }))) (one_more s Success r rest room h)
   taken-ends s r (Failure ∷ rest) room h = one_more s Failure r rest room h
 
   device-ends : (s : State) (r : Request) → IsWithin s → Ends (device limits r s)
@@ -121,7 +121,7 @@ module _ (limits : Limits) where
 
     simple-ends : (fs : List Text) (t : State) → IsWithin t → limits.step_bound < n + t.steps → Ends (simple limits script fs t)
     simple-ends [] t h r = h
-    simple-ends (name ∷ ws) t h r = command-ends (called_by limits.devices name) name ws t h r
+    simple-ends (name ∷ ws) t h r = command-ends (called_by limits.devices name ws) name ws t h r
 
   -- over the tree, with n steps left
   module _ (n : ℕ) (text : Script → State → Answer) (kept : (a : Script) → KeepsAll limits (text a)) (ends : (a : Script) → IsProper a → (t : State) → IsWithin t → limits.step_bound < n + t.steps → Ends (text a t)) where

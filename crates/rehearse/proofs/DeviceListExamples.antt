@@ -1,7 +1,9 @@
 -- Worked examples of device lists, computed.
-use Rattle.std.proofs.Common.{◌≡◌, true, false, [], ◌∷◌, ◌++◌, Ok, Err, refl}
+use Rattle.std.proofs.Common.{◌≡◌, true, false, [], ◌∷◌, ◌++◌, Some, None, Ok, Err, refl}
 use Rattle.std.specs.Prelude.{codes}
-use Rattle.rehearse.specs.DeviceList.{Effect, listed}
+use Rattle.rehearse.specs.Verdict.{Text}
+use Rattle.rehearse.specs.Commands.{sets_in}
+use Rattle.rehearse.specs.DeviceList.{Variable, WordAt, LastWord, Effect, Devices, only, effect_of, listed}
 use Rattle.rehearse.specs.PlainList.{plain_names}
 use Rattle.rehearse.specs.declared.devices_error.DevicesError.TheVariants.{BadLine, BuiltIn}
 
@@ -13,7 +15,7 @@ final = record { ends = true; sets = [] }
 
 -- ---- names, comments and empty lines
 
-two_names : listed (codes "# d\nload\n\nmmc") ≡ Ok ((codes "load", quiet) ∷ (codes "mmc", quiet) ∷ [])
+two_names : listed (codes "# d\nload\n\nmmc") ≡ Ok (only ((codes "load", quiet) ∷ (codes "mmc", quiet) ∷ []))
 two_names = refl
 
 built_in_command : listed (codes "# d\nload\n\nmmc\necho") ≡ Err (BuiltIn 5)
@@ -22,18 +24,18 @@ built_in_command = refl
 a_second_word : listed (codes "# d\nload\n\nmmc\na b") ≡ Err (BadLine 5)
 a_second_word = refl
 
-no_line : listed [] ≡ Ok []
+no_line : listed [] ≡ Ok (only [])
 no_line = refl
 
-name_twice : listed (codes "load\nload") ≡ Ok ((codes "load", quiet) ∷ [])
+name_twice : listed (codes "load\nload") ≡ Ok (only ((codes "load", quiet) ∷ []))
 name_twice = refl
 
 -- spaces, tabs and carriage returns round a line are dropped, and a comment may follow them
-blanks_round : listed (32 ∷ 9 ∷ 13 ∷ codes "load \r\n \t\r\n  # echo\n") ≡ Ok ((codes "load", quiet) ∷ [])
+blanks_round : listed (32 ∷ 9 ∷ 13 ∷ codes "load \r\n \t\r\n  # echo\n") ≡ Ok (only ((codes "load", quiet) ∷ []))
 blanks_round = refl
 
 -- a carriage return inside a line is a byte of its word
-return_inside : listed (97 ∷ 13 ∷ 98 ∷ []) ≡ Ok ((97 ∷ 13 ∷ 98 ∷ [], quiet) ∷ [])
+return_inside : listed (97 ∷ 13 ∷ 98 ∷ []) ≡ Ok (only ((97 ∷ 13 ∷ 98 ∷ [], quiet) ∷ []))
 return_inside = refl
 
 -- a `#` behind the first word begins no comment
@@ -46,7 +48,7 @@ nul_in_name = refl
 nul_in_value : listed (codes "load a=" ++ 0 ∷ []) ≡ Err (BadLine 1)
 nul_in_value = refl
 
-nul_in_comment : listed (35 ∷ 0 ∷ []) ≡ Ok []
+nul_in_comment : listed (35 ∷ 0 ∷ []) ≡ Ok (only [])
 nul_in_comment = refl
 
 each_built_in : listed (codes "setenv") ≡ Err (BuiltIn 1)
@@ -94,19 +96,19 @@ plain_built_in = refl
 
 -- ---- final commands
 
-command_final : listed (codes "final") ≡ Ok ((codes "final", quiet) ∷ [])
+command_final : listed (codes "final") ≡ Ok (only ((codes "final", quiet) ∷ []))
 command_final = refl
 
-final_sets : listed (codes "final a=b") ≡ Ok ((codes "final", record { ends = false; sets = (codes "a", codes "b") ∷ [] }) ∷ [])
+final_sets : listed (codes "final a=b") ≡ Ok (only ((codes "final", record { ends = false; sets = (Variable (codes "a"), codes "b") ∷ [] }) ∷ []))
 final_sets = refl
 
-x_is_final : listed (codes "final x") ≡ Ok ((codes "x", final) ∷ [])
+x_is_final : listed (codes "final x") ≡ Ok (only ((codes "x", final) ∷ []))
 x_is_final = refl
 
-final_is_final : listed (codes "final final") ≡ Ok ((codes "final", final) ∷ [])
+final_is_final : listed (codes "final final") ≡ Ok (only ((codes "final", final) ∷ []))
 final_is_final = refl
 
-x_is_final_and_sets : listed (codes "final x a=1") ≡ Ok ((codes "x", record { ends = true; sets = (codes "a", codes "1") ∷ [] }) ∷ [])
+x_is_final_and_sets : listed (codes "final x a=1") ≡ Ok (only ((codes "x", record { ends = true; sets = (Variable (codes "a"), codes "1") ∷ [] }) ∷ []))
 x_is_final_and_sets = refl
 
 final_echo : listed (codes "final echo") ≡ Err (BuiltIn 1)
@@ -119,10 +121,10 @@ final_without_name = refl
 -- ---- settings
 
 -- lines of one name are joined
-joined_lines : listed (codes "load a=1\nfinal load\nload a=2") ≡ Ok ((codes "load", record { ends = true; sets = (codes "a", codes "1") ∷ (codes "a", codes "2") ∷ [] }) ∷ [])
+joined_lines : listed (codes "load a=1\nfinal load\nload a=2") ≡ Ok (only ((codes "load", record { ends = true; sets = (Variable (codes "a"), codes "1") ∷ (Variable (codes "a"), codes "2") ∷ [] }) ∷ []))
 joined_lines = refl
 
-boot_list : listed (codes "load filesize=1000\nfinal bootm\n") ≡ Ok ((codes "load", record { ends = false; sets = (codes "filesize", codes "1000") ∷ [] }) ∷ (codes "bootm", final) ∷ [])
+boot_list : listed (codes "load filesize=1000\nfinal bootm\n") ≡ Ok (only ((codes "load", record { ends = false; sets = (Variable (codes "filesize"), codes "1000") ∷ [] }) ∷ (codes "bootm", final) ∷ []))
 boot_list = refl
 
 word_without_equals : listed (codes "load x") ≡ Err (BadLine 1)
@@ -136,16 +138,16 @@ setting_with_dash = refl
 
 -- a name may hold a `-`, but not begin with one
 name_with_dash : listed (codes "load fdt-file=1")
-    ≡ Ok ((codes "load", record { ends = false; sets = (codes "fdt-file", codes "1") ∷ [] }) ∷ [])
+    ≡ Ok (only ((codes "load", record { ends = false; sets = (Variable (codes "fdt-file"), codes "1") ∷ [] }) ∷ []))
 name_with_dash = refl
 
-empty_value : listed (codes "load a=") ≡ Ok ((codes "load", record { ends = false; sets = (codes "a", []) ∷ [] }) ∷ [])
+empty_value : listed (codes "load a=") ≡ Ok (only ((codes "load", record { ends = false; sets = (Variable (codes "a"), []) ∷ [] }) ∷ []))
 empty_value = refl
 
-first_equals : listed (codes "load\ta=b=c") ≡ Ok ((codes "load", record { ends = false; sets = (codes "a", codes "b=c") ∷ [] }) ∷ [])
+first_equals : listed (codes "load\ta=b=c") ≡ Ok (only ((codes "load", record { ends = false; sets = (Variable (codes "a"), codes "b=c") ∷ [] }) ∷ []))
 first_equals = refl
 
-name_with_equals : listed (codes "=x") ≡ Ok ((codes "=x", quiet) ∷ [])
+name_with_equals : listed (codes "=x") ≡ Ok (only ((codes "=x", quiet) ∷ []))
 name_with_equals = refl
 
 built_in_that_sets : listed (codes "echo a=b") ≡ Err (BuiltIn 1)
@@ -157,3 +159,85 @@ bad_before_built_in = refl
 
 first_fault : listed (codes "a\necho\na b") ≡ Err (BuiltIn 2)
 first_fault = refl
+
+-- ---- the calls of a command
+
+abbrev sub_list : Text → Text → Effect → Devices
+sub_list name word effect = record { commands = []; subs = (name, (word, effect) ∷ []) ∷ [] }
+
+sub_line : listed (codes "sub part list") ≡ Ok (sub_list (codes "part") (codes "list") quiet)
+sub_line = refl
+
+final_sub_line : listed (codes "final sub mmc boot a=1") ≡ Ok (sub_list (codes "mmc") (codes "boot") (record { ends = true; sets = (Variable (codes "a"), codes "1") ∷ [] }))
+final_sub_line = refl
+
+-- the variable that a word of the call names
+sets_by_words : listed (codes "sub part list @last=1 @4= a@1=2") ≡ Ok (sub_list (codes "part") (codes "list") (record { ends = false; sets = (LastWord, codes "1") ∷ (WordAt 3, []) ∷ (Variable (codes "a@1"), codes "2") ∷ [] }))
+sets_by_words = refl
+
+-- `@` and no word of the call
+no_such_word : listed (codes "sub part list @0=1") ≡ Err (BadLine 1)
+no_such_word = refl
+
+no_number : listed (codes "sub part list @x=1") ≡ Err (BadLine 1)
+no_number = refl
+
+no_word : listed (codes "sub part list @=1") ≡ Err (BadLine 1)
+no_word = refl
+
+-- a line that was accepted before there were `sub` lines says what it said
+command_sub : listed (codes "sub") ≡ Ok (only ((codes "sub", quiet) ∷ []))
+command_sub = refl
+
+command_sub_sets : listed (codes "sub a=1") ≡ Ok (only ((codes "sub", record { ends = false; sets = (Variable (codes "a"), codes "1") ∷ [] }) ∷ []))
+command_sub_sets = refl
+
+command_sub_is_final : listed (codes "final sub") ≡ Ok (only ((codes "sub", final) ∷ []))
+command_sub_is_final = refl
+
+at_in_a_line_of_names : listed (codes "load @1=x") ≡ Ok (only ((codes "load", record { ends = false; sets = (Variable (codes "@1"), codes "x") ∷ [] }) ∷ []))
+at_in_a_line_of_names = refl
+
+-- and one that was refused without being a `sub` line is refused
+sub_without_word : listed (codes "sub part") ≡ Err (BadLine 1)
+sub_without_word = refl
+
+sub_word_with_equals : listed (codes "sub part a=1") ≡ Err (BadLine 1)
+sub_word_with_equals = refl
+
+sub_built_in : listed (codes "sub echo x") ≡ Err (BuiltIn 1)
+sub_built_in = refl
+
+-- lines of one call are joined, beside those of other calls and of the name
+sub_lines_joined : listed (codes "sub part list a=1\npart\nfinal sub part list b=2\nsub part uuid")
+    ≡ Ok (record {
+      commands = (codes "part", quiet) ∷ [];
+      subs = (codes "part", (codes "list", record { ends = true; sets = (Variable (codes "a"), codes "1") ∷ (Variable (codes "b"), codes "2") ∷ [] }) ∷ (codes "uuid", quiet) ∷ []) ∷ [];
+    })
+sub_lines_joined = refl
+
+-- ---- which lines a call goes by
+
+abbrev parts : Devices
+parts = record { commands = (codes "part", quiet) ∷ []; subs = (codes "part", (codes "list", final) ∷ []) ∷ (codes "mmc", (codes "dev", final) ∷ []) ∷ [] }
+
+by_its_sub_line : effect_of parts (codes "part") (codes "list" ∷ codes "mmc" ∷ []) ≡ Some final
+by_its_sub_line = refl
+
+by_the_line_of_its_name : effect_of parts (codes "part") (codes "uuid" ∷ codes "list" ∷ []) ≡ Some quiet
+by_the_line_of_its_name = refl
+
+name_alone_by_the_line_of_its_name : effect_of parts (codes "part") [] ≡ Some quiet
+name_alone_by_the_line_of_its_name = refl
+
+by_no_line : effect_of parts (codes "mmc") (codes "list" ∷ []) ≡ None
+by_no_line = refl
+
+-- ---- what a call sets
+
+sets_the_last_word : sets_in (codes "list" ∷ codes "mmc" ∷ codes "v" ∷ []) ((LastWord, codes "1") ∷ (WordAt 0, codes "2") ∷ (Variable (codes "a"), []) ∷ []) ≡ (codes "v", codes "1") ∷ (codes "list", codes "2") ∷ (codes "a", []) ∷ []
+sets_the_last_word = refl
+
+-- a word that the call does not have, or that is no name of a variable
+sets_nothing : sets_in (codes "-v" ∷ codes "a=b" ∷ [] ∷ []) ((LastWord, codes "1") ∷ (WordAt 0, codes "2") ∷ (WordAt 1, codes "3") ∷ (WordAt 9, codes "4") ∷ []) ≡ []
+sets_nothing = refl

@@ -1,16 +1,15 @@
 -- A script reads its word only by the outcomes that it takes.
 use Rattle.std.proofs.Common.{ℕ, zero, suc, Bool, true, false, List, [], ◌∷◌, ◌++◌, length, Option, Some, None, refl, sym, ap, ◌∙◌, ◌≡◌, ◌≢◌, ◌<◌, ◌≤◌, map, append_assoc, append-nil, length-append, arith, ◌+◌, nat_lt, nat_le, nat_eq, ltb-true}
 use Rattle.std.proofs.lemmas.List.{map-append}
-use Rattle.bootstore.specs.Moment.{LoggedCommand}
 use Rattle.rehearse.specs.Outcomes.{OutcomeWord, Outcome, Success, Failure}
 use Rattle.hushlang.specs.Tree as tree
 use Rattle.hushlang.specs.Tree.{Script, AndOr, Joined, Command, Arms}
-use Rattle.rehearse.specs.State.{Text, get, Memory, State, parameters_in}
+use Rattle.rehearse.specs.State.{Text, get, Memory, State, parameters_in, LoggedCommand}
 use Rattle.hushlang.specs.Expansion.{fields, joined, size, most_bytes}
 use Rattle.rehearse.specs.Trees.{tree_of}
 use Rattle.rehearse.specs.Verdict.{verdict}
 use Rattle.rehearse.specs.Builtins.{SetEnv, Run as RunTexts, Test, Echo, True, False, Leave}
-use Rattle.rehearse.specs.Commands.{Called, BuiltIn, Device, NoCommand, called_by, asks_device, setenv, echo, exit_status}
+use Rattle.rehearse.specs.Commands.{Called, BuiltIn, Device, NoCommand, called_by, sets_in, asks_device, setenv, echo, exit_status}
 use Rattle.rehearse.specs.Execution.{Limits, Answer, Normal, Exit, Ended, Dry, Ending, CutDevices, CutSteps, Unknown, Syntax, Size, go_on, remember, set_status, set_local, status_when, goes, holds, begin, take_outcome, device, Request, no_effect, logged, set_environment, boot, text_end, run_text, run_all, command, simple, sized, assign, turns, for_each, exec_script, exec_list, exec_joined, exec_command, exec_arms, exec, succeeds}
 use Rattle.rehearse.specs.Runs.{state_of}
 
@@ -189,17 +188,17 @@ module _ (limits : Limits) where
   asked s r [] room e = (stays s, e, room)
   asked s r (Success ∷ rest) room e =
       let t : State = logged Success r (record s { word = rest }) in
-      let u : State = set_environment r.effect.sets t in
-      boot-track r.effect.ends r.name s u (GoesTo-trans s t u (took s r Success rest e) (remembers t (λ m. (set_environment r.effect.sets (record t { memory = m })).memory)))
+      let u : State = set_environment (sets_in r.words r.effect.sets) t in
+      boot-track r.effect.ends r.name s u (GoesTo-trans s t u (took s r Success rest e) (remembers t (λ m. (set_environment (sets_in r.words r.effect.sets) (record t { memory = m })).memory)))
   asked s r (Failure ∷ rest) room e = took s r Failure rest e
 
   asked-extends : (s : State) (r : Request) (rest x : OutcomeWord) → Extends x (take_outcome r rest s) (take_outcome r (rest ++ x) (more x s))
   asked-extends s r [] [] = (λ ne. absurd (ne refl), omega arith)
   asked-extends s r [] (Success ∷ x) =
-      let t : State = set_environment r.effect.sets (logged Success r (record s { word = x })) in
+      let t : State = set_environment (sets_in r.words r.effect.sets) (logged Success r (record s { word = x })) in
       (λ ne. boot-less r.effect.ends r.name x t refl, let e = boot-steps r.effect.ends r.name t in omega arith)
   asked-extends s r [] (Failure ∷ x) = (λ ne. omega arith, omega arith)
-  asked-extends s r (Success ∷ rest) x = boot-extends x r.effect.ends r.name (set_environment r.effect.sets (logged Success r (record s { word = rest })))
+  asked-extends s r (Success ∷ rest) x = boot-extends x r.effect.ends r.name (set_environment (sets_in r.words r.effect.sets) (logged Success r (record s { word = rest })))
   asked-extends s r (Failure ∷ rest) x = refl
 
   pub Keeps-take : (s : State) (r : Request) → length s.log < limits.device_bound → Keeps limits.device_bound s (λ t. take_outcome r t.word t)
@@ -259,7 +258,7 @@ module _ (limits : Limits) where
 
     pub Keeps-simple : (fs : List Text) → KeepsAll (simple limits script fs)
     Keeps-simple [] s = Keeps-normal limits.device_bound s (λ m. record m { status = 0 })
-    Keeps-simple (name ∷ ws) s = Keeps-command (called_by limits.devices name) name ws s
+    Keeps-simple (name ∷ ws) s = Keeps-command (called_by limits.devices name ws) name ws s
 
   -- what a turn of a loop does after its condition
   abbrev pub after_condition : Bool → (State → Answer) → (State → Answer) → ℕ → State → Answer

@@ -1,6 +1,5 @@
 pub mod TreeLemmas
 pub mod ProperLemmas
-pub mod StateLemmas
 pub mod Choice
 pub mod Following
 pub mod Keeping
@@ -24,7 +23,10 @@ pub mod JoinedLines
 pub mod MapLemmas
 pub mod QuietNames
 pub mod PlainLists
+pub mod EarlierLists
+pub mod GivenRuns
 pub mod PlainRuns
+pub mod EarlierRuns
 mod PlainExecutionExamples
 pub mod VerdictLemmas
 mod VerdictExamples

@@ -1,14 +1,14 @@
 -- Worked examples, computed from the text of the device list and the text of `bootcmd` to the whole listing.
 use Rattle.std.proofs.Common.{◌≡◌, [], ◌∷◌, None, Result, Ok, Err, codes, refl}
 use Rattle.rehearse.specs.State.{Text}
-use Rattle.rehearse.specs.DeviceList.{Devices, listed as devices_listed}
+use Rattle.rehearse.specs.DeviceList.{Devices, only, listed as devices_listed}
 use Rattle.rehearse.specs.declared.devices_error.DevicesError.{DevicesError}
 use Rattle.rehearse.specs.Execution.{Limits}
 use Rattle.rehearse.proofs.Rehearsed.{limits, bootcmd, bootcmd_among, z, listed, ends_along, listed_along, along}
 
 abbrev devices_in : Result Devices DevicesError → Devices
 devices_in (Ok devices) = devices
-devices_in (Err fault) = []
+devices_in (Err fault) = only []
 
 -- with the usual bounds
 abbrev with_list : Text → Limits

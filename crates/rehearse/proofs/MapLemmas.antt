@@ -1,14 +1,15 @@
--- The map of device commands, seen as a list.
+-- Maps by names, seen as tables.
 use Rattle.std.proofs.Common.{◌≡◌, ◌||◌, Bool, true, false, cond, List, [], ◌∷◌, ◌++◌, map, Option, Some, None, is_some, refl, sym, ap, ◌∙◌}
-use Rattle.std.specs.Option.{option_map}
+use Rattle.std.specs.Option.{option_map, option_copied}
+use Rattle.std.specs.Borrow.{Bor}
 use Rattle.std.specs.Str.{bytes_eq}
 use Rattle.std.specs.Map.{lookup, set_value}
 use Rattle.std.proofs.lemmas.List.{map-append}
-use Rattle.indexmap.specs.IndexMap.{insert_entry}
+use Rattle.indexmap.specs.IndexMap.{IndexMap, insert_entry}
 use Rattle.rehearse.specs.Verdict.{Text}
-use Rattle.rehearse.specs.DeviceList.{Effect, Devices, effect_of, joint, joined}
+use Rattle.rehearse.specs.DeviceList.{Effect, Effects, Devices, effect_in, is_listed, joint, changed_at}
 use Rattle.rehearse.specs.DevicesShown.{Bytes, setting_shown}
-use Rattle.rehearse.specs.CommandsShown.{listed_shown, commands_shown}
+use Rattle.rehearse.specs.CommandsShown.{listed_shown, found_shown, commands_shown, table_shown, subs_shown}
 use Rattle.rehearse.specs.declared.devices.Listed.{Listed}
 
 abbrev pub is_key : Text → Bytes → Bool
@@ -17,59 +18,76 @@ is_key name key = bytes_eq name key.items
 abbrev pub same_key : Bytes → Bytes → Bool
 same_key a b = bytes_eq a.items b.items
 
-effect_of-shown : (es : List (Bytes × Listed)) (name : Text) → effect_of (commands_shown es) name ≡ option_map listed_shown (lookup (is_key name) es)
-effect_of-shown [] name = refl
-effect_of-shown (e ∷ es) name = by (bytes_eq name e.0.items) (effect_of-shown es name)
-  where
-    by : (b : Bool) → effect_of (commands_shown es) name ≡ option_map listed_shown (lookup (is_key name) es)
-        → cond b (Some (listed_shown e.1)) (effect_of (commands_shown es) name) ≡ option_map listed_shown (cond b (Some e.1) (lookup (is_key name) es))
-    by true rest = refl
-    by false rest = rest
+pub is_some-shown : {V S : Type 0} (shown : V → S) (found : Option V) → is_some (option_map shown found) ≡ is_some found
+is_some-shown shown None = refl
+is_some-shown shown (Some l) = refl
 
--- what a look-up in the map says of the list
-pub effect_of-looked_up : (devices : Devices) (es : List (Bytes × Listed)) (name : Text) (found : Option Listed) → commands_shown es ≡ devices → lookup (is_key name) es ≡ found → effect_of devices name ≡ option_map listed_shown found
-effect_of-looked_up devices es name found view e =
-    ap (λ ds. effect_of ds name) (sym view) ∙ (effect_of-shown es name ∙ ap (option_map listed_shown) e)
+pub copied-shown : (found : Option (Bor Listed)) → option_map found_shown found ≡ option_map listed_shown (option_copied found)
+copied-shown None = refl
+copied-shown (Some l) = refl
 
-pub is_some-shown : (found : Option Listed) → is_some (option_map listed_shown found) ≡ is_some found
-is_some-shown None = refl
-is_some-shown (Some l) = refl
+-- what the table of a name says of a first word
+abbrev pub in_sub : Option Effects → Text → Option Effect
+in_sub o word = elim o [ None ↦ None | Some effects ↦ effect_in effects word ]
 
--- a line more for a command that is there
-joined-present : (es : List (Bytes × Listed)) (name : Text) (l w : Listed) (more : Effect) → lookup (is_key name) es ≡ Some l → listed_shown w ≡ joint (listed_shown l) more
-    → commands_shown (set_value (is_key name) es w) ≡ joined (commands_shown es) (name, more)
-joined-present [] name l w more there e = cc
-joined-present (d ∷ es) name l w more there e = by (bytes_eq name d.0.items) there (joined-present es name l w more)
-  where
-    by : (b : Bool) → cond b (Some d.1) (lookup (is_key name) es) ≡ Some l
-        → (lookup (is_key name) es ≡ Some l → listed_shown w ≡ joint (listed_shown l) more → commands_shown (set_value (is_key name) es w) ≡ joined (commands_shown es) (name, more))
-        → commands_shown (cond b ((d.0, w) ∷ es) (d ∷ set_value (is_key name) es w)) ≡ cond b ((d.0.items, joint (listed_shown d.1) more) ∷ commands_shown es) ((d.0.items, listed_shown d.1) ∷ joined (commands_shown es) (name, more))
-    by true found rest = let same : d.1 ≡ l = cc in ap (λ f. (d.0.items, f) ∷ commands_shown es) (e ∙ ap (λ x. joint (listed_shown x) more) (sym same))
-    by false found rest = ap (λ ds. (d.0.items, listed_shown d.1) ∷ ds) (rest found e)
+module _ {V S : Type 0} (shown : V → S) where
+  -- the table that the entries of a map are
+  abbrev pub table : List (Bytes × V) → List (Text × S)
+  table = map (λ c. (c.0.items, shown c.1))
 
--- and for one that is new
-joined-absent : (es : List (Bytes × Listed)) (k : Bytes) (w : Listed) → lookup (is_key k.items) es ≡ None
-    → commands_shown (insert_entry same_key es k w) ≡ joined (commands_shown es) (k.items, listed_shown w)
-joined-absent [] k w none = refl
-joined-absent (d ∷ es) k w none = by (bytes_eq k.items d.0.items) none (joined-absent es k w)
-  where
-    by : (b : Bool) → cond b (Some d.1) (lookup (is_key k.items) es) ≡ None
-        → (lookup (is_key k.items) es ≡ None → commands_shown (insert_entry same_key es k w) ≡ joined (commands_shown es) (k.items, listed_shown w))
-        → commands_shown (cond b ((d.0, w) ∷ es) (d ∷ insert_entry same_key es k w)) ≡ cond b ((d.0.items, joint (listed_shown d.1) (listed_shown w)) ∷ commands_shown es) ((d.0.items, listed_shown d.1) ∷ joined (commands_shown es) (k.items, listed_shown w))
-    by true none rest = cc
-    by false none rest = ap (λ ds. (d.0.items, listed_shown d.1) ∷ ds) (rest none)
+  lookup-table : (es : List (Bytes × V)) (name : Text) → lookup (bytes_eq name) (table es) ≡ option_map shown (lookup (is_key name) es)
+  lookup-table [] name = refl
+  lookup-table (e ∷ es) name = by (bytes_eq name e.0.items) (lookup-table es name)
+    where
+      by : (b : Bool) → lookup (bytes_eq name) (table es) ≡ option_map shown (lookup (is_key name) es)
+          → cond b (Some (shown e.1)) (lookup (bytes_eq name) (table es)) ≡ option_map shown (cond b (Some e.1) (lookup (is_key name) es))
+      by true rest = refl
+      by false rest = rest
 
-pub joined-written : (devices : Devices) (es fs : List (Bytes × Listed)) (name : Text) (l w more : Listed) → commands_shown es ≡ devices → Some l ≡ lookup (is_key name) es → fs ≡ set_value (is_key name) es w
-    → w.ends ≡ (l.ends || more.ends) → w.sets.items ≡ l.sets.items ++ more.sets.items
-    → commands_shown fs ≡ joined devices (name, listed_shown more)
-joined-written devices es fs name l w more view there written ends sets =
-    ap commands_shown written ∙ (joined-present es name l w (listed_shown more) (sym there) both ∙ ap (λ ds. joined ds (name, listed_shown more)) view)
-  where
-    both : listed_shown w ≡ joint (listed_shown l) (listed_shown more)
-    both = let shown : map setting_shown w.sets.items ≡ map setting_shown l.sets.items ++ map setting_shown more.sets.items = ap (map setting_shown) sets ∙ map-append setting_shown l.sets.items more.sets.items in cc
+  -- what a look-up in the map says of the table
+  pub looked_up : (es : List (Bytes × V)) (name : Text) (found : Option V) → lookup (is_key name) es ≡ found → lookup (bytes_eq name) (table es) ≡ option_map shown found
+  looked_up es name found e = lookup-table es name ∙ ap (option_map shown) e
 
-pub joined-inserted : (devices : Devices) (es fs : List (Bytes × Listed)) (k : Bytes) (name : Text) (more : Listed) → commands_shown es ≡ devices → None ≡ lookup (is_key name) es → k.items ≡ name → fs ≡ insert_entry same_key es k more
-    → commands_shown fs ≡ joined devices (name, listed_shown more)
-joined-inserted devices es fs k name more view none key inserted =
-    let absent : lookup (is_key k.items) es ≡ None = ap (λ n. lookup (is_key n) es) key ∙ sym none in
-    ap commands_shown inserted ∙ (joined-absent es k more absent ∙ (ap (λ ds. joined ds (k.items, listed_shown more)) view ∙ ap (λ n. joined devices (n, listed_shown more)) key))
+  -- a change at a name that is there
+  pub changed-present : (change : Option S → S) (es : List (Bytes × V)) (name : Text) (l w : V) → lookup (is_key name) es ≡ Some l → shown w ≡ change (Some (shown l))
+      → table (set_value (is_key name) es w) ≡ changed_at change (table es) name
+  changed-present change [] name l w there e = cc
+  changed-present change (d ∷ es) name l w there e = by (bytes_eq name d.0.items) there (changed-present change es name l w)
+    where
+      by : (b : Bool) → cond b (Some d.1) (lookup (is_key name) es) ≡ Some l
+          → (lookup (is_key name) es ≡ Some l → shown w ≡ change (Some (shown l)) → table (set_value (is_key name) es w) ≡ changed_at change (table es) name)
+          → table (cond b ((d.0, w) ∷ es) (d ∷ set_value (is_key name) es w)) ≡ cond b ((d.0.items, change (Some (shown d.1))) ∷ table es) ((d.0.items, shown d.1) ∷ changed_at change (table es) name)
+      by true found rest = let same : d.1 ≡ l = cc in ap (λ f. (d.0.items, f) ∷ table es) (e ∙ ap (λ x. change (Some (shown x))) (sym same))
+      by false found rest = ap (λ ds. (d.0.items, shown d.1) ∷ ds) (rest found e)
+
+  -- and at one that is new
+  pub changed-absent : (change : Option S → S) (es : List (Bytes × V)) (k : Bytes) (w : V) → lookup (is_key k.items) es ≡ None → shown w ≡ change None
+      → table (insert_entry same_key es k w) ≡ changed_at change (table es) k.items
+  changed-absent change [] k w none e = ap (λ f. (k.items, f) ∷ []) e
+  changed-absent change (d ∷ es) k w none e = by (bytes_eq k.items d.0.items) none (changed-absent change es k w)
+    where
+      by : (b : Bool) → cond b (Some d.1) (lookup (is_key k.items) es) ≡ None
+          → (lookup (is_key k.items) es ≡ None → shown w ≡ change None → table (insert_entry same_key es k w) ≡ changed_at change (table es) k.items)
+          → table (cond b ((d.0, w) ∷ es) (d ∷ insert_entry same_key es k w)) ≡ cond b ((d.0.items, change (Some (shown d.1))) ∷ table es) ((d.0.items, shown d.1) ∷ changed_at change (table es) k.items)
+      by true none rest = cc
+      by false none rest = ap (λ ds. (d.0.items, shown d.1) ∷ ds) (rest none e)
+
+  pub changed-inserted : (change : Option S → S) (es fs : List (Bytes × V)) (k : Bytes) (name : Text) (w : V) → None ≡ lookup (is_key name) es → k.items ≡ name → fs ≡ insert_entry same_key es k w → shown w ≡ change None
+      → table fs ≡ changed_at change (table es) name
+  changed-inserted change es fs k name w none key inserted e =
+      let absent : lookup (is_key k.items) es ≡ None = ap (λ n. lookup (is_key n) es) key ∙ sym none in
+      ap table inserted ∙ (changed-absent change es k w absent e ∙ ap (changed_at change (table es)) key)
+
+-- one line more for what is listed
+pub listed-joined : (l w more : Listed) → w.ends ≡ (l.ends || more.ends) → w.sets.items ≡ l.sets.items ++ more.sets.items → listed_shown w ≡ joint (listed_shown l) (listed_shown more)
+listed-joined l w more ends sets =
+    let shown : map setting_shown w.sets.items ≡ map setting_shown l.sets.items ++ map setting_shown more.sets.items = ap (map setting_shown) sets ∙ map-append setting_shown l.sets.items more.sets.items in cc
+
+-- whether one of the maps has a name
+pub has-either : {S : Type 0} (commands : List (Bytes × Listed)) (subs : List (Bytes × IndexMap Bytes Listed S)) (name : Text) (devices : Devices)
+    → (let d : Devices = record { commands = commands_shown commands; subs = subs_shown subs } in d) ≡ devices
+    → (a b : Bool) → a ≡ is_some (lookup (is_key name) commands) → b ≡ is_some (lookup (is_key name) subs) → (a || b) ≡ is_listed devices name
+has-either commands subs name devices view a b here there =
+    let first = ap is_some (looked_up listed_shown commands name _ refl) ∙ is_some-shown listed_shown (lookup (is_key name) commands) in
+    let second = ap is_some (looked_up table_shown subs name _ refl) ∙ is_some-shown table_shown (lookup (is_key name) subs) in
+    (λ i. (here ∙ sym first) i || (there ∙ sym second) i) ∙ ap (λ d. is_listed d name) view

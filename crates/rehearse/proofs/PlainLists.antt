@@ -1,5 +1,5 @@
 -- Device lists in their plain form.
-use Rattle.std.proofs.Common.{◌≡◌, ℕ, zero, suc, ◌||◌, not, Bool, true, false, cond, eqb, List, [], ◌∷◌, ◌++◌, map, length, filter, Result, Ok, Err, refl, sym, ap, ◌∙◌, inl, inr, eqb-true, arith}
+use Rattle.std.proofs.Common.{◌≡◌, ℕ, zero, suc, ◌||◌, not, Bool, true, false, cond, eqb, List, [], ◌∷◌, ◌++◌, map, length, filter, None, Result, Ok, Err, refl, sym, ap, ◌∙◌, inl, inr, eqb-true, arith}
 use Rattle.std.proofs.lemmas.Bool.{cases_Bool, or_parts}
 use Rattle.std.proofs.lemmas.Bool.Decides.{eqb_tells}
 use Rattle.std.proofs.lemmas.List.Splits.{slice_split-cons_no}
@@ -9,7 +9,7 @@ use Rattle.text.specs.Lines.{numbered_lines}
 use Rattle.text.specs.Words.{is_blank, is_space, cut_front, onto_line, cut_behind, trimmed}
 use Rattle.rehearse.specs.Verdict.{Text}
 use Rattle.rehearse.specs.Builtins.{is_built_in}
-use Rattle.rehearse.specs.DeviceList.{Devices, joined, with_entry, after_words, after_line, listed_lines}
+use Rattle.rehearse.specs.DeviceList.{Effects, Devices, joined_in, only, with_line, after_words, after_line, listed_lines}
 use Rattle.rehearse.specs.DeviceLaws.{quiet}
 use Rattle.rehearse.specs.PlainList.{with_name, plain_line, plain_lines, PlainListsStand}
 use Rattle.rehearse.specs.declared.devices_error.DevicesError.{DevicesError}
@@ -17,17 +17,20 @@ use Rattle.rehearse.specs.declared.devices_error.DevicesError.TheVariants.{BadLi
 use Rattle.rehearse.proofs.JoinedLines.{ok-same}
 
 -- the commands of a list that says nothing but names
+abbrev pub quiet_effects : List Text → Effects
+quiet_effects = map (λ name. (name, quiet))
+
 abbrev pub quiet_names : List Text → Devices
-quiet_names = map (λ name. (name, quiet))
+quiet_names names = only (quiet_effects names)
 
 -- ---- one name more
 
-joined-name : (names : List Text) (name : Text) → joined (quiet_names names) (name, quiet) ≡ quiet_names (with_name names name)
+joined-name : (names : List Text) (name : Text) → joined_in (quiet_effects names) name quiet ≡ quiet_effects (with_name names name)
 joined-name [] name = refl
 joined-name (n ∷ names) name = by (bytes_eq name n) (list_any (bytes_eq name) names) (joined-name names name)
   where
-    by : (here there : Bool) → joined (quiet_names names) (name, quiet) ≡ quiet_names (cond there names (names ++ name ∷ []))
-        → cond here ((n, quiet) ∷ quiet_names names) ((n, quiet) ∷ joined (quiet_names names) (name, quiet)) ≡ quiet_names (cond (here || there) (n ∷ names) (n ∷ names ++ name ∷ []))
+    by : (here there : Bool) → joined_in (quiet_effects names) name quiet ≡ quiet_effects (cond there names (names ++ name ∷ []))
+        → cond here ((n, quiet) ∷ quiet_effects names) ((n, quiet) ∷ joined_in (quiet_effects names) name quiet) ≡ quiet_effects (cond (here || there) (n ∷ names) (n ∷ names ++ name ∷ []))
     by true there rest = refl
     by false true rest = ap (λ ds. (n, quiet) ∷ ds) rest
     by false false rest = ap (λ ds. (n, quiet) ∷ ds) rest
@@ -116,9 +119,9 @@ module _ (names : List Text) (number : ℕ) (line : Text) where
       ap (λ ws. after_words (quiet_names names) number line (full ws)) (one_word (b ∷ bytes) no_space)
       ∙ rw (full-some b bytes [], no_comment, no_nul) (by (is_built_in (b ∷ bytes)) e)
     where
-      by : (built_in : Bool) → cond built_in (Err (BuiltIn number)) (Ok (with_name names (b ∷ bytes))) ≡ Ok next → with_entry (quiet_names names) (cond built_in (Err (BuiltIn number)) (Ok (b ∷ bytes, quiet))) ≡ accepted next
+      by : (built_in : Bool) → cond built_in (Err (BuiltIn number)) (Ok (with_name names (b ∷ bytes))) ≡ Ok next → with_line (quiet_names names) (cond built_in (Err (BuiltIn number)) (Ok (record { name = b ∷ bytes; word = None; effect = quiet }))) ≡ accepted next
       by true e = cc
-      by false e = ap (λ ds. let r : Result Devices DevicesError = Ok ds in r) (joined-name names (b ∷ bytes)) ∙ ap accepted (ok-same e)
+      by false e = ap (λ ds. let r : Result Devices DevicesError = Ok (only ds) in r) (joined-name names (b ∷ bytes)) ∙ ap accepted (ok-same e)
 
   line-stands : (next : List Text) (word : Text) → holds_nul word ≡ holds_nul line → plain_line names number word ≡ Ok next → after_words (quiet_names names) number line (words_in word) ≡ accepted next
   line-stands next [] nul e = ap accepted (ok-same e)

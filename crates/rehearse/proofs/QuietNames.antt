@@ -1,5 +1,5 @@
 -- Lists of names alone.
-use Rattle.std.proofs.Common.{◌≡◌, ℕ, ◌≤◌, Bool, true, false, cond, eqb, nat_le, List, [], ◌∷◌, length, Some, Result, Ok, Err, refl, sym, ap, subst, ◌∙◌, arith}
+use Rattle.std.proofs.Common.{◌≡◌, ℕ, ◌≤◌, Bool, true, false, cond, eqb, nat_le, List, [], ◌∷◌, length, Some, None, Result, Ok, Err, refl, sym, ap, subst, ◌∙◌, arith}
 use Rattle.std.specs.List.{list_any, list_all, AllByRecursion}
 use Rattle.std.specs.Str.{bytes_eq}
 use Rattle.std.proofs.lemmas.Bool.{and_parts}
@@ -7,41 +7,53 @@ use Rattle.std.proofs.lemmas.Bool.Decides.{nat_tests}
 use Rattle.text.specs.Lines.{numbered_lines}
 use Rattle.rehearse.specs.Verdict.{Text}
 use Rattle.rehearse.specs.Builtins.{is_built_in}
-use Rattle.rehearse.specs.DeviceList.{Effect, Devices, effect_of, joint, joined, device_words, begins_comment, with_entry, after_words, after_line, listed_lines}
+use Rattle.rehearse.specs.DeviceList.{Effect, Effects, Devices, effect_in, effect_of, joint, joined_in, only, device_words, begins_comment, with_line, after_words, after_line, listed_lines}
 use Rattle.rehearse.specs.DeviceLaws.{quiet, is_name_alone, NamesAreQuiet}
 use Rattle.rehearse.specs.declared.devices_error.DevicesError.{DevicesError}
 use Rattle.rehearse.specs.declared.devices_error.DevicesError.TheVariants.{BadLine, BuiltIn}
 use Rattle.rehearse.proofs.JoinedLines.{ok-same}
 
-abbrev AreQuiet : Devices → Type 0
-AreQuiet = AllByRecursion (λ d. d.1 ≡ quiet)
+abbrev AllQuiet : Effects → Type 0
+AllQuiet = AllByRecursion (λ d. d.1 ≡ quiet)
 
-joined-quiet : (devices : Devices) (name : Text) → AreQuiet devices → AreQuiet (joined devices (name, quiet))
+-- no command does anything, and no line is of calls
+abbrev AreQuiet : Devices → Type 0
+AreQuiet devices = AllQuiet devices.commands × (devices.subs ≡ [])
+
+joined-quiet : (effects : Effects) (name : Text) → AllQuiet effects → AllQuiet (joined_in effects name quiet)
 joined-quiet [] name all = (refl, tt)
-joined-quiet (d ∷ devices) name all = by (bytes_eq name d.0) (joined-quiet devices name all.1)
+joined-quiet (d ∷ effects) name all = by (bytes_eq name d.0) (joined-quiet effects name all.1)
   where
-    by : (b : Bool) → AreQuiet (joined devices (name, quiet)) → AreQuiet (cond b ((d.0, joint d.1 quiet) ∷ devices) (d ∷ joined devices (name, quiet)))
+    by : (b : Bool) → AllQuiet (joined_in effects name quiet) → AllQuiet (cond b ((d.0, joint d.1 quiet) ∷ effects) (d ∷ joined_in effects name quiet))
     by true rest = (ap (λ e. joint e quiet) all.0, all.1)
     by false rest = (all.0, rest)
 
-found-quiet : (devices : Devices) (name : Text) (effect : Effect) → AreQuiet devices → effect_of devices name ≡ Some effect → effect ≡ quiet
-found-quiet [] name effect all e = cc
-found-quiet (d ∷ devices) name effect all e = by (bytes_eq name d.0) e (found-quiet devices name effect all.1)
+named-quiet : (effects : Effects) (name : Text) (effect : Effect) → AllQuiet effects → effect_in effects name ≡ Some effect → effect ≡ quiet
+named-quiet [] name effect all e = cc
+named-quiet (d ∷ effects) name effect all e = by (bytes_eq name d.0) e (named-quiet effects name effect all.1)
   where
-    by : (b : Bool) → cond b (Some d.1) (effect_of devices name) ≡ Some effect → (effect_of devices name ≡ Some effect → effect ≡ quiet) → effect ≡ quiet
+    by : (b : Bool) → cond b (Some d.1) (effect_in effects name) ≡ Some effect → (effect_in effects name ≡ Some effect → effect ≡ quiet) → effect ≡ quiet
     by true f rest = let same : d.1 ≡ effect = cc in sym same ∙ all.0
     by false f rest = rest f
+
+-- without lines of calls, a call goes by its name
+by_name : (devices : Devices) (name : Text) (words : List Text) → devices.subs ≡ [] → effect_of devices name words ≡ effect_in devices.commands name
+by_name devices name [] e = refl
+by_name devices name (word ∷ words) e = rw e refl
+
+found-quiet : (devices : Devices) (name : Text) (words : List Text) (effect : Effect) → AreQuiet devices → effect_of devices name words ≡ Some effect → effect ≡ quiet
+found-quiet devices name words effect all e = named-quiet devices.commands name effect all.0 (sym (by_name devices name words all.1) ∙ e)
 
 words-quiet : (devices next : Devices) (number : ℕ) (line : Text) (words : List Text) → nat_le (length words) 1 ≡ true → after_words devices number line words ≡ Ok next → AreQuiet devices → AreQuiet next
 words-quiet devices next number line [] short e all = subst AreQuiet (ok-same e) all
 words-quiet devices next number line (first ∷ []) short e all =
     by (begins_comment first) (list_any (λ b. eqb b 0) line) (is_built_in first) e
   where
-    by : (comment nul built_in : Bool) → cond comment (Ok devices) (cond nul (Err (BadLine number)) (with_entry devices (cond built_in (Err (BuiltIn number)) (Ok (first, quiet))))) ≡ Ok next → AreQuiet next
+    by : (comment nul built_in : Bool) → cond comment (Ok devices) (cond nul (Err (BadLine number)) (with_line devices (cond built_in (Err (BuiltIn number)) (Ok (record { name = first; word = None; effect = quiet }))))) ≡ Ok next → AreQuiet next
     by true nul built_in e = subst AreQuiet (ok-same e) all
     by false true built_in e = cc
     by false false true e = cc
-    by false false false e = subst AreQuiet (ok-same e) (joined-quiet devices first all)
+    by false false false e = subst AreQuiet (ok-same e) (joined-quiet devices.commands first all.0, all.1)
 words-quiet devices next number line (first ∷ second ∷ words) short e all =
     let few : length (first ∷ second ∷ words) ≤ 1 = grind (arith, nat_tests) in absurd (omega (arith, few))
 
@@ -57,4 +69,5 @@ lines-quiet (l ∷ lines) devices done short e all =
     by (Ok next) is f later alone = later next f (words-quiet devices next l.0 l.1 (device_words l.1) alone is all)
 
 pub names_are_quiet : NamesAreQuiet
-names_are_quiet text devices e short name effect found = found-quiet devices name effect (lines-quiet (numbered_lines text) [] devices short e tt) found
+names_are_quiet text devices e short name words effect found =
+    found-quiet devices name words effect (lines-quiet (numbered_lines text) (only []) devices short e (tt, refl)) found

@@ -5,6 +5,7 @@ use Rattle.rehearse.specs.State.{Text}
 use Rattle.std.specs.Fmt.{digits}
 use Rattle.hushlang.specs.Expansion.{fields, joined, atoms}
 use Rattle.rehearse.specs.Trees.{tree_of}
+use Rattle.rehearse.specs.DeviceList.{only}
 use Rattle.rehearse.specs.Listing.{record_of}
 use Rattle.rehearse.specs.Runs.{Task, runs}
 use Rattle.rehearse.specs.Resuming.{Point, whole, resume_point_of}
@@ -40,7 +41,7 @@ broken_page = refl
 
 -- listings of a run that is cut, stopped or booted
 abbrev ends : List Text
-ends = listed (bootcmd (limits only_load 0 10000) (codes "load")) (codes "z" ∷ []) None ∷ listed (bootcmd (limits only_load 0 10000) (codes "foo")) (codes "z" ∷ []) None ∷ listed (bootcmd (limits ((codes "go", record { ends = true; sets = [] }) ∷ []) 1 10000) (codes "go")) (codes "z" ∷ []) (Some 1) ∷ []
+ends = listed (bootcmd (limits only_load 0 10000) (codes "load")) (codes "z" ∷ []) None ∷ listed (bootcmd (limits only_load 0 10000) (codes "foo")) (codes "z" ∷ []) None ∷ listed (bootcmd (limits (only ((codes "go", record { ends = true; sets = [] }) ∷ [])) 1 10000) (codes "go")) (codes "z" ∷ []) (Some 1) ∷ []
 
 points_at_ends : map resume_point_of ends ≡ point (codes ".") 26 ∷ point (codes ".") 31 ∷ point (codes "0") 33 ∷ []
 unfolding listed

@@ -1,6 +1,5 @@
--- The bounds of a rehearsal (ours); that of the steps, `most_steps`, stands with what counts them.
+-- The bounds of a rehearsal (ours).
 use Rattle.std.specs.Prelude.{ℕ, nat_le, Bool, ◌&&◌, Option, Some, None, if◌then◌else◌}
-pub use Rattle.bootstore.specs.Record.{most_steps}
 
 -- how many device commands a run may ask, and how many steps it may begin
 pub record BoundsShown : Type 0 where
@@ -10,6 +9,10 @@ pub record BoundsShown : Type 0 where
 -- the most device commands that a listing may allow to a run
 abbrev pub most_devices : ℕ
 most_devices = 32
+
+-- the most steps that a run may begin
+abbrev pub most_steps : ℕ
+most_steps = 1000000
 
 abbrev pub are_bounds : ℕ → ℕ → Bool
 are_bounds devices steps = nat_le devices most_devices && nat_le steps most_steps

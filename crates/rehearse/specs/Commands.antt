@@ -1,24 +1,25 @@
 -- What a name calls, and what the built-in commands do that ask no device and run no text (U-Boot documentation,
 -- doc/usage/cmd, on `echo`, `env`, `exit`, `true` and `false`); what the pages leave open is ours.
-use Rattle.std.specs.Prelude.{ℕ, ◌+◌, ◌-◌, ◌*◌, nat_le, nat_eq, Bool, true, false, not, cond, ◌&&◌, ◌||◌, List, [], ◌∷◌, ◌++◌, length, Option, Some, None, bytes_eq, codes}
+use Rattle.std.specs.Prelude.{ℕ, ◌+◌, ◌-◌, ◌*◌, nat_le, nat_eq, Bool, true, false, not, cond, ◌&&◌, ◌||◌, List, [], ◌∷◌, ◌++◌, length, Option, Some, None, bytes_eq, slice_get, codes}
 use Rattle.std.specs.List.{join_with_byte, list_any, list_all}
 use Rattle.text.specs.Bytes as ascii
 use Rattle.rehearse.specs.Builtins.{Builtin, builtin_of}
-use Rattle.rehearse.specs.DeviceList.{Effect, Devices, effect_of}
+use Rattle.rehearse.specs.DeviceList.{LeftSide, Variable, WordAt, LastWord, Setting, Effect, Devices, effect_of}
 use Rattle.rehearse.specs.State.{Text, Memory, with_value, without}
 
--- what the first field of a command calls
+-- what the fields of a command call
 pub data Called : Type 0 where
   BuiltIn : Builtin → Called
   Device : Effect → Called
   NoCommand : Called
 
-abbrev pub listed_by : Devices → Text → Called
-listed_by devices name = elim (effect_of devices name) [ Some effect ↦ Device effect | None ↦ NoCommand ]
+abbrev pub listed_by : Devices → (name : Text) → (words : List Text) → Called
+listed_by devices name words = elim (effect_of devices name words) [ Some effect ↦ Device effect | None ↦ NoCommand ]
 
--- a command that is built in, else one of the device list
-abbrev pub called_by : Devices → Text → Called
-called_by devices name = elim (builtin_of name) [ Some builtin ↦ BuiltIn builtin | None ↦ listed_by devices name ]
+-- a command that is built in, else a call of one of the device list
+abbrev pub called_by : Devices → (name : Text) → (words : List Text) → Called
+called_by devices name words =
+    elim (builtin_of name) [ Some builtin ↦ BuiltIn builtin | None ↦ listed_by devices name words ]
 
 -- `test` with exactly four words, the first `-e`, asks a device
 abbrev pub asks_device : List Text → Bool
@@ -28,6 +29,26 @@ asks_device words = nat_eq (length words) 4 && elim words [ [] ↦ false | w ∷
 abbrev pub is_bad_name : Text → Bool
 is_bad_name [] = true
 is_bad_name (b ∷ name) = nat_eq b ascii.minus || nat_eq b ascii.equals || list_any (nat_eq ascii.equals) name
+
+-- the variable that a word of a call names, if it is the name of one
+abbrev pub named_by : Option Text → Option Text
+named_by None = None
+named_by (Some word) = cond (is_bad_name word) None (Some word)
+
+-- the variable that the left side of a setting stands for in a call with these words
+abbrev pub variable_of : LeftSide → List Text → Option Text
+variable_of (Variable name) words = Some name
+variable_of (WordAt place) words = named_by (slice_get words place)
+variable_of LastWord words = named_by (slice_get words (length words - 1))
+
+-- what a call with these words sets: where a word names no variable, nothing
+abbrev pub sets_in : List Text → List Setting → List (Text × Text)
+sets_in words [] = []
+sets_in words (set ∷ sets) =
+    elim (variable_of set.0 words) [
+      | None ↦ sets_in words sets
+      | Some name ↦ (name, set.1) ∷ sets_in words sets
+    ]
 
 -- `setenv` and its words: the name alone deletes the variable, words behind it are its value, joined by spaces
 abbrev pub setenv : List Text → Memory → Memory

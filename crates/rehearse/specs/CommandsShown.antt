@@ -1,6 +1,9 @@
--- The commands of the map, seen as the list of definitions.
+-- The commands of the maps, seen as the list of definitions.
 use Rattle.std.specs.Prelude.{List, map}
-use Rattle.rehearse.specs.DeviceList.{Effect, Devices}
+use Rattle.std.specs.Borrow.{Bor}
+use Rattle.indexmap.specs.IndexMap.{IndexMap}
+use Rattle.rehearse.specs.Verdict.{Text}
+use Rattle.rehearse.specs.DeviceList.{Effect, Effects}
 use Rattle.rehearse.specs.DevicesShown.{Bytes, setting_shown, settings_shown}
 use Rattle.rehearse.specs.declared.devices.Effect.{Effect as LentEffect}
 use Rattle.rehearse.specs.declared.devices.Listed.{Listed}
@@ -8,8 +11,17 @@ use Rattle.rehearse.specs.declared.devices.Listed.{Listed}
 abbrev pub listed_shown : Listed → Effect
 listed_shown l = record { ends = l.ends; sets = settings_shown l.sets }
 
+abbrev pub found_shown : Bor Listed → Effect
+found_shown l = listed_shown l.now
+
 abbrev pub lent_effect : LentEffect → Effect
 lent_effect e = record { ends = e.ends; sets = map setting_shown e.sets.now }
 
-abbrev pub commands_shown : List (Bytes × Listed) → Devices
+abbrev pub commands_shown : List (Bytes × Listed) → Effects
 commands_shown = map (λ c. (c.0.items, listed_shown c.1))
+
+abbrev pub table_shown : {S : Type 0} → IndexMap Bytes Listed S → Effects
+table_shown table = commands_shown table.entries
+
+abbrev pub subs_shown : {S : Type 0} → List (Bytes × IndexMap Bytes Listed S) → List (Text × Effects)
+subs_shown = map (λ c. (c.0.items, table_shown c.1))

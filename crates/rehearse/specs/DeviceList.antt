@@ -1,27 +1,62 @@
 -- The device list: which commands are device commands, and what each does on success. Ours.
-use Rattle.std.specs.Prelude.{ℕ, ◌+◌, ◌==◌, ◌||◌, ◌&&◌, ◌++◌, not, Bool, true, false, List, [], ◌∷◌, length, take, drop, filter, Option, Some, None, option_map, Result, Ok, Err, codes, if◌then◌else◌}
+use Rattle.std.specs.Prelude.{ℕ, ◌+◌, ◌-◌, ◌==◌, nat_lt, min, ◌||◌, ◌&&◌, ◌++◌, not, Bool, true, false, List, [], ◌∷◌, length, take, drop, filter, Option, Some, None, is_some, option_map, Result, Ok, Err, codes, if◌then◌else◌}
 use Rattle.std.specs.Str.{bytes_eq}
-use Rattle.std.specs.List.{list_any, slice_split, position}
+use Rattle.std.specs.List.{list_any, list_all, slice_split, position}
 use Rattle.std.specs.Map.{lookup}
 use Rattle.text.specs.Bytes as ascii
 use Rattle.text.specs.Lines.{numbered_lines}
+use Rattle.text.specs.Numbers.{digit_of, value_in}
 use Rattle.text.specs.Words.{is_equals, is_space, trimmed}
 use Rattle.rehearse.specs.Verdict.{Text}
 use Rattle.rehearse.specs.Builtins.{is_built_in}
 use Rattle.rehearse.specs.declared.devices_error.DevicesError.{DevicesError}
 use Rattle.rehearse.specs.declared.devices_error.DevicesError.TheVariants.{BadLine, BuiltIn}
 
--- what a device command does on success: the environment variables that it sets, in order, and whether the run ends
+-- the left side of a setting: a variable, or the word of the call that names it, which is counted from 0 or is the last
+pub data LeftSide : Type 0 where
+  Variable : Text → LeftSide
+  WordAt : ℕ → LeftSide
+  LastWord : LeftSide
+
+-- what is set, and its value
+abbrev pub Setting : Type 0
+Setting = LeftSide × Text
+
+-- what a device command does on success: what it sets in the environment, in order, and whether the run ends
 pub record Effect : Type 0 where
   pub ends : Bool
-  pub sets : List (Text × Text)
+  pub sets : List Setting
 
-abbrev pub Devices : Type 0
-Devices = List (Text × Effect)
+-- effects by names of commands, or by the first words of the calls of one command
+abbrev pub Effects : Type 0
+Effects = List (Text × Effect)
 
--- the effect of the command of a name, where it is listed
-abbrev pub effect_of : Devices → Text → Option Effect
-effect_of devices name = lookup (bytes_eq name) devices
+abbrev pub effect_in : Effects → Text → Option Effect
+effect_in effects name = lookup (bytes_eq name) effects
+
+-- what a list says of the commands by their names alone, and what its `sub` lines say of the calls of a name
+pub record Devices : Type 0 where
+  pub commands : Effects
+  pub subs : List (Text × Effects)
+
+-- what the lines of a name say, or its `sub` lines of a first word
+abbrev pub effect_at : Devices → (name : Text) → (word : Option Text) → Option Effect
+effect_at devices name None = effect_in devices.commands name
+effect_at devices name (Some word) =
+    elim (lookup (bytes_eq name) devices.subs) [ None ↦ None | Some effects ↦ effect_in effects word ]
+
+abbrev pub sub_effect : Devices → (name : Text) → (words : List Text) → Option Effect
+sub_effect devices name [] = None
+sub_effect devices name (word ∷ words) = effect_at devices name (Some word)
+
+-- A call goes by the `sub` lines of its first word, else by the lines of its name; else it is not listed.
+abbrev pub effect_of : Devices → (name : Text) → (words : List Text) → Option Effect
+effect_of devices name words =
+    elim (sub_effect devices name words) [ Some effect ↦ Some effect | None ↦ effect_at devices name None ]
+
+-- whether a line names the command
+abbrev pub is_listed : Devices → Text → Bool
+is_listed devices name = is_some (effect_in devices.commands name) || is_some (lookup (bytes_eq name) devices.subs)
 
 -- ---- the words of a line
 
@@ -37,48 +72,89 @@ abbrev pub is_variable : Text → Bool
 is_variable [] = false
 is_variable (b ∷ bytes) = not (b == ascii.minus)
 
--- A setting is a variable's name, the first `=`, and a value that may be empty.
-abbrev pub setting : Text → Option (Text × Text)
-setting word =
+-- the word of a number, where words are counted from 1; the greatest number of 64 bits is that of any greater one
+abbrev pub numbered : ℕ → Option LeftSide
+numbered number = if number == 0 then None else Some (WordAt (number - 1))
+
+abbrev pub are_digits : Text → Bool
+are_digits = list_all (λ b. nat_lt (digit_of b) 10)
+
+abbrev pub is_decimal : Text → Bool
+is_decimal word = not (length word == 0) && are_digits word
+
+-- what follows an `@`: `last`, or the number of a word
+abbrev pub word_of_call : Text → Option LeftSide
+word_of_call which =
+    if bytes_eq which (codes "last") then Some LastWord
+    else (if is_decimal which then numbered (min (value_in 10 which) 18446744073709551615) else None)
+
+abbrev pub variable : Text → Option LeftSide
+variable name = if is_variable name then Some (Variable name) else None
+
+-- what an `@` begins is a word of the call, where the line speaks of calls
+abbrev pub left_side : (of_calls : Bool) → Text → Option LeftSide
+left_side of_calls [] = None
+left_side of_calls (b ∷ bytes) =
+    if of_calls && bytes_eq (b ∷ []) (codes "@") then word_of_call bytes else variable (b ∷ bytes)
+
+-- A setting is a left side, the first `=`, and a value that may be empty.
+abbrev pub setting : (of_calls : Bool) → Text → Option Setting
+setting of_calls word =
     elim (position is_equals word) [
       | None ↦ None
-      | Some at ↦ if is_variable (take at word) then Some (take at word, drop (at + 1) word) else None
+      | Some at ↦ option_map (λ left. (left, drop (at + 1) word)) (left_side of_calls (take at word))
     ]
 
 -- the settings, where each of the words is one
-abbrev pub settings : List Text → Option (List (Text × Text))
-settings [] = Some []
-settings (word ∷ words) =
-    elim (setting word) [
+abbrev pub settings : (of_calls : Bool) → List Text → Option (List Setting)
+settings of_calls [] = Some []
+settings of_calls (word ∷ words) =
+    elim (setting of_calls word) [
       | None ↦ None
-      | Some first ↦ option_map (λ more. first ∷ more) (settings words)
+      | Some first ↦ option_map (λ more. first ∷ more) (settings of_calls words)
     ]
 
--- the name of a command, whether it is final, and the words behind that
+-- the name of a command, for a `sub` line the first word of its calls, whether it is final, and the words behind that
 pub record Heading : Type 0 where
   pub name : Text
+  pub word : Option Text
   pub ends : Bool
   pub words : List Text
 
--- The first word is the name, unless it is `final` and a word without `=` follows, which is then the name.
+abbrev pub named : (ends : Bool) → Text → List Text → Heading
+named ends name words = record { name = name; word = None; ends = ends; words = words }
+
+-- The first word is the name, unless it is `sub` and two words without `=` follow, which are then the name and the first
+-- word of its calls.
+abbrev pub call_of : (ends : Bool) → Text → List Text → Heading
+call_of ends first [] = named ends first []
+call_of ends first (second ∷ []) = named ends first (second ∷ [])
+call_of ends first (second ∷ third ∷ words) =
+    if bytes_eq first (codes "sub") && not (list_any is_equals second) && not (list_any is_equals third)
+    then record { name = second; word = Some third; ends = ends; words = words }
+    else named ends first (second ∷ third ∷ words)
+
+-- A first word `final` says that the rest of the line is of a final command, where a word without `=` follows.
 abbrev pub heading_of : Text → List Text → Heading
-heading_of first [] = record { name = first; ends = false; words = [] }
+heading_of first [] = named false first []
 heading_of first (second ∷ words) =
-    if bytes_eq first (codes "final") && not (list_any is_equals second)
-    then record { name = second; ends = true; words = words }
-    else record { name = first; ends = false; words = second ∷ words }
+    if bytes_eq first (codes "final") && not (list_any is_equals second) then call_of true second words
+    else call_of false first (second ∷ words)
 
 -- one line of a command
-abbrev pub DeviceEntry : Type 0
-DeviceEntry = Text × Effect
+pub record DeviceLine : Type 0 where
+  pub name : Text
+  pub word : Option Text
+  pub effect : Effect
 
-abbrev pub entry_with : ℕ → Heading → Option (List (Text × Text)) → Result DeviceEntry DevicesError
-entry_with number h None = Err (BadLine number)
-entry_with number h (Some sets) = if is_built_in h.name then Err (BuiltIn number)
-    else Ok (h.name, record { ends = h.ends; sets = sets })
+abbrev pub line_with : ℕ → Heading → Option (List Setting) → Result DeviceLine DevicesError
+line_with number h None = Err (BadLine number)
+line_with number h (Some sets) = if is_built_in h.name then Err (BuiltIn number)
+    else Ok (record { name = h.name; word = h.word; effect = record { ends = h.ends; sets = sets } })
 
-abbrev pub entry_of : ℕ → Heading → Result DeviceEntry DevicesError
-entry_of number h = entry_with number h (settings h.words)
+-- a line speaks of calls where it has their first word
+abbrev pub line_of : ℕ → Heading → Result DeviceLine DevicesError
+line_of number h = line_with number h (settings (is_some h.word) h.words)
 
 abbrev pub begins_comment : Text → Bool
 begins_comment [] = false
@@ -86,17 +162,38 @@ begins_comment (b ∷ bytes) = b == ascii.hash
 
 -- ---- the list
 
--- one line more for its command: final where one of them is, settings in their order
+-- a table after a change at a name; a name that is new goes last
+abbrev pub changed_at : {V : Type 0} → (Option V → V) → List (Text × V) → Text → List (Text × V)
+changed_at change [] name = (name, change None) ∷ []
+changed_at change (e ∷ table) name = if bytes_eq name e.0 then (e.0, change (Some e.1)) ∷ table
+    else e ∷ changed_at change table name
+
+-- one line more: final where one of them is, settings in their order
 abbrev pub joint : Effect → Effect → Effect
 joint before more = record { ends = before.ends || more.ends; sets = before.sets ++ more.sets }
 
-abbrev pub joined : Devices → DeviceEntry → Devices
-joined [] more = more ∷ []
-joined (d ∷ devices) more = if bytes_eq more.0 d.0 then (d.0, joint d.1 more.1) ∷ devices else d ∷ joined devices more
+abbrev pub joint_behind : Effect → Option Effect → Effect
+joint_behind more None = more
+joint_behind more (Some before) = joint before more
 
-abbrev pub with_entry : Devices → Result DeviceEntry DevicesError → Result Devices DevicesError
-with_entry devices (Ok more) = Ok (joined devices more)
-with_entry devices (Err fault) = Err fault
+abbrev pub joined_in : Effects → Text → Effect → Effects
+joined_in effects name more = changed_at (joint_behind more) effects name
+
+abbrev pub joined_behind : (word : Text) → Effect → Option Effects → Effects
+joined_behind word more None = joined_in [] word more
+joined_behind word more (Some effects) = joined_in effects word more
+
+abbrev pub joined_by : Devices → (name : Text) → Option Text → Effect → Devices
+joined_by devices name None more = record devices { commands = joined_in devices.commands name more }
+joined_by devices name (Some word) more =
+    record devices { subs = changed_at (joined_behind word more) devices.subs name }
+
+abbrev pub joined : Devices → DeviceLine → Devices
+joined devices more = joined_by devices more.name more.word more.effect
+
+abbrev pub with_line : Devices → Result DeviceLine DevicesError → Result Devices DevicesError
+with_line devices (Ok more) = Ok (joined devices more)
+with_line devices (Err fault) = Err fault
 
 -- The list after the words of one more line, or the line's fault. A line without a word, and one that begins with `#`,
 -- says nothing.
@@ -105,7 +202,7 @@ after_words devices number line [] = Ok devices
 after_words devices number line (first ∷ words) =
     if begins_comment first then Ok devices
     else (if list_any (λ b. b == ascii.nul) line then Err (BadLine number)
-    else with_entry devices (entry_of number (heading_of first words)))
+    else with_line devices (line_of number (heading_of first words)))
 
 abbrev pub after_line : Devices → ℕ → Text → Result Devices DevicesError
 after_line devices number line = after_words devices number line (device_words line)
@@ -119,6 +216,10 @@ listed_lines devices (l ∷ lines) =
       | Err fault ↦ Err fault
     ]
 
+-- commands by their names alone
+abbrev pub only : Effects → Devices
+only commands = record { commands = commands; subs = [] }
+
 -- the commands that a device list names, or its first fault
 abbrev pub listed : Text → Result Devices DevicesError
-listed text = listed_lines [] (numbered_lines text)
+listed text = listed_lines (only []) (numbered_lines text)

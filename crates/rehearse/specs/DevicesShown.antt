@@ -1,22 +1,30 @@
 -- Device commands of the program, seen as the list of definitions.
-use Rattle.std.specs.Prelude.{ℕ, List, map, Vec}
-use Rattle.std.specs.Borrow.{Bor}
+use Rattle.std.specs.Prelude.{ℕ, List, map, option_map, Vec}
 use Rattle.std.specs.declared.alloc.Global.{Global}
-use Rattle.rehearse.specs.Verdict.{Text}
-use Rattle.rehearse.specs.DeviceList.{Heading}
-use Rattle.rehearse.specs.declared.device_line.Heading.{Heading as LentHeading}
+use Rattle.rehearse.specs.DeviceList as says
+use Rattle.rehearse.specs.declared.device_line.Heading.{Heading}
+use Rattle.rehearse.specs.declared.setting.LeftSide.{LeftSide}
+use Rattle.rehearse.specs.declared.setting.LeftSide.TheVariants as sides
+use Rattle.rehearse.specs.declared.setting.Setting.{Setting}
 
 abbrev pub Bytes : Type 0
 Bytes = Vec ℕ Global
 
-abbrev pub setting_shown : Bytes × Bytes → Text × Text
-setting_shown s = (s.0.items, s.1.items)
+abbrev pub left_shown : LeftSide → says.LeftSide
+left_shown (sides.Variable name) = says.Variable name.items
+left_shown (sides.WordAt place) = says.WordAt place
+left_shown sides.LastWord = says.LastWord
 
-abbrev pub settings_shown : Vec (Bytes × Bytes) Global → List (Text × Text)
+abbrev pub setting_shown : Setting → says.Setting
+setting_shown s = (left_shown s.left, s.value.items)
+
+abbrev pub settings_shown : Vec Setting Global → List says.Setting
 settings_shown v = map setting_shown v.items
 
-abbrev pub lent_setting : Bor Text × Bor Text → Text × Text
-lent_setting s = (s.0.now, s.1.now)
-
-abbrev pub heading_shown : LentHeading → Heading
-heading_shown h = record { name = h.name.now; ends = h.ends; words = map (λ w. w.now) h.words.now }
+abbrev pub heading_shown : Heading → says.Heading
+heading_shown h = record {
+  name = h.name.now;
+  word = option_map (λ w. w.now) h.word;
+  ends = h.ends;
+  words = map (λ w. w.now) h.words.now;
+}

@@ -12,7 +12,7 @@ use Rattle.rehearse.specs.State.{Text, Variables, get, with_value, Memory, State
 use Rattle.rehearse.specs.DeviceList.{Effect, Devices}
 use Rattle.rehearse.specs.Verdict.{verdict}
 use Rattle.rehearse.specs.Builtins.{SetEnv, Run, Test, Echo, True, False, Leave}
-use Rattle.rehearse.specs.Commands.{Called, BuiltIn, NoCommand, Device, called_by, asks_device, setenv, echo, exit_status}
+use Rattle.rehearse.specs.Commands.{Called, BuiltIn, NoCommand, Device, called_by, sets_in, asks_device, setenv, echo, exit_status}
 
 -- the device list, how many device commands a run may ask, and how many steps it may begin
 pub record Limits : Type 0 where
@@ -118,7 +118,7 @@ abbrev pub take_outcome : Request → OutcomeWord → State → Answer
 take_outcome request [] s = Dry s
 take_outcome request (Success ∷ rest) s =
     boot request.effect.ends request.name
-    (set_environment request.effect.sets (logged Success request (record s { word = rest })))
+    (set_environment (sets_in request.words request.effect.sets) (logged Success request (record s { word = rest })))
 take_outcome request (Failure ∷ rest) s = Normal (logged Failure request (record s { word = rest }))
 
 -- ---- parts of scripts, over what they are made of
@@ -218,7 +218,7 @@ module _ (limits : Limits) where
   -- words that expand to no field do nothing, with status 0
   abbrev pub simple : (script : Script → State → Answer) → List Text → State → Answer
   simple script [] s = Normal (set_status 0 s)
-  simple script (name ∷ words) s = command script (called_by limits.devices name) name words s
+  simple script (name ∷ words) s = command script (called_by limits.devices name words) name words s
 
   -- over the tree, with so many steps left, where `text` is what the texts do that `run` starts
   module _ (left : ℕ) (text : Script → State → Answer) where

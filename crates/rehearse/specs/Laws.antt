@@ -1,14 +1,10 @@
 -- The laws of rehearsals, over the definitions alone. Ours.
 use Rattle.std.specs.Prelude.{ℕ, true, List, [], ◌∷◌, ◌++◌, length, map, flat_map, take, drop, Option, Some, None, ◌≡◌, ◌≢◌, ◌↔◌, ◌≤◌, ◌<◌, codes}
-use Rattle.std.specs.FinMap as finite
-use Rattle.std.specs.FinMap.{entries}
 use Rattle.hushlang.specs.Tree.{Script}
 use Rattle.hushlang.specs.Texts.{IsTreeOf, HasNoTree}
-use Rattle.bootstore.specs.Moment as stored
-use Rattle.bootstore.specs.Record.{beginning}
 use Rattle.rehearse.specs.Outcomes.{OutcomeWord, Outcome, Run, Short, common_prefix, comes_before, has_success, turned, first_run, first_from}
 use Rattle.rehearse.specs.Trees.{tree_of}
-use Rattle.rehearse.specs.State.{Text, get, with_value, without, State, start, state_at}
+use Rattle.rehearse.specs.State.{Text, State}
 use Rattle.hushlang.specs.Tree.{IsProper}
 use Rattle.rehearse.specs.Execution.{Ended, Dry, CutSteps, CutDevices, succeeds}
 use Rattle.rehearse.specs.Runs.{Task, run_on, state_of, steps, asked, kind, runs, rest}
@@ -28,27 +24,6 @@ RefusedTexts = (text : Text) → (tree_of text ≡ None) ↔ HasNoTree text
 -- its conditions and bodies hold commands, and its `if`s conditions
 abbrev pub TreesAreProper : Type 0
 TreesAreProper = (text : Text) (tree : Script) → tree_of text ≡ Some tree → IsProper tree
-
--- ---- states
-
--- a value of the map of a store is the value of its entries
-abbrev pub StoredValues : Type 0
-StoredValues = (variables : stored.Variables) (name : Text) → get (entries variables) name ≡ finite.get variables name
-
--- a variable that is set in the map is set in its entries
-abbrev pub StoredChanges : Type 0
-StoredChanges = (variables : stored.Variables) (name value : Text) →
-    entries (finite.insert variables name value) ≡ with_value (entries variables) name value
-
--- and so is one that is deleted
-abbrev pub StoredDeletions : Type 0
-StoredDeletions = (variables : stored.Variables) (name : Text) →
-    entries (finite.remove variables name) ≡ without (entries variables) name
-
--- the moment at which a store begins a run is the state at its start
-abbrev pub StoredStarts : Type 0
-StoredStarts = (environment : stored.Variables) (word : OutcomeWord) →
-    state_at (beginning environment) word ≡ start (entries environment) word
 
 -- ---- words
 

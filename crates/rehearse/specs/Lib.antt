@@ -10,12 +10,16 @@ pub mod Execution
 pub mod Runs
 pub mod Listing
 pub mod Resuming
+pub mod Asking
 pub mod Laws
 pub mod Bounds
 pub mod CommandsShown
 pub mod DeviceLaws
 pub mod DevicesShown
 pub mod PlainList
+pub mod EarlierList
+pub mod GivenExecution
 pub mod PlainExecution
+pub mod EarlierExecution
 pub mod DeviceListAnswers
 pub mod TextsShown

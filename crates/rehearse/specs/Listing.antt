@@ -3,9 +3,8 @@ use Rattle.std.specs.Prelude.{ℕ, nat_le, Bool, true, false, List, [], ◌∷�
 use Rattle.std.specs.List.{join_with_byte}
 use Rattle.text.specs.Bytes as ascii
 use Rattle.text.specs.Escapes.{text_form, word_form}
-use Rattle.bootstore.specs.Moment.{LoggedCommand}
 use Rattle.rehearse.specs.Outcomes.{Outcome, OutcomeWord}
-use Rattle.rehearse.specs.State.{Text, Variables, get, State}
+use Rattle.rehearse.specs.State.{Text, Variables, get, State, LoggedCommand}
 use Rattle.rehearse.specs.Execution.{Ending, End, CutDevices, CutSteps, Unknown, Syntax, Size, Booted, succeeds}
 use Rattle.rehearse.specs.Runs.{Task, run_on, state_of, ending_of}
 

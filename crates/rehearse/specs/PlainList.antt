@@ -7,7 +7,7 @@ use Rattle.text.specs.Lines.{numbered_lines}
 use Rattle.text.specs.Words.{is_space, trimmed}
 use Rattle.rehearse.specs.Verdict.{Text}
 use Rattle.rehearse.specs.Builtins.{is_built_in}
-use Rattle.rehearse.specs.DeviceList.{listed}
+use Rattle.rehearse.specs.DeviceList.{only, listed}
 use Rattle.rehearse.specs.DeviceLaws.{quiet}
 use Rattle.rehearse.specs.declared.devices_error.DevicesError.{DevicesError}
 use Rattle.rehearse.specs.declared.devices_error.DevicesError.TheVariants.{BadLine, BuiltIn}
@@ -41,4 +41,4 @@ plain_names text = plain_lines [] (numbered_lines text)
 -- Every list that the plain form accepts is accepted, with the same names; none is final, and none sets a variable.
 abbrev pub PlainListsStand : Type 0
 PlainListsStand = (text : Text) (names : List Text) → plain_names text ≡ Ok names →
-    listed text ≡ Ok (map (λ name. (name, quiet)) names)
+    listed text ≡ Ok (only (map (λ name. (name, quiet)) names))

@@ -1,12 +1,11 @@
 -- What a run has at a moment: the state of the script (U-Boot documentation, doc/usage/cmdline and
 -- doc/usage/environment, on variables and `$?`), and the rest of its outcome word (ours).
-use Rattle.std.specs.Prelude.{ℕ, List, [], not, Option, Some, None, filter}
-use Rattle.std.specs.FinMap.{find, put, entries}
+use Rattle.std.specs.Prelude.{ℕ, Bool, List, [], not, Option, Some, None, filter}
+use Rattle.std.specs.FinMap.{find, put}
 use Rattle.std.specs.Cmp.Lexicographic.{slice_cmp}
 use Rattle.std.specs.Ordering.{nat_cmp, eq_by_cmp}
 pub use Rattle.text.specs.Lines.{Text}
 use Rattle.hushlang.specs.Expansion as expansion
-use Rattle.bootstore.specs.Moment.{LoggedCommand, Moment}
 use Rattle.rehearse.specs.Outcomes.{OutcomeWord}
 
 -- names with their values, in byte order of the names: the entries of a store's map
@@ -28,6 +27,11 @@ pub record Memory : Type 0 where
   pub locals : Variables
   pub status : ℕ
   pub text : Text
+
+-- a device command in the log, with its outcome
+pub record LoggedCommand : Type 0 where
+  pub success : Bool
+  pub words : List Text
 
 -- with the log of device commands, how many steps are begun, and the rest of the word
 pub record State : Type 0 where
@@ -53,13 +57,3 @@ value_in m name = elim (get m.environment name) [ Some value ↦ Some value | No
 -- what words expand by
 abbrev pub parameters_in : Memory → expansion.Parameters
 parameters_in m = record { value = value_in m; status = m.status }
-
--- the state that a store's moment is, with the rest of a word
-abbrev pub state_at : Moment → OutcomeWord → State
-state_at m word = record {
-  memory =
-      record { environment = entries m.environment; locals = entries m.locals; status = m.status; text = m.text };
-  log = m.log;
-  steps = m.steps;
-  word = word;
-}

@@ -1,6 +1,8 @@
 //! Laws of device lists, each the contract of a function that does nothing.
 
 ghost use Rattle.rehearse.specs.DeviceLaws.{LinesAreJoined, NamesAreQuiet};
+ghost use Rattle.rehearse.specs.EarlierExecution.{EarlierListingsStand, EarlierRestsStand, EarlierRunsStand};
+ghost use Rattle.rehearse.specs.EarlierList.{EarlierListsStand, EarlierCallsStand, EarlierSettingsStand};
 ghost use Rattle.rehearse.specs.PlainExecution.{PlainListingsStand, PlainRestsStand, PlainRunsStand};
 ghost use Rattle.rehearse.specs.PlainList.{PlainListsStand};
 
@@ -43,4 +45,41 @@ pub fn plain_listings_stand()
 #[tactic(auto, using(crate::proofs::PlainRuns::plain_rests_stand))]
 pub fn plain_rests_stand()
     ensures { PlainRestsStand }
+{}
+
+/// Every list in the earlier form, which has no `sub` lines, is accepted, and says the same of the same
+/// names.
+#[tactic(auto, using(crate::proofs::EarlierLists::earlier_lists_stand))]
+pub fn earlier_lists_stand()
+    ensures { EarlierListsStand }
+{}
+
+/// Over a list in the earlier form, a call goes by its name, whatever its words are.
+#[tactic(auto, using(crate::proofs::EarlierLists::earlier_calls_stand))]
+pub fn earlier_calls_stand()
+    ensures { EarlierCallsStand }
+{}
+
+/// And it sets the variables that its lines name, whatever its words are.
+#[tactic(auto, using(crate::proofs::EarlierLists::earlier_settings_stand))]
+pub fn earlier_settings_stand()
+    ensures { EarlierSettingsStand }
+{}
+
+/// A run over a list in the earlier form is the run that it was before a line could speak of calls.
+#[tactic(auto, using(crate::proofs::EarlierRuns::earlier_runs_stand))]
+pub fn earlier_runs_stand()
+    ensures { EarlierRunsStand }
+{}
+
+/// The listing over a list in the earlier form has the same bytes as before.
+#[tactic(auto, using(crate::proofs::EarlierRuns::earlier_listings_stand))]
+pub fn earlier_listings_stand()
+    ensures { EarlierListingsStand }
+{}
+
+/// The listing of the runs that follow a word has, over such a list, the same bytes too.
+#[tactic(auto, using(crate::proofs::EarlierRuns::earlier_rests_stand))]
+pub fn earlier_rests_stand()
+    ensures { EarlierRestsStand }
 {}

@@ -1,20 +1,19 @@
 //! What one line of a device list says.
-ghost use Rattle.std.specs.Prelude.{◌≡◌, ◌==◌, map, option_map, IfOk};
-ghost use Rattle.std.specs.List.{list_any, position};
+ghost use Rattle.std.specs.Prelude.{◌≡◌, ◌==◌, map, IfOk};
+ghost use Rattle.std.specs.List.{list_any};
 ghost use Rattle.text.specs.Words.{is_equals};
-ghost use Rattle.rehearse.specs.DeviceList.{device_words, is_variable, setting, settings, heading_of, begins_comment};
-ghost use Rattle.rehearse.specs.DevicesShown.{settings_shown, heading_shown, lent_setting};
+ghost use Rattle.rehearse.specs.DeviceList.{device_words, named, call_of, heading_of, begins_comment};
+ghost use Rattle.rehearse.specs.DevicesShown.{heading_shown};
 
 use std::alloc::{AllocError, Global};
 use text::{is_space, trimmed};
 
-/// A variable that a device command sets, and its value.
-pub(crate) type Setting = (Vec<u8>, Vec<u8>);
-
-/// The name of a command, whether it is final, and the words behind that.
+/// The name of a command, for a `sub` line the first word of its calls, whether it is final, and the
+/// words behind that.
 #[derive(Clone, Copy)]
 pub(crate) struct Heading<'a> {
     pub(crate) name: &'a [u8],
+    pub(crate) word: Option<&'a [u8]>,
     pub(crate) ends: bool,
     pub(crate) words: &'a [&'a [u8]],
 }
@@ -46,13 +45,6 @@ pub(crate) fn has_nul(line: &[u8]) -> bool
     line.iter().any(|byte| *byte == 0)
 }
 
-/// The place of the first `=`.
-fn equals_at(word: &[u8]) -> Option<usize>
-    ensures { result ≡ position is_equals word.now }
-{
-    word.iter().position(|byte| *byte == b'=')
-}
-
 /// Whether a word holds `=`.
 fn has_equals(word: &[u8]) -> bool
     ensures { result ≡ list_any is_equals word.now }
@@ -60,60 +52,46 @@ fn has_equals(word: &[u8]) -> bool
     word.iter().any(|byte| *byte == b'=')
 }
 
-/// The first word of a line is the name, unless it is `final` and a word without `=` follows, which is
-/// then the name.
+/// A heading of a name alone.
+fn named<'a>(ends: bool, name: &'a [u8], words: &'a [&'a [u8]]) -> Heading<'a>
+    ensures { heading_shown result ≡ named ends name.now (map (λ w. w.now) words.now) }
+{
+    Heading {
+        name,
+        word: None,
+        ends,
+        words,
+    }
+}
+
+/// The first word is the name, unless it is `sub` and two words without `=` follow, which are then the
+/// name and the first word of its calls.
+fn call_of<'a>(ends: bool, first: &'a [u8], behind: &'a [&'a [u8]]) -> Heading<'a>
+    ensures { heading_shown result ≡ call_of ends first.now (map (λ w. w.now) behind.now) }
+{
+    match behind {
+        [second, third, words @ ..]
+            if first == b"sub".as_slice() && !has_equals(second) && !has_equals(third) => {
+            Heading {
+                name: second,
+                word: Some(third),
+                ends,
+                words,
+            }
+        }
+        _ => named(ends, first, behind),
+    }
+}
+
+/// What a line speaks of. A first word `final` says that the rest of the line is of a final command,
+/// where a word without `=` follows.
 pub(crate) fn heading_of<'a>(first: &'a [u8], behind: &'a [&'a [u8]]) -> Heading<'a>
     ensures { heading_shown result ≡ heading_of first.now (map (λ w. w.now) behind.now) }
 {
     match behind {
-        [second, words @ ..] if first == b"final".as_slice() && !has_equals(second) => Heading {
-            name: second,
-            ends: true,
-            words,
-        },
-        _ => Heading {
-            name: first,
-            ends: false,
-            words: behind,
-        },
+        [second, words @ ..] if first == b"final".as_slice() && !has_equals(second) => {
+            call_of(true, second, words)
+        }
+        _ => call_of(false, first, behind),
     }
-}
-
-/// Whether a variable may have this name: it is not empty and does not begin with `-`.
-fn is_variable(name: &[u8]) -> bool
-    ensures { result ≡ is_variable name.now }
-{
-    match name {
-        [] => false,
-        [first, ..] => *first != b'-',
-    }
-}
-
-/// The variable and the value of a setting.
-#[tactic(auto, using(crate::proofs::DeviceLemmas::cuts))]
-fn setting(word: &[u8]) -> Option<(&[u8], &[u8])>
-    ensures { option_map lent_setting result ≡ setting word.now }
-{
-    let at = equals_at(word)?;
-    let name = &word[..at];
-    if !is_variable(name) {
-        return None;
-    }
-    Some((name, &word[at + 1..]))
-}
-
-/// The settings, where each of the words is one.
-pub(crate) fn settings(alloc: Global, words: &[&[u8]]) -> Result<Option<Vec<Setting>>, AllocError>
-    ensures { IfOk result (λ s. option_map settings_shown s ≡ settings (map (λ w. w.now) words.now)) }
-{
-    let mut list = Vec::new(alloc);
-    for word in words {
-        let Some((name, value)) = setting(word) else {
-            return Ok(None);
-        };
-        let name = Vec::from_slice(alloc, name)?;
-        let value = Vec::from_slice(alloc, value)?;
-        list.push((name, value))?;
-    }
-    Ok(Some(list))
 }

@@ -1,10 +1,13 @@
 //! The device list: which commands are device commands, and what each does on success.
-ghost use Rattle.std.specs.Prelude.{◌≡◌, [], OnOk, is_some, option_map};
-ghost use Rattle.rehearse.specs.DeviceList.{joined, effect_of};
+ghost use Rattle.std.specs.Prelude.{◌≡◌, [], OnOk, Some, option_map};
+ghost use Rattle.rehearse.specs.DeviceList.{only, changed_at, joined_in, joined_behind, joined_by, effect_at, sub_effect, effect_of, is_listed};
+ghost use Rattle.rehearse.specs.CommandsShown.{commands_shown, subs_shown, listed_shown, found_shown};
+ghost use Rattle.rehearse.specs.TextsShown.{texts};
 
 use crate::builtins::is_built_in;
-use crate::device_line::{Setting, begins_comment, device_words, has_nul, heading_of, settings};
+use crate::device_line::{begins_comment, device_words, has_nul, heading_of};
 use crate::devices_error::DevicesError;
+use crate::setting::{Setting, settings};
 use indexmap::IndexMap;
 use std::alloc::{AllocError, Global};
 use std::marker::Model;
@@ -15,8 +18,8 @@ use text::Lines;
 pub struct Effect<'a> {
     /// Whether it ends the run.
     pub ends: bool,
-    /// The environment variables that it sets, in order, each with its value.
-    pub sets: &'a [(Vec<u8>, Vec<u8>)],
+    /// What it sets in the environment, in order.
+    pub sets: &'a [Setting],
 }
 
 /// What a device command of the list does on success.
@@ -26,46 +29,105 @@ struct Listed {
     sets: Vec<Setting>,
 }
 
-/// The device commands of a device list, each with what it does on success.
+/// What is listed of each name.
+type Table = IndexMap<Vec<u8>, Listed>;
+
+/// Joins one more `sub` line to those before it that have its name and its first word.
+fn join_sub(
+    alloc: Global,
+    subs: &mut IndexMap<Vec<u8>, Table>,
+    name: &[u8],
+    word: &[u8],
+    more: Listed,
+) -> Result<(), AllocError>
+    ensures { OnOk result (subs_shown subs.new.entries ≡ changed_at (joined_behind word.now (listed_shown more)) (subs_shown subs.old.entries) name.now) }
+{
+    if let Some(table) = subs.get_mut(name) {
+        join(alloc, table, word, more)?;
+        return Ok(());
+    }
+    let mut table = IndexMap::new(alloc);
+    join(alloc, &mut table, word, more)?;
+    let name = Vec::from_slice(alloc, name)?;
+    subs.insert(name, table)?;
+    Ok(())
+}
+
+impl Listed {
+    ghost use Rattle.rehearse.specs.CommandsShown.{lent_effect};
+
+    /// The same, borrowed.
+    fn effect(&self) -> Effect<'_>
+        ensures { lent_effect result ≡ listed_shown self.now }
+    {
+        Effect {
+            ends: self.ends,
+            sets: &self.sets,
+        }
+    }
+}
+
+/// The device commands of a device list, each with what its calls do on success.
 #[derive(Drop)]
 pub struct Devices {
     alloc: Global,
-    commands: IndexMap<Vec<u8>, Listed>,
+    /// By their names.
+    commands: Table,
+    /// By the name, and then by the first word of a call.
+    subs: IndexMap<Vec<u8>, Table>,
+}
+
+/// Joins one more line to those before it that have its name.
+fn join(alloc: Global, table: &mut Table, name: &[u8], mut more: Listed) -> Result<(), AllocError>
+    ensures { OnOk result (commands_shown table.new.entries ≡ joined_in (commands_shown table.old.entries) name.now (listed_shown more)) }
+{
+    if let Some(listed) = table.get_mut(name) {
+        listed.sets.append(&mut more.sets)?;
+        listed.ends |= more.ends;
+        return Ok(());
+    }
+    let name = Vec::from_slice(alloc, name)?;
+    table.insert(name, more)?;
+    Ok(())
 }
 
 impl Model for Devices {
     ghost use Rattle.rehearse.specs.DeviceList as spec;
-    ghost use Rattle.rehearse.specs.CommandsShown.{commands_shown};
+    ghost use Rattle.rehearse.specs.CommandsShown.{commands_shown, subs_shown};
 
     ghost Value = { spec.Devices };
 
-    ghost view = { λ d. commands_shown d.commands.entries };
+    ghost view = { λ d. record { commands = commands_shown d.commands.entries; subs = subs_shown d.subs.entries } };
 }
 
 impl Devices {
-    ghost use Rattle.rehearse.specs.CommandsShown.{lent_effect, listed_shown};
+    ghost use Rattle.rehearse.specs.CommandsShown.{lent_effect};
     ghost use Rattle.rehearse.specs.DeviceListAnswers.{AddsLine, IsListed};
 
     /// A list of no command. It takes no memory.
     fn new(alloc: Global) -> Self
-        ensures { result ≡ [] }
+        ensures { result ≡ only [] }
     {
         Devices {
             alloc,
             commands: IndexMap::new(alloc),
+            subs: IndexMap::new(alloc),
         }
     }
 
     /// The commands of a device list, a line each: `NAME SETTINGS`, or `final NAME SETTINGS` for one
-    /// that ends the run. Spaces, tabs and carriage returns round a line are dropped; spaces and tabs
-    /// separate its words. Lines without a word, and lines that begin with `#`, are skipped. The first
-    /// word is the name, unless it is `final` and a word without `=` follows. Each further word is a
-    /// setting: a variable, the first `=`, and a value that may be empty. Lines of one name are joined:
-    /// final where one of them is, settings in their order.
+    /// that ends the run; `sub NAME WORD SETTINGS` and `final sub NAME WORD SETTINGS` speak of the calls
+    /// of NAME whose first word is WORD. Spaces, tabs and carriage returns round a line are dropped;
+    /// spaces and tabs separate its words. Lines without a word, and lines that begin with `#`, are
+    /// skipped. The first word is the name, unless it is `final` and a word without `=` follows, or
+    /// `sub` and two such words follow. Each further word is a setting: a variable, the first `=`, and a
+    /// value that may be empty. In a `sub` line, `@N` and `@last` stand for the variable that the Nth or
+    /// the last word of the call names. Lines of one name, and `sub` lines of one name and word, are
+    /// joined: final where one of them is, settings in their order.
     ///
     /// The first faulty line is refused: `BadLine` where it holds NUL, or a further word has no `=`, an
-    /// empty variable, or one that begins with `-`; else `BuiltIn` where its name is that of a built-in
-    /// command.
+    /// empty variable, one that begins with `-`, or in a `sub` line one that begins with `@` and is no
+    /// word of the call; else `BuiltIn` where its name is that of a built-in command.
     pub fn parse(alloc: Global, text: &[u8]) -> Result<Self, DevicesError>
         ensures { IsListed text.now result }
     {
@@ -76,22 +138,41 @@ impl Devices {
         Ok(devices)
     }
 
-    /// Whether a command is listed. It takes no memory.
+    /// Whether a line names a command. It takes no memory.
     pub fn has(&self, name: &[u8]) -> bool
-        ensures { result ≡ is_some (effect_of self.now name.now) }
+        ensures { result ≡ is_listed self.now name.now }
     {
-        self.commands.contains_key(name)
+        self.commands.contains_key(name) || self.subs.contains_key(name)
     }
 
-    /// What a command does on success, if it is listed. It takes no memory.
-    pub fn effect(&self, name: &[u8]) -> Option<Effect<'_>>
-        ensures { option_map lent_effect result ≡ effect_of self.now name.now }
+    /// What a call of a command does on success, if it is listed: what the `sub` lines of its first word
+    /// say, else what the lines of its name say. It takes no memory.
+    pub fn effect(&self, name: &[u8], words: &[Vec<u8>]) -> Option<Effect<'_>>
+        ensures { option_map lent_effect result ≡ effect_of self.now name.now (texts words.now) }
     {
+        if let Some(listed) = self.sub_listed(name, words) {
+            return Some(listed.effect());
+        }
         let listed = self.commands.get(name)?;
-        Some(Effect {
-            ends: listed.ends,
-            sets: &listed.sets,
-        })
+        Some(listed.effect())
+    }
+
+    /// What the `sub` lines of a call's name and first word say.
+    fn sub_listed(&self, name: &[u8], words: &[Vec<u8>]) -> Option<&Listed>
+        ensures { option_map found_shown result ≡ sub_effect self.now name.now (texts words.now) }
+    {
+        match words {
+            [] => None,
+            [first, ..] => self.listed_at(name, first),
+        }
+    }
+
+    /// What the `sub` lines of a name and a first word say.
+    fn listed_at(&self, name: &[u8], word: &[u8]) -> Option<&Listed>
+        ensures { option_map found_shown result ≡ effect_at self.now name.now (Some word.now) }
+    {
+        let table = self.subs.get(name)?;
+        table.get(word)
     }
 
     /// Reads one more line.
@@ -109,28 +190,25 @@ impl Devices {
             return Err(DevicesError::BadLine(number));
         }
         let heading = heading_of(first, behind);
-        let Some(sets) = settings(self.alloc, heading.words)? else {
+        let Some(sets) = settings(self.alloc, heading.words, heading.word.is_some())? else {
             return Err(DevicesError::BadLine(number));
         };
         if is_built_in(heading.name) {
             return Err(DevicesError::BuiltIn(number));
         }
         let ends = heading.ends;
-        self.join(heading.name, Listed { ends, sets })?;
+        self.add(heading.name, heading.word, Listed { ends, sets })?;
         Ok(())
     }
 
-    /// Joins one more line of a command to those before it.
-    fn join(&mut self, name: &[u8], mut more: Listed) -> Result<(), AllocError>
-        ensures { OnOk result (self.new ≡ joined self.old (name.now, listed_shown more)) }
+    /// Joins one more line, for a `sub` line with its first word, to those before it.
+    fn add(&mut self, name: &[u8], word: Option<&[u8]>, more: Listed) -> Result<(), AllocError>
+        ensures { OnOk result (self.new ≡ joined_by self.old name.now (option_map (λ w. w.now) word.entry) (listed_shown more)) }
     {
-        if let Some(listed) = self.commands.get_mut(name) {
-            listed.sets.append(&mut more.sets)?;
-            listed.ends |= more.ends;
-            return Ok(());
+        match word {
+            Some(word) => join_sub(self.alloc, &mut self.subs, name, word, more)?,
+            None => join(self.alloc, &mut self.commands, name, more)?,
         }
-        let name = Vec::from_slice(self.alloc, name)?;
-        self.commands.insert(name, more)?;
         Ok(())
     }
 }

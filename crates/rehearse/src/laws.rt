@@ -1,7 +1,6 @@
 //! Laws of rehearsals. A call of one does nothing: its contract is the law.
 
 ghost use Rattle.rehearse.specs.Laws.{TreesAreRead, RefusedTexts, TreesAreProper};
-ghost use Rattle.rehearse.specs.Laws.{StoredValues, StoredChanges, StoredDeletions, StoredStarts};
 ghost use Rattle.rehearse.specs.Laws.{NoRunTwice, NoRunBeginsAnother, NoRunIsLonger, RunsAreThere, AnotherFollows};
 ghost use Rattle.rehearse.specs.Laws.{RunsPartWhereAsked, LogIsWord};
 ghost use Rattle.rehearse.specs.Laws.{StepsAreBounded, CutAtStepBound, CutAtDeviceBound, AskedBelowBound};
@@ -16,14 +15,6 @@ pub fn trees_are_read()
     ensures read { TreesAreRead }
     ensures refused { RefusedTexts }
     ensures proper { TreesAreProper }
-{}
-
-/// The variables of a run are the entries of a store's map, and its changes are the map's.
-pub fn states_are_stored()
-    ensures values { StoredValues }
-    ensures changes { StoredChanges }
-    ensures deletions { StoredDeletions }
-    ensures starts { StoredStarts }
 {}
 
 /// There is a run; none stands twice, none begins another, and none is longer than the device bound. Another

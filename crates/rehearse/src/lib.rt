@@ -10,6 +10,7 @@ mod devices_error;
 pub mod laws;
 mod number;
 mod run_bounds;
+mod setting;
 mod truth;
 
 pub use bounds::{Bounds, DEVICES_MAX, STEPS_MAX};
@@ -17,4 +18,5 @@ pub use builtins::{Builtin, builtin_of};
 pub use devices::{Devices, Effect};
 pub use devices_error::DevicesError;
 pub use run_bounds::{RUN_DEVICES_MAX, RunBounds};
+pub use setting::{LeftSide, Setting};
 pub use truth::verdict;

@@ -1,17 +1,16 @@
 -- A script comes to the same elsewhere, as far as the bounds allow.
 use Rattle.std.proofs.Common.{ℕ, zero, suc, Bool, true, false, cond, List, [], ◌∷◌, ◌++◌, length, Option, Some, None, refl, sym, ap, subst, ◌∙◌, append_assoc, ◌≡◌, ◌<◌, ◌≤◌, inl, inr, length-append, arith, ◌+◌, nat_lt, nat_le, nat_eq, bytes_eq, codes, ltb-true, ltb-false}
-use Rattle.bootstore.specs.Moment.{LoggedCommand}
 use Rattle.rehearse.specs.Outcomes.{OutcomeWord, Success, Failure}
 use Rattle.hushlang.specs.Tree as tree
 use Rattle.hushlang.specs.Tree.{Script, AndOr, Joined, Command, Arms}
-use Rattle.rehearse.specs.State.{Text, get, Memory, State, parameters_in, with_value, without}
+use Rattle.rehearse.specs.State.{Text, get, Memory, State, parameters_in, with_value, without, LoggedCommand}
 use Rattle.hushlang.specs.Expansion.{fields, joined, size, most_bytes}
 use Rattle.std.specs.List.{join_with_byte}
 use Rattle.text.specs.Bytes as ascii
 use Rattle.rehearse.specs.Trees.{tree_of}
 use Rattle.rehearse.specs.Verdict.{verdict}
 use Rattle.rehearse.specs.Builtins.{SetEnv, Run as RunTexts, Test, Echo, True, False, Leave}
-use Rattle.rehearse.specs.Commands.{Called, BuiltIn, Device, NoCommand, called_by, asks_device, setenv, echo, exit_status, is_bad_name}
+use Rattle.rehearse.specs.Commands.{Called, BuiltIn, Device, NoCommand, called_by, sets_in, asks_device, setenv, echo, exit_status, is_bad_name}
 use Rattle.rehearse.specs.Execution.{Limits, Answer, Normal, Exit, Ended, Dry, Ending, CutDevices, CutSteps, Unknown, Syntax, Size, go_on, remember, set_status, set_local, status_when, goes, holds, begin, take_outcome, device, Request, no_effect, logged, set_environment, boot, text_end, run_text, run_all, command, simple, sized, assign, turns, for_each, exec_script, exec_list, exec_joined, exec_command, exec_arms, exec}
 use Rattle.rehearse.specs.Runs.{state_of}
 use Rattle.rehearse.proofs.Keeping.{Track-of, KeepsAll, Keeps-script, Keeps-joined, Keeps-arms, Keeps-exec, Keeps-run, Keeps-turns, Keeps-for, Keeps-if, Keeps-stays, after_condition, Keeps-after_condition, Keeps-ended, Keeps-simple, Keeps-sized, Keeps-assign}
@@ -165,7 +164,7 @@ module _ (limits : Limits) (i j : ℕ) (k l : List LoggedCommand) where
   take_alike request [] s text log n e = same (record { text = text; log = log; steps = n; is = refl; apart = e })
   take_alike request (Success ∷ rest) s text log n e =
       let entry : LoggedCommand = record { success = true; words = request.name ∷ request.words } in
-      Alike-boot request.effect.ends request.name (set_environment request.effect.sets (logged Success request (record s { word = rest }))) text (log ++ entry ∷ []) n (e.0, one_more s log n entry e)
+      Alike-boot request.effect.ends request.name (set_environment (sets_in request.words request.effect.sets) (logged Success request (record s { word = rest }))) text (log ++ entry ∷ []) n (e.0, one_more s log n entry e)
   take_alike request (Failure ∷ rest) s text log n e =
       let entry : LoggedCommand = record { success = false; words = request.name ∷ request.words } in
       same (record { text = text; log = log ++ entry ∷ []; steps = n; is = refl; apart = (e.0, one_more s log n entry e) })
@@ -178,7 +177,7 @@ module _ (limits : Limits) (i j : ℕ) (k l : List LoggedCommand) where
   take_needs request [] s = omega arith
   take_needs request (Success ∷ rest) s =
       let entry : LoggedCommand = record { success = true; words = request.name ∷ request.words } in
-      let a = boot_needs request.effect.ends request.name (set_environment request.effect.sets (logged Success request (record s { word = rest }))) in
+      let a = boot_needs request.effect.ends request.name (set_environment (sets_in request.words request.effect.sets) (logged Success request (record s { word = rest }))) in
       let b = length-append s.log (entry ∷ []) in
       omega arith
   take_needs request (Failure ∷ rest) s =
@@ -270,7 +269,7 @@ module _ (limits : Limits) (i j : ℕ) (k l : List LoggedCommand) where
 
     pub Alike-simple : (fs : List Text) → AlwaysDoes (simple limits script fs)
     Alike-simple [] s = Alike-normal s (λ m. record m { status = 0 }) (reaches_status 0 s.memory)
-    Alike-simple (name ∷ ws) s = Alike-command (called_by limits.devices name) name ws s
+    Alike-simple (name ∷ ws) s = Alike-command (called_by limits.devices name ws) name ws s
 
   pub Alike-after : (until : Bool) (b again : State → Answer) → AlwaysDoes b → AlwaysDoes again → KeepsAll limits again → (last : ℕ) → AlwaysDoes (after_condition limits until b again last)
   Alike-after until b again h does kept last t = Alike-if t (holds until t.memory.status) (λ v. go_on (b v) again) (λ v. Normal (set_status last v)) (Alike-go_on t b again (h t) does kept) (Alike-normal t (λ m. record m { status = last }) (reaches_status last t.memory))

@@ -1,9 +1,11 @@
 -- What the nodes of a flow draw: ends, device commands that ask, and other moments of the same core.
 use Rattle.std.proofs.Common.{ℕ, zero, suc, List, [], ◌∷◌, ◌++◌, length, Option, Some, None, refl, sym, ap, ◌∙◌, ◌≡◌, append_assoc, append-nil, inl, inr, arith}
 use Rattle.std.specs.List.{slice_get}
-use Rattle.bootstore.specs.Moment.{Moment, LoggedCommand}
+use Rattle.bootstore.specs.Moment.{Moment}
 use Rattle.rehearse.specs.Outcomes.{OutcomeWord, Outcome, Success, Failure, WordKind, Short}
-use Rattle.rehearse.specs.State.{Text, State, state_at}
+use Rattle.rehearse.specs.State.{Text, State, LoggedCommand}
+use Rattle.bootstore.specs.StoredState.{state_at}
+use Rattle.rehearse.specs.Commands.{sets_in}
 use Rattle.rehearse.specs.Execution.{Limits, Answer, Ending, CutDevices, CutSteps, End, Unknown, Syntax, Size, Booted, Request, take_outcome, set_environment, logged, succeeds}
 use Rattle.rehearse_machine.specs.Came.{Came, Over, Wants}
 use Rattle.rehearse_machine.specs.Places.{frames_of}
@@ -89,7 +91,7 @@ entry_of request d = record { success = succeeds d; words = request.name ∷ req
 -- a device command that answered goes on behind its entry
 took : (limits : Limits) (request : Request) (d : Outcome) (w : OutcomeWord) (s : State) → IsAlike limits s.steps s.steps (s.log ++ entry_of request d ∷ []) (s.log ++ entry_of request d ∷ []) (take_outcome request (d ∷ w) s) (take_outcome request (d ∷ w) s)
 took limits request Success w s =
-    let u : State = set_environment request.effect.sets (logged Success request (record s { word = w })) in
+    let u : State = set_environment (sets_in request.words request.effect.sets) (logged Success request (record s { word = w })) in
     let k : List LoggedCommand = s.log ++ entry_of request Success ∷ [] in
     Alike-boot limits s.steps s.steps k k request.effect.ends request.name u u.memory.text u.log u.steps (omega arith, record { further = []; goes_on_here = sym (append-nil k); goes_on_there = sym (append-nil k) })
 took limits request Failure w s =

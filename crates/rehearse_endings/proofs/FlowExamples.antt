@@ -74,3 +74,8 @@ cut = Asks (codes "load" ∷ []) 2 2 ∷ Ends CutDevices ∷ []
 cut_by_devices : walk (numbered cut) (Failure ∷ []) 1 ≡ seen_of (run_on (bootcmd (limits only_load 1 20) (codes "load; load")) (Failure ∷ []))
 unfolding tree_of fields joined atoms
 cut_by_devices = refl
+
+-- `exit` ends the run with its status
+exited : walk (numbered (Ends (End 3) ∷ [])) [] 1 ≡ seen_of (run_on (bootcmd (limits only_load 3 20) (codes "exit 3")) [])
+unfolding tree_of fields joined atoms digits
+exited = refl

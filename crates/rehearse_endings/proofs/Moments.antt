@@ -4,9 +4,10 @@ use Rattle.std.specs.FinMap.{entries}
 use Rattle.hushlang.specs.Tree as tree
 use Rattle.hushlang.specs.Tree.{Script}
 use Rattle.hushlang.specs.Expansion.{fields, size, most_bytes}
-use Rattle.bootstore.specs.Moment.{Moment, RunningFrame, LoggedCommand}
+use Rattle.bootstore.specs.Moment.{Moment, RunningFrame}
 use Rattle.rehearse.specs.Outcomes.{OutcomeWord}
-use Rattle.rehearse.specs.State.{Text, State, Variables, state_at, parameters_in}
+use Rattle.rehearse.specs.State.{Text, State, Variables, parameters_in, LoggedCommand}
+use Rattle.bootstore.specs.StoredState.{state_at}
 use Rattle.rehearse.specs.Verdict.{verdict}
 use Rattle.rehearse.specs.Builtins.{SetEnv, Run, Test, Echo, True, False, Leave}
 use Rattle.rehearse.specs.Commands.{Called, BuiltIn, NoCommand, Device, called_by, asks_device, exit_status}
@@ -70,7 +71,7 @@ module _ (limits : Limits) (text : Text) (log : List LoggedCommand) (n : ℕ) wh
 
   fields_same : (fs : List Text) (script : Script) (ps : List RunningFrame) (s : State) → AskSame (place_fields limits fs script ps s) (place_fields limits fs script ps (there s))
   fields_same [] script ps s = tt
-  fields_same (name ∷ ws) script ps s = called_same (called_by limits.devices name) name ws script ps s
+  fields_same (name ∷ ws) script ps s = called_same (called_by limits.devices name ws) name ws script ps s
 
   again_same : (o : Option (List tree.Word)) (f : RunningFrame) (fs : List RunningFrame) (s : State) → AskSame (fields_again limits o f fs s) (fields_again limits o f fs (there s))
   again_same None f fs s = tt

@@ -3,11 +3,13 @@ use Rattle.std.proofs.Common.{ℕ, zero, suc, get_or, ◌+◌, ◌*◌, ◌≤�
 use Rattle.std.proofs.lemmas.List.Elements.{All-append}
 use Rattle.std.proofs.lemmas.Bool.{ltb-true}
 use Rattle.std.specs.Prelude.{nat_lt}
-use Rattle.bootstore.specs.Record.{Record, most_steps, with_mark, gone_back, returned}
+use Rattle.bootstore.specs.Record.{Record, with_mark, gone_back, returned}
+use Rattle.rehearse.specs.Bounds.{most_steps}
 use Rattle.rehearse_machine.specs.Machine.{outcome_when}
 use Rattle.bootstore.specs.Moment.{Moment}
 use Rattle.rehearse.specs.Outcomes.{OutcomeWord, Outcome, Success, Failure}
-use Rattle.rehearse.specs.State.{State, state_at, start}
+use Rattle.rehearse.specs.State.{State, start}
+use Rattle.bootstore.specs.StoredState.{state_at}
 use Rattle.rehearse.specs.Execution.{Limits, Answer, Normal, Exit, Ended, Dry, Ending}
 use Rattle.rehearse.specs.Runs.{Task, run_on, state_of, kind, kind_of, ending_of}
 use Rattle.rehearse.proofs.Keeping.{GoesTo, Track-of}
@@ -251,6 +253,23 @@ back_there r₀ r r₁ r₂ back e a b k =
 
 pub lost_on : (task : Task) (m : Moment) (back r₁ : Record) (stop : Stop) → back.present ≡ m → Stops task.limits stop (λ w. asked_at task.limits back.present (outcome_when false ∷ w)) r₁.present → Stops task.limits stop (λ w. asked_at task.limits m (Failure ∷ w)) r₁.present
 lost_on task m back r₁ stop e h = subst (λ (x : Moment). Stops task.limits stop (λ w. asked_at task.limits x (Failure ∷ w)) r₁.present) e h
+
+-- where both outcomes lead that a device command asks for
+pub record Sides (task : Task) (depth : ℕ) (m : Moment) (won_stop lost_stop : Stop) (won_at lost_at : Moment) : Type 0 where
+  pub reached : IsReached task depth Asks m
+  pub won : Stops task.limits won_stop (λ w. asked_at task.limits m (Success ∷ w)) won_at
+  pub lost : Stops task.limits lost_stop (λ w. asked_at task.limits m (Failure ∷ w)) lost_at
+
+-- of the records here, at the mark, with the success, behind it, back at the mark, and with the failure
+pub sides_of : (task : Task) (depth : ℕ) (stop won_stop lost_stop : Stop) (here marked won behind back lost : Record) → stop ≡ Asks → IsReached task depth stop here.present
+    → marked ≡ with_mark here → Stops task.limits won_stop (λ w. asked_at task.limits marked.present (outcome_when true ∷ w)) won.present → won.marked ≡ marked.marked → behind.marked ≡ won.marked
+    → back ≡ gone_back behind → Stops task.limits lost_stop (λ w. asked_at task.limits back.present (outcome_when false ∷ w)) lost.present
+    → Sides task depth here.present won_stop lost_stop won.present lost.present
+sides_of task depth stop won_stop lost_stop here marked won behind back lost asks reached is won_stops kept still returns lost_stops = record {
+  reached = reached_as task depth stop Asks here.present asks reached;
+  won = won_on task here marked won won_stop is won_stops;
+  lost = lost_on task here.present back lost lost_stop (back_there here marked won behind back is kept still returns) lost_stops;
+}
 
 -- ---- the steps that were begun
 

@@ -2,7 +2,7 @@
 use Rattle.std.proofs.Common.{ℕ, suc, ◌+◌, ◌≤◌, ◌<◌, max, Bool, true, false, ◌||◌, List, [], ◌∷◌, length, refl, sym, ap, subst, ◌∙◌, ◌≡◌, inl, inr, arith}
 use Rattle.bootstore.specs.Moment.{Moment}
 use Rattle.rehearse.specs.Outcomes.{OutcomeWord, Success, Failure, WordKind}
-use Rattle.rehearse.specs.State.{state_at}
+use Rattle.bootstore.specs.StoredState.{state_at}
 use Rattle.rehearse.specs.Execution.{Limits, Ending, End, CutDevices, CutSteps, Unknown, Syntax, Size, Booted}
 use Rattle.rehearse_machine.specs.Came.{Came, Over, Wants}
 use Rattle.rehearse_machine.specs.Machine.{IsAsking, asked_at}

@@ -2,9 +2,10 @@
 use Rattle.std.specs.Prelude.{◌≡◌, ℕ, zero, suc, ◌-◌, List, [], ◌∷◌, ◌++◌, map, length, Option, Some, None, Vec}
 use Rattle.std.specs.List.{slice_get}
 use Rattle.std.specs.declared.alloc.Global.{Global}
-use Rattle.bootstore.specs.Moment.{Moment, LoggedCommand, bytes_of_words}
+use Rattle.bootstore.specs.Moment.{Moment}
+use Rattle.text.specs.TextsShown.{bytes_of_words}
 use Rattle.rehearse.specs.Outcomes.{OutcomeWord}
-use Rattle.rehearse.specs.State.{Text}
+use Rattle.rehearse.specs.State.{Text, LoggedCommand}
 use Rattle.rehearse.specs.Execution.{Limits}
 use Rattle.rehearse_machine.specs.Came.{Came}
 use Rattle.rehearse_machine.specs.EndingsShown.{halt_shown}

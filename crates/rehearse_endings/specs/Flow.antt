@@ -3,9 +3,8 @@ use Rattle.std.specs.Prelude.{◌≡◌, ℕ, zero, suc, List, [], ◌∷◌, �
 use Rattle.std.specs.List.{join_with_byte, slice_get}
 use Rattle.text.specs.Bytes as ascii
 use Rattle.text.specs.Escapes.{word_form}
-use Rattle.bootstore.specs.Moment.{LoggedCommand}
 use Rattle.rehearse.specs.Outcomes.{OutcomeWord, Outcome, Success, Failure, WordKind, Run, Short, Long}
-use Rattle.rehearse.specs.State.{Text}
+use Rattle.rehearse.specs.State.{Text, LoggedCommand}
 use Rattle.rehearse.specs.Execution.{Answer, Normal, Exit, Ended, Dry, Ending, End, succeeds}
 use Rattle.rehearse.specs.Runs.{Task, run_on, state_of, kind_of}
 use Rattle.rehearse.specs.Listing.{line, last_line}

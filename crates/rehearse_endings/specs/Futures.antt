@@ -1,9 +1,9 @@
 -- What is to come where a device command asks, for every rest of the word. Ours.
 use Rattle.std.specs.Prelude.{◌≡◌, ℕ, suc, ◌+◌, ◌<◌, ◌⊎◌, List, length, Option, Some, None}
 use Rattle.std.specs.FinMap.{entries}
-use Rattle.bootstore.specs.Moment.{Moment, LoggedCommand}
+use Rattle.bootstore.specs.Moment.{Moment}
 use Rattle.rehearse.specs.Outcomes.{WordKind, Short}
-use Rattle.rehearse.specs.State.{State}
+use Rattle.rehearse.specs.State.{State, LoggedCommand}
 use Rattle.rehearse.specs.Execution.{Limits, Ending, End}
 use Rattle.rehearse.specs.Runs.{taken_kind}
 use Rattle.rehearse_machine.specs.Came.{Came, Over, Wants}

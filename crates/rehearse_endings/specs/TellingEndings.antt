@@ -1,6 +1,6 @@
 -- What is told of the endings of an environment's variable, and why it is refused. Ours.
 use Rattle.std.specs.Prelude.{◌≡◌, ℕ, ◌+◌, ◌≤◌, Bool, true, false, List, length, Option, Some, None, Ok, Err}
-use Rattle.envimage.specs.Sink.{Sink, Wrote, BrokeOff}
+use Rattle.output.specs.Sink.{Sink, Wrote, BrokeOff}
 use Rattle.rehearse.specs.State.{Text}
 use Rattle.rehearse.specs.DeviceList.{Devices, listed}
 use Rattle.rehearse.specs.Runs.{Task, runs}

@@ -1,7 +1,7 @@
 //! The flow: a node where a device command asks, and one for each way to end.
 ghost use Rattle.std.specs.Prelude.{◌≡◌, ◌+◌, ◌∷◌, ◌++◌, [], Some, length, map, reverse, IfOk, MatchOption, OnOk, ⊤};
 ghost use Rattle.std.specs.List.{slice_get};
-ghost use Rattle.bootstore.specs.Moment.{bytes_of_words};
+ghost use Rattle.text.specs.TextsShown.{bytes_of_words};
 ghost use Rattle.rehearse_machine.specs.EndingsShown.{halt_shown};
 ghost use Rattle.rehearse_endings.specs.Flow.{Asks, Ends};
 ghost use Rattle.rehearse_endings.specs.Drawing.{node_shown, nodes_shown, words_in, renumbered, HasMore};

@@ -81,7 +81,7 @@ module _ (limits : Limits) where
 
   fields_here : (fs : List Text) (script : Script) (ps : List RunningFrame) (s : State) → AsksHere ps s (place_fields limits fs script ps s)
   fields_here [] script ps s = tt
-  fields_here (name ∷ ws) script ps s = builtin_here (called_by limits.devices name) name ws script ps s
+  fields_here (name ∷ ws) script ps s = builtin_here (called_by limits.devices name ws) name ws script ps s
 
   -- ---- what never asks
 

@@ -6,17 +6,19 @@ use Rattle.std.proofs.lemmas.Bool.{lt-leb}
 use Rattle.std.proofs.Math.Dec.{eqb, eqb-suc-zero}
 use Rattle.std.specs.declared.alloc.Global.{Global}
 use Rattle.bootstore.specs.declared.store.StoreError.{StoreError}
-use Rattle.bootstore.specs.Moment.{Moment, RunningFrame, bytes_of_words}
+use Rattle.bootstore.specs.Moment.{Moment, RunningFrame}
+use Rattle.text.specs.TextsShown.{bytes_of_words}
 use Rattle.bootstore.specs.Record.{Record, changed, with_environment, with_status}
 use Rattle.hushlang.specs.Tree.{Script}
 use Rattle.rehearse.specs.Outcomes.{OutcomeWord}
-use Rattle.rehearse.specs.State.{Text, Variables, State, state_at, with_value, without}
+use Rattle.rehearse.specs.State.{Text, Variables, State, with_value, without}
+use Rattle.bootstore.specs.StoredState.{state_at}
 use Rattle.rehearse.specs.Builtins.{SetEnv, Test, Echo}
 use Rattle.rehearse.specs.Commands.{Called, BuiltIn, Device, called_by, asks_device, is_bad_name, setenv, echo, is_digit, decimal_from}
 use Rattle.rehearse.specs.Execution.{Limits, Request, no_effect, remember, set_status, status_when}
 use Rattle.rehearse.specs.Verdict.{verdict}
 use Rattle.rehearse.specs.DeviceList.{Effect}
-use Rattle.rehearse.proofs.StateLemmas.{stored_changes, stored_deletions}
+use Rattle.bootstore.proofs.StateLemmas.{stored_changes, stored_deletions}
 use Rattle.rehearse_machine.specs.declared.ask.Step.{Step}
 use Rattle.rehearse_machine.specs.declared.ask.Step.TheVariants as steps
 use Rattle.rehearse_machine.specs.Places.{GoOn, place_ask, place_called, place_fields}
@@ -121,7 +123,7 @@ module _ (limits : Limits) (old new : Record) (name : Text) (words : List Text) 
     record { marked = refl; begun = omega arith },
   )
 
-pub fields_named : (limits : Limits) (fields : List (Vec ℕ Global)) (name : Vec ℕ Global) (rest : List (Vec ℕ Global)) (script : Script) (ps : List RunningFrame) (s : State) → fields ≡ name ∷ rest → place_called limits (called_by limits.devices name.items) name.items (bytes_of_words rest) script ps s ≡ place_fields limits (bytes_of_words fields) script ps s
+pub fields_named : (limits : Limits) (fields : List (Vec ℕ Global)) (name : Vec ℕ Global) (rest : List (Vec ℕ Global)) (script : Script) (ps : List RunningFrame) (s : State) → fields ≡ name ∷ rest → place_called limits (called_by limits.devices name.items (bytes_of_words rest)) name.items (bytes_of_words rest) script ps s ≡ place_fields limits (bytes_of_words fields) script ps s
 fields_named limits fields name rest script ps s e = sym (ap (λ (x : List (Vec ℕ Global)). place_fields limits (bytes_of_words x) script ps s) e)
 
 pub empty_rest : (ys : List (Vec ℕ Global)) → true ≡ eqb (length ys) 0 → ys ≡ []

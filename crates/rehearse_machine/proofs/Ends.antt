@@ -86,7 +86,7 @@ module _ (limits : Limits) where
 
   fields-quiet : (ws : List Text) (fs : List Frame) (s : State) → IsQuiet s (begin_fields limits ws fs s)
   fields-quiet [] fs s = refl
-  fields-quiet (name ∷ ws) fs s = builtin-quiet (called_by limits.devices name) name ws fs s
+  fields-quiet (name ∷ ws) fs s = builtin-quiet (called_by limits.devices name ws) name ws fs s
 
   for-quiet : (name : Text) (values : List Text) (body : Script) (fs : List Frame) (s : State) → IsQuiet s (begin_for name values body fs s)
   for-quiet name [] body fs s = refl

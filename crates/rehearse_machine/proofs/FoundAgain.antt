@@ -14,7 +14,8 @@ use Rattle.bootstore.specs.declared.frame.At.{At}
 use Rattle.bootstore.specs.Moment.{RunningFrame}
 use Rattle.bootstore.specs.Record.{Record}
 use Rattle.rehearse.specs.Outcomes as outcomes
-use Rattle.rehearse.specs.State.{Text, state_at, parameters_in}
+use Rattle.rehearse.specs.State.{Text, parameters_in}
+use Rattle.bootstore.specs.StoredState.{state_at}
 use Rattle.rehearse.specs.Execution.{Limits, Size}
 use Rattle.rehearse_machine.specs.declared.halt.Halt.TheVariants as halts
 use Rattle.rehearse_machine.specs.declared.ask.Step.TheVariants as steps

@@ -75,7 +75,7 @@ module _ (limits : Limits) where
 
     same_simple : (fs : List Text) (t : State) → limits.step_bound < n + t.steps → simple limits text fs t ≡ simple limits text' fs t
     same_simple [] t h = refl
-    same_simple (name ∷ ws) t h = same_command (called_by limits.devices name) name ws t h
+    same_simple (name ∷ ws) t h = same_command (called_by limits.devices name ws) name ws t h
 
     same_begin : (f g : State → Answer) (s : State) → limits.step_bound ≤ n + s.steps → ((t : State) → limits.step_bound < n + t.steps → f t ≡ g t) → begin limits f s ≡ begin limits g s
     same_begin f g s h k = same_if (nat_lt s.steps limits.step_bound) (f (record s { steps = suc s.steps })) (Ended CutSteps s) (g (record s { steps = suc s.steps })) (Ended CutSteps s) (k (record s { steps = suc s.steps }) (omega arith)) refl

@@ -106,7 +106,7 @@ module _ (limits : Limits) where
 
     fields-is : (ws : List Text) (fs : List Frame) (s : State) → comes_to limits w (begin_fields limits ws fs s) ≡ continue limits fs (simple limits (full limits) ws (with w s))
     fields-is [] fs s = refl
-    fields-is (name ∷ ws) fs s = builtin-is (called_by limits.devices name) name ws fs s
+    fields-is (name ∷ ws) fs s = builtin-is (called_by limits.devices name ws) name ws fs s
 
     counted-is : (next : State → Next) (f : State → Answer) (fs : List Frame) (s : State) → ((t : State) → comes_to limits w (next t) ≡ continue limits fs (f (with w t))) → comes_to limits w (counted limits next s) ≡ continue limits fs (begin limits f (with w s))
     counted-is next f fs s e = if-is (nat_lt s.steps limits.step_bound) (next (record s { steps = suc s.steps })) (Stop CutSteps s) fs (f (with w (record s { steps = suc s.steps }))) (Ended CutSteps (with w s)) (e (record s { steps = suc s.steps })) (sym (continue-ended fs CutSteps (with w s)))

@@ -14,9 +14,10 @@ use Rattle.bootstore.specs.Moment.{RunningFrame}
 use Rattle.bootstore.specs.Record.{Record, changed, with_status, without_frame}
 use Rattle.rehearse.specs.Outcomes.{OutcomeWord}
 use Rattle.rehearse.specs.Trees.{tree_of}
-use Rattle.rehearse.specs.State.{Text, State, get, state_at}
+use Rattle.rehearse.specs.State.{Text, State, get}
+use Rattle.bootstore.specs.StoredState.{state_at}
 use Rattle.rehearse.specs.Execution.{set_status, Syntax}
-use Rattle.rehearse.proofs.StateLemmas.{stored_values}
+use Rattle.bootstore.proofs.StateLemmas.{stored_values}
 use Rattle.rehearse_machine.specs.Frames.{begun_text}
 use Rattle.rehearse_machine.specs.Places.{PlaceNext, GoOn, StopOn, place, moved_to, in_turn, text_frame, place_name, place_text, place_tree}
 use Rattle.rehearse_machine.specs.MovesShown.{under, Keeps, Does, Comes}

@@ -1,61 +1,93 @@
 -- Outcomes of device commands in a store.
-use Rattle.std.proofs.Common.{ℕ, Bool, true, false, List, ◌∷◌, ◌+◌, map, drop, length, get_or, Some, refl, sym, ap, subst, ◌∙◌, ◌≡◌, ◌<◌, ◌≤◌, arith}
-use Rattle.std.specs.Prelude.{Vec}
+use Rattle.std.proofs.Common.{ℕ, Bool, true, false, List, [], ◌∷◌, ◌+◌, map, drop, length, get_or, Option, Some, None, refl, sym, ap, subst, ◌∙◌, ◌≡◌, ◌<◌, ◌≤◌, arith}
 use Rattle.std.proofs.Math.ListN.{drop_of_length-le}
 use Rattle.std.specs.FinMap.{entries}
-use Rattle.std.specs.declared.alloc.Global.{Global}
 use Rattle.hushlang.proofs.ExpandLemmas.{drop_next}
-use Rattle.bootstore.specs.Moment.{LoggedCommand, RunningFrame}
+use Rattle.bootstore.specs.Moment.{RunningFrame}
 use Rattle.bootstore.specs.Record.{Record, changed, with_environment, with_device, with_status}
 use Rattle.rehearse.specs.Outcomes.{OutcomeWord, Outcome, Success, Failure}
+use Rattle.rehearse.specs.Commands.{variable_of, sets_in}
+use Rattle.rehearse.specs.DeviceList as says
 use Rattle.rehearse.specs.DevicesShown.{setting_shown}
-use Rattle.rehearse.specs.State.{Text, Variables, State, state_at}
+use Rattle.rehearse.specs.declared.setting.Setting.{Setting}
+use Rattle.rehearse.specs.State.{Text, Variables, State, LoggedCommand}
+use Rattle.bootstore.specs.StoredState.{state_at}
 use Rattle.rehearse.specs.Execution.{Request, Booted, remember, succeeds, status_when, logged, with_all, set_environment}
-use Rattle.rehearse.proofs.StateLemmas.{stored_changes}
+use Rattle.bootstore.proofs.StateLemmas.{stored_changes}
 use Rattle.rehearse_machine.specs.declared.ask.Step.{Step}
+use Rattle.rehearse_machine.specs.declared.ask.Step.TheVariants as steps
 use Rattle.rehearse_machine.specs.Places.{GoOn, StopOn, place_boot, place_answered}
 use Rattle.rehearse_machine.specs.MovesShown.{Keeps, Changes, Does, next_shown}
 use Rattle.rehearse_machine.proofs.Coming.{keeps_both, keeps_change}
 
-abbrev pub Pair : Type 0
-Pair = Vec ℕ Global × Vec ℕ Global
+-- one setting of a call, and then the others
+set_cons : (words : List Text) (set : says.Setting) (sets : List says.Setting) (environment : Variables)
+    → with_all (sets_in words (set ∷ sets)) environment ≡ with_all (sets_in words sets) (with_all (sets_in words (set ∷ [])) environment)
+set_cons words set sets environment = by (variable_of set.0 words)
+  where
+    by : (o : Option Text) → with_all (elim o [ None ↦ sets_in words sets | Some name ↦ (name, set.1) ∷ sets_in words sets ]) environment
+        ≡ with_all (sets_in words sets) (with_all (elim o [ None ↦ [] | Some name ↦ (name, set.1) ∷ [] ]) environment)
+    by None = refl
+    by (Some name) = refl
 
-abbrev sets_of : List Pair → List (Text × Text)
-sets_of = map setting_shown
+abbrev in_call : List Text → List Setting → List (Text × Text)
+in_call words sets = sets_in words (map setting_shown sets)
 
--- the first i of the variables are set
-pub record AreSet (sets : List Pair) (i : ℕ) (old now : Record) : Type 0 where
-  pub same : with_all (sets_of (drop i sets)) (entries now.present.environment) ≡ with_all (sets_of sets) (entries old.present.environment)
+-- the first i of the settings are made
+pub record AreSet (words : List Text) (sets : List Setting) (i : ℕ) (old now : Record) : Type 0 where
+  pub same : with_all (in_call words (drop i sets)) (entries now.present.environment) ≡ with_all (in_call words sets) (entries old.present.environment)
   pub others : (w : OutcomeWord) → state_at now.present w ≡ remember (λ m. record m { environment = entries now.present.environment }) (state_at old.present w)
   pub frames : now.present.frames ≡ old.present.frames
   pub kept : Keeps old now
 
-pub none_set : (sets : List Pair) (old : Record) → AreSet sets 0 old old
-none_set sets old = record { same = refl; others = λ w. refl; frames = refl; kept = record { marked = refl; begun = refl } }
+pub none_set : (words : List Text) (sets : List Setting) (old : Record) → AreSet words sets 0 old old
+none_set words sets old = record { same = refl; others = λ w. refl; frames = refl; kept = record { marked = refl; begun = refl } }
 
-pub next_set : (sets : List Pair) (i : ℕ) (old now new : Record) (d : Pair) (name value : Text) → i < length sets → d ≡ get_or sets i d → name ≡ d.0.items → value ≡ d.1.items → new ≡ changed (with_environment name (Some value)) now → AreSet sets i old now → AreSet sets (i + 1) old new
-next_set sets i old now new d name value within is n v e before = record {
-  same =
-      ap (λ (x : Record). with_all (sets_of (drop (i + 1) sets)) (entries x.present.environment)) e
-      ∙ ap (with_all (sets_of (drop (i + 1) sets))) (stored_changes now.present.environment name value)
-      ∙ ap (λ (x : Text). with_all ((x, value) ∷ sets_of (drop (i + 1) sets)) (entries now.present.environment)) n
-      ∙ ap (λ (x : Text). with_all ((d.0.items, x) ∷ sets_of (drop (i + 1) sets)) (entries now.present.environment)) v
-      ∙ sym (ap (λ (x : List Pair). with_all (sets_of x) (entries now.present.environment)) (drop_next sets i d within is))
-      ∙ before.same;
-  others = λ w.
-      ap (λ (x : Record). state_at x.present w) e
-      ∙ ap (remember (λ m. record m { environment = entries (changed (with_environment name (Some value)) now).present.environment })) (before.others w)
-      ∙ ap (λ (x : Record). remember (λ m. record m { environment = entries x.present.environment }) (state_at old.present w)) (sym e);
-  frames = ap (λ (r : Record). r.present.frames) e ∙ before.frames;
-  kept = keeps_both old now new before.kept (subst (Keeps now) (sym e) (keeps_change (with_environment name (Some value)) now refl));
-}
+pub next_set : (words : List Text) (sets : List Setting) (i : ℕ) (old now new : Record) (d : Setting) → i < length sets → d ≡ get_or sets i d
+    → Changes now new (λ m. record m { environment = with_all (sets_in words (setting_shown d ∷ [])) m.environment }) → AreSet words sets i old now → AreSet words sets (i + 1) old new
+next_set words sets i old now new d within is one before =
+    let here : entries new.present.environment ≡ with_all (sets_in words (setting_shown d ∷ [])) (entries now.present.environment) = ap (λ (s : State). s.memory.environment) (one.0 []) in
+    record {
+      same =
+          ap (with_all (in_call words (drop (i + 1) sets))) here
+          ∙ sym (set_cons words (setting_shown d) (map setting_shown (drop (i + 1) sets)) (entries now.present.environment))
+          ∙ sym (ap (λ (x : List Setting). with_all (in_call words x) (entries now.present.environment)) (drop_next sets i d within is))
+          ∙ before.same;
+      others = λ w.
+          one.0 w
+          ∙ ap (λ (x : Variables). remember (λ m. record m { environment = x }) (state_at now.present w)) (sym here)
+          ∙ ap (remember (λ m. record m { environment = entries new.present.environment })) (before.others w);
+      frames = one.1 ∙ before.frames;
+      kept = keeps_both old now new before.kept one.2;
+    }
 
-pub all_set : (sets : List Pair) (i : ℕ) (old now : Record) → length sets ≤ i → AreSet sets i old now → Changes old now (λ m. record m { environment = with_all (sets_of sets) m.environment })
-all_set sets i old now past before = (
+pub all_set : (words : List Text) (sets : List Setting) (i : ℕ) (old now : Record) → length sets ≤ i → AreSet words sets i old now → Changes old now (λ m. record m { environment = with_all (in_call words sets) m.environment })
+all_set words sets i old now past before = (
   λ w. before.others w
-      ∙ ap (λ (x : Variables). remember (λ m. record m { environment = x }) (state_at old.present w)) (sym (ap (λ (x : List Pair). with_all (sets_of x) (entries now.present.environment)) (drop_of_length-le sets past)) ∙ before.same),
+      ∙ ap (λ (x : Variables). remember (λ m. record m { environment = x }) (state_at old.present w)) (sym (ap (λ (x : List Setting). with_all (in_call words x) (entries now.present.environment)) (drop_of_length-le sets past)) ∙ before.same),
   before.frames,
   before.kept,
+)
+
+-- a setting whose word names no variable
+pub sets_none : (words : List Text) (set : says.Setting) (old : Record) → variable_of set.0 words ≡ None
+    → Changes old old (λ m. record m { environment = with_all (sets_in words (set ∷ [])) m.environment })
+sets_none words set old e = (
+  λ w. ap (λ (o : Option Text). remember (λ m. record m { environment = with_all (elim o [ None ↦ [] | Some name ↦ (name, set.1) ∷ [] ]) m.environment }) (state_at old.present w)) (sym e),
+  refl,
+  record { marked = refl; begun = refl },
+)
+
+-- and one of a variable
+pub sets_one : (words : List Text) (set : says.Setting) (old new : Record) (name : Text) → variable_of set.0 words ≡ Some name → new ≡ changed (with_environment name (Some set.1)) old
+    → Changes old new (λ m. record m { environment = with_all (sets_in words (set ∷ [])) m.environment })
+sets_one words set old new name e made = (
+  λ w.
+      ap (λ (x : Record). state_at x.present w) made
+      ∙ ap (λ (x : Variables). remember (λ m. record m { environment = x }) (state_at old.present w)) (stored_changes old.present.environment name set.1)
+      ∙ ap (λ (o : Option Text). remember (λ m. record m { environment = with_all (elim o [ None ↦ [] | Some name ↦ (name, set.1) ∷ [] ]) m.environment }) (state_at old.present w)) (sym e),
+  ap (λ (r : Record). r.present.frames) made,
+  subst (Keeps old) (sym made) (keeps_change (with_environment name (Some set.1)) old refl),
 )
 
 module _ (outcome : Outcome) (request : Request) (old mid late : Record) (entry : LoggedCommand) (words : entry.words ≡ request.name ∷ request.words) (success : succeeds outcome ≡ entry.success) (device : mid ≡ changed (with_device entry) old) (n : ℕ) (code : n ≡ status_when (succeeds outcome)) (status : late ≡ changed (with_status n) mid) where
@@ -78,7 +110,7 @@ pub failed : (outcome : Outcome) (request : Request) (ps : List RunningFrame) (s
 failed Success request ps s e = absurd (let f = e in cc)
 failed Failure request ps s e = refl
 
-pub succeeded : (outcome : Outcome) (request : Request) (ps : List RunningFrame) (s : State) → succeeds outcome ≡ true → place_boot request.effect.ends request.name ps (set_environment request.effect.sets (logged outcome request s)) ≡ place_answered outcome request ps s
+pub succeeded : (outcome : Outcome) (request : Request) (ps : List RunningFrame) (s : State) → succeeds outcome ≡ true → place_boot request.effect.ends request.name ps (set_environment (sets_in request.words request.effect.sets) (logged outcome request s)) ≡ place_answered outcome request ps s
 succeeded Success request ps s e = refl
 succeeded Failure request ps s e = absurd (let f = e in cc)
 
@@ -90,12 +122,26 @@ pub stayed : (b : Bool) (name : Text) (ps : List RunningFrame) (s : State) → b
 stayed true name ps s e = absurd (let f = e in cc)
 stayed false name ps s e = refl
 
--- what a success does, once it is logged
-pub success_does : (outcome : Outcome) (request : Request) (step : Step) (old late new : Record) (sets : List (Text × Text)) → sets ≡ request.effect.sets → succeeds outcome ≡ true → ((w : OutcomeWord) → state_at late.present w ≡ logged outcome request (state_at old.present w)) → late.present.frames ≡ old.present.frames → Keeps old late → Changes late new (λ m. record m { environment = with_all sets m.environment }) → ((w : OutcomeWord) → next_shown step new.present w ≡ place_boot request.effect.ends request.name new.present.frames (state_at new.present w)) → Does step old new (place_answered outcome request old.present.frames)
-success_does outcome request step old late new sets s e here frames keeps changes does = (
-  λ w. does w
-      ∙ ap (λ (x : List RunningFrame). place_boot request.effect.ends request.name x (state_at new.present w)) (changes.1 ∙ frames)
-      ∙ ap (λ (x : State). place_boot request.effect.ends request.name old.present.frames x) (changes.0 w ∙ ap (λ (x : List (Text × Text)). set_environment x (state_at late.present w)) s ∙ ap (set_environment request.effect.sets) (here w))
-      ∙ succeeded outcome request old.present.frames (state_at old.present w) e,
-  keeps_both old late new keeps changes.2,
-)
+module _ (outcome : Outcome) (request : Request) (old set late : Record) (sets : List (Text × Text)) (changes : Changes old set (λ m. record m { environment = with_all sets m.environment })) (here : (w : OutcomeWord) → state_at late.present w ≡ logged outcome request (state_at set.present w)) (frames : late.present.frames ≡ set.present.frames) (keeps : Keeps set late) where
+  here_is : (made : List (Text × Text)) → sets ≡ made → (w : OutcomeWord) → state_at late.present w ≡ logged outcome request (set_environment made (state_at old.present w))
+  here_is made s w = here w ∙ ap (logged outcome request) (changes.0 w ∙ ap (λ (x : List (Text × Text)). set_environment x (state_at old.present w)) s)
+
+  -- what a success does
+  pub success_does : (step : Step) → sets ≡ sets_in request.words request.effect.sets → succeeds outcome ≡ true
+      → ((w : OutcomeWord) → next_shown step late.present w ≡ place_boot request.effect.ends request.name late.present.frames (state_at late.present w)) → Does step old late (place_answered outcome request old.present.frames)
+  success_does step s e does = (
+    λ w. does w
+        ∙ ap (λ (x : List RunningFrame). place_boot request.effect.ends request.name x (state_at late.present w)) (frames ∙ changes.1)
+        ∙ ap (λ (x : State). place_boot request.effect.ends request.name old.present.frames x) (here_is (sets_in request.words request.effect.sets) s w)
+        ∙ succeeded outcome request old.present.frames (state_at old.present w) e,
+    keeps_both old set late changes.2 keeps,
+  )
+
+  -- and what a failure does, which sets nothing
+  pub failure_does : sets ≡ [] → succeeds outcome ≡ false → Does steps.Going old late (place_answered outcome request old.present.frames)
+  failure_does s e = (
+    λ w. ap (λ (x : List RunningFrame). GoOn x (state_at late.present w)) (frames ∙ changes.1)
+        ∙ ap (λ (x : State). GoOn old.present.frames x) (here_is [] s w)
+        ∙ failed outcome request old.present.frames (state_at old.present w) e,
+    keeps_both old set late changes.2 keeps,
+  )

@@ -16,7 +16,7 @@ use Rattle.rehearse.specs.Trees.{tree_of}
 use Rattle.rehearse.specs.State.{Text, get, State, parameters_in}
 use Rattle.rehearse.specs.Verdict.{verdict}
 use Rattle.rehearse.specs.Builtins.{SetEnv, Run, Test, Echo, True, False, Leave}
-use Rattle.rehearse.specs.Commands.{Called, BuiltIn, NoCommand, Device, called_by, asks_device, exit_status}
+use Rattle.rehearse.specs.Commands.{Called, BuiltIn, NoCommand, Device, called_by, sets_in, asks_device, exit_status}
 use Rattle.rehearse.specs.Execution.{Limits, End, CutDevices, CutSteps, Size, set_status, set_local, status_when, goes, holds, Request, no_effect, logged, set_environment}
 use Rattle.rehearse_machine.specs.Frames.{Frame, Lists, Linked, IfCondition, LoopCondition, LoopBody, ForBody, Next, Go, Ask, Stop, leave, boot_next, answered, begin_assign, begin_for, begin_arms, begun_text, begin_tree, begin_text, begin_names, begin_exit, fitting, ask, begin_called, begin_fields, counted, begin_command, move}
 use Rattle.rehearse_machine.specs.Places.{list_at, drop_lists, joined_at, drop_joined, second, command_in, command_at, drop_arms, place, from_command, condition_frame, phase, from_turn, script_frames, for_frame, run_frame, frames_by, frames_of, PlaceNext, GoOn, AskOn, StopOn, next_of, moved_to, behind, in_turn, text_frame, block_frame, is_run, to_run, left, place_exit, place_boot, place_answered, place_assign, place_tree, place_text, place_name, run_move, for_turn, for_move, for_begins, place_arms, condition_ends, phase_move, place_fitting, place_ask, place_called, place_fields, place_counted, place_command, place_joined, place_begins, place_turn, place_list, place_by, place_move}
@@ -246,7 +246,7 @@ module _ (limits : Limits) where
 
   fields-is : (ws : List Text) (script : Script) (ps : List RunningFrame) (s : State) → next_of (place_fields limits ws script ps s) ≡ begin_fields limits ws (frames_of ps) s
   fields-is [] script ps s = refl
-  fields-is (name ∷ ws) script ps s = builtin-is (called_by limits.devices name) name ws script ps s
+  fields-is (name ∷ ws) script ps s = builtin-is (called_by limits.devices name ws) name ws script ps s
 
   -- at a list of a script that is running
   module _ (f : RunningFrame) (fs : List RunningFrame) (list : AndOr) (at_list : list_at f.script f.place.list ≡ Some list) (scripted : (p : At) → frames_by f.kind (moved_to p f) ≡ script_frames (list_at f.script p.list) p (drop_lists (suc p.list) f.script)) where
@@ -359,7 +359,7 @@ boots-is false name ps s = refl
 
 -- and so is the outcome of the command that asks
 pub place_answered-is : (outcome : Outcome) (r : Request) (ps : List RunningFrame) (s : State) → next_of (place_answered outcome r ps s) ≡ answered outcome r (frames_of ps) s
-place_answered-is Success r ps s = boots-is r.effect.ends r.name ps (set_environment r.effect.sets (logged Success r s))
+place_answered-is Success r ps s = boots-is r.effect.ends r.name ps (set_environment (sets_in r.words r.effect.sets) (logged Success r s))
 place_answered-is Failure r ps s = refl
 
 -- where the text of a variable begins

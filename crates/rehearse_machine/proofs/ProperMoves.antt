@@ -64,7 +64,7 @@ module _ (limits : Limits) where
 
   fields-proper : (ws : List Text) (fs : List Frame) (s : State) → AreProperFrames fs → IsProperNext (begin_fields limits ws fs s)
   fields-proper [] fs s p = p
-  fields-proper (name ∷ ws) fs s p = builtin-proper (called_by limits.devices name) name ws fs s p
+  fields-proper (name ∷ ws) fs s p = builtin-proper (called_by limits.devices name ws) name ws fs s p
 
   for-proper : (name : Text) (values : List Text) (body : Script) (fs : List Frame) (s : State) → HoldsCommand body → AreProperFrames fs → IsProperNext (begin_for name values body fs s)
   for-proper name [] body fs s q p = p

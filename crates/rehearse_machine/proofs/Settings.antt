@@ -3,7 +3,7 @@ use Rattle.std.proofs.Common.{◌≡◌, ℕ, Bool, true, false, cond, List, [],
 use Rattle.std.proofs.lemmas.Bool.{le-leb, lt-leb}
 use Rattle.std.specs.Borrow.{Bor}
 use Rattle.std.specs.Option.{option_copied}
-use Rattle.bootstore.specs.Moment.{option_bytes}
+use Rattle.text.specs.TextsShown.{option_bytes}
 use Rattle.std.specs.FinMap as finite
 use Rattle.std.specs.FinMap.{get-insert, get-entries, find, entries}
 use Rattle.std.specs.Ordering.{nat_cmp, eq_by_cmp}
@@ -12,7 +12,8 @@ use Rattle.std.specs.Cmp.Lexicographic.{slice_cmp}
 use Rattle.hushlang.specs.Expansion as expansion
 use Rattle.bootstore.specs.Moment.{Bytes, Variables, Moment}
 use Rattle.rehearse.specs.Outcomes.{OutcomeWord}
-use Rattle.rehearse.specs.State.{Text, value_in, parameters_in, state_at}
+use Rattle.rehearse.specs.State.{Text, value_in, parameters_in}
+use Rattle.bootstore.specs.StoredState.{state_at}
 use Rattle.rehearse_machine.specs.Variables.{in_front, all_variables}
 
 abbrev pub over : Option Bytes → Option Bytes → Option Bytes

@@ -6,6 +6,7 @@ use Rattle.rehearse.specs.Outcomes.{OutcomeWord, Outcome, Success, Failure}
 use Rattle.rehearse.specs.Trees.{tree_of}
 use Rattle.rehearse.specs.State.{Text, State, start}
 use Rattle.hushlang.specs.Tree.{IsProper}
+use Rattle.rehearse.specs.Commands.{sets_in}
 use Rattle.rehearse.specs.Execution.{Syntax, Booted, Request, take_outcome, boot, logged, set_environment}
 use Rattle.rehearse.specs.Runs.{Task, run_on}
 use Rattle.rehearse.proofs.ProperLemmas.{trees_are_proper}
@@ -46,7 +47,7 @@ module _ (task : Task) where
   boots-is w false name fs s = refl
 
   pub answered-is : (w : OutcomeWord) (outcome : Outcome) (r : Request) (fs : List Frame) (s : State) → continue task.limits fs (take_outcome r (outcome ∷ w) (with (outcome ∷ w) s)) ≡ comes_to task.limits w (answered outcome r fs s)
-  answered-is w Success r fs s = boots-is w r.effect.ends r.name fs (set_environment r.effect.sets (logged Success r s))
+  answered-is w Success r fs s = boots-is w r.effect.ends r.name fs (set_environment (sets_in r.words r.effect.sets) (logged Success r s))
   answered-is w Failure r fs s = refl
 
   -- an outcome for the command that asks

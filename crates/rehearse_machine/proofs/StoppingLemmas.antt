@@ -5,7 +5,9 @@ use Rattle.bootstore.specs.declared.store.StoreError.{StoreError}
 use Rattle.bootstore.specs.Moment.{RunningFrame, Moment}
 use Rattle.bootstore.specs.Record.{Record}
 use Rattle.rehearse.specs.Outcomes.{OutcomeWord, Outcome, Success, Failure}
-use Rattle.rehearse.specs.State.{State, state_at}
+use Rattle.rehearse.specs.State.{State}
+use Rattle.bootstore.specs.StoredState.{state_at}
+use Rattle.rehearse.specs.Commands.{sets_in}
 use Rattle.rehearse.specs.Execution.{Limits, Request, logged, set_environment, succeeds}
 use Rattle.rehearse.specs.Runs.{Task}
 use Rattle.rehearse_machine.specs.declared.ask.Ask.{Ask}
@@ -71,7 +73,7 @@ module _ (r : Request) (ps : List RunningFrame) where
 
   answered_steps : (o : Outcome) (s : State) → steps_of (place_answered o r ps s) ≡ s.steps
   unfolding steps_of
-  answered_steps Success s = boot_steps r.effect.ends (set_environment r.effect.sets (logged Success r s))
+  answered_steps Success s = boot_steps r.effect.ends (set_environment (sets_in r.words r.effect.sets) (logged Success r s))
   answered_steps Failure s = refl
 
   boot_asks : (b : Bool) (s : State) → asks (place_boot b r.name ps s) ≡ false
@@ -81,7 +83,7 @@ module _ (r : Request) (ps : List RunningFrame) where
 
   answered_asks : (o : Outcome) (s : State) → asks (place_answered o r ps s) ≡ false
   unfolding asks
-  answered_asks Success s = boot_asks r.effect.ends (set_environment r.effect.sets (logged Success r s))
+  answered_asks Success s = boot_asks r.effect.ends (set_environment (sets_in r.words r.effect.sets) (logged Success r s))
   answered_asks Failure s = refl
 
   boot_sound : (b : Bool) (s : State) → AreProperFrames (frames_of ps) → IsProperNext (next_of (place_boot b r.name ps s))
@@ -89,7 +91,7 @@ module _ (r : Request) (ps : List RunningFrame) where
   boot_sound false s h = h
 
   answered_sound : (o : Outcome) (s : State) → AreProperFrames (frames_of ps) → IsProperNext (next_of (place_answered o r ps s))
-  answered_sound Success s h = boot_sound r.effect.ends (set_environment r.effect.sets (logged Success r s)) h
+  answered_sound Success s h = boot_sound r.effect.ends (set_environment (sets_in r.words r.effect.sets) (logged Success r s)) h
   answered_sound Failure s h = h
 
 -- a command that asks is found again

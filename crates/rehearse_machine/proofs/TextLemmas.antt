@@ -14,7 +14,7 @@ use Rattle.rehearse.specs.Trees.{tree_of}
 use Rattle.rehearse.specs.State.{Text, Variables, get, State, start}
 use Rattle.rehearse.specs.Execution.{Limits, Normal, Syntax}
 use Rattle.rehearse.specs.Runs.{Task, run_on}
-use Rattle.rehearse.proofs.StateLemmas.{stored_values, stored_starts}
+use Rattle.bootstore.proofs.StateLemmas.{stored_values, stored_starts}
 use Rattle.rehearse.proofs.ProperLemmas.{trees_are_proper}
 use Rattle.rehearse_machine.specs.Frames.{Frame, Lists, begun_text}
 use Rattle.rehearse_machine.specs.Places.{frames_of, text_frame}

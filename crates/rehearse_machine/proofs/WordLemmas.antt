@@ -5,13 +5,15 @@ use Rattle.std.proofs.lemmas.Option.{slice_get_read, slice_get_past, slice_get-m
 use Rattle.std.specs.declared.alloc.Global.{Global}
 use Rattle.bootstore.specs.declared.frame.At.{At}
 use Rattle.bootstore.specs.declared.store.StoreError.{StoreError}
-use Rattle.bootstore.specs.Moment.{RunningFrame, bytes_of_words}
+use Rattle.bootstore.specs.Moment.{RunningFrame}
+use Rattle.text.specs.TextsShown.{bytes_of_words}
 use Rattle.bootstore.specs.Record.{Record, changed, with_local}
 use Rattle.hushlang.specs.Tree.{Script}
 use Rattle.rehearse.specs.Outcomes.{OutcomeWord}
-use Rattle.rehearse.specs.State.{Text, Variables, state_at}
+use Rattle.rehearse.specs.State.{Text, Variables}
+use Rattle.bootstore.specs.StoredState.{state_at}
 use Rattle.rehearse.specs.Execution.{set_local}
-use Rattle.rehearse.proofs.StateLemmas.{stored_changes}
+use Rattle.bootstore.proofs.StateLemmas.{stored_changes}
 use Rattle.rehearse_machine.specs.declared.ask.Step.{Step}
 use Rattle.rehearse_machine.specs.Places.{GoOn, place, moved_to, block_frame, for_turn}
 use Rattle.rehearse_machine.specs.MovesShown.{Comes, Keeps, under}

@@ -1,12 +1,14 @@
 -- What the program's moves and endings say.
 use Rattle.std.specs.Prelude.{◌≡◌, ℕ, ◌+◌, List, ◌∷◌, length, nat_le, nat_lt, Bool, true, false, Option, Some, None, Vec, Result, Ok, Err}
-use Rattle.bootstore.specs.Moment.{Moment, RunningFrame, bytes_of_words}
+use Rattle.bootstore.specs.Moment.{Moment, RunningFrame}
+use Rattle.text.specs.TextsShown.{bytes_of_words}
 use Rattle.bootstore.specs.Record.{Record, without_first, stepped}
 use Rattle.std.specs.declared.alloc.Global.{Global}
 use Rattle.hushlang.specs.Expansion.{size, most_bytes}
 use Rattle.rehearse.specs.Outcomes.{OutcomeWord}
 use Rattle.bootstore.specs.declared.store.StoreError.{StoreError}
-use Rattle.rehearse.specs.State.{Text, Memory, State, state_at}
+use Rattle.rehearse.specs.State.{Text, Memory, State}
+use Rattle.bootstore.specs.StoredState.{state_at}
 use Rattle.rehearse.specs.DeviceList.{Devices}
 use Rattle.rehearse.specs.CommandsShown.{lent_effect}
 use Rattle.rehearse.specs.Bounds.{BoundsShown}

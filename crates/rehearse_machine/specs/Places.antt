@@ -13,7 +13,7 @@ use Rattle.rehearse.specs.Trees.{tree_of}
 use Rattle.rehearse.specs.State.{Text, get, State, parameters_in}
 use Rattle.rehearse.specs.Verdict.{verdict}
 use Rattle.rehearse.specs.Builtins.{SetEnv, Run, Test, Echo, True, False, Leave}
-use Rattle.rehearse.specs.Commands.{Called, BuiltIn, NoCommand, Device, called_by, asks_device, setenv, echo, exit_status}
+use Rattle.rehearse.specs.Commands.{Called, BuiltIn, NoCommand, Device, called_by, sets_in, asks_device, setenv, echo, exit_status}
 use Rattle.rehearse.specs.Execution.{Limits, Ending, End, CutDevices, CutSteps, Unknown, Syntax, Size, Booted, remember, set_status, set_local, status_when, goes, holds, Request, no_effect, logged, set_environment}
 use Rattle.rehearse_machine.specs.Frames.{Frame, Lists, Linked, IfCondition, LoopCondition, LoopBody, ForBody, RunNames, RunText, Next, Go, Ask, Stop, begun_text}
 
@@ -170,7 +170,7 @@ place_boot false name ps s = GoOn ps s
 
 abbrev pub place_answered : Outcome → Request → List RunningFrame → State → PlaceNext
 place_answered Success request ps s =
-    place_boot request.effect.ends request.name ps (set_environment request.effect.sets (logged Success request s))
+    place_boot request.effect.ends request.name ps (set_environment (sets_in request.words request.effect.sets) (logged Success request s))
 place_answered Failure request ps s = GoOn ps (logged Failure request s)
 
 abbrev pub place_assign : List (Text × tree.Word) → List RunningFrame → State → PlaceNext
@@ -279,7 +279,7 @@ module _ (limits : Limits) where
 
   abbrev pub place_fields : List Text → Script → List RunningFrame → State → PlaceNext
   place_fields [] script ps s = GoOn ps (set_status 0 s)
-  place_fields (name ∷ ws) script ps s = place_called (called_by limits.devices name) name ws script ps s
+  place_fields (name ∷ ws) script ps s = place_called (called_by limits.devices name ws) name ws script ps s
 
   abbrev pub place_counted : (State → PlaceNext) → State → PlaceNext
   place_counted next s =

@@ -1,11 +1,12 @@
-//! The commands that are built in and change what a script reads.
+//! What a name calls; `setenv` and `echo` over a store; the status of `exit`; which `test` asks a device; and a
+//! device command that asks for its outcome.
 ghost use Rattle.std.specs.Prelude.{◌≡◌, ◌∷◌, [], IfOk};
 ghost use Rattle.std.specs.List.{join_with_byte, list_all};
 ghost use Rattle.text.specs.Bytes as ascii;
-ghost use Rattle.bootstore.specs.Moment.{bytes_of_words};
+ghost use Rattle.text.specs.TextsShown.{bytes_of_words};
 ghost use Rattle.rehearse.specs.Commands as says;
 ghost use Rattle.rehearse.specs.CommandsShown.{lent_effect};
-ghost use Rattle.rehearse.specs.State.{state_at};
+ghost use Rattle.bootstore.specs.StoredState.{state_at};
 ghost use Rattle.rehearse.specs.Outcomes.{OutcomeWord};
 ghost use Rattle.rehearse.specs.DeviceList.{Devices as ListedDevices};
 ghost use Rattle.rehearse_machine.specs.Places.{place_ask};
@@ -18,7 +19,7 @@ use bootstore::{Store, StoreError};
 use rehearse::{Builtin, Devices, Effect, RunBounds, builtin_of};
 use std::alloc::{AllocError, Global};
 
-/// What the first field of a command calls.
+/// What the fields of a command call.
 #[derive(Clone, Copy)]
 pub(crate) enum Called<'a> {
     BuiltIn(Builtin),
@@ -26,14 +27,14 @@ pub(crate) enum Called<'a> {
     NoCommand,
 }
 
-/// What a name calls: a built-in command, else one of the device list.
-pub(crate) fn called_by<'a>(devices: &'a Devices, name: &[u8]) -> Called<'a>
-    ensures { called_shown result ≡ says.called_by devices.now name.now }
+/// What a name and its words call: a built-in command, else a call of one of the device list.
+pub(crate) fn called_by<'a>(devices: &'a Devices, name: &[u8], words: &[Vec<u8>]) -> Called<'a>
+    ensures { called_shown result ≡ says.called_by devices.now name.now (bytes_of_words words.now) }
 {
     if let Some(builtin) = builtin_of(name) {
         return Called::BuiltIn(builtin);
     }
-    match devices.effect(name) {
+    match devices.effect(name, words) {
         Some(effect) => Called::Device(effect),
         None => Called::NoCommand,
     }

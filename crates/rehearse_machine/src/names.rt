@@ -1,4 +1,4 @@
-//! One move of a frame of a `run` or of a `for`.
+//! One move of a `for`: its variable gets the next word, or the loop ends.
 ghost use Rattle.std.specs.Prelude.{slice_get};
 ghost use Rattle.hushlang.specs.TreesShown as view;
 ghost use Rattle.rehearse_machine.specs.Places.{for_turn};

@@ -1,14 +1,18 @@
 //! Outcomes of device commands.
-ghost use Rattle.std.specs.Prelude.{◌≡◌, map};
-ghost use Rattle.rehearse.specs.DevicesShown.{setting_shown};
+ghost use Rattle.std.specs.Prelude.{◌≡◌, ◌∷◌, [], map, option_map, if◌then◌else◌};
+ghost use Rattle.text.specs.TextsShown.{bytes_of_words};
+ghost use Rattle.rehearse.specs.Commands.{named_by, variable_of, sets_in};
+ghost use Rattle.rehearse.specs.DevicesShown.{left_shown, setting_shown};
 ghost use Rattle.rehearse.specs.Outcomes.{Outcome};
 ghost use Rattle.rehearse.specs.Execution.{succeeds, with_all};
 ghost use Rattle.rehearse_machine.specs.Places.{place_answered};
 ghost use Rattle.rehearse_machine.specs.MovesShown.{Changed, Comes, request_shown};
 
 use crate::ask::{Ask, Step};
+use crate::commands::is_bad_name;
 use crate::halt::Halt;
 use bootstore::{LogEntry, Store, StoreError};
+use rehearse::{Effect, LeftSide, Setting};
 
 /// A device command has its outcome: it stands in the log, and is the status. On success the command sets its
 /// variables, and may end the run.
@@ -25,6 +29,7 @@ pub(crate) fn answer<'d, S: Store>(
         mut words,
         effect,
     } = ask;
+    set_all(store, &words, sets_on(success, effect))?;
     words.insert(0, name.clone()?)?;
     store.device(LogEntry { success, words })?;
     if !success {
@@ -32,19 +37,58 @@ pub(crate) fn answer<'d, S: Store>(
         return Ok(Step::Going);
     }
     store.set_status(0)?;
-    set_all(store, effect.sets)?;
     if effect.ends {
         return Ok(Step::Ends(Halt::Booted(name)));
     }
     Ok(Step::Going)
 }
 
-/// Sets environment variables, one after another.
-fn set_all<S: Store>(store: &mut S, sets: &[(Vec<u8>, Vec<u8>)]) -> Result<(), StoreError>
-    ensures { Changed result (S.record_of store.old) (S.record_of store.new) (λ m. record m { environment = with_all (map setting_shown sets.now) m.environment }) }
+/// What an outcome sets: on failure, nothing.
+fn sets_on(success: bool, effect: Effect<'_>) -> &[Setting]
+    ensures { result.now ≡ (if success then effect.entry.sets.now else []) }
+{
+    if success { effect.sets } else { &[] }
+}
+
+/// Sets what a call with these words sets, one after another.
+fn set_all<S: Store>(store: &mut S, words: &[Vec<u8>], sets: &[Setting]) -> Result<(), StoreError>
+    ensures { Changed result (S.record_of store.old) (S.record_of store.new) (λ m. record m { environment = with_all (sets_in (bytes_of_words words.now) (map setting_shown sets.now)) m.environment }) }
 {
     for set in sets {
-        store.set_env(&set.0, Some(&set.1))?;
+        set_one(store, words, set)?;
     }
     Ok(())
+}
+
+/// Sets what a setting sets in a call with these words.
+fn set_one<S: Store>(store: &mut S, words: &[Vec<u8>], set: &Setting) -> Result<(), StoreError>
+    ensures { Changed result (S.record_of store.old) (S.record_of store.new) (λ m. record m { environment = with_all (sets_in (bytes_of_words words.now) (setting_shown set.now ∷ [])) m.environment }) }
+{
+    let Some(name) = variable_of(&set.left, words) else {
+        return Ok(());
+    };
+    store.set_env(name, Some(&set.value))?;
+    Ok(())
+}
+
+/// The variable that the left side of a setting stands for in a call with these words.
+fn variable_of<'a>(left: &'a LeftSide, words: &'a [Vec<u8>]) -> Option<&'a [u8]>
+    ensures { option_map (λ n. n.now) result ≡ variable_of (left_shown left.now) (bytes_of_words words.now) }
+{
+    match left {
+        LeftSide::Variable(name) => Some(name),
+        LeftSide::WordAt(place) => named_by(words.get(*place as usize)),
+        LeftSide::LastWord => named_by(words.last()),
+    }
+}
+
+/// The variable that a word of a call names, if it is the name of one.
+fn named_by(word: Option<&Vec<u8>>) -> Option<&[u8]>
+    ensures { option_map (λ n. n.now) result ≡ named_by (option_map (λ w. w.now.items) word.entry) }
+{
+    let name = word?;
+    if is_bad_name(name) {
+        return None;
+    }
+    Some(name)
 }

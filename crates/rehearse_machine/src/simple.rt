@@ -7,7 +7,7 @@ ghost use Rattle.rehearse.specs.State.{Text, parameters_in};
 ghost use Rattle.rehearse.specs.Execution.{Limits, set_status};
 ghost use Rattle.rehearse.specs.Builtins as builtins;
 ghost use Rattle.rehearse.specs.Commands as says;
-ghost use Rattle.bootstore.specs.Moment.{bytes_of_words};
+ghost use Rattle.text.specs.TextsShown.{bytes_of_words};
 ghost use Rattle.rehearse.specs.DeviceList.{Devices as ListedDevices};
 ghost use Rattle.rehearse_machine.specs.Places.{place_fields, place_called, place_exit, place_command, place_counted, place_fitting, for_begins, GoOn};
 ghost use Rattle.rehearse_machine.specs.MovesShown.{Comes, IsTop, under, limits_of};
@@ -155,7 +155,7 @@ pub(crate) fn run_fields<'d, S: Store>(
         return done(store, 0);
     }
     let name = fields.remove(0);
-    let called = called_by(devices, &name);
+    let called = called_by(devices, &name, &fields);
     run_called(alloc, store, script, bounds, called, name, fields)
 }
 

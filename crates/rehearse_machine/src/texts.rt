@@ -1,7 +1,7 @@
-//! The frames of a `run`, of a `for`, and of texts.
+//! How a `run` begins, by the frame of its names, and how `exit` leaves the text of a `run`.
 ghost use Rattle.std.specs.Prelude.{◌∷◌, ◌<◌};
 ghost use Rattle.hushlang.specs.TreesShown as view;
-ghost use Rattle.bootstore.specs.Moment.{bytes_of_words};
+ghost use Rattle.text.specs.TextsShown.{bytes_of_words};
 ghost use Rattle.rehearse_machine.specs.Places.{left, to_run, GoOn, names_frame};
 ghost use Rattle.rehearse_machine.specs.MovesShown.{Comes};
 

@@ -4,7 +4,7 @@ use Rattle.std.specs.List.{flat_map, position, list_any}
 use Rattle.std.proofs.lemmas.Bool.Decides.{nat_tests}
 use Rattle.std.proofs.lemmas.Bool.{false≢true, cases_Bool}
 use Rattle.std.proofs.lemmas.List.Quantifiers.{position-Some}
-use Rattle.envimage.specs.Sink.{Sink, BrokeOff}
+use Rattle.output.specs.Sink.{Sink, BrokeOff}
 use Rattle.text.proofs.SearchLemmas.{position-none}
 use Rattle.rehearse_runs.specs.Pieces.{form_of, stands}
 use Rattle.rehearse_runs.specs.declared.pieces.Form.{Form}

@@ -1,25 +1,162 @@
 -- The runs that are asked.
-use Rattle.std.proofs.Common.{◌≡◌, List, Option, Some, None, Result, Ok, Err, IfErr, refl}
+use Rattle.std.proofs.Common.{◌≡◌, ◌==◌, ◌∙◌, arith, ℕ, Bool, true, false, List, [], ◌∷◌, ◌++◌, map, get_or, Option, Some, None, Result, Ok, Err, IfErr, inl, inr, refl, sym, ap, subst, append-nil}
+use Rattle.std.specs.Prelude.{IfOk, OnOk, if◌then◌else◌, codes}
+use Rattle.std.specs.List.{flat_map}
+use Rattle.std.proofs.lemmas.Bool.{eqb-true}
+use Rattle.output.specs.Sink.{Sink, Wrote, BrokeOff}
 use Rattle.envtools.specs.Environment.{value_of}
+use Rattle.rehearse.specs.Asking.{Asking, AreToCome, Listed, SpellsNoRun}
+use Rattle.rehearse.specs.Listing.{outcome_digit, spelled, record_of, line}
+use Rattle.rehearse.specs.Outcomes.{Outcome, OutcomeWord, Success, Failure}
 use Rattle.rehearse.specs.State.{Text}
-use Rattle.rehearse.specs.DeviceList.{Devices}
+use Rattle.rehearse.specs.DeviceList.{Devices, listed}
+use Rattle.rehearse.specs.Runs.{Task}
 use Rattle.rehearse_machine.specs.Tasks.{task_shown, task_set}
 use Rattle.rehearse.specs.Bounds.{BoundsShown}
-use Rattle.rehearse_runs.specs.Behind.{RefusesWord}
-use Rattle.rehearse_runs.specs.RehearsedEnvironment.{RefusesRuns}
+use Rattle.rehearse_runs.specs.AskShown.{asking_alone, asking_by, asking_of}
+use Rattle.rehearse_runs.specs.Behind.{GoesOnBehind, IsNoRun, RefusesWord, runs_behind}
+use Rattle.rehearse_runs.specs.RehearsedEnvironment.{Begins, BreaksOff, Refuses, RefusesAsk, RefusesRuns, Rehearses, WithDevices, task_asked}
+use Rattle.rehearse_runs.specs.RunAlone.{BreaksAlone, WritesAlone, alone_text}
+use Rattle.rehearse_runs.specs.RunsShown.{RunsShown}
+use Rattle.rehearse_runs.specs.StartWord.{digits_in}
+use Rattle.rehearse_runs.specs.declared.ask.Ask.{Ask}
+use Rattle.rehearse_runs.specs.declared.ask.Wanted.{Wanted}
+use Rattle.rehearse_runs.specs.declared.listing.Finish.{Finish}
+use Rattle.rehearse_runs.specs.declared.listing.Finish.TheVariants.{Done}
+use Rattle.rehearse_runs.specs.declared.rehearsing.RehearseError.{RehearseError}
+use Rattle.rehearse_runs.specs.declared.rehearsing.RehearseError.TheVariants as rehearsal
 use Rattle.rehearse_runs.specs.declared.run_error.RunError.{RunError}
 use Rattle.rehearse_runs.specs.declared.run_error.RunError.TheVariants.{NoSuchVariable, Memory, NotARun, Failed}
 use Rattle.rehearse_runs.proofs.TaskSet.{task_is_set}
 
-refuses_behind : (env : List (Text × Text)) (devices : Devices) (name : Text) (bounds : BoundsShown) (start : Option Text) (text : Text) (e : RunError) → start ≡ Some text → RefusesWord (task_shown env devices name bounds) (value_of env name) text e
-    → (e ≡ NoSuchVariable → task_set env devices name bounds ≡ None) → RefusesRuns env devices name bounds start e
-refuses_behind env devices name bounds start text NoSuchVariable s h u = u refl
-refuses_behind env devices name bounds start text Memory s h u = tt
-refuses_behind env devices name bounds start text NotARun s h u = (task_is_set env devices name bounds h.0, text, s, h.1)
-refuses_behind env devices name bounds start text Failed s h u = h
+-- ---- a word as it is printed, and its digits
 
-pub refused_behind : {X : Type 0} (result : Result X RunError) (env : List (Text × Text)) (devices : Devices) (name : Text) (bounds : BoundsShown) (start : Option Text) (text : Text) → start ≡ Some text
-    → IfErr result (λ e. RefusesWord (task_shown env devices name bounds) (value_of env name) text e)
-    → IfErr result (λ e. e ≡ NoSuchVariable → task_set env devices name bounds ≡ None) → IfErr result (λ e. RefusesRuns env devices name bounds start e)
-refused_behind (Ok x) env devices name bounds start text s h u = h
-refused_behind (Err e) env devices name bounds start text s h u = refuses_behind env devices name bounds start text e s h u
+pub spelled-digits : (w : OutcomeWord) → digits_in (spelled w) ≡ map outcome_digit w
+spelled-digits [] = refl
+spelled-digits (Success ∷ []) = refl
+spelled-digits (Failure ∷ []) = refl
+spelled-digits (d ∷ e ∷ w) = refl
+
+no_dot : (text : Text) (w : OutcomeWord) (d : Outcome) → 46 ∷ [] ≡ map outcome_digit (d ∷ w) → text ≡ spelled (d ∷ w)
+no_dot text w Success e = let h : 46 ≡ 48 = ap (λ (l : List ℕ). get_or l 0 0) e in absurd (omega (arith, h))
+no_dot text w Failure e = let h : 46 ≡ 49 = ap (λ (l : List ℕ). get_or l 0 0) e in absurd (omega (arith, h))
+
+one_byte : (b : ℕ) (dot : Bool) (w : OutcomeWord) → (b == 46) ≡ dot → (if dot then [] else b ∷ []) ≡ map outcome_digit w → b ∷ [] ≡ spelled w
+one_byte b true [] is e = ap (λ n. n ∷ []) (eqb-true b 46 is)
+one_byte b true (d ∷ w) is e = cc
+one_byte b false [] is e = cc
+one_byte b false (d ∷ w) is e = e
+
+pub digits-spelled : (text : Text) (w : OutcomeWord) → digits_in text ≡ map outcome_digit w → text ≡ spelled w
+digits-spelled [] [] e = cc
+digits-spelled [] (d ∷ w) e = no_dot [] w d e
+digits-spelled (b ∷ []) w e = one_byte b (b == 46) w refl e
+digits-spelled (b ∷ c ∷ more) [] e = cc
+digits-spelled (b ∷ c ∷ more) (d ∷ w) e = e
+
+-- digits that are no run's are those of a word that spells none
+pub spells_no_run : (task : Task) (printed digits : Text) → digits ≡ digits_in printed → IsNoRun task digits → SpellsNoRun task (Some printed)
+spells_no_run task printed digits is h = λ w e. h w (is ∙ ap digits_in e ∙ spelled-digits w)
+
+-- ---- the runs of a listing
+
+begins_from : (env : List (Text × Text)) (devices : Devices) (name : Text) (bounds : BoundsShown) (printed digits : Text) (r : RunsShown) → digits ≡ digits_in printed → GoesOnBehind (task_shown env devices name bounds) digits r
+    → task_set env devices name bounds ≡ Some (task_shown env devices name bounds) → Begins env devices name bounds (Some printed) r
+begins_from env devices name bounds printed digits r is h set =
+    let P : RunsShown → Type 0 = λ r. Begins env devices name bounds (Some printed) r in
+    subst P (sym h.behind) (record {
+      task_is = set;
+      to_come = (h.word, digits-spelled printed h.word (sym is ∙ h.digits), h.run, refl);
+      sound = refl;
+    })
+
+pub begins_behind : (result : Result RunsShown RunError) (env : List (Text × Text)) (devices : Devices) (name : Text) (bounds : BoundsShown) (after : Option Text) (printed digits : Text) → after ≡ Some printed → digits ≡ digits_in printed
+    → IfOk result (λ r. GoesOnBehind (task_shown env devices name bounds) digits r) → OnOk result (task_set env devices name bounds ≡ Some (task_shown env devices name bounds)) → IfOk result (λ r. Begins env devices name bounds after r)
+begins_behind (Ok r) env devices name bounds after printed digits s is h set =
+    let P : Option Text → Type 0 = λ o. Begins env devices name bounds o r in
+    subst P (sym s) (begins_from env devices name bounds printed digits r is h set)
+begins_behind (Err e) env devices name bounds after printed digits s is h set = tt
+
+refuses_behind : (env : List (Text × Text)) (devices : Devices) (name : Text) (bounds : BoundsShown) (printed digits : Text) (e : RunError) → digits ≡ digits_in printed → RefusesWord (task_shown env devices name bounds) (value_of env name) digits e
+    → (e ≡ NoSuchVariable → task_set env devices name bounds ≡ None) → RefusesRuns env devices name bounds (Some printed) e
+refuses_behind env devices name bounds printed digits NoSuchVariable is h u = u refl
+refuses_behind env devices name bounds printed digits Memory is h u = tt
+refuses_behind env devices name bounds printed digits NotARun is h u = record {
+  task = task_shown env devices name bounds;
+  task_is = task_is_set env devices name bounds h.0;
+  no_run = spells_no_run (task_shown env devices name bounds) printed digits is h.1;
+}
+refuses_behind env devices name bounds printed digits Failed is h u = h
+
+pub refused_behind : {X : Type 0} (result : Result X RunError) (env : List (Text × Text)) (devices : Devices) (name : Text) (bounds : BoundsShown) (after : Option Text) (printed digits : Text) → after ≡ Some printed → digits ≡ digits_in printed
+    → IfErr result (λ e. RefusesWord (task_shown env devices name bounds) (value_of env name) digits e)
+    → IfErr result (λ e. e ≡ NoSuchVariable → task_set env devices name bounds ≡ None) → IfErr result (λ e. RefusesRuns env devices name bounds after e)
+refused_behind (Ok x) env devices name bounds after printed digits s is h u = tt
+refused_behind (Err e) env devices name bounds after printed digits s is h u =
+    let P : Option Text → Type 0 = λ o. RefusesRuns env devices name bounds o e in
+    subst P (sym s) (refuses_behind env devices name bounds printed digits e is h u)
+
+-- ---- the run of one word
+
+listed_alone : (f : OutcomeWord → Text) (w : OutcomeWord) (last : Text) → f w ++ last ≡ flat_map f (w ∷ []) ++ last
+listed_alone f w last = ap (λ (t : Text). t ++ last) (sym (append-nil (f w)))
+
+pub writes_alone : (env : List (Text × Text)) (devices : Devices) (name : Text) (bounds : BoundsShown) (printed : Text) (names : List Text) (old new : Sink) → task_set env devices name bounds ≡ Some (task_shown env devices name bounds)
+    → WritesAlone (task_shown env devices name bounds) printed names old new → Rehearses env devices (asking_alone name bounds printed names) old new Done
+writes_alone env devices name bounds printed names old new set h =
+    let task = task_shown env devices name bounds in
+    let w = h.is_run.word in
+    let P : Text → Type 0 = λ t. Wrote old new t in
+    record {
+      task = task;
+      words = w ∷ [];
+      rehearsed = record { task_is = set; to_come = (w, h.is_run.spells, h.is_run.run, refl) };
+      wrote = subst P (listed_alone (record_of task names) w (line (codes "done"))) h.wrote;
+      finish_is = refl;
+    }
+
+pub breaks_alone : (env : List (Text × Text)) (devices : Devices) (name : Text) (bounds : BoundsShown) (printed : Text) (names : List Text) (old new : Sink) (e : RehearseError) → task_set env devices name bounds ≡ Some (task_shown env devices name bounds)
+    → BreaksAlone (task_shown env devices name bounds) printed names old new e → Refuses env devices (asking_alone name bounds printed names) old new e
+breaks_alone env devices name bounds printed names old new (rehearsal.DeviceList fault) set h = absurd h
+breaks_alone env devices name bounds printed names old new rehearsal.NoSuchVariable set h = absurd h
+breaks_alone env devices name bounds printed names old new rehearsal.NotARun set h = (record { task = task_shown env devices name bounds; task_is = set; no_run = h.0 }, h.1)
+breaks_alone env devices name bounds printed names old new rehearsal.Write set h =
+    let task = task_shown env devices name bounds in
+    let w = h.is_run.word in
+    let P : Text → Type 0 = λ t. BrokeOff old new t in
+    record {
+      task = task;
+      words = w ∷ [];
+      rehearsed = record { task_is = set; to_come = (w, h.is_run.spells, h.is_run.run, refl) };
+      broke = subst P (listed_alone (record_of task names) w (line (codes "done"))) h.broke;
+    }
+breaks_alone env devices name bounds printed names old new rehearsal.Memory set h = inl h
+
+-- ---- with the device list
+
+asked_as : (ask : Ask) (wanted : Wanted) → ask.wanted ≡ wanted → asking_by ask.name.now wanted (map (λ n. n.now) ask.names.now) ≡ asking_of ask
+asked_as ask wanted is = ap (λ (w : Wanted). asking_by ask.name.now w (map (λ n. n.now) ask.names.now)) (sym is)
+
+pub rehearses_with : (result : Result Finish RehearseError) (env : List (Text × Text)) (text : Text) (devices : Devices) (ask : Ask) (wanted : Wanted) (old new : Sink) → listed text ≡ Ok devices → ask.wanted ≡ wanted
+    → IfOk result (λ finish. Rehearses env devices (asking_by ask.name.now wanted (map (λ n. n.now) ask.names.now)) old new finish)
+    → IfOk result (λ finish. WithDevices text (λ devices. Rehearses env devices (asking_of ask) old new finish))
+rehearses_with (Ok finish) env text devices ask wanted old new l is h =
+    let P : Asking → Type 0 = λ a. Rehearses env devices a old new finish in
+    record { devices = devices; listed_as = l; so = subst P (asked_as ask wanted is) h }
+rehearses_with (Err e) env text devices ask wanted old new l is h = tt
+
+refuses_with : (env : List (Text × Text)) (text : Text) (devices : Devices) (asking : Asking) (old new : Sink) (e : RehearseError) → listed text ≡ Ok devices → Refuses env devices asking old new e → RefusesAsk env text asking old new e
+refuses_with env text devices asking old new (rehearsal.DeviceList fault) l h = absurd h
+refuses_with env text devices asking old new rehearsal.NoSuchVariable l h = record { devices = devices; listed_as = l; so = h }
+refuses_with env text devices asking old new rehearsal.NotARun l h = record { devices = devices; listed_as = l; so = h }
+refuses_with env text devices asking old new rehearsal.Write l h = record { devices = devices; listed_as = l; so = h }
+refuses_with env text devices asking old new rehearsal.Memory l (inl same) = inl same
+refuses_with env text devices asking old new rehearsal.Memory l (inr h) = inr (record { devices = devices; listed_as = l; so = h })
+
+pub refused_with : {T : Type 0} (result : Result T RehearseError) (env : List (Text × Text)) (text : Text) (devices : Devices) (ask : Ask) (wanted : Wanted) (old new : Sink) → listed text ≡ Ok devices → ask.wanted ≡ wanted
+    → IfErr result (λ e. Refuses env devices (asking_by ask.name.now wanted (map (λ n. n.now) ask.names.now)) old new e)
+    → IfErr result (λ e. RefusesAsk env text (asking_of ask) old new e)
+refused_with (Ok x) env text devices ask wanted old new l is h = tt
+refused_with (Err e) env text devices ask wanted old new l is h =
+    let P : Asking → Type 0 = λ a. Refuses env devices a old new e in
+    refuses_with env text devices (asking_of ask) old new e l (subst P (asked_as ask wanted is) h)

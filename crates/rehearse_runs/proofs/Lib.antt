@@ -11,3 +11,4 @@ pub mod WalkLemmas
 pub mod BehindLemmas
 pub mod TaskSet
 pub mod HeadlineLemmas
+pub mod AloneLemmas

@@ -3,11 +3,12 @@ use Rattle.std.proofs.Common.{◌≡◌, ◌≢◌, ℕ, zero, suc, ◌+◌, ◌
 use Rattle.std.specs.Prelude.{nat_le, codes, unwrap_or}
 use Rattle.std.specs.List.{flat_map}
 use Rattle.std.proofs.lemmas.List.Concat.{flat_map-append}
-use Rattle.envimage.specs.Sink.{Sink, Wrote, BrokeOff}
-use Rattle.envimage.proofs.SinkLemmas.{Wrote-none, Wrote-append, BrokeOff-after, BrokeOff-before}
+use Rattle.output.specs.Sink.{Sink, Wrote, BrokeOff}
+use Rattle.output.proofs.SinkLemmas.{Wrote-none, Wrote-append, BrokeOff-after, BrokeOff-before}
 use Rattle.bootstore.specs.declared.store.Store.{Ghosts}
 use Rattle.rehearse.specs.Outcomes.{OutcomeWord}
-use Rattle.rehearse.specs.State.{Text, State, state_at}
+use Rattle.rehearse.specs.State.{Text, State}
+use Rattle.bootstore.specs.StoredState.{state_at}
 use Rattle.rehearse.specs.Execution.{Ending}
 use Rattle.rehearse.specs.Runs.{Task, run_on, state_of, ending_of}
 use Rattle.rehearse.specs.Listing.{outcome_digit, record_text, record_of, words_listed, closing, listing, last_of, line, spelled}
@@ -31,13 +32,17 @@ recorded_spelled : (w : OutcomeWord) (s : State) (e : Ending) (names : List Text
 recorded_spelled [] s e names = refl
 recorded_spelled (d ∷ w) s e names = refl
 
--- what is written of a run that is shown is its record
-pub record_shown : {S : Type 0} (g : Ghosts S) (task : Task) (w : OutcomeWord) (v : RunView S) (names : List Text) → ShowsRun g task w v → recorded (shown_word v) (state_at (shown_moment g v) []) (shown_ending v) names ≡ record_of task names w
-record_shown g task w v names h =
-    ap (λ (d : Text). recorded d (state_at (shown_moment g v) []) (shown_ending v) names) h.word
-    ∙ ap (λ (s : State). recorded (map outcome_digit w) s (shown_ending v) names) h.moment
-    ∙ ap (λ (e : Ending). recorded (map outcome_digit w) (record (state_of (run_on task w)) { word = [] }) e names) h.ending
+-- what is written of a run is its record
+pub record_is : (task : Task) (w : OutcomeWord) (digits : Text) (s : State) (ending : Ending) (names : List Text) → digits ≡ map outcome_digit w → s ≡ state_of (run_on task w) → ending ≡ ending_of (run_on task w) → recorded digits (record s { word = [] }) ending names ≡ record_of task names w
+record_is task w digits s ending names d m e =
+    ap (λ (x : Text). recorded x (record s { word = [] }) ending names) d
+    ∙ ap (λ (x : State). recorded (map outcome_digit w) (record x { word = [] }) ending names) m
+    ∙ ap (λ (x : Ending). recorded (map outcome_digit w) (record (state_of (run_on task w)) { word = [] }) x names) e
     ∙ recorded_spelled w (state_of (run_on task w)) (ending_of (run_on task w)) names
+
+-- and of one that is shown
+pub record_shown : {S : Type 0} (g : Ghosts S) (task : Task) (w : OutcomeWord) (v : RunView S) (names : List Text) → ShowsRun g task w v → recorded (shown_word v) (state_at (shown_moment g v) []) (shown_ending v) names ≡ record_of task names w
+record_shown g task w v names h = record_is task w (shown_word v) (state_at (shown_moment g v) []) (shown_ending v) names h.word h.moment h.ending
 
 left_first : (limit : Option ℕ) → IsLeft limit limit 0
 left_first None = tt

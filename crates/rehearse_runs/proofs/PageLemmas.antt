@@ -2,8 +2,8 @@
 use Rattle.std.proofs.Common.{◌≡◌, ℕ, suc, ◌+◌, ◌<◌, List, [], ◌++◌, length, get_or, take, drop, sym, ap, subst, ◌∙◌, append_assoc, add-one, Result, Ok, Err}
 use Rattle.std.specs.List.{flat_map}
 use Rattle.std.proofs.lemmas.List.{append-nil}
-use Rattle.envimage.specs.Sink.{Sink, Wrote, BrokeOff, Prints}
-use Rattle.envimage.proofs.SinkLemmas.{Wrote-none, Wrote-append, BrokeOff-after, BrokeOff-before, flat_map-at, flat_map-upto}
+use Rattle.output.specs.Sink.{Sink, Wrote, BrokeOff, Prints}
+use Rattle.output.proofs.SinkLemmas.{Wrote-none, Wrote-append, BrokeOff-after, BrokeOff-before, flat_map-at, flat_map-upto}
 use Rattle.rehearse_runs.specs.Paging.{Put, Puts}
 
 pub Put-none : (s : Sink) (p : List ℕ) → Put s s p p []

@@ -5,8 +5,8 @@ use Rattle.std.specs.List.{flat_map, join_with_byte}
 use Rattle.std.proofs.lemmas.List.Concat.{flat_map-append}
 use Rattle.std.specs.declared.alloc.Global.{Global}
 use Rattle.std.specs.declared.vec.Vec.{Vec}
-use Rattle.bootstore.specs.Moment.{LoggedCommand, bytes_of_words}
-use Rattle.rehearse.specs.State.{Text, Variables, State}
+use Rattle.text.specs.TextsShown.{bytes_of_words}
+use Rattle.rehearse.specs.State.{Text, Variables, State, LoggedCommand}
 use Rattle.rehearse.specs.Execution.{Ending}
 use Rattle.text.specs.Escapes.{word_form}
 use Rattle.rehearse.specs.Listing.{line, digit_when, device_line, text_lines, variable_line, variable_lines, asked_line, last_line}

@@ -3,7 +3,8 @@ use Rattle.std.proofs.Common.{◌≡◌, ℕ, zero, suc, ◌+◌, ◌<◌, ◌�
 use Rattle.bootstore.specs.Moment.{Moment}
 use Rattle.rehearse.specs.Bounds.{most_steps}
 use Rattle.rehearse.specs.Outcomes.{OutcomeWord, Outcome, Success, Failure, WordKind, Run, Short, Long, turned, beyond, first_run, first_from, common_prefix}
-use Rattle.rehearse.specs.State.{Text, State, state_at}
+use Rattle.rehearse.specs.State.{Text, State}
+use Rattle.bootstore.specs.StoredState.{state_at}
 use Rattle.rehearse.specs.Execution.{Answer, Normal, Exit, Ended, Dry, Ending}
 use Rattle.rehearse.specs.Runs.{Task, run_on, kind, kind_of, taken_kind, state_of, ending_of, runs, rest, asked}
 use Rattle.std.proofs.lemmas.Bool.{ne_eqb}

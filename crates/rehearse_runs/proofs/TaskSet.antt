@@ -15,7 +15,7 @@ use Rattle.rehearse.specs.DeviceList.{Devices}
 use Rattle.rehearse.specs.Bounds.{BoundsShown}
 use Rattle.rehearse.specs.Runs.{Task}
 use Rattle.rehearse_machine.specs.Tasks.{task_shown, task_set}
-use Rattle.rehearse.proofs.StateLemmas.{stored_values}
+use Rattle.bootstore.proofs.StateLemmas.{stored_values}
 
 abbrev is_there : Option Text → Bool
 is_there None = false

@@ -1,5 +1,5 @@
 -- The walk along the digits of a word.
-use Rattle.std.proofs.Common.{◌≡◌, ◌≢◌, ◌+◌, ◌<◌, ◌≤◌, true, false, List, [], ◌∷◌, ◌++◌, length, map, rules, Result, Ok, Err, refl, sym, ap, subst, ◌∙◌, append_assoc, append-nil, arith}
+use Rattle.std.proofs.Common.{ℕ, ◌≡◌, ◌≢◌, ◌+◌, ◌<◌, ◌≤◌, true, false, List, [], ◌∷◌, ◌++◌, length, map, rules, Result, Ok, Err, refl, sym, ap, subst, ◌∙◌, append_assoc, append-nil, arith}
 use Rattle.std.specs.Prelude.{IfOk}
 use Rattle.std.specs.Bool.{◌==◌}
 use Rattle.bootstore.specs.Moment.{Moment}
@@ -27,8 +27,8 @@ use Rattle.rehearse_runs.proofs.SearchLemmas.{Asked, asked_here, asked_kind, fou
 pub asked_now : (task : Task) (digits : Text) (m : Moment) → StoppedAt task (outcomes digits) Asks m → Asked task digits Asks m
 asked_now task digits m h = asked_here task digits Asks m refl h
 
-pub room_here : (task : Task) (digits : Text) (m : Moment) → StoppedAt task (outcomes digits) Asks m → task.limits.device_bound ≤ most_devices → length digits < 32
-room_here task digits m h b = let a = (asked_now task digits m h).room in omega arith
+pub room_here : (task : Task) (digits : Text) (m : Moment) (room : ℕ) → StoppedAt task (outcomes digits) Asks m → task.limits.device_bound ≤ room → length digits < room
+room_here task digits m room h b = let a = (asked_now task digits m h).room in omega arith
 
 pub fails_on : (task : Task) (digits digits' : Text) (next : Stop) (r r₁ : Record) → StoppedAt task (outcomes digits) Asks r.present → digits' ≡ digits ++ 49 ∷ []
     → Stops task.limits next (λ w. asked_at task.limits r.present (outcome_when false ∷ w)) r₁.present → StoppedAt task (outcomes digits') next r₁.present

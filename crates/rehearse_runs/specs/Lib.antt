@@ -11,4 +11,7 @@ pub mod ListingRuns
 pub mod Searching
 pub mod Walking
 pub mod Behind
+pub mod StartWord
+pub mod AskShown
+pub mod RunAlone
 pub mod RehearsedEnvironment

@@ -1,7 +1,7 @@
 -- What writing a listing of `Runs` does. Ours.
 use Rattle.std.specs.Prelude.{◌≡◌, ◌⊎◌, ℕ, ◌+◌, ◌-◌, nat_le, nat_eq, Bool, true, false, List, [], ◌∷◌, ◌++◌, length, drop, Option, Some, None}
 use Rattle.std.specs.List.{flat_map}
-use Rattle.envimage.specs.Sink.{Sink, Wrote, BrokeOff}
+use Rattle.output.specs.Sink.{Sink, Wrote, BrokeOff}
 use Rattle.rehearse.specs.Outcomes.{OutcomeWord}
 use Rattle.rehearse.specs.State.{Text}
 use Rattle.rehearse.specs.Listing.{line, record_of, words_listed, closing, listing}

@@ -4,7 +4,7 @@ use Rattle.bootstore.specs.Moment.{Moment}
 use Rattle.bootstore.specs.Record.{Record}
 use Rattle.rehearse.specs.Bounds.{most_steps}
 use Rattle.rehearse.specs.Outcomes.{OutcomeWord, Failure, Run, turned, first_from, common_prefix}
-use Rattle.rehearse.specs.State.{state_at}
+use Rattle.bootstore.specs.StoredState.{state_at}
 use Rattle.rehearse.specs.Runs.{Task, run_on, state_of, ending_of, kind, runs, rest, asked}
 use Rattle.rehearse_machine.specs.EndingsShown.{halt_shown}
 use Rattle.rehearse_machine.specs.Machine.{Stops}

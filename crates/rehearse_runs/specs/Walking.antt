@@ -4,7 +4,8 @@ use Rattle.std.specs.Borrow.{Bor}
 use Rattle.bootstore.specs.Record.{Record}
 use Rattle.rehearse.specs.Bounds.{most_steps}
 use Rattle.rehearse.specs.Outcomes.{OutcomeWord, Outcome, Run, Short, Long}
-use Rattle.rehearse.specs.State.{Text, state_at}
+use Rattle.rehearse.specs.State.{Text}
+use Rattle.bootstore.specs.StoredState.{state_at}
 use Rattle.rehearse.specs.Runs.{Task, run_on, state_of, ending_of, kind}
 use Rattle.rehearse.specs.Listing.{outcome_digit}
 use Rattle.rehearse_machine.specs.EndingsShown.{halt_shown}

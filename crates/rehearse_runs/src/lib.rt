@@ -1,6 +1,8 @@
 //! The runs of a boot script in their order, and their listing.
 #![tactic(auto)]
 
+mod alone;
+mod ask;
 mod bytes;
 mod listing;
 mod page;
@@ -15,10 +17,11 @@ mod trying;
 mod view;
 mod walking;
 
+pub use ask::{Ask, Wanted};
 pub use listing::{Finish, ListError, write_listing};
 pub use record::write_record;
 pub use rehearse_machine::Ending;
-pub use rehearsing::{Ask, RehearseError, rehearse_env};
+pub use rehearsing::{RehearseError, rehearse_env};
 pub use resuming::{Point, resume_point};
 pub use run_error::RunError;
 pub use runs::Runs;

@@ -1,6 +1,6 @@
 //! The listing of runs.
 ghost use Rattle.std.specs.Prelude.{◌≡◌, ◌≢◌, map, codes, ◌++◌, false, Some, IfOk, OnOk, IfErr};
-ghost use Rattle.envimage.specs.Sink.{Prints};
+ghost use Rattle.output.specs.Sink.{Prints};
 ghost use Rattle.rehearse.specs.Listing.{line};
 ghost use Rattle.rehearse_runs.specs.Recording.{printed};
 ghost use Rattle.rehearse_runs.specs.ListingRuns.{list_error, reached, lowered, WroteRecords, Lists, Breaks};
@@ -9,7 +9,7 @@ use crate::record::write_record;
 use crate::run_error::RunError;
 use crate::runs::Runs;
 use bootstore::Store;
-use envimage::{Out, OutFault, write_all, write_parts};
+use output::{Out, OutFault, write_all, write_parts};
 use thiserror::Error;
 
 /// How a listing finishes.

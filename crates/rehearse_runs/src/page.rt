@@ -1,10 +1,10 @@
 //! Bytes on their way to an output, gathered so that it gets few writes. A page takes no memory.
 ghost use Rattle.std.specs.Prelude.{◌≡◌, [], OnOk};
-ghost use Rattle.envimage.specs.Sink.{Prints};
+ghost use Rattle.output.specs.Sink.{Prints};
 ghost use Rattle.rehearse_runs.specs.Paging.{Puts};
 
 use crate::bytes::Bytes;
-use envimage::{Out, OutFault, write_all};
+use output::{Out, OutFault, write_all};
 
 /// The bytes that are not written yet.
 pub(crate) type Page = Bytes<1024>;

@@ -6,7 +6,7 @@ ghost use Rattle.rehearse_runs.specs.Paging.{Puts};
 ghost use Rattle.rehearse_runs.specs.Pieces.{form_of, least_of, piece_text, stands};
 
 use crate::page::{Page, put};
-use envimage::{Out, OutFault};
+use output::{Out, OutFault};
 use text::Escaped;
 
 /// A piece of a line.

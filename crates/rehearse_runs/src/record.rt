@@ -4,9 +4,9 @@ ghost use Rattle.std.specs.List.{flat_map, join_with_byte};
 ghost use Rattle.std.specs.FinMap.{entries};
 ghost use Rattle.text.specs.Bytes as ascii;
 ghost use Rattle.text.specs.Escapes.{word_form};
-ghost use Rattle.envimage.specs.Sink.{Prints};
-ghost use Rattle.bootstore.specs.Moment.{bytes_of_words};
-ghost use Rattle.rehearse.specs.State.{state_at};
+ghost use Rattle.output.specs.Sink.{Prints};
+ghost use Rattle.text.specs.TextsShown.{bytes_of_words};
+ghost use Rattle.bootstore.specs.StoredState.{state_at};
 ghost use Rattle.rehearse.specs.Listing.{line, digit_when, text_lines, variable_lines, last_line};
 ghost use Rattle.rehearse_runs.specs.Paging.{Puts};
 ghost use Rattle.rehearse_runs.specs.Recording.{printed, spaced, entry_line, set_line, named_line, recorded};
@@ -17,7 +17,7 @@ use crate::page::{Page, flush, put};
 use crate::pieces::{Piece, put_pieces, put_word};
 use crate::view::RunView;
 use bootstore::{LogEntry, Store, Variables};
-use envimage::{Out, OutFault};
+use output::{Out, OutFault};
 use rehearse_machine::Ending;
 
 /// Puts the first line of a record, with the digits of its word.

@@ -1,31 +1,21 @@
 //! The rehearsal of an environment, from the text of its device list to the listing.
-ghost use Rattle.std.specs.Prelude.{◌≢◌, Some, IfOk, IfErr};
-ghost use Rattle.bootstore.specs.Moment.{option_bytes};
-ghost use Rattle.rehearse_runs.specs.RehearsedEnvironment.{Begins, RefusesRuns, Rehearses, RefusesAsk};
+ghost use Rattle.std.specs.Prelude.{◌≡◌, ◌≢◌, Some, IfOk, IfErr, map};
+ghost use Rattle.text.specs.TextsShown.{option_bytes};
+ghost use Rattle.rehearse.specs.Asking.{limit_of};
+ghost use Rattle.rehearse_runs.specs.AskShown.{asking_of, asking_alone, asking_listed, wanted_of};
+ghost use Rattle.rehearse_runs.specs.RehearsedEnvironment.{Begins, Refuses, RefusesAsk, RefusesRuns, Rehearses, WithDevices};
 
+use crate::alone::write_run;
+use crate::ask::{Ask, Wanted, digits_of};
 use crate::listing::{Finish, ListError, write_listing};
 use crate::run_error::RunError;
 use crate::runs::Runs;
 use bootstore::Store;
-use envimage::Out;
 use envtools::Env;
-use rehearse::{Bounds, Devices, DevicesError};
+use output::Out;
+use rehearse::{Bounds, Devices, DevicesError, RunBounds};
+use rehearse_machine::Rehearsal;
 use std::alloc::Global;
-
-/// What is asked of a rehearsal.
-#[derive(Clone, Copy)]
-pub struct Ask<'a> {
-    /// The variable whose text is rehearsed.
-    pub name: &'a [u8],
-    /// The bounds of its runs.
-    pub bounds: Bounds,
-    /// The digits of the run behind which the listing begins.
-    pub start: Option<&'a [u8]>,
-    /// The variables that each record shows.
-    pub names: &'a [&'a [u8]],
-    /// How many records are wanted.
-    pub limit: Option<u32>,
-}
 
 /// Why a rehearsal was refused.
 #[derive(Clone, Copy, Debug, Drop, PartialEq, Eq)]
@@ -34,7 +24,7 @@ pub enum RehearseError {
     DeviceList(DevicesError),
     /// The variable is not set.
     NoSuchVariable,
-    /// The start word is no run.
+    /// The word that was given is no run's.
     NotARun,
     /// The output failed.
     Write,
@@ -42,26 +32,88 @@ pub enum RehearseError {
     Memory,
 }
 
-/// The runs that are asked.
+/// The runs of a listing.
 fn begin_runs<'a, S: Store>(
     alloc: Global,
     env: &'a Env,
     devices: &'a Devices,
     name: &'a [u8],
     bounds: Bounds,
-    start: Option<&[u8]>,
+    after: Option<&[u8]>,
 ) -> Result<Runs<'a, S>, RunError>
-    ensures ok { IfOk result (λ r. Begins env.now devices.now name.now bounds (option_bytes start.entry) r) }
-    ensures err { IfErr result (λ e. RefusesRuns env.now devices.now name.now bounds (option_bytes start.entry) e) }
+    ensures ok { IfOk result (λ r. Begins env.now devices.now name.now bounds (option_bytes after.entry) r) }
+    ensures err { IfErr result (λ e. RefusesRuns env.now devices.now name.now bounds (option_bytes after.entry) e) }
 {
-    match start {
+    match after {
         None => Runs::new(alloc, env, devices, name, bounds),
-        Some(word) => Runs::after(alloc, env, devices, name, bounds, word),
+        Some(word) => Runs::after(alloc, env, devices, name, bounds, digits_of(word)),
     }
 }
 
-/// Writes the listing of the runs that are asked. Refusals in order: the device list, the variable, the start word, and
-/// nothing is written then; `Write` as the listing goes, and `Memory` wherever a growth is made.
+/// Writes the listing of runs.
+fn list_runs<'x, S: Store, O: Out>(
+    alloc: Global,
+    env: &'x Env,
+    devices: &'x Devices,
+    name: &'x [u8],
+    bounds: Bounds,
+    after: Option<&[u8]>,
+    limit: Option<u32>,
+    names: &[&[u8]],
+    out: &mut O,
+) -> Result<Finish, RehearseError>
+    requires { limit ≢ Some 0 }
+    ensures ok { IfOk result (λ finish. Rehearses env.now devices.now (asking_listed name.now bounds (option_bytes after.entry) limit (map (λ n. n.now) names.now)) (O.sink out.old) (O.sink out.new) finish) }
+    ensures err { IfErr result (λ e. Refuses env.now devices.now (asking_listed name.now bounds (option_bytes after.entry) limit (map (λ n. n.now) names.now)) (O.sink out.old) (O.sink out.new) e) }
+{
+    let mut runs = match begin_runs::<S>(alloc, env, devices, name, bounds, after) {
+        Ok(runs) => runs,
+        Err(RunError::NoSuchVariable) => return Err(RehearseError::NoSuchVariable),
+        Err(RunError::NotARun) => return Err(RehearseError::NotARun),
+        Err(_) => return Err(RehearseError::Memory),
+    };
+    match write_listing(&mut runs, names, limit, out) {
+        Ok(finish) => Ok(finish),
+        Err(ListError::Write) => Err(RehearseError::Write),
+        Err(ListError::Memory) => Err(RehearseError::Memory),
+        Err(ListError::Failed) => Err(RehearseError::Memory),
+    }
+}
+
+/// Writes the run of a word.
+#[tactic(auto, using(crate::proofs::TaskSet::task_is_set, crate::proofs::TaskSet::task_is_unset))]
+fn list_one<S: Store, O: Out>(
+    alloc: Global,
+    env: &Env,
+    devices: &Devices,
+    name: &[u8],
+    bounds: RunBounds,
+    word: &[u8],
+    names: &[&[u8]],
+    out: &mut O,
+) -> Result<Finish, RehearseError>
+    ensures ok { IfOk result (λ finish. Rehearses env.now devices.now (asking_alone name.now bounds word.now (map (λ n. n.now) names.now)) (O.sink out.old) (O.sink out.new) finish) }
+    ensures err { IfErr result (λ e. Refuses env.now devices.now (asking_alone name.now bounds word.now (map (λ n. n.now) names.now)) (O.sink out.old) (O.sink out.new) e) }
+{
+    if env.get(name).is_none() {
+        return Err(RehearseError::NoSuchVariable);
+    }
+    let rehearsal = Rehearsal {
+        alloc,
+        env,
+        devices,
+        name,
+        bounds,
+    };
+    match write_run::<S, O>(&rehearsal, word, names, out) {
+        Ok(()) => Ok(Finish::Done),
+        Err(error) => Err(error),
+    }
+}
+
+/// Writes the listing of the runs that are asked for, or the record of the one that is, and `done`. Refusals in order:
+/// the device list, the variable, the word, and nothing is written then; `Write` as the listing goes, and `Memory`
+/// wherever a growth is made.
 pub fn rehearse_env<'x, S: Store, O: Out>(
     alloc: Global,
     env: &'x Env,
@@ -69,25 +121,25 @@ pub fn rehearse_env<'x, S: Store, O: Out>(
     ask: &Ask<'x>,
     out: &mut O,
 ) -> Result<Finish, RehearseError>
-    requires { ask.now.limit ≢ Some 0 }
-    ensures ok { IfOk result (λ finish. Rehearses env.now devices_text.now ask.now (O.sink out.old) (O.sink out.new) finish) }
-    ensures err { IfErr result (λ e. RefusesAsk env.now devices_text.now ask.now (O.sink out.old) (O.sink out.new) e) }
+    requires { limit_of (wanted_of ask.now.wanted) ≢ Some 0 }
+    ensures ok { IfOk result (λ finish. WithDevices devices_text.now (λ devices. Rehearses env.now devices (asking_of ask.now) (O.sink out.old) (O.sink out.new) finish)) }
+    ensures err { IfErr result (λ e. RefusesAsk env.now devices_text.now (asking_of ask.now) (O.sink out.old) (O.sink out.new) e) }
 {
     let devices = match Devices::parse(alloc, devices_text) {
         Ok(devices) => devices,
         Err(DevicesError::Memory) => return Err(RehearseError::Memory),
         Err(fault) => return Err(RehearseError::DeviceList(fault)),
     };
-    let mut runs = match begin_runs::<S>(alloc, env, &devices, ask.name, ask.bounds, ask.start) {
-        Ok(runs) => runs,
-        Err(RunError::NoSuchVariable) => return Err(RehearseError::NoSuchVariable),
-        Err(RunError::NotARun) => return Err(RehearseError::NotARun),
-        Err(_) => return Err(RehearseError::Memory),
-    };
-    match write_listing(&mut runs, ask.names, ask.limit, out) {
-        Ok(finish) => Ok(finish),
-        Err(ListError::Write) => Err(RehearseError::Write),
-        Err(ListError::Memory) => Err(RehearseError::Memory),
-        Err(ListError::Failed) => Err(RehearseError::Memory),
+    match ask.wanted {
+        Wanted::Listing {
+            bounds,
+            after,
+            limit,
+        } => list_runs::<S, O>(
+            alloc, env, &devices, ask.name, bounds, after, limit, ask.names, out,
+        ),
+        Wanted::Word { bounds, word } => {
+            list_one::<S, O>(alloc, env, &devices, ask.name, bounds, word, ask.names, out)
+        }
     }
 }

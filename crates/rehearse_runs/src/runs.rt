@@ -1,6 +1,6 @@
 //! The runs of the text of a variable.
 ghost use Rattle.std.specs.Prelude.{◌≡◌, [], false, map, option_map};
-ghost use Rattle.bootstore.specs.Moment.{option_bytes};
+ghost use Rattle.text.specs.TextsShown.{option_bytes};
 ghost use Rattle.rehearse.specs.Listing.{outcome_digit};
 ghost use Rattle.rehearse.specs.Outcomes.{has_success};
 ghost use Rattle.rehearse_runs.specs.RunsShown.{has_words, last_given, outcomes, words_made, work_of};
@@ -156,7 +156,7 @@ impl<'a, S: Store> Runs<'a, S> {
             bounds: run_bounds,
         };
         let mut store = S::new(alloc);
-        let mut digits = Bytes::new();
+        let mut digits = Digits::new();
         let Ok(walked) = walk_to(&rehearsal, &mut store, &mut digits, word) else {
             return Err(RunError::Memory);
         };

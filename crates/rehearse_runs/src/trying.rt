@@ -5,8 +5,8 @@ ghost use Rattle.rehearse_machine.specs.Tasks.{task_shown, task_set};
 ghost use Rattle.rehearse_runs.specs.declared.run_error.RunError.TheVariants.{NoSuchVariable};
 ghost use Rattle.rehearse_runs.specs.Behind.{kind_shown, HasKind, RefusesTry};
 
-use crate::bytes::Bytes;
 use crate::run_error::RunError;
+use crate::searching::Digits;
 use crate::walking::{Walked, walk_to};
 use bootstore::Store;
 use envtools::Env;
@@ -54,7 +54,7 @@ pub fn try_word<S: Store>(
         bounds: run_bounds,
     };
     let mut store = S::new(alloc);
-    let mut digits = Bytes::new();
+    let mut digits = Digits::new();
     let Ok(walked) = walk_to(&rehearsal, &mut store, &mut digits, word) else {
         return Err(RunError::Memory);
     };

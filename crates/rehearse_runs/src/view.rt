@@ -1,7 +1,7 @@
 //! A run, as it is shown.
 ghost use Rattle.std.specs.Prelude.{◌≡◌};
 ghost use Rattle.std.specs.FinMap.{entries};
-ghost use Rattle.bootstore.specs.Moment.{option_bytes};
+ghost use Rattle.text.specs.TextsShown.{option_bytes};
 ghost use Rattle.rehearse.specs.State.{get};
 
 use bootstore::{LogEntry, Store, Variables};

@@ -1,6 +1,6 @@
 //! The walk along the digits of a word.
 ghost use Rattle.std.specs.Prelude.{◌≡◌, ◌+◌, ◌-◌, ◌*◌, ◌<◌, ◌≤◌, ◌^◌, ◌∷◌, [], ◌++◌, IfOk, OnOk};
-ghost use Rattle.rehearse.specs.Bounds.{most_devices, most_steps};
+ghost use Rattle.rehearse.specs.Bounds.{most_steps};
 ghost use Rattle.rehearse.specs.Listing.{outcome_digit};
 ghost use Rattle.rehearse_runs.specs.RunsShown.{outcomes};
 ghost use Rattle.rehearse_machine.specs.Machine.{outcome_when};
@@ -9,7 +9,7 @@ ghost use Rattle.rehearse_machine.specs.Tasks.{task_in};
 ghost use Rattle.rehearse_runs.specs.Walking.{BeginsWithDigit, Walks, WalksTo};
 ghost use Rattle.rehearse_machine.specs.declared.rehearsal.Stop.TheVariants.{Asks};
 
-use crate::searching::Digits;
+use crate::bytes::Bytes;
 use bootstore::{Store, StoreError};
 use rehearse_machine::{Halt, Rehearsal, Stop, begin, resume};
 
@@ -25,16 +25,16 @@ pub(crate) enum Walked {
 }
 
 /// Gives the device command that asks an outcome; a success is marked.
-fn choose<S: Store>(
+fn choose<S: Store, const N: usize>(
     rehearsal: &Rehearsal<'_>,
     store: &mut S,
-    digits: &mut Digits,
+    digits: &mut Bytes<N>,
     success: bool,
 ) -> Result<Stop, StoreError>
     requires asks { StoppedAt (task_in rehearsal.now) (outcomes digits.old.items) Asks (S.record_of store.old).present }
     requires marks { AreMarks (task_in rehearsal.now) (outcomes digits.old.items) (S.record_of store.old).marked }
     requires begun { (S.record_of store.old).begun + most_steps + 1 < 2 ^ 64 }
-    requires bound { (task_in rehearsal.now).limits.device_bound ≤ most_devices }
+    requires bound { (task_in rehearsal.now).limits.device_bound ≤ N }
     ensures stopped { IfOk result (λ stop. StoppedAt (task_in rehearsal.now) (outcomes digits.new.items) stop (S.record_of store.new).present) }
     ensures marks { OnOk result (AreMarks (task_in rehearsal.now) (outcomes digits.new.items) (S.record_of store.new).marked) }
     ensures digits { OnOk result (digits.new.items ≡ digits.old.items ++ outcome_digit (outcome_when success) ∷ []) }
@@ -65,10 +65,10 @@ fn next_outcome(text: &[u8]) -> Option<(bool, &[u8])>
 }
 
 /// Goes on along the digits of a text.
-fn walk<S: Store>(
+fn walk<S: Store, const N: usize>(
     rehearsal: &Rehearsal<'_>,
     store: &mut S,
-    digits: &mut Digits,
+    digits: &mut Bytes<N>,
     stop: Stop,
     text: &[u8],
 ) -> Result<Walked, StoreError>
@@ -76,7 +76,7 @@ fn walk<S: Store>(
     requires marks { AreMarks (task_in rehearsal.now) (outcomes digits.old.items) (S.record_of store.old).marked }
     requires within { (S.record_of store.old).present.steps ≤ most_steps }
     requires begun { (S.record_of store.old).begun + (most_steps - (S.record_of store.old).present.steps) + most_steps + 1 < 2 ^ 64 }
-    requires bound { (task_in rehearsal.now).limits.device_bound ≤ most_devices }
+    requires bound { (task_in rehearsal.now).limits.device_bound ≤ N }
     ensures ok { IfOk result (λ found. Walks (task_in rehearsal.now) (outcomes digits.old.items) digits.old.items text.now digits.new.items (outcomes digits.new.items) found (S.record_of store.old) (S.record_of store.new)) }
 {
     match stop {
@@ -101,14 +101,14 @@ fn walk<S: Store>(
 }
 
 /// Goes along the digits of a text from the beginning, and says whether they are those of a run.
-pub(crate) fn walk_to<S: Store>(
+pub(crate) fn walk_to<S: Store, const N: usize>(
     rehearsal: &Rehearsal<'_>,
     store: &mut S,
-    digits: &mut Digits,
+    digits: &mut Bytes<N>,
     text: &[u8],
 ) -> Result<Walked, StoreError>
     requires begun { (S.record_of store.old).begun + 2 * most_steps + 1 < 2 ^ 64 }
-    requires bound { (task_in rehearsal.now).limits.device_bound ≤ most_devices }
+    requires bound { (task_in rehearsal.now).limits.device_bound ≤ N }
     ensures ok { IfOk result (λ found. WalksTo (task_in rehearsal.now) text.now digits.new.items (outcomes digits.new.items) found (S.record_of store.old) (S.record_of store.new)) }
 {
     digits.clear();

@@ -3,7 +3,7 @@ ghost use Rattle.std.specs.Prelude.{◌≢◌, Some};
 
 use crate::given::{Given, list, next_word, trace, work_of};
 use bootstore::{Plain, Store, Trail};
-use envimage::Over;
+use output::Over;
 use rehearse_runs::{Finish, ListError, Runs};
 use std::alloc::Global;
 use std::test::Fail;

@@ -1,5 +1,5 @@
 //! Worked examples of device lists.
-use rehearse::{Devices, DevicesError, Effect};
+use rehearse::{Devices, DevicesError, Effect, LeftSide, Setting};
 use std::alloc::{AllocError, Global};
 use std::test::Fail;
 
@@ -19,16 +19,20 @@ fn line_of(alloc: Global, effect: Effect<'_>) -> Result<Vec<u8>, AllocError> {
     if effect.ends {
         line.extend_from_slice(b"final ")?;
     }
-    for (name, value) in effect.sets {
-        push_setting(&mut line, name, value)?;
+    for set in effect.sets {
+        push_setting(&mut line, set)?;
     }
     Ok(line)
 }
 
-fn push_setting(line: &mut Vec<u8>, name: &[u8], value: &[u8]) -> Result<(), AllocError> {
-    line.extend_from_slice(name)?;
+fn push_setting(line: &mut Vec<u8>, set: &Setting) -> Result<(), AllocError> {
+    match &set.left {
+        LeftSide::Variable(name) => line.extend_from_slice(name)?,
+        LeftSide::WordAt(_) => line.extend_from_slice(b"@N")?,
+        LeftSide::LastWord => line.extend_from_slice(b"@last")?,
+    }
     line.push(b':')?;
-    line.extend_from_slice(value)?;
+    line.extend_from_slice(&set.value)?;
     line.push(b',')?;
     Ok(())
 }
@@ -36,7 +40,7 @@ fn push_setting(line: &mut Vec<u8>, name: &[u8], value: &[u8]) -> Result<(), All
 /// The line of the effect that a device list gives a name.
 fn effect_of(rt: &HostRuntime, text: &str, name: &str) -> Result<Vec<u8>, Fail> {
     let devices = parsed(rt, text.as_bytes())?;
-    let effect = devices.effect(name.as_bytes()).ok_or("no such name")?;
+    let effect = devices.effect(name.as_bytes(), &[]).ok_or("no such name")?;
     Ok(line_of(rt.alloc(), effect)?)
 }
 
@@ -46,7 +50,7 @@ fn lists_names(rt: HostRuntime) -> Result<(), Fail> {
     for (name, is_listed) in [("load", true), ("mmc", true), ("# d", false), ("", false)] {
         assert!(rt; devices.has(name.as_bytes()) == is_listed);
     }
-    assert!(rt; devices.effect(b"d").is_none());
+    assert!(rt; devices.effect(b"d", &[]).is_none());
     Ok(())
 }
 
@@ -104,6 +108,34 @@ fn reads_final_commands(rt: HostRuntime) -> Result<(), Fail> {
 fn joins_lines_of_one_name(rt: HostRuntime) -> Result<(), Fail> {
     let effect = effect_of(&rt, "load a=1\n\tfinal load \r\nload a=2 b=c=", "load")?;
     assert!(rt; effect.as_slice() == b"final a:1,a:2,b:c=,".as_slice());
+    Ok(())
+}
+
+/// The line of the effect that a device list gives the calls of a name with a first word.
+fn effect_of_call(rt: &HostRuntime, text: &str, name: &str, word: &str) -> Result<Vec<u8>, Fail> {
+    let devices = parsed(rt, text.as_bytes())?;
+    let word = Vec::from_slice(rt.alloc(), word.as_bytes())?;
+    let words = vec![in rt.alloc(); word]?;
+    let effect = devices
+        .effect(name.as_bytes(), &words)
+        .ok_or("no such call")?;
+    Ok(line_of(rt.alloc(), effect)?)
+}
+
+#[test]
+fn tells_calls_apart(rt: HostRuntime) -> Result<(), Fail> {
+    let list = "part a=1\nsub part list @last=1 @2=3\nfinal sub part boot b=2\nsub mmc dev";
+    for (name, word, wanted) in [
+        ("part", "list", "@last:1,@N:3,"),
+        ("part", "boot", "final b:2,"),
+        ("part", "uuid", "a:1,"),
+        ("mmc", "dev", ""),
+    ] {
+        let effect = effect_of_call(&rt, list, name, word)?;
+        assert!(rt; effect.as_slice() == wanted.as_bytes());
+    }
+    let devices = parsed(&rt, list.as_bytes())?;
+    assert!(rt; devices.has(b"mmc") && devices.effect(b"mmc", &[]).is_none());
     Ok(())
 }
 

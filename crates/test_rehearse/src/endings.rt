@@ -1,7 +1,7 @@
 //! The endings of all runs, over both stores; they are worked by hand.
 use crate::given::Given;
 use bootstore::{Plain, Store, Trail};
-use envimage::Over;
+use output::Over;
 use rehearse::RunBounds;
 use rehearse_endings::{EndingsAsk, EndingsError, endings_env};
 use std::alloc::Global;

@@ -3,8 +3,8 @@
 ghost use Rattle.std.specs.Prelude.{◌≢◌, Some};
 
 use bootstore::Store;
-use envimage::Out;
 use envtools::Env;
+use output::Out;
 use rehearse::{Bounds, Devices};
 use rehearse_runs::{Finish, ListError, RunError, Runs, WordKind, try_word, write_listing};
 use std::alloc::Global;

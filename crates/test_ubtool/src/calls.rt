@@ -1,17 +1,18 @@
 //! Calls of the product. None of these functions promises anything, so that the proof of a test has little to look at.
+ghost use Rattle.rehearse.specs.Asking.{limit_of};
+ghost use Rattle.rehearse_runs.specs.AskShown.{wanted_of};
 ghost use Rattle.std.specs.Prelude.{◌≢◌, Some};
 
 use crate::writers::Memory;
-use envimage::{
-    ByteOrder, ConfigError, DataError, Out, Place, Which, check_data, crc32, parse_config,
-};
+use envimage::{ByteOrder, ConfigError, DataError, Place, Which, check_data, crc32, parse_config};
 use envtools::{Env, EnvError, ScriptError, apply_script};
+use output::Out;
 use std::alloc::Global;
 use std::io::Read;
 use ubtool_cli::CalledAs;
 use ubtool_core::{Edit, Finish, RehearseAsk, ToolError, rehearse_bytes, run_input, set_bytes};
 use ubtool_files::MemoryFiles;
-use ubtool_run::run_tool;
+use ubtool_run::{Build, run_tool};
 
 pub(crate) fn crc(bytes: &[u8]) -> u32 {
     crc32(bytes)
@@ -58,7 +59,7 @@ pub(crate) fn rehearse<O: Out>(
     ask: &RehearseAsk<'_>,
     out: &mut O,
 ) -> Result<Finish, ToolError>
-    requires { ask.now.limit ≢ Some 0 }
+    requires { limit_of (wanted_of ask.now.wanted) ≢ Some 0 }
 {
     rehearse_bytes(alloc, image, None, ByteOrder::Little, b"load", ask, out)
 }
@@ -82,7 +83,16 @@ pub(crate) fn run_words<O: Out, E: Out>(
     err: &mut E,
 ) -> u8 {
     let mut input: &[u8] = b"";
-    run_tool(alloc, CalledAs::Ubtool, words, &mut input, files, out, err)
+    run_tool(
+        alloc,
+        Build::X86_64,
+        CalledAs::Ubtool,
+        words,
+        &mut input,
+        files,
+        out,
+        err,
+    )
 }
 
 /// The status of `setenv -s -` over files in memory, by what the program was called as, with an input.
@@ -95,5 +105,14 @@ pub(crate) fn run_script_on_input<R: Read>(
 ) -> u8 {
     let mut out = Memory::new(alloc);
     let words = ["setenv", "-s", "-"];
-    run_tool(alloc, called, &words, input, files, &mut out, err)
+    run_tool(
+        alloc,
+        Build::X86_64,
+        called,
+        &words,
+        input,
+        files,
+        &mut out,
+        err,
+    )
 }

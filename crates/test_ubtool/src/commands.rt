@@ -96,7 +96,7 @@ fn reads_a_rehearsal(rt: HostRuntime) -> Result<(), Fail> {
     let given = answer(&rt, "rehearse -d d.txt --limit 1 z")?;
     assert_eq!(rt;
         given.as_str(),
-        "Rehearse { config: \"/etc/fw_env.config\", devices_file: \"d.txt\", what: RehearseAsk { name: \"bootcmd\", bounds: Bounds { devices: 16, steps: 10000 }, after: None, limit: Some(1), names: [\"z\"] }, order: Little }"
+        "Rehearse { config: \"/etc/fw_env.config\", devices_file: \"d.txt\", what: RehearseAsk { name: \"bootcmd\", wanted: Listing { bounds: Bounds { devices: 16, steps: 10000 }, after: None, limit: Some(1) }, names: [\"z\"] }, order: Little }"
     );
     Ok(())
 }
@@ -142,11 +142,11 @@ fn reads_each_subcommand(rt: HostRuntime) -> Result<(), Fail> {
         ),
         (
             "rehearse -d d -b q --devices 32 --steps 0 --after . --limit 4294967295 --big-endian",
-            "Rehearse { config: \"/etc/fw_env.config\", devices_file: \"d\", what: RehearseAsk { name: \"q\", bounds: Bounds { devices: 32, steps: 0 }, after: Some(\".\"), limit: Some(4294967295), names: [] }, order: Big }",
+            "Rehearse { config: \"/etc/fw_env.config\", devices_file: \"d\", what: RehearseAsk { name: \"q\", wanted: Listing { bounds: Bounds { devices: 32, steps: 0 }, after: Some(\".\"), limit: Some(4294967295) }, names: [] }, order: Big }",
         ),
         (
             "rehearse --device-list d --variable q --config g",
-            "Rehearse { config: \"g\", devices_file: \"d\", what: RehearseAsk { name: \"q\", bounds: Bounds { devices: 16, steps: 10000 }, after: None, limit: None, names: [] }, order: Little }",
+            "Rehearse { config: \"g\", devices_file: \"d\", what: RehearseAsk { name: \"q\", wanted: Listing { bounds: Bounds { devices: 16, steps: 10000 }, after: None, limit: None }, names: [] }, order: Little }",
         ),
         ("--version", "Version"),
         ("-V", "Version"),
@@ -192,7 +192,7 @@ fn leaves_the_rest_to_clap(rt: HostRuntime) -> Result<(), Fail> {
         "--version=1",
         "setenv -s f -s g",
         "rehearse",
-        "rehearse -d d --devices 33",
+        "rehearse -d d --devices 1001",
         "rehearse -d d --devices x",
         "rehearse -d d --steps 1000001",
         "rehearse -d d --limit 0",
@@ -243,8 +243,14 @@ fn helps(rt: HostRuntime) -> Result<(), Fail> {
         ("rehearse -h", "  -d, --device-list <FILE> "),
         ("rehearse -h", "  -b, --variable <NAME> "),
         ("rehearse -h", "[default: bootcmd]"),
-        ("rehearse -h", "0 to 32 [default: 16]"),
-        ("rehearse -h", "0 to 1000000 [default: 10000]"),
+        (
+            "rehearse -h",
+            "with --word to 1000 [default: 16, with --word 1000]",
+        ),
+        (
+            "rehearse -h",
+            "0 to 1000000 [default: 10000, with --word 1000000]",
+        ),
         ("rehearse -h", "1 to 4294967295 [default: all]"),
         ("rehearse -h", "      --big-endian "),
         ("rehearse -h", "\n  ubtool rehearse -d devices.txt\n"),

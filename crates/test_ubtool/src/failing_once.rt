@@ -1,7 +1,8 @@
 //! Reads and writes that fail once and would then succeed: none is tried again.
 use crate::calls::{print_input, run_words};
 use crate::writers::{FailsOnce, Memory};
-use envimage::{ByteOrder, OutFault, Over, encode, write_all, write_parts};
+use envimage::{ByteOrder, encode};
+use output::{OutFault, Over, write_all, write_parts};
 use std::alloc::Global;
 use std::io::{self, BufWriter, ErrorKind, Read, Write};
 use std::test::Fail;

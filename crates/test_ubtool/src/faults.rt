@@ -1,6 +1,7 @@
 //! The line of each fault.
-use envimage::{ConfigError, DataError, ImageError, Over};
+use envimage::{ConfigError, DataError, ImageError};
 use envtools::{EnvError, ScriptError};
+use output::Over;
 use rehearse::DevicesError;
 use std::alloc::AllocError;
 use std::fmt;

@@ -3,10 +3,11 @@
 use crate::calls::{self, print_input};
 use crate::making::image_of;
 use crate::writers::{Full, Memory, Slow};
-use envimage::{ByteOrder, Out};
+use envimage::ByteOrder;
+use output::Out;
 use std::alloc::Global;
 use std::test::Fail;
-use ubtool_core::{Bounds, Finish, PrintAsk, RehearseAsk, ToolError, print_bytes};
+use ubtool_core::{Bounds, Finish, PrintAsk, RehearseAsk, ToolError, Wanted, print_bytes};
 
 /// The image of `a=1`, nine bytes.
 const ONE: [u8; 9] = [0x3B, 0x06, 0x98, 0x45, 0x61, 0x3D, 0x31, 0x00, 0x00];
@@ -36,9 +37,11 @@ fn rehearse<O: Out>(alloc: Global, image: &[u8], out: &mut O) -> Result<Finish, 
     };
     let ask = RehearseAsk {
         name: b"bootcmd",
-        bounds,
-        after: None,
-        limit: None,
+        wanted: Wanted::Listing {
+            bounds,
+            after: None,
+            limit: None,
+        },
         names: &[b"z"],
     };
     calls::rehearse(alloc, image, &ask, out)

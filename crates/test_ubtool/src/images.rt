@@ -1,3 +1,4 @@
+//! Images that are loaded or refused.
 use crate::calls::{crc, fault_of_data};
 use envimage::{ByteOrder, DataError, ImageError, Which, load};
 

@@ -34,7 +34,6 @@ mod reading;
 #[cfg(test)]
 mod reading_on;
 #[cfg(test)]
-mod rehearsing;
 #[cfg(test)]
 mod rehearsing_edges;
 #[cfg(test)]

@@ -9,7 +9,7 @@ use ubtool_core::{Edit, set_bytes};
 pub(crate) type Pair<'a> = (&'a [u8], &'a [u8]);
 
 /// The image with this variable too.
-pub(crate) fn with(
+fn with(
     alloc: Global,
     image: &[u8],
     order: ByteOrder,

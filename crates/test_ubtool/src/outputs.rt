@@ -1,5 +1,6 @@
+//! Outputs that take all, some or none of the bytes.
 use crate::writers::{Limited, Memory, Slow};
-use envimage::{Out, OutFault, Over, write_all, write_parts};
+use output::{Out, OutFault, Over, write_all, write_parts};
 use std::test::Fail;
 
 #[test]

@@ -1,3 +1,4 @@
+//! What printing the bytes of an image writes and answers.
 use crate::writers::{Limited, Memory};
 use envimage::{ByteOrder, ImageError};
 use std::alloc::Global;

@@ -1,3 +1,4 @@
+//! Configurations that are read or refused.
 use crate::calls::places_of;
 use envimage::{ByteOrder, ConfigError, ImageError, Place, encode};
 use std::test::Fail;

@@ -6,7 +6,7 @@ use crate::writers::Memory;
 use envimage::{ByteOrder, encode};
 use std::alloc::Global;
 use std::test::Fail;
-use ubtool_core::{Bounds, Finish, RehearseAsk, ToolError};
+use ubtool_core::{Bounds, Finish, RehearseAsk, ToolError, Wanted};
 
 /// What the rehearsal of a variable answers and writes, where `load` is listed and `z` is asked for.
 fn rehearse(
@@ -18,9 +18,11 @@ fn rehearse(
     let mut out = Memory::new(alloc);
     let ask = RehearseAsk {
         name,
-        bounds: Bounds::new(16, steps).ok_or("bounds")?,
-        after: None,
-        limit: None,
+        wanted: Wanted::Listing {
+            bounds: Bounds::new(16, steps).ok_or("bounds")?,
+            after: None,
+            limit: None,
+        },
         names: &[b"z"],
     };
     let answer = calls::rehearse(alloc, image, &ask, &mut out);

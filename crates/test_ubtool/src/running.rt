@@ -1,18 +1,16 @@
 //! The whole program over files in memory: statuses, outputs, and which calls it makes.
-use envimage::{ByteOrder, Over, encode};
+use envimage::{ByteOrder, encode};
+use output::Over;
 use std::alloc::AllocError;
 use std::test::Fail;
 use ubtool_cli::CalledAs;
-use ubtool_files::{Action, LIMIT, MemoryFiles};
-use ubtool_run::run_tool;
+use ubtool_files::{Action, MemoryFiles};
+use ubtool_run::{Build, run_tool};
 
 const CONFIG: &str = "/etc/fw_env.config";
 
 /// A single image of `a=1`.
 const ONE: &[u8] = b"\x3B\x06\x98\x45a=1\0\0";
-
-/// A single image of `a=1` whose checksum is wrong.
-const WRONG: &[u8] = b"\x3B\x06\x98\x45a=1\0\x01";
 
 /// A pair: `a=1` with flag 255, then `a=2` with flag 0, which is current.
 const PAIR: &[u8] = b"\x3B\x06\x98\x45\xFFa=1\0\0\x62\xB8\xDE\x47\x00a=2\0\0";
@@ -40,6 +38,7 @@ fn run(rt: &HostRuntime, files: &mut MemoryFiles, words: &[&str]) -> Ended {
     let mut input: &[u8] = ONE;
     let status = run_tool(
         rt.alloc(),
+        Build::X86_64,
         CalledAs::Ubtool,
         words,
         &mut input,
@@ -118,76 +117,6 @@ fn has_written(files: &MemoryFiles) -> bool {
         .any(|call| matches!(call.action, Action::WriteAt { .. }))
 }
 
-/// Whether a call on the single image ends and prints so, and leaves the image.
-fn reads_one(
-    rt: &HostRuntime,
-    line: &str,
-    status: u8,
-    texts: (&[u8], &[u8]),
-) -> Result<bool, Fail> {
-    let mut files = files_of(rt, b"e 0 9\n", ONE, None)?;
-    Ok(line_ends_so(rt, &mut files, line, status, texts)? && bytes_of(&files) == ONE)
-}
-
-#[test]
-fn a_single_image_is_printed(rt: HostRuntime) -> Result<(), Fail> {
-    let rows: [(&str, u8, &[u8], &[u8]); 7] = [
-        ("", 0, b"a=1\n", b""),
-        ("printenv", 0, b"a=1\n", b""),
-        ("printenv -n a", 0, b"1\n", b""),
-        (
-            "printenv b a",
-            1,
-            b"a=1\n",
-            b"## Error: \"b\" not defined\n",
-        ),
-        (
-            "printenv -n",
-            2,
-            b"",
-            b"ubtool: -n takes exactly one NAME\n",
-        ),
-        ("setenv", 2, b"", b"ubtool: setenv needs a NAME\n"),
-        ("setenv -s f a", 2, b"", b"ubtool: -s takes no NAME\n"),
-    ];
-    for (line, status, out, err) in rows {
-        assert!(rt; reads_one(&rt, line, status, (out, err))?, "{line}");
-    }
-    Ok(())
-}
-
-/// Whether the words of a line are reported to be wrong, and no call is made.
-fn is_wrong(rt: &HostRuntime, line: &str) -> Result<bool, Fail> {
-    let mut files = files_of(rt, b"e 0 9\n", ONE, None)?;
-    let words = words_of(rt, line)?;
-    let ended = run(rt, &mut files, &words);
-    Ok(ended.status == 2 && ended.out.is_empty() && !ended.err.is_empty() && calls_of(&files) == 0)
-}
-
-#[test]
-fn wrong_words_are_told_by_status_2(rt: HostRuntime) -> Result<(), Fail> {
-    for line in [
-        "rehearse",
-        "rehearse -d d --devices 33",
-        "rehearse -d d --limit 0",
-        "print",
-        "setenv a -1",
-    ] {
-        assert!(rt; is_wrong(&rt, line)?, "{line}");
-    }
-    Ok(())
-}
-
-#[test]
-fn help_is_no_fault(rt: HostRuntime) -> Result<(), Fail> {
-    let mut files = files_of(&rt, b"e 0 9\n", ONE, None)?;
-    let ended = run(&rt, &mut files, &["setenv", "--help"]);
-    assert!(rt; ended.status == 0);
-    assert!(rt; !ended.out.is_empty());
-    assert!(rt; ended.err.is_empty());
-    Ok(())
-}
-
 #[test]
 fn the_spare_copy_is_written(rt: HostRuntime) -> Result<(), Fail> {
     let mut files = files_of(&rt, PAIR_CONFIG, PAIR, None)?;
@@ -219,92 +148,6 @@ fn each_front_of_a_copy_leaves_the_old_or_the_new(rt: HostRuntime) -> Result<(),
         let line: &[u8] = if front < 8 { b"a=2\n" } else { b"a=3\n" };
         assert!(rt; reads_pair(&rt, &image, line)?, "after {front} bytes");
     }
-    Ok(())
-}
-
-#[test]
-fn a_big_endian_image_is_changed_where_it_is_asked_for(rt: HostRuntime) -> Result<(), Fail> {
-    let image: &[u8] = b"\x45\x98\x06\x3B\xFFa=1\0\0\x47\xDE\xB8\x62\x00a=2\0\0";
-    let changed: &[u8] = b"\x46\x1C\xD2\x55\x01a=3\0\0\x47\xDE\xB8\x62\x00a=2\0\0";
-    let refused: &[u8] = b"ubtool: no image with a right CRC\n";
-    let mut files = files_of(&rt, PAIR_CONFIG, image, None)?;
-    assert!(rt; line_ends_so(&rt, &mut files, "setenv a 3", 1, (b"", refused))?);
-    assert!(rt; line_ends_so(&rt, &mut files, "setenv --big-endian a 3", 0, (b"", b""))?);
-    assert!(rt; bytes_of(&files) == changed);
-    Ok(())
-}
-
-/// Files of an image without a variable and of a script `s`.
-fn files_with_script(rt: &HostRuntime, script: &[u8]) -> Result<MemoryFiles, Fail> {
-    let mut files = files_of(rt, b"e 0 5\n", EMPTY, None)?;
-    files.add("s", script)?;
-    Ok(files)
-}
-
-/// An image without a variable, which has room for none.
-const EMPTY: &[u8] = b"\x8D\xEF\x02\xD2\x00";
-
-#[test]
-fn a_script_is_read_from_its_file(rt: HostRuntime) -> Result<(), Fail> {
-    let mut files = files_with_script(&rt, b"# c\na\n")?;
-    assert!(rt; line_ends_so(&rt, &mut files, "setenv -s s", 0, (b"", b""))?);
-    assert!(rt; bytes_of(&files) == EMPTY);
-    Ok(())
-}
-
-#[test]
-fn a_fault_of_a_script_is_told(rt: HostRuntime) -> Result<(), Fail> {
-    let mut files = files_with_script(&rt, b"=x\n")?;
-    let refused: &[u8] = b"ubtool: script line 1: bad name\n";
-    assert!(rt; line_ends_so(&rt, &mut files, "setenv -s s", 1, (b"", refused))?);
-    Ok(())
-}
-
-#[test]
-fn an_environment_that_is_too_large_is_told(rt: HostRuntime) -> Result<(), Fail> {
-    let mut files = files_of(&rt, b"e 0 5\n", EMPTY, None)?;
-    let refused: &[u8] = b"ubtool: environment is too large\n";
-    assert!(rt; line_ends_so(&rt, &mut files, "setenv a 1", 1, (b"", refused))?);
-    Ok(())
-}
-
-/// Whether a fault of these files is reported so.
-fn is_fault(rt: &HostRuntime, config: &[u8], image: &[u8], err: &[u8]) -> Result<bool, Fail> {
-    let mut files = files_of(rt, config, image, None)?;
-    line_ends_so(rt, &mut files, "printenv", 1, (b"", err))
-}
-
-#[test]
-fn faults_of_files_are_told(rt: HostRuntime) -> Result<(), Fail> {
-    let rows: [(&[u8], &[u8], &[u8]); 4] = [
-        (
-            b"e 0 9\n",
-            b"\x3B\x06\x98\x45a=1\0",
-            b"ubtool: e is too short\n",
-        ),
-        (b"f 0 9\n", ONE, b"ubtool: cannot read f\n"),
-        (b"e 0\n", ONE, b"ubtool: config line 1: bad line\n"),
-        (b"e 0 9\n", WRONG, b"ubtool: no image with a right CRC\n"),
-    ];
-    for (config, image, err) in rows {
-        assert!(rt; is_fault(&rt, config, image, err)?);
-    }
-    Ok(())
-}
-
-#[test]
-fn a_configuration_that_is_too_long_is_told(rt: HostRuntime) -> Result<(), Fail> {
-    let long = vec![in rt.alloc(); b'#'; LIMIT + 1]?;
-    let line: &[u8] = b"ubtool: /etc/fw_env.config is too long\n";
-    assert!(rt; is_fault(&rt, &long, ONE, line)?);
-    Ok(())
-}
-
-#[test]
-fn a_missing_configuration_is_told(rt: HostRuntime) -> Result<(), Fail> {
-    let mut files = MemoryFiles::new(rt.alloc(), None);
-    let line: &[u8] = b"ubtool: cannot read /etc/fw_env.config\n";
-    assert!(rt; line_ends_so(&rt, &mut files, "printenv", 1, (b"", line))?);
     Ok(())
 }
 
@@ -389,84 +232,6 @@ fn script_files(rt: &HostRuntime, failing: Option<usize>) -> Result<MemoryFiles,
     files.add("d", b"load\n")?;
     files.add("w", b"\necho\n")?;
     Ok(files)
-}
-
-/// Whether a rehearsal by the words of a line lists this, by four calls without a write.
-fn lists(rt: &HostRuntime, line: &str, listing: &[u8]) -> Result<bool, Fail> {
-    let mut files = script_files(rt, None)?;
-    let is_listed = line_ends_so(rt, &mut files, line, 0, (listing, b""))?;
-    Ok(is_listed && calls_of(&files) == 4 && !has_written(&files))
-}
-
-#[test]
-fn a_rehearsal_is_listed(rt: HostRuntime) -> Result<(), Fail> {
-    let rows: [(&str, &[u8]); 5] = [
-        (
-            "rehearse -d d -b q",
-            b"run 0\ndev 0 load\nvar q=load\nend 0\nrun 1\ndev 1 load\nvar q=load\nend 1\ndone\n",
-        ),
-        (
-            "rehearse -d d -b q --limit 1",
-            b"run 0\ndev 0 load\nvar q=load\nend 0\nmore 0\n",
-        ),
-        (
-            "rehearse -d d -b q --after 0",
-            b"run 1\ndev 1 load\nvar q=load\nend 1\ndone\n",
-        ),
-        ("rehearse -d d -b q --after 1", b"done\n"),
-        (
-            "rehearse -d d -b q --devices 0 z",
-            b"run .\nunset z\ncut devices\ndone\n",
-        ),
-    ];
-    for (line, listing) in rows {
-        assert!(rt; lists(&rt, line, listing)?, "{line}");
-    }
-    Ok(())
-}
-
-/// Whether a rehearsal by these words is refused so, by four calls.
-fn refuses(rt: &HostRuntime, words: &[&str], line: &[u8]) -> Result<bool, Fail> {
-    let mut files = script_files(rt, None)?;
-    Ok(ends_so(rt, &mut files, words, 1, (b"", line)) && calls_of(&files) == 4)
-}
-
-#[test]
-fn a_refused_rehearsal_is_told(rt: HostRuntime) -> Result<(), Fail> {
-    let rows: [(&str, &[u8]); 4] = [
-        ("rehearse -d d", b"ubtool: no variable bootcmd\n"),
-        (
-            "rehearse -d d -b q --after .",
-            b"ubtool: no run has the word .\n",
-        ),
-        (
-            "rehearse -d w -b z",
-            b"ubtool: device list line 2: built-in command\n",
-        ),
-        (
-            "rehearse --big-endian -d w",
-            b"ubtool: no image with a right CRC\n",
-        ),
-    ];
-    for (line, refused) in rows {
-        let words = words_of(&rt, line)?;
-        assert!(rt; refuses(&rt, &words, refused)?, "{line}");
-    }
-    Ok(())
-}
-
-#[test]
-fn a_name_with_a_space_is_told_escaped(rt: HostRuntime) -> Result<(), Fail> {
-    let words = ["rehearse", "-d", "d", "-b", "a b"];
-    assert!(rt; refuses(&rt, &words, b"ubtool: no variable a\\x20b\n")?);
-    Ok(())
-}
-
-#[test]
-fn an_empty_start_word_is_told(rt: HostRuntime) -> Result<(), Fail> {
-    let words = ["rehearse", "-d", "d", "-b", "q", "--after", ""];
-    assert!(rt; refuses(&rt, &words, b"ubtool: no run has the word \\e\n")?);
-    Ok(())
 }
 
 /// Whether the failing call of one number of a rehearsal is reported so, and is the last.

@@ -1,7 +1,7 @@
 //! Outputs for tests: into memory, one byte at a time, full, and failing at a byte or once.
 ghost use Rattle.std.specs.Prelude.{◌≡◌, [], Some};
 
-use envimage::{Out, OutFault};
+use output::{Out, OutFault};
 use std::alloc::Global;
 
 /// An output into memory. A growth that is refused is a failure.

@@ -1,3 +1,4 @@
+//! Environments that scripts make and change, and the images of them.
 use crate::calls::{apply, change, changed, copy_of, set};
 use envimage::{ByteOrder, ImageError, Which};
 use envtools::{Env, EnvError, ScriptError};

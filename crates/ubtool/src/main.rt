@@ -3,14 +3,19 @@
 
 mod locked;
 
-use envimage::{Out, Over, write_all};
 use locked::{LockError, Locked, lock_in};
+use output::{Out, Over, write_all};
 use std::fs::File;
 use std::io;
 use std::process::ExitCode;
 use ubtool_cli::{called_as, read_lock, words_called};
 use ubtool_core::write_fault_of;
-use ubtool_run::{PROGRAM, StartError, Telling, buffered, end, finish, run_tool, words_of_call};
+use ubtool_run::{
+    Build, PROGRAM, StartError, Telling, buffered, end, finish, run_tool, words_of_call,
+};
+
+/// What this program is built for. The build for another processor, or with another link, has another word here.
+const BUILD: Build = Build::X86_64;
 
 /// What is told where memory for a buffer before the error output is refused.
 const OUT_OF_MEMORY: &[u8] = b"ubtool: out of memory\n";
@@ -43,6 +48,7 @@ fn run<E: Out>(rt: &HostRuntime, err: &mut Telling<E>) -> Result<u8, StartError>
     let mut input = rt.reader();
     let status = run_tool(
         rt.alloc(),
+        BUILD,
         called,
         &words,
         &mut input,

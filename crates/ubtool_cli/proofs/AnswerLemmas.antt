@@ -14,7 +14,7 @@ use Rattle.ubtool_cli.specs.declared.ask.Ask.{Ask}
 use Rattle.ubtool_cli.specs.declared.ask.Ask.TheVariants.{Print, Setenv, Rehearse, Endings, Help, Version}
 use Rattle.ubtool_cli.specs.declared.ask.UseError.{UseError}
 use Rattle.ubtool_cli.specs.declared.called.CalledAs.{CalledAs}
-use Rattle.ubtool_cli.specs.declared.ask.UseError.TheVariants.{Line, NeedName, ScriptAndName, HeaderNeedsOne, Memory}
+use Rattle.ubtool_cli.specs.declared.ask.UseError.TheVariants.{Line, NeedName, ScriptAndName, HeaderNeedsOne, WordAlone, TooManyDevices, Memory}
 use Rattle.ubtool_cli.specs.Asked.{Asked, asked_of, lock_of}
 use Rattle.ubtool_cli.specs.CommandAnswers.{Answers, IsAccepted, NamesLock, Reports, Says, asked}
 use Rattle.ubtool_cli.specs.CommandLine.{ubtool}
@@ -38,6 +38,8 @@ accepted_answer called words a (Ok (Endings config list what order)) fine is say
 accepted_answer called words a (Err NeedName) fine is says = (fine, says ∙ is)
 accepted_answer called words a (Err ScriptAndName) fine is says = (fine, says ∙ is)
 accepted_answer called words a (Err HeaderNeedsOne) fine is says = (fine, says ∙ is)
+accepted_answer called words a (Err WordAlone) fine is says = (fine, says ∙ is)
+accepted_answer called words a (Err TooManyDevices) fine is says = (fine, says ∙ is)
 accepted_answer called words a (Err (Line text)) fine is says = inr (fine, says ∙ is)
 accepted_answer called words a (Err Memory) fine is says = tt
 
@@ -62,6 +64,8 @@ refused_answer called words k (Ok (Endings config list what order)) among is = a
 refused_answer called words k (Err NeedName) among is = absurd is
 refused_answer called words k (Err ScriptAndName) among is = absurd is
 refused_answer called words k (Err HeaderNeedsOne) among is = absurd is
+refused_answer called words k (Err WordAlone) among is = absurd is
+refused_answer called words k (Err TooManyDevices) among is = absurd is
 refused_answer called words k (Err (Line text)) among is = elim among [
   | inl memory ↦ absurd (is.2 memory)
   | inr one ↦ inl (k, one, is.0, is.1)

@@ -7,7 +7,8 @@ use Rattle.envimage.specs.declared.image.ByteOrder.TheVariants.{Big, Little}
 use Rattle.ubtool_cli.specs.CommandAnswers.{IsAccepted, asked}
 use Rattle.ubtool_cli.specs.declared.called.CalledAs.{CalledAs}
 use Rattle.ubtool_cli.specs.declared.called.CalledAs.TheVariants.{FwTool, Ubtool}
-use Rattle.ubtool_cli.specs.Asked.{Asked, ending, header_needs_one, input_scripted, lock_of, needs_name, printing, rehearsing, script_and_name, scripted, setting}
+use Rattle.ubtool_cli.specs.Asked.{Asked, ending, header_needs_one, input_scripted, lock_of, needs_name, printing, rehearsing, script_and_name, scripted, setting, too_many_devices, word_alone}
+use Rattle.rehearse.specs.Asking.{Alone, Listed}
 use Rattle.ubtool_cli.specs.CommandLine.{ubtool}
 
 -- the words are accepted and ask for this
@@ -28,8 +29,7 @@ rehearsal : AsksFor
     (rehearsing (codes "/etc/fw_env.config") (codes "d.txt") (record {
       variable = codes "bootcmd";
       bounds = record { devices = 16; steps = 10000 };
-      after = None;
-      limit = Some 1;
+      wanted = Listed None (Some 1);
       names = codes "z" ∷ [];
     }) Little)
 unfolding clap_on_literals ubtool
@@ -119,8 +119,7 @@ bounded : AsksFor
     (rehearsing (codes "/etc/fw_env.config") (codes "d") (record {
       variable = codes "bootcmd";
       bounds = record { devices = 32; steps = 0 };
-      after = Some (codes ".");
-      limit = None;
+      wanted = Listed (Some (codes ".")) None;
       names = [];
     }) Big)
 unfolding clap_on_literals ubtool
@@ -137,9 +136,30 @@ unfolding clap_on_literals ubtool
 no_device_list = refl
 
 -- rehearse -d d --devices 33
-too_many_devices : IsRefused (codes "rehearse" ∷ codes "-d" ∷ codes "d" ∷ codes "--devices" ∷ codes "33" ∷ [])
+more_devices_than_listed : AsksFor (codes "rehearse" ∷ codes "-d" ∷ codes "d" ∷ codes "--devices" ∷ codes "33" ∷ []) too_many_devices
 unfolding clap_on_literals ubtool
-too_many_devices = refl
+more_devices_than_listed = (refl, refl)
+
+-- rehearse -d d --word 01 z
+one_run : AsksFor (codes "rehearse" ∷ codes "-d" ∷ codes "d" ∷ codes "--word" ∷ codes "01" ∷ codes "z" ∷ [])
+    (rehearsing (codes "/etc/fw_env.config") (codes "d") (record {
+      variable = codes "bootcmd";
+      bounds = record { devices = 1000; steps = 1000000 };
+      wanted = Alone (codes "01");
+      names = codes "z" ∷ [];
+    }) Little)
+unfolding clap_on_literals ubtool
+one_run = (refl, refl)
+
+-- rehearse -d d --word . --limit 1
+word_beside_limit : AsksFor (codes "rehearse" ∷ codes "-d" ∷ codes "d" ∷ codes "--word" ∷ codes "." ∷ codes "--limit" ∷ codes "1" ∷ []) word_alone
+unfolding clap_on_literals ubtool
+word_beside_limit = (refl, refl)
+
+-- rehearse -d d --devices 1001
+too_many_word_devices : IsRefused (codes "rehearse" ∷ codes "-d" ∷ codes "d" ∷ codes "--devices" ∷ codes "1001" ∷ [])
+unfolding clap_on_literals ubtool
+too_many_word_devices = refl
 
 -- rehearse -d d --limit 0
 limit_of_none : IsRefused (codes "rehearse" ∷ codes "-d" ∷ codes "d" ∷ codes "--limit" ∷ codes "0" ∷ [])

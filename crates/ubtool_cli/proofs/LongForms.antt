@@ -5,6 +5,7 @@ use Rattle.clap.specs.declared.error.kind.ErrorKind.TheVariants.{DisplayVersion}
 use Rattle.clap.proofs.OnLiterals.{clap_on_literals}
 use Rattle.envimage.specs.declared.image.ByteOrder.TheVariants.{Little}
 use Rattle.ubtool_cli.specs.Asked.{printing, rehearsing, scripted}
+use Rattle.rehearse.specs.Asking.{Listed}
 use Rattle.ubtool_cli.specs.CommandLine.{ubtool}
 use Rattle.ubtool_cli.proofs.CommandLineExamples.{AsksFor}
 
@@ -35,8 +36,7 @@ long_rehearsal : AsksFor (codes "rehearse" ∷ codes "--device-list" ∷ codes "
     (rehearsing (codes "/etc/fw_env.config") (codes "d") (record {
       variable = codes "q";
       bounds = record { devices = 16; steps = 10000 };
-      after = None;
-      limit = None;
+      wanted = Listed None None;
       names = [];
     }) Little)
 unfolding clap_on_literals ubtool

@@ -2,7 +2,7 @@
 -- What the options mean is ours; `printenv` and `setenv` follow fw_printenv and fw_setenv, and the
 -- configuration's default path is theirs (U-Boot, tools/env README).
 use Rattle.std.specs.Prelude.{◌==◌, ◌&&◌, ℕ, Bool, true, false, not, List, [], length}
-use Rattle.std.specs.Prelude.{Option, Some, None, codes, unwrap_or, option_map, ◌^◌}
+use Rattle.std.specs.Prelude.{Option, Some, None, Result, Ok, Err, codes, unwrap_or, option_map, ◌^◌}
 use Rattle.std.specs.Prelude.{option_and_then, if◌then◌else◌, nat_le, nat_lt}
 use Rattle.std.specs.Str.{bytes_eq}
 use Rattle.std.specs.Option.{option_map_or}
@@ -13,16 +13,9 @@ use Rattle.envimage.specs.declared.image.ByteOrder.{ByteOrder}
 use Rattle.envimage.specs.declared.image.ByteOrder.TheVariants.{Big, Little}
 use Rattle.ubtool_cli.specs.declared.called.CalledAs.{CalledAs}
 use Rattle.ubtool_cli.specs.declared.called.CalledAs.TheVariants.{FwTool, Ubtool}
-use Rattle.rehearse.specs.Bounds.{BoundsShown, bounds_of, run_bounds_of, most_devices, most_run_devices, most_steps}
+use Rattle.rehearse.specs.Asking.{Asking, Wanted, Listed, Alone}
+use Rattle.rehearse.specs.Bounds.{BoundsShown, bounds_of, run_bounds_of, most_run_devices, most_steps}
 use Rattle.ubtool_cli.specs.CommandLine.{most_records, most_states}
-
--- what a rehearsal is asked for
-pub record Rehearsal : Type 0 where
-  pub variable : Text
-  pub bounds : BoundsShown
-  pub after : Option Text
-  pub limit : Option ℕ
-  pub names : List Text
 
 -- what the endings are asked for
 pub record Endings : Type 0 where
@@ -37,11 +30,13 @@ pub data Asked : Type 0 where
   setting : (config : Text) (name : Text) (words : List Text) (order : ByteOrder) → Asked
   scripted : (config : Text) (script : Text) (order : ByteOrder) → Asked
   input_scripted : (config : Text) (order : ByteOrder) → Asked
-  rehearsing : (config : Text) (device_list : Text) (what : Rehearsal) (order : ByteOrder) → Asked
+  rehearsing : (config : Text) (device_list : Text) (what : Asking) (order : ByteOrder) → Asked
   ending : (config : Text) (device_list : Text) (what : Endings) (order : ByteOrder) → Asked
   needs_name : Asked
   script_and_name : Asked
   header_needs_one : Asked
+  word_alone : Asked
+  too_many_devices : Asked
 
 -- ---- the entries of a subcommand
 
@@ -125,39 +120,65 @@ usual_devices = 16
 abbrev pub usual_steps : ℕ
 usual_steps = 10000
 
--- 0 to 32 device commands and 0 to 1,000,000 steps
-abbrev pub bounds_asked : List Row → Option BoundsShown
-bounds_asked rows =
-    option_and_then (λ devices. option_and_then (λ steps.
-    bounds_of (unwrap_or devices usual_devices) (unwrap_or steps usual_steps))
+-- 0 to 1,000 device commands and 0 to 1,000,000 steps; so many where nothing is said
+abbrev pub bounds_or : (devices steps : ℕ) → List Row → Option BoundsShown
+bounds_or devices steps rows =
+    option_and_then (λ d. option_and_then (λ s. run_bounds_of (unwrap_or d devices) (unwrap_or s steps))
     (number_within 0 most_steps (codes "steps") rows))
-    (number_within 0 most_devices (codes "devices") rows)
+    (number_within 0 most_run_devices (codes "devices") rows)
 
--- with a device list, bounds and a limit that can be read
-abbrev pub rehearsal_with : Option Text → Option BoundsShown → Option (Option ℕ) → List Row
-    → Option Asked
-rehearsal_with (Some device_list) (Some bounds) (Some limit) rows =
-    Some (rehearsing (config_of rows) device_list (record {
+-- the bounds of runs that are listed, and of those that are not
+abbrev pub bounds_asked : List Row → Option BoundsShown
+bounds_asked rows = bounds_or usual_devices usual_steps rows
+
+abbrev pub run_bounds_asked : List Row → Option BoundsShown
+run_bounds_asked rows = bounds_or most_run_devices most_steps rows
+
+-- the runs that are wanted, within their bounds; or the refusal that the words meet
+abbrev pub WantedAsked : Type 0
+WantedAsked = Result (BoundsShown × Wanted) Asked
+
+-- of a listing: at most 32 device commands
+abbrev pub listing_asked : (after : Option Text) → (limit : Option ℕ) → BoundsShown → WantedAsked
+listing_asked after limit bounds =
+    elim (bounds_of bounds.devices bounds.steps) [
+      | Some narrow ↦ Ok (narrow, Listed after limit)
+      | None ↦ Err too_many_devices
+    ]
+
+-- of a word, which takes neither `--after` nor `--limit`
+abbrev pub word_asked : (word : Text) → (after : Option Text) → (limit : Option ℕ) → BoundsShown → WantedAsked
+word_asked word None None bounds = Ok (bounds, Alone word)
+word_asked word (Some after) limit bounds = Err word_alone
+word_asked word None (Some limit) bounds = Err word_alone
+
+abbrev pub wanted_by : (word after : Option Text) → (limit : Option ℕ) → List Row → Option WantedAsked
+wanted_by None after limit rows = option_map (listing_asked after limit) (bounds_asked rows)
+wanted_by (Some word) after limit rows = option_map (word_asked word after limit) (run_bounds_asked rows)
+
+abbrev pub wanted_asked : (limit : Option ℕ) → List Row → Option WantedAsked
+wanted_asked limit rows = wanted_by (first_of (codes "word") rows) (first_of (codes "after") rows) limit rows
+
+abbrev pub rehearsal_of : (device_list : Text) → List Row → WantedAsked → Asked
+rehearsal_of device_list rows (Ok within) =
+    rehearsing (config_of rows) device_list (record {
       variable = variable_of rows;
-      bounds = bounds;
-      after = first_of (codes "after") rows;
-      limit = limit;
+      bounds = within.0;
+      wanted = within.1;
       names = values_of (codes "names") rows;
-    }) (order_of rows))
-rehearsal_with _ _ _ rows = None
+    }) (order_of rows)
+rehearsal_of device_list rows (Err refusal) = refusal
+
+-- with a device list, a limit and bounds that can be read
+abbrev pub rehearsal_with : (device_list : Option Text) → (limit : Option (Option ℕ)) → List Row → Option Asked
+rehearsal_with (Some device_list) (Some limit) rows = option_map (rehearsal_of device_list rows) (wanted_asked limit rows)
+rehearsal_with None limit rows = None
+rehearsal_with (Some device_list) None rows = None
 
 -- the limit is at least 1
 abbrev pub rehearse_asked : List Row → Option Asked
-rehearse_asked rows = rehearsal_with (first_of (codes "device-list") rows) (bounds_asked rows)
-    (number_within 1 most_records (codes "limit") rows) rows
-
--- 0 to 1,000 device commands and 0 to 1,000,000 steps, and where nothing is said the most
-abbrev pub run_bounds_asked : List Row → Option BoundsShown
-run_bounds_asked rows =
-    option_and_then (λ devices. option_and_then (λ steps.
-    run_bounds_of (unwrap_or devices most_run_devices) (unwrap_or steps most_steps))
-    (number_within 0 most_steps (codes "steps") rows))
-    (number_within 0 most_run_devices (codes "devices") rows)
+rehearse_asked rows =
+    rehearsal_with (first_of (codes "device-list") rows) (number_within 1 most_records (codes "limit") rows) rows
 
 -- the states where nothing is said
 abbrev pub usual_states : ℕ

@@ -15,20 +15,22 @@ use Rattle.ubtool_cli.specs.declared.ask.EndingsAsk.{EndingsAsk}
 use Rattle.ubtool_cli.specs.declared.called.CalledAs.{CalledAs}
 use Rattle.ubtool_cli.specs.declared.ask.RehearseAsk.{RehearseAsk}
 use Rattle.ubtool_cli.specs.declared.ask.UseError.{UseError}
+use Rattle.ubtool_cli.specs.declared.ask.Wanted.{Wanted}
 use Rattle.ubtool_cli.specs.declared.ask.UseError.TheVariants.{Line, NeedName, ScriptAndName}
-use Rattle.ubtool_cli.specs.declared.ask.UseError.TheVariants.{HeaderNeedsOne, Memory}
+use Rattle.ubtool_cli.specs.declared.ask.UseError.TheVariants.{HeaderNeedsOne, Memory, TooManyDevices, WordAlone}
 use Rattle.ubtool_cli.specs.Asked as what
-use Rattle.ubtool_cli.specs.Asked.{Asked, Rehearsal, asked_of, ending, input_scripted, lock_of, printing, setting}
+use Rattle.ubtool_cli.specs.Asked.{Asked, WantedAsked, asked_of, ending, input_scripted, lock_of, printing, setting}
 use Rattle.ubtool_cli.specs.Asked.{scripted, rehearsing, needs_name, script_and_name}
-use Rattle.ubtool_cli.specs.Asked.{header_needs_one}
+use Rattle.ubtool_cli.specs.Asked.{header_needs_one, too_many_devices, word_alone}
 use Rattle.ubtool_cli.specs.CommandLine.{ubtool}
+use Rattle.ubtool_cli.specs.WantedShown.{bounds_of, wanted_of}
+use Rattle.rehearse.specs.Asking.{Asking}
 
-abbrev pub rehearsal_of : RehearseAsk → Rehearsal
-rehearsal_of r = record {
+abbrev pub asking_of : RehearseAsk → Asking
+asking_of r = record {
   variable = string_bytes r.name;
-  bounds = r.bounds;
-  after = option_map string_bytes r.after;
-  limit = r.limit;
+  bounds = bounds_of r.wanted;
+  wanted = wanted_of r.wanted;
   names = map string_bytes r.names.items;
 }
 
@@ -48,7 +50,7 @@ meaning_of (Print config what order) =
 meaning_of (Setenv config change order) =
     Some (change_of (string_bytes config) change order)
 meaning_of (Rehearse config list what order) =
-    Some (rehearsing (string_bytes config) (string_bytes list) (rehearsal_of what) order)
+    Some (rehearsing (string_bytes config) (string_bytes list) (asking_of what) order)
 meaning_of (Endings config list what order) =
     Some (ending (string_bytes config) (string_bytes list) (endings_of what) order)
 meaning_of (Help text) = None
@@ -76,6 +78,8 @@ Answers called words (Ok ask) = IsAccepted ubtool words × (meaning_of ask ≡ a
 Answers called words (Err NeedName) = IsAccepted ubtool words × (Some needs_name ≡ asked called words)
 Answers called words (Err ScriptAndName) = IsAccepted ubtool words × (Some script_and_name ≡ asked called words)
 Answers called words (Err HeaderNeedsOne) = IsAccepted ubtool words × (Some header_needs_one ≡ asked called words)
+Answers called words (Err WordAlone) = IsAccepted ubtool words × (Some word_alone ≡ asked called words)
+Answers called words (Err TooManyDevices) = IsAccepted ubtool words × (Some too_many_devices ≡ asked called words)
 Answers called words (Err (Line text)) = IsMistaken ubtool words ⊎ (IsAccepted ubtool words × (None ≡ asked called words))
 Answers called words (Err Memory) = Unit {0}
 
@@ -93,8 +97,19 @@ Says a (Ok ask) = meaning_of ask ≡ a
 Says a (Err NeedName) = Some needs_name ≡ a
 Says a (Err ScriptAndName) = Some script_and_name ≡ a
 Says a (Err HeaderNeedsOne) = Some header_needs_one ≡ a
+Says a (Err WordAlone) = Some word_alone ≡ a
+Says a (Err TooManyDevices) = Some too_many_devices ≡ a
 Says a (Err (Line text)) = None ≡ a
 Says a (Err Memory) = Unit {0}
+
+-- the same of the runs that `rehearse` is to list
+abbrev pub SaysWanted : Option WantedAsked → Result Wanted UseError → Type 0
+SaysWanted a (Ok wanted) = Some (Ok (bounds_of wanted, wanted_of wanted)) ≡ a
+SaysWanted a (Err WordAlone) = Some (Err word_alone) ≡ a
+SaysWanted a (Err TooManyDevices) = Some (Err too_many_devices) ≡ a
+SaysWanted a (Err (Line text)) = None ≡ a
+SaysWanted a (Err Memory) = Unit {0}
+SaysWanted a (Err error) = ⊥
 
 -- a line, or want of memory
 abbrev pub IsUnread : UseError → Type 0

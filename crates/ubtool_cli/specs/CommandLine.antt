@@ -6,7 +6,7 @@ use Rattle.clap.specs.Words.{App, Rule, Shape, Text, new_app, new_rule, with_rul
 use Rattle.clap.specs.Simple.{on_top}
 use Rattle.clap.specs.declared.builder.action.ArgAction.TheVariants.{Append, SetTrue}
 use Rattle.clap.specs.declared.builder.value_parser.ValueParser.TheVariants as parser
-use Rattle.rehearse.specs.Bounds.{most_devices, most_run_devices, most_steps}
+use Rattle.rehearse.specs.Bounds.{most_run_devices, most_steps}
 
 -- the byte of a letter
 abbrev letter : Text → ℕ
@@ -94,7 +94,7 @@ abbrev pub variable : Rule
 variable = lettered_option (codes "variable") (letter (codes "b"))
 
 abbrev pub devices : Rule
-devices = number_option (codes "devices") 0 most_devices
+devices = number_option (codes "devices") 0 most_run_devices
 
 abbrev pub steps : Rule
 steps = number_option (codes "steps") 0 most_steps
@@ -103,7 +103,10 @@ abbrev pub rehearse_options : App
 rehearse_options =
     with_rule (with_rule (with_rule (with_rule (subcommand (codes "rehearse")) device_list) variable) devices) steps
 
--- where the listing begins, and how many records it has
+-- the one run that is written, or where the listing begins and how many records it has
+abbrev pub word : Rule
+word = long_option (codes "word")
+
 abbrev pub after : Rule
 after = long_option (codes "after")
 
@@ -111,12 +114,9 @@ abbrev pub limit : Rule
 limit = number_option (codes "limit") 1 most_records
 
 abbrev pub rehearse : App
-rehearse = with_rule (with_rule (with_rule rehearse_options after) limit) names
+rehearse = with_rule (with_rule (with_rule (with_rule rehearse_options word) after) limit) names
 
--- `-d FILE`, `-b NAME`, the two bounds, how many states may be gone through, and whether the flow is told
-abbrev pub run_devices : Rule
-run_devices = number_option (codes "devices") 0 most_run_devices
-
+-- `-d FILE`, `-b NAME`, the two bounds, how many states may be gone through, and whether the flow is told;
 -- the most states that can be allowed
 abbrev pub most_states : ℕ
 most_states = 4294967295
@@ -125,7 +125,7 @@ abbrev pub states : Rule
 states = number_option (codes "states") 0 most_states
 
 abbrev pub endings_options : App
-endings_options = with_rule (with_rule (with_rule (subcommand (codes "endings")) device_list) variable) run_devices
+endings_options = with_rule (with_rule (with_rule (subcommand (codes "endings")) device_list) variable) devices
 
 -- to tell the flow
 abbrev pub flow : Rule

@@ -1,6 +1,8 @@
 //! What a call asks for, and why its words are refused.
 ghost use Rattle.std.specs.Prelude.{◌<◌};
 ghost use Rattle.std.specs.Option.{ForSome};
+ghost use Rattle.rehearse.specs.Asking.{limit_of};
+ghost use Rattle.ubtool_cli.specs.WantedShown.{wanted_of};
 
 use envimage::ByteOrder;
 use rehearse::{Bounds, RunBounds};
@@ -99,20 +101,37 @@ pub enum Change {
     Input,
 }
 
+/// Which runs `rehearse` is to list. A word is given as a listing prints it: `.` is the empty one.
+#[derive(Debug, Drop)]
+pub enum Wanted {
+    /// Those of a listing.
+    Listing {
+        /// How far each run may go.
+        bounds: Bounds,
+        /// The listing begins after the run of this word.
+        after: Option<String>,
+        /// The most records to list.
+        limit: Option<u32>,
+    },
+    /// The run of a word alone.
+    Word {
+        /// How far it may go.
+        bounds: RunBounds,
+        /// Its word.
+        word: String,
+    },
+}
+
 /// What `rehearse` is to list.
 #[derive(Debug, Drop)]
 pub struct RehearseAsk {
     /// The variable whose text is run.
     pub name: String,
-    /// How far each run may go.
-    pub bounds: Bounds,
-    /// The listing begins after the run of this word, as a listing prints it: `.` is the empty one.
-    pub after: Option<String>,
-    /// The most records to list.
-    pub limit: Option<u32>,
+    /// The runs to list.
+    pub wanted: Wanted,
     /// The variables to list after each run, in this order; none for all.
     pub names: Vec<String>,
-    pub ghost limit_above_zero: { ForSome limit (λ n. 0 < n) },
+    pub ghost limit_above_zero: { ForSome (limit_of (wanted_of wanted)) (λ n. 0 < n) },
 }
 
 /// What `endings` is to tell.
@@ -143,6 +162,12 @@ pub enum UseError {
     /// `printenv -n` is given no name, or several.
     #[error("-n takes exactly one NAME")]
     HeaderNeedsOne,
+    /// `rehearse` is given the word of one run, and where a listing begins or ends.
+    #[error("--word takes no --after and no --limit")]
+    WordAlone,
+    /// `rehearse` is given a device bound of a run for a listing.
+    #[error("--devices above 32 needs --word")]
+    TooManyDevices,
     /// A growth was refused.
     #[error("out of memory")]
     Memory,

@@ -1,13 +1,13 @@
 //! The command line that `clap` is given.
 ghost use Rattle.std.specs.Prelude.{◌≡◌, IfOk, false};
 ghost use Rattle.clap.specs.Words.{new_app, rule_of};
-ghost use Rattle.ubtool_cli.specs.CommandLine.{after, base, big_endian, config, device_list, devices, endings, endings_options, flow, lettered_flag, lettered_option, limit, lock, long_flag, long_option, many, name, names, no_header, number_option, one, printenv, rehearse, rehearse_options, run_devices, script, setenv, states, steps, subcommand, ubtool, values, variable};
+ghost use Rattle.ubtool_cli.specs.CommandLine.{after, base, big_endian, config, device_list, devices, endings, endings_options, flow, lettered_flag, lettered_option, limit, lock, long_flag, long_option, many, name, names, no_header, number_option, one, printenv, rehearse, rehearse_options, script, setenv, states, steps, subcommand, ubtool, values, variable, word};
 ghost use Rattle.ubtool_cli.specs.Made.{IsMade};
 
 use crate::ask::VERSION;
 use clap::builder::ValueParser;
 use clap::{Arg, ArgAction, Command};
-use rehearse::{DEVICES_MAX, RUN_DEVICES_MAX, STEPS_MAX};
+use rehearse::{RUN_DEVICES_MAX, STEPS_MAX};
 use std::alloc::{AllocError, Global};
 
 const UBTOOL_NOTES: &str = "\
@@ -62,7 +62,8 @@ const REHEARSE_NOTES: &str = "\
 Each way that the device commands can succeed or fail is a run, and each run is
 listed once, success before failure. A run's word has a digit for each device
 command: 0 where it succeeds, 1 where it fails. A run that meets a bound is
-listed as cut. The image is read and never written.
+listed as cut. With --word the run of one word is written alone, also of a word
+that endings names. The image is read and never written.
 
 A line of the device list is 'NAME', 'NAME VAR=VALUE' for a command that sets
 variables when it succeeds, or 'final NAME' for one that boots and so ends the
@@ -71,8 +72,8 @@ run. Lines that begin with # are skipped.
 Examples:
   ubtool rehearse -d devices.txt
   ubtool rehearse -d devices.txt -b altbootcmd bootargs fdtfile
-  ubtool rehearse -d devices.txt --devices 8 --steps 1000
   ubtool rehearse -d devices.txt --limit 20 --after 0110
+  ubtool rehearse -d devices.txt --word 0110 bootargs
 ";
 
 const ENDINGS_NOTES: &str = "\
@@ -303,8 +304,8 @@ fn devices<'a>(alloc: Global) -> Arg<'a>
     ensures rule { rule_of result ≡ devices }
     ensures local { result.global ≡ false }
 {
-    number_option(alloc, "devices", 0, DEVICES_MAX).help(
-        "At most N device commands a run, 0 to 32 [default: 16]",
+    number_option(alloc, "devices", 0, RUN_DEVICES_MAX).help(
+        "At most N device commands a run, 0 to 32, with --word to 1000 [default: 16, with --word 1000]",
     )
 }
 
@@ -313,7 +314,7 @@ fn steps<'a>(alloc: Global) -> Arg<'a>
     ensures local { result.global ≡ false }
 {
     number_option(alloc, "steps", 0, STEPS_MAX).help(
-        "At most N steps (commands begun) a run, 0 to 1000000 [default: 10000]",
+        "At most N steps (commands begun) a run, 0 to 1000000 [default: 10000, with --word 1000000]",
     )
 }
 
@@ -331,6 +332,15 @@ fn rehearse_options<'a>(alloc: Global) -> Result<Command<'a>, AllocError>
         REHEARSE_NOTES,
     )?;
     command.arg(list)?.arg(variable)?.arg(devices)?.arg(steps)
+}
+
+fn word<'a>(alloc: Global) -> Arg<'a>
+    ensures rule { rule_of result ≡ word }
+    ensures local { result.global ≡ false }
+{
+    long_option(alloc, "word", "WORD").help(
+        "The run of WORD alone, . for the empty one [default: a listing]",
+    )
 }
 
 fn after<'a>(alloc: Global) -> Arg<'a>
@@ -354,6 +364,7 @@ fn limit<'a>(alloc: Global) -> Arg<'a>
 fn rehearse<'a>(alloc: Global) -> Result<Command<'a>, AllocError>
     ensures { IfOk result (IsMade rehearse) }
 {
+    let word = word(alloc);
     let after = after(alloc);
     let limit = limit(alloc);
     let names = names(
@@ -361,11 +372,11 @@ fn rehearse<'a>(alloc: Global) -> Result<Command<'a>, AllocError>
         "Variables to list after each run, in this order [default: all]",
     );
     let command = rehearse_options(alloc)?;
-    command.arg(after)?.arg(limit)?.arg(names)
+    command.arg(word)?.arg(after)?.arg(limit)?.arg(names)
 }
 
 fn run_devices<'a>(alloc: Global) -> Arg<'a>
-    ensures rule { rule_of result ≡ run_devices }
+    ensures rule { rule_of result ≡ devices }
     ensures local { result.global ≡ false }
 {
     number_option(alloc, "devices", 0, RUN_DEVICES_MAX).help(

@@ -9,7 +9,7 @@ mod read;
 pub use ask::{
     Ask, Change, DEFAULT_CONFIG, DEFAULT_DEVICES, DEFAULT_RUN_DEVICES, DEFAULT_RUN_STEPS,
     DEFAULT_STATES, DEFAULT_STEPS, DEFAULT_VARIABLE, EndingsAsk, PrintAsk, RehearseAsk, UseError,
-    VERSION,
+    VERSION, Wanted,
 };
 pub use called::{CalledAs, called_as, words_called};
 pub use command::{big_endian_flag, config_option, names};

@@ -1,21 +1,25 @@
 //! Reading the words.
-ghost use Rattle.std.specs.Prelude.{◌≡◌, ◌≤◌, Some, None, IfOk, IfSome, map, option_map, option_and_then, string_bytes};
+ghost use Rattle.std.specs.Prelude.{◌≡◌, ◌<◌, ◌≤◌, Some, None, codes, IfOk, IfSome, map, option_map, option_and_then, string_bytes};
+ghost use Rattle.std.specs.Option.{ForSome};
+ghost use Rattle.rehearse.specs.Asking.{limit_of};
 ghost use Rattle.clap.specs.Words.{Text, first_of, found_of, kind_of, rows_of, subcommand_rows_of};
 ghost use Rattle.envimage.specs.declared.image.ByteOrder.{ByteOrder as Order};
-ghost use Rattle.ubtool_cli.specs.Asked.{asked_of, bounds_asked, config_of, endings_asked, is_set, lock_of, number_given, number_within, order_of, print_asked, rehearse_asked, run_bounds_asked, script_asked, set_asked, values_of, variable_of};
+ghost use Rattle.ubtool_cli.specs.Asked.{asked_of, bounds_or, config_of, endings_asked, is_set, lock_of, number_given, number_within, order_of, print_asked, rehearse_asked, script_asked, set_asked, values_of, variable_of, wanted_asked, wanted_by};
+ghost use Rattle.ubtool_cli.specs.WantedShown.{wanted_of};
 ghost use Rattle.ubtool_cli.specs.declared.ask.UseError.TheVariants.{Memory};
-ghost use Rattle.ubtool_cli.specs.CommandAnswers.{Answers, IsUnread, NamesLock, Reports, Says, change_of};
+ghost use Rattle.ubtool_cli.specs.CommandAnswers.{Answers, IsUnread, NamesLock, Reports, Says, SaysWanted, change_of};
 
 use crate::ask::{
     Ask, Change, DEFAULT_CONFIG, DEFAULT_DEVICES, DEFAULT_RUN_DEVICES, DEFAULT_RUN_STEPS,
     DEFAULT_STATES, DEFAULT_STEPS, DEFAULT_VARIABLE, EndingsAsk, PrintAsk, RehearseAsk, UseError,
+    Wanted,
 };
 use crate::called::CalledAs;
 use crate::command::ubtool;
 use clap::ArgMatches;
 use clap::error::ErrorKind;
 use envimage::ByteOrder;
-use rehearse::{Bounds, DEVICES_MAX, RUN_DEVICES_MAX, RunBounds, STEPS_MAX};
+use rehearse::{Bounds, RUN_DEVICES_MAX, RunBounds, STEPS_MAX};
 use std::alloc::{AllocError, Global};
 use std::convert::AsStr;
 
@@ -180,58 +184,100 @@ fn variable_of(alloc: Global, matches: &ArgMatches<'_>) -> Result<String, AllocE
     }
 }
 
-/// The two bounds; nothing where one is out of its range.
-fn bounds_of(matches: &ArgMatches<'_>) -> Option<Bounds>
-    ensures { result ≡ bounds_asked (rows_of (found_of matches.now)) }
+/// The two bounds, or these where nothing is said; nothing where one is out of its range.
+fn bounds_or(matches: &ArgMatches<'_>, devices: u32, steps: u32) -> Option<RunBounds>
+    ensures { result ≡ bounds_or devices steps (rows_of (found_of matches.now)) }
 {
-    let devices = number_within(matches, "devices", 0, DEVICES_MAX)?;
-    let steps = number_within(matches, "steps", 0, STEPS_MAX)?;
-    Bounds::new(
-        devices.unwrap_or(DEFAULT_DEVICES),
-        steps.unwrap_or(DEFAULT_STEPS),
+    let given_devices = number_within(matches, "devices", 0, RUN_DEVICES_MAX)?;
+    let given_steps = number_within(matches, "steps", 0, STEPS_MAX)?;
+    RunBounds::new(
+        given_devices.unwrap_or(devices),
+        given_steps.unwrap_or(steps),
     )
+}
+
+/// The runs of a listing.
+fn listing(alloc: Global, matches: &ArgMatches<'_>, limit: Option<u32>) -> Result<Wanted, UseError>
+    requires { ForSome limit (λ n. 0 < n) }
+    ensures says { SaysWanted (wanted_by None (first_of (codes "after") (rows_of (found_of matches.now))) limit (rows_of (found_of matches.now))) result }
+    ensures limit { IfOk result (λ w. ForSome (limit_of (wanted_of w)) (λ n. 0 < n)) }
+{
+    let Some(wide) = bounds_or(matches, DEFAULT_DEVICES, DEFAULT_STEPS) else {
+        return Err(unread(alloc));
+    };
+    let Some(bounds) = Bounds::new(wide.devices(), wide.steps()) else {
+        return Err(UseError::TooManyDevices);
+    };
+    Ok(Wanted::Listing {
+        bounds,
+        after: text_of(alloc, matches, "after")?,
+        limit,
+    })
+}
+
+/// The run of a word.
+fn word(
+    alloc: Global,
+    matches: &ArgMatches<'_>,
+    word: String,
+    limit: Option<u32>,
+) -> Result<Wanted, UseError>
+    requires { ForSome limit (λ n. 0 < n) }
+    ensures says { SaysWanted (wanted_by (Some (string_bytes word)) (first_of (codes "after") (rows_of (found_of matches.now))) limit (rows_of (found_of matches.now))) result }
+    ensures limit { IfOk result (λ w. ForSome (limit_of (wanted_of w)) (λ n. 0 < n)) }
+{
+    let Some(bounds) = bounds_or(matches, DEFAULT_RUN_DEVICES, DEFAULT_RUN_STEPS) else {
+        return Err(unread(alloc));
+    };
+    let after = text_of(alloc, matches, "after")?;
+    match (after, limit) {
+        (Some(_), _) => Err(UseError::WordAlone),
+        (None, Some(_)) => Err(UseError::WordAlone),
+        (None, None) => Ok(Wanted::Word { bounds, word }),
+    }
+}
+
+/// The runs that are to be listed.
+fn wanted(alloc: Global, matches: &ArgMatches<'_>, limit: Option<u32>) -> Result<Wanted, UseError>
+    requires { ForSome limit (λ n. 0 < n) }
+    ensures says { SaysWanted (wanted_asked limit (rows_of (found_of matches.now))) result }
+    ensures limit { IfOk result (λ w. ForSome (limit_of (wanted_of w)) (λ n. 0 < n)) }
+{
+    match text_of(alloc, matches, "word")? {
+        Some(text) => word(alloc, matches, text, limit),
+        None => listing(alloc, matches, limit),
+    }
 }
 
 fn rehearse_ask(alloc: Global, matches: &ArgMatches<'_>) -> Result<Ask, UseError>
     ensures { Says (rehearse_asked (rows_of (found_of matches.now))) result }
 {
     let list = text_of(alloc, matches, "device-list")?;
-    let bounds = bounds_of(matches);
     let limit = number_within(matches, "limit", 1, u32::MAX);
-    let (Some(devices_file), Some(bounds), Some(limit)) = (list, bounds, limit) else {
+    let (Some(devices_file), Some(limit)) = (list, limit) else {
         return Err(unread(alloc));
+    };
+    let wanted = match wanted(alloc, matches, limit) {
+        Ok(wanted) => wanted,
+        Err(error) => return Err(error),
     };
     Ok(Ask::Rehearse {
         config: config_of(alloc, matches)?,
         devices_file,
         what: RehearseAsk {
             name: variable_of(alloc, matches)?,
-            bounds,
-            after: text_of(alloc, matches, "after")?,
-            limit,
+            wanted,
             names: texts_of(alloc, matches, "names")?,
         },
         order: order_of(matches),
     })
 }
 
-/// The two bounds of runs that are not listed; nothing where one is out of its range.
-fn run_bounds_of(matches: &ArgMatches<'_>) -> Option<RunBounds>
-    ensures { result ≡ run_bounds_asked (rows_of (found_of matches.now)) }
-{
-    let devices = number_within(matches, "devices", 0, RUN_DEVICES_MAX)?;
-    let steps = number_within(matches, "steps", 0, STEPS_MAX)?;
-    RunBounds::new(
-        devices.unwrap_or(DEFAULT_RUN_DEVICES),
-        steps.unwrap_or(DEFAULT_RUN_STEPS),
-    )
-}
-
 fn endings_ask(alloc: Global, matches: &ArgMatches<'_>) -> Result<Ask, UseError>
     ensures { Says (endings_asked (rows_of (found_of matches.now))) result }
 {
     let list = text_of(alloc, matches, "device-list")?;
-    let bounds = run_bounds_of(matches);
+    let bounds = bounds_or(matches, DEFAULT_RUN_DEVICES, DEFAULT_RUN_STEPS);
     let states = number_within(matches, "states", 0, u32::MAX);
     let (Some(devices_file), Some(bounds), Some(states)) = (list, bounds, states) else {
         return Err(unread(alloc));

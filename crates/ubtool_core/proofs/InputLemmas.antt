@@ -7,10 +7,11 @@ use Rattle.std.specs.Prelude.{IfSome}
 use Rattle.envimage.specs.Data.{Pair}
 use Rattle.envimage.specs.Image.{is_size}
 use Rattle.envimage.specs.declared.image.ByteOrder.TheVariants.{Little}
-use Rattle.envimage.specs.Sink.{BrokeOff, Sink}
-use Rattle.envtools.specs.Printing.{WroteFront, printed_output}
+use Rattle.output.specs.Sink.{BrokeOff, Sink}
+use Rattle.envtools.specs.Printing.{printed_output}
+use Rattle.output.specs.Outputs.{WroteFront, Outputs}
 use Rattle.ubtool_core.specs.Input.{FrontStands, PrintsFront, PrintsInput, RefusesInput}
-use Rattle.ubtool_core.specs.PrintingImages.{environment_in, Outputs, Prints, PrintsAll}
+use Rattle.ubtool_core.specs.PrintingImages.{environment_in, Prints, PrintsAll}
 use Rattle.ubtool_core.specs.declared.error.ToolError.{ToolError}
 use Rattle.ubtool_core.specs.declared.error.ToolError.TheVariants as tool
 

@@ -1,7 +1,7 @@
 -- How all runs of an image's variable end, from the bytes of an image to the lines, and why that is refused. The order of
 -- the refusals is that of a rehearsal, and nothing is written before the lines. Ours.
 use Rattle.std.specs.Prelude.{◌≡◌, ℕ, Bool, List, Option, None, Err}
-use Rattle.envimage.specs.Sink.{Sink, Wrote, BrokeOff}
+use Rattle.output.specs.Sink.{Sink, Wrote, BrokeOff}
 use Rattle.envimage.specs.declared.image.ByteOrder.{ByteOrder}
 use Rattle.rehearse.specs.DeviceList.{listed}
 use Rattle.rehearse.specs.State.{Text}

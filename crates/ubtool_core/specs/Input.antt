@@ -2,7 +2,7 @@
 use Rattle.std.specs.Prelude.{◌≡◌, ◌⊎◌, List, [], ◌++◌, ℕ, true, Option, None, Some, Ok}
 use Rattle.std.specs.Io.KnownBytes.{Appends}
 use Rattle.envimage.specs.Data.{Pair}
-use Rattle.envimage.specs.Sink.{Sink, Wrote}
+use Rattle.output.specs.Sink.{Sink, Wrote}
 use Rattle.envimage.specs.declared.image.ByteOrder.TheVariants.{Little}
 use Rattle.envtools.specs.Printing.{printed_output}
 use Rattle.ubtool_core.specs.PrintingImages.{environment_in}

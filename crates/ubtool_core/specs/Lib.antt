@@ -1,7 +1,6 @@
 pub mod Errors
 pub mod Input
 pub mod PrintingImages
-pub mod StartWord
 pub mod Given
 pub mod Headline
 pub mod Refusing

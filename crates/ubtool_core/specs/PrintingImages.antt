@@ -2,11 +2,12 @@
 use Rattle.std.specs.Prelude.{◌≡◌, ℕ, Bool, List, Option, Result, Ok, Err}
 use Rattle.envimage.specs.Data.{Pair, pairs_of}
 use Rattle.envimage.specs.Image.{LoadedShown, load_of}
-use Rattle.envimage.specs.Sink.{Sink, Wrote}
+use Rattle.output.specs.Sink.{Wrote}
+use Rattle.output.specs.Outputs.{AreUnchanged, BreaksEither, Outputs}
 use Rattle.envimage.specs.declared.image.ByteOrder.{ByteOrder}
 use Rattle.envimage.specs.declared.image.ImageError.{ImageError}
 use Rattle.envtools.specs.Environment.{env_of}
-use Rattle.envtools.specs.Printing.{printed_output, printed_errors, all_found, BreaksEither}
+use Rattle.envtools.specs.Printing.{printed_output, printed_errors, all_found}
 use Rattle.ubtool_core.specs.declared.error.ToolError.{ToolError}
 use Rattle.ubtool_core.specs.declared.error.ToolError.TheVariants.{Image, Write, Memory}
 
@@ -17,22 +18,6 @@ environment_in order first second = environment (load_of order first second)
     environment : Result LoadedShown ImageError → Result (List Pair) ImageError
     environment (Ok shown) = Ok (env_of (pairs_of shown.body))
     environment (Err e) = Err e
-
--- The outputs before and after a call that prints some names of an environment.
-pub record Outputs : Type 0 where
-  pub out : Sink
-  pub out' : Sink
-  pub err : Sink
-  pub err' : Sink
-
--- each output as it was, and as it is then
-abbrev pub outputs : (out out' err err' : Sink) → Outputs
-outputs out out' err err' = record { out = out; out' = out'; err = err; err' = err' }
-
--- Nothing was written.
-pub record AreUnchanged (s : Outputs) : Type 0 where
-  pub out : s.out' ≡ s.out
-  pub err : s.err' ≡ s.err
 
 -- The environment was found, and all that it prints was written.
 pub record PrintsAll (answer : Result (List Pair) ImageError) (names : List (List ℕ)) (header : Bool) (s : Outputs)

@@ -1,15 +1,13 @@
 -- Why a rehearsal is refused, and what stands written then. The order of the refusals is ours: the image, the device
--- list, the variable, the start word, each looked at where those before it are right; nothing is written before the
+-- list, the variable, the word, each looked at where those before it are right; nothing is written before the
 -- listing.
-use Rattle.std.specs.Prelude.{◌≡◌, ◌≢◌, ◌⊎◌, List, Option, Some, None, Ok, Err}
+use Rattle.std.specs.Prelude.{◌≡◌, ◌⊎◌, List, Option, Some, None, Ok, Err}
 use Rattle.envimage.specs.Data.{Pair}
-use Rattle.envimage.specs.Sink.{Sink}
+use Rattle.output.specs.Sink.{Sink}
+use Rattle.rehearse.specs.Asking.{SpellsNoRun, word_given}
 use Rattle.rehearse.specs.DeviceList as list
 use Rattle.rehearse.specs.DeviceList.{listed}
-use Rattle.rehearse.specs.Listing.{spelled}
-use Rattle.rehearse.specs.Outcomes.{OutcomeWord, Run}
-use Rattle.rehearse.specs.Runs.{Task, kind}
-use Rattle.rehearse.specs.State.{Text}
+use Rattle.rehearse.specs.Runs.{Task}
 use Rattle.rehearse_machine.specs.Tasks.{task_set}
 use Rattle.ubtool_core.specs.Given.{Given}
 use Rattle.ubtool_core.specs.Headline.{LacksMemory, BreaksOff}
@@ -28,18 +26,13 @@ pub record HasDevices (g : Given) (IsSo : Option Task → Type 0) : Type 0 where
   pub devices : list.Devices
   pub image : environment_in g.order g.first g.second ≡ Ok environment
   pub device_list : listed g.device_list ≡ Ok devices
-  pub so : IsSo (task_set environment devices g.variable g.bounds)
-
--- there is a start word, and it spells no run
-abbrev pub SpellsNoRun : Task → (after : Option Text) → Type 0
-SpellsNoRun task None = ⊥
-SpellsNoRun task (Some text) = (w : OutcomeWord) → text ≡ spelled w → kind task w ≢ Run
+  pub so : IsSo (task_set environment devices g.asking.variable g.asking.bounds)
 
 abbrev pub Refuses : Given → (old new : Sink) → ToolError → Type 0
 Refuses g old new (Image fault) = (environment_in g.order g.first g.second ≡ Err fault) × (new ≡ old)
 Refuses g old new (Devices fault) = HasImage g × (listed g.device_list ≡ Err fault) × (new ≡ old)
 Refuses g old new NoSuchVariable = HasDevices g (λ found. found ≡ None) × (new ≡ old)
-Refuses g old new NotARun = HasDevices g (λ found. (task : Task) × (found ≡ Some task) × SpellsNoRun task g.after)
+Refuses g old new NotARun = HasDevices g (λ found. (task : Task) × (found ≡ Some task) × SpellsNoRun task (word_given g.asking.wanted))
     × (new ≡ old)
 Refuses g old new Write = BreaksOff g old new
 Refuses g old new Memory = (HasImage g × (new ≡ old)) ⊎ LacksMemory g old new

@@ -5,8 +5,9 @@ ghost use Rattle.ubtool_core.specs.EndingsOfImages.{RefusesEndings, TellsEndings
 
 use crate::error::ToolError;
 use bootstore::Trail;
-use envimage::{ByteOrder, Out, load};
+use envimage::{ByteOrder, load};
 use envtools::Env;
+use output::Out;
 use rehearse_endings::{EndingsAsk, endings_env};
 use std::alloc::Global;
 

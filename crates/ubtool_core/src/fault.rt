@@ -1,9 +1,10 @@
 //! The faults that the program tells, a line each.
-ghost use Rattle.envimage.specs.Sink.{Wrote};
+ghost use Rattle.output.specs.Sink.{Wrote};
 
 use crate::error::ToolError;
 use crate::word_form::WordForm;
-use envimage::{ConfigError, Out, write_all};
+use envimage::ConfigError;
+use output::{Out, write_all};
 use std::fmt;
 use thiserror::Error;
 use ubtool_files::FileFault;

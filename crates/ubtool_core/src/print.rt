@@ -1,10 +1,12 @@
 ghost use Rattle.std.specs.Prelude.{◌≡◌, map, length, false};
 ghost use Rattle.std.specs.Option.{option_copied};
-ghost use Rattle.ubtool_core.specs.PrintingImages.{Prints, environment_in, outputs};
+ghost use Rattle.ubtool_core.specs.PrintingImages.{Prints, environment_in};
+ghost use Rattle.output.specs.Outputs.{outputs};
 
 use crate::error::ToolError;
-use envimage::{ByteOrder, Out, load};
+use envimage::{ByteOrder, load};
 use envtools::print_data;
+use output::Out;
 use std::alloc::Global;
 
 /// What is asked of printing.

@@ -1,10 +1,11 @@
 ghost use Rattle.std.specs.Prelude.{◌≡◌, ◌⊎◌, IfErr, OnOk, []};
-ghost use Rattle.envimage.specs.Sink.{Wrote};
+ghost use Rattle.output.specs.Sink.{Wrote};
 ghost use Rattle.ubtool_core.specs.Input.{PrintsInput, RefusesInput};
 
 use crate::fault::{Fault, write_fault};
 use crate::print::{PrintAsk, print_bytes};
-use envimage::{ByteOrder, Out, SIZE_MAX};
+use envimage::{ByteOrder, SIZE_MAX};
+use output::Out;
 use std::alloc::Global;
 use std::io::Read;
 use ubtool_files::{ReadFault, read_up_to};

@@ -1,14 +1,15 @@
 -- What the words ask for.
-use Rattle.std.proofs.Common.{◌≡◌, ◌==◌, ℕ, Bool, true, false, not, refl, sym, subst, ◌∙◌, List, length, Option, Some, None, Ok}
+use Rattle.std.proofs.Common.{◌≡◌, ◌==◌, ℕ, Bool, true, false, not, refl, sym, subst, ◌∙◌, List, length, Option, Some, None, Ok, Err}
 use Rattle.std.proofs.lemmas.Bool.{eqb-true}
 use Rattle.std.proofs.lemmas.List.{length-map}
-use Rattle.std.specs.Prelude.{option_and_then, if◌then◌else◌, ◌&&◌, codes, string_bytes}
+use Rattle.std.specs.Prelude.{option_and_then, option_map, if◌then◌else◌, ◌&&◌, codes, string_bytes}
 use Rattle.std.specs.Str.{bytes_eq}
 use Rattle.clap.specs.Words.{Row, Text, first_of, subcommand_of}
 use Rattle.envimage.specs.declared.image.ByteOrder.{ByteOrder}
-use Rattle.rehearse.specs.Bounds.{BoundsShown}
+use Rattle.rehearse.specs.Asking.{Listed}
+use Rattle.rehearse.specs.Bounds.{BoundsShown, bounds_of}
 use Rattle.ubtool_cli.specs.CommandAnswers.{Answers, asked, meaning_of}
-use Rattle.ubtool_cli.specs.Asked.{Asked, asked_of, bounds_asked, endings_asked, endings_with, run_bounds_asked, change_asked, config_of, header_needs_one, input_scripted, is_set, number_within, order_of, print_asked, printing, rehearsal_with, rehearse_asked, scripted, set_asked, values_of}
+use Rattle.ubtool_cli.specs.Asked.{Asked, asked_of, bounds_asked, endings_asked, endings_with, run_bounds_asked, change_asked, config_of, header_needs_one, input_scripted, is_set, listing_asked, number_within, order_of, print_asked, printing, rehearsal_of, rehearsal_with, rehearse_asked, scripted, set_asked, too_many_devices, values_of, wanted_by, word_asked}
 use Rattle.ubtool_cli.specs.CommandLine.{most_records, most_states, ubtool}
 use Rattle.ubtool_cli.specs.declared.called.CalledAs.{CalledAs}
 use Rattle.ubtool_cli.specs.declared.called.CalledAs.TheVariants.{FwTool, Ubtool}
@@ -43,11 +44,29 @@ set-fit called (Some script) (Some name) rows = tt
 set-fit called None (Some name) rows = tt
 set-fit called None None rows = tt
 
-rehearse-fit : (list : Option Text) (bounds : Option BoundsShown) (limit : Option (Option ℕ)) (rows : List Row) → IsFit (rehearsal_with list bounds limit rows)
-rehearse-fit (Some list) (Some bounds) (Some limit) rows = tt
-rehearse-fit None bounds limit rows = tt
-rehearse-fit (Some list) None limit rows = tt
-rehearse-fit (Some list) (Some bounds) None rows = tt
+listing-fit : (list : Text) (rows : List Row) (after : Option Text) (limit : Option ℕ) (narrow : Option BoundsShown)
+    → IsFit (Some (rehearsal_of list rows (elim narrow [ Some within ↦ Ok (within, Listed after limit) | None ↦ Err too_many_devices ])))
+listing-fit list rows after limit (Some within) = tt
+listing-fit list rows after limit None = tt
+
+narrow-fit : (list : Text) (rows : List Row) (after : Option Text) (limit : Option ℕ) (bounds : Option BoundsShown) → IsFit (option_map (rehearsal_of list rows) (option_map (listing_asked after limit) bounds))
+narrow-fit list rows after limit (Some bounds) = listing-fit list rows after limit (bounds_of bounds.devices bounds.steps)
+narrow-fit list rows after limit None = tt
+
+wide-fit : (list : Text) (rows : List Row) (word : Text) (after : Option Text) (limit : Option ℕ) (bounds : Option BoundsShown) → IsFit (option_map (rehearsal_of list rows) (option_map (word_asked word after limit) bounds))
+wide-fit list rows word None None (Some bounds) = tt
+wide-fit list rows word (Some after) limit (Some bounds) = tt
+wide-fit list rows word None (Some limit) (Some bounds) = tt
+wide-fit list rows word after limit None = tt
+
+wanted-fit : (list : Text) (word after : Option Text) (limit : Option ℕ) (rows : List Row) → IsFit (option_map (rehearsal_of list rows) (wanted_by word after limit rows))
+wanted-fit list None after limit rows = narrow-fit list rows after limit (bounds_asked rows)
+wanted-fit list (Some word) after limit rows = wide-fit list rows word after limit (run_bounds_asked rows)
+
+rehearse-fit : (list : Option Text) (limit : Option (Option ℕ)) (rows : List Row) → IsFit (rehearsal_with list limit rows)
+rehearse-fit (Some list) (Some limit) rows = wanted-fit list (first_of (codes "word") rows) (first_of (codes "after") rows) limit rows
+rehearse-fit None limit rows = tt
+rehearse-fit (Some list) None rows = tt
 
 endings-fit : (list : Option Text) (bounds : Option BoundsShown) (states : Option (Option ℕ)) (rows : List Row) → IsFit (endings_with list bounds states rows)
 endings-fit (Some list) (Some bounds) (Some states) rows = tt
@@ -63,7 +82,7 @@ asked-fit called words = by (subcommand_of ubtool words)
         let names = values_of (codes "names") rows in
         let printed = print-fit (is_set (codes "noheader") rows) (length names == 1) (config_of rows) names (order_of rows) refl in
         let set = set-fit called (first_of (codes "script") rows) (first_of (codes "name") rows) rows in
-        let rehearsed = rehearse-fit (first_of (codes "device-list") rows) (bounds_asked rows) (number_within 1 most_records (codes "limit") rows) rows in
+        let rehearsed = rehearse-fit (first_of (codes "device-list") rows) (number_within 1 most_records (codes "limit") rows) rows in
         let ended = endings-fit (first_of (codes "device-list") rows) (run_bounds_asked rows) (number_within 0 most_states (codes "states") rows) rows in
         let last = either (bytes_eq name (codes "endings")) (endings_asked rows) None ended tt in
         let two = either (bytes_eq name (codes "rehearse")) (rehearse_asked rows) (if bytes_eq name (codes "endings") then endings_asked rows else None) rehearsed last in

@@ -2,7 +2,7 @@
 use Rattle.std.proofs.Common.{◌≡◌, ◌∙◌, ℕ, Bool, true, refl, sym, ap, subst, List, IfOk, IfErr, Option, Ok, Err, inl, inr, ◌⊎◌}
 use Rattle.std.specs.Prelude.{Result, Vec, option_map, string_bytes}
 use Rattle.std.specs.declared.alloc.Global.{Global}
-use Rattle.envimage.specs.Sink.{Sink}
+use Rattle.output.specs.Sink.{Sink}
 use Rattle.envimage.specs.declared.image.ByteOrder.{ByteOrder}
 use Rattle.ubtool_cli.specs.declared.ask.EndingsAsk.{EndingsAsk}
 use Rattle.ubtool_core.specs.EndingsOfImages.{RefusesEndings, TellsEndings}

@@ -3,7 +3,8 @@ use Rattle.std.proofs.Common.{◌≡◌, ℕ, Bool, List, Option, Some, None, Ok
 use Rattle.std.specs.Prelude.{Result, option_map}
 use Rattle.envimage.specs.declared.image.ByteOrder.{ByteOrder}
 use Rattle.ubtool_core.specs.Errors.{tool_fault}
-use Rattle.ubtool_core.specs.PrintingImages.{Outputs, Prints}
+use Rattle.ubtool_core.specs.PrintingImages.{Prints}
+use Rattle.output.specs.Outputs.{Outputs}
 use Rattle.ubtool_files.specs.Told.{Told}
 use Rattle.ubtool_core.specs.declared.error.ToolError.{ToolError}
 use Rattle.ubtool_core.specs.declared.error.ToolError.TheVariants.{Image, Env, Script, Devices, NoSuchVariable, NotARun, States, Write, Memory}

@@ -2,14 +2,16 @@
 use Rattle.std.proofs.Common.{◌≡◌, ◌∙◌, ℕ, true, refl, sym, ap, subst, List, map, IfOk, IfErr, Option, Some, None, Ok, Err, inl, inr, ◌⊎◌}
 use Rattle.std.specs.Prelude.{Result, Vec, option_map, string_bytes, String}
 use Rattle.std.specs.declared.alloc.Global.{Global}
-use Rattle.envimage.specs.Sink.{Sink}
+use Rattle.output.specs.Sink.{Sink}
 use Rattle.envimage.specs.declared.image.ByteOrder.{ByteOrder}
+use Rattle.rehearse.specs.Asking.{Asking, Wanted}
 use Rattle.rehearse.specs.Bounds.{BoundsShown}
+use Rattle.ubtool_cli.specs.CommandAnswers.{asking_of}
 use Rattle.rehearse_runs.specs.declared.listing.Finish.{Finish}
 use Rattle.ubtool_cli.specs.declared.ask.RehearseAsk.{RehearseAsk}
 use Rattle.ubtool_files.proofs.OrderLemmas.{OnlyReads-then}
 use Rattle.ubtool_core.specs.FileFaults.{path_form}
-use Rattle.ubtool_core.specs.Given.{Given}
+use Rattle.ubtool_core.specs.Given.{Given, given}
 use Rattle.ubtool_core.specs.Headline.{Rehearses}
 use Rattle.ubtool_files.specs.CallOrder.{OnlyReads}
 use Rattle.ubtool_core.specs.Refusing.{Refuses}
@@ -25,11 +27,10 @@ use Rattle.ubtool_run.specs.PrintingFiles.{first_bytes}
 use Rattle.ubtool_run.specs.declared.images.Images.{Images}
 use Rattle.ubtool_run.specs.declared.read.StoredCopy.{StoredCopy}
 use Rattle.ubtool_run.specs.ReadingFiles.{IsTextFault, ReadsText}
-use Rattle.ubtool_run.specs.RehearsingFiles.{AreRead, FromFiles, IsUnlisted, LeavesOutput, RehearsesCopies, RehearsesFrom, RunsOut, no_run_of, refusal_of, rehearsal_of}
+use Rattle.ubtool_run.specs.RehearsingFiles.{AreRead, FromFiles, IsUnlisted, LeavesOutput, RehearsesCopies, RehearsesFrom, RunsOut, no_run_of, refusal_of, rehearsal_of, word_of}
 
-abbrev pub given_by : ByteOrder → (first : List ℕ) → (second : Option (List ℕ)) → (list variable : List ℕ) → BoundsShown → (after : Option (List ℕ)) → (limit : Option ℕ) → (names : List (List ℕ)) → Given
-given_by order first second list variable bounds after limit names =
-    record { order = order; first = first; second = second; device_list = list; variable = variable; bounds = bounds; after = after; limit = limit; names = names }
+abbrev pub asking_made : (variable : List ℕ) → BoundsShown → Wanted → (names : List (List ℕ)) → Asking
+asking_made variable bounds wanted names = record { variable = variable; bounds = bounds; wanted = wanted; names = names }
 
 -- ---- reads that were refused
 
@@ -81,8 +82,8 @@ pub rehearses-found : (order : ByteOrder) (config list : List ℕ) (what : Rehea
     → ReadsText list y z (Ok text) → RehearsesCopies (rehearsal_of order found text.items what) out out' (Ok finish) → RehearsesFrom order config list what out out' x z (Ok true)
 rehearses-found order config list what out out' found text x y z finish read listed h = (refl, from-files order config list what found text x y z (λ g. (f : Finish) × Rehearses g out out' f) read listed (finish, h))
 
-no-run : (order : ByteOrder) (config list : List ℕ) (what : RehearseAsk) (out out' : Sink) (x z : Told) (after : Option (String Global)) → what.after ≡ after
-    → FromFiles order config list what x z (λ g. Refuses g out out' tool.NotARun) → RehearsesFrom order config list what out out' x z (Err (no_run_of after))
+no-run : (order : ByteOrder) (config list : List ℕ) (what : RehearseAsk) (out out' : Sink) (x z : Told) (given : Option (String Global)) → word_of what.wanted ≡ given
+    → FromFiles order config list what x z (λ g. Refuses g out out' tool.NotARun) → RehearsesFrom order config list what out out' x z (Err (no_run_of given))
 no-run order config list what out out' x z None is h = h
 no-run order config list what out out' x z (Some word) is h = (ap (option_map path_form) (sym is), h)
 
@@ -95,16 +96,11 @@ rehearses-refused order config list what out out' found text x y z (tool.Devices
 rehearses-refused order config list what out out' found text x y z tool.NoSuchVariable read listed h = (refl, from-files order config list what found text x y z (λ g. Refuses g out out' tool.NoSuchVariable) read listed h)
 rehearses-refused order config list what out out' found text x y z tool.States read listed h = absurd h
 rehearses-refused order config list what out out' found text x y z tool.NotARun read listed h =
-    no-run order config list what out out' x z what.after refl (from-files order config list what found text x y z (λ g. Refuses g out out' tool.NotARun) read listed h)
+    no-run order config list what out out' x z (word_of what.wanted) refl (from-files order config list what found text x y z (λ g. Refuses g out out' tool.NotARun) read listed h)
 rehearses-refused order config list what out out' found text x y z tool.Write read listed h = from-files order config list what found text x y z (λ g. Refuses g out out' tool.Write) read listed h
 rehearses-refused order config list what out out' found text x y z tool.Memory read listed h = inr (from-files order config list what found text x y z (λ g. RunsOut g out out') read listed h)
 
 -- ---- what the rehearsal of copies is given
-
-made : (order : ByteOrder) (first first' : List ℕ) (second second' : Option (List ℕ)) (list variable variable' : List ℕ) (bounds : BoundsShown) (after after' : Option (List ℕ)) (limit : Option ℕ) (names names' : List (List ℕ))
-    → first ≡ first' → second ≡ second' → variable ≡ variable' → after ≡ after' → names ≡ names'
-    → given_by order first second list variable bounds after limit names ≡ given_by order first' second' list variable' bounds after' limit names'
-made order first first' second second' list variable variable' bounds after after' limit names names' e f v a n = rw (e, f, v, a, n) refl
 
 pub first-bytes : (images : Images) → images.first.bytes.items ≡ first_bytes (copies images)
 first-bytes images = by images.first images.second
@@ -113,11 +109,17 @@ first-bytes images = by images.first images.second
     by x None = refl
     by x (Some y) = refl
 
-pub given-copies : (order : ByteOrder) (images : Images) (list : List ℕ) (what : RehearseAsk) (first : List ℕ) (second : Option (List ℕ)) (variable : List ℕ) (after : Option (List ℕ)) (names : List (List ℕ))
-    → first ≡ images.first.bytes.items → second ≡ option_map (λ copy. copy.bytes.items) images.second → variable ≡ string_bytes what.name → after ≡ option_map string_bytes what.after
-    → names ≡ map string_bytes what.names.items → given_by order first second list variable what.bounds after what.limit names ≡ rehearsal_of order (copies images) list what
-given-copies order images list what first second variable after names e f v a n =
-    made order _ _ _ _ list _ _ what.bounds _ _ what.limit _ _ (e ∙ first-bytes images) (f ∙ sym (image-bytes images)) v a n
+pub given-copies : (order : ByteOrder) (images : Images) (list : List ℕ) (what : RehearseAsk) (first : List ℕ) (second : Option (List ℕ)) (asking : Asking)
+    → first ≡ images.first.bytes.items → second ≡ option_map (λ copy. copy.bytes.items) images.second → asking ≡ asking_of what → given order first second list asking ≡ rehearsal_of order (copies images) list what
+given-copies order images list what first second asking e f a =
+    let e' = e ∙ first-bytes images in
+    let f' = f ∙ sym (image-bytes images) in
+    rw (e', f', a) refl
+
+-- what is asked, from its parts
+pub same-asking : (variable variable' : List ℕ) (bounds bounds' : BoundsShown) (wanted wanted' : Wanted) (names names' : List (List ℕ)) → variable ≡ variable' → bounds ≡ bounds' → wanted ≡ wanted' → names ≡ names'
+    → asking_made variable bounds wanted names ≡ asking_made variable' bounds' wanted' names'
+same-asking variable variable' bounds bounds' wanted wanted' names names' v b w n = rw (v, b, w, n) refl
 
 pub copies-rehearsed : (g : Given) (out out' : Sink) (r : Result Finish ToolError) → IfOk r (λ finish. Rehearses g out out' finish) → IfErr r (λ e. Refuses g out out' e) → RehearsesCopies g out out' r
 copies-rehearsed g out out' (Ok finish) ok err = ok
@@ -148,7 +150,7 @@ leaves-refused g what out out' (tool.Script error) h = absurd h
 leaves-refused g what out out' (tool.Devices error) h = h.2
 leaves-refused g what out out' tool.NoSuchVariable h = h.1
 leaves-refused g what out out' tool.States h = absurd h
-leaves-refused g what out out' tool.NotARun h = leaves-no-run out out' what.after h.1
+leaves-refused g what out out' tool.NotARun h = leaves-no-run out out' (word_of what.wanted) h.1
 leaves-refused g what out out' tool.Write h = h.broke.failed
 leaves-refused g what out out' tool.Memory (inl same) = ap (λ (s : Sink). s.failures) same
 leaves-refused g what out out' tool.Memory (inr h) = h.wrote.sound

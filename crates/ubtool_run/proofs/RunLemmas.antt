@@ -1,10 +1,10 @@
 -- What a status says of what was done.
 use Rattle.std.proofs.Common.{arith, ◌≡◌, ℕ, Bool, true, false, sym, subst, List, Option, Ok, Err}
 use Rattle.std.specs.Prelude.{Result}
-use Rattle.envimage.specs.Sink.{Sink}
+use Rattle.output.specs.Sink.{Sink}
 use Rattle.clap.specs.Words.{Text}
 use Rattle.ubtool_cli.specs.declared.ask.UseError.{UseError}
-use Rattle.ubtool_core.specs.PrintingImages.{Outputs, outputs}
+use Rattle.output.specs.Outputs.{Outputs, outputs}
 use Rattle.ubtool_files.specs.Told.{Told}
 use Rattle.ubtool_core.specs.declared.fault.Fault.{Fault}
 use Rattle.ubtool_run.specs.Faults.{CountsTold}

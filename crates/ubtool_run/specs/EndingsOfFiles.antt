@@ -1,7 +1,7 @@
 -- How all runs of the images of a configuration end, from files that report what they hold. The order of work is that
 -- of a rehearsal. Ours.
 use Rattle.std.specs.Prelude.{◌≡◌, ◌⊎◌, ℕ, Bool, true, List, Result, Ok, Err, string_bytes}
-use Rattle.envimage.specs.Sink.{Sink}
+use Rattle.output.specs.Sink.{Sink}
 use Rattle.envimage.specs.declared.image.ByteOrder.{ByteOrder}
 use Rattle.ubtool_cli.specs.declared.ask.EndingsAsk.{EndingsAsk}
 use Rattle.ubtool_core.specs.EndingsOfImages.{RefusesEndings, TellsEndings}

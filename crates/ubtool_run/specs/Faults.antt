@@ -1,6 +1,6 @@
 -- Which faults tell that a file failed. They are ours.
 use Rattle.std.specs.Prelude.{◌≡◌, ℕ, Result, Err}
-use Rattle.envimage.specs.Sink.{counted}
+use Rattle.output.specs.Sink.{counted}
 use Rattle.ubtool_core.specs.declared.fault.Fault.{Fault}
 use Rattle.ubtool_core.specs.declared.fault.Fault.TheVariants.{Config, CannotRead, CannotWrite, FileShort, FileTooLong, Memory}
 

@@ -1,3 +1,4 @@
+pub mod Builds
 pub mod Performing
 pub mod Faults
 pub mod Images

@@ -1,17 +1,18 @@
 -- What is done for what is asked, on files that tell what stands in them.
 -- The subcommands follow fw_printenv and fw_setenv (U-Boot, tools/env README); the rehearsal is ours.
 use Rattle.std.specs.Prelude.{◌≡◌, ◌++◌, ℕ, Bool, true, false, List, codes, length, map, Option, Result, Ok, Err, string_bytes}
-use Rattle.envimage.specs.Sink.{BrokeOff, Sink, Wrote}
+use Rattle.output.specs.Sink.{BrokeOff, Sink, Wrote}
 use Rattle.envimage.specs.declared.image.ByteOrder.{ByteOrder}
 use Rattle.ubtool_cli.specs.declared.ask.Ask.{Ask}
 use Rattle.ubtool_cli.specs.declared.ask.Ask.TheVariants.{Endings, Help, Print, Rehearse, Setenv, Version}
 use Rattle.ubtool_cli.specs.declared.ask.Change.{Change}
-use Rattle.ubtool_cli.specs.declared.ask.TheConstants.{VERSION}
-use Rattle.ubtool_core.specs.PrintingImages.{AreUnchanged, Outputs}
+use Rattle.output.specs.Outputs.{AreUnchanged, Outputs}
 use Rattle.ubtool_files.specs.Told.{IfTold, Told}
 use Rattle.ubtool_core.specs.declared.error.ToolError.TheVariants.{Write}
 use Rattle.ubtool_core.specs.declared.fault.Fault.{Fault}
 use Rattle.ubtool_core.specs.declared.fault.Fault.TheVariants.{Tool}
+use Rattle.ubtool_run.specs.Builds.{version_line}
+use Rattle.ubtool_run.specs.declared.build.Build.{Build}
 use Rattle.ubtool_run.specs.EndingsOfFiles.{TellsFrom}
 use Rattle.ubtool_run.specs.PrintingFiles.{LeavesOutputs, PrintsFrom}
 use Rattle.ubtool_run.specs.RehearsingFiles.{LeavesOutput, RehearsesFrom}
@@ -21,10 +22,6 @@ use Rattle.ubtool_run.specs.ChangingFiles.{Sets}
 abbrev pub IsComplete : Ask → Type 0
 IsComplete (Print config what order) = what.header ≡ false → length what.names.items ≡ 1
 IsComplete ask = Unit {0}
-
--- the line that tells the version of a program of this name
-abbrev pub version_line : List ℕ → List ℕ
-version_line program = program ++ codes " " ++ VERSION.now ++ codes "\n"
 
 -- the text was written, of the help or the version, or its output failed inside it
 abbrev pub Helps : List ℕ → Sink → Sink → Result Bool Fault → Type 0
@@ -44,25 +41,25 @@ abbrev pub SetsOf : (input : Option (List ℕ)) → ByteOrder → List ℕ → C
 SetsOf input order config change old new (Ok all) = (all ≡ true) × Sets input order config change old new (Ok tt)
 SetsOf input order config change old new (Err fault) = Sets input order config change old new (Err fault)
 
--- What doing it comes to: with an input of these bytes, if it tells them, with the files from before to after, and on
+-- What doing it comes to: by a program of this build, with an input of these bytes, if it tells them, with the files from before to after, and on
 -- the outputs.
-abbrev pub Does : (input : Option (List ℕ)) → Ask → Option Told → Option Told → Outputs → Result Bool Fault → Type 0
-Does input (Print config what order) before after outputs result =
+abbrev pub Does : Build → (input : Option (List ℕ)) → Ask → Option Told → Option Told → Outputs → Result Bool Fault → Type 0
+Does build input (Print config what order) before after outputs result =
     IfTold before after (λ old new.
     PrintsFrom order (string_bytes config) (map string_bytes what.names.items) what.header outputs old new result)
     × LeavesOutputs result outputs
-Does input (Setenv config change order) before after outputs result =
+Does build input (Setenv config change order) before after outputs result =
     IfTold before after (λ old new. SetsOf input order (string_bytes config) change old new result)
     × AreUnchanged outputs
-Does input (Rehearse config device_list what order) before after outputs result =
+Does build input (Rehearse config device_list what order) before after outputs result =
     IfTold before after (λ old new.
     RehearsesFrom order (string_bytes config) (string_bytes device_list) what outputs.out outputs.out' old new result)
     × LeavesOutput result outputs.out outputs.out'
     × (outputs.err' ≡ outputs.err)
-Does input (Endings config device_list what order) before after outputs result =
+Does build input (Endings config device_list what order) before after outputs result =
     IfTold before after (λ old new.
     TellsFrom order (string_bytes config) (string_bytes device_list) what outputs.out outputs.out' old new result)
     × LeavesOutput result outputs.out outputs.out'
     × (outputs.err' ≡ outputs.err)
-Does input (Help text) before after outputs result = Shows (string_bytes text) before after outputs result
-Does input Version before after outputs result = Shows (version_line (codes "ubtool")) before after outputs result
+Does build input (Help text) before after outputs result = Shows (string_bytes text) before after outputs result
+Does build input Version before after outputs result = Shows (version_line (codes "ubtool") build) before after outputs result

@@ -5,7 +5,8 @@ use Rattle.envimage.specs.Data.{Pair}
 use Rattle.envimage.specs.declared.image.ByteOrder.{ByteOrder}
 use Rattle.envimage.specs.declared.image.ImageError.{ImageError}
 use Rattle.ubtool_files.specs.CallOrder.{OnlyReads}
-use Rattle.ubtool_core.specs.PrintingImages.{AreUnchanged, BreaksOff, Outputs, PrintsAll, environment_in}
+use Rattle.ubtool_core.specs.PrintingImages.{BreaksOff, PrintsAll, environment_in}
+use Rattle.output.specs.Outputs.{AreUnchanged, Outputs}
 use Rattle.ubtool_files.specs.Told.{Told}
 use Rattle.ubtool_core.specs.declared.error.ToolError.TheVariants.{Image, Write}
 use Rattle.ubtool_core.specs.declared.fault.Fault.{Fault}

@@ -2,13 +2,16 @@
 -- ours.
 use Rattle.std.specs.Prelude.{◌≡◌, ◌⊎◌, ℕ, Bool, true, List, map, Option, Some, None, option_map, Result, Ok, Err, string_bytes, String}
 use Rattle.std.specs.declared.alloc.Global.{Global}
-use Rattle.envimage.specs.Sink.{Sink, counted}
+use Rattle.output.specs.Sink.{Sink, counted}
 use Rattle.envimage.specs.declared.image.ByteOrder.{ByteOrder}
 use Rattle.rehearse_runs.specs.declared.listing.Finish.{Finish}
+use Rattle.ubtool_cli.specs.CommandAnswers.{asking_of}
 use Rattle.ubtool_cli.specs.declared.ask.RehearseAsk.{RehearseAsk}
+use Rattle.ubtool_cli.specs.declared.ask.Wanted.{Wanted}
+use Rattle.ubtool_cli.specs.declared.ask.Wanted.TheVariants.{Listing, Word}
 use Rattle.ubtool_core.specs.Errors.{tool_fault}
 use Rattle.ubtool_core.specs.FileFaults.{path_form}
-use Rattle.ubtool_core.specs.Given.{Given}
+use Rattle.ubtool_core.specs.Given.{Given, given}
 use Rattle.ubtool_core.specs.Headline.{LacksMemory, Rehearses}
 use Rattle.ubtool_files.specs.CallOrder.{OnlyReads}
 use Rattle.ubtool_core.specs.Refusing.{Refuses}
@@ -24,17 +27,13 @@ use Rattle.ubtool_run.specs.ReadingFiles.{IsTextFault, Reads}
 
 -- what a rehearsal is given: the bytes of these copies, the text of the device list, and what the words ask for
 abbrev pub rehearsal_of : ByteOrder → List Copy → (device_list : List ℕ) → RehearseAsk → Given
-rehearsal_of order found device_list what = record {
-  order = order;
-  first = first_bytes found;
-  second = second_bytes found;
-  device_list = device_list;
-  variable = string_bytes what.name;
-  bounds = what.bounds;
-  after = option_map string_bytes what.after;
-  limit = what.limit;
-  names = map string_bytes what.names.items;
-}
+rehearsal_of order found device_list what =
+    given order (first_bytes found) (second_bytes found) device_list (asking_of what)
+
+-- the word of a run that is given, if one is
+abbrev pub word_of : Wanted → Option (String Global)
+word_of (Listing bounds after limit) = after
+word_of (Word bounds word) = Some word
 
 -- what a refusal is told as: a variable that is not set by its name, and a word that is no run as it was given
 abbrev pub no_run_of : Option (String Global) → Fault
@@ -43,7 +42,7 @@ no_run_of (Some word) = NotARun (path_form word)
 
 abbrev pub refusal_of : RehearseAsk → ToolError → Fault
 refusal_of what tool.NoSuchVariable = NoSuchVariable (path_form what.name)
-refusal_of what tool.NotARun = no_run_of what.after
+refusal_of what tool.NotARun = no_run_of (word_of what.wanted)
 refusal_of what error = tool_fault error
 
 -- want of memory leaves the output as it was, or whole records of the listing
@@ -96,7 +95,7 @@ RehearsesFrom order config device_list what out out' old new (Err (NoSuchVariabl
     (name ≡ path_form what.name)
     × FromFiles order config device_list what old new (λ g. Refuses g out out' tool.NoSuchVariable)
 RehearsesFrom order config device_list what out out' old new (Err (NotARun word)) =
-    (Some word ≡ option_map path_form what.after)
+    (Some word ≡ option_map path_form (word_of what.wanted))
     × FromFiles order config device_list what old new (λ g. Refuses g out out' tool.NotARun)
 RehearsesFrom order config device_list what out out' old new (Err fault) =
     OnlyReads old new × (IsImagesFault config old.stored fault ⊎ IsUnlisted config device_list old fault)

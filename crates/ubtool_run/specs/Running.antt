@@ -2,10 +2,10 @@
 -- to. The statuses are ours.
 use Rattle.std.specs.Prelude.{◌≡◌, ◌⊎◌, ℕ, Bool, true, false, List, Option, Result, Ok, Err, string_bytes}
 use Rattle.clap.specs.Words.{Text}
-use Rattle.envimage.specs.Sink.{BrokeOff, Sink, Wrote}
+use Rattle.output.specs.Sink.{BrokeOff, Sink, Wrote}
 use Rattle.ubtool_cli.specs.declared.ask.UseError.{UseError}
 use Rattle.ubtool_cli.specs.declared.ask.UseError.TheVariants.{Line}
-use Rattle.ubtool_core.specs.PrintingImages.{Outputs}
+use Rattle.output.specs.Outputs.{Outputs}
 use Rattle.ubtool_files.specs.Told.{Told}
 use Rattle.ubtool_files.specs.declared.files.Files.{Ghosts}
 use Rattle.ubtool_core.specs.declared.fault.Fault.{Fault}

@@ -4,7 +4,7 @@ ghost use Rattle.ubtool_run.specs.Running.{EndsAs, Ends, Tells};
 
 use crate::starting::{Buffered, StartError};
 use crate::telling::Telling;
-use envimage::{Out, write_all};
+use output::{Out, write_all};
 use std::io::Write;
 use ubtool_cli::UseError;
 use ubtool_core::{Fault, ToolError, write_fault_of};

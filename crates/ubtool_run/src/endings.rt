@@ -8,7 +8,8 @@ ghost use Rattle.ubtool_run.specs.RehearsingFiles.{LeavesOutput};
 
 use crate::images::{Images, read_images};
 use crate::read::read_text;
-use envimage::{ByteOrder, Out};
+use envimage::ByteOrder;
+use output::Out;
 use std::alloc::Global;
 use ubtool_cli::EndingsAsk;
 use ubtool_core::{Fault, ToolError, WordForm, endings_bytes};

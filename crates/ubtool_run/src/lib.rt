@@ -1,6 +1,7 @@
 //! The program from its words to its status, over any files and outputs.
 #![tactic(auto)]
 
+mod build;
 mod ending;
 mod endings;
 mod images;
@@ -14,6 +15,7 @@ mod starting;
 mod telling;
 mod tool;
 
+pub use build::Build;
 pub use ending::{end, finish, refuse, status_of};
 pub use images::{Images, read_images};
 pub use print::slices_of;

@@ -1,25 +1,27 @@
 //! What is asked for, done.
-ghost use Rattle.ubtool_core.specs.PrintingImages.{outputs};
+ghost use Rattle.output.specs.Outputs.{outputs};
 ghost use Rattle.ubtool_run.specs.Performing.{Does, IsComplete};
 ghost use Rattle.ubtool_run.specs.Faults.{CountsTold};
 
+use crate::build::Build;
 use crate::endings::endings;
 use crate::print::print;
 use crate::rehearsing::rehearse;
 use crate::set::set;
 use crate::showing::{show_help, show_version};
 use crate::tool::PROGRAM;
-use envimage::Out;
+use output::Out;
 use std::alloc::Global;
 use std::io::Read;
 use ubtool_cli::Ask;
 use ubtool_core::Fault;
 use ubtool_files::Files;
 
-/// Does what is asked for; a script of changes may be on `input`. The answer is false where a variable that was to be
+/// Does what is asked for; a script of changes may be on `input`, and the version tells of `build`. The answer is false where a variable that was to be
 /// printed is missing.
 pub fn perform<R: Read, F: Files, O: Out, E: Out>(
     alloc: Global,
+    build: Build,
     ask: Ask,
     input: &mut R,
     files: &mut F,
@@ -28,7 +30,7 @@ pub fn perform<R: Read, F: Files, O: Out, E: Out>(
 ) -> Result<bool, Fault>
     requires { IsComplete ask }
     ensures count { CountsTold (F.faults files.old) (F.faults files.new) result }
-    ensures does { Does (R.remaining input.old) ask (F.told files.old) (F.told files.new)
+    ensures does { Does build (R.remaining input.old) ask (F.told files.old) (F.told files.new)
         (outputs (O.sink out.old) (O.sink out.new) (E.sink err.old) (E.sink err.new)) result }
 {
     match ask {
@@ -58,6 +60,6 @@ pub fn perform<R: Read, F: Files, O: Out, E: Out>(
             order,
         } => endings(alloc, files, config, devices_file, what, order, out),
         Ask::Help(text) => show_help(out, &text),
-        Ask::Version => show_version(out, PROGRAM),
+        Ask::Version => show_version(out, PROGRAM, build),
     }
 }

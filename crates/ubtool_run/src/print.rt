@@ -1,6 +1,6 @@
 //! `printenv`, from files to outputs.
 ghost use Rattle.std.specs.Prelude.{◌≡◌, IfErr, IfOk, false, length, map, string_bytes};
-ghost use Rattle.ubtool_core.specs.PrintingImages.{outputs};
+ghost use Rattle.output.specs.Outputs.{outputs};
 ghost use Rattle.ubtool_files.specs.Told.{IfTold};
 ghost use Rattle.ubtool_core.specs.declared.fault.Fault.TheVariants.{Memory};
 ghost use Rattle.ubtool_run.specs.Faults.{CountsTold};
@@ -8,7 +8,8 @@ ghost use Rattle.ubtool_run.specs.Images.{copies};
 ghost use Rattle.ubtool_run.specs.PrintingFiles.{LeavesOutputs, PrintsCopies, PrintsFrom};
 
 use crate::images::{Images, read_images};
-use envimage::{ByteOrder, Out};
+use envimage::ByteOrder;
+use output::Out;
 use std::alloc::Global;
 use ubtool_cli::PrintAsk;
 use ubtool_core::{Fault, print_bytes};

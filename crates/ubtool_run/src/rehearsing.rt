@@ -1,25 +1,38 @@
 //! `rehearse`, from files to the listing.
 ghost use Rattle.std.specs.Prelude.{◌≡◌, option_map, string_bytes};
-ghost use Rattle.bootstore.specs.Moment.{option_bytes};
+ghost use Rattle.text.specs.TextsShown.{option_bytes};
 ghost use Rattle.ubtool_files.specs.Told.{IfTold};
 ghost use Rattle.ubtool_run.specs.Faults.{CountsTold};
 ghost use Rattle.ubtool_run.specs.Images.{copies};
-ghost use Rattle.ubtool_run.specs.RehearsingFiles.{LeavesOutput, RehearsesCopies, RehearsesFrom, refusal_of, rehearsal_of};
+ghost use Rattle.ubtool_run.specs.RehearsingFiles.{LeavesOutput, RehearsesCopies, RehearsesFrom, refusal_of, rehearsal_of, word_of};
+ghost use Rattle.rehearse_runs.specs.AskShown as bytes;
+ghost use Rattle.ubtool_cli.specs.WantedShown.{bounds_of, wanted_of};
 
 use crate::images::{Images, read_images};
 use crate::print::slices_of;
 use crate::read::read_text;
-use envimage::{ByteOrder, Out};
+use envimage::ByteOrder;
+use output::Out;
 use std::alloc::Global;
-use ubtool_cli::RehearseAsk;
+use ubtool_cli::{RehearseAsk, Wanted};
 use ubtool_core::{Fault, Finish, ToolError, WordForm, rehearse_bytes};
 use ubtool_files::Files;
+
+/// The word of a run that is given, if one is.
+fn word_of(wanted: Wanted) -> Option<String>
+    ensures { result ≡ word_of wanted }
+{
+    match wanted {
+        Wanted::Listing { after, .. } => after,
+        Wanted::Word { word, .. } => Some(word),
+    }
+}
 
 /// What a refusal of a rehearsal is told as.
 fn refusal_of(error: ToolError, what: RehearseAsk) -> Fault
     ensures { result ≡ refusal_of what error }
 {
-    match (error, what.after) {
+    match (error, word_of(what.wanted)) {
         (ToolError::NoSuchVariable, _) => Fault::NoSuchVariable(WordForm(what.name)),
         (ToolError::NotARun, Some(word)) => Fault::NotARun(WordForm(word)),
         (error, _) => error.into(),
@@ -33,6 +46,28 @@ fn bytes_if(text: &Option<String>) -> Option<&[u8]>
     match text {
         Some(text) => Some(text.as_bytes()),
         None => None,
+    }
+}
+
+/// The runs that are wanted, as the rehearsal takes them.
+fn wanted_bytes(wanted: &Wanted) -> ubtool_core::Wanted<'_>
+    ensures bounds { bytes.bounds_of result ≡ bounds_of wanted.now }
+    ensures wanted { bytes.wanted_of result ≡ wanted_of wanted.now }
+{
+    match wanted {
+        Wanted::Listing {
+            bounds,
+            after,
+            limit,
+        } => ubtool_core::Wanted::Listing {
+            bounds: *bounds,
+            after: bytes_if(after),
+            limit: *limit,
+        },
+        Wanted::Word { bounds, word } => ubtool_core::Wanted::Word {
+            bounds: *bounds,
+            word: word.as_bytes(),
+        },
     }
 }
 
@@ -52,9 +87,7 @@ fn rehearse_images<O: Out>(
     };
     let ask = ubtool_core::RehearseAsk {
         name: what.name.as_bytes(),
-        bounds: what.bounds,
-        after: bytes_if(&what.after),
-        limit: what.limit,
+        wanted: wanted_bytes(&what.wanted),
         names: &names,
     };
     let second = images.second_bytes();

@@ -1,7 +1,9 @@
 //! The help and the version, which the programs show alike.
-ghost use Rattle.ubtool_run.specs.Performing.{Helps, version_line};
+ghost use Rattle.ubtool_run.specs.Performing.{Helps};
+ghost use Rattle.ubtool_run.specs.Builds.{line_of, version_line};
 
-use envimage::{Out, write_all, write_parts};
+use crate::build::Build;
+use output::{Out, write_all, write_parts};
 use ubtool_cli::VERSION;
 use ubtool_core::{Fault, ToolError};
 
@@ -15,12 +17,27 @@ pub fn show_help<O: Out>(out: &mut O, text: &str) -> Result<bool, Fault>
     }
 }
 
-/// Writes the line that tells the version of a program.
-pub fn show_version<O: Out>(out: &mut O, program: &str) -> Result<bool, Fault>
-    ensures { Helps (version_line program.now) (O.sink out.old) (O.sink out.new) result }
+/// Writes what tells the version of a program: its name, the version, and these words on its build.
+fn show_line<O: Out>(out: &mut O, program: &str, build: &str) -> Result<bool, Fault>
+    ensures { Helps (line_of program.now build.now) (O.sink out.old) (O.sink out.new) result }
 {
-    match write_parts(out, &[program.as_bytes(), b" ", VERSION.as_bytes(), b"\n"]) {
+    let parts = &[
+        program.as_bytes(),
+        b" ",
+        VERSION.as_bytes(),
+        b" (",
+        build.as_bytes(),
+        b")\n",
+    ];
+    match write_parts(out, parts) {
         Ok(()) => Ok(true),
         Err(_) => Err(Fault::Tool(ToolError::Write)),
     }
+}
+
+/// Writes the line that tells the version of a program, and its build.
+pub fn show_version<O: Out>(out: &mut O, program: &str, build: Build) -> Result<bool, Fault>
+    ensures { Helps (version_line program.now build) (O.sink out.old) (O.sink out.new) result }
+{
+    show_line(out, program, build.text())
 }

@@ -2,7 +2,7 @@
 ghost use Rattle.std.specs.Prelude.{◌≡◌, ◌≤◌, length, IfErr};
 ghost use Rattle.ubtool_run.specs.declared.starting.StartError.TheVariants.{Memory};
 
-use envimage::Over;
+use output::Over;
 use std::alloc::{AllocError, Global};
 use std::env::{self, Env, FillError};
 use std::io::{self, BufWriter, ErrorKind, Write};

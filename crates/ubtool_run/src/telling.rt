@@ -1,6 +1,6 @@
 //! An output that knows whether anything was told on it.
 
-use envimage::{Out, OutFault};
+use output::{Out, OutFault};
 
 /// An output, and whether anything was written to it.
 #[derive(Drop)]

@@ -1,15 +1,16 @@
 //! The whole program.
 ghost use Rattle.std.specs.Prelude.{◌≡◌, ◌<◌, ◌≤◌, [], length, map};
-ghost use Rattle.envimage.specs.Sink.{Wrote};
+ghost use Rattle.output.specs.Sink.{Wrote};
 ghost use Rattle.ubtool_core.specs.Input.{PrintsInput, RefusesInput};
-ghost use Rattle.ubtool_core.specs.PrintingImages.{outputs};
+ghost use Rattle.output.specs.Outputs.{outputs};
 ghost use Rattle.ubtool_cli.specs.CommandAnswers.{Answers};
 ghost use Rattle.ubtool_run.specs.Performing.{Does};
 ghost use Rattle.ubtool_run.specs.Running.{HasDone, HasRefused, IsMisused, files_shown};
 
+use crate::build::Build;
 use crate::ending::{refuse, status_of};
 use crate::perform::perform;
-use envimage::Out;
+use output::Out;
 use std::alloc::Global;
 use std::convert::AsStr;
 use std::io::Read;
@@ -23,6 +24,7 @@ pub const PROGRAM: &str = "ubtool";
 /// Reads the words and does what they ask for.
 fn run_words<S: AsStr, R: Read, F: Files, O: Out, E: Out>(
     alloc: Global,
+    build: Build,
     called: CalledAs,
     words: &[S],
     input: &mut R,
@@ -31,16 +33,16 @@ fn run_words<S: AsStr, R: Read, F: Files, O: Out, E: Out>(
     err: &mut E,
 ) -> u8
     ensures status { result ≤ 2 }
-    ensures done { result ≡ 0 → HasDone (Answers called) (Does (R.remaining input.old)) (map S.text words.now) (files_shown F.Files files.old) (files_shown F.Files files.new)
+    ensures done { result ≡ 0 → HasDone (Answers called) (Does build (R.remaining input.old)) (map S.text words.now) (files_shown F.Files files.old) (files_shown F.Files files.new)
         (outputs (O.sink out.old) (O.sink out.new) (E.sink err.old) (E.sink err.new)) }
-    ensures refused { result ≡ 1 → HasRefused (Answers called) (Does (R.remaining input.old)) (map S.text words.now) (files_shown F.Files files.old) (files_shown F.Files files.new)
+    ensures refused { result ≡ 1 → HasRefused (Answers called) (Does build (R.remaining input.old)) (map S.text words.now) (files_shown F.Files files.old) (files_shown F.Files files.new)
         (outputs (O.sink out.old) (O.sink out.new) (E.sink err.old) (E.sink err.new)) }
     ensures misused { result ≡ 2 → IsMisused (Answers called) (map S.text words.now) (files_shown F.Files files.old) (files_shown F.Files files.new)
         (outputs (O.sink out.old) (O.sink out.new) (E.sink err.old) (E.sink err.new)) }
 {
     match read_command(alloc, called, words) {
         Ok(ask) => {
-            let answer = perform(alloc, ask, input, files, out, err);
+            let answer = perform(alloc, build, ask, input, files, out, err);
             status_of(err, PROGRAM, answer)
         }
         Err(error) => {
@@ -52,11 +54,12 @@ fn run_words<S: AsStr, R: Read, F: Files, O: Out, E: Out>(
 
 /// The whole program, from what it was called as and its words to its status. Without words the single
 /// image on `input` is printed, its checksum little-endian. If the program was called as one of U-Boot's
-/// tools, the script of `-s -` is read from `input`. The status is 0 where all was done, 1 where something
+/// tools, the script of `-s -` is read from `input`. The version tells of `build`. The status is 0 where all was done, 1 where something
 /// was refused or a variable to be printed is missing, and 2 where the words were not understood. A fault
 /// is told on `err` by one line; where `err` fails, nothing more is written there.
 pub fn run_tool<S: AsStr, R: Read, F: Files, O: Out, E: Out>(
     alloc: Global,
+    build: Build,
     called: CalledAs,
     words: &[S],
     input: &mut R,
@@ -69,9 +72,9 @@ pub fn run_tool<S: AsStr, R: Read, F: Files, O: Out, E: Out>(
     ensures quiet { length words.now ≡ 0 → result ≡ 0 → Wrote (E.sink err.old) (E.sink err.new) [] }
     ensures refused_input { length words.now ≡ 0 → result ≡ 1 → RefusesInput (R.remaining input.old) (O.sink out.old) (O.sink out.new) }
     ensures untouched { length words.now ≡ 0 → (F.told files.new ≡ F.told files.old) × (F.faults files.new ≡ F.faults files.old) }
-    ensures done { 0 < length words.now → result ≡ 0 → HasDone (Answers called) (Does (R.remaining input.old)) (map S.text words.now) (files_shown F.Files files.old) (files_shown F.Files files.new)
+    ensures done { 0 < length words.now → result ≡ 0 → HasDone (Answers called) (Does build (R.remaining input.old)) (map S.text words.now) (files_shown F.Files files.old) (files_shown F.Files files.new)
         (outputs (O.sink out.old) (O.sink out.new) (E.sink err.old) (E.sink err.new)) }
-    ensures refused { 0 < length words.now → result ≡ 1 → HasRefused (Answers called) (Does (R.remaining input.old)) (map S.text words.now) (files_shown F.Files files.old) (files_shown F.Files files.new)
+    ensures refused { 0 < length words.now → result ≡ 1 → HasRefused (Answers called) (Does build (R.remaining input.old)) (map S.text words.now) (files_shown F.Files files.old) (files_shown F.Files files.new)
         (outputs (O.sink out.old) (O.sink out.new) (E.sink err.old) (E.sink err.new)) }
     ensures misused { result ≡ 2 → IsMisused (Answers called) (map S.text words.now) (files_shown F.Files files.old) (files_shown F.Files files.new)
         (outputs (O.sink out.old) (O.sink out.new) (E.sink err.old) (E.sink err.new)) }
@@ -79,6 +82,6 @@ pub fn run_tool<S: AsStr, R: Read, F: Files, O: Out, E: Out>(
     if words.is_empty() {
         run_input(alloc, input, out, err)
     } else {
-        run_words(alloc, called, words, input, files, out, err)
+        run_words(alloc, build, called, words, input, files, out, err)
     }
 }

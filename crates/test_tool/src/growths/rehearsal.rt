@@ -3,8 +3,8 @@
 //! Of a longer script it says how many runs there are, and how many steps were begun for them.
 
 use bootstore::{Plain, Store, Trail};
-use envimage::{Out, Over, write_all};
 use envtools::Env;
+use output::{Out, Over, write_all};
 use rehearse::{Bounds, Devices};
 use rehearse_runs::{ListError, RunError, Runs, write_listing};
 use std::alloc::{AllocError, Global};

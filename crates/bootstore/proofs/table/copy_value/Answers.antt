@@ -1,5 +1,5 @@
 use Rattle.std.proofs.Common.{Some, ◌∙◌, ap, sym}
-use Rattle.bootstore.specs.Moment.{option_items}
+use Rattle.text.specs.TextsShown.{option_items}
 use Rattle.bootstore.proofs.Tables.{clone_text}
 use Rattle.bootstore.proofs.table.copy_value.Goals as goal
 

@@ -1,5 +1,5 @@
 use Rattle.std.proofs.Common.{◌≡◌, take}
-use Rattle.bootstore.specs.Moment.{bytes_of_words}
+use Rattle.text.specs.TextsShown.{bytes_of_words}
 use Rattle.rehearse_endings.proofs.flow.copy_words.Given as goal
 
 -- those so far are copied

@@ -5,7 +5,7 @@ use Rattle.rehearse_machine.specs.declared.rehearsal.Stop.{Stop}
 use Rattle.rehearse_machine.specs.declared.rehearsal.Stop.TheVariants.{Asks}
 use Rattle.rehearse_endings.specs.Cores.{core_shown}
 use Rattle.rehearse_endings.specs.RowsShown.{summary_shown, Summed}
-use Rattle.bootstore.specs.Moment.{bytes_of_words}
+use Rattle.text.specs.TextsShown.{bytes_of_words}
 use Rattle.std.proofs.lemmas.List.{length-map}
 use Rattle.rehearse_endings.specs.Drawing.{Draws, node_shown, nodes_shown}
 use Rattle.rehearse_endings.specs.declared.flow.Flow.{Flow}
@@ -16,7 +16,7 @@ use Rattle.std.proofs.Common.{Err}
 use Rattle.std.proofs.lemmas.Result.{err_from_is_err_and}
 use Rattle.rehearse_endings.proofs.Entering.{refused_as, met_as, enters, too_many, new_won, new_lost, gone_through, none_entered}
 use Rattle.rehearse_endings.proofs.Flowing.{state_drawn, kept_drawn, ended_drawn, more_on, more_nodes, no_more, entered_as}
-use Rattle.rehearse_endings.proofs.Reached.{Room, begun_marked, begun_on, begun_lost, reached_log, reached_as, reached_below, reached_on, won_on, back_there, lost_on, summed_end, summed_sides, all_wider, entries_more}
+use Rattle.rehearse_endings.proofs.Reached.{Room, begun_marked, begun_on, begun_lost, reached_log, reached_as, reached_below, reached_on, won_on, back_there, lost_on, sides_of, summed_end, summed_sides, all_wider, entries_more}
 use Rattle.rehearse_endings.proofs.searching.+summed.Goals as goal
 
 pub find-requires-clause-depth : goal.find-requires-clause-depth
@@ -83,28 +83,22 @@ pub returns-in_ok-keep-in-Asks-clause-sums : goal.returns-in_ok-keep-in-Asks-cla
 returns-in_ok-keep-in-Asks-clause-sums g t c =
     let task = task_in c.args.rehearsal.now in
     let r = g.S.Store.record_of c.args.store.now in
-    let reached = reached_as task c.args.depth c.args.stop Asks r.present c.in-Asks.is c.requires.reached in
     let won_at = (g.S.Store.record_of c.resume.new.store).present in
     let lost_at = (g.S.Store.record_of c.resume-in-Asks.new.store).present in
-    let won_stops = won_on task r (g.S.Store.record_of c.mark.new.self) (g.S.Store.record_of c.resume.new.store) c.in_ok-won_stop-in-Asks.won_stop c.in_ok-mark-in-Asks.ensures.ok c.in_ok-won_stop-in-Asks.ensures.stops in
-    let back = g.S.Store.record_of c.back.new.self in
-    let there = back_there r (g.S.Store.record_of c.mark.new.self) (g.S.Store.record_of c.resume.new.store) (g.S.Store.record_of c.summed.new.store) back c.in_ok-mark-in-Asks.ensures.ok c.in_ok-won_stop-in-Asks.ensures.marks c.in_ok-won-in-Asks.ensures.marks c.back.ensures in
-    let lost_stops = lost_on task r.present back (g.S.Store.record_of c.resume-in-Asks.new.store) c.in_ok-lost_stop-in-Asks.lost_stop there c.in_ok-lost_stop-in-Asks.ensures.stops in
+    let sides = sides_of task c.args.depth c.args.stop c.in_ok-won_stop-in-Asks.won_stop c.in_ok-lost_stop-in-Asks.lost_stop r (g.S.Store.record_of c.mark.new.self) (g.S.Store.record_of c.resume.new.store) (g.S.Store.record_of c.summed.new.store) (g.S.Store.record_of c.back.new.self) (g.S.Store.record_of c.resume-in-Asks.new.store)
+    c.in-Asks.is c.requires.reached c.in_ok-mark-in-Asks.ensures.ok c.in_ok-won_stop-in-Asks.ensures.stops c.in_ok-won_stop-in-Asks.ensures.marks c.in_ok-won-in-Asks.ensures.marks c.back.ensures c.in_ok-lost_stop-in-Asks.ensures.stops in
     subst (λ (x : Stop). Summed (future task.limits x r.present) (summary_shown c.in_ok-summary-in-Asks.summary)) (sym c.in-Asks.is)
-    (summed_sides task c.args.depth r.present reached c.in_ok-won_stop-in-Asks.won_stop c.in_ok-lost_stop-in-Asks.lost_stop won_at lost_at (summary_shown c.in_ok-won-in-Asks.won) (summary_shown c.in_ok-lost-in-Asks.lost) (summary_shown c.in_ok-summary-in-Asks.summary) c.steps-steps.result c.steps-steps.ensures won_stops lost_stops c.in_ok-won-in-Asks.ensures.sums c.in_ok-lost-in-Asks.ensures.sums c.in_ok-summary-in-Asks.ensures.sums)
+    (summed_sides task c.args.depth r.present sides.reached c.in_ok-won_stop-in-Asks.won_stop c.in_ok-lost_stop-in-Asks.lost_stop won_at lost_at (summary_shown c.in_ok-won-in-Asks.won) (summary_shown c.in_ok-lost-in-Asks.lost) (summary_shown c.in_ok-summary-in-Asks.summary) c.steps-steps.result c.steps-steps.ensures sides.won sides.lost c.in_ok-won-in-Asks.ensures.sums c.in_ok-lost-in-Asks.ensures.sums c.in_ok-summary-in-Asks.ensures.sums)
 
 pub returns-in_ok-keep-in-Asks-clause-table : goal.returns-in_ok-keep-in-Asks-clause-table
 returns-in_ok-keep-in-Asks-clause-table g t c =
     let task = task_in c.args.rehearsal.now in
     let r = g.S.Store.record_of c.args.store.now in
-    let reached = reached_as task c.args.depth c.args.stop Asks r.present c.in-Asks.is c.requires.reached in
     let won_at = (g.S.Store.record_of c.resume.new.store).present in
     let lost_at = (g.S.Store.record_of c.resume-in-Asks.new.store).present in
-    let won_stops = won_on task r (g.S.Store.record_of c.mark.new.self) (g.S.Store.record_of c.resume.new.store) c.in_ok-won_stop-in-Asks.won_stop c.in_ok-mark-in-Asks.ensures.ok c.in_ok-won_stop-in-Asks.ensures.stops in
-    let back = g.S.Store.record_of c.back.new.self in
-    let there = back_there r (g.S.Store.record_of c.mark.new.self) (g.S.Store.record_of c.resume.new.store) (g.S.Store.record_of c.summed.new.store) back c.in_ok-mark-in-Asks.ensures.ok c.in_ok-won_stop-in-Asks.ensures.marks c.in_ok-won-in-Asks.ensures.marks c.back.ensures in
-    let lost_stops = lost_on task r.present back (g.S.Store.record_of c.resume-in-Asks.new.store) c.in_ok-lost_stop-in-Asks.lost_stop there c.in_ok-lost_stop-in-Asks.ensures.stops in
-    let summed = summed_sides task c.args.depth r.present reached c.in_ok-won_stop-in-Asks.won_stop c.in_ok-lost_stop-in-Asks.lost_stop won_at lost_at (summary_shown c.in_ok-won-in-Asks.won) (summary_shown c.in_ok-lost-in-Asks.lost) (summary_shown c.in_ok-summary-in-Asks.summary) c.steps-steps.result c.steps-steps.ensures won_stops lost_stops c.in_ok-won-in-Asks.ensures.sums c.in_ok-lost-in-Asks.ensures.sums c.in_ok-summary-in-Asks.ensures.sums in
+    let sides = sides_of task c.args.depth c.args.stop c.in_ok-won_stop-in-Asks.won_stop c.in_ok-lost_stop-in-Asks.lost_stop r (g.S.Store.record_of c.mark.new.self) (g.S.Store.record_of c.resume.new.store) (g.S.Store.record_of c.summed.new.store) (g.S.Store.record_of c.back.new.self) (g.S.Store.record_of c.resume-in-Asks.new.store)
+    c.in-Asks.is c.requires.reached c.in_ok-mark-in-Asks.ensures.ok c.in_ok-won_stop-in-Asks.ensures.stops c.in_ok-won_stop-in-Asks.ensures.marks c.in_ok-won-in-Asks.ensures.marks c.back.ensures c.in_ok-lost_stop-in-Asks.ensures.stops in
+    let summed = summed_sides task c.args.depth r.present sides.reached c.in_ok-won_stop-in-Asks.won_stop c.in_ok-lost_stop-in-Asks.lost_stop won_at lost_at (summary_shown c.in_ok-won-in-Asks.won) (summary_shown c.in_ok-lost-in-Asks.lost) (summary_shown c.in_ok-summary-in-Asks.summary) c.steps-steps.result c.steps-steps.ensures sides.won sides.lost c.in_ok-won-in-Asks.ensures.sums c.in_ok-lost-in-Asks.ensures.sums c.in_ok-summary-in-Asks.ensures.sums in
     let won_nodes = nodes_shown c.summed.new.table.flow.nodes in
     let nodes = c.summed-in-Asks.new.table.flow.nodes in
     let same = ap (λ (x : Flow). nodes_shown x.nodes) c.in_ok-keep-in-Asks.ensures.flow in
@@ -114,10 +108,10 @@ returns-in_ok-keep-in-Asks-clause-table g t c =
     let kept_at = c.in_ok-summary-in-Asks.ensures.place in
     let drawn =
     state_drawn task c.args.depth r.present c.in_ok-won_stop-in-Asks.won_stop c.in_ok-lost_stop-in-Asks.lost_stop won_at lost_at won_nodes (nodes_shown nodes) (nodes_shown c.ask.new.self.nodes) c.in_ok-won-in-Asks.won.place c.in_ok-lost-in-Asks.lost.place place words
-    reached won_stops lost_stops c.in_ok-words-in-Asks.ensures c.in_ok-won-in-Asks.ensures.draws c.in_ok-lost-in-Asks.ensures.grows c.in_ok-lost-in-Asks.ensures.draws at c.in_ok-place-in-Asks.ensures.nodes in
+    sides.reached sides.won sides.lost c.in_ok-words-in-Asks.ensures c.in_ok-won-in-Asks.ensures.draws c.in_ok-lost-in-Asks.ensures.grows c.in_ok-lost-in-Asks.ensures.draws at c.in_ok-place-in-Asks.ensures.nodes in
     let draws = kept_drawn task.limits r.present (nodes_shown c.ask.new.self.nodes) (nodes_shown c.keep.new.self.flow.nodes) place c.in_ok-summary-in-Asks.summary.place same kept_at drawn in
     let more = more_nodes (nodes_shown nodes) (nodes_shown c.ask.new.self.nodes) (nodes_shown c.keep.new.self.flow.nodes) _ c.in_ok-place-in-Asks.ensures.nodes same in
-    entries_more task (nodes_shown c.keep.new.self.flow.nodes) c.args.depth r.present c.summed-in-Asks.new.table.entries.items c.keep.new.self.entries.items (core_shown c.in_ok-core-in-Asks.core) c.steps-steps.result c.in_ok-summary-in-Asks.summary.place (summary_shown c.in_ok-summary-in-Asks.summary) reached
+    entries_more task (nodes_shown c.keep.new.self.flow.nodes) c.args.depth r.present c.summed-in-Asks.new.table.entries.items c.keep.new.self.entries.items (core_shown c.in_ok-core-in-Asks.core) c.steps-steps.result c.in_ok-summary-in-Asks.summary.place (summary_shown c.in_ok-summary-in-Asks.summary) sides.reached
     (all_wider task.limits (nodes_shown nodes) (nodes_shown c.keep.new.self.flow.nodes) c.summed-in-Asks.new.table.entries.items more c.in_ok-lost-in-Asks.ensures.table)
     c.in_ok-core-in-Asks.ensures.core c.steps-steps.ensures summed draws c.in_ok-keep-in-Asks.ensures.kept
 
@@ -138,13 +132,10 @@ pub returns-in_ok-keep-in-Asks-clause-draws : goal.returns-in_ok-keep-in-Asks-cl
 returns-in_ok-keep-in-Asks-clause-draws g t c =
     let task = task_in c.args.rehearsal.now in
     let r = g.S.Store.record_of c.args.store.now in
-    let reached = reached_as task c.args.depth c.args.stop Asks r.present c.in-Asks.is c.requires.reached in
     let won_at = (g.S.Store.record_of c.resume.new.store).present in
     let lost_at = (g.S.Store.record_of c.resume-in-Asks.new.store).present in
-    let won_stops = won_on task r (g.S.Store.record_of c.mark.new.self) (g.S.Store.record_of c.resume.new.store) c.in_ok-won_stop-in-Asks.won_stop c.in_ok-mark-in-Asks.ensures.ok c.in_ok-won_stop-in-Asks.ensures.stops in
-    let back = g.S.Store.record_of c.back.new.self in
-    let there = back_there r (g.S.Store.record_of c.mark.new.self) (g.S.Store.record_of c.resume.new.store) (g.S.Store.record_of c.summed.new.store) back c.in_ok-mark-in-Asks.ensures.ok c.in_ok-won_stop-in-Asks.ensures.marks c.in_ok-won-in-Asks.ensures.marks c.back.ensures in
-    let lost_stops = lost_on task r.present back (g.S.Store.record_of c.resume-in-Asks.new.store) c.in_ok-lost_stop-in-Asks.lost_stop there c.in_ok-lost_stop-in-Asks.ensures.stops in
+    let sides = sides_of task c.args.depth c.args.stop c.in_ok-won_stop-in-Asks.won_stop c.in_ok-lost_stop-in-Asks.lost_stop r (g.S.Store.record_of c.mark.new.self) (g.S.Store.record_of c.resume.new.store) (g.S.Store.record_of c.summed.new.store) (g.S.Store.record_of c.back.new.self) (g.S.Store.record_of c.resume-in-Asks.new.store)
+    c.in-Asks.is c.requires.reached c.in_ok-mark-in-Asks.ensures.ok c.in_ok-won_stop-in-Asks.ensures.stops c.in_ok-won_stop-in-Asks.ensures.marks c.in_ok-won-in-Asks.ensures.marks c.back.ensures c.in_ok-lost_stop-in-Asks.ensures.stops in
     let won_nodes = nodes_shown c.summed.new.table.flow.nodes in
     let nodes = c.summed-in-Asks.new.table.flow.nodes in
     let same = ap (λ (x : Flow). nodes_shown x.nodes) c.in_ok-keep-in-Asks.ensures.flow in
@@ -154,7 +145,7 @@ returns-in_ok-keep-in-Asks-clause-draws g t c =
     let kept_at = c.in_ok-summary-in-Asks.ensures.place in
     let drawn =
     state_drawn task c.args.depth r.present c.in_ok-won_stop-in-Asks.won_stop c.in_ok-lost_stop-in-Asks.lost_stop won_at lost_at won_nodes (nodes_shown nodes) (nodes_shown c.ask.new.self.nodes) c.in_ok-won-in-Asks.won.place c.in_ok-lost-in-Asks.lost.place place words
-    reached won_stops lost_stops c.in_ok-words-in-Asks.ensures c.in_ok-won-in-Asks.ensures.draws c.in_ok-lost-in-Asks.ensures.grows c.in_ok-lost-in-Asks.ensures.draws at c.in_ok-place-in-Asks.ensures.nodes in
+    sides.reached sides.won sides.lost c.in_ok-words-in-Asks.ensures c.in_ok-won-in-Asks.ensures.draws c.in_ok-lost-in-Asks.ensures.grows c.in_ok-lost-in-Asks.ensures.draws at c.in_ok-place-in-Asks.ensures.nodes in
     let draws = kept_drawn task.limits r.present (nodes_shown c.ask.new.self.nodes) (nodes_shown c.keep.new.self.flow.nodes) place c.in_ok-summary-in-Asks.summary.place same kept_at drawn in
     subst (λ (x : Stop). Draws (nodes_shown c.keep.new.self.flow.nodes) c.in_ok-summary-in-Asks.summary.place (seen_from task.limits x r.present)) (sym c.in-Asks.is) draws
 
@@ -203,17 +194,15 @@ returns-in_err-lost-in-Asks-clause-refused g t c = λ p kept pending at new ente
     let met = met_as task p c.args.stop Asks r.present c.in-Asks.is at in
     let won_at = (g.S.Store.record_of c.resume.new.store).present in
     let lost_at = (g.S.Store.record_of c.resume-in-Asks.new.store).present in
-    let won_stops = won_on task r (g.S.Store.record_of c.mark.new.self) (g.S.Store.record_of c.resume.new.store) c.in_ok-won_stop-in-Asks.won_stop c.in_ok-mark-in-Asks.ensures.ok c.in_ok-won_stop-in-Asks.ensures.stops in
-    let back = g.S.Store.record_of c.back.new.self in
-    let there = back_there r (g.S.Store.record_of c.mark.new.self) (g.S.Store.record_of c.resume.new.store) (g.S.Store.record_of c.summed.new.store) back c.in_ok-mark-in-Asks.ensures.ok c.in_ok-won_stop-in-Asks.ensures.marks c.in_ok-won-in-Asks.ensures.marks c.back.ensures in
-    let lost_stops = lost_on task r.present back (g.S.Store.record_of c.resume-in-Asks.new.store) c.in_ok-lost_stop-in-Asks.lost_stop there c.in_ok-lost_stop-in-Asks.ensures.stops in
+    let sides = sides_of task c.args.depth c.args.stop c.in_ok-won_stop-in-Asks.won_stop c.in_ok-lost_stop-in-Asks.lost_stop r (g.S.Store.record_of c.mark.new.self) (g.S.Store.record_of c.resume.new.store) (g.S.Store.record_of c.summed.new.store) (g.S.Store.record_of c.back.new.self) (g.S.Store.record_of c.resume-in-Asks.new.store)
+    c.in-Asks.is c.requires.reached c.in_ok-mark-in-Asks.ensures.ok c.in_ok-won_stop-in-Asks.ensures.stops c.in_ok-won_stop-in-Asks.ensures.marks c.in_ok-won-in-Asks.ensures.marks c.back.ensures c.in_ok-lost_stop-in-Asks.ensures.stops in
     let won =
-    c.in_ok-won-in-Asks.ensures.entered (p ++ Success ∷ []) kept ((p, r.present) ∷ pending) (stopped_on task p r.present won_at Success c.in_ok-won_stop-in-Asks.won_stop met won_stops) (new_won p r.present kept pending new)
+    c.in_ok-won-in-Asks.ensures.entered (p ++ Success ∷ []) kept ((p, r.present) ∷ pending) (stopped_on task p r.present won_at Success c.in_ok-won_stop-in-Asks.won_stop met sides.won) (new_won p r.present kept pending new)
     (enters task p r.present kept pending met new c.args.table.now entered c.enter.new.self c.in_ok-core-in-Asks.ensures.entries c.in_ok-core-in-Asks.ensures.visited) in
     let error = err_from_is_err_and c.from_residual-in_err-lost-in-Asks.result c.from_residual-in_err-lost-in-Asks.ensures.1 in
     refused_as task (c.args.table.now.most + 1) c.from_residual-in_err-lost-in-Asks.result c.in_err-lost-in-Asks.field-0.0 (error.1 ∙ ap Err error.2)
     (λ is. subst (λ (n : ℕ). HasStates task (n + 1)) (c.in_ok-won-in-Asks.ensures.most ∙ c.in_ok-core-in-Asks.ensures.most)
-    (c.in_err-lost-in-Asks.ensures.refused (p ++ Failure ∷ []) (kept ++ won.further) ((p, r.present) ∷ pending) (stopped_on task p r.present lost_at Failure c.in_ok-lost_stop-in-Asks.lost_stop met lost_stops)
+    (c.in_err-lost-in-Asks.ensures.refused (p ++ Failure ∷ []) (kept ++ won.further) ((p, r.present) ∷ pending) (stopped_on task p r.present lost_at Failure c.in_ok-lost_stop-in-Asks.lost_stop met sides.lost)
     (new_lost p r.present kept won.further pending new won.behind) won.entered is))
 
 pub returns-in_ok-keep-in-Asks-clause-entered : goal.returns-in_ok-keep-in-Asks-clause-entered
@@ -223,14 +212,12 @@ returns-in_ok-keep-in-Asks-clause-entered g t c = λ p kept pending at new enter
     let met = met_as task p c.args.stop Asks r.present c.in-Asks.is at in
     let won_at = (g.S.Store.record_of c.resume.new.store).present in
     let lost_at = (g.S.Store.record_of c.resume-in-Asks.new.store).present in
-    let won_stops = won_on task r (g.S.Store.record_of c.mark.new.self) (g.S.Store.record_of c.resume.new.store) c.in_ok-won_stop-in-Asks.won_stop c.in_ok-mark-in-Asks.ensures.ok c.in_ok-won_stop-in-Asks.ensures.stops in
-    let back = g.S.Store.record_of c.back.new.self in
-    let there = back_there r (g.S.Store.record_of c.mark.new.self) (g.S.Store.record_of c.resume.new.store) (g.S.Store.record_of c.summed.new.store) back c.in_ok-mark-in-Asks.ensures.ok c.in_ok-won_stop-in-Asks.ensures.marks c.in_ok-won-in-Asks.ensures.marks c.back.ensures in
-    let lost_stops = lost_on task r.present back (g.S.Store.record_of c.resume-in-Asks.new.store) c.in_ok-lost_stop-in-Asks.lost_stop there c.in_ok-lost_stop-in-Asks.ensures.stops in
+    let sides = sides_of task c.args.depth c.args.stop c.in_ok-won_stop-in-Asks.won_stop c.in_ok-lost_stop-in-Asks.lost_stop r (g.S.Store.record_of c.mark.new.self) (g.S.Store.record_of c.resume.new.store) (g.S.Store.record_of c.summed.new.store) (g.S.Store.record_of c.back.new.self) (g.S.Store.record_of c.resume-in-Asks.new.store)
+    c.in-Asks.is c.requires.reached c.in_ok-mark-in-Asks.ensures.ok c.in_ok-won_stop-in-Asks.ensures.stops c.in_ok-won_stop-in-Asks.ensures.marks c.in_ok-won-in-Asks.ensures.marks c.back.ensures c.in_ok-lost_stop-in-Asks.ensures.stops in
     let won =
-    c.in_ok-won-in-Asks.ensures.entered (p ++ Success ∷ []) kept ((p, r.present) ∷ pending) (stopped_on task p r.present won_at Success c.in_ok-won_stop-in-Asks.won_stop met won_stops) (new_won p r.present kept pending new)
+    c.in_ok-won-in-Asks.ensures.entered (p ++ Success ∷ []) kept ((p, r.present) ∷ pending) (stopped_on task p r.present won_at Success c.in_ok-won_stop-in-Asks.won_stop met sides.won) (new_won p r.present kept pending new)
     (enters task p r.present kept pending met new c.args.table.now entered c.enter.new.self c.in_ok-core-in-Asks.ensures.entries c.in_ok-core-in-Asks.ensures.visited) in
     let lost =
-    c.in_ok-lost-in-Asks.ensures.entered (p ++ Failure ∷ []) (kept ++ won.further) ((p, r.present) ∷ pending) (stopped_on task p r.present lost_at Failure c.in_ok-lost_stop-in-Asks.lost_stop met lost_stops)
+    c.in_ok-lost-in-Asks.ensures.entered (p ++ Failure ∷ []) (kept ++ won.further) ((p, r.present) ∷ pending) (stopped_on task p r.present lost_at Failure c.in_ok-lost_stop-in-Asks.lost_stop met sides.lost)
     (new_lost p r.present kept won.further pending new won.behind) won.entered in
     gone_through task p r.present kept won.further lost.further pending c.summed-in-Asks.new.table c.keep.new.self (core_shown c.in_ok-core-in-Asks.core) c.steps-steps.result c.args.depth c.in_ok-summary-in-Asks.summary.place (summary_shown c.in_ok-summary-in-Asks.summary) won.behind lost.behind lost.entered c.in_ok-keep-in-Asks.ensures.kept c.keep.ensures.visited

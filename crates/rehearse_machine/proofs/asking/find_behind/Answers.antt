@@ -4,8 +4,9 @@ use Rattle.std.specs.declared.alloc.Global.{Global}
 use Rattle.hushlang.specs.TreesShown as view
 use Rattle.hushlang.specs.Tree.{Script}
 use Rattle.hushlang.specs.Expansion.{fields}
-use Rattle.bootstore.specs.Moment.{bytes_of_words, RunningFrame}
-use Rattle.rehearse.specs.State.{state_at}
+use Rattle.bootstore.specs.Moment.{RunningFrame}
+use Rattle.text.specs.TextsShown.{bytes_of_words}
+use Rattle.bootstore.specs.StoredState.{state_at}
 use Rattle.rehearse_machine.specs.AskingCommand.{words_in_front, fields_again}
 use Rattle.rehearse_machine.specs.Places.{StopOn, place_fields}
 use Rattle.rehearse.specs.Execution.{End}

@@ -4,7 +4,7 @@ use Rattle.hushlang.specs.declared.tree.Script.{Script as Code}
 use Rattle.bootstore.specs.declared.frame.At.{At}
 use Rattle.rehearse_machine.specs.Places.{GoOn, moved_to, block_frame, place, place_arms, drop_arms}
 use Rattle.rehearse_machine.specs.MovesShown.{under}
-use Rattle.rehearse.specs.State.{state_at}
+use Rattle.bootstore.specs.StoredState.{state_at}
 use Rattle.rehearse_machine.proofs.Coming.{comes_as, comes_at}
 use Rattle.rehearse_machine.proofs.ArmLemmas.{block_entered, next_arm, past_arms, not_zero}
 use Rattle.rehearse_machine.proofs.blocks.end_condition.Goals as goal

@@ -1,7 +1,8 @@
 use Rattle.std.proofs.Common.{◌∷◌, ap, ◌∙◌, sym, ◌≡◌, ℕ, suc, add-one, true, false}
 use Rattle.hushlang.specs.TreesShown as view
 use Rattle.bootstore.specs.declared.frame.At.{At}
-use Rattle.rehearse.specs.State.{State, state_at}
+use Rattle.rehearse.specs.State.{State}
+use Rattle.bootstore.specs.StoredState.{state_at}
 use Rattle.rehearse_machine.specs.Places.{GoOn, moved_to, place, place_command, place_begins}
 use Rattle.rehearse_machine.specs.MovesShown.{under, limits_of}
 use Rattle.rehearse_machine.proofs.Coming.{comes_as, comes_at}

@@ -5,9 +5,9 @@ use Rattle.bootstore.specs.Moment.{environment_of}
 use Rattle.bootstore.specs.Record.{Record}
 use Rattle.rehearse.specs.Trees.{tree_of}
 use Rattle.rehearse.specs.Execution.{Syntax}
-use Rattle.rehearse.specs.State.{state_at}
+use Rattle.bootstore.specs.StoredState.{state_at}
 use Rattle.rehearse.specs.Runs.{run_on}
-use Rattle.rehearse.proofs.StateLemmas.{stored_starts}
+use Rattle.bootstore.proofs.StateLemmas.{stored_starts}
 use Rattle.rehearse_machine.specs.Came.{Over, settled}
 use Rattle.rehearse_machine.specs.Tasks.{task_in}
 use Rattle.rehearse_machine.specs.Turning.{to_come}

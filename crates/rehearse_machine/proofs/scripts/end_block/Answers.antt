@@ -1,7 +1,7 @@
 use Rattle.std.proofs.Common.{◌∷◌, ap, ◌∙◌, suc, map}
 use Rattle.hushlang.specs.TreesShown as view
 use Rattle.bootstore.specs.declared.frame.At.{At}
-use Rattle.rehearse.specs.State.{state_at}
+use Rattle.bootstore.specs.StoredState.{state_at}
 use Rattle.rehearse_machine.specs.Places.{GoOn, moved_to, block_frame, place, in_turn, drop_arms, condition_ends, loop_ends}
 use Rattle.rehearse_machine.specs.MovesShown.{under}
 use Rattle.rehearse_machine.proofs.Coming.{comes_as, comes_at}

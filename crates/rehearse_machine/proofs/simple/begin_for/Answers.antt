@@ -3,7 +3,7 @@ use Rattle.std.specs.Prelude.{Vec}
 use Rattle.std.specs.declared.alloc.Global.{Global}
 use Rattle.hushlang.specs.TreesShown as view
 use Rattle.hushlang.specs.Expansion.{fields}
-use Rattle.bootstore.specs.Moment.{bytes_of_words}
+use Rattle.text.specs.TextsShown.{bytes_of_words}
 use Rattle.bootstore.specs.Record.{Record}
 use Rattle.rehearse_machine.specs.Variables.{parameters_at}
 use Rattle.rehearse_machine.specs.MovesShown.{limits_of, under, IsCounted, IsExpanded}

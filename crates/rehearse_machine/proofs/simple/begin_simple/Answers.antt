@@ -5,9 +5,10 @@ use Rattle.hushlang.specs.TreesShown as view
 use Rattle.hushlang.specs.Expansion.{fields}
 use Rattle.hushlang.specs.Tree.{Script}
 use Rattle.bootstore.specs.declared.frame.At.{At}
-use Rattle.bootstore.specs.Moment.{bytes_of_words, RunningFrame}
+use Rattle.bootstore.specs.Moment.{RunningFrame}
+use Rattle.text.specs.TextsShown.{bytes_of_words}
 use Rattle.bootstore.specs.Record.{Record, with_place, moved}
-use Rattle.rehearse.specs.State.{state_at}
+use Rattle.bootstore.specs.StoredState.{state_at}
 use Rattle.rehearse_machine.specs.Variables.{parameters_at}
 use Rattle.rehearse_machine.specs.MovesShown.{limits_of, under, Keeps, IsCounted, IsExpanded}
 use Rattle.rehearse_machine.specs.Places.{place_fields, behind, place}

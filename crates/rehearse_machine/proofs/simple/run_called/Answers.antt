@@ -1,6 +1,6 @@
 use Rattle.std.proofs.Common.{ap}
 use Rattle.hushlang.specs.TreesShown as view
-use Rattle.bootstore.specs.Moment.{bytes_of_words}
+use Rattle.text.specs.TextsShown.{bytes_of_words}
 use Rattle.rehearse.specs.CommandsShown.{lent_effect}
 use Rattle.rehearse_machine.specs.MovesShown.{limits_of}
 use Rattle.rehearse_machine.specs.CalledShown.{called_shown, builtin_called}

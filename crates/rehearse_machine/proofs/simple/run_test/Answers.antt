@@ -1,5 +1,5 @@
 use Rattle.std.proofs.Common.{sym, ap, ◌∙◌, refl}
-use Rattle.bootstore.specs.Moment.{bytes_of_words}
+use Rattle.text.specs.TextsShown.{bytes_of_words}
 use Rattle.rehearse.specs.Builtins as builtins
 use Rattle.rehearse.specs.Commands as says
 use Rattle.rehearse.specs.Commands.{asks_device}

@@ -1,6 +1,6 @@
 use Rattle.std.proofs.Common.{◌≡◌, length}
 use Rattle.rehearse.specs.Outcomes.{OutcomeWord}
-use Rattle.rehearse.specs.State.{state_at}
+use Rattle.bootstore.specs.StoredState.{state_at}
 use Rattle.rehearse_machine.specs.Places.{to_run}
 use Rattle.rehearse_machine.specs.MovesShown.{Keeps}
 use Rattle.rehearse_machine.proofs.texts.leave_text.Given as goal

@@ -1,6 +1,6 @@
 use Rattle.std.proofs.Common.{[], ◌≡◌, ◌∙◌}
 use Rattle.std.proofs.lemmas.Result.{err_from_is_err_and}
-use Rattle.envimage.proofs.SinkLemmas.{BrokeOff-before}
+use Rattle.output.proofs.SinkLemmas.{BrokeOff-before}
 use Rattle.rehearse_runs.proofs.PageLemmas.{Puts-written}
 use Rattle.rehearse_runs.proofs.page.put_anew.Goals as goal
 

@@ -2,7 +2,7 @@ use Rattle.std.proofs.Common.{◌++◌, [], map, List, ℕ, Bor}
 use Rattle.std.specs.Prelude.{codes}
 use Rattle.std.proofs.lemmas.Result.{err_from_is_err_and}
 use Rattle.std.specs.List.{flat_map}
-use Rattle.rehearse.specs.State.{state_at}
+use Rattle.bootstore.specs.StoredState.{state_at}
 use Rattle.rehearse.specs.Listing.{line, text_lines, variable_lines, last_line}
 use Rattle.rehearse_runs.specs.Recording.{printed, entry_line}
 use Rattle.rehearse_runs.specs.ViewShown.{shown_word, shown_moment, shown_ending}

@@ -1,4 +1,4 @@
-use Rattle.std.proofs.Common.{subst, Some}
+use Rattle.std.proofs.Common.{subst}
 use Rattle.rehearse.specs.Bounds.{BoundsShown}
 use Rattle.rehearse_runs.specs.Walking.{WalksTo}
 use Rattle.rehearse_runs.specs.RunsShown.{outcomes}

@@ -7,12 +7,12 @@ use Rattle.rehearse_runs.proofs.walking.choose.Goals as goal
 
 pub push-requires : goal.push-requires
 push-requires g c =
-    let k = room_here (task_in c.args.rehearsal.now) c.args.digits.now.items (g.S.Store.record_of c.args.store.now).present c.requires.asks c.requires.bound in
+    let k = room_here (task_in c.args.rehearsal.now) c.args.digits.now.items (g.S.Store.record_of c.args.store.now).present g.row.N c.requires.asks c.requires.bound in
     omega arith
 
 pub push-requires-else-success : goal.push-requires-else-success
 push-requires-else-success g c =
-    let k = room_here (task_in c.args.rehearsal.now) c.args.digits.now.items (g.S.Store.record_of c.args.store.now).present c.requires.asks c.requires.bound in
+    let k = room_here (task_in c.args.rehearsal.now) c.args.digits.now.items (g.S.Store.record_of c.args.store.now).present g.row.N c.requires.asks c.requires.bound in
     omega arith
 
 pub returns-in_ok-next-clause-marks : goal.returns-in_ok-next-clause-marks

@@ -3,7 +3,8 @@ use Rattle.std.proofs.lemmas.Result.{err_from_is_err_and}
 use Rattle.std.specs.Option.{option_copied}
 use Rattle.envimage.specs.Image.{loaded_shown}
 use Rattle.ubtool_core.specs.Errors.{print_fault}
-use Rattle.ubtool_core.specs.PrintingImages.{Outputs, Prints, environment_in}
+use Rattle.ubtool_core.specs.PrintingImages.{Prints, environment_in}
+use Rattle.output.specs.Outputs.{Outputs}
 use Rattle.ubtool_core.specs.declared.error.ToolError.{ToolError}
 use Rattle.ubtool_core.proofs.PrintingLemmas.{print-refused}
 use Rattle.ubtool_core.proofs.print.print_bytes.Goals as goal
@@ -16,4 +17,4 @@ returns-in_err-print_data g c =
     let p = err_from_is_err_and c.from_residual-in_err-print_data.result c.from_residual-in_err-print_data.ensures.1 in
     let answer : c.from_residual-in_err-print_data.result ≡ Err (print_fault c.in_err-print_data.field-0.0) = p.1 ∙ ap Err p.2 in
     let P : Result Bool ToolError → Type 0 = Prints (environment_in c.args.order c.args.first.now second) names c.args.ask.now.header outputs in
-    subst P (sym answer) (print-refused c.args.order c.args.first.now second (loaded_shown c.in_ok-loaded.loaded) c.in_err-print_data.field-0.0 names c.args.ask.now.header outputs c.in_ok-loaded.ensures.answer c.in_err-print_data.ensures.err)
+    subst P (sym answer) (print-refused c.args.order c.args.first.now second (loaded_shown c.in_ok-loaded.loaded) c.in_err-print_data.field-0.0 names c.args.ask.now.header outputs c.in_ok-loaded.ensures.answer c.in_err-print_data.ensures)

@@ -4,7 +4,8 @@ use Rattle.std.specs.Prelude.{IfErr}
 use Rattle.envimage.specs.declared.image.ByteOrder.TheVariants.{Little}
 use Rattle.ubtool_core.specs.Errors.{tool_fault}
 use Rattle.ubtool_core.specs.Input.{RefusesInput}
-use Rattle.ubtool_core.specs.PrintingImages.{Outputs, Prints, PrintsAll, environment_in, outputs}
+use Rattle.ubtool_core.specs.PrintingImages.{Prints, PrintsAll, environment_in}
+use Rattle.output.specs.Outputs.{Outputs, outputs}
 use Rattle.ubtool_core.specs.declared.fault.Fault.{Fault}
 use Rattle.ubtool_core.proofs.InputLemmas.{input-printed, input-refused}
 use Rattle.ubtool_core.proofs.standard_input.print_input.Goals as goal

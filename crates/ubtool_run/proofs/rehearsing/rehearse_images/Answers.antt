@@ -1,10 +1,9 @@
 use Rattle.std.proofs.Common.{◌≡◌, ◌∙◌, ap, subst, map, string_bytes, List, ℕ}
 use Rattle.std.specs.Borrow.{Bor}
 use Rattle.std.specs.Option.{option_copied}
-use Rattle.bootstore.specs.Moment.{option_bytes}
 use Rattle.ubtool_core.specs.Given.{Given}
 use Rattle.ubtool_run.specs.RehearsingFiles.{RehearsesCopies}
-use Rattle.ubtool_run.proofs.RehearseLemmas.{copies-rehearsed, given-copies, given_by}
+use Rattle.ubtool_run.proofs.RehearseLemmas.{copies-rehearsed, given-copies, same-asking}
 use Rattle.ubtool_run.proofs.rehearsing.rehearse_images.Goals as goal
 
 pub returns : goal.returns
@@ -16,6 +15,6 @@ returns g c =
     let shown : List (List ℕ) = map (λ (n : Bor (List ℕ)). n.now) c.deref-2.result.now in
     let names : shown ≡ map string_bytes what.names.items =
     ap (map (λ (n : Bor (List ℕ)). n.now)) c.deref-2.ensures.value ∙ c.in-Ok.ensures.slices ∙ ap (map string_bytes) c.deref.ensures.value in
-    let same = given-copies c.args.order c.args.images.now c.args.device_list.now what c.deref-3.result.now second c.as_bytes.result.now (option_bytes c.bytes_if.result) shown c.deref-3.ensures.value c.second_bytes-second.ensures c.as_bytes.ensures.value c.bytes_if.ensures names in
-    let made = given_by c.args.order c.deref-3.result.now second c.args.device_list.now c.as_bytes.result.now what.bounds (option_bytes c.bytes_if.result) what.limit shown in
-    subst (λ (x : Given). RehearsesCopies x out out' c.rehearse_bytes.result) same (copies-rehearsed made out out' c.rehearse_bytes.result c.rehearse_bytes.ensures.ok c.rehearse_bytes.ensures.err)
+    let asking = same-asking _ _ _ _ _ _ _ _ c.as_bytes.ensures.value c.wanted_bytes.ensures.bounds c.wanted_bytes.ensures.wanted names in
+    let same = given-copies c.args.order c.args.images.now c.args.device_list.now what c.deref-3.result.now second _ c.deref-3.ensures.value c.second_bytes-second.ensures asking in
+    subst (λ (x : Given). RehearsesCopies x out out' c.rehearse_bytes.result) same (copies-rehearsed _ out out' c.rehearse_bytes.result c.rehearse_bytes.ensures.ok c.rehearse_bytes.ensures.err)

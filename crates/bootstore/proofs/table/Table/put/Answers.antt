@@ -3,7 +3,7 @@ use Rattle.std.specs.Ordering.{nat_cmp, is_eq}
 use Rattle.std.specs.Cmp.Lexicographic.{slice_cmp}
 use Rattle.std.specs.BTreeMap.{insert_entry}
 use Rattle.bootstore.specs.declared.table.Place.{Place}
-use Rattle.bootstore.specs.Moment.{option_items}
+use Rattle.text.specs.TextsShown.{option_items}
 use Rattle.bootstore.specs.Record.{assigned}
 use Rattle.bootstore.specs.Table.{variables_of, last_kept}
 use Rattle.bootstore.proofs.Tables.{written, written_slots, written_kept, added, added_slots, added_kept, key_cmp}

@@ -2,7 +2,7 @@ use Rattle.std.proofs.Common.{ap, ◌+◌, ◌∙◌, reverse, sym, subst, is_so
 use Rattle.std.proofs.lemmas.List.{length-reverse}
 use Rattle.bootstore.specs.declared.inverse.Inverse.TheVariants.{Environment}
 use Rattle.bootstore.specs.declared.inverse.Kept.TheVariants.{Change}
-use Rattle.bootstore.specs.Moment.{option_bytes}
+use Rattle.text.specs.TextsShown.{option_bytes}
 use Rattle.bootstore.specs.Record.{changed}
 use Rattle.bootstore.specs.Table.{variables_of, place_value, IsWith, AreEqual, last_kept}
 use Rattle.bootstore.specs.Inverse.{CanGoBack, KeepsOnce, marked_before}

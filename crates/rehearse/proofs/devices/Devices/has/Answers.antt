@@ -1,8 +1,13 @@
-use Rattle.std.proofs.Common.{sym, ◌∙◌, ap, refl, is_some}
-use Rattle.rehearse.proofs.MapLemmas.{effect_of-looked_up, is_some-shown}
+use Rattle.std.proofs.Common.{sym, ◌∙◌, refl, true, false}
+use Rattle.rehearse.proofs.MapLemmas.{has-either}
 use Rattle.rehearse.proofs.devices.Devices.has.Goals as goal
 
-pub returns : goal.returns
-returns c =
-    let found = effect_of-looked_up c.args.self.now c.self.inside.commands.entries c.args.name.now _ c.self.view_is refl in
-    c.contains_key.ensures ∙ sym (ap is_some found ∙ is_some-shown _)
+pub returns-then-contains_key : goal.returns-then-contains_key
+returns-then-contains_key c =
+    c.if-contains_key.true
+    ∙ has-either c.self.inside.commands.entries c.self.inside.subs.entries c.args.name.now c.args.self.now c.self.view_is true _ (sym c.if-contains_key.true ∙ c.contains_key.ensures) refl
+
+pub returns-else-contains_key : goal.returns-else-contains_key
+returns-else-contains_key c =
+    has-either c.self.inside.commands.entries c.self.inside.subs.entries c.args.name.now c.args.self.now c.self.view_is false _ (sym c.if-contains_key.false ∙ c.contains_key.ensures)
+    c.contains_key-else-contains_key.ensures

@@ -1,5 +1,5 @@
 use Rattle.std.proofs.Common.{sym, ap, ◌∙◌}
-use Rattle.bootstore.specs.Moment.{option_bytes}
+use Rattle.text.specs.TextsShown.{option_bytes}
 use Rattle.rehearse_machine.proofs.Settings.{copied_bytes, from_environment, from_locals}
 use Rattle.rehearse_machine.proofs.memory.MemoryVars.get.Goals as goal
 

@@ -1,4 +1,4 @@
--- The start word of a rehearsal, as a listing prints it. Ours.
+-- A word that is given to a rehearsal, as a listing prints it. Ours.
 use Rattle.std.specs.Prelude.{◌==◌, [], ◌∷◌, codes, if◌then◌else◌}
 use Rattle.text.specs.Bytes as ascii
 use Rattle.rehearse.specs.State.{Text}

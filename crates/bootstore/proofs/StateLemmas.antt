@@ -12,7 +12,7 @@ use Rattle.std.specs.Cmp.Lexicographic.{slice_cmp}
 use Rattle.std.proofs.lemmas.List.{nil_from_length}
 use Rattle.bootstore.specs.Moment as stored
 use Rattle.rehearse.specs.State.{Text, Variables, without}
-use Rattle.rehearse.specs.Laws.{StoredValues, StoredChanges, StoredDeletions, StoredStarts}
+use Rattle.bootstore.specs.StoredState.{StoredValues, StoredChanges, StoredDeletions, StoredStarts}
 
 abbrev by_bytes : Text → Text → Ordering
 by_bytes = slice_cmp nat_cmp

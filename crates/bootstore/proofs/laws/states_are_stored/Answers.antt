@@ -1,5 +1,5 @@
-use Rattle.rehearse.proofs.StateLemmas.{stored_values, stored_changes, stored_deletions, stored_starts}
-use Rattle.rehearse.proofs.laws.states_are_stored.Goals as goal
+use Rattle.bootstore.proofs.StateLemmas.{stored_values, stored_changes, stored_deletions, stored_starts}
+use Rattle.bootstore.proofs.laws.states_are_stored.Goals as goal
 
 pub returns-clause-values : goal.returns-clause-values
 returns-clause-values c = stored_values

@@ -1,0 +1,103 @@
+-- Runs where it is given what a command does that is not built in.
+use Rattle.std.proofs.Common.{◌≡◌, ℕ, zero, suc, nat_eq, true, false, List, [], ◌∷◌, Option, Some, None, refl}
+use Rattle.hushlang.specs.Tree as tree
+use Rattle.hushlang.specs.Tree.{Script, AndOr, Joined, Command, Arms}
+use Rattle.hushlang.specs.Expansion.{fields}
+use Rattle.rehearse.specs.Outcomes.{OutcomeWord}
+use Rattle.rehearse.specs.State.{Text, Variables, State, get, start, parameters_in}
+use Rattle.rehearse.specs.Builtins.{Builtin, SetEnv, Run, Test, Echo, True, False, Leave, builtin_of}
+use Rattle.rehearse.specs.Commands.{BuiltIn, listed_by}
+use Rattle.rehearse.specs.DeviceList.{Devices}
+use Rattle.rehearse.specs.Execution.{Limits, Answer, Normal, Ended, CutSteps, go_on, set_status, goes, begin, command, simple, sized, turns, for_each, text_end, run_text, run_all, exec_script, exec_list, exec_joined, exec_command, exec_arms, exec}
+use Rattle.rehearse.specs.GivenExecution.{Others, given_simple, given_script, given_list, given_joined, given_command, given_arms, given_exec, given_run_on}
+
+-- what a part of a script does to states
+abbrev pub Does : Type 0
+Does = State → Answer
+
+-- ---- texts that `run` starts
+
+module _ (here there : Limits) (f g : Script → Does) (same : f ≡ g) where
+  run_text-same : (name text : Text) (s : State) → run_text here f name text s ≡ run_text there g name text s
+  run_text-same name text s = λ i. run_text here (same i) name text s
+
+  run_all-same : (names : List Text) → run_all here f names ≡ run_all there g names
+  run_all-same [] = refl
+  run_all-same (name ∷ names) = λ i s. elim (get s.memory.environment name) [
+    | None ↦ Normal (set_status 1 s)
+    | Some text ↦ text_end (run_text here (same i) name text s) (run_all-same names i)
+  ]
+
+-- the bounds, with these device commands
+abbrev limits : Limits → Devices → Limits
+limits bounds devices = record bounds { devices = devices }
+
+-- in each script, a command that is not built in does what is given
+abbrev pub AreGiven : Limits → Devices → Others → Type 0
+AreGiven bounds devices others = (f : Script → Does) (name : Text) (words : List Text) (s : State)
+    → command (limits bounds devices) f (listed_by devices name words) name words s ≡ others name words s
+
+module _ (bounds : Limits) (devices : Devices) (others : Others) (given : AreGiven bounds devices others) where
+  module _ (f g : Script → Does) (same : f ≡ g) where
+    builtin-same : (b : Builtin) (name : Text) (words : List Text) (s : State) → command (limits bounds devices) f (BuiltIn b) name words s ≡ command bounds g (BuiltIn b) name words s
+    builtin-same SetEnv name words s = refl
+    builtin-same Run name [] s = refl
+    builtin-same Run name (w ∷ ws) s = λ i. run_all-same (limits bounds devices) bounds f g same (w ∷ ws) i s
+    builtin-same Test name words s = refl
+    builtin-same Echo name words s = refl
+    builtin-same True name words s = refl
+    builtin-same False name words s = refl
+    builtin-same Leave name words s = refl
+
+    simple-same : (fs : List Text) (s : State) → simple (limits bounds devices) f fs s ≡ given_simple bounds others g fs s
+    simple-same [] s = refl
+    simple-same (name ∷ words) s = by (builtin_of name)
+      where
+        by : (b : Option Builtin) → ◌≡◌ {A = Answer} (command (limits bounds devices) f (elim b [ Some builtin ↦ BuiltIn builtin | None ↦ listed_by devices name words ]) name words s)
+            (elim b [ Some builtin ↦ command bounds g (BuiltIn builtin) name words s | None ↦ others name words s ])
+        by (Some builtin) = builtin-same builtin name words s
+        by None = given f name words s
+
+  -- ---- the tree
+
+  module _ (left : ℕ) (f g : Script → Does) (same : f ≡ g) where
+    mutual
+      script-same : (a : Script) → exec_script (limits bounds devices) left f a ≡ given_script bounds others left g a
+      script-same tree.Empty = refl
+      script-same (tree.Runs list more) = λ i s. go_on (list-same list i s) (script-same more i)
+
+      list-same : (a : AndOr) → exec_list (limits bounds devices) left f a ≡ given_list bounds others left g a
+      list-same (tree.Starts first rest) = λ i s. go_on (one-same first i s) (joined-same rest i)
+
+      joined-same : (a : Joined) → exec_joined (limits bounds devices) left f a ≡ given_joined bounds others left g a
+      joined-same tree.Alone = refl
+      joined-same (tree.Joins op next rest) = λ i s. elim (goes op s.memory.status) [
+        | true ↦ go_on (one-same next i s) (joined-same rest i)
+        | false ↦ joined-same rest i s
+      ]
+
+      one-same : (a : Command) → exec_command (limits bounds devices) left f a ≡ given_command bounds others left g a
+      one-same (tree.Simple words) = λ i s. begin (limits bounds devices) (λ t. sized (fields (parameters_in t.memory) words) (λ fs u. simple-same f g same fs u i) t) s
+      one-same (tree.Assign values) = refl
+      one-same (tree.If arms) = arms-same arms
+      one-same (tree.Loop until cond body) = λ i s. turns left until (script-same cond i) (script-same body i) 0 s
+      one-same (tree.For name words body) = λ i s. begin (limits bounds devices) (λ t. sized (fields (parameters_in t.memory) words) (for_each name (script-same body i) 0) t) s
+
+      arms-same : (a : Arms) → exec_arms (limits bounds devices) left f a ≡ given_arms bounds others left g a
+      arms-same tree.NoElse = refl
+      arms-same (tree.Else body) = script-same body
+      arms-same (tree.Arm cond body more) = λ i s. go_on (script-same cond i s) (λ t. elim (nat_eq t.memory.status 0) [
+        | true ↦ script-same body i t
+        | false ↦ arms-same more i t
+      ])
+
+  exec-same : (left : ℕ) → exec (limits bounds devices) left ≡ given_exec bounds others left
+  exec-same zero = λ i a. script-same zero (λ t s. Ended CutSteps s) (λ t s. Ended CutSteps s) refl a i
+  exec-same (suc left) = λ i a. script-same (suc left) (exec (limits bounds devices) left) (given_exec bounds others left) (exec-same left) a i
+
+  -- ---- runs
+
+  pub run-same : (environment : Variables) (name text : Text) (w : OutcomeWord)
+      → run_text (limits bounds devices) (exec (limits bounds devices) bounds.step_bound) name text (start environment w) ≡ given_run_on bounds others environment name text w
+  run-same environment name text w =
+      run_text-same (limits bounds devices) bounds (exec (limits bounds devices) bounds.step_bound) (given_exec bounds others bounds.step_bound) (exec-same bounds.step_bound) name text (start environment w)

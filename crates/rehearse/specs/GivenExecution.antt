@@ -1,0 +1,68 @@
+-- Execution where it is given what a command does that is not built in: the recursion of Execution.antt over the tree, for
+-- the laws of device lists in their older forms. Ours.
+use Rattle.std.specs.Prelude.{ℕ, zero, suc, nat_eq, true, false, List, [], ◌∷◌, Some, None}
+use Rattle.hushlang.specs.Tree as tree
+use Rattle.hushlang.specs.Tree.{Script, AndOr, Joined, Command, Arms}
+use Rattle.hushlang.specs.Expansion.{fields}
+use Rattle.rehearse.specs.Outcomes.{OutcomeWord}
+use Rattle.rehearse.specs.State.{Text, Variables, State, start, parameters_in}
+use Rattle.rehearse.specs.Builtins.{builtin_of}
+use Rattle.rehearse.specs.Commands.{BuiltIn}
+use Rattle.rehearse.specs.Execution.{Limits, Answer, Normal, Ended, CutSteps, go_on, set_status, goes, begin, command, sized, assign, turns, for_each, run_text}
+
+-- what a command does that is not built in, by its name and its words
+abbrev pub Others : Type 0
+Others = (name : Text) → (words : List Text) → State → Answer
+
+module _ (bounds : Limits) (others : Others) where
+  -- a command by its fields, the name first
+  abbrev pub given_simple : (script : Script → State → Answer) → List Text → State → Answer
+  given_simple script [] s = Normal (set_status 0 s)
+  given_simple script (name ∷ words) s =
+      elim (builtin_of name) [
+        | Some builtin ↦ command bounds script (BuiltIn builtin) name words s
+        | None ↦ others name words s
+      ]
+
+  -- over the tree as in Execution.antt, by these simple commands
+  module _ (left : ℕ) (text : Script → State → Answer) where
+    abbrev mutual
+      pub given_script : Script → State → Answer
+      given_script tree.Empty s = Normal s
+      given_script (tree.Runs list more) s = go_on (given_list list s) (given_script more)
+
+      pub given_list : AndOr → State → Answer
+      given_list (tree.Starts first rest) s = go_on (given_command first s) (given_joined rest)
+
+      pub given_joined : Joined → State → Answer
+      given_joined tree.Alone s = Normal s
+      given_joined (tree.Joins op next rest) s =
+          elim (goes op s.memory.status) [
+            | true ↦ go_on (given_command next s) (given_joined rest)
+            | false ↦ given_joined rest s
+          ]
+
+      pub given_command : Command → State → Answer
+      given_command (tree.Simple words) s =
+          begin bounds (λ t. sized (fields (parameters_in t.memory) words) (given_simple text) t) s
+      given_command (tree.Assign values) s = begin bounds (assign values) s
+      given_command (tree.If arms) s = given_arms arms s
+      given_command (tree.Loop until cond body) s = turns left until (given_script cond) (given_script body) 0 s
+      given_command (tree.For name words body) s =
+          begin bounds (λ t. sized (fields (parameters_in t.memory) words) (for_each name (given_script body) 0) t) s
+
+      pub given_arms : Arms → State → Answer
+      given_arms tree.NoElse s = Normal (set_status 0 s)
+      given_arms (tree.Else body) s = given_script body s
+      given_arms (tree.Arm cond body more) s = go_on (given_script cond s) (λ t. elim (nat_eq t.memory.status 0) [
+        | true ↦ given_script body t
+        | false ↦ given_arms more t
+      ])
+
+  abbrev pub given_exec : (left : ℕ) → Script → State → Answer
+  given_exec zero = given_script zero (λ t s. Ended CutSteps s)
+  given_exec (suc left) = given_script (suc left) (given_exec left)
+
+  -- what the text of a variable comes to with the outcomes of a word
+  abbrev pub given_run_on : Variables → (name text : Text) → OutcomeWord → Answer
+  given_run_on environment name text w = run_text bounds (given_exec bounds.step_bound) name text (start environment w)

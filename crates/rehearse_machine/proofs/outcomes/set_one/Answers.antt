@@ -1,0 +1,12 @@
+use Rattle.std.proofs.Common.{ℕ, List, Some, ap, sym, ◌∙◌}
+use Rattle.text.specs.TextsShown.{bytes_of_words}
+use Rattle.bootstore.specs.Record.{changed, with_environment}
+use Rattle.rehearse.specs.DevicesShown.{setting_shown}
+use Rattle.rehearse_machine.proofs.OutcomeLemmas.{sets_one}
+use Rattle.rehearse_machine.proofs.outcomes.set_one.Goals as goal
+
+pub returns : goal.returns
+returns g c =
+    let old = g.S.Store.record_of c.args.store.now in
+    sets_one (bytes_of_words c.args.words.now) (setting_shown c.args.set.now) old (g.S.Store.record_of c.set_env.new.self) c.in-Some.name.now (sym c.in-Some.ensures)
+    (c.in_ok-set_env.ensures.ok ∙ ap (λ (v : List ℕ). changed (with_environment c.in-Some.name.now (Some v)) old) c.deref.ensures.value)
