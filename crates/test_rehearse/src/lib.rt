@@ -6,7 +6,6 @@
 mod bounds;
 #[cfg(test)]
 mod broken;
-pub mod callers;
 #[cfg(test)]
 mod device_lists;
 #[cfg(test)]

@@ -2,7 +2,6 @@
 //! caller is shown in `CALLING.md` of `envimage`.
 #![tactic(auto)]
 
-pub mod callers;
 #[cfg(test)]
 mod calls;
 #[cfg(test)]

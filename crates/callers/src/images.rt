@@ -1,7 +1,7 @@
 //! What a caller of `envimage` states and proves.
 
 ghost use Rattle.std.specs.Prelude.{◌≡◌};
-ghost use Rattle.test_ubtool.specs.Order.{order_of};
+ghost use Rattle.callers.specs.Order.{order_of};
 
 use envimage::{ByteOrder, load};
 

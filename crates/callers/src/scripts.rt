@@ -2,7 +2,7 @@
 
 ghost use Rattle.std.specs.Prelude.{◌≡◌, Some, true, false};
 ghost use Rattle.hushlang.specs.Texts.{HasNoTree};
-ghost use Rattle.test_rehearse.specs.Tree.{HasTree};
+ghost use Rattle.callers.specs.Tree.{HasTree};
 
 use hushlang::parse::parse;
 use hushlang::token::SyntaxError;
