@@ -1,4 +1,4 @@
--- What is kept of a name since the last mark is kept once.
+-- Since the last mark, each name has at most one kept inverse.
 use Rattle.std.proofs.Common.{◌≡◌, ℕ, ◌+◌, ◌≤◌, ◌<◌, Bool, true, false, cond, eqb, List, [], ◌∷◌, ◌||◌, Option, Result, Ok, Err, OnOk, OnErr, length, refl, sym, ap, subst, ◌∙◌, arith}
 use Rattle.std.specs.declared.alloc.Global.{Global}
 use Rattle.std.specs.declared.vec.Vec.{Vec}
@@ -23,7 +23,7 @@ or_map : (a b c : Bool) → (b ≡ true → c ≡ true) → a || b ≡ true → 
 or_map true b c f h = refl
 or_map false b c f h = f h
 
--- what stands as the count-th is among what is kept
+-- a change that is the count-th kept thing is among the kept things
 stands_within : (test : Inverse → Bool) (count : ℕ) (kept : List Kept) → stands_as test count kept ≡ true → count ≤ length kept
 stands_within test count [] h = absurd (let e : false ≡ true = h in cc)
 stands_within test count (Mark mark ∷ kept) h = let less = stands_within test count kept h in omega arith
@@ -59,7 +59,7 @@ kept_here test i kept h =
     or_right (eqb (length kept + 1) 0) (stands_as test (length kept + 1) (Change i ∷ kept))
     (ap (λ b. cond b (test i) (stands_as test (length kept + 1) kept)) (eq-eqb (length kept + 1) (length kept + 1) refl) ∙ h)
 
--- of a place that tells of an inverse, one stands there
+-- if the count of a place is not 0, the inverse that it names is kept
 pub stands_there : (test : Inverse → Bool) (count : ℕ) (kept : List Kept) → 0 < count → is_kept test count kept ≡ true → stands_as test count kept ≡ true
 stands_there test count kept some = at (eqb count 0) refl
   where
@@ -67,7 +67,7 @@ stands_there test count kept some = at (eqb count 0) refl
     at true t h = absurd (let e = eqb-true count 0 t in omega arith)
     at false t h = h
 
--- Once the last inverse was taken, what is told is still kept.
+-- After the last inverse was taken, each count still names a kept inverse.
 left_environment : (last new : Bytes → ℕ) (i : Inverse) (kept : List Kept) → EachIsKept is_of_environment last (Change i ∷ kept) → tells_kept i kept ≡ true → AreEqual (last_left i last) new → EachIsKept is_of_environment new kept
 left_environment last new (Environment key before) kept h tells e = λ name. subst (λ k. is_kept (is_of_environment name) k kept ≡ true) (sym (e name)) (at name (is_name name key) refl)
   where
@@ -126,7 +126,7 @@ once_touched p u below frame kept h = record {
   marks = h.marks;
 }
 
--- a name told as it was, or told as not kept
+-- if a name gets the count that it has, no count changes
 pub with_same : (last new : Bytes → ℕ) (name : Bytes) (k : ℕ) → IsWith last name k new → k ≡ last name → AreEqual last new
 with_same last new name k e same = λ q. e q ∙ at q (is_eq (slice_cmp nat_cmp q name)) refl
   where
@@ -185,7 +185,7 @@ module _ (p : Present) (t : Table) (u : ℕ) (kept : List Kept) (once : KeepsOnc
             marks = once.marks;
           }
 
--- A name that is set again behind the mark changes no marked moment.
+-- Setting a name again after the mark changes no marked moment.
 marked_again_environment : (kept : List Kept) (m : Moment) (name : Bytes) (o : Option Bytes) (count : ℕ) → stands_as (is_of_environment name) count kept ≡ true → up_to_mark kept < count → marked_before (record m { environment = assigned m.environment name o }) kept ≡ marked_before m kept
 marked_again_environment [] m name o count h later = cc
 marked_again_environment (Mark mark ∷ kept) m name o count h later = absurd (let less = stands_within (is_of_environment name) count kept h in omega arith)
@@ -236,7 +236,7 @@ pub on_either : {A E : Type 0} (r : Result A E) (P Q R : Type 0) → OnOk r P �
 on_either (Ok x) P Q R p q f g = f p
 on_either (Err x) P Q R p q f g = g q
 
--- Where nothing is kept, no name tells of anything.
+-- If nothing is kept of any name, giving a name the count 0 keeps it so.
 pub nothing_with : (old new : Table) (name : Bytes) → KeepsNothing old → IsWith (last_kept old) name 0 (last_kept new) → KeepsNothing new
 nothing_with old new name none e = λ q. e q ∙ at q (is_eq (slice_cmp nat_cmp q name))
   where

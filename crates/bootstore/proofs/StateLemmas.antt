@@ -30,7 +30,7 @@ turned : {A : Type 0} (b : Bool) (x y : A) → cond (not b) x y ≡ cond b y x
 turned true x y = refl
 turned false x y = refl
 
--- names that compare alike are alike to a test
+-- a test answers alike for names that compare as equal
 alike : (p : Text → Bool) (q x : Text) → by_bytes q x ≡ Equal → p x ≡ p q
 alike p q x e = ap p (sym (exact q x e))
 
@@ -41,7 +41,7 @@ module _ (variables : stored.Variables) (name : Text) where
   left_sorted : T (finite.is_sorted by_bytes (without (entries variables) name))
   left_sorted = is_sorted-where_key by_bytes stays (entries variables) (entries_sorted variables)
 
-  -- the map of the entries that are left answers as the map without the name
+  -- the map of the entries that are left answers like the map without the name
   left_value : (q : Text) → finite.get (from_sorted {R = by_bytes} (without (entries variables) name)) q ≡ finite.get (finite.remove variables name) q
   left_value q =
       get-from_sorted by_bytes (without (entries variables) name) q left_sorted

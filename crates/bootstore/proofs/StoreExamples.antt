@@ -23,7 +23,7 @@ frame = record { kind = Text; script = Empty; words = []; place = start_place }
 abbrev entry : LoggedCommand
 entry = record { success = true; words = codes "load" ∷ [] }
 
--- a run in an empty environment begins
+-- a run starts in an empty environment
 abbrev begun : Record
 begun = started empty fresh
 
@@ -31,7 +31,7 @@ begun = started empty fresh
 abbrev gone_on : Record
 gone_on = changed (with_environment (codes "a") None) (changed without_frame (with_mark (changed (with_frame frame) (changed (with_echo (codes "t")) (changed (with_status 1) (changed (with_environment (codes "a") (Some (codes "1"))) (with_mark begun)))))))
 
--- going back once brings the value and the frame back
+-- going back once restores the value and the frame
 value_is_back : get (gone_back gone_on).present.environment (codes "a") ≡ Some (codes "1")
 value_is_back = get-insert nat_list_cmp_total empty (codes "a") (codes "1") (codes "a")
 
@@ -41,7 +41,7 @@ frame_is_back = refl
 one_mark_left : (gone_back gone_on).marked ≡ begun.present ∷ []
 one_mark_left = refl
 
--- going back twice is the beginning: `a` is not set, the status is 0, no text and no frame
+-- going back twice gives the start: `a` is not set, the status is 0, no text and no frame
 beginning_is_back : gone_back (gone_back gone_on) ≡ begun
 beginning_is_back = refl
 
@@ -62,11 +62,11 @@ no_frame_to_pop = refl
 no_frame_to_move : changed (with_place further) begun ≡ begun
 no_frame_to_move = refl
 
--- the innermost frame alone moves
+-- only the innermost frame moves
 moved_frame : (changed (with_place further) (changed (with_frame frame) (changed (with_frame frame) begun))).present.frames ≡ record frame { place = further } ∷ frame ∷ []
 moved_frame = refl
 
--- steps begun in all stay, whatever goes back or starts anew
+-- the count of all steps stays, whether a run goes back or starts anew
 steps_stay : (gone_back (stepped (with_mark begun))).begun ≡ 1
 steps_stay = refl
 
@@ -79,7 +79,7 @@ start_keeps_steps = refl
 start_keeps_no_mark : (started empty (with_mark begun)).marked ≡ []
 start_keeps_no_mark = refl
 
--- what was written and logged last stands last
+-- what was written and logged last is last
 text_in_order : (changed (with_echo (codes "xt")) (changed (with_echo (codes "te")) begun)).present.text ≡ codes "text"
 text_in_order = refl
 

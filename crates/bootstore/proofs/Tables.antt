@@ -31,7 +31,7 @@ by_bytes = slice_cmp nat_cmp
 exact : IsAntisymmetric by_bytes
 exact = slice_cmp-IsAntisymmetric nat_cmp-IsAntisymmetric
 
--- names that compare alike are one
+-- names that compare as equal are the same
 pub same_name : (p q : Bytes) → eq_by_cmp by_bytes p q ≡ true → p ≡ q
 same_name p q e = exact p q ((Equal-is _).0 e)
 
@@ -55,18 +55,18 @@ swapped false false o p g apart = refl
 alike : (m n : Variables) → ((q : Bytes) → get m q ≡ get n q) → m ≡ n
 alike m n h = same_map nat_list_cmp_total exact m n h
 
--- of two values for a name the later one stays
+-- of two values given to a name, the later one stays
 pub assigned-again : (m : Variables) (k : Bytes) (o p : Option Bytes) → assigned (assigned m k o) k p ≡ assigned m k p
 assigned-again m k o p = alike _ _ (λ q. get-assigned (assigned m k o) k p q ∙ over (eq_by_cmp by_bytes q k) p o (get m q) _ (get-assigned m k o q) ∙ sym (get-assigned m k p q))
 
--- values of two names are set in any order
+-- the values of two names can be set in any order
 pub assigned-swap : (m : Variables) (k j : Bytes) (o p : Option Bytes) → (k ≡ j → ⊥) → assigned (assigned m j p) k o ≡ assigned (assigned m k o) j p
 assigned-swap m k j o p apart = alike _ _ (λ q.
     get-assigned (assigned m j p) k o q ∙ ap (cond (eq_by_cmp by_bytes q k) o) (get-assigned m j p q)
     ∙ swapped (eq_by_cmp by_bytes q k) (eq_by_cmp by_bytes q j) o p (get m q) (λ a b. apart (sym (same_name q k a) ∙ same_name q j b))
     ∙ sym (get-assigned (assigned m k o) j p q ∙ ap (cond (eq_by_cmp by_bytes q j) p) (get-assigned m k o q)))
 
--- to give a name the value that it has changes nothing
+-- giving a name the value that it has changes nothing
 pub assigned-same : (m : Variables) (k : Bytes) (o : Option Bytes) → get m k ≡ o → assigned m k o ≡ m
 assigned-same m k o e = alike _ _ (λ q. get-assigned m k o q ∙ kept (eq_by_cmp by_bytes q k) q refl)
   where
@@ -82,7 +82,7 @@ get-slot_variables (e ∷ es) q = get-assigned (slot_variables es) e.0.items (op
     chosen true = refl
     chosen false = refl
 
--- a value written at a place that is there is set
+-- a value that is written at an existing place is set
 pub variables-set_value : (es : List Slot) (name : Bytes) (w : Place) → is_some (lookup (is_name name) es) ≡ true → slot_variables (set_value (is_name name) es w) ≡ assigned (slot_variables es) name (option_items w.value)
 variables-set_value [] name w there = cc
 variables-set_value (e ∷ es) name w there = at (variables-set_value es name w) (is_name name e.0) refl there
@@ -128,7 +128,7 @@ some_kept : {X : Type 0} (b : Bool) (x : X) (l m : Option X) → (is_some l ≡ 
 some_kept true x l m f h = refl
 some_kept false x l m f h = f h
 
--- places stay
+-- places are kept
 pub slots-set_value : (test other : Vec ℕ Global → Bool) (es : List Slot) (w : Place) → is_some (lookup other (set_value test es w)) ≡ is_some (lookup other es)
 slots-set_value test other [] w = refl
 slots-set_value test other (e ∷ es) w = at (slots-set_value test other es w) (test e.0)
@@ -162,7 +162,7 @@ added es fs k w name same e = ap slot_variables e ∙ variables-insert_entry es 
 pub added_slots : (es fs : List Slot) (k : Vec ℕ Global) (w : Place) → fs ≡ insert_entry key_cmp es k w → (q : Bytes) → is_some (lookup (is_name q) es) ≡ true → is_some (lookup (is_name q) fs) ≡ true
 added_slots es fs k w e q h = ap (λ l. is_some (lookup (is_name q) l)) e ∙ slots-insert_entry (is_name q) es k w h
 
--- what stands at other names stays where a name is taken off
+-- removing a name changes nothing at other names
 lookup-remove_entry : (name q : Bytes) (es : List Slot) → is_eq (by_bytes q name) ≡ false → lookup (is_name q) (remove_entry (is_name name) es) ≡ lookup (is_name q) es
 lookup-remove_entry name q [] apart = refl
 lookup-remove_entry name q (e ∷ es) apart = at (lookup-remove_entry name q es apart) (is_name name e.0) refl
@@ -173,7 +173,7 @@ lookup-remove_entry name q (e ∷ es) apart = at (lookup-remove_entry name q es 
         sym (ap (λ b. cond b (Some e.1) (lookup (is_name q) es)) other)
     at rest false t = ap (cond (is_name q e.0) (Some e.1)) rest
 
--- a name that is taken off has no value
+-- a name that is removed has no value
 pub removed : (es fs : List Slot) (name : Bytes) → fs ≡ remove_entry (is_name name) es → lookup (is_name name) fs ≡ None → slot_variables fs ≡ assigned (slot_variables es) name None
 removed es fs name e gone = alike _ _ (λ q. get-slot_variables fs q ∙ at q (is_eq (by_bytes q name)) refl ∙ sym (get-assigned (slot_variables es) name None q))
   where
@@ -239,7 +239,7 @@ written_kept es fs name old w there e q = ap (λ xs. kept_of (lookup (is_name q)
 pub added_kept : (es fs : List Slot) (k : Vec ℕ Global) (w : Place) (name : Bytes) → k.items ≡ name → fs ≡ insert_entry key_cmp es k w → (q : Bytes) → kept_of (lookup (is_name q) fs) ≡ cond (is_eq (by_bytes q name)) w.kept_at (kept_of (lookup (is_name q) es))
 added_kept es fs k w name same e q = ap (λ xs. kept_of (lookup (is_name q) xs)) e ∙ kept-insert_entry es k w q ∙ ap (λ n. cond (is_eq (by_bytes q n)) w.kept_at (kept_of (lookup (is_name q) es))) same
 
--- each name that stands at a place does so after a write
+-- each name that has a place has one after a write
 pub written_same_slots : (es fs : List Slot) (name : Bytes) (w : Place) → fs ≡ set_value (is_name name) es w → (q : Bytes) → is_some (lookup (is_name q) fs) ≡ is_some (lookup (is_name q) es)
 written_same_slots es fs name w e q = ap (λ l. is_some (lookup (is_name q) l)) e ∙ slots-set_value (is_name name) (is_name q) es w
 

@@ -1,4 +1,4 @@
--- What is kept of a run, from the last on.
+-- What is kept of a run, starting from the last.
 use Rattle.std.proofs.Common.{◌≡◌, ℕ, ◌+◌, ◌-◌, ◌≤◌, ◌<◌, Bool, true, false, cond, List, [], ◌∷◌, ◌++◌, ◌&&◌, ◌⊎◌, ⊎_elim, inl, inr, leb, eqb, Option, Some, None, is_some, length, length-append, get_or, set, take, reverse, refl, sym, ap, subst, ◌∙◌, arith, vec_len, vec_capacity}
 use Rattle.std.specs.declared.alloc.Global.{Global}
 use Rattle.std.specs.declared.vec.Vec.{Vec}
@@ -26,7 +26,7 @@ use Rattle.bootstore.specs.Table.{Names, AreWithin, has_slot, names_before, stan
 use Rattle.bootstore.specs.Inverse.{outermost, undone, at_mark, marked_before, names_left, local_names_left, finds_its_place, find_places, room_for, text_reach, log_reach, frame_reach, leaves, nested, begins_with_mark, LeadsBack, CanGoBack}
 use Rattle.bootstore.proofs.Tables.{assigned-again, assigned-same, same_name}
 
--- where nil_from_length is marked nil_from_length is kept
+-- if nothing is marked, nothing is kept
 pub nothing_marked : (m : Moment) (kept : List Kept) → begins_with_mark kept ≡ true → marked_before m kept ≡ [] → kept ≡ []
 nothing_marked m [] rooted none = refl
 nothing_marked m (Mark mark ∷ kept) rooted none = cc
@@ -37,7 +37,7 @@ nothing_marked m (Change i ∷ j ∷ kept) rooted none = let gone = nothing_mark
 pub reverse-push : {A : Type 0} (xs : List A) (x : A) → reverse (xs ++ x ∷ []) ≡ x ∷ reverse xs
 reverse-push xs x = reverse-append xs (x ∷ [])
 
--- a list that ends in x, from the last element on
+-- a list that ends with x, starting from the last element
 pub reverse_last : {A : Type 0} (xs ys : List A) (x : A) → xs ≡ ys ++ x ∷ [] → reverse xs ≡ x ∷ reverse ys
 reverse_last xs ys x e = ap reverse e ∙ reverse-push ys x
 
@@ -57,7 +57,7 @@ rooted_more one [] some h = absurd (some refl)
 rooted_more (Mark mark) (next ∷ kept) some h = h
 rooted_more (Change i) (next ∷ kept) some h = h
 
--- Frames: the outermost ones do not feel what happens above them.
+-- Frames: what happens above the outermost ones does not change them.
 pub outermost-cons : (n : ℕ) (f : RunningFrame) (fs : List RunningFrame) → n ≤ length fs → outermost n (f ∷ fs) ≡ outermost n fs
 outermost-cons n f fs h =
     let within : n ≤ length (reverse fs) = omega (arith, length-reverse fs) in
@@ -94,7 +94,7 @@ marked_alike (Change (Environment name before) ∷ kept) m n h = marked_alike ke
 marked_alike (Change (Local name before) ∷ kept) m n h = marked_alike kept _ _ (record { environment = h.environment; locals = ap (λ v. assigned v name.items (place_value before)) h.locals; text = h.text; log = h.log; frames = h.frames })
 marked_alike (Change (Touched below frame) ∷ kept) m n h = marked_alike kept _ _ (record { environment = h.environment; locals = h.locals; text = h.text; log = h.log; frames = ap (λ fs. outermost (frame_reach kept) (frame ∷ fs)) h.frames })
 
--- what marks keep themselves may change, and what they do not reach may too
+-- what marks keep themselves may change, and so may what they do not reach
 module _ (m : Moment) (u : ℕ) (kept : List Kept) (leads : LeadsBack m u kept) where
   pub marked_status : (status steps : ℕ) → marked_before (record m { status = status; steps = steps }) kept ≡ marked_before m kept
   marked_status status steps = marked_alike kept _ _ (record { environment = refl; locals = refl; text = refl; log = refl; frames = refl })
@@ -242,7 +242,7 @@ can_kept_top p u count frame kept can all low some =
       room = omega (arith, can.room, p.frames.ok);
     }
 
--- the innermost frame is taken off
+-- the innermost frame is removed
 pub popped : (xs ys : List RunningFrame) (n : ℕ) → n ≡ length xs → ys ≡ take (n - 1) xs → reverse ys ≡ without_first (reverse xs)
 popped xs ys n count e = ap reverse (e ∙ ap (take (n - 1)) (sym (reverse-reverse xs))) ∙ at (reverse xs) (count ∙ sym (length-reverse xs))
   where
@@ -250,7 +250,7 @@ popped xs ys n count e = ap reverse (e ∙ ap (take (n - 1)) (sym (reverse-rever
     at [] k = outermost-all (n - 1) [] (omega arith)
     at (f ∷ fs) k = outermost-cons (n - 1) f fs (omega arith) ∙ outermost-all (n - 1) fs (omega arith)
 
--- Variables: what is kept of a change finds the place, and the changes before it do too.
+-- Variables: what is kept of a change finds its place, and so do the changes before it.
 within_put : (old new : Names) (name key : Bytes) (before : Option Place) → AreWithin old new → old name ≡ is_some before → key ≡ name → AreWithin old (names_before key before new)
 within_put old new name key (Some value) more there same = more
 within_put old new name key None more there same = λ other h. at other h (is_eq (slice_cmp nat_cmp other key)) refl
@@ -295,7 +295,7 @@ module _ (p : Present) (t : Table) (u : ℕ) (kept : List Kept) (can : CanGoBack
       room = omega (arith, can.room);
     }
 
--- bytes that are not there
+-- an option without bytes
 pub no_bytes : (o : Option (Bor (List ℕ))) → is_some o ≡ false → option_bytes o ≡ None
 no_bytes None none = refl
 no_bytes (Some x) none = absurd (let h : true ≡ false = none in cc)
@@ -304,7 +304,7 @@ no_bytes (Some x) none = absurd (let h : true ≡ false = none in cc)
 pub some_kept : (v : Vec Kept Global) (b : Bool) → b ≡ eqb (vec_len v) 0 → b ≡ false → reverse v.items ≡ [] → ⊥
 some_kept v b test unlike none = let h = eq-eqb (vec_len v) 0 (none_of_reversed v none) in cc
 
--- a change that was made in place is kept behind what was kept
+-- a change that was made in place is kept after what was kept before
 pub kept_last : (old roomy new : Vec Kept Global) (one : Kept) → roomy.items ≡ old.items → new.items ≡ roomy.items ++ one ∷ [] → reverse new.items ≡ one ∷ reverse old.items
 kept_last old roomy new one same e = reverse_last new.items roomy.items one e ∙ ap (λ ks. one ∷ reverse ks) same
 

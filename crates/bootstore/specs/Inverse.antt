@@ -11,7 +11,7 @@ use Rattle.bootstore.specs.Record.{Record, assigned}
 use Rattle.bootstore.specs.Present.{moment_of}
 use Rattle.bootstore.specs.Table.{Names, has_slot, names_before, place_value, stands_among, last_kept, kept_of, is_name}
 
--- so many of the frames, the outermost ones
+-- this many of the frames, the outermost ones
 abbrev pub outermost : ℕ → List RunningFrame → List RunningFrame
 outermost count frames = reverse (take count (reverse frames))
 
@@ -34,13 +34,13 @@ at_mark mark m =
       frames = outermost mark.frames m.frames;
     }
 
--- the moments at the marks; what is kept is given from the last on
+-- the moments at the marks; the list of kept things starts with the last
 abbrev pub marked_before : Moment → List Kept → List Moment
 marked_before m [] = []
 marked_before m (Mark mark ∷ kept) = at_mark mark m ∷ marked_before (at_mark mark m) kept
 marked_before m (Change inverse ∷ kept) = marked_before (undone inverse m) kept
 
--- the names that have a place in the environment once the inverse was taken, and those of shell variables
+-- the names that have a place in the environment after the inverse was taken, and the names of shell variables that do
 abbrev pub names_left : Inverse → Names → Names
 names_left (Environment name before) names = names_before name.items before names
 names_left (Local name before) names = names
@@ -79,7 +79,7 @@ most_room [] = 0
 most_room (Mark mark ∷ kept) = most_room kept
 most_room (Change inverse ∷ kept) = max (room_for inverse) (most_room kept)
 
--- how much of the text, of the log and of the frames the way back needs; what stands behind it is dropped
+-- how much of the text, of the log and of the frames the way back needs; anything after it is dropped
 abbrev pub text_reach : List Kept → ℕ
 text_reach [] = 0
 text_reach (Mark mark ∷ kept) = mark.text
@@ -113,7 +113,7 @@ nested (Mark mark ∷ kept) =
     && nat_eq (frame_reach kept) mark.before.untouched && nat_le mark.before.untouched mark.frames && nested kept
 nested (Change inverse ∷ kept) = leaves inverse (frame_reach kept) && nested kept
 
--- what was kept first is a mark, if anything is kept
+-- the first kept thing is a mark, if anything is kept
 abbrev pub begins_with_mark : List Kept → Bool
 begins_with_mark [] = true
 begins_with_mark (Mark mark ∷ []) = true
@@ -138,7 +138,7 @@ pub record CanGoBack (p : Present) (untouched : ℕ) (kept : List Kept) : Type 0
 abbrev pub record_with : Present → List Kept → ℕ → Record
 record_with p kept begun = record { present = moment_of p; marked = marked_before (moment_of p) kept; begun = begun }
 
--- how many things were kept of each name once the inverse was taken, and of each shell variable
+-- the count of each name after the inverse was taken, and the count of each shell variable
 abbrev pub last_left : Inverse → (Bytes → ℕ) → Bytes → ℕ
 last_left (Environment name before) last other = cond (is_name other name) (kept_of before) (last other)
 last_left (Local name before) last other = last other
@@ -160,21 +160,21 @@ is_of_local name (Environment key before) = false
 is_of_local name (Local key before) = is_name name key
 is_of_local name (Touched below frame) = false
 
--- whether the thing that was kept as the count-th, counted from the first on, is such an inverse
+-- whether the count-th kept thing, counted from the first on, is such an inverse
 abbrev pub stands_as : (Inverse → Bool) → ℕ → List Kept → Bool
 stands_as test count [] = false
 stands_as test count (Mark mark ∷ kept) = stands_as test count kept
 stands_as test count (Change inverse ∷ kept) =
     cond (nat_eq count (length kept + 1)) (test inverse) (stands_as test count kept)
 
--- 0 says that none is
+-- a count of 0 says that no inverse is kept
 abbrev pub is_kept : (Inverse → Bool) → ℕ → List Kept → Bool
 is_kept test count kept = nat_eq count 0 || stands_as test count kept
 
 abbrev pub EachIsKept : (Bytes → Inverse → Bool) → (Bytes → ℕ) → List Kept → Type 0
 EachIsKept test last kept = (name : Bytes) → is_kept (test name) (last name) kept ≡ true
 
--- what comes back tells rightly what is kept of it
+-- the place that comes back has a count that is right
 abbrev pub tells_kept : Inverse → List Kept → Bool
 tells_kept (Environment key before) kept = is_kept (is_of_environment key.items) (kept_of before) kept
 tells_kept (Local key before) kept = is_kept (is_of_local key.items) (kept_of before) kept
@@ -185,7 +185,7 @@ all_tell_kept [] = true
 all_tell_kept (Mark mark ∷ kept) = all_tell_kept kept
 all_tell_kept (Change inverse ∷ kept) = tells_kept inverse kept && all_tell_kept kept
 
--- how many things were kept up to the last mark, with it
+-- how many things were kept up to the last mark, the mark included
 abbrev pub up_to_mark : List Kept → ℕ
 up_to_mark [] = 0
 up_to_mark (Mark mark ∷ kept) = length kept + 1
@@ -196,7 +196,7 @@ marks_tell [] = true
 marks_tell (Mark mark ∷ kept) = nat_eq (up_to_mark kept) mark.before.kept && marks_tell kept
 marks_tell (Change inverse ∷ kept) = marks_tell kept
 
--- a place that tells of an inverse since the last mark has one, so that another change of it needs none
+-- if the count of a place is above the count at the last mark, an inverse of it is kept, and another change needs none
 pub record KeepsOnce (p : Present) (up_to : ℕ) (kept : List Kept) : Type 0 where
   pub environment : EachIsKept is_of_environment (last_kept p.environment) kept
   pub locals : EachIsKept is_of_local (last_kept p.locals) kept

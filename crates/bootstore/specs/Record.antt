@@ -7,13 +7,13 @@ use Rattle.bootstore.specs.declared.frame.At.{At}
 use Rattle.rehearse.specs.State.{LoggedCommand}
 use Rattle.bootstore.specs.Moment.{Bytes, Variables, RunningFrame, Moment}
 
--- the present moment, the marked ones, the last first, and how many steps were ever begun
+-- the present moment; the marked ones, the last first; and how many steps were ever begun
 pub record Record : Type 0 where
   pub present : Moment
   pub marked : List Moment
   pub begun : ℕ
 
--- the moment at which a run in this environment begins
+-- the moment at which a run in this environment starts
 abbrev pub beginning : Variables → Moment
 beginning environment =
     record { environment = environment; locals = empty; status = 0; text = []; log = []; steps = 0; frames = [] }
@@ -44,7 +44,7 @@ with_step m = record m { steps = m.steps + 1 }
 abbrev pub with_frame : RunningFrame → Moment → Moment
 with_frame frame m = record m { frames = frame ∷ m.frames }
 
--- the frames, where the innermost has come to the place; no frame stays no frame
+-- the frames, with the innermost at this place; without a frame nothing changes
 abbrev pub moved : At → List RunningFrame → List RunningFrame
 moved place [] = []
 moved place (frame ∷ frames) = record frame { place = place } ∷ frames
@@ -63,11 +63,11 @@ without_frame m = record m { frames = without_first m.frames }
 abbrev pub changed : (Moment → Moment) → Record → Record
 changed change r = record r { present = change r.present }
 
--- a run in this environment begins, and nothing is marked
+-- a run in this environment starts, and nothing is marked
 abbrev pub started : Variables → Record → Record
 started environment r = record r { present = beginning environment; marked = [] }
 
--- a step begins
+-- a step is begun
 abbrev pub stepped : Record → Record
 stepped r = record { present = with_step r.present; marked = r.marked; begun = r.begun + 1 }
 
@@ -75,7 +75,7 @@ stepped r = record { present = with_step r.present; marked = r.marked; begun = r
 abbrev pub with_mark : Record → Record
 with_mark r = record r { marked = r.present ∷ r.marked }
 
--- the last marked moment is the present one, and is marked no more; with none nothing changes
+-- the last marked moment becomes the present one and loses its mark; without a mark nothing changes
 abbrev pub returned : Moment → ℕ → List Moment → Record
 returned present begun [] = record { present = present; marked = []; begun = begun }
 returned present begun (m ∷ ms) = record { present = m; marked = ms; begun = begun }

@@ -1,11 +1,11 @@
--- Slots in order: a name each, and a value unless it was deleted (ours).
+-- Slots in order: each has a name, and a value unless it was deleted (ours).
 use Rattle.std.specs.Prelude.{ℕ, List, [], ◌∷◌, Option, Some, None}
 use Rattle.std.specs.declared.alloc.Global.{Global}
 use Rattle.std.specs.declared.vec.Vec.{Vec}
 use Rattle.bootstore.specs.declared.table.Place.{Place}
 use Rattle.bootstore.specs.Moment.{Bytes}
 
--- a name, and what stands at its place
+-- a name, and what is at its place
 abbrev pub Slot : Type 0
 Slot = Vec ℕ Global × Place
 

@@ -1,4 +1,4 @@
--- The state of a run that a store's moment is, and the laws of the two (ours).
+-- The state of a run that a store's moment describes, and laws of both (ours).
 use Rattle.std.specs.Prelude.{◌≡◌}
 use Rattle.std.specs.FinMap as finite
 use Rattle.std.specs.FinMap.{entries}
@@ -7,7 +7,7 @@ use Rattle.rehearse.specs.State.{Text, get, with_value, without, State, start}
 use Rattle.bootstore.specs.Moment.{Moment, Variables}
 use Rattle.bootstore.specs.Record.{beginning}
 
--- the state that a store's moment is, with the rest of a word
+-- the state that a store's moment describes, with the rest of a word
 abbrev pub state_at : Moment → OutcomeWord → State
 state_at m word = record {
   memory =
@@ -21,7 +21,7 @@ state_at m word = record {
 abbrev pub StoredValues : Type 0
 StoredValues = (variables : Variables) (name : Text) → get (entries variables) name ≡ finite.get variables name
 
--- a variable that is set in the map is set in its entries
+-- a variable that is set in the map is set in the map's entries
 abbrev pub StoredChanges : Type 0
 StoredChanges = (variables : Variables) (name value : Text) →
     entries (finite.insert variables name value) ≡ with_value (entries variables) name value
@@ -31,7 +31,7 @@ abbrev pub StoredDeletions : Type 0
 StoredDeletions = (variables : Variables) (name : Text) →
     entries (finite.remove variables name) ≡ without (entries variables) name
 
--- the moment at which a store begins a run is the state at its start
+-- the moment at which a store starts a run is the state at the run's start
 abbrev pub StoredStarts : Type 0
 StoredStarts = (environment : Variables) (word : OutcomeWord) →
     state_at (beginning environment) word ≡ start (entries environment) word

@@ -25,7 +25,7 @@ variables_of table = slot_variables table.slots.entries
 abbrev pub is_name : Bytes → Vec ℕ Global → Bool
 is_name name key = is_eq (slice_cmp nat_cmp name key.items)
 
--- what stands at the place of a name, if it has one
+-- what is at the place of a name, if it has one
 abbrev pub place_at : Table → Bytes → Option Place
 place_at table name = lookup (is_name name) table.slots.entries
 
@@ -38,7 +38,7 @@ abbrev pub place_value : Option Place → Option Bytes
 place_value None = None
 place_value (Some place) = option_items place.value
 
--- how many things were kept when the last change of this place was, or 0
+-- the count of kept things right after the last inverse of this place was kept, or 0
 abbrev pub kept_of : Option Place → ℕ
 kept_of None = 0
 kept_of (Some place) = place.kept_at
@@ -50,7 +50,7 @@ last_kept table name = kept_of (place_at table name)
 abbrev pub KeepsNothing : Table → Type 0
 KeepsNothing table = (name : Bytes) → last_kept table name ≡ 0
 
--- some of all names
+-- a set of names
 abbrev pub Names : Type 0
 Names = Bytes → Bool
 
@@ -60,7 +60,7 @@ AreWithin few more = (name : Bytes) → few name ≡ true → more name ≡ true
 abbrev pub AreEqual : {A : Type 0} → (Bytes → A) → (Bytes → A) → Type 0
 AreEqual old new = (name : Bytes) → new name ≡ old name
 
--- as before but at the name
+-- as before, except at this name
 abbrev pub IsWith : {A : Type 0} → (Bytes → A) → Bytes → A → (Bytes → A) → Type 0
 IsWith old name here new = (other : Bytes) → new other ≡ cond (is_eq (slice_cmp nat_cmp other name)) here (old other)
 
@@ -71,7 +71,7 @@ KeepsSlots old new = AreWithin (has_slot old) (has_slot new)
 abbrev pub without : Bytes → Names → Names
 without name names other = cond (is_eq (slice_cmp nat_cmp other name)) false (names other)
 
--- the names that have a place once the name has the place that it had, or none
+-- the names that have a place after the name gets back what it had: its place, or none
 abbrev pub names_before : Bytes → Option Place → Names → Names
 names_before name None names = without name names
 names_before name (Some place) names = names

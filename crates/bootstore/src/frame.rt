@@ -30,7 +30,7 @@ pub struct At {
     pub command: usize,
     /// Which turn of that command.
     pub turn: usize,
-    /// The status that the command has come to.
+    /// The status of the last body of a loop, or 0.
     pub last: u8,
 }
 
@@ -110,14 +110,15 @@ impl Frame {
         }
     }
 
-    /// The place that it has come to.
+    /// The place that it has reached.
     pub fn at(&self) -> At
         ensures { result ≡ self.now.place }
     {
         self.at
     }
 
-    /// Another frame like it. It shares the script and the words, which takes no memory.
+    /// Another frame like it, which shares the script and the words. Sharing them takes no memory.
+    /// Errors: a share is refused.
     pub fn copy(&self) -> Result<Frame, AllocError>
         ensures { IfOk result (λ frame. frame ≡ self.now) }
     {
@@ -133,7 +134,7 @@ impl Frame {
         })
     }
 
-    /// Gives it another place.
+    /// Moves it to another place.
     pub(crate) fn move_to(&mut self, at: At)
         ensures { self.new ≡ record self.old { place = at } }
     {

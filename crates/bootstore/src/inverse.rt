@@ -14,11 +14,11 @@ use crate::table::Place;
 pub struct Since {
     /// How many frames, from the outermost on, have stayed as they were.
     pub untouched: usize,
-    /// How many things were kept up to the mark, with it.
+    /// How many things were kept up to the mark, the mark included.
     pub kept: usize,
 }
 
-/// What a mark keeps itself of the state that it marks, so that no change of it needs an inverse.
+/// What a mark itself keeps of the state that it marks. Changes of it need no inverse.
 #[derive(Clone, Copy)]
 pub struct Marked {
     /// The status.
@@ -31,22 +31,22 @@ pub struct Marked {
     pub log: usize,
     /// The count of frames.
     pub frames: usize,
-    /// What was known of the time since the mark before.
+    /// What was known of the time since the previous mark.
     pub before: Since,
 }
 
 /// What takes a change back.
 #[derive(Drop)]
 pub enum Inverse {
-    /// What stood at the place of an environment variable before the change, if it had a place.
+    /// What was at the place of an environment variable before the change, if it had a place.
     Environment(Vec<u8>, Option<Place>),
-    /// What stood at the place of a shell variable before the change, if it had a place.
+    /// What was at the place of a shell variable before the change, if it had a place.
     Local(Vec<u8>, Option<Place>),
     /// A frame as it was, and how many frames were below it.
     Touched(usize, Frame),
 }
 
-/// A mark, or what takes a change since the mark before back.
+/// A mark, or what takes back a change since the previous mark.
 #[derive(Drop)]
 pub enum Kept {
     /// A state was marked here.
@@ -55,7 +55,7 @@ pub enum Kept {
     Change(Inverse),
 }
 
-/// Takes one change back, without memory.
+/// Takes back one change. Takes no memory.
 pub fn undo(present: &mut Present, inverse: Inverse)
     requires place { finds_its_place (has_slot present.old.environment) (has_slot present.old.locals) inverse ≡ true }
     requires room { HasRoom (vec_capacity present.old.frames) inverse }
@@ -76,7 +76,7 @@ pub fn undo(present: &mut Present, inverse: Inverse)
     }
 }
 
-/// Gives a state what a mark keeps itself, without memory.
+/// Gives a state what a mark itself keeps. Takes no memory.
 pub fn return_to(present: &mut Present, marked: Marked)
     ensures marked { moment_of present.new ≡ at_mark marked (moment_of present.old) }
     ensures environment { present.new.environment ≡ present.old.environment }
@@ -90,8 +90,8 @@ pub fn return_to(present: &mut Present, marked: Marked)
     present.frames.truncate(marked.frames);
 }
 
-/// Takes the changes since the last mark back, and the mark. It answers what is known of the time since the mark
-/// before.
+/// Takes back the changes since the last mark, and removes the mark. Returns what is known of the
+/// time since the previous mark.
 pub fn undo_to_mark(present: &mut Present, kept: &mut Vec<Kept>) -> Since
     requires can { CanGoBack present.old (frame_reach (reverse kept.old.items)) (reverse kept.old.items) }
     requires once { KeepsOnce present.old (up_to_mark (reverse kept.old.items)) (reverse kept.old.items) }

@@ -1,4 +1,4 @@
-//! The state of a run of a boot script, which can be marked and gone back to.
+//! The state of a run of a boot script. It can be marked, and a run can go back to it.
 #![tactic(auto)]
 
 mod frame;

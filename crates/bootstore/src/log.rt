@@ -23,7 +23,7 @@ impl Model for LogEntry {
 }
 
 impl LogEntry {
-    /// A copy of its own.
+    /// A copy that owns its words. Errors: memory ran out.
     pub fn copy(&self) -> Result<LogEntry, AllocError>
         ensures { IfOk result (λ entry. entry ≡ self.now) }
     {

@@ -42,7 +42,7 @@ impl Present {
         }
     }
 
-    /// The state at the start of a run in an environment.
+    /// The state at the start of a run in an environment. Errors: memory ran out.
     pub fn at_start(alloc: Global, env: &Env) -> Result<Present, AllocError>
         ensures beginning { IfOk result (λ present. moment_of present ≡ beginning (environment_of env.now)) }
         ensures kept { IfOk result (λ present. KeepsNothing present.environment × KeepsNothing present.locals) }
@@ -55,7 +55,7 @@ impl Present {
         Ok(present)
     }
 
-    /// A copy of the state. The frames of the copy share their scripts with these.
+    /// A copy of the state. Its frames share their scripts with these. Errors: memory ran out.
     pub fn copy(&self, alloc: Global) -> Result<Present, AllocError>
         ensures { IfOk result (λ present. moment_of present ≡ moment_of self.now) }
     {
@@ -85,7 +85,7 @@ impl Present {
         self.frames.last()
     }
 
-    /// Without a frame nothing changes.
+    /// Moves the innermost frame to this place. Without a frame nothing changes.
     pub fn advance(&mut self, place: At)
         ensures moved { moment_of self.new ≡ with_place place (moment_of self.old) }
         ensures environment { self.new.environment ≡ self.old.environment }

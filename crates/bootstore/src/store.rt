@@ -18,7 +18,7 @@ use thiserror::Error;
 /// Why a change was refused.
 #[derive(Clone, Copy, Debug, PartialEq, Eq, Error)]
 pub enum StoreError {
-    /// There is no memory for it.
+    /// Memory ran out.
     #[error("out of memory")]
     Memory,
 }
@@ -35,22 +35,22 @@ impl<T: Drop> From<AllocFailed<T>> for StoreError {
     }
 }
 
-/// The present state of a run, and the marked states that it can go back to. A change answers Memory only where a
-/// growth was refused, and has then changed nothing. The readers take no memory.
+/// The present state of a run, and the marked states to which it can go back. A change returns
+/// `Memory` only if a growth was refused, and has then changed nothing. The readers take no memory.
 pub trait Store: Drop {
-    /// The present state, the marked ones, and the steps begun in all.
+    /// The present state, the marked ones, and the count of all steps begun.
     ghost record_of: { Self → Record };
 
-    /// A store with everything empty or 0. It takes no memory.
+    /// A store in which everything is empty or 0. Takes no memory.
     fn new(alloc: Global) -> Self
         ensures { record_of result ≡ fresh };
 
-    /// The state at the start of a run in an environment: no frame and no mark. `begun` stays.
+    /// Starts a run in an environment: no frame and no mark. `begun` stays.
     fn start(&mut self, env: &Env) -> Result<(), StoreError>
         ensures ok { OnOk result (record_of self.new ≡ started (environment_of env.now) (record_of self.old)) }
         ensures err { OnErr result (record_of self.new ≡ record_of self.old) };
 
-    /// Sets an environment variable to a value, or deletes it where there is none.
+    /// Sets an environment variable to a value, or deletes it if no value is given.
     fn set_env(&mut self, name: &[u8], value: Option<&[u8]>) -> Result<(), StoreError>
         ensures ok { OnOk result (record_of self.new ≡ changed (with_environment name.now (option_bytes value.entry)) (record_of self.old)) }
         ensures err { OnErr result (record_of self.new ≡ record_of self.old) };
@@ -60,12 +60,12 @@ pub trait Store: Drop {
         ensures ok { OnOk result (record_of self.new ≡ changed (with_local name.now value.now) (record_of self.old)) }
         ensures err { OnErr result (record_of self.new ≡ record_of self.old) };
 
-    /// Writes bytes behind the text.
+    /// Adds bytes at the end of the text.
     fn echo(&mut self, written: &[u8]) -> Result<(), StoreError>
         ensures ok { OnOk result (record_of self.new ≡ changed (with_echo written.now) (record_of self.old)) }
         ensures err { OnErr result (record_of self.new ≡ record_of self.old) };
 
-    /// Puts a device command behind the log.
+    /// Adds a device command at the end of the log.
     fn device(&mut self, entry: LogEntry) -> Result<(), StoreError>
         ensures ok { OnOk result (record_of self.new ≡ changed (with_device entry) (record_of self.old)) }
         ensures err { OnErr result (record_of self.new ≡ record_of self.old) };
@@ -75,7 +75,7 @@ pub trait Store: Drop {
         ensures ok { OnOk result (record_of self.new ≡ changed (with_status status) (record_of self.old)) }
         ensures err { OnErr result (record_of self.new ≡ record_of self.old) };
 
-    /// A step begins: `steps` and `begun` grow by one. No other call changes `begun`.
+    /// Begins a step: `steps` and `begun` grow by one. No other call changes `begun`.
     fn count_step(&mut self) -> Result<(), StoreError>
         requires steps { (record_of self.old).present.steps < most_steps }
         requires begun { (record_of self.old).begun + 1 < 2 ^ 64 }
@@ -87,12 +87,12 @@ pub trait Store: Drop {
         ensures ok { OnOk result (record_of self.new ≡ changed (with_frame frame) (record_of self.old)) }
         ensures err { OnErr result (record_of self.new ≡ record_of self.old) };
 
-    /// Gives the innermost frame this place. Without a frame nothing changes.
+    /// Moves the innermost frame to this place. Without a frame nothing changes.
     fn advance(&mut self, place: At) -> Result<(), StoreError>
         ensures ok { OnOk result (record_of self.new ≡ changed (with_place place) (record_of self.old)) }
         ensures err { OnErr result (record_of self.new ≡ record_of self.old) };
 
-    /// Takes the innermost frame off. Without a frame nothing changes.
+    /// Removes the innermost frame. Without a frame nothing changes.
     fn pop(&mut self) -> Result<(), StoreError>
         ensures ok { OnOk result (record_of self.new ≡ changed without_frame (record_of self.old)) }
         ensures err { OnErr result (record_of self.new ≡ record_of self.old) };
@@ -102,8 +102,8 @@ pub trait Store: Drop {
         ensures ok { OnOk result (record_of self.new ≡ with_mark (record_of self.old)) }
         ensures err { OnErr result (record_of self.new ≡ record_of self.old) };
 
-    /// Makes the last marked state the present one, frames included, and takes its mark off. It takes no memory.
-    /// Without a mark nothing changes.
+    /// Makes the last marked state the present one, with its frames, and removes its mark. Takes no
+    /// memory. Without a mark nothing changes.
     fn back(&mut self)
         ensures { record_of self.new ≡ gone_back (record_of self.old) };
 
@@ -111,7 +111,7 @@ pub trait Store: Drop {
     fn present(&self) -> &Present
         ensures { moment_of result.now ≡ (record_of self.now).present };
 
-    /// How many steps were begun in all, in whatever run.
+    /// How many steps were begun, in all runs together.
     fn begun(&self) -> u64
         ensures { result ≡ (record_of self.now).begun };
 

@@ -8,12 +8,12 @@ use std::collections::btree_map::Iter;
 use std::marker::Model;
 use std::mem;
 
-/// What stands at the place of a name.
+/// What is at the place of a name.
 #[derive(Drop)]
 pub struct Place {
-    /// The value, or none where the name was deleted.
+    /// The value, or none if the name was deleted.
     pub value: Option<Vec<u8>>,
-    /// How many things were kept when what takes a change of this place back was the last of them, or 0.
+    /// The count of kept things right after the last inverse of this place was kept, or 0.
     pub kept_at: usize,
 }
 
@@ -66,7 +66,7 @@ impl Table {
         }
     }
 
-    /// How many things were kept when the last change of the place of a name was, or 0.
+    /// The count of kept things right after the last inverse of a name's place was kept, or 0.
     pub fn kept_at(&self, name: &[u8]) -> usize
         ensures { result ≡ last_kept self.now name.now }
     {
@@ -85,7 +85,7 @@ impl Table {
         }
     }
 
-    /// A copy of all places.
+    /// A copy of all places. Errors: memory ran out.
     pub fn copy(&self) -> Result<Table, AllocError>
         ensures { IfOk result (λ table. variables_of table ≡ variables_of self.now) }
     {
@@ -94,7 +94,7 @@ impl Table {
         })
     }
 
-    /// Gives a name a value, or takes its place off.
+    /// Gives a name a value, or removes its place. An error changes no value.
     pub fn set(
         &mut self,
         alloc: Global,
@@ -115,7 +115,8 @@ impl Table {
         Ok(())
     }
 
-    /// Gives a name a value, or none and a place for one. It answers what stood at its place, if it had a place.
+    /// Gives a name a value, or none but a place for one. Returns what was at its place, if it had
+    /// a place. An error changes no value.
     pub fn put(
         &mut self,
         alloc: Global,
@@ -140,7 +141,7 @@ impl Table {
         Ok(None)
     }
 
-    /// Takes the place of a name off, if it has one.
+    /// Removes the place of a name, if it has one.
     pub fn remove(&mut self, name: &[u8])
         ensures removed { variables_of self.new ≡ assigned (variables_of self.old) name.now None }
         ensures places { AreEqual (without name.now (has_slot self.old)) (has_slot self.new) }
@@ -149,7 +150,8 @@ impl Table {
         self.slots.remove(name);
     }
 
-    /// Gives the place of a name what stood there before, or takes it off where there was none. It takes no memory.
+    /// Gives the place of a name what was there before, or removes it if nothing was. Takes no
+    /// memory.
     pub fn restore(&mut self, name: &[u8], before: Option<Place>)
         requires { stands_among (has_slot self.old) name.now before ≡ true }
         ensures restored { variables_of self.new ≡ assigned (variables_of self.old) name.now (place_value before) }

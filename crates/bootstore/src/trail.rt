@@ -1,4 +1,4 @@
-//! A store that keeps its marks, and the inverses of its changes behind them.
+//! A store that keeps its marks, and after each mark the inverses of the changes since.
 ghost use Rattle.std.specs.Prelude.{reverse};
 ghost use Rattle.bootstore.specs.Inverse.{CanGoBack, KeepsOnce};
 
@@ -10,7 +10,8 @@ use crate::store::{Store, StoreError};
 use envtools::Env;
 use std::alloc::Global;
 
-/// The present state, and what takes the changes since the first mark back. While nothing is marked nothing is kept.
+/// The present state, and what takes back the changes since the first mark. While nothing is
+/// marked, nothing is kept.
 #[derive(Drop)]
 pub struct Trail {
     alloc: Global,
@@ -26,7 +27,8 @@ impl Trail {
     ghost use Rattle.std.specs.Prelude.{◌≡◌, ◌<◌, ◌⊎◌, OnOk, length};
     ghost use Rattle.bootstore.specs.Trail.{record_of_trail};
 
-    /// Keeps the innermost frame as it is, where it has stayed so since the last mark.
+    /// Keeps the innermost frame as it is, if it has not changed since the last mark. Errors:
+    /// `Memory`.
     fn keep_top(&mut self) -> Result<(), StoreError>
         ensures record { record_of_trail self.new ≡ record_of_trail self.old }
         ensures touched { OnOk result ((self.new.since.untouched < length self.new.present.frames.items) ⊎ (length self.new.present.frames.items ≡ 0)) }

@@ -42,7 +42,7 @@ zeros_linear (suc n) x y =
     ∙ (ap (λ r. bit_xor r (after_zeros n (shifted 8 y))) (sym (zeros_more n x))
     ∙ ap (bit_xor (after_zeros (suc n) x)) (sym (zeros_more n y)))))
 
--- the low byte goes through so many bytes, and the others through one less
+-- the low byte goes through this many bytes, and the others through one less
 zeros_split : (n m x : ℕ) → n + 1 ≡ m → after_zeros m x ≡ bit_xor (after_zeros n (x / 256)) (after_zeros m (x % 256))
 zeros_split n m x e =
     let more : suc n ≡ m = sym (add-one n) ∙ e in
@@ -63,7 +63,7 @@ joined register zeros a b c d ha hb hc hd =
     let s2 = zeros_split (zeros + 1) (zeros + 2) (register / 65536) (omega arith) in
     cc
 
--- what the table at k says of the low byte
+-- what table k says of the low byte
 masked : (k m x : ℕ) → k < 16 → k + 1 ≡ m → get_or (get_or TABLES k []) (bit_and x 255) 0 ≡ after_zeros m (x % 256)
 masked k m x h e =
     ap (λ i. get_or (get_or TABLES k []) i 0) (and_mask x 8) ∙ (table_at k (x % 256) h (omega arith) ∙ ap (λ n. after_zeros n (x % 256)) e)
@@ -77,7 +77,7 @@ by_tables register zeros hz hr =
     (masked (zeros + 2) (zeros + 3) (register / 256) (omega arith) (omega arith))
     (masked (zeros + 3) (zeros + 4) register (omega arith) (omega arith))
 
--- what is above the low byte moves down
+-- what is above the low byte shifts down
 nothing_low : (h : ℕ) → shifted 8 (h * 256) ≡ h
 nothing_low h =
     let low : h * 256 % 256 ≡ 0 = omega arith in
@@ -93,7 +93,7 @@ unfolding after_one
 by_bytes register [] = refl
 by_bytes register (b ∷ bs) = by_bytes (after_one register b) bs
 
--- A byte at the low end of what is combined into the register is taken in, and the rest moves down.
+-- A byte at the low end of what is combined into the register is used first, and the rest shifts down.
 byte_first : (n m register b h : ℕ) → n + 1 ≡ m → b < 256 → after_zeros m (bit_xor register (b + h * 256)) ≡ after_zeros n (bit_xor (after_one register b) h)
 unfolding after_one
 byte_first n m register b h e hb =
@@ -111,7 +111,7 @@ byte_first n m register b h e hb =
 abbrev word_at : List ℕ → ℕ → ℕ
 word_at bytes i = get_or bytes i 0 + get_or bytes (i + 1) 0 * 256 + get_or bytes (i + 2) 0 * 65536 + get_or bytes (i + 3) 0 * 16777216
 
--- a word that is combined into the register is its four bytes
+-- a word combined into the register is its four bytes
 word_first : (n m register : ℕ) (bytes : List ℕ) → n + 4 ≡ m → 4 ≤ length bytes → ((i : ℕ) → get_or bytes i 0 < 256) → after_zeros m (bit_xor register (word_at bytes 0)) ≡ after_zeros n (register_after register (take 4 bytes))
 word_first n m register [] e h small = absurd (omega arith)
 word_first n m register (a ∷ []) e h small = absurd (omega arith)

@@ -1,4 +1,4 @@
--- Worked examples of configurations, computed, where the devices are ASCII.
+-- Worked examples of configurations, computed, for devices whose names are ASCII.
 use Rattle.std.proofs.Common.{◌≡◌, true, [], ◌∷◌, Ok, Err, refl}
 use Rattle.std.specs.Prelude.{codes}
 use Rattle.envimage.specs.Config.{places, is_text}
@@ -20,7 +20,7 @@ text_mmc = is_text-ascii (codes "/dev/mmcblk0") refl
 text_bin : is_text (codes "env.bin") ≡ true
 text_bin = is_text-ascii (codes "env.bin") refl
 
--- a comment, hexadecimal, octal, and words behind the third
+-- a comment, hexadecimal, octal, and words after the third
 two_places : places (codes "# device offset size\n/dev/mmcblk0 0x3F8000 0x8000\nenv.bin 010 8000 200 2\n") ≡ Ok (record { device = codes "/dev/mmcblk0"; offset = 4161536; size = 32768 } ∷ record { device = codes "env.bin"; offset = 8; size = 32768 } ∷ [])
 two_places = rw (text_mmc, text_bin) refl
 

@@ -9,7 +9,7 @@ use Rattle.text.specs.Words.{is_equals}
 use Rattle.envimage.specs.Data.{texts_of, texts_fault, is_nul}
 use Rattle.envimage.specs.declared.content.DataError.TheVariants.{NoEquals, EmptyName}
 
--- where no NUL stands, no text ends
+-- without a NUL, no text ends
 texts_of-none : (bytes : List ℕ) → list_any is_nul bytes ≡ false → texts_of bytes ≡ []
 texts_of-none [] e = refl
 texts_of-none (b ∷ bs) e =

@@ -1,4 +1,4 @@
--- The fault of data is what stands behind its longest row of entries.
+-- The fault of data is what follows its longest row of entries.
 use Rattle.std.proofs.Common.{◌≡◌, ◌≢◌, ℕ, zero, suc, ◌+◌, ◌≤◌, true, false, inl, inr, List, [], ◌∷◌, ◌++◌, length, map, Option, None, Some, refl, sym, ap, subst, ◌∙◌, arith, append_assoc, length-append}
 use Rattle.std.proofs.lemmas.Bool.{cases_eq}
 use Rattle.std.proofs.lemmas.Bool.Decides.{nat_tests}
@@ -13,9 +13,9 @@ use Rattle.envimage.proofs.LawLemmas.{text_of, texts_of-text, texts_of-entries, 
 abbrev IsUnbroken : List ℕ → Type 0
 IsUnbroken bytes = AllByRecursion (λ b. b ≢ 0) bytes
 
--- ---- what is computed where the fault is known
+-- ---- what is computed if the fault is known
 
--- a row of entries is passed over
+-- a row of entries is skipped
 texts_fault-row : (pairs : List Pair) (at : ℕ) (texts : List (List ℕ)) → AllByRecursion IsVariable pairs → texts_fault at (map text_of pairs ++ texts) ≡ texts_fault (at + length (flat_map entry pairs)) texts
 texts_fault-row [] at texts all = ap (λ n. texts_fault n texts) (omega arith)
 texts_fault-row (([], value) ∷ ps) at texts all = absurd (all.0.named refl)
@@ -45,7 +45,7 @@ nameless : (at : ℕ) (text : List ℕ) (texts : List (List ℕ)) → text ≢ [
 nameless at [] texts some all = absurd (some refl)
 nameless at (b ∷ bs) texts some all = rw (name-equals b all.0, name-no_equals bs all.1) refl
 
--- what stands at a place is computed there
+-- what is at a place is computed there
 texts_fault-there : (at : ℕ) (rest : List ℕ) (fault : Option DataError) → IsFaultAt at rest fault → texts_fault at (texts_of rest) ≡ fault
 texts_fault-there at rest None t = rw (texts_of-begins rest [] t) refl
 texts_fault-there at rest (Some NotTerminated) t = rw (texts_of-unbroken rest t) refl
@@ -63,9 +63,9 @@ fault_is_computed body fault f =
     ∙ (ap (λ n. texts_fault n (texts_of f.rest)) (omega arith)
     ∙ texts_fault-there (length (flat_map entry f.pairs)) f.rest fault f.fault_there)))
 
--- ---- each body has a fault that is defined
+-- ---- each body has a fault by the definition
 
--- the first NUL is in one place alone
+-- there is only one first NUL
 cut_once : (text other rest left : List ℕ) → IsUnbroken text → IsUnbroken other → text ++ 0 ∷ rest ≡ other ++ 0 ∷ left → (text ≡ other) × (rest ≡ left)
 cut_once [] [] rest left p q e = (refl, cc)
 cut_once [] (c ∷ cs) rest left p q e = let zero_there : c ≡ 0 = cc in absurd (q.0 zero_there)
@@ -93,7 +93,7 @@ cut_of (b ∷ bs) =
     onto other (whole_text all) = whole_text (other, all)
     onto other (cut_text text t) = cut_text (b ∷ text) (record { after = t.after; whole = λ i. b ∷ t.whole i; unbroken = (other, t.unbroken) })
 
--- a text has no `=`, or one behind its name
+-- a text has no `=`, or one after its name
 data Named (text : List ℕ) : Type 0 where
   nameless_text : AllByRecursion IsNameByte text → Named text
   named_text : (name value : List ℕ) → text ≡ name ++ 61 ∷ value → AllByRecursion IsNameByte name → IsUnbroken value → Named text
@@ -113,19 +113,19 @@ named_of (b ∷ bs) all =
 text_of-unbroken : (p : Pair) → IsVariable p → IsUnbroken (text_of p)
 text_of-unbroken p v = all-append (λ b. b ≢ 0) p.0 (61 ∷ p.1) (name-nul p.0 v.name) (λ e. omega (arith, e), v.value)
 
--- the row of one variable more
+-- the row with one variable more
 row_more : (p : Pair) (ps : List Pair) (body after rest : List ℕ) → body ≡ text_of p ++ 0 ∷ after → IsVariable p → IsRow after ps rest → IsRow body (p ∷ ps) rest
 row_more p ps body after rest e v row = record {
   whole = e ∙ (sym (entry-text p after) ∙ (ap (λ t. entry p ++ t) row.whole ∙ sym (append_assoc (entry p) (flat_map entry ps) rest)));
   each = (v, row.each);
 }
 
--- where a row begins with a variable, so does the body's first text
+-- if a row starts with a variable, so does the body's first text
 row_front : (body : List ℕ) (q : Pair) (qs : List Pair) (left : List ℕ) → IsRow body (q ∷ qs) left → (body ≡ text_of q ++ 0 ∷ (flat_map entry qs ++ left)) × IsVariable q
 row_front body q qs left row =
     (row.whole ∙ (append_assoc (entry q) (flat_map entry qs) left ∙ entry-text q (flat_map entry qs ++ left)), row.each.0)
 
--- Behind the longest row of a body, whose places count from `at`, stands a fault.
+-- A fault follows the longest row of a body, whose places count from `at`.
 record HasFault (at : ℕ) (body : List ℕ) : Type 0 where
   pairs : List Pair
   rest : List ℕ
@@ -133,7 +133,7 @@ record HasFault (at : ℕ) (body : List ℕ) : Type 0 where
   row : IsLongestRow body pairs rest
   fault_there : IsFaultAt (at + length (flat_map entry pairs)) rest fault
 
--- where the body begins with no entry
+-- the body starts with no entry
 no_entry : (at : ℕ) (body : List ℕ) (fault : Option DataError) → IsFaultAt (at + 0) body fault → ((q : Pair) (left : List ℕ) → IsVariable q → body ≡ text_of q ++ 0 ∷ left → ⊥) → HasFault at body
 no_entry at body fault t none = record {
   pairs = [];
@@ -148,7 +148,7 @@ no_entry at body fault t none = record {
     longest (q ∷ qs) left row =
         let front = row_front body q qs left row in absurd (none q (flat_map entry qs ++ left) front.1 front.0)
 
--- where it begins with one
+-- the body starts with one
 one_entry : (at : ℕ) (body : List ℕ) (p : Pair) (after : List ℕ) → IsVariable p → body ≡ text_of p ++ 0 ∷ after → HasFault (at + length (entry p)) after → HasFault at body
 one_entry at body p after v e h = record {
   pairs = p ∷ h.pairs;
@@ -193,7 +193,7 @@ none-there body all q left v e = at_nul (text_of q) (subst IsUnbroken e all)
     at_nul [] all = all.0 refl
     at_nul (b ∷ bs) all = at_nul bs all.1
 
--- the texts of two cuts of a body are one
+-- two cuts of a body have the same text
 same_text : (body text : List ℕ) (t : BeginsWithText body text) (q : Pair) (left : List ℕ) → IsVariable q → body ≡ text_of q ++ 0 ∷ left → text_of q ≡ text
 same_text body text t q left v e =
     sym (cut_once text (text_of q) t.after left t.unbroken (text_of-unbroken q v) (sym t.whole ∙ e)).0

@@ -73,7 +73,7 @@ no_low_bits h =
     let e7 : h * 256 / 128 % 2 ≡ 0 = omega arith in
     cc
 
--- The low eight bits decide what the shift combines, and the others move down.
+-- The low eight bits decide what the shift combines, and the others shift down.
 pub shifted_split : (x : ℕ) → shifted 8 x ≡ bit_xor (shifted 8 (x % 256)) (x / 256)
 shifted_split x =
     let h : ℕ = x / 256 in
@@ -84,7 +84,7 @@ shifted_split x =
     ∙ (ap (λ bits. bit_xor (fold after_bit (x % 256) bits) (h * 256 / 256)) (no_low_bits h)
     ∙ ap (bit_xor (shifted 8 (x % 256))) high))
 
--- so many tables: each but the first has the registers of the one before it after a byte that is 0
+-- this many tables: each but the first has the registers of the one before it after a byte that is 0
 abbrev rows : ℕ → List ℕ → List (List ℕ)
 rows zero row = []
 rows (suc n) row = row ∷ rows n (map (shifted 8) row)

@@ -12,7 +12,7 @@ use Rattle.envimage.specs.declared.config.ConfigError.TheVariants.{BadLine, NotT
 
 -- ---- numbers
 
--- one digit or more, all of the base, and a number of at most 9,223,372,036,854,775,807
+-- one digit or more, all of the base, that spell at most 9,223,372,036,854,775,807
 abbrev pub is_number_in : ℕ → List ℕ → Bool
 is_number_in base digits =
     not (length digits == 0)
@@ -46,7 +46,7 @@ size_of word = by (after_0x word)
 
 -- ---- lines
 
--- a line that is not skipped: it has a word, and does not begin with `#`
+-- a line that is not skipped: it has a word, and does not start with `#`
 abbrev pub is_place_line : List ℕ → Bool
 is_place_line line = by (words_of line)
   where
@@ -70,7 +70,7 @@ abbrev pub place_with : ℕ → List ℕ → Option ℕ → Option ℕ → Resul
 place_with number device (Some offset) (Some size) = Ok (record { device = device; offset = offset; size = size })
 place_with number device _ _ = Err (BadNumber number)
 
--- the place that the words of a line name; words after the third are not looked at
+-- the place that the words of a line name; words after the third are ignored
 abbrev pub place_of : ℕ → List (List ℕ) → Result PlaceShown ConfigError
 place_of number (device ∷ offset ∷ size ∷ more) =
     if is_text device then place_with number device (offset_of offset) (size_of size) else Err (NotText number)

@@ -27,24 +27,24 @@ pub record IsData (body : List ℕ) (pairs : List Pair) : Type 0 where
   pub whole : body ≡ flat_map entry pairs ++ ascii.nul ∷ filling
   pub each : AllByRecursion IsVariable pairs
 
--- The body begins with the entries of these variables, and goes on as the rest.
+-- The body starts with the entries of these variables, and goes on with the rest.
 pub record IsRow (body : List ℕ) (pairs : List Pair) (rest : List ℕ) : Type 0 where
   pub whole : body ≡ flat_map entry pairs ++ rest
   pub each : AllByRecursion IsVariable pairs
 
--- No row of entries that the body begins with is longer.
+-- The body starts with no longer row of entries.
 pub record IsLongestRow (body : List ℕ) (pairs : List Pair) (rest : List ℕ) : Type 0 where
   pub row : IsRow body pairs rest
   pub longest : (others : List Pair) (left : List ℕ) → IsRow body others left →
       length (flat_map entry others) ≤ length (flat_map entry pairs)
 
--- The rest begins with this text, which a NUL ends.
+-- The rest starts with this text, which a NUL ends.
 pub record BeginsWithText (rest text : List ℕ) : Type 0 where
   pub after : List ℕ
   pub whole : rest ≡ text ++ ascii.nul ∷ after
   pub unbroken : AllByRecursion (λ b. b ≢ ascii.nul) text
 
--- What is wrong at a place where no entry stands: nothing where the last NUL does.
+-- What is wrong at a place that has no entry: nothing, if the last NUL is there.
 abbrev pub IsFaultAt : ℕ → List ℕ → Option DataError → Type 0
 IsFaultAt at rest None = BeginsWithText rest []
 IsFaultAt at rest (Some NotTerminated) = AllByRecursion (λ b. b ≢ ascii.nul) rest
@@ -53,7 +53,7 @@ IsFaultAt at rest (Some (EmptyName place)) = (place ≡ at)
 IsFaultAt at rest (Some (NoEquals place)) =
     (place ≡ at) × ((text : List ℕ) × (BeginsWithText rest text) × (text ≢ []) × (AllByRecursion IsNameByte text))
 
--- The fault of a body is what is wrong behind its longest row of entries.
+-- The fault of a body is what is wrong after its longest row of entries.
 pub record IsFault (body : List ℕ) (fault : Option DataError) : Type 0 where
   pub pairs : List Pair
   pub rest : List ℕ
@@ -69,7 +69,7 @@ abbrev pub onto_first : ℕ → List (List ℕ) → List (List ℕ)
 onto_first b [] = []
 onto_first b (text ∷ texts) = (b ∷ text) ∷ texts
 
--- the texts that the NULs end; what stands after the last NUL is none
+-- the texts that NULs end; the bytes after the last NUL are no text
 abbrev pub texts_of : List ℕ → List (List ℕ)
 texts_of [] = []
 texts_of (b ∷ bs) = if is_nul b then [] ∷ texts_of bs else onto_first b (texts_of bs)

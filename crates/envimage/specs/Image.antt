@@ -1,4 +1,4 @@
--- Images: a stored checksum, in a pair a flag, and data.
+-- Images: a stored checksum, a flag if the image is a copy of a pair, and data.
 use Rattle.std.specs.Prelude.{◌≡◌, ℕ, ◌==◌, ◌&&◌, ◌||◌, not, nat_lt, nat_le, Bool, true, false, List, length, take, drop, slice_index, Option, None, Some, Result, Ok, Err, if◌then◌else◌}
 use Rattle.std.specs.Int.{w32, from_le_bytes, from_be_bytes, to_le_bytes, to_be_bytes}
 use Rattle.envimage.specs.Crc.{crc}
@@ -12,7 +12,7 @@ use Rattle.envimage.specs.declared.image.ImageError.{ImageError}
 use Rattle.envimage.specs.declared.image.ImageError.TheVariants.{WrongSize, BadCrc, Content}
 use Rattle.envimage.specs.declared.image.Loaded.{Loaded}
 
--- the checksum that a copy begins with
+-- the checksum that a copy starts with
 abbrev pub stored : ByteOrder → List ℕ → ℕ
 stored Little copy = from_le_bytes w32 (take 4 copy)
 stored Big copy = from_be_bytes w32 (take 4 copy)
@@ -21,7 +21,7 @@ abbrev pub stored_bytes : ByteOrder → ℕ → List ℕ
 stored_bytes Little crc = to_le_bytes w32 crc
 stored_bytes Big crc = to_be_bytes w32 crc
 
--- a copy is right where it begins with the checksum of what follows its header
+-- a copy is right if it starts with the checksum of what follows its header
 abbrev pub is_right : ByteOrder → ℕ → List ℕ → Bool
 is_right order header copy = stored order copy == crc (drop header copy)
 
@@ -92,7 +92,7 @@ then_checked (Ok which) show = checked (show which) (data_fault (show which).bod
 abbrev pub load_of : ByteOrder → List ℕ → Option (List ℕ) → Result LoadedShown ImageError
 load_of order first second = then_checked (chosen_of order first second) (loaded_shown_of order first second)
 
--- what a function answered, seen by view, is this answer
+-- a function's answer, seen by view, is this answer
 abbrev pub Gives : {X Y E : Type 0} → (X → Y) → Result X E → Result Y E → Type 0
 Gives view (Ok x) answer = answer ≡ Ok (view x)
 Gives view (Err e) answer = answer ≡ Err e

@@ -15,11 +15,11 @@ place_shown p = record { device = string_bytes p.device; offset = p.offset; size
 abbrev pub named_shown : NamedPlace → PlaceShown
 named_shown p = record { device = p.device.now; offset = p.offset; size = p.size }
 
--- the place lines that an iterator has left
+-- the place lines that an iterator still has to give
 abbrev pub places_left : Lines → List (ℕ × List ℕ)
 places_left s = filter (λ l. is_place_line l.1) (lines_left s)
 
--- The answer is that of the definition; memory is refused where there are places.
+-- The answer is that of the definition. Memory can run out only if there are places.
 abbrev pub AnswersPlaces : Result (List PlaceShown) ConfigError → Result (Vec Place Global) ConfigError → Type 0
 AnswersPlaces answer (Ok v) = answer ≡ Ok (map place_shown v.items)
 AnswersPlaces answer (Err (BadLine n)) = answer ≡ Err (BadLine n)

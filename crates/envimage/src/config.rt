@@ -13,16 +13,16 @@ use std::alloc::{AllocError, Global};
 use text::{Lines, next_word};
 use thiserror::Error;
 
-/// Why a configuration was refused. Lines count from 1, skipped ones included.
+/// Why a configuration was refused. Lines count from 1, and skipped lines count too.
 #[derive(Clone, Copy, Debug, Drop, PartialEq, Eq, Error)]
 pub enum ConfigError {
     /// The line has fewer than three words.
     #[error("config line {0}: bad line")]
     BadLine(usize),
-    /// The device's name is no UTF-8.
+    /// The device's name is not UTF-8.
     #[error("config line {0}: not text")]
     NotText(usize),
-    /// The offset or the size is no number, or is too large.
+    /// The offset or the size is not a number, or is too large.
     #[error("config line {0}: bad number")]
     BadNumber(usize),
     /// No line names a place.
@@ -31,10 +31,10 @@ pub enum ConfigError {
     /// The size is out of its range.
     #[error("config line {0}: size out of range")]
     SizeOutOfRange(usize),
-    /// The two places have two sizes.
+    /// The two places differ in size.
     #[error("config sizes differ")]
     UnequalSizes,
-    /// A growth was refused.
+    /// Memory ran out.
     #[error("out of memory")]
     Memory,
 }
@@ -44,9 +44,9 @@ pub enum ConfigError {
 pub struct Place {
     /// The file or the device.
     pub device: String,
-    /// Where the image begins in it, in bytes.
+    /// Where the image starts in it, in bytes.
     pub offset: u64,
-    /// The image's size in bytes, its header counted.
+    /// The image's size in bytes, with its header.
     pub size: usize,
 }
 
@@ -58,7 +58,7 @@ struct NamedPlace<'a> {
     size: usize,
 }
 
-/// Whether a line is not skipped: it has a word, and does not begin with `#`.
+/// Whether a line is not skipped: it has a word, and does not start with `#`.
 fn is_place_line(line: &[u8]) -> bool
     ensures { result ≡ is_place_line line.now }
 {
@@ -104,7 +104,7 @@ fn text_of(bytes: &[u8]) -> Option<&str>
     }
 }
 
-/// The place of a line whose numbers were read.
+/// The place of a line, from its device and its two numbers. Errors: `BadNumber` if one is missing.
 fn place_with(
     number: usize,
     device: &str,
@@ -124,7 +124,7 @@ fn place_with(
     }
 }
 
-/// The place that a line names.
+/// The place that a line names. Errors in order: `BadLine`, `NotText`, `BadNumber`.
 fn place_in(number: usize, line: &[u8]) -> Result<NamedPlace<'_>, ConfigError>
     ensures { Gives named_shown result (place_of number (words_of line.now)) }
 {
@@ -138,7 +138,7 @@ fn place_in(number: usize, line: &[u8]) -> Result<NamedPlace<'_>, ConfigError>
 }
 
 impl NamedPlace<'_> {
-    /// A place of its own.
+    /// The place with a device name that it owns.
     fn owned(&self, alloc: Global) -> Result<Place, AllocError>
         ensures { IfOk result (λ p. place_shown p ≡ named_shown self.now) }
     {
@@ -151,7 +151,7 @@ impl NamedPlace<'_> {
     }
 }
 
-/// Places of their own.
+/// The places with device names that they own.
 fn owned_all(alloc: Global, places: &[NamedPlace<'_>]) -> Result<Vec<Place>, AllocError>
     ensures { IfOk result (λ v. map place_shown v.items ≡ map named_shown places.now) }
 {
@@ -162,7 +162,7 @@ fn owned_all(alloc: Global, places: &[NamedPlace<'_>]) -> Result<Vec<Place>, All
     Ok(list)
 }
 
-/// The list of some places.
+/// The list of these places. Errors: `Memory`.
 fn list_of(alloc: Global, places: &[NamedPlace<'_>]) -> Result<Vec<Place>, ConfigError>
     ensures { AnswersPlaces (Ok (map named_shown places.now)) result }
 {
@@ -172,7 +172,7 @@ fn list_of(alloc: Global, places: &[NamedPlace<'_>]) -> Result<Vec<Place>, Confi
     }
 }
 
-/// The list of the one place of a single image.
+/// The list of the one place of a single image. Errors in order: `SizeOutOfRange`, `Memory`.
 fn single(alloc: Global, number: usize, place: NamedPlace<'_>) -> Result<Vec<Place>, ConfigError>
     ensures { AnswersPlaces (single number (Ok (named_shown place.entry))) result }
 {
@@ -182,7 +182,8 @@ fn single(alloc: Global, number: usize, place: NamedPlace<'_>) -> Result<Vec<Pla
     list_of(alloc, &[place])
 }
 
-/// The list of the two places of a redundant pair.
+/// The list of the two places of a redundant pair. Errors in order: `SizeOutOfRange` of the first,
+/// then of the second; `UnequalSizes`; `Memory`.
 fn pair(
     alloc: Global,
     numbers: (usize, usize),
@@ -203,13 +204,14 @@ fn pair(
     list_of(alloc, &[first, second])
 }
 
-/// The places that a configuration names: lines `device offset size`, whose further words are not
-/// looked at. Words are separated by spaces, tabs and carriage returns. Lines without a word, and
-/// lines that begin with `#`, are skipped. One place line means a single image, two a redundant
-/// pair; further lines are not read.
+/// Reads the places that a configuration names, in lines `device offset size`. Spaces, tabs and
+/// carriage returns separate words. Words after the third are ignored. Lines without a word, and
+/// lines that start with `#`, are skipped. One place line means a single image, two mean a
+/// redundant pair. Further lines are not read.
 ///
 /// Refusals in order: for each of the first two place lines `BadLine`, `NotText`, `BadNumber`; then
-/// `NoPlace`; then `SizeOutOfRange` of the first, then of the second; then `UnequalSizes`.
+/// `NoPlace`; then `SizeOutOfRange` of the first, then of the second; then `UnequalSizes`; then
+/// `Memory`.
 #[tactic(auto, using(crate::proofs::ConfigLemmas::lists))]
 pub fn parse_config(alloc: Global, text: &[u8]) -> Result<Vec<Place>, ConfigError>
     ensures { AnswersPlaces (places text.now) result }

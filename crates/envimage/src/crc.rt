@@ -13,7 +13,7 @@ fn after_byte(register: u32, byte: u8) -> u32
     TABLES[0][low as usize] ^ (register >> 8)
 }
 
-// The register after four zero bytes and so many more.
+// The register after four zero bytes and this many more.
 #[tactic(auto, using(crate::proofs::BlockLemmas::by_tables))]
 fn after_word(register: u32, zeros: usize) -> u32
     requires { zeros ≤ 12 }
@@ -25,7 +25,7 @@ fn after_word(register: u32, zeros: usize) -> u32
         ^ TABLES[zeros + 3][(register & 0xff) as usize]
 }
 
-// The register after 16 more bytes. What needs the register comes last, since it is waited for.
+// The register after 16 more bytes. What needs the register comes last, since it is ready last.
 #[tactic(auto, using(crate::proofs::BlockLemmas::by_block))]
 fn after_block(register: u32, block: &[u8; 16]) -> u32
     ensures { result ≡ register_after register block.now }
@@ -56,7 +56,7 @@ fn after_bytes(register: u32, bytes: &[u8]) -> u32
 }
 
 /// The CRC-32 of zlib over the bytes: reflected polynomial edb88320, all bits set at the start and
-/// flipped at the end. Of `123456789` it is cbf43926. It takes no memory.
+/// flipped at the end. For `123456789` it is cbf43926. Takes no memory.
 #[tactic(auto, using(crate::proofs::CrcLemmas::fold_parts))]
 pub fn crc32(bytes: &[u8]) -> u32
     ensures { result ≡ crc bytes.now }

@@ -1,6 +1,6 @@
 //! The tables of `crc32`.
 
-/// Of each byte, the register after it and after so many zero bytes.
+/// Each table gives, for each byte, the register after it and after a fixed number of zero bytes.
 pub static TABLES: [[u32; 256]; 16] = [
     [
         0x00000000, 0x77073096, 0xee0e612c, 0x990951ba, 0x076dc419, 0x706af48f, 0xe963a535,

@@ -10,7 +10,7 @@ use crate::crc::crc32;
 use crate::image::{ByteOrder, COPY_HEADER, ImageError, SINGLE_HEADER, is_size};
 use std::alloc::{AllocError, Global};
 
-/// The length of the entries of the pairs, as far as it can be counted.
+/// The length of the entries of the pairs, or the greatest number if that is smaller.
 fn entries_len(pairs: &[(&[u8], &[u8])]) -> usize
     ensures { result ≡ min (length (flat_map entry (map pair_at pairs.now))) (2 ^ 64 - 1) }
 {
@@ -24,7 +24,7 @@ fn entries_len(pairs: &[(&[u8], &[u8])]) -> usize
     total
 }
 
-/// What ends an entry, what ends the data, and what fills the rest of an image.
+/// The byte that ends an entry, that ends the data, and that fills the rest of an image.
 const ENTRY_END: u8 = 0;
 
 const DATA_END: u8 = 0;
@@ -72,8 +72,8 @@ fn crc_bytes(crc: u32, order: ByteOrder) -> [u8; 4]
     }
 }
 
-/// The image of these variables, of this size in bytes, its header counted: the checksum in its byte
-/// order, the flag where it is a copy of a redundant pair, the entries, a NUL and zero bytes.
+/// Makes the image of these variables, of this size in bytes with its header: the checksum in its
+/// byte order, the flag if it is a copy of a redundant pair, the entries, a NUL and zero bytes.
 ///
 /// Refusals in order: `WrongSize`, `TooLarge`, `Memory`.
 pub fn encode(

@@ -16,7 +16,7 @@ pub const SINGLE_MIN: usize = 5;
 /// The least size of a copy of a redundant pair, in bytes.
 pub const COPY_MIN: usize = 6;
 
-/// The greatest size of an image, in bytes, its header counted.
+/// The greatest size of an image in bytes, with its header.
 pub const SIZE_MAX: usize = 1_048_576;
 
 pub(crate) const SINGLE_HEADER: usize = 4;
@@ -44,7 +44,7 @@ pub enum Which {
 /// Why an image was refused.
 #[derive(Clone, Copy, Debug, PartialEq, Eq, Error)]
 pub enum ImageError {
-    /// The size is out of its range, or two copies differ in length.
+    /// The size is out of its range, or the two copies differ in length.
     #[error("wrong image size")]
     WrongSize,
     /// No copy has a right checksum.
@@ -56,7 +56,7 @@ pub enum ImageError {
     /// The variables do not fit the image.
     #[error("environment is too large")]
     TooLarge,
-    /// A growth was refused.
+    /// Memory ran out.
     #[error("out of memory")]
     Memory,
 }
@@ -85,14 +85,14 @@ impl<T: Drop> From<AllocFailed<T>> for ImageError {
     }
 }
 
-/// What an image holds, or the copy of a pair that is current.
+/// What an image holds, or the current copy of a pair.
 #[derive(Clone, Copy, Debug)]
 pub struct Loaded<'a> {
     /// Which copy is current.
     pub which: Which,
     /// Its flag; a single image has none.
     pub flag: Option<u8>,
-    /// The byte order that it was read in.
+    /// The byte order in which it was read.
     pub order: ByteOrder,
     /// Its data, which has no fault.
     pub body: &'a [u8],
@@ -148,7 +148,7 @@ fn current_copy(first: &[u8], second: &[u8], order: ByteOrder) -> Option<Which>
     }
 }
 
-/// Finds the current copy.
+/// Finds the current copy. Errors in order: `WrongSize`, `BadCrc`.
 fn choose(first: &[u8], second: Option<&[u8]>, order: ByteOrder) -> Result<Which, ImageError>
     ensures { result ≡ chosen_of order first.now (option_copied second.entry) }
 {
@@ -172,11 +172,11 @@ fn choose(first: &[u8], second: Option<&[u8]>, order: ByteOrder) -> Result<Which
 }
 
 /// Reads a single image, or the two copies of a redundant pair, and checks the data of the current
-/// copy alone. A copy is right where its first four bytes are the CRC-32 of what follows its header;
-/// the flag byte is not covered. If both copies are right the flags decide: the second is current
-/// where they are 255 and 0, or where its flag is greater and they are not 0 and 255.
+/// copy only. A copy is right if its first four bytes are the CRC-32 of what follows its header;
+/// the CRC does not cover the flag. If both copies are right, the flags decide. The second copy is
+/// current if the flags are 255 and 0, or if its flag is greater and they are not 0 and 255.
 ///
-/// Refusals in order: `WrongSize`, `BadCrc`, `Content`. It takes no memory.
+/// Refusals in order: `WrongSize`, `BadCrc`, `Content`. Takes no memory.
 pub fn load<'a>(
     first: &'a [u8],
     second: Option<&'a [u8]>,

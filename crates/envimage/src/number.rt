@@ -17,7 +17,7 @@ fn all_of_base(base: u64, digits: &[u8]) -> bool
     digits.iter().all(|digit| digit_of(*digit) < base)
 }
 
-/// The number of one digit or more of a base.
+/// The number that one digit or more of a base spell, if it is not too great.
 fn number_in(base: u64, digits: &[u8]) -> Option<u64>
     requires { 1 ≤ base }
     ensures { result ≡ number_in base digits.now }

@@ -47,7 +47,7 @@ not-there m k below = grind (arith, nat_tests)
 there : (m : ℕ) → eqb m m ≡ true
 there m = grind (arith, nat_tests)
 
--- a variable that holds at one place has not the name of one that holds at another
+-- a variable that holds at one place has a different name from one that holds at another
 apart-from : (f : List ℕ → Option ℕ) (name other : List ℕ) (i at : ℕ) → f name ≡ Some i → eqb i at ≡ false → is_place (f other) at ≡ true → same name other ≡ false
 apart-from f name other i at placed ne holds =
     elim (cases_Bool (same name other)) [
@@ -171,7 +171,7 @@ place-there f items name i d placed =
     let len = length-seen items in
     omega (arith, within, len)
 
--- the same of what the fields hold
+-- the same for what the fields hold
 module _ (f g : List ℕ → Option ℕ) (items new : List (Bytes × Bytes)) (key kept : Bytes) (name value : List ℕ) (last : ℕ)
     (at : last ≡ length items) (pushed : new ≡ items ++ (key, kept) ∷ []) (named : key.items ≡ name) (valued : kept.items ≡ value) (moved : IsMoved f name (Some last) g) where
   written : seen new ≡ seen items ++ (name, value) ∷ []
@@ -220,7 +220,7 @@ value-some f name i p placed this at (suc k) (q ∷ qs) e found =
       | inr stale ↦ rw stale rest
     ]
 
--- what is written at a name's place
+-- what is written at the place of a name
 pub value-found : (f : List ℕ → Option ℕ) (log : List Pair) (name : List ℕ) (i : ℕ) (p : Pair) → IsDraft f log → f name ≡ Some i → slice_get log i ≡ Some p → value_of (held f 0 log) name ≡ Some p.1
 value-found f log name i p d placed found =
     value-some f name i p placed (subst (λ o. IsNamed name o) found (d.placed name i placed)) 0 i log (omega arith) found
@@ -237,7 +237,7 @@ put-suc (q ∷ qs) (suc at) p d e =
 pub put-next : (ps : List Pair) (at : ℕ) (p : Pair) → HasDistinctNames ps → slice_get ps at ≡ Some p → put (take at ps) p.0 p.1 ≡ take (at + 1) ps
 put-next ps at p d e = rw add-one (put-suc ps at p d e)
 
--- a written variable, as the map's entries show it
+-- a written variable, as the entries of the map show it
 pub seen-at : (items : List (Bytes × Bytes)) (at : ℕ) (e : Bytes × Bytes) → slice_get items at ≡ Some e → slice_get (seen items) at ≡ Some (e.0.items, e.1.items)
 seen-at [] at e found = cc
 seen-at (x ∷ xs) zero e found = let one : x ≡ e = cc in ap (λ y. Some (y.0.items, y.1.items)) one
@@ -304,7 +304,7 @@ held-front : (f : List ℕ → Option ℕ) (log : List Pair) (at : ℕ) (p : Pai
 held-front f log at p e =
     ap (held f 0) (take-next log at p e) ∙ (held-pushed f (take at log) p ∙ ap (λ n. held f 0 (take at log) ++ cond (is_place (f p.0) n) (p ∷ []) []) (length-front at log p e))
 
--- one that does not hold adds nothing
+-- a variable that does not hold adds nothing
 pub held-stale : (f : List ℕ → Option ℕ) (log : List Pair) (at : ℕ) (p : Pair) → slice_get log at ≡ Some p → f p.0 ≢ Some at → held f 0 (take at log) ≡ held f 0 (take (at + 1) log)
 held-stale f log at p e stale =
     let other : is_place (f p.0) at ≡ false = by (f p.0) stale in
@@ -318,7 +318,7 @@ held-stale f log at p e stale =
           | inr other ↦ other
         ]
 
--- one that holds is new to those before it
+-- a variable that holds is new to those before it
 pub held-next : (f : List ℕ → Option ℕ) (log : List Pair) (at : ℕ) (p : Pair) → slice_get log at ≡ Some p → f p.0 ≡ Some at → assigned (held f 0 (take at log)) p.0 p.1 ≡ held f 0 (take (at + 1) log)
 held-next f log at p e holds =
     let here : is_place (f p.0) at ≡ true = ap (λ o. is_place o at) holds ∙ there at in

@@ -1,4 +1,4 @@
--- The environment of a list of pairs, made one pair after another.
+-- The environment of a list of pairs, made by adding one pair after another.
 use Rattle.std.proofs.Common.{◌≡◌, ℕ, zero, suc, ◌+◌, take, add-one, length, length-append, arith, true, false, cond, fold, inl, inr, List, [], ◌∷◌, ◌++◌, Option, None, Some, refl, sym, ap, subst, ◌∙◌, append_assoc}
 use Rattle.std.specs.Prelude.{unwrap_or, slice_get}
 use Rattle.std.specs.List.{AllByRecursion, flat_map}
@@ -12,7 +12,7 @@ use Rattle.envtools.specs.Environment.{value_of, dropped, assigned, env_of, same
 itself : (name : List ℕ) → same name name ≡ true
 itself name = (bytes_decides name name).1 refl
 
--- two names that are one differ from the same names
+-- two equal names differ from the same names
 same-other : (a b c : List ℕ) → same a b ≡ true → same a c ≡ false → same c b ≡ false
 same-other a b c e ne = ap (λ n. same c n) (sym ((bytes_decides a b).0 e)) ∙ (nat_list_eq_equiv.symm c a ∙ ne)
 
@@ -86,7 +86,7 @@ fold-assigned pairs = fold-more [] pairs
 
 -- ---- one name, read from all the pairs
 
--- a pair of the name has its value, and any other leaves what was found
+-- a pair of this name gives its value, and any other pair keeps what was found before
 abbrev pub last_value : List ℕ → Option (List ℕ) → Pair → Option (List ℕ)
 last_value name found p = cond (same name p.0) (Some p.1) found
 
@@ -109,7 +109,7 @@ last_value-more name env (p ∷ left) =
 pub fold-last_value : (name : List ℕ) (pairs : List Pair) → fold (last_value name) None pairs ≡ value_of (env_of pairs) name
 fold-last_value name pairs = last_value-more name [] pairs ∙ ap (λ env. value_of env name) (fold-assigned pairs)
 
--- ---- an environment that is copied
+-- ---- a copy of an environment
 
 pub all-at : (P : Pair → Type 0) (ps : List Pair) (at : ℕ) (p : Pair) → AllByRecursion P ps → slice_get ps at ≡ Some p → P p
 all-at P [] at p all e = absurd (none-some p e)

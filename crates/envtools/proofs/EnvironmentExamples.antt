@@ -10,7 +10,7 @@ use Rattle.envtools.specs.declared.script.ScriptError.TheVariants.{BadName, BadV
 
 -- ---- scripts
 
--- a script of four lines, and its faulty fifth
+-- a script of four lines, and a fifth that is faulty
 four_lines : scripted ((codes "a", codes "0") ∷ []) (codes "# c\na\nb  x  y\nc=1") ≡ record { env = ((codes "b", codes "x  y") ∷ (codes "c", codes "1") ∷ []); fault = None }
 four_lines = refl
 
@@ -98,7 +98,7 @@ flag_wraps_copy = refl
 flag_wraps : saved_image ((codes "a", codes "3") ∷ []) (record { which = Second; flag = (Some 255); order = Little; body = 0x61 ∷ 0x3d ∷ 0x32 ∷ 0 ∷ 0 ∷ [] }) ≡ (0x55 ∷ 0xd2 ∷ 0x1c ∷ 0x46 ∷ 0x00 ∷ 0x61 ∷ 0x3d ∷ 0x33 ∷ 0x00 ∷ 0x00 ∷ [])
 flag_wraps = refl
 
--- ---- a write that is broken off
+-- ---- a write that breaks off
 
 nothing_written : half_written (codes "old") 0 (codes "new") ≡ codes "old"
 nothing_written = refl

@@ -1,4 +1,4 @@
--- A redundant pair with other bytes in the place of its spare copy.
+-- A redundant pair with other bytes in place of its spare copy.
 use Rattle.std.proofs.Common.{◌≡◌, ◌≤◌, ◌<◌, ℕ, ◌+◌, ◌%◌, ◌==◌, Bool, true, false, ◌-◌, List, length, length-take, length-drop, take, eqb-true, drop, Option, None, Some, Ok, refl, sym, ap, subst, ◌∙◌, arith, eq-eqb, inl, inr}
 use Rattle.std.specs.Prelude.{slice_index}
 use Rattle.std.proofs.lemmas.Bool.{cases_Bool, cases_eq}
@@ -14,7 +14,7 @@ use Rattle.envimage.specs.declared.image.Which.TheVariants.{First, Second}
 use Rattle.envimage.proofs.RoundTrip.{encoded_is_right, data_is_read_back, length-image_of, flag-there}
 use Rattle.envtools.specs.Saving.{FrontMayStand, SpareMayBreak, SavedIsLoaded, half_written, spare_of, with_spare, load_pair, size_of, next_flag, copy_to_write, other_copy, saved_image}
 
--- what loading a pair says of it, by the copy that is current
+-- what loading a pair gives, by the copy that is current
 record LoadedFirst (order : ByteOrder) (first second : List ℕ) (s : LoadedShown) : Type 0 where
   size : is_size 6 (length first) ≡ true
   equal : (length first == length second) ≡ true
@@ -176,7 +176,7 @@ saved_is_loaded order first second loaded env h f g all fits = by loaded (loadin
           (data_is_read_back env (size - needed (Some flag) env) all).1,
         )
 
--- ---- a front of what is saved stands over the spare copy
+-- ---- the spare copy starts with a prefix of what is saved
 
 length-half_written : (copy bytes : List ℕ) (n : ℕ) → length bytes ≡ length copy → length (half_written copy n bytes) ≡ length copy
 length-half_written copy bytes n same =
@@ -206,7 +206,7 @@ front_may_stand order first second loaded env n h fits =
       | inr broken ↦ inl (spare_may_break order first second spare loaded h len broken)
     ]
 
--- of a pair the copy that was not loaded is written
+-- a change of a pair writes the copy that was not loaded
 pub spare-is-written : (order : ByteOrder) (first second : List ℕ) (s : LoadedShown) → load_of order first (Some second) ≡ Ok s → copy_to_write s ≡ other_copy s.which
 spare-is-written order first second s h =
     let P : LoadedShown → Type 0 = λ t. copy_to_write t ≡ other_copy t.which in

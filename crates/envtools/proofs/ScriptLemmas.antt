@@ -84,7 +84,7 @@ split-some (b ∷ bs) =
       | inr goes ↦ (b ∷ more.0, more.1, rw (goes, more.2) refl)
     ]
 
--- nothing is changed where the first line is refused
+-- if the first line is refused, nothing changes
 pub untouched : (env : List Pair) (text : List ℕ) → AppliesScript env text env (Err Memory)
 untouched env text =
     let first = split-some text in

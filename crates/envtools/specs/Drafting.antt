@@ -1,5 +1,5 @@
--- A draft of an environment: variables are written one behind another, and each name has the place of
--- the one that holds, or none. Ours.
+-- A draft of an environment. Variables are written one after another, and the index says for each name at which place
+-- the variable is that holds, if there is one. Ours.
 use Rattle.std.specs.Prelude.{◌≡◌, ℕ, suc, Bool, false, true, ◌==◌, List, [], ◌∷◌, Option, None, Some, if◌then◌else◌, slice_get, Vec}
 use Rattle.std.specs.Map.{lookup}
 use Rattle.std.specs.declared.alloc.Global.{Global}
@@ -19,7 +19,7 @@ abbrev pub is_place : Option ℕ → ℕ → Bool
 is_place None at = false
 is_place (Some place) at = place == at
 
--- the variables that hold, of a list whose first stands at the place `at`
+-- the variables of a list that hold, when the first of the list is at the place `at`
 abbrev pub held : (List ℕ → Option ℕ) → ℕ → List Pair → List Pair
 held place at [] = []
 held place at (p ∷ ps) = if is_place (place p.0) at then p ∷ held place (suc at) ps else held place (suc at) ps

@@ -16,22 +16,22 @@ ends_name b = (b == ascii.equals) || is_space b
 abbrev pub is_return : ℕ → Bool
 is_return b = b == ascii.carriage_return
 
--- The name before the first blank or `=`, and what follows that byte and the blanks behind it.
+-- The name before the first blank or `=`, and what follows that byte and the blanks after it.
 abbrev pub name_and_value : List ℕ → List ℕ × List ℕ
 name_and_value text = let len = position_or_len ends_name text in
     (take len text, cut_front is_space (drop (len + 1) text))
 
--- a line of nothing but blanks is skipped
+-- a line that has only blanks is skipped
 abbrev pub change_of : List ℕ → Option (List ℕ × List ℕ)
 change_of [] = None
 change_of (b ∷ bs) = Some (name_and_value (b ∷ bs))
 
--- and so is one that begins with `#`
+-- and so is one that starts with `#`
 abbrev pub uncommented : List ℕ → Option (List ℕ × List ℕ)
 uncommented [] = None
 uncommented (b ∷ bs) = if b == ascii.hash then None else change_of (cut_front is_space (b ∷ bs))
 
--- the change that a line makes, without the carriage returns at its end: a name and its new value
+-- the change that a line makes, without the carriage returns at the end of the line: a name and its new value
 abbrev pub line_change : List ℕ → Option (List ℕ × List ℕ)
 line_change line = uncommented (cut_behind is_return line)
 
@@ -42,7 +42,7 @@ after_line env number (Some change) =
     if not (is_name change.0) then Err (BadName number)
     else (if not (is_value change.1) then Err (BadValue number) else Ok (changed_to env change.0 change.1))
 
--- the environment that a script reaches, and the fault that it stops at
+-- the environment that a script reaches, and the fault at which it stops
 pub record Reached : Type 0 where
   pub env : List Pair
   pub fault : Option ScriptError
@@ -68,7 +68,7 @@ AppliesLine old number change new (Err (BadName n)) = (after_line old number cha
 AppliesLine old number change new (Err (BadValue n)) = (after_line old number change ≡ Err (BadValue n)) × (new ≡ old)
 AppliesLine old number change new (Err Memory) = new ≡ old
 
--- the environment after the lines before a refused one, none of which is faulty
+-- the environment after the lines before a refused one; none of these lines is faulty
 pub record StoppedBehind (old : List Pair) (text : List ℕ) (new : List Pair) : Type 0 where
   pub before : List (ℕ × List ℕ)
   pub refused : ℕ × List ℕ

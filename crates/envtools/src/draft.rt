@@ -11,16 +11,16 @@ use indexmap::IndexMap;
 use std::alloc::{AllocError, Global};
 use std::marker::Model;
 
-/// The place of each name's variable among those written; a deleted name has none.
+/// The place of each name's variable among the written ones. A deleted name has none.
 type Places = IndexMap<Vec<u8>, Option<usize>>;
 
 /// The variables of an environment.
 type Variables = IndexMap<Vec<u8>, Vec<u8>>;
 
-/// The variables of an environment while many changes are made. Each change takes the time of its
-/// name and value alone: a variable that moves is written again behind the others, and `places` says
-/// which one holds. `room` is empty and has room for all that is written, so that the environment is
-/// made of a draft without memory.
+/// The variables of an environment while a script makes many changes. Each change takes time for
+/// its own name and value only: a variable that moves is written again after the others, and
+/// `places` says which one holds. `room` is empty and has room for all that is written, so that
+/// turning a draft into an environment takes no memory.
 #[derive(Drop)]
 pub struct Draft {
     alloc: Global,
@@ -44,7 +44,7 @@ impl Model for Draft {
 }
 
 impl Draft {
-    /// A draft without variables. It takes no memory.
+    /// A draft without variables. Takes no memory.
     fn new(alloc: Global) -> Self
         ensures { result ≡ [] }
     {
@@ -56,7 +56,7 @@ impl Draft {
         }
     }
 
-    /// A draft of an environment's variables.
+    /// A draft of an environment's variables. Errors: memory ran out.
     pub fn of(env: &Env) -> Result<Self, AllocError>
         ensures { IfOk result (λ draft. draft ≡ env.now) }
     {
@@ -112,8 +112,8 @@ impl Draft {
         Ok(())
     }
 
-    /// Gives a name a value: an empty one deletes, the one that it has changes nothing, and with any
-    /// other the variable goes last. An error changes nothing.
+    /// Gives a name a value: an empty one deletes, the one that it has changes nothing, and with
+    /// any other the variable goes last. An error changes nothing.
     pub fn change(&mut self, name: &[u8], value: &[u8]) -> Result<(), AllocError>
         requires name { is_name name.now ≡ true }
         requires value { is_value value.now ≡ true }
@@ -129,7 +129,7 @@ impl Draft {
         self.put(name, value)
     }
 
-    /// The environment of the variables that hold, in order. It takes no memory.
+    /// Turns the draft into the environment of the variables that hold, in order. Takes no memory.
     pub fn into_env(self) -> Env
         ensures { result ≡ self }
     {
@@ -143,7 +143,7 @@ impl Draft {
     }
 }
 
-/// The place of the variable of a name, or that there is none.
+/// The place of a name's variable, or `None` if the name has none.
 fn place_of(places: &Places, name: &[u8]) -> Option<usize>
     ensures { result ≡ place_of places.now.entries name.now }
 {
@@ -168,7 +168,7 @@ fn move_to(
     Ok(())
 }
 
-/// Gives a name a value, in room that is there. It takes no memory.
+/// Gives a name a value, in room that was kept for it. Takes no memory.
 fn assign(variables: &mut Variables, name: Vec<u8>, value: Vec<u8>)
     requires { 0 < spare variables.old }
     ensures assigned { map (λ p. (p.0.items, p.1.items)) variables.new.entries
@@ -178,7 +178,7 @@ fn assign(variables: &mut Variables, name: Vec<u8>, value: Vec<u8>)
     variables.insert(name, value).unwrap();
 }
 
-/// The written variables that stand at their name's place, put into the room for them.
+/// Moves the written variables that hold into the room for them, in order.
 fn held(written: Vec<(Vec<u8>, Vec<u8>)>, places: &Places, room: Variables) -> Variables
     requires draft { IsDraft (place_of places.now.entries) (map (λ p. (p.0.items, p.1.items)) written.items) }
     requires empty { room.entries ≡ [] }

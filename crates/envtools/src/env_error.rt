@@ -1,4 +1,4 @@
-//! Why an environment or a change of it is refused.
+//! Why reading or changing an environment is refused.
 use envimage::DataError;
 use std::alloc::{AllocError, AllocFailed};
 use thiserror::Error;
@@ -9,13 +9,13 @@ pub enum EnvError {
     /// The data has this fault.
     #[error("{0}")]
     Content(DataError),
-    /// The name is empty, or holds `=` or NUL.
+    /// The name is empty, or holds `=` or a NUL.
     #[error("bad name")]
     BadName,
-    /// The value holds NUL.
+    /// The value holds a NUL.
     #[error("bad value")]
     BadValue,
-    /// A growth was refused.
+    /// Memory ran out.
     #[error("out of memory")]
     Memory,
 }

@@ -28,7 +28,7 @@ fn next_flag(flag: Option<u8>) -> Option<u8>
     }
 }
 
-/// The copy that is not current; of a single image the image itself.
+/// The copy of a pair that is not current, or the single image itself.
 fn copy_to_write(loaded: &Loaded<'_>) -> Which
     ensures { result ≡ copy_to_write (loaded_shown loaded.now) }
 {
@@ -39,9 +39,9 @@ fn copy_to_write(loaded: &Loaded<'_>) -> Which
     }
 }
 
-/// Which copy to write for this environment, and its bytes: of a redundant pair the copy that is not
-/// current, with the current flag plus one, modulo 256. The size and the byte order are those of
-/// what was loaded.
+/// Which copy to write for this environment, and its bytes: of a redundant pair the copy that is
+/// not current, with the current flag plus one, modulo 256. The size and the byte order are those
+/// of the loaded image.
 ///
 /// Refusals in order: `TooLarge`, `Memory`.
 pub fn save(alloc: Global, env: &Env, loaded: &Loaded<'_>) -> Result<(Which, Vec<u8>), ImageError>

@@ -11,16 +11,16 @@ use std::alloc::AllocError;
 use text::{Lines, cut_behind, cut_front, is_space};
 use thiserror::Error;
 
-/// Why a script was refused. Lines count from 1, skipped ones included.
+/// Why a script was refused. Lines count from 1, and skipped lines count too.
 #[derive(Clone, Copy, Debug, Drop, PartialEq, Eq, Error)]
 pub enum ScriptError {
-    /// The line's name is empty, or holds NUL.
+    /// The line's name is empty, or holds a NUL.
     #[error("script line {0}: bad name")]
     BadName(usize),
-    /// The line's value holds NUL.
+    /// The line's value holds a NUL.
     #[error("script line {0}: bad value")]
     BadValue(usize),
-    /// A growth was refused.
+    /// Memory ran out.
     #[error("out of memory")]
     Memory,
 }
@@ -50,7 +50,7 @@ fn without_returns(line: &[u8]) -> &[u8]
     cut_behind(line, |byte| byte == b'\r')
 }
 
-/// What follows the spaces and tabs at the front.
+/// A text without the spaces and tabs at its start.
 fn without_spaces(text: &[u8]) -> &[u8]
     ensures { result.now ≡ cut_front is_space text.now }
 {
@@ -64,7 +64,7 @@ fn name_end(text: &[u8]) -> Option<usize>
     text.iter().position(|byte| ends_name(*byte))
 }
 
-/// The name that a text begins with, and the value behind it.
+/// The name with which a text starts, and the value after it.
 #[tactic(auto, using(crate::proofs::ScriptLemmas::names))]
 fn name_and_value(text: &[u8]) -> (&[u8], &[u8])
     ensures { (result.0.now, result.1.now) ≡ name_and_value text.now }
@@ -108,7 +108,7 @@ fn apply_line(draft: &mut Draft, number: usize, line: &[u8]) -> Result<(), Scrip
     Ok(())
 }
 
-/// Makes the changes of a script's lines, up to the first that is refused.
+/// Makes the changes of a script's lines, up to the first refused one.
 fn apply_lines(draft: &mut Draft, text: &[u8]) -> Result<(), ScriptError>
     ensures { AppliesScript draft.old text.now draft.new result }
 {
@@ -118,15 +118,15 @@ fn apply_lines(draft: &mut Draft, text: &[u8]) -> Result<(), ScriptError>
     Ok(())
 }
 
-/// Makes the changes of a script, one a line. Carriage returns at a line's end are dropped. A line
-/// that begins with `#`, and one of nothing but spaces and tabs, is skipped. Blanks in front are
-/// skipped; the name ends before the first blank or `=`, that byte and blanks behind it are dropped,
-/// and the rest is the value, as it is. No value, or an empty one, deletes. A later line acts on what
-/// earlier ones left.
+/// Makes the changes of a script, one on each line. Carriage returns at the end of a line are
+/// dropped. A line that starts with `#`, or has only spaces and tabs, is skipped. Blanks at the
+/// start are skipped. The name ends before the first blank or `=`; that byte and the blanks after
+/// it are dropped. The rest is the value, as it is. No value, or an empty one, deletes. A later
+/// line acts on what earlier lines left.
 ///
-/// After a refused line the environment is the one after the lines before it, also where it is memory
-/// that the line was refused for. The time grows with the script and the environment, not with their
-/// product.
+/// If a line is refused, the environment is the one after the lines before it, also if the line was
+/// refused because memory ran out. The time grows with the script and the environment, not with
+/// their product.
 #[tactic(auto, using(crate::proofs::ScriptLemmas::untouched))]
 pub fn apply_script(env: &mut Env, text: &[u8]) -> Result<(), ScriptError>
     ensures { AppliesScript env.old text.now env.new result }

@@ -1,4 +1,4 @@
-//! The variables of an image's data, read where they stand.
+//! The variables of an image's data, read in place.
 ghost use Rattle.std.specs.Prelude.{◌≡◌, List, None, false, length, map, is_some, IfOk, slice_get};
 ghost use Rattle.std.specs.Option.{option_map, option_copied};
 ghost use Rattle.envimage.specs.Data.{Pair, data_fault, pairs_of};
@@ -10,7 +10,7 @@ use indexmap::IndexMap;
 use std::alloc::{AllocError, Global};
 use std::marker::Model;
 
-/// Variables that are found by their names.
+/// Variables that can be looked up by name.
 pub(crate) trait Lookup {
     /// The variables in order.
     ghost pairs: { Self → List Pair };
@@ -49,7 +49,7 @@ impl Variables for Env {
     }
 }
 
-/// An image's data, which has no fault. A name is found by reading all of it; that takes no memory.
+/// An image's data, which has no fault. Looking up a name reads all of it, and takes no memory.
 #[derive(Drop)]
 pub(crate) struct Body<'a> {
     pub(crate) bytes: &'a [u8],
@@ -85,7 +85,8 @@ impl<'a> Model for EnvView<'a> {
 }
 
 impl<'a> EnvView<'a> {
-    /// The variables of data without a fault: each name once, in its first place, with its last value.
+    /// The variables of data without a fault: each name once, in its first place, with its last
+    /// value. Errors: memory ran out.
     pub(crate) fn over(alloc: Global, body: &'a [u8]) -> Result<Self, AllocError>
         requires { data_fault body.now ≡ None }
         ensures { IfOk result (λ env. env ≡ env_of (pairs_of body.now)) }

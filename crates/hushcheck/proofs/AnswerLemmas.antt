@@ -1,4 +1,4 @@
--- From what `clap` answers to the answer to words.
+-- From what `clap` answers to the answer to the words.
 use Rattle.std.proofs.Common.{◌≡◌, ◌∙◌, ◌⊎◌, inl, inr, refl, sym, ap, subst, true, List, []}
 use Rattle.std.specs.Prelude.{Result, Ok, Err}
 use Rattle.clap.specs.Words.{App, HasKind, HasMatchesOf, IsAmong, Text, fault_of, found_of, is_simple, is_simple_and_free, kind_of, matches_of, rows_of}
@@ -24,7 +24,7 @@ hushcheck_free : is_simple_and_free hushcheck ≡ true
 unfolding clap_on_literals hushcheck
 hushcheck_free = refl
 
--- where the words are accepted
+-- if the words are accepted
 accepted_answer : (words : List Text) (a : Asked) (r : Result Ask UseError) → IsAccepted hushcheck words → a ≡ asked words → Says a r → Answers words r
 accepted_answer words a (Ok (Help text)) fine is says = absurd says
 accepted_answer words a (Ok Version) fine is says = absurd says
@@ -37,7 +37,7 @@ accepted_answer words a (Err HeaderNeedsOne) fine is says = absurd says
 accepted_answer words a (Err WordAlone) fine is says = absurd says
 accepted_answer words a (Err TooManyDevices) fine is says = absurd says
 
--- where they are not
+-- if they are not
 refused_answer : (words : List Text) (k : ErrorKind) (r : Result Ask UseError) → (k ≡ OutOfMemory) ⊎ IsAmong k (fault_of hushcheck words) → Reports k r → Answers words r
 refused_answer words k (Ok (Help text)) among is = elim among [
   | inl memory ↦

@@ -1,5 +1,5 @@
--- What the words of a call ask for, from the entries that `clap` finds in them. Ours; that `bootcmd` is the
--- variable that boots is U-Boot's (doc/usage/environment).
+-- What the words of a call ask for, from the entries that `clap` finds in them. Ours; that `bootcmd` is the variable
+-- that boots is U-Boot's (doc/usage/environment).
 use Rattle.std.specs.Prelude.{◌∷◌, List, [], codes}
 use Rattle.clap.specs.Words.{Row, Text}
 use Rattle.envimage.specs.declared.image.ByteOrder.{ByteOrder}
@@ -10,7 +10,7 @@ pub record Asked : Type 0 where
   pub names : List Text
   pub order : ByteOrder
 
--- `bootcmd` where no name is given
+-- `bootcmd` if no name is given
 abbrev pub or_bootcmd : List Text → List Text
 or_bootcmd [] = codes "bootcmd" ∷ []
 or_bootcmd (name ∷ names) = name ∷ names

@@ -1,4 +1,4 @@
--- What checking the texts of an image does, from files that tell what stands in them. Ours.
+-- What checking the texts of an image does, from files whose contents are known. Ours.
 use Rattle.std.specs.Prelude.{◌≡◌, Bool, List, Result, Ok, Err}
 use Rattle.envimage.specs.Data.{Pair}
 use Rattle.output.specs.Sink.{BrokeOff, Sink, Wrote}
@@ -22,7 +22,7 @@ Finds answer (Err (Image error)) = answer ≡ Err error
 Finds answer (Err Memory) = Unit {0}
 Finds answer (Err _) = ⊥
 
--- The environment was found, and all that is told of it was written.
+-- The environment was found, and all that is reported of it was written.
 pub record TellsAll (answer : Result (List Pair) ImageError) (names : List Text) (old new : Sink) (sound : Bool) :
     Type 0 where
   pub env : List Pair
@@ -31,7 +31,7 @@ pub record TellsAll (answer : Result (List Pair) ImageError) (names : List Text)
   pub checks : Checks env names told sound
   pub wrote : Wrote old new told
 
--- The environment was found, and the output failed inside what is told of it.
+-- The environment was found, and the output failed inside what is reported of it.
 pub record BreaksOff (answer : Result (List Pair) ImageError) (names : List Text) (old new : Sink) : Type 0 where
   pub env : List Pair
   pub there : answer ≡ Ok env
@@ -40,7 +40,7 @@ pub record BreaksOff (answer : Result (List Pair) ImageError) (names : List Text
   pub checks : Checks env names told sound
   pub broken : BrokeOff old new told
 
--- each answer to checking an environment, and what stands written then
+-- each answer to checking an environment, and what is written then
 abbrev pub ChecksText : Result (List Pair) ImageError → List Text → Sink → Sink → Result Bool ToolError → Type 0
 ChecksText answer names old new (Ok sound) = TellsAll answer names old new sound
 ChecksText answer names old new (Err (Image error)) = (answer ≡ Err error) × (new ≡ old)
@@ -48,8 +48,7 @@ ChecksText answer names old new (Err Write) = BreaksOff answer names old new
 ChecksText answer names old new (Err Memory) = new ≡ old
 ChecksText answer names old new (Err _) = ⊥
 
--- the images of the configuration were read and their texts checked, or refused; a refusal for memory may come at
--- any time
+-- the images of the configuration were read and their texts checked, or refused; memory may run out at any time
 abbrev pub ChecksFrom : ByteOrder → (config : Text) → (names : List Text) → (out out' : Sink) → (old new : Told)
     → Result Bool Fault → Type 0
 ChecksFrom order config names out out' old new (Ok sound) =
@@ -60,7 +59,7 @@ ChecksFrom order config names out out' old new (Err (Tool Write)) =
     FromImages config old new (λ found. BreaksOff (environment order found) names out out')
 ChecksFrom order config names out out' old new (Err fault) = OnlyReads old new × IsImagesFault config old.stored fault
 
--- a refusal other than that of the output leaves it as it was
+-- a refusal other than that of the output leaves the output as it was
 abbrev pub LeavesOutput : Result Bool Fault → (old new : Sink) → Type 0
 LeavesOutput (Ok sound) old new = Unit {0}
 LeavesOutput (Err (Tool Write)) old new = Unit {0}

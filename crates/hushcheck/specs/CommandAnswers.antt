@@ -15,7 +15,7 @@ use Rattle.ubtool_cli.specs.declared.ask.UseError.TheVariants.{Line, Memory}
 abbrev pub asked : List Text → Asked
 asked words = asked_of (matches_of hushcheck words)
 
--- the answer to words; of the refusals, those that `ubtool` alone has come nowhere
+-- the answer to words; refusals that only `ubtool` has never come
 abbrev pub Answers : List Text → Result Ask UseError → Type 0
 Answers words (Ok (Help text)) = IsAmong DisplayHelp (fault_of hushcheck words)
 Answers words (Ok Version) = IsAmong DisplayVersion (fault_of hushcheck words)

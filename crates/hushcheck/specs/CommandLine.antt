@@ -1,4 +1,4 @@
--- The command line that `clap` is given: two options, as `ubtool` has them, and names. It is ours.
+-- The command line that `clap` is given: two options that `ubtool` has too, and names. It is ours.
 use Rattle.std.specs.Prelude.{true, codes}
 use Rattle.clap.specs.Words.{App, Shape, new_app, with_rule}
 use Rattle.clap.specs.Simple.{on_top}

@@ -1,4 +1,4 @@
--- What is done for what is asked, on files that tell what stands in them. Ours.
+-- What is done for what is asked, on files whose contents are known. Ours.
 use Rattle.std.specs.Prelude.{◌≡◌, Bool, map, Option, Result, codes, string_bytes}
 use Rattle.hushcheck.specs.Checking.{ChecksFrom, LeavesOutput}
 use Rattle.hushcheck.specs.declared.ask.Ask.{Ask}
@@ -10,8 +10,8 @@ use Rattle.ubtool_run.specs.Builds.{version_line}
 use Rattle.ubtool_run.specs.declared.build.Build.{Build}
 use Rattle.ubtool_run.specs.Performing.{Shows}
 
--- What doing it comes to, by a program of this build: with the files from before to after, and on the outputs. With status 0 each text is
--- well-formed and each name that was asked for is set, or the help or the version was shown.
+-- What a program of this build does for it, with the files before and after, and on the outputs. With status 0 each
+-- text is well-formed and each name that was asked for is set, or the help or the version was shown.
 abbrev pub Does : Build → Ask → Option Told → Option Told → Outputs → Result Bool Fault → Type 0
 Does build (Check config names order) before after outputs result =
     IfTold before after (λ old new.

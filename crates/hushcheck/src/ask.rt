@@ -5,7 +5,7 @@ use envimage::ByteOrder;
 /// What the words of a call ask for.
 #[derive(Debug, Drop)]
 pub enum Ask {
-    /// To check the texts of variables, and of those that they run.
+    /// To check the texts of variables, and the texts that these run.
     Check {
         /// The path of the configuration.
         config: String,

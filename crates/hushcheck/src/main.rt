@@ -14,13 +14,14 @@ use std::process::ExitCode;
 use ubtool_files::Machine;
 use ubtool_run::{Build, StartError, Telling, buffered, end, finish, words_of_call};
 
-/// What this program is built for. The build for another processor, or with another link, has another word here.
+/// What this program is built for. A build for another processor, or with another kind of linking,
+/// has another word here.
 const BUILD: Build = Build::X86_64;
 
-/// What is told where memory for a buffer before the error output is refused.
+/// What is reported if memory for a buffer before the error output is refused.
 const OUT_OF_MEMORY: &[u8] = b"hushcheck: out of memory\n";
 
-/// Reads the words of the command line, and does what they ask for. The answer is the status.
+/// Reads the words of the command line, and does what they ask for. Returns the status.
 fn run<E: Out>(rt: &HostRuntime, err: &mut Telling<E>) -> Result<u8, StartError> {
     let args = words_of_call(rt)?;
     let words = args.get(1..).unwrap_or(&[]);

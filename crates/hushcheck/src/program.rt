@@ -17,10 +17,10 @@ use ubtool_core::Fault;
 use ubtool_files::Files;
 use ubtool_run::{Build, refuse, show_help, show_version, status_of};
 
-/// The name in front of what is told of a refusal.
+/// The name before the report of a refusal.
 pub const PROGRAM: &str = "hushcheck";
 
-/// Does what is asked for. The answer is false where a text is not well-formed, or a name not set.
+/// Does what is asked for. Returns false if a text is not well-formed, or a name is not set.
 fn perform<F: Files, O: Out>(
     alloc: Global,
     build: Build,
@@ -43,9 +43,10 @@ fn perform<F: Files, O: Out>(
     }
 }
 
-/// The whole program, from its words to its status: 0 where all texts are well-formed and the help or the version where it
-/// was asked for, 1 where a text is not, a name is not set or something was refused, and 2 where the words were not
-/// understood. A fault is told on `err` by one line; where `err` fails, nothing more is written there.
+/// The whole program, from its words to its status. The status is 0 if all texts are well-formed,
+/// or if the help or the version was asked for; 1 if a text is not well-formed, a name is not set
+/// or something was refused; and 2 if the words were not understood. A fault is reported on `err`
+/// in one line. If `err` fails, nothing more is written there.
 pub fn run_check<S: AsStr, F: Files, O: Out, E: Out>(
     alloc: Global,
     build: Build,

@@ -17,7 +17,7 @@ use ubtool_core::{Fault, ToolError};
 use ubtool_files::Files;
 use ubtool_run::{Images, read_images, slices_of};
 
-/// The environment of an image, or of the copy of a pair that counts.
+/// The environment of an image, or of the current copy of a pair.
 fn environment(
     alloc: Global,
     first: &[u8],
@@ -30,8 +30,8 @@ fn environment(
     Ok(Env::from_checked(alloc, loaded.body)?)
 }
 
-/// Checks the texts of an image, or of the copy of a pair that counts, and writes what is told of them. The answer is
-/// false where a text is not well-formed, or a name not set.
+/// Checks the texts of an image, or of the current copy of a pair, and writes what is reported of
+/// them. Returns false if a text is not well-formed, or a name is not set.
 fn check_bytes<O: Out>(
     alloc: Global,
     first: &[u8],
@@ -52,7 +52,7 @@ fn check_bytes<O: Out>(
     }
 }
 
-/// The same of images that were read.
+/// The same for images that were read.
 fn check_images<O: Out>(
     alloc: Global,
     images: &Images,

@@ -1,4 +1,4 @@
-//! Reading the words.
+//! Reads the words of a call.
 ghost use Rattle.std.specs.Prelude.{◌≡◌, IfOk, codes, map, string_bytes};
 ghost use Rattle.clap.specs.Words.{found_of, kind_of, rows_of};
 ghost use Rattle.hushcheck.specs.CommandAnswers.{Answers, Reports, Says};
@@ -36,7 +36,7 @@ fn ask_of(alloc: Global, matches: &ArgMatches<'_>) -> Result<Ask, UseError>
     })
 }
 
-/// The answer where `clap` refuses the words, or shows its help or the version.
+/// The answer if `clap` refuses the words, or shows its help or the version.
 fn report(alloc: Global, error: &clap::Error) -> Result<Ask, UseError>
     ensures { Reports (kind_of error.now) result }
 {

@@ -15,7 +15,7 @@ use Rattle.hushcheck_core.specs.Order.{IsOrder, IsReached, is_asked, is_run, onc
 use Rattle.hushcheck_core.specs.Place.{place_in}
 use Rattle.hushcheck_core.specs.Report.{fault_lines, lines_of}
 
--- a `then` is missing on line 2: `fi` cannot stand where it stands
+-- a `then` is missing on line 2: the `fi` has no place there
 abbrev no_then : Text
 no_then = codes "true\nif true; echo x; fi"
 
@@ -30,7 +30,7 @@ no_then_lines : fault_lines (codes "bootcmd") no_then (Unexpected 22) ≡ codes 
 unfolding digits
 no_then_lines = refl
 
--- where the text ends, with a tab in its last line
+-- at the end of the text, with a tab in its last line
 ends_lines : fault_lines (codes "b") (codes "x\n\tif y") (Unexpected 7) ≡ codes "b:2:6: unexpected end of the text\n\tif y\n\t    ^\n"
 unfolding digits
 ends_lines = refl
@@ -45,7 +45,7 @@ odd_lines = refl
 abbrev run_in : Text → List Text
 run_in text = run_by_read (read_in text)
 
--- two names; a name in quotes; a variable, and a name behind it; another command; a text without a tree
+-- two names; a name in quotes; a variable, and a name after it; another command; a text without a tree
 runs : map run_in (codes "run a b" ∷ codes "if true; then run 'a b'; fi; run c" ∷ codes "run $x y" ∷ codes "echo run a" ∷ codes "run a; fi" ∷ [])
     ≡ (codes "a" ∷ codes "b" ∷ []) ∷ (codes "a b" ∷ codes "c" ∷ []) ∷ (codes "y" ∷ []) ∷ [] ∷ [] ∷ []
 unfolding whole script command simple keyword next behind sees expect joined joined_all and_or lists lists_all block arm arms arms_all if_command body_of loop_command for_command name name_next expect_in in_next all_words separators separator_next closes_next op_next refusal missing at_last word_next assignment_next assignments reserved_of reserved assignment name_in name_of is_in_word pieces step bare dollar braced inside front word_front

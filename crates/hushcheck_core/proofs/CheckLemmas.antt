@@ -1,4 +1,4 @@
--- One turn of a check: the names so far, what was told of them, and how much is left.
+-- One turn of a check: the names so far, what was reported of them, and how much is left.
 use Rattle.std.proofs.Common.{◌≡◌, ℕ, zero, suc, ◌+◌, ◌-◌, ◌<◌, ◌≤◌, ◌⊎◌, inl, inr, Bool, true, false, ◌&&◌, ◌||◌, List, [], ◌∷◌, ◌++◌, length, take, get_or, Contains, Some, refl, sym, ap, subst, ◌∙◌, append_assoc, arith}
 use Rattle.std.specs.Cmp.Lexicographic.{bytes_decides, nat_list_eq_equiv}
 use Rattle.std.proofs.Math.Bool.{and_assoc}
@@ -16,9 +16,9 @@ use Rattle.hushcheck_core.specs.Order.{IsReached, is_asked, is_run, once, with_n
 use Rattle.hushcheck_core.specs.Report.{Checks, is_sound, is_well_formed, lines_of}
 use Rattle.hushcheck_core.proofs.OrderLemmas.{with_names-append}
 
--- ---- names that go behind others
+-- ---- names that are added after others
 
--- they stand behind those that are there
+-- the names come after those that are there
 abbrev Extends : List Text → List Text → Type 0
 Extends names more = (extra : List Text) × (more ≡ names ++ extra)
 
@@ -112,7 +112,7 @@ module _ (Good : Text → Type 0) where
   good-with_names names (n ∷ more) all others =
       good-with_names (with_name names n) more (good-with_name names n all (others n (contains_head n more))) (λ m c. others m (contains_tail n more m c))
 
--- ---- how many names may still come: those that the texts run which had no turn
+-- ---- how many names may still come: names that the texts run and that had no turn
 
 abbrev left_of : Bool → ℕ → ℕ
 left_of true n = 0
@@ -160,7 +160,7 @@ left-turn (p ∷ env) done n new =
 -- ---- one turn
 
 module _ (env : List Pair) (asked : List Text) (names : List Text) (at : ℕ) where
-  -- the names so far are in order, and what was told of those before a place
+  -- the names so far are in order, and so is what was reported of the names before a place
   pub record Standing (told : Text) (sound : Bool) : Type 0 where
     pub within : at ≤ length names
     pub in_turn : names ≡ once (asked ++ flat_map (run_by_name env) (take at names))
@@ -201,7 +201,7 @@ take_turn names more at within =
 one_more : {X : Type 0} (f : Text → List X) (xs : List Text) (x : Text) → flat_map f (xs ++ x ∷ []) ≡ flat_map f xs ++ f x
 one_more f xs x = flat_map-append f xs (x ∷ []) ∙ ap (λ ys. flat_map f xs ++ ys) (append-nil (f x))
 
--- after one turn more
+-- after one more turn
 pub standing_next : (env : List Pair) (asked names names' : List Text) (at : ℕ) (told told' : Text) (sound sound' : Bool) → at < length names → Standing env asked names at told sound
     → names' ≡ with_names names (run_by_name env (get_or names at []))
     → told' ≡ told ++ lines_of env (get_or names at [])
@@ -245,7 +245,7 @@ left_less env asked names names' at told sound within s e =
     let long : length names' ≤ length names + length more = rw e (length-with_names names more) in
     omega (arith, fewer, long, within)
 
--- behind the last turn
+-- after the last turn
 pub standing_last : (env : List Pair) (asked names : List Text) (at : ℕ) (told : Text) (sound : Bool) → length names ≤ at → Standing env asked names at told sound → Checks env asked told sound
 standing_last env asked names at told sound past s =
     let all : take at names ≡ names = take_all at names past in

@@ -1,4 +1,4 @@
--- The lines of a place of a text, one behind another.
+-- The lines of a place of a text, one after another.
 use Rattle.std.proofs.Common.{◌≡◌, ℕ, List, ◌++◌, ap, ◌∙◌, append_assoc}
 use Rattle.std.specs.Prelude.{codes}
 use Rattle.hushcheck_core.specs.Place.{line_front, line_text, place_in}
@@ -20,6 +20,6 @@ lines_are old a b c new name text what line front at place e l f first second th
     ∙ ap (λ t. place_form name (place_in text at) ++ what ++ codes "\n" ++ marked t front) l
     ∙ ap (λ t. place_form name (place_in text at) ++ what ++ codes "\n" ++ marked (line_text text at) t) f)
 
--- a line, and what stands behind it
+-- a line, and what is after it
 pub read_is : (old a new line more : List ℕ) → a ≡ old ++ line → new ≡ a ++ more → new ≡ old ++ (line ++ more)
 read_is old a new line more first last = last ∙ ap (λ t. t ++ more) first ∙ append_assoc old line more

@@ -8,7 +8,7 @@ use Rattle.envtools.specs.Environment.{same}
 use Rattle.hushcheck_core.specs.Names.{Text}
 use Rattle.hushcheck_core.specs.Order.{with_name, with_names, once}
 
--- names that go behind others in two turns
+-- names that are added after others in two turns
 pub with_names-append : (names a b : List Text) → with_names names (a ++ b) ≡ with_names (with_names names a) b
 with_names-append names [] b = refl
 with_names-append names (n ∷ a) b = with_names-append (with_name names n) a b
@@ -23,20 +23,20 @@ map-upto g [] i d h = absurd (omega arith)
 map-upto g (x ∷ xs) zero d h = refl
 map-upto g (x ∷ xs) (suc i) d h = ap (λ t. g x ∷ t) (map-upto g xs i d (omega arith))
 
--- one name more
+-- one more name
 pub once_item : {X : Type 0} (g : X → Text) (xs : List X) (i : ℕ) (d : X) (now next : List Text) (name : Text) → i < length xs → name ≡ g (get_or xs i d) → now ≡ once (map g (take i xs)) → next ≡ with_name now name → next ≡ once (map g (take (i + 1) xs))
 once_item g xs i d now next name within is before e =
     let one : map g (take i xs) ++ g (get_or xs i d) ∷ [] ≡ map g (take (i + 1) xs) = sym (rw add-one (map-upto g xs i d within)) in
     e ∙ ap (λ ns. with_name ns name) before ∙ ap (with_name (once (map g (take i xs)))) is ∙ sym (with_names-append [] (map g (take i xs)) (g (get_or xs i d) ∷ [])) ∙ ap once one
 
 module _ {X : Type 0} (f : X → List Text) (start : List Text) (xs : List X) where
-  -- the names of one item more
+  -- the names of one more item
   pub names_item : (now next : List Text) (i : ℕ) (x : X) → i < length xs → x ≡ get_or xs i x → now ≡ with_names start (flat_map f (take i xs)) → next ≡ with_names now (f x) → next ≡ with_names start (flat_map f (take (i + 1) xs))
   names_item now next i x within is before e =
       let one : flat_map f (take i xs) ++ f x ≡ flat_map f (take (i + 1) xs) = ap (λ y. flat_map f (take i xs) ++ f y) is ∙ sym (rw add-one (flat_map-upto f xs i x within)) in
       e ∙ ap (λ ns. with_names ns (f x)) before ∙ sym (with_names-append start (flat_map f (take i xs)) (f x)) ∙ ap (with_names start) one
 
-  -- the names of all
+  -- the names of all items
   pub names_all : (now : List Text) (i : ℕ) → length xs ≤ i → now ≡ with_names start (flat_map f (take i xs)) → now ≡ with_names start (flat_map f xs)
   names_all now i past e = e ∙ ap (λ ys. with_names start (flat_map f ys)) (take_all i xs past)
 

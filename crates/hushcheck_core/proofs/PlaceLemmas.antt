@@ -8,7 +8,7 @@ use Rattle.std.specs.List.{after_last, before_first, suffix_len}
 use Rattle.text.specs.Lines.{is_newline}
 use Rattle.hushcheck_core.specs.Place.{line_text}
 
--- behind the last newline, which stands before n
+-- after the last newline, which is before n
 pub last_line : (xs : List ℕ) (n : ℕ) → n ≤ length xs → ((k : ℕ) → n ≤ k → k < length xs → is_newline (get_or xs k 0) ≡ true → ⊥) → (0 < n → is_newline (get_or xs (n - 1) 0) ≡ true) → drop n xs ≡ after_last is_newline xs
 last_line xs n within none newline =
     let e : suffix_len (λ x. not (is_newline x)) xs ≡ length xs - n = suffix_len_is (λ x. not (is_newline x)) xs n 0 within
@@ -17,12 +17,12 @@ last_line xs n within none newline =
     let m : length xs - (length xs - n) ≡ n = omega arith in
     ap (λ k. drop k xs) (sym (ap (λ k. length xs - k) e ∙ m))
 
--- up to the first newline, which stands at n
+-- up to the first newline, which is at n
 pub first_line : (xs : List ℕ) (n : ℕ) → n ≤ length xs → ((k : ℕ) → k < n → is_newline (get_or xs k 0) ≡ true → ⊥) → (n < length xs → is_newline (get_or xs n 0) ≡ true) → take n xs ≡ before_first is_newline xs
 first_line xs n within none newline =
     ap (λ k. take k xs) (sym (position_or_len_is is_newline xs n 0 within (λ k high. false_from_ne_true (is_newline (get_or xs k 0)) (none k high)) newline))
 
--- a part of two lists that ends the first and begins the second
+-- a part of two lists that ends the first and starts the second
 across : (a b : List ℕ) (s e : ℕ) → s ≤ length a → take (length a + e - s) (drop s (a ++ b)) ≡ drop s a ++ take e b
 across a b s e within =
     let n : length a + e - s ≡ length (drop s a) + e = (let l = length-drop s a in omega (arith, l, within)) in

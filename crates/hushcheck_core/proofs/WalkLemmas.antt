@@ -65,18 +65,18 @@ pub arms_map : (arms : List (Rc Script Global × Rc Script Global)) → flat_map
 arms_map [] = refl
 arms_map (arm ∷ arms) = ap (λ ns. run_by_arm (view.arm arm) ++ ns) (arms_map arms)
 
--- what an `Ok` says, said in another way
+-- what an `Ok` says, in other words
 pub ok_so : {T E P Q : Type 0} (r : Result T E) → (P → Q) → OnOk r P → OnOk r Q
 ok_so (Ok v) so p = so p
 ok_so (Err e) so p = p
 
--- the names of two scripts, one behind the other
+-- the names of two scripts, one after the other
 pub two_scripts : (start mid next : List Text) (s u r v : Script) → s ≡ r → u ≡ v → mid ≡ with_names start (run_by_script (view.script s)) → next ≡ with_names mid (run_by_script (view.script u)) → next ≡ with_names start (run_by_script (view.script r) ++ run_by_script (view.script v))
 two_scripts start mid next s u r v e f first second =
     second ∙ ap (λ ns. with_names ns (run_by_script (view.script u))) first ∙ sym (with_names-append start (run_by_script (view.script s)) (run_by_script (view.script u)))
     ∙ ap (λ x. with_names start (run_by_script (view.script x) ++ run_by_script (view.script u))) e ∙ ap (λ x. with_names start (run_by_script (view.script r) ++ run_by_script (view.script x))) f
 
--- the names of arms, and those of a block behind `else`
+-- the names of arms, and the names of a block after `else`
 pub with_other : (start mid next a : List Text) (s : Script) (body : Rc Script Global) (other : Option (Rc Script Global)) → other ≡ Some body → s ≡ body.value → mid ≡ with_names start a → next ≡ with_names mid (run_by_script (view.script s)) → next ≡ with_names start (a ++ run_by_other (view.script_in other))
 with_other start mid next a s body other e f first second =
     second ∙ ap (λ ns. with_names ns (run_by_script (view.script s))) first ∙ sym (with_names-append start a (run_by_script (view.script s)))

@@ -1,5 +1,5 @@
 -- The names that a text runs. `run NAME..` runs the commands in the variables of these names (U-Boot documentation,
--- doc/usage/cmd/run); that only names which are written out count is ours.
+-- doc/usage/cmd/run). That only names that are written out count is ours.
 use Rattle.std.specs.Prelude.{◌++◌, ◌∷◌, Bool, false, List, [], Option, Some, None, Result, Ok, Err, codes, if◌then◌else◌}
 use Rattle.std.specs.List.{filter_map}
 pub use Rattle.text.specs.Lines.{Text}
@@ -13,7 +13,7 @@ use Rattle.hushlang.specs.TreesShown as view
 use Rattle.hushlang.specs.declared.tree.Script as code_script
 use Rattle.hushlang.specs.declared.token.SyntaxError.{SyntaxError}
 
--- bytes in front of what follows, where that is known
+-- bytes before what follows, if that is known
 abbrev pub in_front : Text → Option Text → Option Text
 in_front bytes None = None
 in_front bytes (Some rest) = Some (bytes ++ rest)
@@ -31,12 +31,12 @@ abbrev pub is_run : Option Text → Bool
 is_run None = false
 is_run (Some command) = same command (codes "run")
 
--- the names that a simple command runs: behind `run`, its words that are written out
+-- the names that a simple command runs: after `run`, its words that are written out
 abbrev pub run_by_words : List Word → List Text
 run_by_words [] = []
 run_by_words (word ∷ words) = if is_run (written_out word) then filter_map written_out words else []
 
--- the names that a tree runs, in the order in which they stand in the text
+-- the names that a tree runs, in the order of the text
 abbrev mutual
   pub run_by_script : Script → List Text
   run_by_script Empty = []
@@ -74,7 +74,7 @@ abbrev pub run_by_read : Result Script SyntaxError → List Text
 run_by_read (Ok script) = run_by_script script
 run_by_read (Err error) = []
 
--- the names that the text of a variable runs; one that is not set runs nothing
+-- the names that the text of a variable runs; a variable that is not set runs nothing
 abbrev pub run_by_value : Option Text → List Text
 run_by_value None = []
 run_by_value (Some text) = run_by_read (read_in text)
@@ -82,7 +82,7 @@ run_by_value (Some text) = run_by_read (read_in text)
 abbrev pub run_by_name : List Pair → Text → List Text
 run_by_name env name = run_by_value (value_of env name)
 
--- the names that a script runs which was found, if any was
+-- the names that a script runs, if one was found
 abbrev pub run_by_found : Option code_script.Script → List Text
 run_by_found None = []
 run_by_found (Some script) = run_by_script (view.script script)

@@ -1,4 +1,4 @@
--- What is told of each text. Ours; the faults are those of the language.
+-- What is reported of each text. Ours; the faults are those of the language.
 use Rattle.std.specs.Prelude.{◌≡◌, ◌==◌, ◌&&◌, ◌++◌, ℕ, Bool, true, List, [], length, Option, Some, None, Result, Ok, Err, codes, decimal, if◌then◌else◌, is_ok}
 use Rattle.std.specs.List.{flat_map, list_all}
 use Rattle.envimage.specs.Data.{Pair}
@@ -30,7 +30,7 @@ byte_of (AssignmentBeforeCommand at) = at
 byte_of (TooDeep at) = at
 byte_of Memory = 0
 
--- what is wrong there, in a text of so many bytes
+-- what is wrong there, in a text of this many bytes
 abbrev pub what_of : ℕ → SyntaxError → Text
 what_of size (OpenQuote at) = codes "the quote is not closed"
 what_of size (LoneBackslash at) = codes "the backslash is the last byte"
@@ -49,16 +49,16 @@ abbrev pub place_form : Text → Place → Text
 place_form name place =
     word_form name ++ codes ":" ++ decimal place.line ++ codes ":" ++ decimal place.column ++ codes ": "
 
--- a line, and a mark under the byte that stands behind its front
+-- a line, and a mark under the byte after `front`
 abbrev pub marked : (line front : Text) → Text
 marked line front = shown_line line ++ codes "\n" ++ mark_line front ++ codes "\n"
 
--- a place of a text and what is told of it, its line, and a mark under the byte
+-- a place of a text and what is reported of it, its line, and a mark under the byte
 abbrev pub lines_at : (name text : Text) → (at : ℕ) → (what : Text) → Text
 lines_at name text at what =
     place_form name (place_in text at) ++ what ++ codes "\n" ++ marked (line_text text at) (line_front text at)
 
--- where a text is refused, and what is wrong there
+-- the place at which a text is refused, and what is wrong there
 abbrev pub fault_lines : (name text : Text) → SyntaxError → Text
 fault_lines name text error = lines_at name text (byte_of error) (what_of (length text) error)
 

@@ -1,4 +1,4 @@
-//! The texts that are reached, and what is told of each.
+//! The texts that are reached, and what is reported of each.
 ghost use Rattle.std.specs.Prelude.{◌≡◌, ◌&&◌, ◌++◌, ◌<◌, [], length, map, IfOk, OnOk, slice_index_or};
 ghost use Rattle.envtools.specs.Printing.{all_found};
 ghost use Rattle.hushcheck_core.specs.Names.{run_by_found, run_by_name};
@@ -14,7 +14,7 @@ use hushlang::token::SyntaxError;
 use hushlang::tree::Script;
 use std::alloc::{AllocError, Global};
 
-/// What is told of the texts that are reached.
+/// What is reported of the texts that are reached.
 #[derive(Debug, Drop)]
 pub struct Report {
     /// The lines.
@@ -35,7 +35,7 @@ fn are_set(env: &Env, names: &[&[u8]]) -> bool
     true
 }
 
-/// Tells of a variable, and gives the script that its text is, if it is one.
+/// Reports a variable. Returns the script that its text is, if it is one. Errors: memory ran out.
 fn tell(
     alloc: Global,
     env: &Env,
@@ -64,7 +64,7 @@ fn tell(
     }
 }
 
-/// Tells of the variable at a place, and adds the names that its text runs.
+/// Reports the variable at a place, and adds the names that its text runs. Errors: memory ran out.
 fn take_turn(
     alloc: Global,
     env: &Env,
@@ -84,8 +84,9 @@ fn take_turn(
     }
 }
 
-/// Looks at the variables that are asked for, and then at those that the text of each in turn runs by a name that is
-/// written out, each once, and tells of each whether its text is well-formed, and if not, where it breaks.
+/// Checks the variables that are asked for, and then the variables that the text of each in turn
+/// runs by a name that is written out, each once. Reports for each whether its text is well-formed,
+/// and if not, where it breaks. Errors: memory ran out.
 pub fn check(alloc: Global, env: &Env, asked: &[&[u8]]) -> Result<Report, AllocError>
     ensures { IfOk result (λ report. Checks env.now (map (λ name. name.now) asked.now) report.text.items report.sound) }
 {

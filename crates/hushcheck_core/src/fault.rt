@@ -23,7 +23,7 @@ pub(crate) fn byte_of(error: SyntaxError) -> usize
     }
 }
 
-/// What is wrong there, in a text of so many bytes.
+/// What is wrong there, in a text of this many bytes.
 pub(crate) fn what_of(size: usize, error: SyntaxError) -> &'static [u8]
     ensures { result.now ≡ spec.what_of size error }
 {

@@ -1,4 +1,4 @@
-//! The lines that are told of a text.
+//! The lines that are reported of a text.
 ghost use Rattle.std.specs.Prelude.{◌≡◌, ◌++◌, codes, decimal, OnOk};
 ghost use Rattle.hushcheck_core.specs.Report as spec;
 ghost use Rattle.text.specs.Escapes.{word_form};
@@ -11,7 +11,7 @@ use hushlang::token::SyntaxError;
 use itoa::Buffer;
 use std::alloc::AllocError;
 
-/// Puts a number behind a text.
+/// Adds a number at the end of `told`.
 fn push_number(told: &mut Vec<u8>, number: usize) -> Result<(), AllocError>
     ensures { OnOk result (told.new.items ≡ told.old.items ++ decimal number) }
 {
@@ -19,7 +19,7 @@ fn push_number(told: &mut Vec<u8>, number: usize) -> Result<(), AllocError>
     told.extend_from_slice(digits.format(number).as_bytes())
 }
 
-/// Puts a line that begins with a name.
+/// Adds a line that starts with a name at the end of `told`.
 pub(crate) fn push_named(told: &mut Vec<u8>, name: &[u8], rest: &[u8]) -> Result<(), AllocError>
     ensures { OnOk result (told.new.items ≡ told.old.items ++ (word_form name.now ++ rest.now)) }
 {
@@ -27,7 +27,7 @@ pub(crate) fn push_named(told: &mut Vec<u8>, name: &[u8], rest: &[u8]) -> Result
     told.extend_from_slice(rest)
 }
 
-/// Puts `NAME:LINE:COLUMN: ` behind a text.
+/// Adds `NAME:LINE:COLUMN: ` at the end of `told`.
 fn push_place(told: &mut Vec<u8>, name: &[u8], place: Place) -> Result<(), AllocError>
     ensures { OnOk result (told.new.items ≡ told.old.items ++ spec.place_form name.now place) }
 {
@@ -38,7 +38,7 @@ fn push_place(told: &mut Vec<u8>, name: &[u8], place: Place) -> Result<(), Alloc
     told.extend_from_slice(b": ")
 }
 
-/// Puts the line of a byte, and the line of a mark under it, behind a text.
+/// Adds the line of a byte, and the line of a mark under it, at the end of `told`.
 fn push_marked(told: &mut Vec<u8>, line: &[u8], front: &[u8]) -> Result<(), AllocError>
     ensures { OnOk result (told.new.items ≡ told.old.items ++ spec.marked line.now front.now) }
 {
@@ -48,7 +48,7 @@ fn push_marked(told: &mut Vec<u8>, line: &[u8], front: &[u8]) -> Result<(), Allo
     told.extend_from_slice(b"\n")
 }
 
-/// Puts what is told of a place of a text, its line and a mark behind a text.
+/// Adds what is reported of a place of a text, its line and a mark at the end of `told`.
 fn push_at(
     told: &mut Vec<u8>,
     name: &[u8],
@@ -64,7 +64,7 @@ fn push_at(
     push_marked(told, line_at(text, at), line_front(text, at))
 }
 
-/// Puts what is wrong with a text, its line and a mark behind a text.
+/// Adds what is wrong with a text, its line and a mark at the end of `told`.
 pub(crate) fn push_fault(
     told: &mut Vec<u8>,
     name: &[u8],
@@ -76,8 +76,8 @@ pub(crate) fn push_fault(
     push_at(told, name, text, byte_of(error), what_of(text.len(), error))
 }
 
-/// Puts a warning after a text where U-Boot's old shell refuses the first word that stands straight after a compound
-/// command.
+/// Adds a warning at the end of `told`, if U-Boot's old shell refuses the first word that is
+/// straight after a compound command.
 fn push_warning(told: &mut Vec<u8>, name: &[u8], text: &[u8]) -> Result<(), AllocError>
     ensures { OnOk result (told.new.items ≡ told.old.items ++ spec.warning_lines name.now text.now) }
 {
@@ -93,7 +93,7 @@ fn push_warning(told: &mut Vec<u8>, name: &[u8], text: &[u8]) -> Result<(), Allo
     }
 }
 
-/// Puts what is told of a text that is well-formed behind a text.
+/// Adds what is reported of a well-formed text at the end of `told`.
 #[tactic(auto, using(crate::proofs::LinesLemmas::read_is))]
 pub(crate) fn push_read(told: &mut Vec<u8>, name: &[u8], text: &[u8]) -> Result<(), AllocError>
     ensures { OnOk result (told.new.items ≡ told.old.items

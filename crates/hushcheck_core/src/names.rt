@@ -47,7 +47,7 @@ impl Names {
         Some(name.as_slice())
     }
 
-    /// Puts a name behind the others, where it is new.
+    /// Adds a name after the others, if it is new. Errors: memory ran out.
     pub(crate) fn add(&mut self, name: Vec<u8>) -> Result<(), AllocError>
         ensures { OnOk result (self.new ≡ with_name self.old name.items) }
     {

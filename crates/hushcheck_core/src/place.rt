@@ -7,7 +7,7 @@ ghost use Rattle.hushcheck_core.specs.Place.{line_text, place_in};
 
 use memchr::{memchr, memrchr};
 
-/// Where a byte stands in a text. Lines and columns count from 1, and columns count bytes.
+/// Where a byte is in a text. Lines and columns count from 1, and columns count bytes.
 #[derive(Clone, Copy, Debug, PartialEq, Eq)]
 pub struct Place {
     /// The line.
@@ -16,7 +16,7 @@ pub struct Place {
     pub column: usize,
 }
 
-/// Where the last line of some bytes begins.
+/// Where the last line of some bytes starts.
 fn line_start(before: &[u8]) -> usize
     ensures within { result ≤ length before.now }
     ensures line { drop result before.now ≡ after_last is_newline before.now }
@@ -46,7 +46,8 @@ fn newlines(bytes: &[u8]) -> usize
     bytes.iter().filter(|byte| **byte == b'\n').count()
 }
 
-/// The line and the column of the byte at a place. Behind the last byte it is the end of the text.
+/// The line and the column of the byte at a place. The place after the last byte is the end of the
+/// text.
 pub fn place_of(text: &[u8], at: usize) -> Place
     ensures { result ≡ place_in text.now at }
 {
@@ -57,7 +58,7 @@ pub fn place_of(text: &[u8], at: usize) -> Place
     }
 }
 
-/// The bytes that stand before the byte at a place in its line.
+/// The bytes before the byte at a place, in its line.
 pub fn line_front(text: &[u8], at: usize) -> &[u8]
     ensures { result.now ≡ spec.line_front text.now at }
 {

@@ -6,7 +6,7 @@ ghost use Rattle.hushcheck_core.specs.Shown.{line_byte, mark_line, shown_line};
 use std::alloc::AllocError;
 use text::Escaped;
 
-/// Puts a name behind a text.
+/// Adds a name at the end of a text.
 pub(crate) fn push_name(text: &mut Vec<u8>, name: &[u8]) -> Result<(), AllocError>
     ensures { OnOk result (text.new.items ≡ text.old.items ++ word_form name.now) }
 {
@@ -29,7 +29,7 @@ fn line_byte(byte: u8) -> u8
     }
 }
 
-/// Puts the bytes of a line behind a text.
+/// Adds the bytes of a line at the end of a text.
 pub(crate) fn push_line(text: &mut Vec<u8>, line: &[u8]) -> Result<(), AllocError>
     ensures { OnOk result (text.new.items ≡ text.old.items ++ shown_line line.now) }
 {
@@ -39,7 +39,7 @@ pub(crate) fn push_line(text: &mut Vec<u8>, line: &[u8]) -> Result<(), AllocErro
     Ok(())
 }
 
-/// Puts the line of a mark behind a text. The mark stands under the byte that follows these.
+/// Adds the line of a mark at the end of a text. The mark is under the byte that follows these.
 pub(crate) fn push_mark(text: &mut Vec<u8>, before: &[u8]) -> Result<(), AllocError>
     ensures { OnOk result (text.new.items ≡ text.old.items ++ mark_line before.now) }
 {

@@ -35,7 +35,7 @@ fn is_run(alloc: Global, word: &Word) -> Result<bool, AllocError>
     }
 }
 
-/// Adds the name that a word is, where it is written out.
+/// Adds the name that a word is, if it is written out.
 fn add_word(alloc: Global, word: &Word, names: &mut Names) -> Result<(), AllocError>
     ensures { OnOk result (names.new ≡ with_names names.old (option_to_list (spec.written_out (view.word word.now)))) }
 {
@@ -82,7 +82,7 @@ pub(crate) fn add_script(
     Ok(())
 }
 
-/// Adds the names that a command runs, and those of the commands that are joined to it.
+/// Adds the names that a command runs, and the names that the commands joined to it run.
 #[cycle(walk)]
 fn add_list(alloc: Global, list: &AndOr, names: &mut Names) -> Result<(), AllocError>
     ensures { OnOk result (names.new ≡ with_names names.old (spec.run_by_list (view.list list.now))) }

@@ -43,7 +43,7 @@ unfolding append_runs
 append_runs-push [] a s = refl
 append_runs-push (x ∷ xs) a s = ap (Runs x) (append_runs-push xs a s)
 
--- a command begins with no word that closes
+-- a command does not start with a closing word
 command_opens : {d : ℕ} {tokens rest : List Token} {c : Command} → IsCommand d tokens c rest → ends_block tokens ≡ false
 command_opens (simple t tokens w k a) = ap closes_at k
 command_opens (assign t tokens w k a v) = ap closes_at k
@@ -97,7 +97,7 @@ is_keyword-self r.Until = refl
 is_keyword-self r.Do = refl
 is_keyword-self r.Done = refl
 
--- a command takes a token
+-- a command has at least one token
 command_stands : {d : ℕ} {tokens rest : List Token} {c : Command} → IsCommand d tokens c rest → spec.is_empty tokens ≡ false
 command_stands (simple t tokens w k a) = refl
 command_stands (assign t tokens w k a v) = refl

@@ -1,4 +1,4 @@
--- Each refusal stands at the first token with which no script can go on.
+-- Each refusal is at the first token with which no script can go on.
 use Rattle.std.proofs.Common.{◌≡◌, ℕ, zero, suc, Bool, true, false, if◌then◌else◌, List, [], ◌∷◌, ◌++◌, Option, Some, None, is_some, Result, Ok, Err, refl, ap, sym, ◌∙◌, subst, append_assoc}
 use Rattle.hushlang.specs.Token.{Token, End, Whole, Refused}
 use Rattle.hushlang.specs.Tree.{Script}
@@ -28,7 +28,7 @@ abbrev IsOpen : List Frame → Type 0
 IsOpen [] = ⊥
 IsOpen (f ∷ k) = Unit
 
--- the parts of a `for` stand in one
+-- the parts of a `for` are inside one
 abbrev Sound : Phase → List Frame → Type 0
 Sound Name k = IsOpen k
 Sound In k = IsOpen k
@@ -257,7 +257,7 @@ not_viable depth front t last e g f v =
     let refuses = ap (λ l. run l Whole 0 record { left = depth; phase = Start; open_frames = [] }) same ∙ goes_on_runs (t ∷ v.0) Whole 0 g ∙ ap (λ x. goes x (run v.0 Whole 0)) f in
     err_not_ok (sym refuses ∙ accepts)
 
--- where the tokens end
+-- at the end of the tokens
 abbrev PlacedEnd : ℕ → Done → Type 0
 PlacedEnd size (Ok u) = Unit
 PlacedEnd size (Err e) = place_of e ≡ Some size
@@ -304,7 +304,7 @@ pub refusals_are_placed : RefusalsArePlaced
 refusals_are_placed depth tokens end size e is =
     refused depth tokens end size e (fails tokens end size e record { left = depth; phase = Start; open_frames = [] } tt (sym (reader_runs depth record { tokens = tokens; end = end; size = size }) ∙ ap forget is))
 
--- ---- few tokens complete what begins a script
+-- ---- few tokens complete the start of a script
 
 data Leads : (s : State) → (tokens : List Token) → Type 0 where
   leads_to : {s : State} {tokens : List Token} (last : State) → Goes s tokens last → Sound last.phase last.open_frames → Leads s tokens

@@ -1,4 +1,4 @@
--- Whatever stands open can be brought to an end.
+-- Whatever is open can be closed.
 use Rattle.std.proofs.Common.{◌≡◌, ℕ, suc, true, List, [], ◌∷◌, ◌++◌, Ok, refl, ◌∙◌}
 use Rattle.hushlang.specs.Token.{Token, Plain, End, Whole, sign, word}
 use Rattle.hushlang.specs.Grammar.{reserved_of, assignment, is_in_word}
@@ -29,7 +29,7 @@ done_word = word 0 0 (Plain 100 ∷ Plain 111 ∷ Plain 110 ∷ Plain 101 ∷ []
 abbrev pub in_word : Token
 in_word = word 0 0 (Plain 105 ∷ Plain 110 ∷ [])
 
--- what brings a frame to an end behind a separator
+-- the tokens that close a frame after a separator
 abbrev pub frame_end : Frame → List Token
 frame_end Condition = then_word ∷ true_word ∷ semi ∷ fi_word ∷ semi ∷ []
 frame_end Consequence = fi_word ∷ semi ∷ []

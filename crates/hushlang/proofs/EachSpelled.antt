@@ -17,7 +17,7 @@ use Rattle.hushlang.specs.Tokenizing.{Lexed, lexed}
 use Rattle.hushlang.specs.Laws.{EachSpelled, SpelledOnce}
 use Rattle.hushlang.proofs.Spelled.{row_span, tokens_read}
 
--- what passes a test at the front of a text, and the rest
+-- the bytes at the start of a text that pass a test, and the rest
 pub data Cut (test : ℕ → Bool) (text : List ℕ) : Type 0 where
   cut : (front rest : List ℕ) → text ≡ front ++ rest → list_all test front ≡ true → begins test rest ≡ false → Cut test text
 
@@ -126,7 +126,7 @@ pub data RowAnswer (at : ℕ) (text : List ℕ) : Type 0 where
 row_nothing : {at stop : ℕ} {text rest : List ℕ} → Row at text [] stop rest → (text ≡ rest) × (at ≡ stop)
 row_nothing spelling.none = (refl, refl)
 
--- a row goes on behind more pieces
+-- a row goes on after more pieces
 lengthen : {at later : ℕ} {text more : List ℕ} (front : List Part → List Part) → ((parts : List Part) (stop : ℕ) (rest : List ℕ) → Row later more parts stop rest → Row at text (front parts) stop rest) → RowAnswer later more → RowAnswer at text
 lengthen front on (Done parts r w) = Done (front parts) (on _ _ _ r) w
 lengthen front on (Broken parts r f) = Broken (front parts) (on _ _ _ r) f
@@ -197,7 +197,7 @@ data SpellsAnswer (at : ℕ) (text : List ℕ) : Type 0 where
 further : {at later : ℕ} {text more : List ℕ} (front : List Token → List Token) → ((tokens : List Token) (end : End) → Spells later more tokens end → Spells at text (front tokens) end) → SpellsAnswer later more → SpellsAnswer at text
 further front on (Says tokens end s) = Says (front tokens) end (on tokens end s)
 
--- no word ends where one may begin
+-- a word does not end where a word may start
 pub begins_no_end : (b : ℕ) (text : List ℕ) → is_separator b ≡ false → may_begin_word (b ∷ text) ≡ true → EndsWord (b ∷ text) → ⊥
 begins_no_end b text no_end may (spelling.separator e) = false≢true (sym no_end ∙ e)
 begins_no_end b text no_end may (spelling.joined w) = false≢true may

@@ -80,7 +80,7 @@ pub ruleset kept_at_once = (with_atoms-kept)
 
 -- ---- from the left as from the right
 
--- a field on the way in front of parts
+-- the field on the way, before the parts that follow
 abbrev behind : Bool → List ℕ → List (List Atom) → List (List ℕ)
 behind false field parts = map kept_bytes (filter is_field parts)
 behind true field [] = field ∷ []
@@ -110,7 +110,7 @@ left_clean : (begun : Bool) (field : List ℕ) → (begun ≡ false → field �
 left_clean true field clean = refl
 left_clean false field clean = clean refl
 
--- what is gathered from atoms, where no field on the way is one without bytes
+-- what is gathered from atoms, if a field that has not begun has no bytes
 closed-with_atoms : (begun : Bool) (whole : List (List ℕ)) (field : List ℕ) (rest : List Atom) → (begun ≡ false → field ≡ []) → closed (with_atoms (record { whole = whole; field = field; begun = begun }) rest) ≡ record { whole = whole ++ behind begun field (cut rest); field = []; begun = false }
 closed-with_atoms begun whole field [] clean = ap (λ front. record { whole = front; field = left_field begun field; begun = false }) (end_behind begun whole field) ∙ ap (λ left. record { whole = whole ++ behind begun field ([] ∷ []); field = left; begun = false }) (left_clean begun field clean)
 closed-with_atoms begun whole field (Kept byte ∷ rest) clean =

@@ -1,4 +1,4 @@
--- A lexical fault is the answer where all tokens before it begin a script.
+-- A lexical fault is the answer if all tokens before it start a script.
 use Rattle.std.proofs.Common.{◌≡◌, ℕ, List, [], ◌∷◌, ◌++◌, Result, Ok, Err, refl, ap, sym, ◌∙◌, subst, append_assoc}
 use Rattle.hushlang.specs.Token.{Token, End, Whole, Refused}
 use Rattle.hushlang.specs.Tree.{Script}
@@ -26,7 +26,7 @@ pub same_fault : (a e : SyntaxError) → Refused a ≡ Refused e → a ≡ e
 unfolding fault_or
 same_fault a e p = ap (fault_or a) p
 
--- what begins a viable row is viable
+-- a prefix of a viable row is viable
 prefix : (depth : ℕ) (front : List Token) (t : Token) (more : List Token) → IsViable depth (front ++ t ∷ more) → IsViable depth (front ++ t ∷ [])
 prefix depth front t more v =
     let same : (front ++ t ∷ more) ++ v.0 ≡ (front ++ t ∷ []) ++ (more ++ v.0) = append_assoc front (t ∷ more) v.0 ∙ sym (append_assoc front (t ∷ []) (more ++ v.0)) in

@@ -1,4 +1,4 @@
--- The parts of a word: ordinary bytes at its front, and those to come.
+-- The parts of a word: ordinary bytes at its start, and the parts to come.
 use Rattle.std.specs.Cmp.Lexicographic.{pointwise}
 use Rattle.std.proofs.Common.{◌≡◌, ℕ, nat_eq, ◌<◌, ◌≤◌, length, map, Bool, true, false, ◌&&◌, ◌==◌, List, [], ◌∷◌, ◌++◌, Some, None, codes, refl, ap, sym, ◌∙◌, append-nil, append_assoc, arith}
 use Rattle.std.proofs.lemmas.List.{map-append, length-append, length-map}
@@ -9,7 +9,7 @@ use Rattle.hushlang.specs.LexerShown.{parts_in}
 use Rattle.hushlang.specs.declared.token.SyntaxError.{SyntaxError}
 use Rattle.hushlang.proofs.Names.{and_none, plain_is}
 
--- none where the parts to come are refused
+-- none, if the parts to come are refused
 unfoldable pub fronted : List ℕ → Seen → List Part
 fronted front (Takes stop parts) = map Plain front ++ parts
 fronted front (Refuses error) = []
@@ -67,7 +67,7 @@ no_parts : reserved [] ≡ None
 unfolding reserved
 no_parts = refl
 
--- a part that is no ordinary byte
+-- a part that is not an ordinary byte
 pub other_part : (front : List ℕ) (part : Part) (old new : Seen) → None ≡ plain_byte part → old ≡ in_front (part ∷ []) new → None ≡ reserved (fronted front old)
 unfolding fronted
 other_part front part old (Takes stop parts) is e = sym (ap (λ seen. reserved (fronted front seen)) e ∙ none_reserved (map Plain front ++ part ∷ parts) (λ word within. not_plain word front part parts is))

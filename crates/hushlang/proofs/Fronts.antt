@@ -1,4 +1,4 @@
--- What stands at the front of a text, as the program finds it.
+-- What is at the start of a text, as the program finds it.
 use Rattle.std.proofs.Common.{◌≡◌, ℕ, zero, suc, ◌+◌, ◌-◌, ◌<◌, ◌≤◌, Bool, true, not, ◌&&◌, ◌==◌, List, [], ◌∷◌, length, take, drop, get_or, refl, ap, sym, ◌∙◌, arith, Ok, Err}
 use Rattle.std.proofs.lemmas.List.{length-append, length-drop, drop-drop, drop_more}
 use Rattle.std.proofs.Math.Seq.{take-append_seam}
@@ -18,7 +18,7 @@ use Rattle.hushlang.specs.declared.lexer.Front.TheVariants as code
 use Rattle.hushlang.proofs.Spelled.{row_step, bare_separator, lexed_step}
 use Rattle.hushlang.proofs.Alone.{takes, word_takes}
 
--- a token stands where it is seen, and its own bytes have its parts
+-- a token is where it is seen, and its own bytes have its parts
 abbrev pub IsSound : (at b : ℕ) → List ℕ → Front → Type 0
 IsSound at b text (Sees token skip) = (token.start ≡ at) × (token.stop ≡ at + suc skip) × (skip ≤ length text) × ((stop : ℕ) × (row Bare 0 0 0 (b ∷ take skip text) ≡ Takes stop token.parts))
 IsSound at b text other = Unit {0}
@@ -137,7 +137,7 @@ module _ (source : List ℕ) (at : ℕ) (inside : at < length source) where
   abbrev slice : ℕ → List ℕ
   slice stop = take (stop - at) (drop at source)
 
-  -- what a token and those behind it are
+  -- what a token and the tokens after it are
   abbrev with_token : Kind → ℕ → Lexed → Lexed
   with_token kind stop more = record { tokens = record { kind = kind; start = at; stop = stop; parts = parts_in (row Bare 0 0 0 (slice stop)) } ∷ more.tokens; end = more.end }
 

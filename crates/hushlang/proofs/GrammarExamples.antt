@@ -63,7 +63,7 @@ quoted_pieces : map (λ t. pieces t.parts) (lexed 0 (codes "a'b'\"c$d\"\\e #x"))
 unfolding step bare dollar braced inside front word_front pieces
 quoted_pieces = refl
 
--- a `#` behind a pair that vanishes: in a word it is a byte, at a word's start a comment
+-- a `#` after a pair that vanishes: inside a word it is a byte, at the start of a word a comment
 joined_sharp : lexed 0 (codes "a" ++ 92 ∷ 10 ∷ codes "#b") ≡ gives (word 0 5 (Plain 97 ∷ Plain 35 ∷ Plain 98 ∷ []) ∷ []) Whole
 unfolding step bare dollar braced inside front word_front
 joined_sharp = refl
@@ -72,7 +72,7 @@ comment_behind_pair : lexed 0 (codes "a " ++ 92 ∷ 10 ∷ codes "#b") ≡ gives
 unfolding step bare dollar braced inside front word_front
 comment_behind_pair = refl
 
--- a pair behind the last piece is outside the word
+-- a pair after the last piece is outside the word
 pair_outside : lexed 0 (codes "a" ++ 92 ∷ 10 ∷ codes ";") ≡ gives (word 0 1 (Plain 97 ∷ []) ∷ sign kinds.Semi 3 4 ∷ []) Whole
 unfolding step bare dollar braced inside front word_front
 pair_outside = refl
@@ -86,7 +86,7 @@ backslash_in_quote : (lexed 0 (codes "\"a\\")).end ≡ Refused (OpenQuote 0)
 unfolding step bare dollar braced inside front word_front
 backslash_in_quote = refl
 
--- brace bytes, or none, that reach the end
+-- brace bytes, or none, up to the end of the text
 brace_at_end : (lexed 0 (codes "a ${")).end ≡ Refused (OpenBrace 2)
 unfolding step bare dollar braced inside front word_front
 brace_at_end = refl

@@ -33,7 +33,7 @@ arms_fail rule turns found i x some e =
     arms_once rule turns found i some
     ∙ ap (λ (x : Parsed (Script × Script)). and_then x (λ one. λ i. spec.more_by rule (spec.arms rule (turns - 1)) (found ++ one ∷ []) (keyword i) i)) e
 
--- behind an arm comes none of the words that may
+-- none of the words that may follow an arm follows it
 pub more_refuses : (rule : Parser Command) (more : List (Script × Script) → Parser Arms) (found : List (Script × Script)) (word : Option Reserved) (i : Input) → spec.is_keyword r.Elif word ≡ false → spec.is_keyword r.Else word ≡ false → spec.is_keyword r.Fi word ≡ false → spec.more_by rule more found word i ≡ Err (spec.refusal i)
 more_refuses rule more found (Some r.Elif) i a b c = absurd (true≢false a)
 more_refuses rule more found (Some r.Else) i a b c = absurd (true≢false b)
@@ -52,7 +52,7 @@ lists_fail rule turns found i x some e =
     lists_once rule turns found i some
     ∙ ap (λ (x : Parsed AndOr). and_then x (λ one. λ i. spec.lists_by (spec.lists rule (turns - 1) (found ++ one ∷ [])) (found ++ one ∷ []) (spec.separator_next i) (spec.closes_next (spec.behind is_separator i)) i)) e
 
--- where no separator comes next, none is passed
+-- if no separator comes next, none is skipped
 pub behind_unmoved : (i : Input) → spec.separator_next i ≡ false → spec.behind is_separator i ≡ i
 unfolding spec.separator_next spec.behind
 behind_unmoved i e = ap (λ l. record i { tokens = l }) (no_separators i.tokens e)

@@ -1,4 +1,5 @@
--- The grammar token by token: what stands open, and what may come next. One token is one step, which no later token changes.
+-- The grammar token by token: what is open, and what may come next. Each token is one step, which no later token
+-- changes.
 use Rattle.std.specs.Prelude.{ℕ, zero, suc, Bool, true, false, if◌then◌else◌, List, [], ◌∷◌, Option, Some, None, Result, Ok, Err, is_some}
 use Rattle.hushlang.specs.Token.{Token, End, Whole, Refused}
 use Rattle.hushlang.specs.Grammar.{is_word, is_separator, is_newline_token, reserved_of, op_of, assignment, name_in, is_in_word, closes_at}
@@ -9,7 +10,7 @@ use Rattle.hushlang.specs.declared.words.Reserved.TheVariants as r
 use Rattle.hushlang.specs.declared.token.SyntaxError.{SyntaxError}
 use Rattle.hushlang.specs.declared.token.SyntaxError.TheVariants.{Unexpected, MissingWord, AssignmentBeforeCommand, TooDeep}
 
--- what stands open
+-- what is open
 pub data Frame : Type 0 where
   Condition : Frame
   Consequence : Frame
@@ -19,19 +20,19 @@ pub data Frame : Type 0 where
 
 -- what may come next
 pub data Phase : Type 0 where
-  -- a block begins, behind separators
+  -- the start of a block, after separators
   Start : Phase
-  -- a command stands behind newlines
+  -- a command, possibly after newlines
   Joint : Phase
   -- a command
   Must : Phase
   -- further words of a simple command or of assignments
   Words : (assigns : Bool) → Phase
-  -- an operator, or what may come behind an and-or list
+  -- an operator, or what may come after an and-or list
   After : Phase
-  -- behind an and-or list: a separator or a closing word
+  -- after an and-or list: a separator or a closing word
   Behind : Phase
-  -- behind a separator: a command or a closing word
+  -- after a separator: a command or a closing word
   Next : Phase
   -- a closing word
   Close : Phase
@@ -39,7 +40,7 @@ pub data Phase : Type 0 where
   Name : Phase
   In : Phase
   Items : Phase
-  -- behind the words of a `for`
+  -- after the words of a `for`
   Separators : Phase
   Separated : Phase
 
@@ -67,7 +68,7 @@ close_by d (LoopCondition ∷ k) (Some r.Do) t = to d Start (LoopBody ∷ k)
 close_by d (LoopBody ∷ k) (Some r.Done) t = to (suc d) After k
 close_by d k word t = unexpected t
 
--- a closing word, by what stands open
+-- a closing word, by what is open
 abbrev pub close : ℕ → List Frame → Option Reserved → Token → Step
 close d k word t = if closes_at word then close_by d k word t else unexpected t
 
@@ -133,7 +134,7 @@ step d Items k t = item d k (is_word t) (is_separator t) t
 step d Separators k t = item d k false (is_separator t) t
 step d Separated k t = if is_separator t then to d Separated k else close d k (reserved_of t) t
 
--- where the tokens end
+-- at the end of the tokens
 abbrev pub stops_at : End → Result (Unit {0}) SyntaxError
 stops_at Whole = Ok tt
 stops_at (Refused error) = Err error

@@ -20,12 +20,12 @@ prefix_if : (b : Bool) (n size : ℕ) (all : Bool) → (n == size) ≡ all → (
 prefix_if true n size all e = let k : 1 + n ≡ suc n = omega arith in ap (λ k. k == suc size) k ∙ eqb-suc-suc n size ∙ e
 prefix_if false n size all e = eqb-zero-suc size
 
--- all pass a test where those at the front that do are all
+-- all bytes pass a test if the bytes at the start that pass are all
 prefix_all : (test : ℕ → Bool) (xs : List ℕ) → (prefix_len test xs == length xs) ≡ list_all test xs
 prefix_all test [] = refl
 prefix_all test (x ∷ xs) = prefix_if (test x) (prefix_len test xs) (length xs) (list_all test xs) (prefix_all test xs)
 
--- what begins a name is a byte of one
+-- a byte that starts a name is a byte of a name
 pub name_all : (s : List ℕ) (d : ℕ) → 0 < length s → begins_name (get_or s 0 d) ≡ true → (prefix_len is_name_byte s == length s) ≡ is_name s
 name_all [] d h e = absurd (omega arith)
 name_all (b ∷ s) d h e = prefix_all is_name_byte (b ∷ s) ∙ rw e
@@ -39,7 +39,7 @@ pub part_taken : (part : Part) (old new : Seen) → IsTaken old → old ≡ in_f
 part_taken part old (Takes stop parts) h e = (tt, ap parts_in e)
 part_taken part old (Refuses error) h e = absurd (subst IsTaken e h)
 
--- ---- bytes in front of what is found
+-- ---- bytes before what is found
 
 unfoldable pub behind : List ℕ → Option (List ℕ) → Option (List ℕ)
 behind front None = None
@@ -87,7 +87,7 @@ plain_is Mark b e = absurd (cc)
 plain_is (Var name split) b e = absurd (cc)
 plain_is Status b e = absurd (cc)
 
--- ---- a name: whole are all its parts, old and new those to come before and behind one more
+-- ---- a name: `whole` is read from all parts, `old` and `new` are the parts to come before and after one more is read
 
 pub name_step : (whole : Option (List ℕ)) (front : List ℕ) (part : Part) (b : ℕ) (old new : Seen) → IsTaken old → old ≡ in_front (part ∷ []) new → Some b ≡ plain_byte part → whole ≡ behind front (plain_bytes (parts_in old)) → whole ≡ behind (front ++ b ∷ []) (plain_bytes (parts_in new))
 name_step whole front part b old new h e is inv =
@@ -175,7 +175,7 @@ name_stops (x ∷ front) b more true is none e =
 
 -- ---- an assignment that is asked for
 
--- no name stands in front of `=` where what is found so far does not go on
+-- no name is before `=` if what is found so far does not go on
 named_none : (front : List ℕ) (o : Option (List ℕ × List Part)) → ((more : List ℕ) → is_name (front ++ more) ≡ false) → named (found_behind front o) ≡ None
 unfolding found_behind
 named_none front None none = refl

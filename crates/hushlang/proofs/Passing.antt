@@ -1,4 +1,4 @@
--- Passing tokens one by one.
+-- Skipping tokens one by one.
 use Rattle.std.proofs.Common.{◌≡◌, Bool, true, false, List, [], ◌∷◌, refl, sym, ap, ◌∙◌}
 use Rattle.std.proofs.lemmas.Bool.{true≢false}
 use Rattle.hushlang.specs.Token.{Token}
@@ -24,7 +24,7 @@ more_separators : (tokens : List Token) → spec.separator_first tokens ≡ true
 more_separators [] e = refl
 more_separators (t ∷ tokens) e = more_if is_separator t tokens e
 
--- where no separator comes first, none is passed
+-- if no separator comes first, none is skipped
 pub no_separators : (tokens : List Token) → spec.separator_first tokens ≡ false → past is_separator tokens ≡ tokens
 no_separators [] e = refl
 no_separators (t ∷ tokens) e = none_if is_separator t tokens e
@@ -38,7 +38,7 @@ past_first_if : (test : Token → Bool) (b : Bool) (s : Token) (tokens : List To
 past_first_if test true s tokens t more is h e = h e
 past_first_if test false s tokens t more is h e = let same : s ≡ t = ap (head_or s) e in ap test (sym same) ∙ is
 
--- the first token that is left is one that is not passed
+-- the first token that is left is one that is not skipped
 pub past_first : (test : Token → Bool) (tokens : List Token) (t : Token) (more : List Token) → past test tokens ≡ t ∷ more → test t ≡ false
 past_first test [] t more e = absurd (true≢false (ap spec.is_empty e))
 past_first test (s ∷ tokens) t more e = past_first_if test (test s) s tokens t more refl (past_first test tokens t more) e

@@ -1,4 +1,4 @@
--- The blocks and the scripts of the grammar are those of the productions.
+-- The grammar has the same blocks and scripts as the productions.
 use Rattle.std.proofs.Common.{◌≡◌, ℕ, Bool, true, false, ◌&&◌, List, [], ◌∷◌, ◌++◌, Some, refl, ap, sym, ◌∙◌, subst, append-nil}
 use Rattle.std.specs.List.{list_all}
 use Rattle.std.proofs.lemmas.Bool.{and_parts}
@@ -13,7 +13,7 @@ use Rattle.hushlang.specs.declared.token.Kind.TheVariants as kinds
 use Rattle.hushlang.specs.declared.words.Reserved.{Reserved}
 use Rattle.hushlang.proofs.Closed.{blocks_are_closed, closes_word}
 
--- ---- passing separators
+-- ---- skipping separators
 
 past-first : (t : Token) (tokens : List Token) (b : Bool) → is_separator t ≡ b → past is_separator (t ∷ tokens) ≡ past_if b (t ∷ tokens) (past is_separator tokens)
 past-first t tokens b is = ap (λ b. past_if b (t ∷ tokens) (past is_separator tokens)) is
@@ -24,7 +24,7 @@ past-separators (t ∷ front) tokens all =
     let both = and_parts (is_separator t) (list_all is_separator front) all in
     past-first t (front ++ tokens) true both.0 ∙ past-separators front tokens both.1
 
--- a word is no separator, and a command begins with one
+-- a word is not a separator, and a command starts with a word
 word_separates : (kind : Kind) → g.word_token kind ≡ true → g.separates kind ≡ false
 word_separates kinds.Word e = refl
 word_separates kinds.Semi e = cc
@@ -85,7 +85,7 @@ each_produced_block_is_derived depth tokens behind t lists closes p = produced_d
 
 -- ---- what is derived comes by the productions
 
--- the separators at the front
+-- the separators at the start
 abbrev front_if : Bool → Token → List Token → List Token
 front_if true t front = t ∷ front
 front_if false t front = []
@@ -113,7 +113,7 @@ front_separates : (tokens : List Token) → AreSeparators (front_of tokens)
 front_separates [] = refl
 front_separates (t ∷ tokens) = separators_if (is_separator t) t (front_of tokens) refl (front_separates tokens)
 
--- a row, and separators or a compound command where a token follows
+-- a row, then separators, or a compound command if a token follows
 data IsEnded (d : ℕ) (tokens : List Token) (lists : Script) (rest : List Token) : Type 0 where
   ended : {final : AndOr} (separators : List Token) → AreSeparators separators → IsRow d tokens lists final (separators ++ rest) → ((t : Token) (behind : List Token) → rest ≡ t ∷ behind → separators ≡ [] → ends_compound final ≡ true) → IsEnded d tokens lists rest
 

@@ -33,7 +33,7 @@ refusals =
     ∷ (38 ∷ 92 ∷ 10 ∷ 38 ∷ [], error.SingleAmp 0)
     ∷ (codes "if a; then b; else c; elif d; then e; fi", error.Unexpected 22)
     ∷ (codes "for x in a do b; done", error.Unexpected 17)
-    -- a token that no script goes on with comes before a fault behind it
+    -- a token with which no script goes on is refused before a later fault
     ∷ (codes "; then \"a", error.Unexpected 2)
     ∷ []
 
@@ -50,7 +50,7 @@ said (Err e) = Some e
 abbrev cut_text : List ℕ
 cut_text = codes "if true; then echo x; fi"
 
--- so many sizes from one on
+-- this many sizes, counted up from the first
 abbrev sizes_from : ℕ → ℕ → List ℕ
 sizes_from n zero = []
 sizes_from n (suc count) = n ∷ sizes_from (n + 1) count

@@ -6,11 +6,11 @@ use Rattle.hushlang.specs.Expansion.{Atom, Kept, Separator, Mark, separates, spl
 use Rattle.hushlang.specs.Splitting.{FieldsSoFar, closed, with_atom, with_atoms, AreCutAlike, IsBrief}
 use Rattle.hushlang.proofs.ExpandLemmas.{with_atoms-append}
 
--- what is on the way behind a split value
+-- what is gathered after a split value
 abbrev pub behind_value : FieldsSoFar → List ℕ → FieldsSoFar
 behind_value g value = with_atoms g (map split_atom value)
 
--- a last separator stands in for no byte that is kept
+-- a separator at the end adds one byte that no field keeps
 abbrev pub for_cut : Bool → ℕ
 for_cut true = 1
 for_cut false = 0
@@ -39,7 +39,7 @@ split_atom-is byte separator is = ap (λ separator. cond separator (Separator by
 closed_by : (g : FieldsSoFar) (byte : ℕ) → separates byte ≡ true → with_atom g (split_atom byte) ≡ closed g
 closed_by g byte is = ap (with_atom g) (split_atom-is byte true is)
 
--- a separator behind another is left out
+-- a separator after another is left out
 pub skipped : (value short : List ℕ) (at : ℕ) → at < length value → separates (get_or value at 0) ≡ true → IsShortSoFar value short at true → IsShortSoFar value short (at + 1) true
 skipped value short at inside separator so_far =
     let byte = get_or value at 0 in

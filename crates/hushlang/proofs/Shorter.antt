@@ -1,4 +1,4 @@
--- What is read is taken off the tokens.
+-- What is read is removed from the tokens.
 use Rattle.std.proofs.Common.{◌≡◌, ℕ, ◌<◌, ◌≤◌, Bool, true, false, List, [], ◌∷◌, length, ap, arith}
 use Rattle.hushlang.specs.Token.{Token}
 use Rattle.hushlang.specs.Tree.{Script, AndOr, Joined, Command, Arms}
@@ -12,7 +12,7 @@ pub past-shorter : (test : Token → Bool) (tokens : List Token) → length (pas
 past-shorter test [] = omega arith
 past-shorter test (t ∷ tokens) = let h = past-shorter test tokens in past_if-shorter (test t) (t ∷ tokens) (past test tokens) (omega arith)
 
--- behind a token that passes
+-- after a token that passes
 past-passed : (test : Token → Bool) (t : Token) (tokens : List Token) → test t ≡ true → length (past test (t ∷ tokens)) < length (t ∷ tokens)
 past-passed test t tokens is = let h = past-shorter test tokens in rw is (omega arith)
 

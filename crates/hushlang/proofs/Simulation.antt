@@ -1,4 +1,5 @@
--- The reader goes as the machine does: what a rule leaves to what follows is what the machine does with all.
+-- The reader does what the machine does: a rule, and then what follows it, has the outcome of the machine for all
+-- tokens.
 use Rattle.std.proofs.Common.{◌≡◌, ℕ, zero, suc, ◌<◌, ◌≤◌, Bool, true, false, if◌then◌else◌, List, [], ◌∷◌, ◌++◌, length, Option, Some, None, is_some, Result, Ok, Err, refl, ap, sym, ◌∙◌, subst, arith}
 use Rattle.std.proofs.lemmas.Bool.{false≢true, true≢false}
 use Rattle.std.proofs.lemmas.Option.{none-some}
@@ -65,7 +66,7 @@ unfolding run step ends
 joint_skips d k [] end size = refl
 joint_skips d k (t ∷ tokens) end size = joint_if (is_newline_token t) d k t tokens end size (joint_skips d k tokens end size)
 
--- behind a separator: the end of the block, or a further list
+-- after a separator: the end of the block, or a further list
 next_if : (b : Bool) (d : ℕ) (k : List Frame) (t : Token) (tokens : List Token) (end : End) (size : ℕ) → run (past is_separator tokens) end size record { left = d; phase = Next; open_frames = k } ≡ run tokens end size record { left = d; phase = Next; open_frames = k } → b ≡ is_separator t → run (past_if b (t ∷ tokens) (past is_separator tokens)) end size record { left = d; phase = Next; open_frames = k } ≡ run (t ∷ tokens) end size record { left = d; phase = Next; open_frames = k }
 unfolding run step
 next_if true d k t tokens end size h e = h ∙ ap (λ b. goes (if b then m.to d Next k else m.another d k (closes_at (reserved_of t)) t) (run tokens end size)) e
@@ -84,12 +85,12 @@ closes_kind kinds.Newline parts e = absurd (false≢true e)
 closes_kind kinds.AndAnd parts e = refl
 closes_kind kinds.OrOr parts e = refl
 
--- a closing word is no separator
+-- a closing word is not a separator
 closes_apart : (t : Token) → closes_at (reserved_of t) ≡ true → is_separator t ≡ false
 unfolding reserved_of
 closes_apart t e = closes_kind t.kind t.parts e
 
--- ---- where the tokens end, or a closing word stands
+-- ---- the end of the tokens, or a closing word
 
 ends_behind : (k : List Frame) (end : End) (size : ℕ) → ends Behind k end size ≡ ends After k end size
 unfolding ends
@@ -126,7 +127,7 @@ must_row : (d : ℕ) (k : List Frame) (tokens row : List Token) (end : End) (siz
 must_row d k tokens [] end size e b = absurd (true≢false b)
 must_row d k tokens (t ∷ row) end size e b = must_next d k t row end size (past_first is_separator tokens t row e) b
 
--- behind an and-or list that is the last
+-- after the last and-or list
 last_if : (b : Bool) (d : ℕ) (k : List Frame) (t : Token) (tokens : List Token) (end : End) (size : ℕ) → ends_block (past_if b (t ∷ tokens) (past is_separator tokens)) ≡ true → run (past_if b (t ∷ tokens) (past is_separator tokens)) end size record { left = d; phase = Close; open_frames = k } ≡ goes (m.behind_list d k b t) (run tokens end size)
 unfolding run step
 last_if true d k t tokens end size e = close_next d k (past is_separator tokens) end size e ∙ next_skips d k tokens end size

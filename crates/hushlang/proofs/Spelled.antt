@@ -18,7 +18,7 @@ use Rattle.hushlang.specs.declared.token.SyntaxError.TheVariants.{OpenQuote, Ope
 
 -- ---- tests of bytes
 
--- a byte that passes a test is none that fails it
+-- a byte that passes a test differs from one that fails it
 pub differs : (test : ℕ → Bool) (n b : ℕ) → test n ≡ false → test b ≡ true → (b == n) ≡ false
 differs test n b fails passes = ne_eqb b n (λ e. false≢true (sym fails ∙ ap test (sym e) ∙ passes))
 
@@ -43,7 +43,7 @@ bare_tests b h =
     let p63 = and_parts (not (begins_name b)) (not (b == 63)) p123.0 in
     (not-true (begins_name b) p63.0, not-true (b == 63) p63.1, not-true (b == 123) p123.1)
 
--- as many as pass, where the next does not
+-- as many as pass, if the next does not
 pub prefix_of : (test : ℕ → Bool) (name rest : List ℕ) → list_all test name ≡ true → begins test rest ≡ false → prefix_len test (name ++ rest) ≡ length name
 prefix_of test [] [] all stops = refl
 prefix_of test [] (b ∷ rest) all stops = rw stops
@@ -304,11 +304,11 @@ front_word at b text sep may =
     let m = and_parts (not (b == 35)) (not (b == 92 && begins (λ c. c == newline) text)) may in
     rw (sep, not-true (b == 35) m.0, not-true (b == 92 && begins (λ c. c == newline) text) m.1)
 
--- what begins with a separator has no row
+-- a text that starts with a separator has no row
 no_separator : (s at b : ℕ) (text : List ℕ) → (row Bare s 0 at (b ∷ text) ≢ Takes s []) → is_separator b ≡ false
 no_separator s at b text other = false_from_ne_true (is_separator b) (λ e. other (row_step Bare s at b text Ends (bare_separator at b text e)))
 
--- behind a row of bytes
+-- after a row of bytes
 behind_row : (at stop b : ℕ) (text rest bytes : List ℕ) → b ∷ text ≡ bytes ++ rest → stop ≡ at + length bytes → (b ∷ text ≢ rest) → lexed_from (stop - suc at) (suc at) text ≡ lexed_from 0 stop rest
 behind_row at stop b text rest [] e n other = absurd (other e)
 behind_row at stop b text rest (c ∷ bytes) e n other =

@@ -1,4 +1,4 @@
--- Words straight behind compound commands, token by token.
+-- Words straight after compound commands, token by token.
 use Rattle.std.proofs.Common.{◌≡◌, ◌<◌, ℕ, length, Bool, true, false, ◌&&◌, if◌then◌else◌, List, [], ◌∷◌, refl, ap, ◌∙◌}
 use Rattle.std.proofs.Common.{Option, Some, None, arith}
 use Rattle.hushlang.specs.Token.{Token}
@@ -25,7 +25,7 @@ pub some_left : (i : Input) → at_last i ≡ false → 0 < length i.tokens
 unfolding at_last
 some_left i e = some_in i.tokens e
 
--- what is found from a token on, by whether it stands behind a compound command, and whether it is a word
+-- what is found from a token on, by whether it is straight after a compound command, and whether it is a word
 abbrev from : (behind word : Bool) → Token → List Token → Stand → Option ℕ
 from behind word t tokens stand =
     if behind && word then Some t.start else straight_from (behind_token word stand (reserved_of t)) tokens

@@ -153,7 +153,7 @@ faults_told text x h e f = answered x h
 
 -- ---- one place
 
--- two ways to part tokens before one of them
+-- two ways to split tokens before one of them
 data Parted : (front : List Token) (t : Token) (other : List Token) (u : Token) → Type 0 where
   same : {front other : List Token} {t u : Token} → front ≡ other → t ≡ u → Parted front t other u
   shorter : {front other : List Token} {t u : Token} (k : List Token) → other ≡ (front ++ t ∷ []) ++ k → Parted front t other u
@@ -181,7 +181,7 @@ one_start front t other u v n w m (same f is) = ap (λ (x : Token). x.start) is
 one_start front t other u v n w m (shorter k is) = absurd (n (prefix_is_viable max_nesting (front ++ t ∷ []) k (subst (IsViable max_nesting) is w)))
 one_start front t other u v n w m (longer k is) = absurd (m (prefix_is_viable max_nesting (other ++ u ∷ []) k (subst (IsViable max_nesting) is v)))
 
--- no token is blocked where all are viable
+-- no token is blocked if all are viable
 never : (text : List ℕ) (front : List Token) (t : Token) (more tokens : List Token) (end last : End) → Spells 0 text (front ++ t ∷ more) end → (IsViable max_nesting (front ++ t ∷ []) → ⊥) → Spells 0 text tokens last → IsViable max_nesting tokens → ⊥
 never text front t more tokens end last s n u v =
     let all = subst (IsViable max_nesting) (same_tokens text tokens (front ++ t ∷ more) last end u s) v in

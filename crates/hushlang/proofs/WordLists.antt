@@ -64,7 +64,7 @@ words_end old i front e inv =
 
 -- ---- all assignments
 
--- values in front of further ones
+-- values before further ones
 unfoldable pub ahead : List (List ℕ × Word) → Result (List (List ℕ × Word)) SyntaxError → Result (List (List ℕ × Word)) SyntaxError
 ahead front (Ok values) = Ok (front ++ values)
 ahead front (Err e) = Err e

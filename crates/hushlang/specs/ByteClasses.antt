@@ -1,14 +1,14 @@
--- The bytes that the language tells apart.
--- After the hush shell of the U-Boot documentation, doc/usage/cmdline; which bytes may stand in braces is ours.
+-- The classes of bytes that the language distinguishes.
+-- After the hush shell of the U-Boot documentation, doc/usage/cmdline. Which bytes braces may hold is ours.
 use Rattle.std.specs.Prelude.{ℕ, Bool, false, not, ◌&&◌, ◌||◌, ◌==◌, nat_le, List, [], ◌∷◌}
 use Rattle.text.specs.Bytes as ascii
 use Rattle.text.specs.Words.{is_space}
 
--- what ends a word where it stands bare: a blank, `;`, `&`, `|` and a newline
+-- a byte that ends a word unless it is quoted: a blank, `;`, `&`, `|` or a newline
 abbrev pub is_separator : ℕ → Bool
 is_separator b = is_space b || b == ascii.semicolon || b == ascii.ampersand || b == ascii.bar || b == ascii.newline
 
--- a byte that stands for itself: no separator, no quote, no backslash and no `$`
+-- a byte that means itself: not a separator, a quote, a backslash or `$`
 abbrev pub is_ordinary : ℕ → Bool
 is_ordinary b = not (is_separator b || b == ascii.quote || b == ascii.double_quote || b == ascii.backslash
     || b == ascii.dollar)
@@ -25,7 +25,7 @@ begins_name b = is_between ascii.small_a ascii.small_z b || is_between ascii.cap
 abbrev pub is_name_byte : ℕ → Bool
 is_name_byte b = begins_name b || is_between ascii.digit_zero ascii.digit_nine b
 
--- a byte goes on with a name that has begun, or begins one
+-- a byte continues a name that has begun, or starts one
 abbrev pub continues_name : (begun : Bool) → ℕ → Bool
 continues_name begun b = begins_name b || (begun && is_name_byte b)
 
@@ -34,7 +34,7 @@ is_brace_exception b =
     b == ascii.dollar || b == ascii.open_brace || b == ascii.close_brace || b == ascii.colon || b == ascii.equals
     || b == ascii.double_quote || b == ascii.quote || b == ascii.backslash || b == ascii.backquote
 
--- a printed byte but `$ { } : = " ' \` and the backquote
+-- a printed byte other than `$ { } : = " ' \` and the backquote
 abbrev pub is_brace_byte : ℕ → Bool
 is_brace_byte b = is_between ascii.exclamation_mark ascii.tilde b && not (is_brace_exception b)
 

@@ -19,7 +19,7 @@ abbrev pub end_of : Option SyntaxError → End
 end_of None = Whole
 end_of (Some error) = Refused error
 
--- the token that is held ahead and those to come behind it; without one the text ends, or is refused
+-- the token that is held ahead and those to come after it; without one, the text ends or is refused
 abbrev pub with_ahead : Option Token → Option SyntaxError → Coming → Lexed
 with_ahead (Some t) fault c = record { tokens = token_of t ∷ (tokens_to_come c).tokens; end = (tokens_to_come c).end }
 with_ahead None fault c = record { tokens = []; end = end_of fault }
@@ -43,6 +43,6 @@ input_in text = input_with (lexed 0 text) (length text)
 abbrev pub name_and_value : Vec ℕ Global × Place → List ℕ × List spec.Part
 name_and_value found = (found.0.items, parts_in (to_come found.1))
 
--- a word that is no assignment is refused at its place
+-- a word that is not an assignment is refused at its place
 abbrev pub IsNoAssignment : Token → SyntaxError → Type 0
 IsNoAssignment t e = (assignment (parts_of t) ≡ None) × (e ≡ AssignmentBeforeCommand t.start)

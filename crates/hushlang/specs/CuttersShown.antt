@@ -25,7 +25,7 @@ step (Ok steps.Vanish) = Vanishes
 step (Ok steps.End) = Ends
 step (Err error) = Fails error
 
--- it passes over no more bytes than there are behind the first
+-- it skips no more bytes than there are after the first
 abbrev pub StaysWithin : ℕ → Result Step SyntaxError → Type 0
 StaysWithin size (Ok (steps.Part found skip mode)) = skip ≤ size
 StaysWithin size (Ok (steps.Pass skip mode)) = skip ≤ size
@@ -33,7 +33,7 @@ StaysWithin size (Ok steps.Vanish) = 1 ≤ size
 StaysWithin size (Ok steps.End) = Unit {0}
 StaysWithin size (Err error) = Unit {0}
 
--- a place in a text, where the parts of a word are cut, and where the last piece before it stops
+-- a place in a text, from which the parts of a word are cut, and the place where the last piece before it stops
 pub record Place : Type 0 where
   pub source : List ℕ
   pub mode : Mode
@@ -44,7 +44,7 @@ pub record Place : Type 0 where
 abbrev pub to_come : Place → Seen
 to_come p = row p.mode p.stop 0 p.at (drop p.at p.source)
 
--- the first of the parts to come, and the rest of them; without one the end, and then the same again
+-- the first of the parts to come, and the rest of them; if there is none, the end, and the same again later
 abbrev pub Cuts : Place → Result (Option Part) SyntaxError → Place → Type 0
 Cuts old (Ok (Some found)) new = (to_come old ≡ in_front (part found ∷ []) (to_come new)) × (old.at < new.at)
     × (new.at ≤ length old.source)

@@ -1,5 +1,5 @@
--- What words expand to, by the rules of the shell's expansion (U-Boot documentation, doc/usage/cmdline,
--- on variables and quotes); the limit and the details of splitting are ours.
+-- What words expand to, by the rules of the shell's expansion (U-Boot documentation, doc/usage/cmdline, on variables
+-- and quotes). The limit and the details of splitting are ours.
 use Rattle.std.specs.Prelude.{ℕ, Bool, true, false, ◌||◌, ◌==◌, List, [], ◌∷◌, length, map, filter, flat_map, sum_by, decimal, if◌then◌else◌, Option, Some, unwrap_or}
 use Rattle.std.specs.FinMap as finite
 use Rattle.std.specs.FinMap.{FinMap}
@@ -24,14 +24,14 @@ pub record Parameters : Type 0 where
 abbrev pub parameters_of : FinMap (slice_cmp nat_cmp) (List ℕ) → ℕ → Parameters
 parameters_of variables status = record { value = finite.get variables; status = status }
 
--- one variable more is set, or has another value
+-- one more variable is set, or has another value
 abbrev pub with_variable : Parameters → (name value : List ℕ) → Parameters
 with_variable parameters name value = record {
   value = λ other. if is_eq (slice_cmp nat_cmp other name) then Some value else parameters.value other;
   status = parameters.status;
 }
 
--- the value of a variable, empty where it is not set
+-- the value of a variable, or empty if it is not set
 abbrev pub value_of : Parameters → List ℕ → List ℕ
 value_of parameters name = unwrap_or (parameters.value name) []
 
@@ -53,7 +53,7 @@ atoms_of_piece parameters tree.Status = map Kept (decimal parameters.status)
 unfoldable pub atoms : Parameters → Word → List Atom
 atoms parameters word = flat_map (atoms_of_piece parameters) word
 
--- an atom in front of the first of some parts
+-- an atom before the first of some parts
 abbrev pub onto_first : Atom → List (List Atom) → List (List Atom)
 onto_first atom [] = (atom ∷ []) ∷ []
 onto_first atom (part ∷ parts) = (atom ∷ part) ∷ parts

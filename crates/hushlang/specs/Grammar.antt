@@ -1,6 +1,6 @@
--- The grammar: a case for each production. The tokens begin with what the tree says, and go on as rest.
--- After the hush shell of the U-Boot documentation, doc/usage/cmdline. That a block is never empty, the limit of
--- levels, and where reserved words and assignments count, are ours.
+-- The grammar: a case for each production. The tokens start with what the tree says, and `rest` is what follows. After
+-- the hush shell of the U-Boot documentation, doc/usage/cmdline. Ours are the limit of levels, the rule that no block
+-- is empty, and the places at which reserved words and assignments count.
 use Rattle.std.specs.Prelude.{◌≡◌, ℕ, suc, Bool, true, false, List, [], ◌∷◌, map, Option, Some, None, ◌&&◌, ◌==◌, if◌then◌else◌, is_some, codes, option_map}
 use Rattle.std.specs.List.{list_all}
 use Rattle.text.specs.Bytes as ascii
@@ -47,7 +47,7 @@ op_at _ = None
 abbrev pub op_of : Token → Option Op
 op_of t = op_at t.kind
 
--- what stands behind all tokens at the front that pass a test
+-- the tokens without those at the start that pass a test
 abbrev pub past_if : Bool → List Token → List Token → List Token
 past_if true all more = more
 past_if false all more = all
@@ -63,7 +63,7 @@ newlines _ = false
 abbrev pub is_newline_token : Token → Bool
 is_newline_token t = newlines t.kind
 
--- the words at the front
+-- the words at the start
 abbrev pub words_if : Bool → Token → List Token → List Token
 words_if true t more = t ∷ more
 words_if false t more = []
@@ -82,7 +82,7 @@ abbrev pub is_name : List ℕ → Bool
 is_name [] = false
 is_name (b ∷ bytes) = begins_name b && list_all is_name_byte bytes
 
--- a word that begins with ordinary bytes spelling a name and `=`: the name, and the parts of the value
+-- a word that starts with ordinary bytes that spell a name and `=`: the name, and the parts of the value
 abbrev pub with_front : ℕ → Option (List ℕ × List Part) → Option (List ℕ × List Part)
 with_front b None = None
 with_front b (Some found) = Some (b ∷ found.0, found.1)
@@ -111,7 +111,7 @@ abbrev pub name_if : Bool → List Part → Option (List ℕ)
 name_if false parts = None
 name_if true parts = name_of parts
 
--- the word that stands behind the name of a `for`
+-- the word `in`, which follows the name of a `for`
 unfoldable pub is_in_word : Token → Bool
 is_in_word t = is_word t && is_plain (codes "in") t.parts
 
@@ -155,7 +155,7 @@ goes_on (t ∷ tokens) = op_of t
 
 mutual
   pub data IsCommand : (depth : ℕ) → (tokens : List Token) → (command : Command) → (rest : List Token) → Type 0 where
-    -- all words up to the next token that is none
+    -- all words up to the next token that is not a word
     simple : {depth : ℕ} (t : Token) (tokens : List Token) → is_word t ≡ true → reserved_of t ≡ None →
         assignment t.parts ≡ None →
         IsCommand depth (t ∷ tokens) (Simple (map word_of (words (t ∷ tokens)))) (past is_word (t ∷ tokens))
@@ -203,7 +203,7 @@ mutual
     block : {depth : ℕ} (tokens : List Token) {block : Script} {rest : List Token} →
         IsLists depth (past is_separator tokens) block rest → IsBlock depth tokens block rest
 
-  -- and-or lists with separators between. Behind a simple command or assignments no word comes without a separator
+  -- and-or lists with separators between. After a simple command or assignments, no word comes without a separator
   pub data IsLists : (depth : ℕ) → (tokens : List Token) → (lists : Script) → (rest : List Token) → Type 0 where
     last : {depth : ℕ} {tokens : List Token} (after : List Token) {list : AndOr} → IsAndOr depth tokens list after →
         ends_block (past is_separator after) ≡ true → IsLists depth tokens (Runs list Empty) (past is_separator after)
@@ -228,7 +228,7 @@ pub data IsScript : (depth : ℕ) → (tokens : List Token) → (script : Script
   commands : {depth : ℕ} (tokens : List Token) {script : Script} →
       IsLists depth (past is_separator tokens) script [] → IsScript depth tokens script
 
--- compound commands stand at most so deep in one another
+-- compound commands may be nested at most this deep
 abbrev pub max_nesting : ℕ
 max_nesting = 64
 

@@ -125,7 +125,7 @@ newline_first (t ∷ tokens) = is_newline_token t
 abbrev pub newline_next : Input → Bool
 newline_next i = newline_first i.tokens
 
--- What is found so far goes along. The number bounds the turns. Each turn takes a token, so the count of tokens is
+-- What is found so far is passed along. The number bounds the turns. Each turn takes a token, so the count of tokens is
 -- enough.
 abbrev pub joined_by : Parser Command → (List (Op × Command) → Parser Joined) → List (Op × Command) → Option Op →
     Parser Joined
@@ -143,7 +143,7 @@ joined_all command i = joined command (length i.tokens) [] i
 unfoldable pub and_or : Parser Command → Parser AndOr
 and_or command = command >>= λ first. joined_all command >>= λ more. pure (Starts first more)
 
--- behind an and-or list: the end of the block, or a separator and further lists
+-- after an and-or list: the end of the block, or a separator and further lists
 abbrev pub lists_by : Parser Script → List AndOr → (separator ends : Bool) → Parser Script
 lists_by more found separator true = skip is_separator >> pure (runs found)
 lists_by more found true false = skip is_separator >> more
@@ -162,7 +162,7 @@ lists_all command i = lists command (suc (length i.tokens)) [] i
 unfoldable pub block : Parser Command → Parser Script
 block command = skip is_separator >> lists_all command
 
--- behind an arm: `fi`, an `else` block, or another arm
+-- after an arm: `fi`, an `else` block, or another arm
 abbrev pub more_by : Parser Command → (List (Script × Script) → Parser Arms) → List (Script × Script) →
     Option Reserved → Parser Arms
 more_by command more found (Some r.Else) = λ i. (block command >>= λ body. pure (arms_of found (Some body))) (next i)
@@ -211,7 +211,7 @@ missing_at [] Whole size = MissingWord size
 missing_at [] (Refused error) size = error
 missing_at (t ∷ tokens) end size = MissingWord t.start
 
--- why no name or no `in` stands here
+-- why there is no name or no `in` here
 unfoldable pub missing : Input → SyntaxError
 missing i = missing_at i.tokens i.end i.size
 
@@ -263,7 +263,7 @@ for_command command = do
   body ← body_of command
   pure (For name words body)
 
--- ---- simple commands and assignments, where no reserved word comes next
+-- ---- simple commands and assignments, if no reserved word comes next
 
 abbrev pub assigned : Token → Option (List ℕ × List Part) → Result (List (List ℕ × Word)) SyntaxError →
     Result (List (List ℕ × Word)) SyntaxError
@@ -372,13 +372,13 @@ finish (Err error) = Err error
 unfoldable pub whole : ℕ → Input → Result Script SyntaxError
 whole depth i = finish (script depth i)
 
--- ---- what a function that parses ensures: the outcome of a rule, unless memory fails
+-- ---- what a function that parses ensures: the outcome of a rule, unless memory runs out
 
 abbrev pub Reads : {X Y : Type 0} → (X → Y) → Parsed Y → Result X SyntaxError → Input → Type 0
 Reads view outcome (Ok x) new = outcome ≡ Ok (view x, new)
 Reads view outcome (Err e) new = e ≢ Memory → outcome ≡ Err e
 
--- the same of a function that reads no tokens off
+-- the same for a function that takes no tokens
 abbrev pub Answers : {X Y : Type 0} → (X → Y) → Result Y SyntaxError → Result X SyntaxError → Type 0
 Answers view outcome (Ok x) = outcome ≡ Ok (view x)
 Answers view outcome (Err e) = e ≢ Memory → outcome ≡ Err e

@@ -12,7 +12,7 @@ use Rattle.hushlang.specs.declared.pieces.Gathering.{Gathering}
 use Rattle.hushlang.specs.declared.token.SyntaxError.{SyntaxError}
 use Rattle.hushlang.specs.declared.token.SyntaxError.TheVariants.{Memory}
 
--- a byte in front of pieces: neighbouring bytes stand in one piece
+-- a byte before pieces: neighbouring bytes are in one piece
 abbrev pub with_byte : ℕ → List tree.Piece → List tree.Piece
 with_byte b (tree.Bytes bytes ∷ pieces) = tree.Bytes (b ∷ bytes) ∷ pieces
 with_byte b pieces = tree.Bytes (b ∷ []) ∷ pieces
@@ -30,7 +30,7 @@ abbrev pub pieces_in : Seen → Result (List tree.Piece) SyntaxError
 pieces_in (Takes stop parts) = Ok (pieces parts)
 pieces_in (Refuses error) = Err error
 
--- those pieces or that refusal, unless memory is wanting
+-- these pieces or this refusal, unless memory runs out
 abbrev pub GivesPieces : Result (List tree.Piece) SyntaxError → Result (Vec Piece Global) SyntaxError → Type 0
 GivesPieces wanted (Ok found) = wanted ≡ Ok (map view.piece found.items)
 GivesPieces wanted (Err error) = error ≢ Memory → wanted ≡ Err error
@@ -66,7 +66,7 @@ abbrev pub with_parts : PiecesSoFar → List Part → PiecesSoFar
 with_parts g [] = g
 with_parts g (part ∷ parts) = with_parts (with_part g part) parts
 
--- what is gathered behind pieces that are known, where these parts are to come
+-- what is gathered after known pieces, if these parts are to come
 abbrev pub pieces_behind : PiecesSoFar → Seen → Result (List tree.Piece) SyntaxError
 pieces_behind g (Takes stop parts) = Ok (closed (with_parts g parts)).pieces
 pieces_behind g (Refuses error) = Err error

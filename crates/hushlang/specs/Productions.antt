@@ -1,9 +1,9 @@
 -- Blocks and scripts by the productions of the grammar, which do not look at what follows:
 --   block  := sep* andor (sep+ andor)* sep+
---           | sep* andor (sep+ andor)*        where the last command is compound
+--           | sep* andor (sep+ andor)*        if the last command is compound
 --   script := sep* | sep* andor (sep+ andor)* sep*
--- Ours, after docs/LANGUAGE.md. The grammar has one constructor with a look-ahead in their place; laws say that they
--- agree.
+-- Ours, after docs/LANGUAGE.md. The grammar has one constructor with a look-ahead instead of the two cases of a block.
+-- Laws say that they agree.
 use Rattle.std.specs.Prelude.{◌≡◌, ℕ, true, List, ◌∷◌, ◌++◌}
 use Rattle.std.specs.List.{list_all}
 use Rattle.hushlang.specs.Token.{Token}

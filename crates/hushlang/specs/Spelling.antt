@@ -1,6 +1,6 @@
 -- How a text spells its tokens: a case for each rule. A text is given with the place of its first byte.
--- After the hush shell of the U-Boot documentation, doc/usage/cmdline. Where that is silent, as on faults and their
--- places, on `$` before other bytes and on backslashes in double quotes, the rule is ours.
+-- After the hush shell of the U-Boot documentation, doc/usage/cmdline. It is silent on some points, as on faults and
+-- their places, on `$` before other bytes and on backslashes in double quotes; the rules for them are ours.
 use Rattle.std.specs.Prelude.{◌≡◌, ◌≢◌, ℕ, suc, ◌+◌, Bool, true, false, not, ◌&&◌, ◌==◌, IsTrue, List, [], ◌∷◌, ◌++◌, length, map, ◌⊎◌}
 use Rattle.std.specs.List.{list_all}
 use Rattle.text.specs.Bytes as ascii
@@ -11,12 +11,12 @@ use Rattle.hushlang.specs.declared.token.Kind.TheVariants as kinds
 use Rattle.hushlang.specs.declared.token.SyntaxError.{SyntaxError}
 use Rattle.hushlang.specs.declared.token.SyntaxError.TheVariants.{OpenQuote, LoneBackslash, OpenBrace, BadVariable, SingleAmp, SinglePipe}
 
--- a `$` that stands for itself, outside double quotes or inside them
+-- a `$` that means itself, outside double quotes or inside them
 abbrev pub dollar_itself : (split : Bool) → Part
 dollar_itself true = Plain ascii.dollar
 dollar_itself false = Kept ascii.dollar
 
--- `$` before anything else than a name, `?` or `{`
+-- `$` before anything other than a name, `?` or `{`
 abbrev pub is_bare : ℕ → Bool
 is_bare b = not (begins_name b) && not (b == ascii.question_mark) && not (b == ascii.open_brace)
 
@@ -39,19 +39,19 @@ pub data IsDollar (split : Bool) : (spelled rest : List ℕ) → (part : Part) �
       IsDollar split (ascii.dollar ∷ []) (b ∷ rest) (dollar_itself split)
   at_end : IsDollar split (ascii.dollar ∷ []) [] (dollar_itself split)
 
--- the text begins with a `${` that is refused
+-- the text starts with a `${` that is refused
 pub data IsBadDollar : (at : ℕ) → (text : List ℕ) → (error : SyntaxError) → Type 0 where
-  -- brace bytes reach the end
+  -- brace bytes up to the end
   open_brace : {at : ℕ} {name : List ℕ} → IsTrue (list_all is_brace_byte name) →
       IsBadDollar at (ascii.dollar ∷ ascii.open_brace ∷ name) (OpenBrace at)
-  -- no brace byte, or another byte than `}` after them
+  -- no brace byte, or a byte other than `}` after them
   no_name : {at b : ℕ} {rest : List ℕ} → is_brace_byte b ≡ false →
       IsBadDollar at (ascii.dollar ∷ ascii.open_brace ∷ b ∷ rest) (BadVariable at)
   no_brace : {at first b : ℕ} (name rest : List ℕ) → IsTrue (list_all is_brace_byte (first ∷ name)) →
       is_brace_byte b ≡ false → b ≢ ascii.close_brace →
       IsBadDollar at (ascii.dollar ∷ ascii.open_brace ∷ first ∷ name ++ b ∷ rest) (BadVariable at)
 
--- the text, which begins inside double quotes, has contents with these parts up to rest, which begins at stop
+-- the text, which starts inside double quotes, has contents with these parts up to rest, which starts at stop
 pub data Contents : (at : ℕ) → (text : List ℕ) → (parts : List Part) → (stop : ℕ) → (rest : List ℕ) → Type 0 where
   none : {at : ℕ} {rest : List ℕ} → Contents at rest [] at rest
   byte : {at b stop : ℕ} {text rest : List ℕ} {parts : List Part} → is_escapable b ≡ false →
@@ -71,7 +71,7 @@ pub data Contents : (at : ℕ) → (text : List ℕ) → (parts : List Part) →
       IsDollar false spelled text part → Contents (at + length spelled) text parts stop rest →
       Contents at (spelled ++ text) (part ∷ parts) stop rest
 
--- the text begins with a row of pieces, which has these parts and goes up to rest
+-- the text starts with a row of pieces, which has these parts and goes up to rest
 pub data Row : (at : ℕ) → (text : List ℕ) → (parts : List Part) → (stop : ℕ) → (rest : List ℕ) → Type 0 where
   none : {at : ℕ} {rest : List ℕ} → Row at rest [] at rest
   ordinary : {at b stop : ℕ} {text rest : List ℕ} {parts : List Part} → IsTrue (is_ordinary b) →
@@ -93,13 +93,13 @@ pub data Row : (at : ℕ) → (text : List ℕ) → (parts : List Part) → (sto
       Row (suc (suc at)) text (part ∷ parts) stop rest →
       Row at (ascii.backslash ∷ ascii.newline ∷ text) (part ∷ parts) stop rest
 
--- no piece follows: a separator or the end, behind backslashes and newlines that vanish
+-- no piece follows: a separator or the end, after backslashes and newlines that vanish
 pub data EndsWord : (rest : List ℕ) → Type 0 where
   at_end : EndsWord []
   separator : {b : ℕ} {rest : List ℕ} → IsTrue (is_separator b) → EndsWord (b ∷ rest)
   joined : {rest : List ℕ} → EndsWord rest → EndsWord (ascii.backslash ∷ ascii.newline ∷ rest)
 
--- the text begins with a piece that is refused
+-- the text starts with a piece that is refused
 pub data IsFaulty : (at : ℕ) → (text : List ℕ) → (error : SyntaxError) → Type 0 where
   single : {at : ℕ} {quoted : List ℕ} → IsTrue (list_all (λ b. not (b == ascii.quote)) quoted) →
       IsFaulty at (ascii.quote ∷ quoted) (OpenQuote at)
@@ -113,7 +113,7 @@ pub data IsFaulty : (at : ℕ) → (text : List ℕ) → (error : SyntaxError) �
   joined : {at : ℕ} {text : List ℕ} {error : SyntaxError} → IsFaulty (suc (suc at)) text error →
       IsFaulty at (ascii.backslash ∷ ascii.newline ∷ text) error
 
--- a word may begin here: there is no comment, and no backslash and newline that vanish
+-- a word may start here: there is no comment, and no backslash and newline that vanish
 abbrev pub may_begin_word : List ℕ → Bool
 may_begin_word [] = false
 may_begin_word (b ∷ text) = not (b == ascii.hash) && not (b == ascii.backslash && begins (λ c. c == ascii.newline) text)

@@ -23,7 +23,7 @@ abbrev pub begun_field : Bool → List ℕ → List (List ℕ)
 begun_field true field = field ∷ []
 begun_field false field = []
 
--- what stays on the way where it ends
+-- what stays gathered when the field on the way ends
 abbrev pub left_field : Bool → List ℕ → List ℕ
 left_field true field = []
 left_field false field = field
@@ -58,15 +58,15 @@ IsCounted g = gathered_size (fields_so_far g) + g.room ≡ most_bytes
 
 -- ---- values with fewer separators
 
--- split values that leave the same on the way, whatever stands before them
+-- split values that have the same effect, whatever comes before them
 abbrev pub AreCutAlike : (value other : List ℕ) → Type 0
 AreCutAlike value other = (g : FieldsSoFar) → with_atoms g (map split_atom value) ≡ with_atoms g (map split_atom other)
 
--- a split value with at most one separator more than bytes that are kept
+-- a split value with at most one separator more than the bytes that fields keep
 abbrev pub IsBrief : List ℕ → Type 0
 IsBrief value = length value ≤ 2 * length (kept_bytes (map split_atom value)) + 1
 
--- each name has a brief value that is cut as its variable's is
+-- each name has a brief value that is cut as its variable's value is
 abbrev pub AreShort : Parameters → List (Vec ℕ Global × Vec ℕ Global) → Type 0
 AreShort parameters [] = Unit
 AreShort parameters (entry ∷ entries) = AreCutAlike (value_of parameters entry.0.items) entry.1.items

@@ -1,5 +1,5 @@
--- A word straight behind a compound command, as in `fi fi`: no separator and no operator stands between.
--- Ours: the language takes it, and the hush shell of U-Boot refuses it.
+-- A word straight after a compound command, as in `fi fi`, with no separator and no operator between. Ours: the
+-- language takes it, and the hush shell of U-Boot refuses it.
 use Rattle.std.specs.Prelude.{ℕ, Bool, true, false, ◌&&◌, if◌then◌else◌, List, [], ◌∷◌, Option, Some, None}
 use Rattle.hushlang.specs.Token.{Token}
 use Rattle.hushlang.specs.Grammar.{is_word, reserved_of}
@@ -8,7 +8,7 @@ use Rattle.hushlang.specs.declared.words.Reserved.TheVariants as r
 use Rattle.hushlang.specs.declared.straight.Stand.{Stand}
 use Rattle.hushlang.specs.declared.straight.Stand.TheVariants.{Begins, Within, Behind}
 
--- where the token behind a word stands, which may begin a command and is this reserved word, if it is one
+-- where the token after a word is, if the word may start a command and is this reserved word, or no reserved word
 abbrev pub behind_reserved : Option Reserved → Stand
 behind_reserved (Some r.Fi) = Behind
 behind_reserved (Some r.Done) = Behind
@@ -16,7 +16,7 @@ behind_reserved (Some r.For) = Within
 behind_reserved None = Within
 behind_reserved _ = Begins
 
--- where the token behind a word stands: among the words of a command no word is reserved
+-- where the token after a word is: among the words of a command, no word is reserved
 abbrev pub behind_word : Stand → Option Reserved → Stand
 behind_word Within word = Within
 behind_word Begins word = behind_reserved word
@@ -31,7 +31,7 @@ is_behind Behind = true
 is_behind Begins = false
 is_behind Within = false
 
--- the place of the first word that stands straight behind a compound command
+-- the place of the first word that is straight after a compound command
 abbrev pub straight_from : Stand → List Token → Option ℕ
 straight_from stand [] = None
 straight_from stand (t ∷ tokens) =

@@ -26,26 +26,26 @@ fault_place (error.SingleAmp place) = Some place
 fault_place (error.SinglePipe place) = Some place
 fault_place e = None
 
--- behind tokens that all begin a script, this fault refuses the text
+-- after tokens that all start a script, this fault refuses the text
 abbrev pub IsFaultOf : (text : List ℕ) → SyntaxError → Type 0
 IsFaultOf text e = (tokens : List Token) × Spells 0 text tokens (Refused e) × IsViable max_nesting tokens
 
--- no script goes on with what stands at this place
+-- no script goes on with what is at this place
 pub data IsBlocked : (text : List ℕ) → (place : ℕ) → Type 0 where
-  -- the first token with which the tokens begin no script
+  -- the first token with which the tokens do not start a script
   at_token : {text : List ℕ} {end : End} (front : List Token) (t : Token) (more : List Token) →
       Spells 0 text (front ++ t ∷ more) end → IsViable max_nesting front →
       (IsViable max_nesting (front ++ t ∷ []) → ⊥) → IsBlocked text t.start
-  -- all tokens begin a script: the fault behind them
+  -- all tokens start a script; a fault follows them at this place
   at_fault : {text : List ℕ} {place : ℕ} (e : SyntaxError) → IsFaultOf text e → fault_place e ≡ Some place →
       IsBlocked text place
-  -- all tokens begin a script, up to the end of the text
+  -- all tokens start a script, and the text ends at this place
   at_end : {text : List ℕ} (tokens : List Token) → Spells 0 text tokens Whole → IsViable max_nesting tokens →
       IsBlocked text (length text)
 
 -- ---- what an answer says of a text
 
--- a refusal of the grammar stands where the text is blocked
+-- a refusal of the grammar is where the text is blocked
 abbrev pub IsPlaced : (text : List ℕ) → Option ℕ → Type 0
 IsPlaced text None = Unit {0}
 IsPlaced text (Some place) = IsBlocked text place
@@ -55,7 +55,7 @@ abbrev pub IsFaultIf : (text : List ℕ) → SyntaxError → Option ℕ → Type
 IsFaultIf text e None = Unit {0}
 IsFaultIf text e (Some place) = IsFaultOf text e
 
--- the answer is this refusal, unless memory is wanting
+-- the answer is this refusal, unless memory runs out
 abbrev pub AnswersFault : {A : Type 0} → Result A SyntaxError → SyntaxError → Type 0
 AnswersFault (Ok s) e = ⊥
 AnswersFault (Err a) e = a ≢ error.Memory → a ≡ e

@@ -1,5 +1,5 @@
 -- Tokens, as the language knows them.
--- After the hush shell of the U-Boot documentation, doc/usage/cmdline; parts and places are ours.
+-- After the hush shell of the U-Boot documentation, doc/usage/cmdline. Parts and places are ours.
 use Rattle.std.specs.Prelude.{ℕ, Bool, List, []}
 use Rattle.hushlang.specs.declared.token.Kind.{Kind}
 use Rattle.hushlang.specs.declared.token.Kind.TheVariants as kinds
@@ -7,7 +7,7 @@ use Rattle.hushlang.specs.declared.token.SyntaxError.{SyntaxError}
 
 -- a part of a word
 pub data Part : Type 0 where
-  -- a byte outside quotes and without a backslash
+  -- a byte that is outside quotes and has no backslash
   Plain : (byte : ℕ) → Part
   -- a byte that quotes or a backslash keep
   Kept : (byte : ℕ) → Part
@@ -25,7 +25,7 @@ pub record Token : Type 0 where
   pub stop : ℕ
   pub parts : List Part
 
--- a token that is no word
+-- a token that is not a word
 abbrev pub sign : Kind → ℕ → ℕ → Token
 sign kind start stop = record { kind = kind; start = start; stop = stop; parts = [] }
 

@@ -13,9 +13,9 @@ use Rattle.hushlang.specs.declared.token.Kind.TheVariants as kinds
 use Rattle.hushlang.specs.declared.token.SyntaxError.{SyntaxError}
 use Rattle.hushlang.specs.declared.token.SyntaxError.TheVariants.{OpenQuote, LoneBackslash, OpenBrace, BadVariable, SingleAmp, SinglePipe}
 
--- what a look at the front of a text finds
+-- what a look at the start of a text finds
 pub data Step : Type 0 where
-  -- a byte, and so many behind it, with these parts; then on in a mode
+  -- a byte, and this many after it, with these parts; reading goes on in this mode
   Goes : (mode : Mode) → (skip : ℕ) → (parts : List Part) → Step
   -- a backslash and a newline between pieces
   Vanishes : Step
@@ -32,7 +32,7 @@ abbrev pub variable : (split : Bool) → (first : ℕ) → (name : List ℕ) →
 variable split first [] = if first == ascii.question_mark then Status else Var (first ∷ []) split
 variable split first (b ∷ name) = Var (first ∷ b ∷ name) split
 
--- behind `${`, where the brace bytes and what follows them are known
+-- after `${`, if the brace bytes and what follows them are known
 abbrev pub closed : (mode : Mode) → (at : ℕ) → (name rest : List ℕ) → Step
 closed mode at name [] = Fails (OpenBrace at)
 closed mode at [] (b ∷ rest) = Fails (BadVariable at)
@@ -55,7 +55,7 @@ dollar mode at (b ∷ text) =
     else (if begins_name b then named mode (prefix_len is_name_byte (b ∷ text)) (b ∷ text)
     else Goes mode 0 (dollar_itself (splits mode) ∷ [])))
 
--- behind a backslash outside quotes
+-- after a backslash outside quotes
 abbrev pub backslash : (at : ℕ) → List ℕ → Step
 backslash at [] = Fails (LoneBackslash at)
 backslash at (b ∷ text) = if b == ascii.newline then Vanishes else Goes Bare 1 (Kept b ∷ [])
@@ -69,7 +69,7 @@ bare at b text =
     else (if b == ascii.dollar then dollar Bare at text
     else Goes Bare 0 (Plain b ∷ [])))))
 
--- behind a backslash in double quotes
+-- after a backslash in double quotes
 abbrev pub escape : (mode : Mode) → List ℕ → Step
 escape mode [] = Goes mode 0 (Kept ascii.backslash ∷ [])
 escape mode (b ∷ text) = if is_escapable b then Goes mode 1 (Kept b ∷ [])
@@ -105,7 +105,7 @@ skip_behind (Goes mode skip parts) = skip
 skip_behind Vanishes = 1
 skip_behind other = 0
 
--- a pair that vanishes behind the last piece is no part of the row
+-- a pair that vanishes after the last piece is not part of the row
 abbrev pub stop_behind : (stop at : ℕ) → Step → ℕ
 stop_behind stop at (Goes mode skip parts) = suc at + skip
 stop_behind stop at other = stop
@@ -121,7 +121,7 @@ at_end Bare stop = Takes stop []
 at_end (Single opening) stop = Refuses (OpenQuote opening)
 at_end (Double opening) stop = Refuses (OpenQuote opening)
 
--- the pieces that follow in a text, where those before it stop; so many bytes are to be passed over first
+-- the pieces that follow in a text; the pieces before it end at `stop`, and `skip` bytes are skipped first
 abbrev pub row : (mode : Mode) → (stop skip at : ℕ) → (text : List ℕ) → Seen
 row mode stop skip at [] = at_end mode stop
 row mode stop (suc skip) at (b ∷ text) = row mode stop skip (suc at) text
@@ -130,9 +130,9 @@ row mode stop zero at (b ∷ text) =
     (row (mode_behind mode (step mode at b text)) (stop_behind stop at (step mode at b text))
     (skip_behind (step mode at b text)) (suc at) text)
 
--- what stands at the front of a text
+-- what is at the start of a text
 pub data Front : Type 0 where
-  -- nothing of meaning, with so many bytes behind the first
+  -- nothing with a meaning: the first byte, and this many after it
   Gap : (skip : ℕ) → Front
   Sees : (token : Token) → (skip : ℕ) → Front
   Stops : (error : SyntaxError) → Front
@@ -184,6 +184,6 @@ lexed_from skip at [] = record { tokens = []; end = Whole }
 lexed_from (suc skip) at (b ∷ text) = lexed_from skip (suc at) text
 lexed_from zero at (b ∷ text) = follow (front at b text) (lexed_from (skip_of (front at b text)) (suc at) text)
 
--- of a text whose first byte stands at a place
+-- the tokens of a text whose first byte is at a place
 abbrev pub lexed : (at : ℕ) → (text : List ℕ) → Lexed
 lexed at text = lexed_from 0 at text

@@ -1,11 +1,11 @@
--- The syntax tree of a script, as what it says: no place in memory is part of it.
--- The tree is ours; what it tells apart are the commands of the U-Boot documentation, doc/usage/cmdline.
+-- The syntax tree of a script, as what it says. Addresses in memory are no part of it.
+-- The tree is ours. The commands that it distinguishes are those of the U-Boot documentation, doc/usage/cmdline.
 use Rattle.std.specs.Prelude.{ℕ, Bool, true, false, List}
 use Rattle.hushlang.specs.declared.tree.Op.{Op}
 
 -- a part of a word
 pub data Piece : Type 0 where
-  -- bytes as they stand
+  -- bytes as they are
   Bytes : (bytes : List ℕ) → Piece
   -- a pair of quotes
   Mark : Piece

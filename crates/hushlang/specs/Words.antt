@@ -37,7 +37,7 @@ abbrev pub plain_byte : Part → Option ℕ
 plain_byte (Plain b) = Some b
 plain_byte part = None
 
--- the same of what a reader of parts finds; nothing that is refused spells a word
+-- the same for what a reader of parts finds; if it refuses something, no word is spelled
 abbrev pub spells : (word : List ℕ) → Seen → Bool
 spells word (Takes stop parts) = is_plain word parts
 spells word (Refuses error) = false

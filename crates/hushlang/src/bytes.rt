@@ -1,4 +1,4 @@
-//! The bytes that the language tells apart.
+//! The classes of bytes that the language distinguishes.
 
 ghost use Rattle.std.specs.Prelude.{◌≡◌, ◌<◌, ◌≤◌, length, not, IsTrue, ◌==◌};
 ghost use Rattle.std.specs.List.{prefix_len};
@@ -7,35 +7,35 @@ ghost use Rattle.hushlang.specs.ByteClasses as spec;
 
 use text::is_space;
 
-/// Whether a byte ends a word where it stands bare.
+/// Whether a byte ends a word unless it is quoted.
 pub fn is_separator(b: u8) -> bool
     ensures { result ≡ spec.is_separator b }
 {
     is_space(b) || b == b';' || b == b'&' || b == b'|' || b == b'\n'
 }
 
-/// Whether a name may begin with a byte.
+/// Whether a name may start with a byte.
 pub fn begins_name(b: u8) -> bool
     ensures { result ≡ spec.begins_name b }
 {
     (b'a' <= b && b <= b'z') || (b'A' <= b && b <= b'Z') || b == b'_'
 }
 
-/// Whether a name may go on with a byte.
+/// Whether a name may contain a byte after its first.
 pub fn is_name_byte(b: u8) -> bool
     ensures { result ≡ spec.is_name_byte b }
 {
     begins_name(b) || (b'0' <= b && b <= b'9')
 }
 
-/// Whether a byte goes on with a name that has begun, or begins one.
+/// Whether a byte continues a name that has begun, or starts one.
 pub fn continues_name(begun: bool, b: u8) -> bool
     ensures { result ≡ spec.continues_name begun b }
 {
     begins_name(b) || (begun && is_name_byte(b))
 }
 
-/// Whether a byte may stand in the name between `${` and `}`.
+/// Whether a byte may be in the name between `${` and `}`.
 pub fn is_brace_byte(b: u8) -> bool
     ensures { result ≡ spec.is_brace_byte b }
 {
@@ -63,7 +63,7 @@ pub fn is_escapable(b: u8) -> bool
     b == b'$' || b == b'"' || b == b'\\'
 }
 
-/// Whether a text begins with a byte.
+/// Whether a text starts with a byte.
 pub fn begins(text: &[u8], wanted: u8) -> bool
     ensures value { result ≡ spec.begins (λ b. b == wanted) text.now }
     ensures some { IsTrue result → 0 < length text.now }
@@ -74,7 +74,7 @@ pub fn begins(text: &[u8], wanted: u8) -> bool
     }
 }
 
-/// How many name bytes stand at the front of a text.
+/// How many bytes at the start of a text may be in a name.
 pub fn name_len(text: &[u8]) -> usize
     ensures value { result ≡ prefix_len spec.is_name_byte text.now }
     ensures within { result ≤ length text.now }
@@ -82,7 +82,7 @@ pub fn name_len(text: &[u8]) -> usize
     text.iter().take_while(|b| is_name_byte(**b)).count()
 }
 
-/// How many bytes at the front of a text may stand in a name in braces.
+/// How many bytes at the start of a text may be in a name in braces.
 pub fn brace_len(text: &[u8]) -> usize
     ensures value { result ≡ prefix_len spec.is_brace_byte text.now }
     ensures within { result ≤ length text.now }
@@ -90,7 +90,7 @@ pub fn brace_len(text: &[u8]) -> usize
     text.iter().take_while(|b| is_brace_byte(**b)).count()
 }
 
-/// How many bytes stand before the end of the line.
+/// How many bytes are before the end of the line.
 pub fn line_len(text: &[u8]) -> usize
     ensures value { result ≡ prefix_len (λ b. not (b == ascii.newline)) text.now }
     ensures within { result ≤ length text.now }

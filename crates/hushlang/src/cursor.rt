@@ -15,8 +15,9 @@ use crate::words::{Reserved, is_assignment, is_in, is_word, name_in, reserved_at
 use std::alloc::Global;
 use std::marker::Model;
 
-/// What a lexer gives next: a token with the reserved word that it is, or what refuses the text, or neither at
-/// its end. The reserved word is found here alone, since the rules ask for it again and again.
+/// What a lexer gives next: a token with the reserved word that it is, or what refuses the text, or
+/// neither at its end. Only this place looks for the reserved word, since the rules ask for it
+/// again and again.
 #[derive(Clone, Copy, Debug)]
 struct Ahead<'a> {
     token: Option<Token<'a>>,
@@ -24,7 +25,7 @@ struct Ahead<'a> {
     fault: Option<SyntaxError>,
 }
 
-/// The tokens to come. What refuses the text stands behind the tokens before it.
+/// The tokens to come. What refuses the text comes after the tokens before it.
 #[derive(Drop)]
 pub struct Tokens<'a> {
     lexer: Lexer<'a>,
@@ -64,7 +65,7 @@ fn pull<'a>(lexer: &mut Lexer<'a>) -> Ahead<'a>
 }
 
 impl<'a> Tokens<'a> {
-    /// Starts at the front of a text.
+    /// Starts at the beginning of a text.
     pub fn new(text: &'a [u8]) -> Tokens<'a>
         ensures { result ≡ input_in text.now }
     {
@@ -77,7 +78,7 @@ impl<'a> Tokens<'a> {
         }
     }
 
-    /// Why no rule takes the next token.
+    /// Why no rule takes the next token: `Unexpected`, or the fault of the text.
     #[tactic(auto, unfolding(crate::specs::Parsing::refusal))]
     pub fn refuse(&self) -> SyntaxError
         ensures { result ≡ spec.refusal self.now }
@@ -123,7 +124,7 @@ impl<'a> Tokens<'a> {
         }
     }
 
-    /// Whether a reserved word comes next.
+    /// Whether this reserved word comes next.
     #[tactic(auto, unfolding(crate::specs::Parsing::sees))]
     pub fn sees(&self, word: Reserved) -> bool
         ensures value { result ≡ spec.sees word self.now }
@@ -132,7 +133,7 @@ impl<'a> Tokens<'a> {
         is_keyword(word, self.keyword())
     }
 
-    /// Takes a reserved word.
+    /// Takes this reserved word. If another token comes next, takes nothing and returns `refuse`.
     #[tactic(auto, unfolding(crate::specs::Parsing::expect))]
     pub fn expect(&mut self, word: Reserved) -> Result<(), SyntaxError>
         ensures reads { Reads (λ x. x) (spec.expect word self.old) result self.new }
@@ -146,7 +147,7 @@ impl<'a> Tokens<'a> {
         }
     }
 
-    /// Goes into a compound command, if one may begin with so many levels left.
+    /// Enters a compound command, with `depth` levels left. Errors: `TooDeep` if none is left.
     pub fn enter(&mut self, depth: usize) -> Result<(), SyntaxError>
         ensures ok { OnOk result ((0 < depth) × (self.new ≡ spec.next self.old)) }
         ensures err { OnErr result ((depth ≡ 0) × (self.new ≡ self.old)) }
@@ -222,7 +223,7 @@ impl<'a> Tokens<'a> {
         }
     }
 
-    /// Takes the separators that come next, and says whether there was one.
+    /// Takes the separators that come next. Returns whether there was one.
     #[tactic(auto, using(crate::proofs::Passing::passing))]
     pub fn skip_separators(&mut self) -> bool
         ensures found { result ≡ spec.separator_next self.old }
@@ -272,7 +273,8 @@ impl<'a> Tokens<'a> {
         }
     }
 
-    /// Takes the name of a `for`.
+    /// Takes the name of a `for`. Errors: `MissingWord` or the fault of the text if no name comes
+    /// next, and `Memory`.
     #[tactic(auto, unfolding(crate::specs::Parsing::name, crate::specs::Parsing::name_next, crate::specs::Parsing::next, crate::specs::Parsing::missing))]
     pub fn name(&mut self, alloc: Global) -> Result<Vec<u8>, SyntaxError>
         ensures reads { Reads (λ name. name.items) (spec.name self.old) result self.new }
@@ -291,7 +293,7 @@ impl<'a> Tokens<'a> {
         }
     }
 
-    /// Takes the word `in`.
+    /// Takes the word `in`. Errors: `MissingWord`, or the fault of the text.
     #[tactic(auto, unfolding(crate::specs::Parsing::expect_in, crate::specs::Parsing::in_next, crate::specs::Parsing::next, crate::specs::Parsing::missing))]
     pub fn expect_in(&mut self) -> Result<(), SyntaxError>
         ensures reads { Reads (λ x. x) (spec.expect_in self.old) result self.new }
@@ -315,7 +317,7 @@ impl<'a> Tokens<'a> {
         }
     }
 
-    /// Why no name or no `in` stands here.
+    /// Why there is no name or no `in` here.
     #[tactic(auto, unfolding(crate::specs::Parsing::missing))]
     fn missing(&self) -> SyntaxError
         ensures { result ≡ spec.missing self.now }
@@ -329,7 +331,7 @@ impl<'a> Tokens<'a> {
         }
     }
 
-    /// Takes separators, one at least.
+    /// Takes at least one separator. If none comes next, returns `refuse`.
     #[tactic(auto, unfolding(crate::specs::Parsing::separators))]
     pub fn separators(&mut self) -> Result<(), SyntaxError>
         ensures reads { Reads (λ x. x) (spec.separators self.old) result self.new }
@@ -354,7 +356,8 @@ impl<'a> Tokens<'a> {
         }
     }
 
-    /// Whether the text ends here, without a fault.
+    /// Checks that the text ends here, without a fault. Errors: `Unexpected` if a token is left, or
+    /// the fault of the text.
     pub fn finish(&self) -> Result<(), SyntaxError>
         ensures { (s : says.Script) → spec.finish_at s self.now.tokens self.now.end self.now.size ≡ spec.finished s result }
     {

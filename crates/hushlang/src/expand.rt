@@ -26,7 +26,7 @@ pub enum ExpandError {
     /// The result would hold more than 65,536 bytes.
     #[error("the words expand to more than 65536 bytes")]
     TooLong,
-    /// There is no memory for the result.
+    /// Memory ran out.
     #[error("out of memory")]
     Memory,
 }
@@ -58,7 +58,7 @@ pub trait Vars {
     /// The values of the variables, and the status of the last command.
     ghost parameters: { Self → spec.Parameters };
 
-    /// The value of a variable, or None where it is not set.
+    /// The value of a variable, or `None` if it is not set.
     fn get(&self, name: &[u8]) -> Option<&[u8]>
         ensures { option_copied result ≡ (parameters self.now).value name.now };
 
@@ -67,8 +67,8 @@ pub trait Vars {
         ensures { result ≡ (parameters self.now).status };
 }
 
-/// The fields of all words, in order. The answer is TooLong exactly where they hold more than 65,536 bytes
-/// in all, and Memory only where a growth was refused.
+/// Expands words to their fields, in order. Errors: `TooLong` exactly if the fields hold more than
+/// 65,536 bytes in all; `Memory` only if a growth was refused.
 pub fn expand<V: Vars>(alloc: Global, words: &[Word], vars: &V) -> Result<Vec<Vec<u8>>, ExpandError>
     ensures fields { IfOk result (λ found. map (λ field. field.items) found.items ≡ spec.fields (V.parameters vars.now) (map view.word words.now)) }
     ensures within_limit { OnOk result (spec.size (spec.fields (V.parameters vars.now) (map view.word words.now)) ≤ spec.most_bytes) }
@@ -82,8 +82,8 @@ pub fn expand<V: Vars>(alloc: Global, words: &[Word], vars: &V) -> Result<Vec<Ve
     Ok(fields.into_fields())
 }
 
-/// All bytes of a word, without cutting it at separators. The answer is TooLong exactly where there are more
-/// than 65,536 of them, and Memory only where a growth was refused.
+/// Expands a word to all its bytes, without cutting it at separators. Errors: `TooLong` exactly if
+/// there are more than 65,536 of them; `Memory` only if a growth was refused.
 pub fn expand_one<V: Vars>(alloc: Global, word: &Word, vars: &V) -> Result<Vec<u8>, ExpandError>
     ensures bytes { IfOk result (λ value. value.items ≡ spec.joined (V.parameters vars.now) (view.word word.now)) }
     ensures within_limit { OnOk result (length (spec.joined (V.parameters vars.now) (view.word word.now)) ≤ spec.most_bytes) }
@@ -96,7 +96,7 @@ pub fn expand_one<V: Vars>(alloc: Global, word: &Word, vars: &V) -> Result<Vec<u
     Ok(value)
 }
 
-/// The value of a variable, empty where it is not set.
+/// The value of a variable, or empty if it is not set.
 fn value_of<'v, V: Vars>(vars: &'v V, name: &[u8]) -> &'v [u8]
     ensures { result.now ≡ spec.value_of (V.parameters vars.now) name.now }
 {
@@ -116,8 +116,8 @@ fn separates(byte: u8) -> bool
 /// The values of the names that were split so far, each shortened.
 type ShortValues = BTreeMap<Vec<u8>, Vec<u8>>;
 
-/// A value that is cut alike, without separators side by side: it has at most one byte more than twice the
-/// bytes that fields keep of it.
+/// Copies a value without separators that follow a separator. It is cut to the same fields, and has
+/// at most one byte more than twice the bytes that fields keep of it.
 fn shortened(alloc: Global, value: &[u8]) -> Result<Vec<u8>, AllocError>
     ensures alike { IfOk result (λ short. way.AreCutAlike value.now short.items) }
     ensures brief { IfOk result (λ short. way.IsBrief short.items) }
@@ -135,7 +135,7 @@ fn shortened(alloc: Global, value: &[u8]) -> Result<Vec<u8>, AllocError>
     Ok(short)
 }
 
-/// Puts bytes at the end of a value, where they fit the limit.
+/// Adds bytes to the end of a value. Errors: `TooLong` if they do not fit the limit, `Memory`.
 fn append(value: &mut Vec<u8>, bytes: &[u8]) -> Result<(), ExpandError>
     requires { length value.old.items ≤ spec.most_bytes }
     ensures appended { OnOk result (value.new.items ≡ value.old.items ++ bytes.now) }
@@ -149,7 +149,7 @@ fn append(value: &mut Vec<u8>, bytes: &[u8]) -> Result<(), ExpandError>
     Ok(())
 }
 
-/// Puts all bytes of a piece at the end of a value.
+/// Adds all bytes of a piece to the end of a value. Errors: `TooLong`, `Memory`.
 #[tactic(auto, using(crate::proofs::ExpandLemmas::uncut))]
 fn append_piece<V: Vars>(value: &mut Vec<u8>, piece: &Piece, vars: &V) -> Result<(), ExpandError>
     requires { length value.old.items ≤ spec.most_bytes }
@@ -165,8 +165,8 @@ fn append_piece<V: Vars>(value: &mut Vec<u8>, piece: &Piece, vars: &V) -> Result
     }
 }
 
-/// Fields on the way: those that are whole, the one that bytes are added to, whether that one has begun (it
-/// may be empty), and how many more bytes fit the limit.
+/// Fields on the way: those that are whole, the one to which bytes are added, whether that one has
+/// begun (it may be empty), and how many more bytes fit the limit.
 #[derive(Drop)]
 struct Gathering {
     alloc: Global,
@@ -190,7 +190,7 @@ impl Gathering {
         }
     }
 
-    /// The fields that are whole.
+    /// Gives the fields that are whole.
     fn into_fields(self) -> Vec<Vec<u8>>
         ensures { map (λ field. field.items) result.items ≡ (way.fields_so_far self).whole }
     {
@@ -204,7 +204,7 @@ impl Gathering {
         whole
     }
 
-    /// Adds a byte to the field on the way.
+    /// Adds a byte to the field on the way. Errors: `TooLong`, `Memory`.
     fn keep(&mut self, byte: u8) -> Result<(), ExpandError>
         requires { way.IsCounted self.old }
         ensures added { OnOk result (way.fields_so_far self.new ≡ way.with_atom (way.fields_so_far self.old) (spec.Kept byte)) }
@@ -221,7 +221,7 @@ impl Gathering {
         Ok(())
     }
 
-    /// Ends the field on the way, if it has begun.
+    /// Ends the field on the way, if it has begun. Errors: `Memory`.
     fn close(&mut self) -> Result<(), ExpandError>
         requires { way.IsCounted self.old }
         ensures closed { OnOk result (way.fields_so_far self.new ≡ way.closed (way.fields_so_far self.old)) }
@@ -236,7 +236,8 @@ impl Gathering {
         Ok(())
     }
 
-    /// Adds bytes to the field on the way, where they fit the limit.
+    /// Adds bytes to the field on the way. Errors: `TooLong` if they do not fit the limit,
+    /// `Memory`.
     #[tactic(auto, using(crate::proofs::ExpandLemmas::kept_at_once))]
     fn keep_all(&mut self, bytes: &[u8]) -> Result<(), ExpandError>
         requires { way.IsCounted self.old }
@@ -254,7 +255,7 @@ impl Gathering {
         Ok(())
     }
 
-    /// Adds the bytes of a value that is cut at its separators.
+    /// Adds the bytes of a value that is cut at its separators. Errors: `TooLong`, `Memory`.
     fn split(&mut self, value: &[u8]) -> Result<(), ExpandError>
         requires { way.IsCounted self.old }
         ensures added { OnOk result (way.fields_so_far self.new ≡ way.with_atoms (way.fields_so_far self.old) (map spec.split_atom value.now)) }
@@ -272,8 +273,9 @@ impl Gathering {
         Ok(())
     }
 
-    /// Adds the bytes of a variable that is cut at its separators. Its whole value is read where the name first
-    /// stands; from then on each use takes the time of the bytes that it adds.
+    /// Adds the bytes of a variable that is cut at its separators. The first use of a name reads
+    /// the whole value; each later use takes time for the bytes that it adds. Errors: `TooLong`,
+    /// `Memory`.
     fn add_split<V: Vars>(
         &mut self,
         name: &[u8],
@@ -324,7 +326,7 @@ impl Gathering {
         }
     }
 
-    /// Adds the fields of a word.
+    /// Adds the fields of a word. Errors: `TooLong`, `Memory`.
     fn add_word<V: Vars>(
         &mut self,
         word: &Word,

@@ -7,7 +7,7 @@ ghost use Rattle.hushlang.specs.Laws.{EachProducedScriptIsDerived, EachDerivedSc
 ghost use Rattle.hushlang.specs.Laws.{RefusalsArePlaced, FaultsAreAnswered};
 ghost use Rattle.hushlang.specs.Laws.{PrefixIsViable, FewTokensComplete, EachTextIsBlocked, OneBlockedPlace};
 
-/// A text spells one row of tokens at most: the one that is computed.
+/// A text spells at most one row of tokens: the computed one.
 pub fn spelled_once()
     ensures { SpelledOnce }
 {}
@@ -17,30 +17,30 @@ pub fn each_spelled()
     ensures { EachSpelled }
 {}
 
-/// Neighbouring bytes of a word stand in one piece, and none is empty.
+/// Neighbouring bytes of a word are in one piece, and no piece of bytes is empty.
 pub fn pieces_joined()
     ensures { PiecesJoined }
 {}
 
-/// Tokens stand one behind another within the text, and so does what refuses it behind them.
+/// Tokens follow one another within the text, and so does what refuses it after them.
 pub fn tokens_in_order()
     ensures { TokensInOrder }
 {}
 
-/// Tokens have one tree at most: the one that is computed.
+/// Tokens have at most one tree: the computed one.
 pub fn one_tree()
     ensures read { EachTreeIsRead }
     ensures derived { WhatIsReadIsATree }
     ensures one { OneTree }
 {}
 
-/// A text has one tree at most.
+/// A text has at most one tree.
 pub fn one_tree_of_text()
     ensures { OneTreeOfText }
 {}
 
-/// Each condition and each body holds a command, and ends with a separator or a compound command: they are those
-/// that the two productions of a block give. Each `if` has a condition.
+/// Each condition and each body holds a command, and ends with a separator or a compound command.
+/// They are the blocks that the two productions of a block give. Each `if` has a condition.
 pub fn blocks()
     ensures hold_commands { BlocksHoldCommands }
     ensures are_closed { BlocksAreClosed }
@@ -48,13 +48,13 @@ pub fn blocks()
     ensures are_produced { EachDerivedBlockIsProduced }
 {}
 
-/// Scripts are those that the production of a script gives.
+/// Scripts are the ones that the production of a script gives.
 pub fn scripts()
     ensures are_derived { EachProducedScriptIsDerived }
     ensures are_produced { EachDerivedScriptIsProduced }
 {}
 
-/// A refusal stands at the first token with which no script can go on.
+/// A refusal is at the first token with which no script can go on.
 pub fn places()
     ensures placed { RefusalsArePlaced }
     ensures faults { FaultsAreAnswered }
@@ -62,12 +62,12 @@ pub fn places()
     ensures one { OneBlockedPlace }
 {}
 
-/// What begins the beginning of a script begins a script.
+/// If tokens start a script, so does each prefix of them.
 pub fn prefix_is_viable()
     ensures { PrefixIsViable }
 {}
 
-/// The words `true` and `in`, separators and reserved words bring each beginning of a script to its end.
+/// The words `true` and `in`, separators and reserved words can complete each start of a script.
 pub fn few_tokens_complete()
     ensures { FewTokensComplete }
 {}

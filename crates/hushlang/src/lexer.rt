@@ -13,7 +13,7 @@ use crate::token::{Kind, SyntaxError, Token};
 use std::marker::Model;
 use text::is_space;
 
-/// The tokens of a text, one at a time. It takes no memory.
+/// The tokens of a text, one at a time. Takes no memory.
 #[derive(Drop)]
 pub struct Lexer<'a> {
     text: &'a [u8],
@@ -32,7 +32,7 @@ impl<'a> Model for Lexer<'a> {
     ghost invariant = { λ l. (l.at ≤ length l.text.now) × IsKnown l.fault record { source = l.text.now; at = l.at } };
 }
 
-/// What stands at a place of a text, and where it stops.
+/// What is at a place of a text, and where it stops.
 #[derive(Clone, Copy, Debug)]
 enum Front {
     Gap(usize),
@@ -60,7 +60,7 @@ fn word(text: &[u8], at: usize) -> Result<Front, SyntaxError>
     Ok(Front::Token(Kind::Word, stop))
 }
 
-/// What separates words, in front of a text.
+/// The separator at the start of a text.
 fn separator(at: usize, b: u8, behind: &[u8]) -> Result<Front, SyntaxError>
     requires separates { IsTrue (bytes.is_separator b) }
     requires room { at + suc (length behind.now) < 2 ^ 64 }
@@ -80,7 +80,7 @@ fn separator(at: usize, b: u8, behind: &[u8]) -> Result<Front, SyntaxError>
     }
 }
 
-/// What stands at a place.
+/// What is at a place.
 #[tactic(auto, using(crate::proofs::Steps::rest_is), unfolding(crate::specs::Tokenizing::front))]
 fn front_at(text: &[u8], at: usize) -> Result<Front, SyntaxError>
     requires { at < length text.now }
@@ -102,7 +102,7 @@ fn front_at(text: &[u8], at: usize) -> Result<Front, SyntaxError>
 }
 
 impl<'a> Lexer<'a> {
-    /// Starts at the front of a text.
+    /// Starts at the beginning of a text.
     pub fn new(text: &'a [u8]) -> Lexer<'a>
         ensures { result ≡ record { source = text.now; at = 0 } }
     {
@@ -113,7 +113,8 @@ impl<'a> Lexer<'a> {
         }
     }
 
-    /// The next token, or None at the end. Behind the end and behind a refusal the same comes again.
+    /// Gives the next token, or `None` at the end. After the end and after a refusal, gives the
+    /// same again.
     ///
     /// The refusals are those of the tokens, from `OpenQuote` to `SinglePipe`, with their places.
     pub fn next(&mut self) -> Result<Option<Token<'a>>, SyntaxError>

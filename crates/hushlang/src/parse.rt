@@ -88,7 +88,7 @@ fn simple(alloc: Global, tokens: &mut Tokens<'_>) -> Result<Command, SyntaxError
     }
 }
 
-/// A command, with so many levels of compound commands at most.
+/// A command, with at most this many levels of compound commands.
 #[cycle(grammar)]
 #[tactic(auto, using(crate::proofs::ViewLemmas::what_it_says), unfolding(crate::specs::Parsing::command))]
 fn command(alloc: Global, tokens: &mut Tokens<'_>, depth: usize) -> Result<Command, SyntaxError>
@@ -222,7 +222,7 @@ fn arms(alloc: Global, tokens: &mut Tokens<'_>, depth: usize) -> Result<Arms, Sy
     }
 }
 
-/// Behind `if`.
+/// An `if` command, from the token after `if`.
 #[cycle(grammar)]
 #[tactic(auto, using(crate::proofs::ViewLemmas::what_it_says), unfolding(crate::specs::Parsing::if_command))]
 fn if_command(alloc: Global, tokens: &mut Tokens<'_>, depth: usize) -> Result<Command, SyntaxError>
@@ -247,7 +247,7 @@ fn body(alloc: Global, tokens: &mut Tokens<'_>, depth: usize) -> Result<Script, 
     Ok(body)
 }
 
-/// Behind `while` or `until`.
+/// A loop, from the token after `while` or `until`.
 #[cycle(grammar)]
 #[tactic(auto, using(crate::proofs::ViewLemmas::what_it_says), unfolding(crate::specs::Parsing::loop_command))]
 fn loop_command(
@@ -268,7 +268,7 @@ fn loop_command(
     })
 }
 
-/// Behind `for`.
+/// A `for` command, from the token after `for`.
 #[cycle(grammar)]
 #[tactic(auto, using(crate::proofs::ViewLemmas::what_it_says), unfolding(crate::specs::Parsing::for_command))]
 fn for_command(alloc: Global, tokens: &mut Tokens<'_>, depth: usize) -> Result<Command, SyntaxError>
@@ -287,7 +287,7 @@ fn for_command(alloc: Global, tokens: &mut Tokens<'_>, depth: usize) -> Result<C
     })
 }
 
-/// How many compound commands stand in one another at most.
+/// How deep compound commands may be nested.
 const MAX_NESTING: usize = 64;
 
 /// What the rule of scripts reads in a text.
@@ -306,12 +306,12 @@ fn read_script(alloc: Global, text: &[u8]) -> Result<Script, SyntaxError>
     Ok(Script { lists })
 }
 
-/// The tree of a text. At most 64 compound commands stand in one another.
+/// Reads the tree of a text. Compound commands may be nested at most 64 deep.
 ///
-/// A refusal of a token is that token's fault; any other stands where no script can go on: `TooDeep` at
-/// the opening word of a 65th level, `MissingWord` where the name of a `for` or its `in` should stand,
-/// `AssignmentBeforeCommand` at a word behind assignments that is none, `Unexpected` for all else.
-/// `Memory` comes where a growth is refused.
+/// If the refusal is of a token, it is that token's fault. Any other is where no script can go on:
+/// `TooDeep` at the word that opens a 65th level, `MissingWord` where the name of a `for` or its
+/// `in` should be, `AssignmentBeforeCommand` at a word after assignments that is not an assignment,
+/// and `Unexpected` for all else. `Memory` is returned if a growth is refused.
 pub fn parse(alloc: Global, text: &[u8]) -> Result<Script, SyntaxError>
     ensures tree { IfOk result (λ s. IsTreeOf text.now (view.script s)) }
     ensures blocks { IfOk result (λ s. IsProper (view.script s)) }
@@ -319,11 +319,12 @@ pub fn parse(alloc: Global, text: &[u8]) -> Result<Script, SyntaxError>
     // The answer is what the rules read in the text, as it is computed; each clause below follows from it.
     ensures read { Answers view.script (spec.whole grammar.max_nesting (input_in text.now)) result }
 
-    // Any refusal but Memory comes only where there is no tree, at the first place that no script passes.
+    // Any refusal but `Memory` comes only if there is no tree, at the first place that no script
+    // passes.
     ensures refused { IfErr result (λ e. e ≢ Memory → HasNoTree text.now) }
     ensures place { IfErr result (λ e. IsPlaced text.now (place_of e)) }
 
-    // A fault of a token is answered exactly where all tokens before it begin a script.
+    // A fault of a token is the answer exactly if all tokens before it start a script.
     ensures fault { IfErr result (λ e. IsFaultIf text.now e (fault_place e)) }
     ensures faults { (e : SyntaxError) → IsFaultOf text.now e → AnswersFault result e }
 {

@@ -11,7 +11,7 @@ use crate::bytes::{begins_name, brace_len, is_escapable, is_separator, name_len}
 use crate::token::SyntaxError;
 use std::marker::Model;
 
-/// Where a reader of parts stands: outside quotes, or inside those that were opened at a place.
+/// Where a reader of parts is: outside quotes, or inside quotes that were opened at a place.
 #[derive(Clone, Copy, Debug, PartialEq, Eq)]
 pub enum Mode {
     /// Outside quotes.
@@ -25,7 +25,7 @@ pub enum Mode {
 /// A part of a word.
 #[derive(Clone, Copy, Debug)]
 pub enum Part<'a> {
-    /// A byte outside quotes and without a backslash.
+    /// A byte that is outside quotes and has no backslash.
     Plain(u8),
     /// A byte that quotes or a backslash keep.
     Kept(u8),
@@ -37,10 +37,10 @@ pub enum Part<'a> {
     Status,
 }
 
-/// What a look at the front of a text finds.
+/// What a look at the start of a text finds.
 #[derive(Clone, Copy, Debug)]
 pub enum Step<'a> {
-    /// A part of a byte and so many behind it; then on in a mode.
+    /// A part made of a byte and this many after it; reading goes on in this mode.
     Part(Part<'a>, usize, Mode),
     /// The same without a part, as at a closing quote.
     Pass(usize, Mode),
@@ -59,7 +59,7 @@ fn splits(mode: Mode) -> bool
     }
 }
 
-/// A `$` that stands for itself.
+/// A `$` that means itself.
 fn dollar_itself<'a>(split: bool) -> Part<'a>
     ensures { cutting.part result ≡ spelling.dollar_itself split }
 {
@@ -80,7 +80,7 @@ fn variable<'a>(split: bool, name: &'a [u8]) -> Part<'a>
     }
 }
 
-/// Behind `${`.
+/// Reads what follows `${`. Errors: `OpenBrace`, `BadVariable`.
 #[tactic(auto, unfolding(crate::specs::Tokenizing::braced))]
 fn braced<'a>(mode: Mode, at: usize, text: &'a [u8]) -> Result<Step<'a>, SyntaxError>
     requires { suc (suc (length text.now)) < 2 ^ 64 }
@@ -99,7 +99,7 @@ fn braced<'a>(mode: Mode, at: usize, text: &'a [u8]) -> Result<Step<'a>, SyntaxE
     }
 }
 
-/// Behind `$`.
+/// Reads what follows `$`. Errors: `OpenBrace`, `BadVariable`.
 #[tactic(auto, unfolding(crate::specs::Tokenizing::dollar))]
 fn dollar<'a>(mode: Mode, at: usize, text: &'a [u8]) -> Result<Step<'a>, SyntaxError>
     requires { suc (length text.now) < 2 ^ 64 }
@@ -218,7 +218,7 @@ impl<'a> Model for Parts<'a> {
 }
 
 impl<'a> Parts<'a> {
-    /// Starts at a place of a text, where a word begins.
+    /// Starts at a place of a text where a word starts.
     pub fn new(text: &'a [u8], at: usize) -> Parts<'a>
         requires { at ≤ length text.now }
         ensures { result ≡ record { source = text.now; mode = modes.Bare; stop = at; at = at } }
@@ -238,7 +238,8 @@ impl<'a> Parts<'a> {
         self.stop
     }
 
-    /// The next part, or None at the end. Behind the end and behind a refusal the same comes again.
+    /// Gives the next part, or `None` at the end. After the end and after a refusal, gives the same
+    /// again.
     pub fn next(&mut self) -> Result<Option<Part<'a>>, SyntaxError>
         ensures cuts { Cuts self.old result self.new }
         ensures source { self.new.source ≡ self.old.source }

@@ -22,7 +22,7 @@ struct Gathering {
 }
 
 impl Gathering {
-    /// Makes a piece of the bytes.
+    /// Makes a piece of the bytes, if there are any.
     fn close(&mut self, alloc: Global) -> Result<(), AllocError>
         ensures { OnOk result (spec.pieces_so_far self.new ≡ spec.closed (spec.pieces_so_far self.old)) }
     {
@@ -59,8 +59,8 @@ impl Gathering {
     }
 }
 
-/// The pieces of the parts to come: their kept bytes with no two pieces of them side by side, a mark in
-/// front of what quotes hold, variables and the status.
+/// The pieces of the parts to come: bytes, with no two pieces of them next to each other; a mark
+/// before what quotes hold; variables; and the status.
 #[tactic(auto, using(crate::proofs::Gathers::gathers))]
 pub fn read_pieces(alloc: Global, mut parts: Parts<'_>) -> Result<Vec<Piece>, SyntaxError>
     ensures { GivesPieces (spec.pieces_in (cutting.to_come parts.entry)) result }

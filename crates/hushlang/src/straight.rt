@@ -1,4 +1,4 @@
-//! A word straight behind a compound command, which U-Boot's shell refuses.
+//! A word straight after a compound command, which U-Boot's shell refuses.
 
 ghost use Rattle.std.specs.Prelude.{◌≡◌};
 ghost use Rattle.hushlang.specs.CursorShown.{input_in};
@@ -7,18 +7,18 @@ ghost use Rattle.hushlang.specs.Straight as spec;
 use crate::cursor::Tokens;
 use crate::words::Reserved;
 
-/// Where a token stands.
+/// Where a token is.
 #[derive(Clone, Copy, Debug, PartialEq, Eq)]
 enum Stand {
-    /// A command may begin here.
+    /// A command may start here.
     Begins,
     /// Among the words of a command, or of a `for`.
     Within,
-    /// Straight behind a compound command.
+    /// Straight after a compound command.
     Behind,
 }
 
-/// Whether this is straight behind a compound command.
+/// Whether this is straight after a compound command.
 fn is_behind(stand: Stand) -> bool
     ensures { result ≡ spec.is_behind stand }
 {
@@ -28,7 +28,7 @@ fn is_behind(stand: Stand) -> bool
     }
 }
 
-/// Where the token behind a word stands, if the word is this reserved word.
+/// Where the token after a word is, if the word is this reserved word.
 fn behind_word(stand: Stand, word: Option<Reserved>) -> Stand
     ensures { result ≡ spec.behind_word stand word }
 {
@@ -42,9 +42,9 @@ fn behind_word(stand: Stand, word: Option<Reserved>) -> Stand
     }
 }
 
-/// Where the first word begins that stands straight behind a compound command, as the second in `fi fi`: no separator
-/// and no operator stands between. A script may hold such words, and U-Boot's shell says `syntax error` to them. It
-/// takes no memory.
+/// The place of the first word that is straight after a compound command, like the second in `fi
+/// fi`, with no separator and no operator between. A script may hold such words; U-Boot's shell
+/// reports `syntax error` for them. Takes no memory.
 #[tactic(auto, using(crate::proofs::StraightWords::stepping))]
 pub fn word_straight_behind(text: &[u8]) -> Option<usize>
     ensures { result ≡ spec.straight (input_in text.now).tokens }

@@ -18,25 +18,25 @@ pub enum Kind {
     OrOr,
 }
 
-/// Why a text is no script, and at which byte, counted from 0. Only want of memory has no place.
+/// Why a text is not a script, and at which byte, counted from 0. Only `Memory` has no place.
 #[derive(Clone, Copy, Debug, PartialEq, Eq, Error)]
 pub enum SyntaxError {
     /// The quote at this byte is never closed.
     #[error("the quote at byte {0} is not closed")]
     OpenQuote(usize),
-    /// The text ends behind the backslash at this byte.
+    /// The text ends after the backslash at this byte.
     #[error("the backslash at byte {0} is the last byte")]
     LoneBackslash(usize),
     /// The text ends before the `}` of the `${` at this byte.
     #[error("the brace at byte {0} is not closed")]
     OpenBrace(usize),
-    /// Between the `${` at this byte and its `}` stands no name.
+    /// There is no name between the `${` at this byte and its `}`.
     #[error("the braces at byte {0} hold no name")]
     BadVariable(usize),
-    /// A single `&` stands at this byte.
+    /// There is a single `&` at this byte.
     #[error("a single & at byte {0}")]
     SingleAmp(usize),
-    /// A single `|` stands at this byte.
+    /// There is a single `|` at this byte.
     #[error("a single | at byte {0}")]
     SinglePipe(usize),
     /// No script goes on with the token at this byte, or ends there.
@@ -45,13 +45,13 @@ pub enum SyntaxError {
     /// The variable of a `for`, or its `in`, is missing at this byte.
     #[error("a word is missing at byte {0}")]
     MissingWord(usize),
-    /// A word that is no assignment follows assignments at this byte.
+    /// A word that is not an assignment follows assignments at this byte.
     #[error("an assignment stands before the command at byte {0}")]
     AssignmentBeforeCommand(usize),
-    /// A compound command begins at this byte inside as many others as may be.
+    /// A compound command starts at this byte, inside as many others as are allowed.
     #[error("nested too deep at byte {0}")]
     TooDeep(usize),
-    /// Memory was refused.
+    /// Memory ran out.
     #[error("out of memory")]
     Memory,
 }
@@ -79,14 +79,14 @@ impl<T: Drop> From<AllocFailed<T>> for SyntaxError {
     }
 }
 
-/// A token, and the part of its source that it stands in.
+/// A token, and the part of its source that holds it.
 #[derive(Clone, Copy, Debug)]
 pub struct Token<'a> {
     /// What kind of token it is.
     pub kind: Kind,
     /// The place of its first byte in the source, counted from 0.
     pub start: usize,
-    /// The place behind its last byte.
+    /// The place after its last byte.
     pub stop: usize,
     /// The bytes of the source from `start` up to `stop`.
     pub text: &'a [u8],

@@ -14,9 +14,9 @@ pub enum Op {
 /// A piece of a word.
 #[derive(Debug, Drop)]
 pub enum Piece {
-    /// Bytes as they stand, never none.
+    /// Bytes as they are, at least one.
     Bytes(Vec<u8>),
-    /// A pair of quotes, in front of what they hold.
+    /// A pair of quotes, before what they hold.
     Mark,
     /// A variable, which is split outside double quotes.
     Var { name: Vec<u8>, split: bool },
@@ -27,7 +27,7 @@ pub enum Piece {
 /// A word, as its pieces in order.
 #[derive(Debug, Drop)]
 pub struct Word {
-    /// No two pieces of bytes stand side by side.
+    /// No two pieces of bytes are next to each other.
     pub pieces: Vec<Piece>,
 }
 
@@ -39,13 +39,13 @@ pub struct Script {
     pub lists: Vec<AndOr>,
 }
 
-/// A command, and those that are joined to it, from the left with equal rank.
+/// A command, and the commands joined to it, from the left with equal rank.
 #[cycle(tree)]
 #[derive(Debug, Drop)]
 pub struct AndOr {
     /// The first command.
     pub first: Command,
-    /// Each further command with what stands before it.
+    /// Each further command with the operator before it.
     pub rest: Vec<(Op, Command)>,
 }
 
@@ -57,7 +57,7 @@ pub enum Command {
     Simple(Vec<Word>),
     /// Names of shell variables with their values, in order.
     Assign(Vec<(Vec<u8>, Word)>),
-    /// Conditions with their blocks, in order, and the block behind `else`.
+    /// Conditions with their blocks, in order, and the block after `else`.
     If {
         arms: Vec<(Rc<Script>, Rc<Script>)>,
         other: Option<Rc<Script>>,

@@ -18,7 +18,7 @@ use crate::parts::{Part, Parts};
 use crate::token::{Kind, SyntaxError, Token};
 use std::alloc::Global;
 
-/// The words that the grammar reserves where a command may begin.
+/// The words that the grammar reserves at places where a command may start.
 #[derive(Clone, Copy, Debug, PartialEq, Eq)]
 pub enum Reserved {
     /// `if`
@@ -43,7 +43,7 @@ pub enum Reserved {
     Done,
 }
 
-/// The byte that an ordinary part is.
+/// The byte of an ordinary part.
 fn plain(part: Part<'_>) -> Option<u8>
     ensures { result ≡ spec.plain_byte (cutting.part part.entry) }
 {
@@ -53,7 +53,7 @@ fn plain(part: Part<'_>) -> Option<u8>
     }
 }
 
-/// Whether a text is a word of ordinary bytes only, and these.
+/// Whether a text is a word that has only ordinary bytes, and these.
 #[tactic(auto, using(crate::proofs::Plain::spelled))]
 fn spells(text: &[u8], word: &[u8]) -> bool
     ensures { result ≡ spec.spells word.now (reading.row modes.Bare 0 0 0 text.now) }
@@ -75,7 +75,7 @@ fn spells(text: &[u8], word: &[u8]) -> bool
     }
 }
 
-/// The same of a token, for a word that is not empty.
+/// The same for a token, with a word that is not empty.
 #[tactic(auto, using(crate::proofs::Plain::spells_parts), unfolding(crate::specs::LexerShown::parts_of))]
 fn spells_word(token: Token<'_>, word: &[u8]) -> bool
     requires { 0 < length word.now }
@@ -84,7 +84,7 @@ fn spells_word(token: Token<'_>, word: &[u8]) -> bool
     spells(token.text, word)
 }
 
-/// Whether these bytes are those of a word.
+/// Whether these bytes spell this word.
 fn are(bytes: &[u8], word: &[u8]) -> bool
     ensures { result ≡ spec.is_plain word.now (map Plain bytes.now) }
 {
@@ -129,10 +129,11 @@ fn reserved_named(bytes: &[u8]) -> Option<Reserved>
     None
 }
 
-/// How many bytes a reserved word has at most.
+/// The length of the longest reserved word.
 const RESERVED_MAX: usize = 5;
 
-/// The reserved word that a word is. No more of it is cut than the parts of a reserved word and one behind them.
+/// The reserved word that a word is. Cuts at most one part more of it than a reserved word can
+/// have.
 #[tactic(auto, using(crate::proofs::Fronted::fronting))]
 fn reserved_word(token: Token<'_>) -> Option<Reserved>
     ensures { result ≡ spec.reserved (parts_of token.entry) }
@@ -230,8 +231,8 @@ pub fn name_in(alloc: Global, token: Token<'_>) -> Result<Option<Vec<u8>>, Synta
     }
 }
 
-/// Whether a word is an assignment. It is cut up to `=`, or to the first part that is no byte of a name, and no
-/// memory is taken.
+/// Whether a word is an assignment. Cuts the word up to `=`, or up to the first part that is not a
+/// byte of a name. Takes no memory.
 pub fn is_assignment(token: Token<'_>) -> bool
     requires { IsCut token }
     ensures { result ≡ is_some (grammar.assignment (parts_of token.entry)) }

@@ -1,4 +1,4 @@
--- Two outputs of a program, before a call and after it: what it prints, and what it reports of errors.
+-- Two outputs of a program, before and after a call: what it prints, and what it reports of errors.
 use Rattle.std.specs.Prelude.{◌≡◌, ◌⊎◌, ℕ, List, ◌++◌}
 use Rattle.output.specs.Sink.{Sink, Wrote, BrokeOff}
 
@@ -8,7 +8,7 @@ pub record Outputs : Type 0 where
   pub err : Sink
   pub err' : Sink
 
--- each output as it was, and as it is then
+-- each output before and after
 abbrev pub outputs : (out out' err err' : Sink) → Outputs
 outputs out out' err err' = record { out = out; out' = out'; err = err; err' = err' }
 
@@ -24,7 +24,7 @@ pub record WroteFront (old new : Sink) (text : List ℕ) : Type 0 where
   pub whole : text ≡ front ++ rest
   pub wrote : Wrote old new front
 
--- one of two outputs failed inside its text, and the other has the first bytes of its own
+-- one of two outputs failed inside its text, and the other has a prefix of its own text
 abbrev pub BreaksEither : Sink → Sink → Sink → Sink → List ℕ → List ℕ → Type 0
 BreaksEither out out' err err' output errors =
     (BrokeOff out out' output × WroteFront err err' errors) ⊎ (WroteFront out out' output × BrokeOff err err' errors)

@@ -2,7 +2,7 @@
 use Rattle.std.specs.Prelude.{ℕ}
 use Rattle.output.specs.declared.over.Over.{Over}
 
--- the writer, which tells the bytes
+-- the writer, which shows the bytes
 abbrev pub writer_of : {W : Type 0} → Over W → W
 writer_of o = o.writer
 

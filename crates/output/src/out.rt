@@ -18,8 +18,9 @@ pub trait Out {
     /// The bytes taken and the failures counted.
     ghost sink: { Self → Sink };
 
-    /// Takes the first bytes of `bytes` and says how many. A fault takes none, and counts as one
-    /// failure; so does a 0 for bytes that are there. At its greatest value the count stays.
+    /// Takes the first bytes of `bytes` and returns how many. An error takes none and counts as one
+    /// failure, and so does a 0 if there were bytes to take. The greatest count stays as it is.
+    /// Errors: `Failed`.
     fn write(&mut self, bytes: &[u8]) -> Result<usize, OutFault>
         ensures within { IfOk result (λ n. n ≤ length bytes.now) }
         ensures taken { WriteAppends (sink self.old).taken (sink self.new).taken result bytes.now }

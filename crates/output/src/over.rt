@@ -4,7 +4,7 @@ ghost use Rattle.std.specs.Prelude.{◌≡◌};
 use crate::out::{Out, OutFault};
 use std::io::Write;
 
-/// An output over any writer of std. Its bytes are those that the writer tells.
+/// An output over any writer of std. Its bytes are those that the writer shows.
 #[derive(Drop)]
 pub struct Over<W> {
     writer: W,

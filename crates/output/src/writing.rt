@@ -5,8 +5,8 @@ ghost use Rattle.output.specs.Sink.{Prints};
 
 use crate::out::{Out, OutFault};
 
-/// Writes all of `bytes`, in as many writes as it takes. No failed write is tried again, and a
-/// write that takes none of the bytes left is a failure.
+/// Writes all of `bytes`, in as many writes as it needs. It repeats no failed write. A write that
+/// takes none of the bytes left is a failure. Errors: `Failed`, with a prefix written.
 pub fn write_all<O: Out>(out: &mut O, bytes: &[u8]) -> Result<(), OutFault>
     ensures { Prints result (O.sink out.old) (O.sink out.new) bytes.now }
 {
@@ -21,7 +21,7 @@ pub fn write_all<O: Out>(out: &mut O, bytes: &[u8]) -> Result<(), OutFault>
     Ok(())
 }
 
-/// Writes parts one after another, as one text.
+/// Writes the parts one after another, as one text. Errors: `Failed`, with a prefix written.
 pub fn write_parts<O: Out>(out: &mut O, parts: &[&[u8]]) -> Result<(), OutFault>
     ensures { Prints result (O.sink out.old) (O.sink out.new)
         (flat_map (λ part. part.now) parts.now) }

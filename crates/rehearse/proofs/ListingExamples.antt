@@ -1,5 +1,5 @@
--- Worked examples, computed: each from the very text of `bootcmd` to the whole listing. Where an example does not ask for
--- other bounds, it has the usual ones: 16 device commands and 10,000 steps.
+-- Worked examples, computed: each from the text of `bootcmd` to the whole listing. An example that names no bounds has
+-- the usual ones: 16 device commands and 10,000 steps.
 use Rattle.std.proofs.Common.{ℕ, [], ◌∷◌, ◌++◌, Some, None, option_map, codes, refl, ◌≡◌, map, length}
 use Rattle.std.specs.Fmt.{digits}
 use Rattle.hushlang.specs.Expansion.{fields, joined, atoms}

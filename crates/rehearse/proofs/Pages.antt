@@ -1,4 +1,4 @@
--- Listings in pages, and listings that were broken off.
+-- Listings in pages, and listings that broke off.
 use Rattle.std.proofs.Common.{ℕ, zero, suc, Bool, true, false, List, [], ◌∷◌, ◌++◌, map, length, take, drop, Some, None, refl, sym, ap, subst, ◌∙◌, ◌≡◌, ◌<◌, ◌≤◌, append_assoc, arith, flat_map, take-append-drop, nat_le, codes, leb-false, leb-true, ◌↔◌, ◌≢◌, cond}
 use Rattle.std.specs.Prelude.{⊤}
 use Rattle.std.proofs.lemmas.List.{append_cancel_right}

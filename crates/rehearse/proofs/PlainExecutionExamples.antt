@@ -1,4 +1,4 @@
--- Runs by the definition that knows lists of names alone, computed from the text of `bootcmd` to the whole listing.
+-- Runs by the definition that knows only lists of names, computed from the text of `bootcmd` to the whole listing.
 use Rattle.std.proofs.Common.{◌≡◌, ℕ, List, [], ◌∷◌, None, Result, Ok, Err, codes, refl}
 use Rattle.std.specs.Fmt.{digits}
 use Rattle.hushlang.specs.Expansion.{fields, joined, atoms}

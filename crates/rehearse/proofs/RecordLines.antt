@@ -1,4 +1,4 @@
--- Where a listing that was broken off goes on, found in its bytes.
+-- The place where a listing that broke off goes on, found in its bytes.
 use Rattle.std.proofs.Common.{ℕ, zero, suc, Bool, true, false, cond, List, [], ◌∷◌, ◌++◌, map, length, take, drop, Option, Some, None, refl, sym, ap, subst, ◌∙◌, ◌≡◌, ◌≢◌, ◌≤◌, append_assoc, append-nil, length-append, arith, ◌+◌, ◌/◌, ◌%◌, flat_map, nat_eq, nat_lt, nat_le, ◌&&◌, codes, ne_eqb, decimal}
 use Rattle.std.specs.Prelude.{⊤}
 use Rattle.std.specs.List.{join_with_byte}

@@ -1,4 +1,4 @@
--- A listing of a task that was broken off, and its resume point.
+-- A listing of a task that broke off, and its resume point.
 use Rattle.std.proofs.Common.{ℕ, zero, suc, Bool, true, false, List, [], ◌∷◌, ◌++◌, map, length, take, drop, Option, Some, None, refl, sym, ap, subst, ◌∙◌, ◌≡◌, ◌≢◌, ◌<◌, ◌≤◌, length-append, arith, ◌+◌, flat_map, nat_le, codes}
 use Rattle.std.proofs.lemmas.List.Concat.{flat_map-append}
 use Rattle.std.proofs.Math.Seq.{take-append_seam}

@@ -1,4 +1,4 @@
--- Worked examples, computed: a listing that is broken off.
+-- Worked examples, computed: a listing that broke off.
 use Rattle.std.proofs.Common.{ℕ, true, List, [], ◌∷◌, Option, Some, None, codes, refl, ◌≡◌, map, take, length}
 use Rattle.rehearse.specs.Outcomes.{Success}
 use Rattle.rehearse.specs.State.{Text}

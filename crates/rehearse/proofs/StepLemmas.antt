@@ -1,4 +1,4 @@
--- The steps that are begun before a device command asks are steps of each word that goes on there.
+-- The steps that are begun before a device command asks are steps of each word that continues from there.
 use Rattle.std.proofs.Common.{[], ◌∷◌, ◌++◌, refl, sym, ap, subst, ◌≡◌, ◌≤◌, arith}
 use Rattle.rehearse.specs.Outcomes.{OutcomeWord, Success, Failure, common_prefix}
 use Rattle.rehearse.specs.State.{start}

@@ -1,4 +1,4 @@
--- The whole records at the front of a listing.
+-- The whole records at the start of a listing.
 use Rattle.std.proofs.Common.{ℕ, zero, suc, Bool, true, false, List, [], ◌∷◌, ◌++◌, map, length, take, drop, None, refl, sym, ap, subst, ◌∙◌, ◌≡◌, ◌≢◌, ◌⊎◌, inl, inr, ◌↔◌, ◌≤◌, append_assoc, arith, ◌+◌, flat_map, take-append-drop, nat_eq, codes, eq-eqb, drop_at, eqb-true}
 use Rattle.std.proofs.lemmas.List.Concat.{flat_map-append}
 use Rattle.std.specs.List.{starts_with}

@@ -1,4 +1,4 @@
--- What the lines of one name, and the `sub` lines of one name and one first word, come to. Ours.
+-- What the lines of one name, and the `sub` lines of one name and one first word, say together. Ours.
 use Rattle.std.specs.Prelude.{◌≡◌, ℕ, nat_le, Bool, true, false, length, ◌&&◌, List, [], ◌∷◌, filter, Option, Some, None, Ok, if◌then◌else◌}
 use Rattle.std.specs.Str.{bytes_eq}
 use Rattle.std.specs.List.{list_any, list_all, flat_map}

@@ -1,6 +1,6 @@
--- Execution as it was when a device list said nothing of calls (EarlierList.antt): a command of the list asks for an
--- outcome, and on success does what its name's lines say. All that it does not define is that of Execution.antt, over the
--- tree as in GivenExecution.antt. Ours.
+-- Execution as it was before a device list could say anything of calls (EarlierList.antt). A command of the list asks
+-- for an outcome, and on success does what the lines of its name say. Everything else is defined by Execution.antt,
+-- over the tree as in GivenExecution.antt. Ours.
 use Rattle.std.specs.Prelude.{◌≡◌, ℕ, nat_lt, true, false, List, [], ◌∷◌, ◌++◌, length, Option, Some, None, Ok}
 use Rattle.std.specs.Map.{lookup}
 use Rattle.std.specs.Str.{bytes_eq}

@@ -1,5 +1,5 @@
--- Device lists in the form that they had before a line could speak of calls: `NAME SETTINGS` and `final NAME SETTINGS`,
--- and each setting of a variable. Ours.
+-- Device lists in the form that they had before a line could say anything of calls: `NAME SETTINGS` and `final NAME
+-- SETTINGS`, where each setting sets a variable. Ours.
 use Rattle.std.specs.Prelude.{◌≡◌, ℕ, ◌+◌, ◌==◌, ◌||◌, ◌&&◌, ◌++◌, not, Bool, true, false, List, [], ◌∷◌, map, take, drop, Option, Some, None, option_map, Result, Ok, Err, codes, if◌then◌else◌}
 use Rattle.std.specs.Str.{bytes_eq}
 use Rattle.std.specs.List.{list_any, position}

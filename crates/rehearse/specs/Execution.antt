@@ -1,5 +1,5 @@
 -- What a script does to a state, for the outcomes that its word still holds (U-Boot documentation, doc/usage/cmdline
--- and doc/usage/cmd). The bounds, and how a run that meets one ends, are ours.
+-- and doc/usage/cmd). The bounds are ours, and so is how a run ends that meets one.
 use Rattle.std.specs.Prelude.{ℕ, zero, suc, nat_lt, nat_le, nat_eq, Bool, true, false, not, List, [], ◌∷◌, ◌++◌, length, Some, None}
 use Rattle.hushlang.specs.Tree as tree
 use Rattle.hushlang.specs.Tree.{Script, AndOr, Joined, Command, Arms}

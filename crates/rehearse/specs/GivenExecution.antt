@@ -1,4 +1,4 @@
--- Execution where it is given what a command does that is not built in: the recursion of Execution.antt over the tree, for
+-- Execution that is given what a command does that is not built in: the recursion of Execution.antt over the tree, for
 -- the laws of device lists in their older forms. Ours.
 use Rattle.std.specs.Prelude.{ℕ, zero, suc, nat_eq, true, false, List, [], ◌∷◌, Some, None}
 use Rattle.hushlang.specs.Tree as tree

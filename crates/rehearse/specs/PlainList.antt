@@ -1,4 +1,4 @@
--- Device lists in their plain form, which says nothing but names: one name a line. Ours.
+-- Device lists in their plain form, which has only names: one name on each line. Ours.
 use Rattle.std.specs.Prelude.{◌≡◌, ℕ, ◌==◌, ◌||◌, List, [], ◌∷◌, ◌++◌, map, Result, Ok, Err, if◌then◌else◌}
 use Rattle.std.specs.List.{list_any}
 use Rattle.std.specs.Str.{bytes_eq}

@@ -1,4 +1,4 @@
--- Where a listing that was broken off goes on. Ours.
+-- Where a listing that broke off goes on. Ours.
 use Rattle.std.specs.Prelude.{ℕ, suc, ◌+◌, nat_eq, Bool, true, false, ◌||◌, option_map, List, [], ◌∷◌, ◌++◌, flat_map, length, drop, Option, Some, None, codes}
 use Rattle.std.specs.List.{starts_with}
 use Rattle.text.specs.Bytes as ascii

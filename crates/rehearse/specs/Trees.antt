@@ -1,4 +1,4 @@
--- The tree of a text, computed: `IsTreeOf` of the language says what it is, and a law that this is it. Ours.
+-- The tree of a text, computed. `IsTreeOf` of the language says what the tree is, and a law says that this is it. Ours.
 use Rattle.std.specs.Prelude.{ℕ, List, Option, Some, None, Result, Ok, Err}
 use Rattle.hushlang.specs.Tree.{Script}
 use Rattle.hushlang.specs.Grammar.{reserved_of, assignment, name_in, name_of, is_in_word, max_nesting}

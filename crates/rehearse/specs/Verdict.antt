@@ -1,4 +1,4 @@
--- The truth of the words after `test` (doc/usage, the command line; what no page says is ours).
+-- The truth of the words after `test` (U-Boot documentation, doc/usage, the command line). What no page says is ours.
 use Rattle.std.specs.Prelude.{ℕ, zero, suc, ◌==◌, nat_lt, Bool, true, false, not, ◌&&◌, ◌||◌, List, [], ◌∷◌, length, Option, Some, None, option_map, codes, ℤ, pos, negsuc, int_lt, int_le, min, if◌then◌else◌}
 use Rattle.std.specs.Str.{bytes_eq}
 use Rattle.std.specs.List.{take_while}

@@ -6,79 +6,82 @@ ghost use Rattle.rehearse.specs.EarlierList.{EarlierListsStand, EarlierCallsStan
 ghost use Rattle.rehearse.specs.PlainExecution.{PlainListingsStand, PlainRestsStand, PlainRunsStand};
 ghost use Rattle.rehearse.specs.PlainList.{PlainListsStand};
 
-/// A name is listed where a line names it, and does what all lines of that name say: it is final where
+/// A name is listed if a line names it, and does what all lines of that name say. It is final if
 /// one of them is, and sets what they set, in their order.
 #[tactic(auto, using(crate::proofs::JoinedLines::lines_are_joined))]
 pub fn lines_are_joined()
     ensures { LinesAreJoined }
 {}
 
-/// A list without a second word in any line says nothing but names: no command ends a run or sets a
+/// A list with no second word in any line says only names: no command ends a run or sets a
 /// variable.
 #[tactic(auto, using(crate::proofs::QuietNames::names_are_quiet))]
 pub fn names_are_quiet()
     ensures { NamesAreQuiet }
 {}
 
-/// Every list in the plain form, one name a line with comments and empty lines between, is accepted with
-/// the same names, none of them final and none that sets a variable.
+/// Every list in the plain form, which has one name on each line and comments and empty lines
+/// between, is accepted with the same names. None of them is final, and none sets a variable.
 #[tactic(auto, using(crate::proofs::PlainLists::plain_lists_stand))]
 pub fn plain_lists_stand()
     ensures { PlainListsStand }
 {}
 
-/// A run over a list in the plain form is the run that it was before lists could say more than names: a
-/// command of the list asks for an outcome, which the log and the status have, and changes nothing else.
+/// A run over a list in the plain form is the run that it was before lists could say more than
+/// names. A command of the list asks for an outcome, which goes into the log and the status, and
+/// changes nothing else.
 #[tactic(auto, using(crate::proofs::PlainRuns::plain_runs_stand))]
 pub fn plain_runs_stand()
     ensures { PlainRunsStand }
 {}
 
-/// The listing over a list in the plain form has the same bytes as before lists could say more than
-/// names.
+/// The listing over a list in the plain form has the same bytes as it had before lists could say
+/// more than names.
 #[tactic(auto, using(crate::proofs::PlainRuns::plain_listings_stand))]
 pub fn plain_listings_stand()
     ensures { PlainListingsStand }
 {}
 
-/// The listing of the runs that follow a word has, over such a list, the same bytes too.
+/// The listing of the runs that follow a word has the same bytes over such a list, too.
 #[tactic(auto, using(crate::proofs::PlainRuns::plain_rests_stand))]
 pub fn plain_rests_stand()
     ensures { PlainRestsStand }
 {}
 
-/// Every list in the earlier form, which has no `sub` lines, is accepted, and says the same of the same
-/// names.
+/// Every list in the earlier form, which has no `sub` lines, is accepted, and says the same of the
+/// same names.
 #[tactic(auto, using(crate::proofs::EarlierLists::earlier_lists_stand))]
 pub fn earlier_lists_stand()
     ensures { EarlierListsStand }
 {}
 
-/// Over a list in the earlier form, a call goes by its name, whatever its words are.
+/// Over a list in the earlier form, the name alone decides what a call does, whatever its words
+/// are.
 #[tactic(auto, using(crate::proofs::EarlierLists::earlier_calls_stand))]
 pub fn earlier_calls_stand()
     ensures { EarlierCallsStand }
 {}
 
-/// And it sets the variables that its lines name, whatever its words are.
+/// Such a call sets the variables that the lines of its name set, whatever its words are.
 #[tactic(auto, using(crate::proofs::EarlierLists::earlier_settings_stand))]
 pub fn earlier_settings_stand()
     ensures { EarlierSettingsStand }
 {}
 
-/// A run over a list in the earlier form is the run that it was before a line could speak of calls.
+/// A run over a list in the earlier form is the run that it was before a line could say anything of
+/// calls.
 #[tactic(auto, using(crate::proofs::EarlierRuns::earlier_runs_stand))]
 pub fn earlier_runs_stand()
     ensures { EarlierRunsStand }
 {}
 
-/// The listing over a list in the earlier form has the same bytes as before.
+/// The listing over a list in the earlier form has the same bytes as it had before.
 #[tactic(auto, using(crate::proofs::EarlierRuns::earlier_listings_stand))]
 pub fn earlier_listings_stand()
     ensures { EarlierListingsStand }
 {}
 
-/// The listing of the runs that follow a word has, over such a list, the same bytes too.
+/// The listing of the runs that follow a word has the same bytes over such a list, too.
 #[tactic(auto, using(crate::proofs::EarlierRuns::earlier_rests_stand))]
 pub fn earlier_rests_stand()
     ensures { EarlierRestsStand }

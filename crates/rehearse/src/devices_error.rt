@@ -1,16 +1,16 @@
 use std::alloc::AllocError;
 use thiserror::Error;
 
-/// Why a device list was refused. Lines count from 1, skipped ones included.
+/// Why a device list was refused. Lines count from 1, and skipped lines count too.
 #[derive(Clone, Copy, Debug, Drop, PartialEq, Eq, Error)]
 pub enum DevicesError {
-    /// A word behind the command's name is no setting, or the line holds NUL.
+    /// A word after the command's name is not a setting, or the line holds a NUL.
     #[error("device list line {0}: bad line")]
     BadLine(usize),
     /// The line names a built-in command.
     #[error("device list line {0}: built-in command")]
     BuiltIn(usize),
-    /// A growth was refused.
+    /// Memory ran out.
     #[error("out of memory")]
     Memory,
 }

@@ -1,4 +1,4 @@
-//! The numbers that words of `test` spell.
+//! The numbers that the words of `test` spell.
 ghost use Rattle.std.specs.Prelude.{◌≡◌, ◌-◌, ◌^◌, ◌≤◌, nat_lt, length, min, pos};
 ghost use Rattle.std.specs.List.{prefix_len};
 ghost use Rattle.std.specs.Option.{option_copied};

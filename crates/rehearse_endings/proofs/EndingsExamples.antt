@@ -1,5 +1,5 @@
--- Worked examples, computed: from the text of `bootcmd` to the rows of its runs and their lines. Words begin with the
--- first device command; `0` is its success.
+-- Worked examples, computed: from the text of `bootcmd` to the rows of its runs and their lines. A word starts with the
+-- first device command; `0` means that it succeeded.
 use Rattle.std.proofs.Common.{ℕ, Bool, [], ◌∷◌, ◌+◌, ◌-◌, ◌^◌, List, codes, refl, ◌≡◌, map, length, nat_eq}
 use Rattle.std.specs.Fmt.{digits}
 use Rattle.hushlang.specs.Expansion.{fields, joined, atoms}

@@ -1,4 +1,4 @@
--- The states that the search enters: by the outcomes that lead to them no two are alike.
+-- The states that the search enters, each by the outcomes that lead to it. No two are alike.
 use Rattle.std.proofs.Common.{ℕ, ◌+◌, ◌≤◌, ◌<◌, List, [], ◌∷◌, ◌++◌, length, sym, ap, subst, ◌∙◌, ◌≡◌, arith, append_assoc, append-nil, length-append}
 use Rattle.std.specs.Prelude.{Result, Err, IfErr}
 use Rattle.std.specs.List.{AllByRecursion}

@@ -1,4 +1,4 @@
--- The flow that is told: the nodes from the last one made to the first, under new numbers.
+-- The flow that is written: the nodes from the last one made to the first, with new numbers.
 use Rattle.std.proofs.Common.{ℕ, zero, suc, ◌+◌, ◌-◌, ◌≤◌, List, [], ◌∷◌, ◌++◌, map, reverse, length, Option, Some, None, option_map, refl, sym, ap, subst, ◌∙◌, ◌≡◌, append_assoc, append-nil, arith}
 use Rattle.std.specs.List.{slice_get}
 use Rattle.std.proofs.lemmas.Grind.{reverse_onto}

@@ -1,4 +1,4 @@
--- What frames make of answers that are alike is alike.
+-- Frames keep alike answers alike.
 use Rattle.std.proofs.Common.{ℕ, Bool, true, false, List, [], ◌∷◌, refl, sym, subst, arith, nat_eq}
 use Rattle.hushlang.specs.Tree.{Script}
 use Rattle.rehearse.specs.State.{State, LoggedCommand}

@@ -1,4 +1,4 @@
--- Rows of lists of runs: of two lists, of runs behind one outcome, of both sides of a device command.
+-- Rows of lists of runs: of two lists, of runs after one outcome, of both sides of a device command.
 use Rattle.std.proofs.Common.{ℕ, zero, suc, Bool, true, false, cond, ◌||◌, List, [], ◌∷◌, ◌++◌, map, filter, refl, sym, ap, subst, ◌∙◌, ◌≡◌, inl, inr, arith, ◌+◌, nat_le, eqb-true, eq-eqb}
 use Rattle.std.proofs.lemmas.Bool.{le-leb, lt-leb, leb-true, leb-false}
 use Rattle.std.proofs.lemmas.List.{map-append}

@@ -1,4 +1,4 @@
--- Where a device command asks at two moments of one core, the same is to come, as far as the bounds allow.
+-- If a device command asks at two moments with the same core, the same is to come, as far as the bounds allow.
 use Rattle.std.proofs.Common.{ℕ, Bool, true, false, List, [], ◌∷◌, length, Option, Some, None, refl, sym, ap, subst, ◌∙◌, ◌≡◌, append-nil, arith, nat_lt, nat_le}
 use Rattle.std.specs.FinMap.{entries}
 use Rattle.hushlang.specs.Tree as tree

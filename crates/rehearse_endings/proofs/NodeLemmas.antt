@@ -1,4 +1,4 @@
--- The nodes that are made, and the lines that are told of them.
+-- The nodes that are made, and the lines that are written of them.
 use Rattle.std.proofs.Common.{ℕ, suc, ◌+◌, ◌<◌, ◌≤◌, true, List, [], ◌∷◌, ◌++◌, map, length, get_or, take, Some, option_map, refl, sym, ap, ◌∙◌, ◌≡◌, append_assoc, append-nil, nat_lt, codes, decimal, arith}
 use Rattle.std.specs.List.{slice_get}
 use Rattle.std.proofs.lemmas.Bool.{ltb-true}

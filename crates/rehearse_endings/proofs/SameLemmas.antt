@@ -1,4 +1,4 @@
--- Two lists that are gone through side by side.
+-- Two lists that are read side by side.
 use Rattle.bootstore.specs.Moment.{RunningFrame}
 use Rattle.std.proofs.Common.{ℕ, suc, drop, reverse, ◌+◌, ◌≤◌, ◌<◌, List, [], ◌∷◌, ◌++◌, map, take, get_or, length, refl, sym, ap, ◌∙◌, ◌≡◌, append_assoc, append-nil, arith, eqb-true, Bool, true, false, not, ◌==◌, IsTrue, Option, Some, None, Vec}
 use Rattle.std.specs.Prelude.{is_some}

@@ -1,4 +1,4 @@
--- Counts up to the greatest.
+-- Counts up to the greatest count.
 use Rattle.std.proofs.Common.{ℕ, ◌+◌, min, Bool, true, false, List, [], ◌∷◌, map, refl, ap, ◌∙◌, ◌≡◌, arith}
 use Rattle.rehearse.specs.Outcomes.{Outcome, Success, Failure}
 use Rattle.rehearse_endings.specs.Endings.{Row, ending_eq, joined, with_row, merge, in_front, of_both}

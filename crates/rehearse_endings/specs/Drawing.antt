@@ -1,4 +1,5 @@
--- The nodes of a flow while they are made: those that a node leads to stand before it, and places count from 0. Ours.
+-- The nodes of a flow while they are made. A node comes after the nodes to which it leads, and places count from 0.
+-- Ours.
 use Rattle.std.specs.Prelude.{◌≡◌, ℕ, zero, suc, ◌-◌, List, [], ◌∷◌, ◌++◌, map, length, Option, Some, None, Vec}
 use Rattle.std.specs.List.{slice_get}
 use Rattle.std.specs.declared.alloc.Global.{Global}

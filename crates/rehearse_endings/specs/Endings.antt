@@ -1,4 +1,4 @@
--- How all runs end: for each ending how many runs do, and the first of them. Ours.
+-- How all runs end: for each ending how many runs end like this, and the first of them. Ours.
 use Rattle.std.specs.Prelude.{◌≡◌, ℕ, suc, ◌+◌, nat_eq, nat_le, Bool, true, false, cond, List, [], ◌∷◌, map}
 use Rattle.std.specs.Str.{bytes_eq}
 use Rattle.rehearse.specs.Outcomes.{OutcomeWord, Outcome, Success, Failure, WordKind, Run, Short, Long, runs_within, beyond}

@@ -1,4 +1,4 @@
--- The flow of a script: its runs as a graph, told line by line. Ours.
+-- The flow of a script: its runs as a graph, written line by line. Ours.
 use Rattle.std.specs.Prelude.{◌≡◌, ℕ, zero, suc, List, [], ◌∷◌, ◌++◌, map, Option, Some, None, codes, decimal}
 use Rattle.std.specs.List.{join_with_byte, slice_get}
 use Rattle.text.specs.Bytes as ascii

@@ -1,4 +1,4 @@
--- What is to come where a device command asks, for every rest of the word. Ours.
+-- What is to come after a device command asks, for every rest of the word. Ours.
 use Rattle.std.specs.Prelude.{◌≡◌, ℕ, suc, ◌+◌, ◌<◌, ◌⊎◌, List, length, Option, Some, None}
 use Rattle.std.specs.FinMap.{entries}
 use Rattle.bootstore.specs.Moment.{Moment}

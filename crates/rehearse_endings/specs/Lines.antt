@@ -1,4 +1,4 @@
--- The lines that tell how runs end. Ours.
+-- The lines that say how runs end. Ours.
 use Rattle.std.specs.Prelude.{ℕ, ◌+◌, nat_lt, List, [], ◌∷◌, ◌++◌, flat_map, codes, decimal, if◌then◌else◌}
 use Rattle.rehearse.specs.State.{Text}
 use Rattle.rehearse.specs.Listing.{spelled, line, last_line}

@@ -1,4 +1,4 @@
--- The states in which device commands ask, that the runs of a task come to. Ours.
+-- The states in which device commands ask, and to which the runs of a task come. Ours.
 use Rattle.std.specs.Prelude.{◌≡◌, ◌≢◌, ℕ, ◌+◌, ◌<◌, List, [], ◌∷◌, ◌++◌, length}
 use Rattle.std.specs.List.{AllByRecursion}
 use Rattle.bootstore.specs.Moment.{Moment}

@@ -1,4 +1,4 @@
--- What is told of the endings of an environment's variable, and why it is refused. Ours.
+-- What is written of the endings of an environment's variable, and why it is refused. Ours.
 use Rattle.std.specs.Prelude.{◌≡◌, ℕ, ◌+◌, ◌≤◌, Bool, true, false, List, length, Option, Some, None, Ok, Err}
 use Rattle.output.specs.Sink.{Sink, Wrote, BrokeOff}
 use Rattle.rehearse.specs.State.{Text}

@@ -1,17 +1,17 @@
-//! The number under which the table keeps a state. Equal states have equal numbers; nothing else rests on it but the
-//! time that a look takes.
+//! The number under which the table keeps a state. Equal states have equal numbers. Only the time
+//! of a look-up depends on anything else about these numbers.
 
 use bootstore::{Frame, Store, Variables};
 
-/// The number that all begin with.
+/// The number with which every other number starts.
 const SEED: u64 = 0xcbf2_9ce4_8422_2325;
 
-/// A part more.
+/// Adds one more part to a number.
 fn mix(hash: u64, part: u64) -> u64 {
     (hash ^ part).wrapping_mul(0x0000_0100_0000_01b3)
 }
 
-/// The length of a text and its last bytes, since counters and numbers of devices stand there.
+/// Adds the length of a text and its last bytes, since counters and device numbers are at the end.
 fn mix_text(hash: u64, text: &[u8]) -> u64 {
     let mut mixed = mix(hash, text.len() as u64);
     for byte in text.iter().rev().take(8) {
@@ -20,7 +20,7 @@ fn mix_text(hash: u64, text: &[u8]) -> u64 {
     mixed
 }
 
-/// The names and values of variables.
+/// Adds the names and values of variables.
 fn mix_variables(hash: u64, variables: Variables<'_>) -> u64 {
     let mut mixed = hash;
     for (name, value) in variables {
@@ -29,7 +29,7 @@ fn mix_variables(hash: u64, variables: Variables<'_>) -> u64 {
     mixed
 }
 
-/// The places to which frames have come.
+/// Adds the places that frames have reached.
 fn mix_frames(hash: u64, frames: &[Frame]) -> u64 {
     let mut mixed = hash;
     for frame in frames {

@@ -1,4 +1,5 @@
-//! How the runs of a boot script end: for each ending how many runs do, and the first of them.
+//! How the runs of a boot script end: for each ending how many runs end like this, and the first of
+//! them.
 #![tactic(auto)]
 
 mod cores;

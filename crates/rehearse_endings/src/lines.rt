@@ -1,4 +1,4 @@
-//! The lines that tell how runs end.
+//! The lines that say how runs end.
 ghost use Rattle.std.specs.Prelude.{◌≡◌, ◌++◌, map, min, reverse, codes, decimal, IfOk, OnOk};
 ghost use Rattle.std.specs.List.{flat_map};
 ghost use Rattle.text.specs.Escapes.{word_escaped, word_form};

@@ -1,4 +1,4 @@
-//! Rows: how runs end, how many, and which is the first.
+//! Rows: how runs end, how many do, and which is the first.
 ghost use Rattle.std.specs.Prelude.{◌≡◌, ◌≤◌, ◌∷◌, [], map, reverse, IfOk};
 ghost use Rattle.rehearse_machine.specs.EndingsShown.{halt_shown};
 ghost use Rattle.rehearse_machine.specs.Machine.{outcome_when};

@@ -1,4 +1,4 @@
-//! Why the endings of a script are not told.
+//! Why the endings of a script are not counted.
 ghost use Rattle.std.specs.Prelude.{◌≡◌};
 ghost use Rattle.rehearse_endings.specs.declared.sum_error.SumError.TheVariants.{Memory};
 
@@ -6,10 +6,10 @@ use bootstore::StoreError;
 use std::alloc::{AllocError, AllocFailed};
 use thiserror::Error;
 
-/// Why the endings of a script are not told.
+/// Why the endings of a script are not counted.
 #[derive(Clone, Copy, Debug, PartialEq, Eq, Error)]
 pub enum SumError {
-    /// There is no memory for it.
+    /// Memory ran out.
     #[error("out of memory")]
     Memory,
     /// There are more states than allowed.

@@ -1,4 +1,4 @@
--- Past the bound nothing is begun.
+-- After the bound, nothing is begun.
 use Rattle.std.proofs.Common.{ℕ, zero, suc, Bool, false, refl, ◌≡◌, ◌≤◌, nat_lt, le-ltb}
 use Rattle.hushlang.specs.Tree as tree
 use Rattle.hushlang.specs.Tree.{Script, AndOr, Command, Arms}

@@ -1,4 +1,4 @@
--- The machine ends: a move begins a step, of which there are as many as the bound allows, or comes closer to one.
+-- The machine ends. Each move begins a step, or comes closer to the next step or the end; the bound limits the steps.
 use Rattle.std.proofs.Common.{ℕ, suc, Bool, true, false, List, [], ◌∷◌, length, Option, Some, None, refl, ◌≡◌, ◌<◌, ◌≤◌, ◌⊎◌, inl, inr, arith, ◌+◌, nat_lt, nat_le, nat_eq, ltb-true}
 use Rattle.hushlang.specs.Tree as tree
 use Rattle.hushlang.specs.Tree.{Script, Command, Arms}

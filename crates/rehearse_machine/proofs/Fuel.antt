@@ -1,4 +1,4 @@
--- A script means the same whatever number of steps is allowed for, as long as it is no less than those left.
+-- A script means the same for every number of allowed steps that is at least the number of steps left.
 use Rattle.std.proofs.Common.{ℕ, zero, suc, Bool, true, false, List, [], ◌∷◌, Option, Some, None, refl, sym, ◌∙◌, ◌≡◌, ◌<◌, ◌≤◌, arith, ◌+◌, nat_lt, nat_le, nat_eq}
 use Rattle.hushlang.specs.Tree as tree
 use Rattle.hushlang.specs.Tree.{Script, AndOr, Joined, Command, Arms}

@@ -1,4 +1,4 @@
--- Each move of the machine keeps what is left to come.
+-- Each move of the machine keeps what is still to come.
 use Rattle.std.proofs.Common.{ℕ, zero, suc, Bool, true, false, List, [], ◌∷◌, length, Option, Some, None, refl, sym, ap, ◌∙◌, ◌≡◌, ◌≤◌, arith, nat_lt, nat_le, nat_eq}
 use Rattle.hushlang.specs.Tree as tree
 use Rattle.hushlang.specs.Tree.{Script, Command, Arms}

@@ -1,4 +1,4 @@
--- The names of a `run`, and the texts that they stand for.
+-- The names of a `run`, and their texts.
 use Rattle.std.proofs.Common.{◌≡◌, suc, true, false, List, [], ◌∷◌, map, length, Option, Some, None, Result, refl, sym, ap, subst, ◌∙◌, arith}
 use Rattle.std.specs.Prelude.{slice_get}
 use Rattle.std.proofs.Math.Dec.{eqb, eqb-suc-zero}

@@ -1,4 +1,4 @@
--- A move at places is the move of the frames that they stand for.
+-- A move at places is the move of the frames that the places describe.
 use Rattle.std.proofs.Common.{ℕ, zero, suc, Bool, true, false, List, [], ◌∷◌, ◌++◌, length, drop, Option, Some, None, refl, sym, ap, ◌∙◌, ◌≡◌, ◌<◌, arith, nat_lt, nat_le, nat_eq}
 use Rattle.std.specs.Prelude.{slice_get}
 use Rattle.std.proofs.Math.Dec.{eqb-suc-zero}

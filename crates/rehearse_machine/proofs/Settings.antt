@@ -1,4 +1,4 @@
--- What words expand by, in a store's moment and in the state that it is.
+-- What words expand by, in a store's moment and in the state that it describes.
 use Rattle.std.proofs.Common.{◌≡◌, ℕ, Bool, true, false, cond, List, [], ◌∷◌, Option, Some, None, refl, sym, ap, ◌∙◌, nat_le, ◌≤◌, ◌<◌}
 use Rattle.std.proofs.lemmas.Bool.{le-leb, lt-leb}
 use Rattle.std.specs.Borrow.{Bor}

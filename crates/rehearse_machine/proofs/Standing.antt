@@ -1,4 +1,4 @@
--- Where a run of a task stands that has taken a word: it begins, takes outcomes, asks and ends.
+-- How far a run of a task is that has taken a word: it starts, takes outcomes, asks and ends.
 use Rattle.std.proofs.Common.{Bool, true, false, List, [], ◌∷◌, ◌++◌, Option, Some, None, refl, sym, ap, ◌∙◌, ◌≡◌, append_assoc, arith}
 use Rattle.hushlang.specs.Tree as tree
 use Rattle.hushlang.specs.Tree.{Script}

@@ -1,4 +1,4 @@
--- A device command that asks for its outcome: where it stands, and how it is found again. Ours.
+-- A device command that asks for its outcome: where it is, and how it is found again. Ours.
 use Rattle.std.specs.Prelude.{◌≡◌, ℕ, zero, suc, List, [], ◌∷◌, Option, Some, None}
 use Rattle.hushlang.specs.Tree as tree
 use Rattle.hushlang.specs.Tree.{Command}

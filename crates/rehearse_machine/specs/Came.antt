@@ -1,4 +1,4 @@
--- What a run comes to. Ours.
+-- What a run comes to: its end, or a device command that finds no outcome left. Ours.
 use Rattle.rehearse.specs.State.{State}
 use Rattle.rehearse.specs.Execution.{Answer, Normal, Exit, Ended, Dry, Ending, End}
 

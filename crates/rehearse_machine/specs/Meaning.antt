@@ -1,4 +1,4 @@
--- What frames still make of a run: the machine's frames as a continuation of the meaning of scripts. Ours.
+-- What frames still do to a run: the machine's frames as a continuation of the meaning of scripts. Ours.
 use Rattle.std.specs.Prelude.{◌≡◌, nat_eq, Bool, true, false, List, [], ◌∷◌, ◌++◌}
 use Rattle.hushlang.specs.Tree.{Script, Joined, Command, Arms}
 use Rattle.rehearse.specs.Outcomes.{OutcomeWord}

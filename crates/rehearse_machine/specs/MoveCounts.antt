@@ -1,4 +1,4 @@
--- How many moves it takes at most to the next step or to the end. Ours.
+-- An upper bound of the moves to the next step or to the end. Ours.
 use Rattle.std.specs.Prelude.{ℕ, suc, ◌+◌, List, [], ◌∷◌, Option, Some, None}
 use Rattle.hushlang.specs.Tree as tree
 use Rattle.hushlang.specs.Tree.{Script, AndOr, Joined, Command, Arms}

@@ -1,4 +1,4 @@
--- What moves of a store come to, in turns of which each begins a step or comes to the end.
+-- What moves of a store come to, in turns. Each turn begins a step or comes to the end.
 use Rattle.std.specs.Prelude.{◌≡◌, ℕ, ◌<◌, ◌≤◌, []}
 use Rattle.std.specs.FinMap.{entries}
 use Rattle.bootstore.specs.Moment.{Moment}

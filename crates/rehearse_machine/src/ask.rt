@@ -1,4 +1,4 @@
-//! What one move of the machine comes to.
+//! The result of one move of the machine.
 
 use crate::halt::Halt;
 use rehearse::Effect;
@@ -8,13 +8,13 @@ use rehearse::Effect;
 pub struct Ask<'a> {
     /// Its name.
     pub name: Vec<u8>,
-    /// The words behind its name.
+    /// The words after its name.
     pub words: Vec<Vec<u8>>,
     /// What it does on success.
     pub effect: Effect<'a>,
 }
 
-/// What a move comes to.
+/// The result of a move.
 #[derive(Drop)]
 pub enum Step<'a> {
     /// There is more to do.

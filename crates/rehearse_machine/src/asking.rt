@@ -1,4 +1,4 @@
-//! A device command that asks, found again.
+//! Finds a device command that asks again.
 ghost use Rattle.std.specs.Prelude.{◌≡◌, map, option_map};
 ghost use Rattle.hushlang.specs.TreesShown as view;
 ghost use Rattle.rehearse_machine.specs.AskingCommand as asking;

@@ -1,5 +1,5 @@
-//! What a name calls; `setenv` and `echo` over a store; the status of `exit`; which `test` asks a device; and a
-//! device command that asks for its outcome.
+//! What a name calls, and the commands that need no frame: `setenv` and `echo` over a store, the
+//! status of `exit`, whether `test` asks a device, and how a device command asks for its outcome.
 ghost use Rattle.std.specs.Prelude.{◌≡◌, ◌∷◌, [], IfOk};
 ghost use Rattle.std.specs.List.{join_with_byte, list_all};
 ghost use Rattle.text.specs.Bytes as ascii;

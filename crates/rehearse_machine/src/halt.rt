@@ -4,7 +4,7 @@ ghost use Rattle.std.specs.Prelude.{◌≡◌};
 /// How a run has ended, with the name that it is about.
 #[derive(Debug, Drop)]
 pub enum Halt {
-    /// Its text came to its end, or to an `exit`, with this status.
+    /// Its text ended, by itself or by an `exit`, with this status.
     End(u8),
     /// The bound on device commands forbids the next one.
     CutDevices,
@@ -12,7 +12,7 @@ pub enum Halt {
     CutSteps,
     /// A command is neither built in nor listed.
     Unknown(Vec<u8>),
-    /// The text of a variable is no script.
+    /// The text of a variable is not a script.
     Syntax(Vec<u8>),
     /// Words expand to too many bytes.
     Size,
@@ -23,7 +23,7 @@ pub enum Halt {
 /// How a run ends, borrowed.
 #[derive(Clone, Copy, Debug)]
 pub enum Ending<'v> {
-    /// Its text came to its end, or to an `exit`, with this status.
+    /// Its text ended, by itself or by an `exit`, with this status.
     End(u8),
     /// The bound on device commands forbids the next one.
     CutDevices,
@@ -31,7 +31,7 @@ pub enum Ending<'v> {
     CutSteps,
     /// A command is neither built in nor listed.
     Unknown(&'v [u8]),
-    /// The text of a variable is no script.
+    /// The text of a variable is not a script.
     Syntax(&'v [u8]),
     /// Words expand to too many bytes.
     Size,

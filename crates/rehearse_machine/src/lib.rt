@@ -1,4 +1,5 @@
-//! One run of a boot script: a machine over a store of states, which stops where a device command asks.
+//! One run of a boot script: a machine over a store of states. It stops where a device command
+//! asks.
 #![tactic(auto)]
 
 mod ask;

@@ -1,4 +1,4 @@
-//! The machine: moves over a store, up to an outcome that is asked for or to the end.
+//! The machine: moves over a store, until an outcome is asked for or the run ends.
 ghost use Rattle.std.specs.Prelude.{◌+◌, ◌<◌, ◌≤◌, ◌^◌, IfOk};
 ghost use Rattle.rehearse_machine.specs.Places.{place_move};
 ghost use Rattle.rehearse_machine.specs.MovesShown.{Comes, limits_of};

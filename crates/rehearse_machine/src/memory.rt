@@ -1,4 +1,4 @@
-//! The variables and the status of a run, as words expand by them.
+//! The variables and the status of a run, which words expand by.
 
 use bootstore::Store;
 use hushlang::expand::Vars;

@@ -1,4 +1,4 @@
-//! One move of a `for`: its variable gets the next word, or the loop ends.
+//! One move of a `for`: its variable gets the next field, or the loop ends.
 ghost use Rattle.std.specs.Prelude.{slice_get};
 ghost use Rattle.hushlang.specs.TreesShown as view;
 ghost use Rattle.rehearse_machine.specs.Places.{for_turn};

@@ -1,4 +1,4 @@
-//! Parts of a script by their numbers.
+//! The commands of a list by their numbers.
 ghost use Rattle.std.specs.Prelude.{◌≡◌, ◌+◌, ◌<◌, ◌^◌, IsSome, option_map};
 ghost use Rattle.hushlang.specs.TreesShown as view;
 ghost use Rattle.rehearse_machine.specs.Places.{command_in};

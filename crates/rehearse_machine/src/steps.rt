@@ -1,4 +1,4 @@
-//! Steps that are begun, and words that are expanded.
+//! Begins steps, and expands words.
 ghost use Rattle.std.specs.Prelude.{◌+◌, ◌<◌, ◌^◌, IfOk, map, true, false, Some, None};
 ghost use Rattle.hushlang.specs.TreesShown as view;
 ghost use Rattle.hushlang.specs.Expansion as expansion;

@@ -1,4 +1,4 @@
-//! How a `run` begins, by the frame of its names, and how `exit` leaves the text of a `run`.
+//! How a `run` starts, with a frame for its names, and how `exit` leaves the text that is running.
 ghost use Rattle.std.specs.Prelude.{◌∷◌, ◌<◌};
 ghost use Rattle.hushlang.specs.TreesShown as view;
 ghost use Rattle.text.specs.TextsShown.{bytes_of_words};

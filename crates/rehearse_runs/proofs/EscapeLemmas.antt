@@ -1,4 +1,4 @@
--- Bytes that are put together where they stand as they are, and one by one where they do not.
+-- Bytes that print as they are are written together, and other bytes one by one.
 use Rattle.std.proofs.Common.{◌≡◌, ℕ, zero, suc, ◌+◌, ◌<◌, Bool, true, false, not, List, [], ◌∷◌, ◌++◌, length, get_or, take, drop, Result, None, Some, refl, sym, ap, ◌∙◌, append_assoc, arith, add-one, inl, inr}
 use Rattle.std.specs.List.{flat_map, position, list_any}
 use Rattle.std.proofs.lemmas.Bool.Decides.{nat_tests}

@@ -1,4 +1,4 @@
--- The runs that are asked.
+-- The runs that are asked for.
 use Rattle.std.proofs.Common.{◌≡◌, ◌==◌, ◌∙◌, arith, ℕ, Bool, true, false, List, [], ◌∷◌, ◌++◌, map, get_or, Option, Some, None, Result, Ok, Err, IfErr, inl, inr, refl, sym, ap, subst, append-nil}
 use Rattle.std.specs.Prelude.{IfOk, OnOk, if◌then◌else◌, codes}
 use Rattle.std.specs.List.{flat_map}

@@ -1,4 +1,4 @@
--- The records of runs, one behind another, and the line behind them.
+-- The records of runs, one after another, and the line after them.
 use Rattle.std.proofs.Common.{◌≡◌, ◌≢◌, ℕ, zero, suc, ◌+◌, ◌-◌, Bool, true, false, List, [], ◌∷◌, ◌++◌, length, map, take, drop, Option, Some, None, inl, inr, refl, sym, ap, subst, ◌∙◌, append_assoc, append-nil, arith}
 use Rattle.std.specs.Prelude.{nat_le, codes, unwrap_or}
 use Rattle.std.specs.List.{flat_map}

@@ -1,4 +1,4 @@
--- A variable is set in an environment exactly where it is set in a script's.
+-- A variable is set in an environment exactly if it is set in the environment of a script.
 use Rattle.std.proofs.Common.{◌≡◌, Bool, true, false, cond, ◌||◌, List, [], ◌∷◌, Option, Some, None, IsSome, unwrap_or, option_map, rules, refl, sym, ap, ◌∙◌}
 use Rattle.std.specs.Prelude.{if◌then◌else◌}
 use Rattle.std.specs.FinMap as finite

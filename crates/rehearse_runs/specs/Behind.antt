@@ -1,4 +1,4 @@
--- The runs behind a word, and what kind of word a text is. Ours.
+-- The runs after a word, and what kind of word a text is. Ours.
 use Rattle.std.specs.Prelude.{◌≡◌, ◌≢◌, [], true, false, map, Option, Some, None, IsSome}
 use Rattle.rehearse.specs.Outcomes as outcomes
 use Rattle.rehearse.specs.Outcomes.{OutcomeWord}

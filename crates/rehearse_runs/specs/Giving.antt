@@ -1,4 +1,4 @@
--- What a call of `next` gives, and what it leaves once the run is no longer borrowed. Ours.
+-- What a call of `next` gives, and what it leaves when the run is no longer borrowed. Ours.
 use Rattle.std.specs.Prelude.{◌≡◌, ◌+◌, ◌≤◌, length, ◌++◌, Bool, true, false, [], ◌∷◌, map, Option, Some, None, Result, Ok, Err}
 use Rattle.std.specs.Borrow.{Fml, MutBor, RattleType}
 use Rattle.std.specs.Io.BufRead.{Rests}

@@ -4,19 +4,19 @@ ghost use Rattle.rehearse_runs.specs.StartWord.{digits_in};
 
 use rehearse::{Bounds, RunBounds};
 
-/// Which runs are wanted. A word is given as a listing prints it: `.` is the empty one.
+/// Which runs are wanted. A word is written as a listing prints it: `.` is the empty one.
 #[derive(Clone, Copy)]
 pub enum Wanted<'a> {
-    /// Those of a listing.
+    /// The runs of a listing.
     Listing {
         /// How far each run may go.
         bounds: Bounds,
-        /// The listing begins after the run of this word.
+        /// The listing starts after the run of this word.
         after: Option<&'a [u8]>,
         /// The most records that are written.
         limit: Option<u32>,
     },
-    /// The run of a word alone.
+    /// Only the run of a word.
     Word {
         /// How far it may go.
         bounds: RunBounds,
@@ -36,7 +36,7 @@ pub struct Ask<'a> {
     pub names: &'a [&'a [u8]],
 }
 
-/// The digits of a word that is given as a listing prints it.
+/// The digits of a word that is written as a listing prints it.
 pub(crate) fn digits_of(printed: &[u8]) -> &[u8]
     ensures { result.now ≡ digits_in printed.entry.now }
 {

@@ -1,4 +1,5 @@
-//! Bytes on their way to an output, gathered so that it gets few writes. A page takes no memory.
+//! Bytes on their way to an output, gathered so that the output gets few writes. A page takes no
+//! memory.
 ghost use Rattle.std.specs.Prelude.{◌≡◌, [], OnOk};
 ghost use Rattle.output.specs.Sink.{Prints};
 ghost use Rattle.rehearse_runs.specs.Paging.{Puts};

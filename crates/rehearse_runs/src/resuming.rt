@@ -1,4 +1,4 @@
-//! Where a listing that was broken off goes on.
+//! Where a listing that broke off goes on.
 ghost use Rattle.std.specs.Prelude.{◌≡◌, ◌+◌, ◌∷◌, [], length, suc, MatchOption};
 
 /// A place in what stands written at which a listing goes on.

@@ -1,4 +1,4 @@
-//! A run, as it is shown.
+//! A run, as `next` shows it.
 ghost use Rattle.std.specs.Prelude.{◌≡◌};
 ghost use Rattle.std.specs.FinMap.{entries};
 ghost use Rattle.text.specs.TextsShown.{option_bytes};

@@ -31,7 +31,7 @@ module _ (p : ℕ → Bool) where
   pub slice_split-unfound : (text : List ℕ) → position p text ≡ None → slice_split p text ≡ text ∷ []
   slice_split-unfound text e = split-none text (position-none p text e)
 
--- the first line, and the lines behind it
+-- the first line, and the lines after it
 pub lines-found : (number : ℕ) (text : List ℕ) (at : ℕ) → position is_newline text ≡ Some at
     → enumerate_from number (slice_split is_newline text) ≡ (number, take at text) ∷ enumerate_from (number + 1) (slice_split is_newline (take (length text - (at + 1)) (drop (at + 1) text)))
 lines-found number text at e =

@@ -1,4 +1,4 @@
--- A byte that does not stand in a text.
+-- A byte that is not in a text.
 use Rattle.std.proofs.Common.{◌≡◌, ℕ, suc, ◌<◌, Bool, true, false, nat_lt, inl, inr, List, [], ◌∷◌, length, get_or, None, Some, refl, arith}
 use Rattle.std.specs.List.{position, position_or_len, list_any}
 use Rattle.std.proofs.lemmas.Bool.Decides.{nat_tests}

@@ -8,7 +8,7 @@ use Rattle.std.specs.List.{slice_split, onto_first, position, position_or_len}
 use Rattle.std.specs.Prelude.{unwrap_or}
 use Rattle.text.specs.Words.{is_blank, words_of, cut_front}
 
--- blanks at the front make no word
+-- blanks at the start make no word
 words_of-blank : (b : ℕ) (bs : List ℕ) → is_blank b ≡ true → words_of (b ∷ bs) ≡ words_of bs
 words_of-blank b bs e = rw e refl
 
@@ -30,12 +30,12 @@ no_word line e = sym (words_of-cut_front line) ∙ ap words_of (nothing (cut_fro
 abbrev some_words : List (List ℕ) → List (List ℕ)
 some_words = filter (λ word. not (eqb (length word) 0))
 
--- the parts behind the first
+-- the parts after the first
 abbrev later_parts : List ℕ → List (List ℕ)
 later_parts [] = []
 later_parts (b ∷ bs) = slice_split is_blank bs
 
--- how many bytes stand before the first blank
+-- how many bytes are before the first blank
 len-blank : (b : ℕ) (bs : List ℕ) → is_blank b ≡ true → position_or_len is_blank (b ∷ bs) ≡ 0
 len-blank b bs e = rw e refl
 
@@ -51,7 +51,7 @@ first_part (b ∷ bs) =
       | inr other ↦ rw (len-other b bs other, other) (ap (onto_first b) (first_part bs))
     ]
 
--- the blank in front of the rest makes no word
+-- the blank before the rest makes no word
 rest_words : (line : List ℕ) → words_of (drop (position_or_len is_blank line) line) ≡ some_words (later_parts (drop (position_or_len is_blank line) line))
 rest_words [] = refl
 rest_words (b ∷ bs) =

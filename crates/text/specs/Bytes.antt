@@ -1,4 +1,4 @@
--- The bytes of ASCII by their names: each number that a definition compares with a byte stands here, and only here.
+-- The bytes of ASCII by their names. Each number that a definition compares with a byte is here, and only here.
 use Rattle.std.specs.Prelude.{ℕ}
 
 -- ---- bytes that are not printed
@@ -20,7 +20,7 @@ space = 32
 
 -- ---- signs, in the order of their codes
 
--- `!`, the first byte that is printed but the space
+-- `!`, the first printed byte after the space
 abbrev pub exclamation_mark : ℕ
 exclamation_mark = 33
 

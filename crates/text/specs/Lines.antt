@@ -16,14 +16,14 @@ is_newline b = b == ascii.newline
 abbrev pub numbered_lines : List ℕ → List (ℕ × List ℕ)
 numbered_lines text = enumerate_from 1 (slice_split is_newline text)
 
--- the lines that an iterator has left
+-- the lines that an iterator still has to give
 abbrev pub lines_left : Lines → List (ℕ × List ℕ)
 lines_left s = if s.is_done then [] else enumerate_from s.number (slice_split is_newline s.rest.now)
 
--- a line behind its reference
+-- a line, seen through its reference
 abbrev pub line_at : ℕ × Bor (List ℕ) → ℕ × List ℕ
 line_at item = (item.0, item.1.now)
 
--- no more lines than this are left
+-- an upper bound of the number of lines left
 abbrev pub steps_left : Lines → ℕ
 steps_left s = if s.is_done then 0 else length s.rest.now + 1

@@ -9,12 +9,12 @@ use Rattle.text.specs.Lines.{Text}
 abbrev pub bytes_of_words : List (Vec ℕ Global) → List Text
 bytes_of_words ws = map (λ w. w.items) ws
 
--- the text of a vector that may be there
+-- the text of an optional vector
 abbrev pub option_items : Option (Vec ℕ Global) → Option Text
 option_items None = None
 option_items (Some v) = Some v.items
 
--- the text behind a reference that may be there
+-- the text of an optional reference
 abbrev pub option_bytes : Option (Bor (List ℕ)) → Option Text
 option_bytes None = None
 option_bytes (Some b) = Some b.now

@@ -1,9 +1,9 @@
--- The words of a line, and what stands round them.
+-- The words of a line, and what is around them.
 use Rattle.std.specs.Prelude.{◌≡◌, ℕ, ◌<◌, ◌==◌, ◌||◌, not, Bool, List, [], ◌∷◌, length, filter, if◌then◌else◌}
 use Rattle.std.specs.List.{slice_split}
 use Rattle.text.specs.Bytes as ascii
 
--- what stands between a name and its value
+-- the sign between a name and its value
 abbrev pub is_equals : ℕ → Bool
 is_equals b = b == ascii.equals
 
@@ -15,29 +15,29 @@ is_space b = (b == ascii.space) || (b == ascii.tab)
 abbrev pub is_blank : ℕ → Bool
 is_blank b = is_space b || (b == ascii.carriage_return)
 
--- what follows the bytes in front that pass a test
+-- a text without the bytes at its start that pass a test
 abbrev pub cut_front : (ℕ → Bool) → List ℕ → List ℕ
 cut_front p [] = []
 cut_front p (b ∷ bytes) = if p b then cut_front p bytes else b ∷ bytes
 
--- a byte in front of a line, unless it would be the last one and passes
+-- a byte put before a text; it is dropped if it passes and the text is empty
 abbrev pub onto_line : (ℕ → Bool) → ℕ → List ℕ → List ℕ
 onto_line p b [] = if p b then [] else b ∷ []
 onto_line p b (c ∷ bytes) = b ∷ c ∷ bytes
 
--- what stands before the bytes at the end that pass a test
+-- a text without the bytes at its end that pass a test
 abbrev pub cut_behind : (ℕ → Bool) → List ℕ → List ℕ
 cut_behind p [] = []
 cut_behind p (b ∷ bytes) = onto_line p b (cut_behind p bytes)
 
--- a line without the blanks round it
+-- a line without the blanks around it
 abbrev pub trimmed : List ℕ → List ℕ
 trimmed line = cut_behind is_blank (cut_front is_blank line)
 
--- the words of a line are what blanks separate
+-- the words of a line, which blanks separate
 abbrev pub words_of : List ℕ → List (List ℕ)
 words_of line = filter (λ word. not (length word == 0)) (slice_split is_blank line)
 
--- the answers of a closure are those of a test
+-- a closure answers as a test does
 abbrev pub Tests : (ℕ → Bool → Type 0) → (ℕ → Bool) → Type 0
 Tests answers p = (b : ℕ) (truth : Bool) → b < 256 → answers b truth → truth ≡ p b

@@ -3,8 +3,8 @@ ghost use Rattle.std.specs.Prelude.{◌≡◌, ◌+◌, ◌<◌, ◌^◌, length
 
 use crate::search::find;
 
-/// The lines of a text, each with its number, from 1 on. A line ends before a newline; what stands
-/// behind the last one is a line too.
+/// The lines of a text, each with its number, from 1 on. A newline ends a line. The bytes after the
+/// last newline are a line too.
 #[derive(Clone, Copy, Debug)]
 pub struct Lines<'a> {
     rest: &'a [u8],

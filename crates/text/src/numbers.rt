@@ -2,7 +2,7 @@
 ghost use Rattle.std.specs.Prelude.{◌≡◌, ◌-◌, ◌^◌, ◌≤◌, min};
 ghost use Rattle.text.specs.Numbers.{digit_of, value_in};
 
-/// The value of a digit of any base up to 16, and 16 where the byte is no digit.
+/// The value of a digit of any base up to 16, or 16 if the byte is no digit.
 pub fn digit_of(byte: u8) -> u64
     ensures { result ≡ digit_of byte }
 {
@@ -14,7 +14,8 @@ pub fn digit_of(byte: u8) -> u64
     }
 }
 
-/// The number of some digits, as far as 64 bits can hold it.
+/// The number that the digits spell in this base, or the greatest number of 64 bits if that is
+/// smaller.
 pub fn value_in(base: u64, digits: &[u8]) -> u64
     requires { 1 ≤ base }
     ensures { result ≡ min (value_in base digits.now) (2 ^ 64 - 1) }

@@ -1,4 +1,4 @@
-//! The words of a line, and what stands round them.
+//! The words of a line, and what is around them.
 ghost use Rattle.std.specs.Prelude.{◌≡◌, ◌≤◌, ◌∷◌, [], ℕ, Bool, length, MatchOption};
 ghost use Rattle.std.specs.List.{position, position_or_len};
 ghost use Rattle.text.specs.Words.{is_blank, is_space, words_of, cut_front, cut_behind, trimmed, Tests};
@@ -17,7 +17,7 @@ pub fn is_blank(byte: u8) -> bool
     is_space(byte) || byte == b'\r'
 }
 
-/// What follows the bytes in front that pass a test.
+/// A text without the bytes at its start that pass a test.
 pub fn cut_front<F: Fn(u8) -> bool>(text: &[u8], test: F) -> &[u8]
     requires { F.IsAlwaysCallable test }
     ensures { (p : ℕ → Bool) → Tests (F.post test) p → result.now ≡ cut_front p text.now }
@@ -32,7 +32,7 @@ pub fn cut_front<F: Fn(u8) -> bool>(text: &[u8], test: F) -> &[u8]
     rest
 }
 
-/// What stands before the bytes at the end that pass a test.
+/// A text without the bytes at its end that pass a test.
 #[tactic(auto, using(crate::proofs::CutLemmas::ends))]
 pub fn cut_behind<F: Fn(u8) -> bool>(text: &[u8], test: F) -> &[u8]
     requires { F.IsAlwaysCallable test }
@@ -48,7 +48,7 @@ pub fn cut_behind<F: Fn(u8) -> bool>(text: &[u8], test: F) -> &[u8]
     &text[..len]
 }
 
-/// A line without the blanks round it.
+/// A line without the blanks around it.
 pub fn trimmed(line: &[u8]) -> &[u8]
     ensures { result.now ≡ trimmed line.now }
 {
@@ -62,7 +62,7 @@ fn first_blank(line: &[u8]) -> Option<usize>
     line.iter().position(|byte| is_blank(*byte))
 }
 
-/// How many bytes stand before the first blank.
+/// How many bytes are before the first blank.
 #[tactic(auto, using(crate::proofs::WordLemmas::word_ends))]
 fn word_len(line: &[u8]) -> usize
     ensures len { result ≡ position_or_len is_blank line.now }
@@ -71,7 +71,7 @@ fn word_len(line: &[u8]) -> usize
     first_blank(line).unwrap_or(line.len())
 }
 
-/// The first word of a line, and what follows it.
+/// The first word of a line, and what follows it. Gives `None` if the line has no word.
 #[tactic(auto, using(crate::proofs::WordLemmas::first_words))]
 pub fn next_word(line: &[u8]) -> Option<(&[u8], &[u8])>
     ensures { MatchOption result (words_of line.now ≡ []) (λ cut. words_of line.now ≡ cut.0.now ∷ words_of cut.1.now) }

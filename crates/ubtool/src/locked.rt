@@ -11,19 +11,19 @@ use thiserror::Error;
 use ubtool_core::WordForm;
 use ubtool_files::{FileFault, Files, Machine};
 
-/// The file that `fw_printenv` and `fw_setenv` lock, those of U-Boot and those of libubootenv.
+/// The file that `fw_printenv` and `fw_setenv` lock, both U-Boot's and libubootenv's.
 const LOCK_FILE: &str = "/var/lock/fw_printenv.lock";
 
-/// Why the lock in a folder is not taken. U-Boot's tools have these texts.
+/// Why the lock in a folder is not taken. The texts are those of U-Boot's tools.
 #[derive(Debug, Drop, Error)]
 pub enum LockError {
-    /// The lock file can neither be made nor opened, or is no plain file.
+    /// The lock file can neither be made nor opened, or is not a plain file.
     #[error("Error opening lock file {0}")]
     NoFile(WordForm),
     /// The lock file cannot be locked.
     #[error("Error locking file {0}")]
     NoLock(WordForm),
-    /// A growth was refused.
+    /// Memory ran out.
     #[error("out of memory")]
     Memory,
 }
@@ -36,7 +36,7 @@ impl From<AllocError> for LockError {
     }
 }
 
-/// Whether these are what is known of a plain file: of no pipe, folder or device.
+/// Whether this describes a plain file, not a pipe, folder or device.
 fn is_plain(known: io::Result<Metadata>) -> bool {
     match known {
         Ok(known) => known.is_file(),
@@ -44,7 +44,8 @@ fn is_plain(known: io::Result<Metadata>) -> bool {
     }
 }
 
-/// A lock file, opened to be read. To open a pipe so could wait without end, so that it is looked at first.
+/// A lock file, opened to be read. Opening a pipe this way could wait without end, so the file is
+/// checked first.
 fn readable<R: rt::Files>(rt: &R, path: &str) -> Option<R::File> {
     if !is_plain(fs::metadata(rt, path)) {
         return None;
@@ -52,8 +53,9 @@ fn readable<R: rt::Files>(rt: &R, path: &str) -> Option<R::File> {
     File::open(rt, path).ok()
 }
 
-/// The file under a number above those of the three standard streams. A file that is opened while one of them is closed has
-/// that one's number: a script on standard input would be read from it, and a fault be told in it.
+/// The file under a number above those of the three standard streams. If one of them is closed, a
+/// file that is opened gets its number. Without this, a script on standard input would be read from
+/// that file, or a fault would be written to it.
 fn above_streams(file: File) -> Option<File> {
     if file.as_raw_fd() > 2 {
         return Some(file);
@@ -61,8 +63,9 @@ fn above_streams(file: File) -> Option<File> {
     file.try_clone().ok()
 }
 
-/// A lock file, made where it is not there; one that cannot be written is opened to be read. What is no plain file is
-/// no lock file: to open a pipe for both reading and writing does not wait for its other end.
+/// A lock file, made if it does not exist. If it cannot be written, it is opened to be read. Only a
+/// plain file is a lock file. Opening a pipe for both reading and writing does not wait for its
+/// other end.
 fn lock_file<R: rt::Files<File = File>>(rt: &R, path: &str) -> Option<File> {
     let mut how = OpenOptions::new();
     how.read(true);
@@ -79,7 +82,7 @@ fn lock_file<R: rt::Files<File = File>>(rt: &R, path: &str) -> Option<File> {
     }
 }
 
-/// The usual lock, once no other call holds it; nothing where its file cannot be opened.
+/// The usual lock, once no other call holds it, or `None` if its file cannot be opened or locked.
 fn lock_taken<R: rt::Files<File = File>>(rt: &R) -> Option<File> {
     let file = lock_file(rt, LOCK_FILE)?;
     match file.lock() {
@@ -88,7 +91,7 @@ fn lock_taken<R: rt::Files<File = File>>(rt: &R) -> Option<File> {
     }
 }
 
-/// The lock in a folder, once no other call holds it. Refusals: `NoFile`, `NoLock`, `Memory`.
+/// Takes the lock in a folder, once no other call holds it. Errors: `NoFile`, `NoLock`, `Memory`.
 pub fn lock_in<R: rt::Files<File = File>>(
     rt: &R,
     alloc: Global,
@@ -104,9 +107,10 @@ pub fn lock_in<R: rt::Files<File = File>>(
     }
 }
 
-/// The machine's files. If a call holds no lock yet and will write, it waits for the usual lock before its first call on
-/// files. A lock is held as long as these files last. Where the file of the usual lock cannot be opened, as on a machine
-/// without its folder, or is no plain file, no lock is taken.
+/// The machine's files. If a call holds no lock yet and will write, it waits for the usual lock
+/// before its first call on files. A lock is held as long as these files last. If the file of the
+/// usual lock cannot be opened, as on a machine without its folder, or is not a plain file, no lock
+/// is taken.
 #[derive(Drop)]
 pub struct Locked<'a, R> {
     rt: &'a R,
@@ -116,7 +120,8 @@ pub struct Locked<'a, R> {
 }
 
 impl<'a, R: rt::Files<File = File>> Locked<'a, R> {
-    /// The files that `rt` reaches, whether one of them is to be written, and the lock that is held already.
+    /// The files that `rt` reaches. `writes` says whether one of them is to be written, and `lock`
+    /// is the lock that is held already.
     pub fn new(rt: &'a R, writes: bool, lock: Option<File>) -> Locked<'a, R> {
         Locked {
             rt,
@@ -126,7 +131,7 @@ impl<'a, R: rt::Files<File = File>> Locked<'a, R> {
         }
     }
 
-    /// Takes the lock where it is wanted and not yet held.
+    /// Takes the lock if it is wanted and not held yet.
     fn take(&mut self)
         ensures { faults_of self.new.files ≡ faults_of self.old.files }
     {

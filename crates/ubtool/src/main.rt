@@ -1,4 +1,5 @@
-//! The program `ubtool`: variables of a U-Boot environment, printed and changed, and its boot script rehearsed.
+//! The program `ubtool`: prints and changes the variables of a U-Boot environment, and rehearses
+//! its boot script.
 #![tactic(auto)]
 
 mod locked;
@@ -14,13 +15,14 @@ use ubtool_run::{
     Build, PROGRAM, StartError, Telling, buffered, end, finish, run_tool, words_of_call,
 };
 
-/// What this program is built for. The build for another processor, or with another link, has another word here.
+/// What this program is built for. A build for another processor, or with another kind of linking,
+/// has another word here.
 const BUILD: Build = Build::X86_64;
 
-/// What is told where memory for a buffer before the error output is refused.
+/// What is reported if memory for a buffer before the error output is refused.
 const OUT_OF_MEMORY: &[u8] = b"ubtool: out of memory\n";
 
-/// The lock in the folder that the words name, if they name one.
+/// Takes the lock in the folder that the words name, if they name one. Errors: those of `lock_in`.
 fn named_lock(rt: &HostRuntime, words: &[String]) -> Result<Option<File>, LockError> {
     match read_lock(rt.alloc(), words)? {
         Some(folder) => Ok(Some(lock_in(rt, rt.alloc(), &folder)?)),
@@ -28,8 +30,9 @@ fn named_lock(rt: &HostRuntime, words: &[String]) -> Result<Option<File>, LockEr
     }
 }
 
-/// Reads the words of the command line, takes the lock that they name, and does what they ask for. The name that the
-/// program was called by counts as a word where it is that of one of U-Boot's tools. The answer is the status.
+/// Reads the words of the command line, takes the lock that they name, and does what they ask for.
+/// If the program was called by the name of one of U-Boot's tools, that name counts as a word.
+/// Returns the status.
 fn run<E: Out>(rt: &HostRuntime, err: &mut Telling<E>) -> Result<u8, StartError> {
     let args = words_of_call(rt)?;
     let called = called_as(&args);

@@ -1,4 +1,4 @@
--- From what `clap` answers to the answer to words, and to the lock that they name.
+-- From what `clap` answers to the answer to the words, and to the lock that they name.
 use Rattle.std.proofs.Common.{◌≡◌, ◌≢◌, ◌∙◌, ◌⊎◌, inl, inr, refl, sym, ap, ap₂, subst, true, List, [], Option, Some, None, option_map, unwrap_or, Global}
 use Rattle.std.specs.Prelude.{Box, Result, Ok, Err, option_and_then}
 use Rattle.std.specs.Box.{box_value}
@@ -27,7 +27,7 @@ pub ubtool_free : is_simple_and_free ubtool ≡ true
 unfolding clap_on_literals ubtool
 ubtool_free = refl
 
--- where the words are accepted
+-- if the words are accepted
 pub accepted_answer : (called : CalledAs) (words : List Text) (a : Option Asked) (r : Result Ask UseError) → IsAccepted ubtool words → a ≡ asked called words → Says a r → Answers called words r
 accepted_answer called words a (Ok (Help text)) fine is says = absurd says
 accepted_answer called words a (Ok Version) fine is says = absurd says
@@ -43,7 +43,7 @@ accepted_answer called words a (Err TooManyDevices) fine is says = (fine, says �
 accepted_answer called words a (Err (Line text)) fine is says = inr (fine, says ∙ is)
 accepted_answer called words a (Err Memory) fine is says = tt
 
--- where they are not
+-- if they are not
 pub refused_answer : (called : CalledAs) (words : List Text) (k : ErrorKind) (r : Result Ask UseError) → (k ≡ OutOfMemory) ⊎ IsAmong k (fault_of ubtool words) → Reports k r → Answers called words r
 refused_answer called words k (Ok (Help text)) among is = elim among [
   | inl memory ↦
@@ -96,7 +96,7 @@ pub failed_answer : (called : CalledAs) (app : App) (words : List Text) (e : Err
 failed_answer called app words e r is kinds reports =
     refused_answer called words (kind_of e) r (subst (λ (a : App). HasKind (fault_of a words) e) is (kinds (ap is_simple_and_free is ∙ ubtool_free))) reports
 
--- the lock, where a parse succeeds
+-- the lock, if a parse succeeds
 pub parsed_lock : (app : App) (words : List Text) (m : ArgMatches) (folder : Option Text) → app ≡ ubtool → HasMatchesOf app words m
     → (is_simple_and_free app ≡ true → fault_of app words ≡ []) → folder ≡ option_and_then (λ s. lock_of s.1) (subcommand_rows_of m) → NamesLock words folder
 parsed_lock app words m folder is matches kinds names =
@@ -104,7 +104,7 @@ parsed_lock app words m folder is matches kinds names =
     let found = (matches (ap is_simple is ∙ ubtool_simple)).1 ∙ ap (λ (a : App). subcommand_of a words) is in
     inl (fine, names ∙ ap (option_and_then (λ s. lock_of s.1)) found)
 
--- the lock, where a parse fails
+-- the lock, if a parse fails
 pub failed_lock : (app : App) (words : List Text) (e : Error) → app ≡ ubtool → (is_simple_and_free app ≡ true → HasKind (fault_of app words) e)
     → (kind_of e ≢ OutOfMemory) → NamesLock words None
 failed_lock app words e is kinds other =

@@ -11,11 +11,11 @@ printenv_without_words = refl
 setenv_with_words : words_called (codes "fw_setenv" ∷ codes "a" ∷ codes "1" ∷ []) ≡ codes "setenv" ∷ codes "a" ∷ codes "1" ∷ []
 setenv_with_words = refl
 
--- by its own name, in a folder of another's
+-- by its own name, in a folder that has another's name
 own_name : words_called (codes "/opt/fw_setenv/ubtool" ∷ codes "printenv" ∷ []) ≡ codes "printenv" ∷ []
 own_name = refl
 
--- a name that only ends so
+-- a name that only ends like this
 longer_name : words_called (codes "xfw_printenv" ∷ codes "a" ∷ []) ≡ codes "a" ∷ []
 longer_name = refl
 
@@ -31,7 +31,7 @@ nothing_called = refl
 called_by_path : called_as (codes "/usr/bin/fw_setenv" ∷ codes "-s" ∷ codes "-" ∷ []) ≡ FwTool
 called_by_path = refl
 
--- by a name that only ends so
+-- by a name that only ends like this
 called_by_longer_name : called_as (codes "xfw_setenv" ∷ []) ≡ Ubtool
 called_by_longer_name = refl
 

@@ -1,4 +1,4 @@
--- From the entries that a getter reads to the rows that clap's specs speak of.
+-- From the entries that a getter reads to the rows of clap's specs.
 use Rattle.std.proofs.Common.{◌≡◌, ◌∙◌, ◌≤◌, ◌&&◌, ◌^◌, ℕ, Bool, true, false, refl, ap, List, [], ◌∷◌, length, map, Option, Some, None, unwrap_or, option_map, take}
 use Rattle.std.specs.Prelude.{Result, Ok, Err, nat_lt}
 use Rattle.std.specs.Result.{result_ok}
@@ -54,7 +54,7 @@ optional_read E gives (Some t) r parses none some = go r (some t refl)
     go (Ok None) h = absurd h
     go (Err e) h = ap (option_map (λ n. Some n)) (number_read {E = E} t (Err e) (parses t (Err e) h))
 
--- the values behind a default of none, when a loop has gone over them
+-- the values, or none by default, after a loop has read them
 pub unwrapped : (o : Option (Bor (List (Bor Text)))) (vs : Option (List Text)) → option_map (λ s. map (λ v. v.now) s.now) o ≡ vs
     → (result default : Bor (List (Bor Text))) → result ≡ unwrap_or o default → default.now ≡ []
     → (index : ℕ) → length result.now ≤ index → map (λ v. v.now) (take index result.now) ≡ unwrap_or vs []

@@ -17,14 +17,14 @@ use Rattle.rehearse.specs.Asking.{Asking, Wanted, Listed, Alone}
 use Rattle.rehearse.specs.Bounds.{BoundsShown, bounds_of, run_bounds_of, most_run_devices, most_steps}
 use Rattle.ubtool_cli.specs.CommandLine.{most_records, most_states}
 
--- what the endings are asked for
+-- what `endings` is asked for
 pub record Endings : Type 0 where
   pub variable : Text
   pub bounds : BoundsShown
   pub states : ℕ
   pub flow : Bool
 
--- what a call asks for, or which of the product's own refusals it meets
+-- what a call asks for, or which of the program's own refusals it meets
 pub data Asked : Type 0 where
   printing : (config : Text) (header : Bool) (names : List Text) (order : ByteOrder) → Asked
   setting : (config : Text) (name : Text) (words : List Text) (order : ByteOrder) → Asked
@@ -55,17 +55,17 @@ number_of text =
     if is_numeral ds && nat_lt (digits_value 10 ds) (2 ^ 32) then Some (digits_value 10 ds)
     else None
 
--- the number given, if any is; nothing where its text writes none
+-- the number given, if there is one; nothing if its text is not a number
 abbrev pub number_given : Text → List Row → Option (Option ℕ)
 number_given id rows =
     option_map_or (λ t. option_map (λ n. Some n) (number_of t)) (one_of id rows) (Some None)
 
--- a number that was given lies from `least` to `most`
+-- a number that was given is from `least` to `most`
 abbrev pub is_within : ℕ → ℕ → Option ℕ → Bool
 is_within least most None = true
 is_within least most (Some n) = nat_le least n && nat_le n most
 
--- the number given, if any is; nothing where it is none from `least` to `most`
+-- the number given, if there is one; nothing if it is not a number from `least` to `most`
 abbrev pub number_within : ℕ → ℕ → Text → List Row → Option (Option ℕ)
 number_within least most id rows =
     option_and_then (λ given. if is_within least most given then Some given else None)
@@ -91,7 +91,8 @@ print_asked rows =
     if no_header && not (length names == 1) then header_needs_one
     else printing (config_of rows) (not no_header) names (order_of rows)
 
--- the script at a path; called as one of U-Boot's tools, the one on standard input where the path is `-`
+-- the script at a path; if the program is called as one of U-Boot's tools and the path is `-`, the one on standard
+-- input
 abbrev pub script_asked : CalledAs → (config path : Text) → ByteOrder → Asked
 script_asked Ubtool config path order = scripted config path order
 script_asked FwTool config path order =
@@ -113,28 +114,28 @@ set_asked called rows =
 abbrev pub variable_of : List Row → Text
 variable_of rows = unwrap_or (first_of (codes "variable") rows) (codes "bootcmd")
 
--- the bounds where nothing is said
+-- the bounds if none are given
 abbrev pub usual_devices : ℕ
 usual_devices = 16
 
 abbrev pub usual_steps : ℕ
 usual_steps = 10000
 
--- 0 to 1,000 device commands and 0 to 1,000,000 steps; so many where nothing is said
+-- 0 to 1,000 device commands and 0 to 1,000,000 steps; these defaults if none are given
 abbrev pub bounds_or : (devices steps : ℕ) → List Row → Option BoundsShown
 bounds_or devices steps rows =
     option_and_then (λ d. option_and_then (λ s. run_bounds_of (unwrap_or d devices) (unwrap_or s steps))
     (number_within 0 most_steps (codes "steps") rows))
     (number_within 0 most_run_devices (codes "devices") rows)
 
--- the bounds of runs that are listed, and of those that are not
+-- the bounds of runs in a listing, and of other runs
 abbrev pub bounds_asked : List Row → Option BoundsShown
 bounds_asked rows = bounds_or usual_devices usual_steps rows
 
 abbrev pub run_bounds_asked : List Row → Option BoundsShown
 run_bounds_asked rows = bounds_or most_run_devices most_steps rows
 
--- the runs that are wanted, within their bounds; or the refusal that the words meet
+-- the wanted runs, within their bounds; or the refusal that the words meet
 abbrev pub WantedAsked : Type 0
 WantedAsked = Result (BoundsShown × Wanted) Asked
 
@@ -180,7 +181,7 @@ abbrev pub rehearse_asked : List Row → Option Asked
 rehearse_asked rows =
     rehearsal_with (first_of (codes "device-list") rows) (number_within 1 most_records (codes "limit") rows) rows
 
--- the states where nothing is said
+-- the states if none are given
 abbrev pub usual_states : ℕ
 usual_states = 1000000
 

@@ -1,5 +1,4 @@
--- What an answer of the reader of words says, and in which case each refusal comes. The refusals are
--- ours.
+-- What an answer of the reader of words says, and when each refusal comes. The refusals are ours.
 use Rattle.std.specs.Prelude.{◌≡◌, ◌≢◌, ◌⊎◌, List, [], map, Option, Some, None}
 use Rattle.std.specs.Prelude.{Result, Ok, Err, option_map, option_and_then, string_bytes}
 use Rattle.clap.specs.Words.{App, IsAmong, Text, fault_of, subcommand_of}
@@ -43,7 +42,7 @@ change_of config (One name words) order =
 change_of config (Script file) order = scripted config (string_bytes file) order
 change_of config Input order = input_scripted config order
 
--- what the value asks for, where it is neither a help text nor the version
+-- what the value asks for, if it is neither a help text nor the version
 abbrev pub meaning_of : Ask → Option Asked
 meaning_of (Print config what order) =
     Some (printing (string_bytes config) what.header (map string_bytes what.names.items) order)
@@ -64,13 +63,13 @@ asked called words = option_and_then (λ s. asked_of called s.0 s.1) (subcommand
 abbrev pub IsAccepted : App → List Text → Type 0
 IsAccepted app words = fault_of app words ≡ []
 
--- `clap` refuses the words for some mistake, and not to show the help or the version
+-- `clap` refuses the words for some mistake, not to show the help or the version
 abbrev pub IsMistaken : App → List Text → Type 0
 IsMistaken app words = (k : ErrorKind) × IsAmong k (fault_of app words) × (k ≢ DisplayHelp)
     × (k ≢ DisplayVersion)
 
--- the answer to words. A line that is no mistake would come of an accepted `rehearse` or `endings` without
--- its device list or with a number out of its range, which `clap` accepts nowhere
+-- The answer to words. A line without a mistake would need an accepted `rehearse` or `endings` that has no device list
+-- or a number out of its range, and `clap` accepts neither.
 abbrev pub Answers : CalledAs → List Text → Result Ask UseError → Type 0
 Answers called words (Ok (Help text)) = IsAmong DisplayHelp (fault_of ubtool words)
 Answers called words (Ok Version) = IsAmong DisplayVersion (fault_of ubtool words)
@@ -102,7 +101,7 @@ Says a (Err TooManyDevices) = Some too_many_devices ≡ a
 Says a (Err (Line text)) = None ≡ a
 Says a (Err Memory) = Unit {0}
 
--- the same of the runs that `rehearse` is to list
+-- the same for the runs that `rehearse` is to list
 abbrev pub SaysWanted : Option WantedAsked → Result Wanted UseError → Type 0
 SaysWanted a (Ok wanted) = Some (Ok (bounds_of wanted, wanted_of wanted)) ≡ a
 SaysWanted a (Err WordAlone) = Some (Err word_alone) ≡ a
@@ -111,7 +110,7 @@ SaysWanted a (Err (Line text)) = None ≡ a
 SaysWanted a (Err Memory) = Unit {0}
 SaysWanted a (Err error) = ⊥
 
--- a line, or want of memory
+-- a line, or memory ran out
 abbrev pub IsUnread : UseError → Type 0
 IsUnread (Line text) = Unit {0}
 IsUnread Memory = Unit {0}

@@ -14,7 +14,7 @@ pub enum CalledAs {
     FwTool,
 }
 
-/// What stands behind the last slash of a path, or all of it.
+/// What is after the last slash of a path, or all of the path.
 fn last_part(path: &[u8]) -> &[u8]
     ensures { result.now ≡ last_part path.now }
 {
@@ -24,7 +24,7 @@ fn last_part(path: &[u8]) -> &[u8]
     }
 }
 
-/// The subcommand that a program of this name stands for.
+/// The subcommand for which a program of this name is called.
 fn subcommand_called(name: &[u8]) -> Option<&'static str>
     ensures { option_copied result ≡ subcommand_called name.now }
 {
@@ -37,7 +37,7 @@ fn subcommand_called(name: &[u8]) -> Option<&'static str>
     }
 }
 
-/// What the program was called as, of the path that it was called by and the words after it.
+/// What the program was called as, from the path by which it was called and the words after it.
 pub fn called_as(args: &[String]) -> CalledAs
     ensures { result ≡ called_as (map string_bytes args.now) }
 {
@@ -50,9 +50,9 @@ pub fn called_as(args: &[String]) -> CalledAs
     }
 }
 
-/// The words that the program reads, of the path that it was called by and the words behind it: called as
-/// `fw_printenv` it is `printenv`, called as `fw_setenv` it is `setenv`, and by any other name the words are
-/// as they are.
+/// The words that the program reads, from the path by which it was called and the words after it.
+/// Called as `fw_printenv` it is `printenv`, and called as `fw_setenv` it is `setenv`. By any other
+/// name the words are as they are. Errors: memory ran out.
 pub fn words_called(mut args: Vec<String>) -> Result<Vec<String>, AllocError>
     ensures { IfOk result (λ words. map string_bytes words.items
         ≡ words_called (map string_bytes args.items)) }

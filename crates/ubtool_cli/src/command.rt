@@ -111,7 +111,7 @@ fn long_option<'a>(alloc: Global, id: &'a str, value: &'a str) -> Arg<'a>
     Arg::new(alloc, id).long(id).value_name(value)
 }
 
-/// The option `-x VALUE`, `--word VALUE` in its long form.
+/// The option `-x VALUE`, with the long form `--word VALUE`.
 fn lettered_option<'a>(alloc: Global, id: &'a str, letter: char, value: &'a str) -> Arg<'a>
     ensures rule { rule_of result ≡ lettered_option id.entry.now letter }
     ensures local { result.global ≡ false }

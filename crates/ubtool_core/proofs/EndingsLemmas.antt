@@ -1,4 +1,4 @@
--- From the endings of an environment's runs to those of an image.
+-- From the endings of an environment's runs to the endings of an image's runs.
 use Rattle.std.proofs.Common.{◌≡◌, ℕ, List, Option, Ok}
 use Rattle.envimage.specs.Data.{Pair}
 use Rattle.output.specs.Sink.{Sink}
@@ -14,7 +14,7 @@ use Rattle.ubtool_core.specs.Errors.{endings_fault}
 use Rattle.ubtool_core.specs.PrintingImages.{environment_in}
 use Rattle.ubtool_core.specs.Refusing.{HasDevices}
 
--- what holds of the rehearsal of an environment holds of that of its image
+-- what holds of the rehearsal of an environment holds of the rehearsal of its image
 with_image : (order : ByteOrder) (first : List ℕ) (second : Option (List ℕ)) (list : Text) (ask : EndingsAsk) (environment : List Pair) (IsSo : Option Task → Type 0) → environment_in order first second ≡ Ok environment
     → below.HasDevices environment list ask IsSo → HasDevices (endings_given order first second list ask) IsSo
 with_image order first second list ask environment IsSo image h = record { environment = environment; devices = h.devices; image = image; device_list = h.listed_as; so = h.so }

@@ -1,4 +1,4 @@
--- What was read within the limit is the whole input, and what stands on the output where it is refused.
+-- An image that was read within the limit is the whole input; what the output has if the input is refused.
 use Rattle.std.proofs.Common.{◌≡◌, ◌≤◌, ℕ, Bool, true, List, [], length, take, min, Option, None, Some, Ok, Err, sym, ap, ◌∙◌, inl, inr, arith, length-take}
 use Rattle.std.proofs.lemmas.Bool.{cases_Bool}
 use Rattle.std.proofs.lemmas.Bool.Decides.{nat_tests}

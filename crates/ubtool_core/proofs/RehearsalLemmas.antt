@@ -1,4 +1,4 @@
--- From the rehearsal of an environment to that of an image.
+-- From the rehearsal of an environment to the rehearsal of an image.
 use Rattle.std.proofs.Common.{◌≡◌, ℕ, refl, List, Option, Ok, inl, inr}
 use Rattle.envimage.specs.Data.{Pair, pairs_of}
 use Rattle.envimage.specs.Image.{LoadedShown, load_of}

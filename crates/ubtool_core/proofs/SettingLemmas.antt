@@ -1,4 +1,4 @@
--- A write of a pair that is broken off.
+-- A write to a pair that breaks off.
 use Rattle.std.proofs.Common.{◌≡◌, ◌≤◌, ◌⊎◌, ℕ, Bool, true, false, List, Option, None, Some, Result, Ok, Err, refl, sym, subst, ◌∙◌, arith, inl, inr}
 use Rattle.std.specs.Prelude.{nat_lt}
 use Rattle.std.proofs.lemmas.Bool.Decides.{nat_tests}
@@ -16,7 +16,7 @@ use Rattle.ubtool_core.specs.declared.change.Edit.{Edit}
 use Rattle.ubtool_core.specs.declared.error.ToolError.{ToolError}
 use Rattle.envtools.proofs.SavingLemmas.{front_may_stand, spare-is-written}
 
--- ---- a write that is broken off
+-- ---- a write that breaks off
 
 safe-at : (order : ByteOrder) (first second : List ℕ) (s : LoadedShown) (w : Which) (bytes : List ℕ) (n : ℕ) → load_of order first (Some second) ≡ Ok s
     → (load_pair order (with_spare w first second (half_written (spare_of w first second) n bytes)) ≡ Ok s) ⊎ (is_right order 5 (half_written (spare_of w first second) n bytes) ≡ true)

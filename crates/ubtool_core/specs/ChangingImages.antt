@@ -55,7 +55,7 @@ then_edited change (Err e) = Err (Image e)
 abbrev pub set_of : ByteOrder → List ℕ → Option (List ℕ) → Edit → Result (Which × List ℕ) ToolError
 set_of order first second change = then_edited change (load_of order first second)
 
--- ---- what the calls answer; memory can be refused wherever a growth is made
+-- ---- what the calls answer; memory can run out wherever a growth is made
 
 abbrev pub Edits : List Pair → Edit → List Pair → Result (Unit {0}) ToolError → Type 0
 Edits old change new (Ok u) = edited old change ≡ Ok new
@@ -73,10 +73,10 @@ Answers loaded answer (Err (Script e)) = answer ≡ Err (Script e)
 Answers loaded answer (Err Memory) = (s : LoadedShown) × (loaded ≡ Ok s)
 Answers loaded answer (Err _) = ⊥
 
--- ---- a write that was broken off
+-- ---- a write that breaks off
 
--- Of a pair: the first n of the bytes stand over the copy that they are for. Then loading gives what it gave before,
--- or that copy is right.
+-- Of a pair: if the first n of the bytes are written over the copy that they are for, loading gives what it gave
+-- before, or that copy is right.
 abbrev pub IsSafeAt : ByteOrder → (first second : List ℕ) → Which → (bytes : List ℕ) → ℕ → Type 0
 IsSafeAt order first second First bytes n =
     (load_of order (half_written first n bytes) (Some second) ≡ load_of order first (Some second))
@@ -85,7 +85,7 @@ IsSafeAt order first second Second bytes n =
     (load_of order first (Some (half_written second n bytes)) ≡ load_of order first (Some second))
     ⊎ (is_right order 5 (half_written second n bytes) ≡ true)
 
--- of a pair, this holds of each front of the bytes; a single image may be lost
+-- of a pair, this holds for each prefix of the bytes; a single image may be lost
 abbrev pub IsSafe : ByteOrder → List ℕ → Option (List ℕ) → Which → List ℕ → Type 0
 IsSafe order first None which bytes = Unit {0}
 IsSafe order first (Some second) which bytes = (n : ℕ) → IsSafeAt order first second which bytes n

@@ -1,5 +1,5 @@
--- How all runs of an image's variable end, from the bytes of an image to the lines, and why that is refused. The order of
--- the refusals is that of a rehearsal, and nothing is written before the lines. Ours.
+-- How all runs of an image's variable end, from the bytes of an image to the lines, and why this is refused. The
+-- refusals come in the order of a rehearsal, and nothing is written before the lines. Ours.
 use Rattle.std.specs.Prelude.{◌≡◌, ℕ, Bool, List, Option, None, Err}
 use Rattle.output.specs.Sink.{Sink, Wrote, BrokeOff}
 use Rattle.envimage.specs.declared.image.ByteOrder.{ByteOrder}
@@ -17,7 +17,7 @@ use Rattle.ubtool_core.specs.declared.error.ToolError.TheVariants.{Image, Device
 abbrev pub endings_given : ByteOrder → List ℕ → Option (List ℕ) → Text → EndingsAsk → Given
 endings_given order first second device_list ask = given_all order first second device_list ask.name.now ask.bounds
 
--- the lines are written, or those of the flow, of no more states than this
+-- the lines, or the lines of the flow, are written, with at most this many states
 abbrev pub TellsEndings : Given → (flow : Bool) → (states : ℕ) → (old new : Sink) → Type 0
 TellsEndings g flow states old new =
     HasDevices g (λ found. (text : Text) × AreLines flow states found text × Wrote old new text)

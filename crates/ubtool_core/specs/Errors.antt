@@ -1,4 +1,4 @@
--- What a refusal of a part is for the whole: want of memory is one, wherever it comes from.
+-- What a refusal of a part is for the whole. Running out of memory is one refusal, wherever it comes from.
 use Rattle.envimage.specs.declared.image.ImageError.{ImageError}
 use Rattle.envimage.specs.declared.image.ImageError.TheVariants as image
 use Rattle.envtools.specs.declared.env_error.EnvError.{EnvError}
@@ -52,7 +52,7 @@ endings_fault endings.States = States
 endings_fault endings.Write = Write
 endings_fault endings.Memory = Memory
 
--- what a program tells of it
+-- what a program reports of it
 abbrev pub tool_fault : ToolError → Fault
 tool_fault Memory = told.Memory
 tool_fault error = told.Tool error

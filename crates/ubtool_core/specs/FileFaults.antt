@@ -1,4 +1,4 @@
--- What the fault of a call on files is told as. The texts are ours.
+-- How a fault of a call on files is reported. The texts are ours.
 use Rattle.std.specs.Prelude.{◌≡◌, ℕ, List, String, string_bytes}
 use Rattle.std.specs.declared.alloc.Global.{Global}
 use Rattle.ubtool_core.specs.declared.fault.Fault.{Fault}
@@ -11,18 +11,18 @@ use Rattle.ubtool_core.specs.declared.word_form.WordForm.{WordForm}
 abbrev pub path_form : String Global → WordForm
 path_form path = record { 0 = path }
 
--- it is this path that is printed
+-- this path is the one that is printed
 abbrev pub IsPathOf : WordForm → List ℕ → Type 0
 IsPathOf form path = string_bytes form.0 ≡ path
 
--- of a read of the file at the path
+-- for a read of the file at the path
 abbrev pub read_fault : WordForm → FileFault → Fault
 read_fault path Failed = told.CannotRead path
 read_fault path Short = told.FileShort path
 read_fault path TooLong = told.FileTooLong path
 read_fault path Memory = told.Memory
 
--- of a write
+-- for a write
 abbrev pub written_fault : WordForm → FileFault → Fault
 written_fault path Failed = told.CannotWrite path
 written_fault path Short = told.FileShort path

@@ -3,9 +3,8 @@
 -- cut; started after any run's word it writes exactly the records that follow; want of memory or a failing writer
 -- leaves a prefix.
 --
--- Each phrase of it stands at its line below. The rehearsal is ours; what it rehearses is U-Boot's command line and
--- environment
--- (U-Boot documentation, doc/usage).
+-- Each phrase is explained at its line below. The rehearsal is ours. What it rehearses is U-Boot's command line and
+-- environment (U-Boot documentation, doc/usage).
 use Rattle.std.specs.Prelude.{◌≡◌, ◌++◌, List, Some, Ok}
 use Rattle.std.specs.List.{flat_map}
 use Rattle.envimage.specs.Data.{Pair}
@@ -40,7 +39,7 @@ pub record Rehearsed (g : Given) (task : Task) (words : List OutcomeWord) : Type
 abbrev pub record_in : Given → Task → OutcomeWord → Text
 record_in g task word = record_of task g.asking.names word
 
--- "the rehearsal writes": the whole listing stands written, and the answer is as its last line
+-- "the rehearsal writes": the whole listing is written, and the answer is the one that its last line gives
 pub record Rehearses (g : Given) (old new : Sink) (finish : Finish) : Type 0 where
   pub task : Task
   pub words : List OutcomeWord
@@ -48,7 +47,7 @@ pub record Rehearses (g : Given) (old new : Sink) (finish : Finish) : Type 0 whe
   pub wrote : Wrote old new (listing (record_in g task) words (limit_of g.asking.wanted))
   pub finish_is : finish ≡ finish_of words (limit_of g.asking.wanted)
 
--- "want of memory .. leaves a prefix": whole records of the listing, from its first on
+-- "want of memory .. leaves a prefix": whole records of the listing, starting with its first
 pub record LacksMemory (g : Given) (old new : Sink) : Type 0 where
   pub task : Task
   pub words : List OutcomeWord
@@ -58,7 +57,7 @@ pub record LacksMemory (g : Given) (old new : Sink) : Type 0 where
   pub parts : words_listed words (limit_of g.asking.wanted) ≡ front ++ left
   pub wrote : Wrote old new (flat_map (record_in g task) front)
 
--- "or a failing writer leaves a prefix": first bytes of the listing, and one write failed
+-- "or a failing writer leaves a prefix": a prefix of the listing, and one write failed
 pub record BreaksOff (g : Given) (old new : Sink) : Type 0 where
   pub task : Task
   pub words : List OutcomeWord

@@ -35,7 +35,7 @@ pub record BreaksOff (answer : Result (List Pair) ImageError) (names : List (Lis
   pub there : answer ≡ Ok env
   pub broken : BreaksEither s.out s.out' s.err s.err' (printed_output env names header) (printed_errors env names)
 
--- Each answer, and what stands written then.
+-- Each answer, and what is written then.
 abbrev pub Prints : Result (List Pair) ImageError → List (List ℕ) → Bool → Outputs → Result Bool ToolError → Type 0
 Prints answer names header s (Ok found) = PrintsAll answer names header s found
 Prints answer names header s (Err (Image e)) = (answer ≡ Err e) × (AreUnchanged s)

@@ -1,6 +1,5 @@
--- Why a rehearsal is refused, and what stands written then. The order of the refusals is ours: the image, the device
--- list, the variable, the word, each looked at where those before it are right; nothing is written before the
--- listing.
+-- Why a rehearsal is refused, and what is written then. The order of the refusals is ours: the image, the device list,
+-- the variable, the word. Each is checked only if those before it are right. Nothing is written before the listing.
 use Rattle.std.specs.Prelude.{◌≡◌, ◌⊎◌, List, Option, Some, None, Ok, Err}
 use Rattle.envimage.specs.Data.{Pair}
 use Rattle.output.specs.Sink.{Sink}

@@ -22,7 +22,8 @@ pub enum Edit<'a> {
     Script(&'a [u8]),
 }
 
-/// Makes the change. After a refusal of a script the environment is the one after the lines before.
+/// Makes the change. If a script is refused, the environment is the one after the lines before the
+/// refused one.
 fn edit_env(env: &mut Env, edit: Edit<'_>) -> Result<(), ToolError>
     ensures { Edits env.old edit.entry env.new result }
 {
@@ -32,13 +33,13 @@ fn edit_env(env: &mut Env, edit: Edit<'_>) -> Result<(), ToolError>
     }
 }
 
-/// Changes the environment of an image, or of a redundant pair, and answers which copy is to be
-/// written and its bytes; of a pair that is never the current copy. A change that makes no
-/// difference is written too. Where only a front of the bytes comes to stand there, loading the pair
-/// gives what it gave before, unless that front makes the copy right.
+/// Changes the environment of an image, or of a redundant pair. Returns which copy is to be
+/// written, and its bytes; of a pair it is never the current copy. A change that makes no
+/// difference is written too. If only a prefix of the bytes is written there, loading the pair
+/// gives what it gave before, unless that prefix makes the copy right.
 ///
-/// Refusals in order: the image, the change or the script, `TooLarge`; `Memory` wherever a growth is
-/// made.
+/// Refusals in order: the image, the change or the script, `TooLarge`; `Memory` wherever a growth
+/// is made.
 pub fn set_bytes(
     alloc: Global,
     first: &[u8],

@@ -11,11 +11,13 @@ use output::Out;
 use rehearse_endings::{EndingsAsk, endings_env};
 use std::alloc::Global;
 
-/// Writes how all runs of a variable end, of an image or of the current copy of a pair: a line for each ending, and one
-/// for all runs; or their flow, a line for each state in which a device command asks and for each way to end.
+/// Writes how all runs of a variable end, of an image or of the current copy of a pair: a line for
+/// each ending, and one for all runs. For the flow, writes a line for each state in which a device
+/// command asks and for each way to end.
 ///
-/// Refusals in order: the image, the device list, `NoSuchVariable`, `States` and `Memory`, and nothing is written then;
-/// `Write` if the output fails, and then a prefix of the lines is written. `Memory` comes wherever a growth is made.
+/// Refusals in order: the image, the device list, `NoSuchVariable`, `States` and `Memory`, with
+/// nothing written; then `Write` if the output fails, with a prefix of the lines written. `Memory`
+/// comes wherever a growth is made.
 pub fn endings_bytes<O: Out>(
     alloc: Global,
     first: &[u8],

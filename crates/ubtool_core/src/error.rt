@@ -8,16 +8,16 @@ use thiserror::Error;
 /// Why a call from bytes to bytes was refused.
 #[derive(Clone, Copy, Debug, Drop, PartialEq, Eq, Error)]
 pub enum ToolError {
-    /// The image, for another cause than memory.
+    /// The image, for a reason other than memory.
     #[error("{0}")]
     Image(ImageError),
-    /// The change, for another cause than memory.
+    /// The change, for a reason other than memory.
     #[error("{0}")]
     Env(EnvError),
-    /// The script, for another cause than memory.
+    /// The script, for a reason other than memory.
     #[error("{0}")]
     Script(ScriptError),
-    /// The device list, for another cause than memory.
+    /// The device list, for a reason other than memory.
     #[error("{0}")]
     Devices(DevicesError),
     /// The variable to be rehearsed is not set.
@@ -32,7 +32,7 @@ pub enum ToolError {
     /// An output failed.
     #[error("output failed")]
     Write,
-    /// A growth was refused.
+    /// Memory ran out.
     #[error("out of memory")]
     Memory,
 }

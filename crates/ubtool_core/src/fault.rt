@@ -1,4 +1,4 @@
-//! The faults that the program tells, a line each.
+//! The faults that the program reports, each in one line.
 ghost use Rattle.output.specs.Sink.{Wrote};
 
 use crate::error::ToolError;
@@ -9,13 +9,13 @@ use std::fmt;
 use thiserror::Error;
 use ubtool_files::FileFault;
 
-/// Why the program gave up. The text is what it tells of it.
+/// Why the program gave up. The text is what it reports.
 #[derive(Debug, Drop, Error)]
 pub enum Fault {
     /// The configuration was refused.
     #[error("{0}")]
     Config(ConfigError),
-    /// A call from bytes to bytes was refused, for another cause than memory.
+    /// A call from bytes to bytes was refused, for a reason other than memory.
     #[error("{0}")]
     Tool(ToolError),
     /// The device failed while the file was read.
@@ -42,7 +42,7 @@ pub enum Fault {
     /// The rehearsal has no run of this word, which is printed as it was given.
     #[error("no run has the word {0}")]
     NotARun(WordForm),
-    /// A growth was refused.
+    /// Memory ran out.
     #[error("out of memory")]
     Memory,
 }
@@ -65,7 +65,7 @@ impl Fault {
     ghost use Rattle.std.specs.Prelude.{◌≡◌};
     ghost use Rattle.ubtool_core.specs.FileFaults.{path_form, read_fault, written_fault};
 
-    /// What is told where the file at the path could not be read.
+    /// What is reported if the file at the path could not be read.
     pub fn of_read(path: String, fault: FileFault) -> Fault
         ensures { result ≡ read_fault (path_form path) fault }
     {
@@ -77,7 +77,7 @@ impl Fault {
         }
     }
 
-    /// What is told where the file at the path could not be written.
+    /// What is reported if the file at the path could not be written.
     pub fn of_write(path: String, fault: FileFault) -> Fault
         ensures { result ≡ written_fault (path_form path) fault }
     {
@@ -104,8 +104,8 @@ impl<O: Out> fmt::Write for Line<'_, O> {
     }
 }
 
-/// Writes one line for a fault of a program, its name in front. Where the output fails, the rest is left out. It takes
-/// no memory.
+/// Writes one line for a fault of a program, starting with the program's name. If the output fails,
+/// the rest is left out. Takes no memory.
 pub fn write_fault_of<O: Out, E: fmt::Display>(err: &mut O, program: &str, fault: &E) {
     use std::fmt::Write;
 
@@ -114,7 +114,8 @@ pub fn write_fault_of<O: Out, E: fmt::Display>(err: &mut O, program: &str, fault
     let Line { out: _ } = line;
 }
 
-/// Writes one line for a fault, as `ubtool: output failed`.
+/// Writes one line for a fault, such as `ubtool: output failed`. If the output fails, the rest is
+/// left out.
 pub fn write_fault<O: Out, E: fmt::Display>(err: &mut O, fault: &E) {
     write_fault_of(err, "ubtool", fault);
 }

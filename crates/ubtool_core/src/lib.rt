@@ -1,4 +1,4 @@
-//! From bytes to bytes, what the program does with images; the line of a fault.
+//! What the program does with images, from bytes to bytes, and the line of a fault.
 #![tactic(auto)]
 
 mod change;

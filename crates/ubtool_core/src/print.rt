@@ -9,7 +9,7 @@ use envtools::print_data;
 use output::Out;
 use std::alloc::Global;
 
-/// What is asked of printing.
+/// What `print_bytes` is to print.
 #[derive(Clone, Copy)]
 pub struct PrintAsk<'a> {
     /// The variables, in this order; none for all.
@@ -18,10 +18,9 @@ pub struct PrintAsk<'a> {
     pub header: bool,
 }
 
-/// Prints the variables of an image, or of the copy of a pair that counts, as `printenv` does: all
-/// of them in order, or those that are named. The answer is false where a name is missing. Without
-/// `header` the value of the one name is printed alone. A refusal other than `Write` leaves both
-/// outputs as they were.
+/// Prints the variables of an image, or of the current copy of a pair, as `printenv` does: all of
+/// them in order, or the named ones. Returns false if a name is missing. Without `header` only the
+/// value of the one name is printed. An error other than `Write` leaves both outputs as they were.
 pub fn print_bytes<O: Out, E: Out>(
     alloc: Global,
     first: &[u8],

@@ -1,4 +1,4 @@
-//! The rehearsal, from the bytes of an image to those of the listing.
+//! The rehearsal, from the bytes of an image to the bytes of the listing.
 ghost use Rattle.std.specs.Prelude.{◌≢◌, Some, IfOk, IfErr};
 ghost use Rattle.std.specs.Option.{option_copied};
 ghost use Rattle.rehearse.specs.Asking.{limit_of};
@@ -15,13 +15,13 @@ use output::Out;
 use rehearse_runs::{Ask, Finish, rehearse_env};
 use std::alloc::Global;
 
-/// Rehearses a variable of an image, or of the copy of a pair that counts, and writes the listing of
-/// its runs: all of them in order, or those after a word, and no more than the limit; or the record of
-/// the run of a word, and `done`. The answer is `More` where runs are left out at the end, else `Done`.
+/// Rehearses a variable of an image, or of the current copy of a pair, and writes the listing of
+/// its runs: all of them in order, or the runs after a word, up to the limit; or the record of the
+/// run of one word, and `done`. Returns `More` if runs are left out at the end, else `Done`.
 ///
-/// Refusals in order: the image, the device list, `NoSuchVariable`, `NotARun`, and nothing is written
-/// then; `Write` as the listing goes, and `Memory` wherever a growth is made. What stands written then
-/// is a front of the listing; of `Memory` it is whole records.
+/// Refusals in order: the image, the device list, `NoSuchVariable`, `NotARun`, with nothing
+/// written; then `Write` during the listing, and `Memory` wherever a growth is made. After these
+/// two, a prefix of the listing has been written; after `Memory` it is whole records.
 pub fn rehearse_bytes<O: Out>(
     alloc: Global,
     first: &[u8],

@@ -35,9 +35,9 @@ fn print_input<R: Read, O: Out, E: Out>(
 }
 
 /// Reads `input` up to its end, or one byte more than an image may have, and prints the variables
-/// of the single image that it is. The answer is the program's status: 0, or 1 where one line on
-/// `err` tells the fault; the output is then as it was, or broke off inside the variables. No failed
-/// read is tried again.
+/// of the single image that it is. Returns the program's status: 0, or 1 if one line on `err`
+/// reports the fault; the output is then as it was, or broke off inside the variables. Repeats no
+/// failed read.
 pub fn run_input<R: Read, O: Out, E: Out>(
     alloc: Global,
     input: &mut R,

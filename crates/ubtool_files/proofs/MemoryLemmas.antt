@@ -19,7 +19,7 @@ use Rattle.ubtool_files.specs.declared.memory_files.MemoryFile.{MemoryFile}
 abbrev pub has_path : List ℕ → MemoryFile → Bool
 has_path path f = bytes_eq path (string_bytes f.path)
 
--- a look-up is that of the first file of the path
+-- a look-up finds the first file of the path
 pub lookup-seen : (path : List ℕ) (fs : List MemoryFile)
     → lookup (bytes_eq path) (map file_of fs) ≡ option_map (λ f. f.bytes.items) (find (has_path path) fs)
 lookup-seen path [] = refl
@@ -109,7 +109,7 @@ written-nothing path offset stored = go (file_at path stored) refl
         let same : overwritten old offset [] ≡ old = rw add-zero (take-append-drop offset old) in
         ap (set_value (bytes_eq path) stored) same ∙ set_value_same (bytes_eq path) stored old e
 
--- where a first part was to be put, some first part was written
+-- if a prefix was to be written, some prefix was
 pub put-part : (path : List ℕ) (offset kept : ℕ) (bytes : List ℕ) (stored : Stored)
     → (n : ℕ) × (put path offset (take kept bytes) stored ≡ written path offset (take n bytes) stored)
 put-part path offset kept bytes stored = go (reaches (file_at path stored) offset (length (take kept bytes)))

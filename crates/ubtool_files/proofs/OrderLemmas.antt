@@ -1,4 +1,4 @@
--- Calls one after another on files that tell: reads, and then a write.
+-- Calls one after another on files whose contents are known: reads, and then a write.
 use Rattle.std.proofs.Common.{◌≡◌, ◌∙◌, ℕ, true, refl, sym, ap, List, [], ◌∷◌, ◌++◌, append_assoc, append-nil, Ok, Err}
 use Rattle.std.specs.Prelude.{Result, Vec}
 use Rattle.std.specs.declared.alloc.Global.{Global}

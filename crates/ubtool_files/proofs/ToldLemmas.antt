@@ -1,4 +1,4 @@
--- Calls one after another on files that tell.
+-- Calls one after another on files whose contents are known.
 use Rattle.std.proofs.Common.{Option, Some, None}
 use Rattle.ubtool_files.specs.Told.{IfTold, Told}
 

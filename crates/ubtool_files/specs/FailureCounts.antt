@@ -4,7 +4,7 @@ use Rattle.output.specs.Sink.{counted}
 use Rattle.ubtool_files.specs.declared.files.FileFault.{FileFault}
 use Rattle.ubtool_files.specs.declared.files.FileFault.TheVariants.{Failed}
 
--- a failure is answered only where one more is counted, and no other answer changes the count
+-- a failure is answered only if one more is counted, and no other answer changes the count
 abbrev pub CountsFault : {T : Type 0} → ℕ → ℕ → Result T FileFault → Type 0
 CountsFault old new (Err Failed) = new ≡ counted old
 CountsFault old new _ = new ≡ old

@@ -1,5 +1,4 @@
--- What files in memory hold, and what their calls answer where memory is ample. They are ours, for
--- tests.
+-- What files in memory hold, and what their calls answer while memory lasts. They are ours, for tests.
 use Rattle.std.specs.Prelude.{◌≡◌, ◌+◌, ◌/◌, ◌==◌, ◌&&◌, not, ℕ, Bool, true, false, List, [], ◌∷◌, ◌++◌, length}
 use Rattle.std.specs.Prelude.{map, take, drop, Option, Some, None, Result, Ok, Err, Vec}
 use Rattle.std.specs.Prelude.{if◌then◌else◌, nat_le, string_bytes}
@@ -19,7 +18,7 @@ file_of f = (string_bytes f.path, f.bytes.items)
 abbrev pub call_of : Call → List ℕ × Action
 call_of c = (string_bytes c.path, c.action)
 
--- what the files tell
+-- the contents of the files, and the calls
 abbrev pub memory_files_shown : MemoryFiles → Told
 memory_files_shown m = record { stored = map file_of m.files.items; calls = map call_of m.calls.items }
 
@@ -36,7 +35,7 @@ abbrev pub with_file : List ℕ → List ℕ → Told → Told
 with_file path bytes told =
     record { stored = told.stored ++ (path, bytes) ∷ []; calls = told.calls }
 
--- the next call is the one that was told to fail
+-- the next call is the one that is to fail
 abbrev pub is_due : MemoryFiles → Bool
 is_due m = option_map_or (λ n. n == length m.calls.items) m.failing false
 
@@ -64,7 +63,7 @@ abbrev pub taken : Bool → List ℕ → List ℕ
 taken true bytes = take (length bytes / 2) bytes
 taken false bytes = bytes
 
--- the files after the bytes were put over those at the path, where the file has so many
+-- the files after the bytes were put over those at the path, if the file has that many bytes
 abbrev pub put : List ℕ → ℕ → List ℕ → Stored → Stored
 put path offset bytes stored =
     if reaches (file_at path stored) offset (length bytes) then written path offset bytes stored
@@ -75,13 +74,13 @@ abbrev pub write_answer : Bool → Option (List ℕ) → ℕ → List ℕ → Re
 write_answer fails file offset bytes =
     if not fails && reaches file offset (length bytes) then Ok tt else Err Failed
 
--- the answer has these bytes or this fault, or memory was refused
+-- the answer has these bytes or this fault, or memory ran out
 abbrev pub Gives : Result (List ℕ) FileFault → Result (Vec ℕ Global) FileFault → Type 0
 Gives wanted (Ok bytes) = wanted ≡ Ok bytes.items
 Gives wanted (Err Memory) = Unit {0}
 Gives wanted (Err fault) = wanted ≡ Err fault
 
--- the answer is the one wanted, or memory was refused
+-- the answer is the one wanted, or memory ran out
 abbrev pub IsUnlessMemory : {T : Type 0} → Result T FileFault → Result T FileFault → Type 0
 IsUnlessMemory wanted (Err Memory) = Unit {0}
 IsUnlessMemory wanted answer = answer ≡ wanted

@@ -1,5 +1,5 @@
--- Files that tell what stands in them and which calls were made, and what one call does to both.
--- How files are reached is ours.
+-- Files whose contents are known, with the calls made on them, and what one call does to both. How files are reached is
+-- ours.
 use Rattle.std.specs.Prelude.{◌≡◌, ◌+◌, ◌<◌, ◌≤◌, ℕ, List, [], ◌∷◌, ◌++◌, length, take, drop}
 use Rattle.std.specs.Prelude.{Option, Some, None, Result, Ok, Err, Vec, IsSomeAnd}
 use Rattle.std.specs.Option.{option_map_or}
@@ -16,12 +16,12 @@ abbrev pub Stored : Type 0
 Stored = List (List ℕ × List ℕ)
 
 pub record Told : Type 0 where
-  -- what stands in the files
+  -- what is in the files
   pub stored : Stored
   -- the calls that were answered, in their order: a path, and what was done there
   pub calls : List (List ℕ × Action)
 
--- where the old files tell, the new ones do, and the two stand so to each other
+-- if the contents are known before a call, they are known after it, and this holds between the two
 abbrev pub IfTold : Option Told → Option Told → (Told → Told → Type 0) → Type 0
 IfTold None new P = Unit {0}
 IfTold (Some old) None P = ⊥
@@ -41,7 +41,7 @@ written path offset bytes stored = option_map_or
     (λ old. set_value (bytes_eq path) stored (overwritten old offset bytes))
     (file_at path stored) stored
 
--- the calls after one more; one that memory was refused to is none
+-- the calls after one more; a call to which memory was refused does not count
 abbrev pub calls_after : {T : Type 0} → List (List ℕ × Action) → List ℕ → Action
     → Result T FileFault → List (List ℕ × Action)
 calls_after calls path action (Err Memory) = calls
@@ -66,7 +66,7 @@ IsPart file offset size (Err Short) = IsSomeAnd file (λ all. length all < offse
 IsPart file offset size (Err TooLong) = ⊥
 IsPart file offset size (Err _) = Unit {0}
 
--- the files after a write; where the device failed, they may have any first part of the bytes
+-- the files after a write; if the device failed, they may have any prefix of the bytes
 abbrev pub IsWritten : List ℕ → ℕ → List ℕ → Stored → Stored
     → Result (Unit {0}) FileFault → Type 0
 IsWritten path offset bytes old new (Ok done) = (new ≡ written path offset bytes old)

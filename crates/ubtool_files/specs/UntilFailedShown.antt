@@ -1,8 +1,8 @@
--- What contracts see of a writer that is asked no more once it has failed.
+-- What contracts see of a writer that is not called again after it has failed.
 use Rattle.std.specs.Prelude.{Bool}
 use Rattle.ubtool_files.specs.declared.until_failed.UntilFailed.{UntilFailed}
 
--- the writer, which tells the bytes
+-- the writer, which shows the bytes
 abbrev pub writer_of : {W : Type 0} → UntilFailed W → W
 writer_of w = w.writer
 

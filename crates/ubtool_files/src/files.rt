@@ -20,7 +20,7 @@ pub enum FileFault {
     /// The file has more than `LIMIT` bytes.
     #[error("too long")]
     TooLong,
-    /// A growth was refused.
+    /// Memory ran out.
     #[error("out of memory")]
     Memory,
 }
@@ -52,7 +52,7 @@ pub enum Action {
     WriteAt { offset: u64, size: usize },
 }
 
-/// Files by their paths: those of the machine, or some in memory. No failed call is tried again.
+/// Files by their paths: the machine's files, or files in memory. No failed call is repeated.
 pub trait Files {
     ghost use Rattle.ubtool_files.specs.FailureCounts.{CountsFault};
     ghost use Rattle.ubtool_files.specs.Told.{IfTold, ReadsAll, ReadsAt, Told, WritesAt, read_limit};
@@ -61,10 +61,10 @@ pub trait Files {
     /// How often the device has failed.
     ghost faults: { Self → ℕ };
 
-    /// The files and the calls so far, where these files tell them.
+    /// The files and the calls so far, if they are known.
     ghost told: { Self → Option Told };
 
-    /// The whole file, of at most `LIMIT` bytes.
+    /// Reads the whole file, of at most `LIMIT` bytes.
     ///
     /// Refusals: `Failed`, `TooLong`, `Memory`.
     fn read_all(&mut self, alloc: Global, path: &str) -> Result<Vec<u8>, FileFault>
@@ -74,7 +74,7 @@ pub trait Files {
         ensures told { IfTold (told self.old) (told self.new)
             (λ old new. ReadsAll path.now old new result) };
 
-    /// The `size` bytes from byte `offset` on, and no fewer.
+    /// Reads the `size` bytes from byte `offset` on, and no fewer.
     ///
     /// Refusals: `Failed`, `Short`, `Memory`.
     fn read_at(
@@ -90,8 +90,8 @@ pub trait Files {
         ensures told { IfTold (told self.old) (told self.new)
             (λ old new. ReadsAt path.now offset size old new result) };
 
-    /// Writes the bytes in place, from byte `offset` on. No file is made or cut short. Where the device
-    /// fails, a first part of the bytes may stand written.
+    /// Writes the bytes in place, from byte `offset` on. No file is made or shortened. If the
+    /// device fails, a prefix of the bytes may be written.
     ///
     /// Refusals: `Failed`, `Memory`.
     fn write_at(&mut self, path: &str, offset: u64, bytes: &[u8]) -> Result<(), FileFault>

@@ -1,5 +1,5 @@
-//! Files by their paths: those of the machine, and files in memory; bounded reads, and a writer that is asked no
-//! more once it has failed.
+//! Files by their paths: the machine's files, and files in memory; bounded reads, and a writer that
+//! is not called again after it has failed.
 #![tactic(auto)]
 
 mod files;

@@ -10,7 +10,7 @@ use std::fs::{OpenFile, OpenOptions};
 use std::io::{ErrorKind, Read, Seek, SeekFrom, Write};
 use std::rt;
 
-/// The files of the machine that the runtime stands for.
+/// The files of the machine, which the runtime reaches.
 #[derive(Drop)]
 pub struct Machine<'a, R> {
     rt: &'a R,
@@ -21,14 +21,14 @@ impl<'a, R: rt::Files> Machine<'a, R> {
     ghost use Rattle.ubtool_files.specs.FailureCounts.{CountsFault};
     ghost use Rattle.ubtool_files.specs.MachineShown.{faults_of};
 
-    /// The files that `rt` reaches; none has failed yet.
+    /// The files that `rt` reaches; no failure is counted yet.
     pub fn new(rt: &'a R) -> Machine<'a, R>
         ensures { faults_of result ≡ 0 }
     {
         Machine { rt, faults: 0 }
     }
 
-    /// Counts a failure of the device, where the answer is one.
+    /// Counts a failure of the device, if the answer is one.
     fn counted<T: Drop>(&mut self, answer: Result<T, FileFault>) -> Result<T, FileFault>
         ensures answer { result ≡ answer }
         ensures count { CountsFault (faults_of self.old) (faults_of self.new) answer }
@@ -50,7 +50,8 @@ fn fault_of(fault: ReadFault) -> FileFault
     }
 }
 
-/// The file, opened at byte `offset` to be read or written. It is neither made nor cut short.
+/// Opens the file at byte `offset`, to be read or written. The file is neither made nor shortened.
+/// Gives `None` if this fails.
 fn opened<R: rt::Files>(rt: &R, path: &str, offset: u64, writes: bool) -> Option<R::File> {
     let mut how = OpenOptions::new();
     how.read(!writes);
@@ -64,7 +65,8 @@ fn opened<R: rt::Files>(rt: &R, path: &str, offset: u64, writes: bool) -> Option
     Some(file)
 }
 
-/// The bytes from `offset` on up to the file's end, or the first `size` of them.
+/// Reads the bytes from `offset` up to the file's end, or the first `size` of them. Errors:
+/// `Failed`, `Memory`.
 fn read_from<R: rt::Files>(
     rt: &R,
     alloc: Global,
@@ -84,7 +86,7 @@ fn read_from<R: rt::Files>(
     }
 }
 
-/// Whether all the bytes were written. No failed write is tried again.
+/// Writes the bytes, and returns whether all were written. No failed write is repeated.
 fn is_written<W: Write>(to: &mut W, bytes: &[u8]) -> bool {
     let mut rest = bytes;
     while !rest.is_empty() {
@@ -96,7 +98,7 @@ fn is_written<W: Write>(to: &mut W, bytes: &[u8]) -> bool {
     to.flush().is_ok()
 }
 
-/// Whether the device has what was written, or is none that can be asked.
+/// Whether the device has what was written. A file that cannot be asked counts as one that has.
 fn is_synced<F: OpenFile>(file: &F) -> bool {
     match file.sync_all() {
         Ok(()) => true,
@@ -104,7 +106,7 @@ fn is_synced<F: OpenFile>(file: &F) -> bool {
     }
 }
 
-/// Writes all the bytes from `offset` on.
+/// Writes all the bytes from `offset` on. Errors: `Failed`.
 fn write_to<R: rt::Files>(rt: &R, path: &str, offset: u64, bytes: &[u8]) -> Result<(), FileFault>
     ensures refusal { IfErr result (λ fault. fault ≡ Failed) }
 {

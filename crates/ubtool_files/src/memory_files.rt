@@ -26,7 +26,7 @@ struct MemoryFile {
     bytes: Vec<u8>,
 }
 
-/// Files in memory. One of their calls may be told to fail, and each call is recorded.
+/// Files in memory. One of their calls can be made to fail, and each call is recorded.
 #[derive(Debug, Drop)]
 pub struct MemoryFiles {
     files: Vec<MemoryFile>,
@@ -52,7 +52,7 @@ fn bytes_of<'a>(files: &'a [MemoryFile], path: &str) -> Option<&'a [u8]>
     }
 }
 
-/// Puts the bytes over those from `offset` on, where there are so many, and says whether there were.
+/// Puts the bytes over those from `offset` on, if there are that many. Returns whether there were.
 fn overwrite(old: &mut Vec<u8>, offset: u64, bytes: &[u8]) -> bool
     ensures fits { result ≡ nat_le (offset + length bytes.now) (length old.old.items) }
     ensures after { old.new.items ≡ (if result then overwritten old.old.items offset bytes.now
@@ -67,7 +67,7 @@ fn overwrite(old: &mut Vec<u8>, offset: u64, bytes: &[u8]) -> bool
     true
 }
 
-/// Puts the bytes into the file at the path, and says whether there is one that has room for them.
+/// Puts the bytes into the file at the path. Returns whether there is one that has room for them.
 fn put(files: &mut Vec<MemoryFile>, path: &str, offset: u64, bytes: &[u8]) -> bool
     ensures room { result
         ≡ reaches (file_at path.now (map file_of files.old.items)) offset (length bytes.now) }
@@ -81,7 +81,7 @@ fn put(files: &mut Vec<MemoryFile>, path: &str, offset: u64, bytes: &[u8]) -> bo
 }
 
 impl MemoryFiles {
-    /// No files. Where `failing` is a number, the call after so many answered ones fails.
+    /// No files. If `failing` is a number, the call after that many answered ones fails.
     pub fn new(alloc: Global, failing: Option<usize>) -> MemoryFiles
         ensures empty { memory_files_shown result ≡ record { stored = []; calls = [] } }
         ensures failing { failing_of result ≡ failing }
@@ -95,7 +95,7 @@ impl MemoryFiles {
         }
     }
 
-    /// Adds a file. Of two files of one path the first is found.
+    /// Adds a file. Of two files with the same path, the first is found. Errors: memory ran out.
     pub fn add(&mut self, path: &str, bytes: &[u8]) -> Result<(), AllocError>
         ensures ok { OnOk result (memory_files_shown self.new
             ≡ with_file path.now bytes.now (memory_files_shown self.old)) }
@@ -119,14 +119,15 @@ impl MemoryFiles {
         bytes_of(&self.files, path)
     }
 
-    /// The calls that were answered, in their order. One that memory was refused to is none.
+    /// The calls that were answered, in their order. A call to which memory was refused does not
+    /// count.
     pub fn calls(&self) -> &[Call]
         ensures { map call_of result.now ≡ (memory_files_shown self.now).calls }
     {
         &self.calls
     }
 
-    /// Whether the next call is the one that was told to fail.
+    /// Whether the next call is the one that is to fail.
     fn is_due(&self) -> bool
         ensures { result ≡ is_due self.now }
     {
@@ -136,7 +137,7 @@ impl MemoryFiles {
         }
     }
 
-    /// The whole file.
+    /// Reads the whole file.
     fn whole(&self, alloc: Global, path: &str) -> Result<Vec<u8>, FileFault>
         ensures { Gives (whole_answer (is_due self.now) (file_at path.now (memory_files_shown self.now).stored)) result }
     {
@@ -152,7 +153,7 @@ impl MemoryFiles {
         Ok(Vec::from_slice(alloc, all)?)
     }
 
-    /// The `size` bytes from `offset` on.
+    /// Reads the `size` bytes from `offset` on.
     fn part(
         &self,
         alloc: Global,
@@ -175,7 +176,7 @@ impl MemoryFiles {
         Ok(Vec::from_slice(alloc, &all[start..start + size])?)
     }
 
-    /// Records the call and counts its failure. The answer stays, if memory is there.
+    /// Records the call and counts its failure. Returns `answer`, or `Memory` if memory runs out.
     fn answered<T: Drop>(
         &mut self,
         path: &str,
@@ -235,7 +236,7 @@ impl Files for MemoryFiles {
         self.answered(path, Action::ReadAt { offset, size }, part)
     }
 
-    /// A write that is told to fail leaves the first half of its bytes.
+    /// A write that is to fail leaves the first half of its bytes.
     fn write_at(&mut self, path: &str, offset: u64, bytes: &[u8]) -> Result<(), FileFault>
         ensures count { CountsFault (faults_of self.old) (faults_of self.new) result }
         ensures never_short { result ≢ Err Short }

@@ -1,4 +1,4 @@
-//! A writer that is asked no more once it has failed.
+//! A writer that is not called again after it has failed.
 ghost use Rattle.std.specs.Prelude.{◌≡◌, ◌<◌, IfOk, IsErr, length, true};
 ghost use Rattle.std.specs.Io.KnownBytes.{Keeps, WriteAppends};
 ghost use Rattle.std.specs.Io.{WritesAtMost};
@@ -6,9 +6,9 @@ ghost use Rattle.ubtool_files.specs.UntilFailedShown.{has_failed, writer_of};
 
 use std::io::{Error, ErrorKind, Result, Write};
 
-/// A writer that is asked no more once it has failed. A buffer of std tries a write again that was
-/// interrupted, and what it still holds when it is dropped; over this writer no failed write is tried
-/// again.
+/// A writer that is not called again after it has failed. A buffer of std repeats a write that was
+/// interrupted, and when it is dropped it writes what it still holds. Over this writer no failed
+/// write is repeated.
 #[derive(Drop)]
 pub struct UntilFailed<W> {
     writer: W,
@@ -33,7 +33,7 @@ impl<W> UntilFailed<W> {
 impl<W: Write> Write for UntilFailed<W> {
     ghost contents = { λ w. W.contents (writer_of w) };
 
-    /// A write that takes none of the bytes that are there is a failure too.
+    /// A write that takes none of the bytes given is a failure too.
     fn write(&mut self, buf: &[u8]) -> Result<usize>
         ensures bound { WritesAtMost result buf.now }
         ensures bytes { WriteAppends (W.contents (writer_of self.old)) (W.contents (writer_of self.new)) result buf.now }

@@ -17,7 +17,7 @@ use Rattle.ubtool_cli.specs.declared.ask.Ask.{Ask}
 use Rattle.ubtool_cli.specs.declared.ask.Ask.TheVariants.{Endings, Help, Print, Rehearse, Setenv, Version}
 use Rattle.ubtool_run.specs.Performing.{IsComplete}
 
--- a value without its name is asked for of one name
+-- a value without its name is asked for only with one name
 abbrev IsFit : Option Asked → Type 0
 IsFit (Some (printing config header names order)) = header ≡ false → length names ≡ 1
 IsFit asked = Unit {0}

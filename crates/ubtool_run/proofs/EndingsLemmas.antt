@@ -1,4 +1,4 @@
--- Telling how the runs of what was read end.
+-- Reporting how the runs of what was read end.
 use Rattle.std.proofs.Common.{◌≡◌, ◌∙◌, ℕ, Bool, true, refl, sym, ap, subst, List, IfOk, IfErr, Option, Ok, Err, inl, inr, ◌⊎◌}
 use Rattle.std.specs.Prelude.{Result, Vec, option_map, string_bytes}
 use Rattle.std.specs.declared.alloc.Global.{Global}
@@ -30,7 +30,7 @@ use Rattle.ubtool_run.specs.declared.images.Images.{Images}
 abbrev IsRefusedRead : (config list : List ℕ) (old new : Told) → Fault → Type 0
 IsRefusedRead config list old new f = OnlyReads old new × (IsImagesFault config old.stored f ⊎ IsUnlisted config list old f)
 
--- no such refusal comes of the endings
+-- reporting the endings gives no such refusal
 unread : (order : ByteOrder) (config list : List ℕ) (what : EndingsAsk) (out : Sink) (old new : Told) (f : Fault) → IsRefusedRead config list old new f
     → TellsFrom order config list what out out old new (Err f)
 unread order config list what out old new (fault.Config error) h = h
@@ -47,12 +47,12 @@ unread order config list what out old new (fault.NoSuchVariable name) (reads, in
 unread order config list what out old new (fault.NotARun word) h = h
 unread order config list what out old new fault.Memory h = (h.0, refl)
 
--- of the images
+-- the refusal of the images
 pub tells-unread : (order : ByteOrder) (config list : List ℕ) (what : EndingsAsk) (out : Sink) (old new : Told) (f : Fault) → ReadsImages config old new (Err f)
     → TellsFrom order config list what out out old new (Err f)
 tells-unread order config list what out old new f h = unread order config list what out old new f (h.0, inl h.1)
 
--- of the device list
+-- the refusal of the device list
 pub tells-unlisted : (order : ByteOrder) (config list : List ℕ) (what : EndingsAsk) (out : Sink) (found : List Copy) (x y z : Told) (f : Fault) → HasRead config x y found
     → ReadsText list y z (Err f) → TellsFrom order config list what out out x z (Err f)
 tells-unlisted order config list what out found x y z f read h =
@@ -84,7 +84,7 @@ tells-refused order config list what out out' found text x y z tool.States read 
 tells-refused order config list what out out' found text x y z tool.Write read listed h = from-files order config list what found text x y z (λ g. RefusesEndings g what.flow what.states out out' tool.Write) read listed h
 tells-refused order config list what out out' found text x y z tool.Memory read listed h = (only-read config list found text x y z read listed, h.1)
 
--- ---- what the endings of copies are given
+-- ---- what the endings of copies are computed from
 
 made : (order : ByteOrder) (first first' : List ℕ) (second second' : Option (List ℕ)) (list variable variable' : List ℕ) (what : EndingsAsk) → first ≡ first' → second ≡ second' → variable ≡ variable'
     → given_all order first second list variable what.bounds ≡ given_all order first' second' list variable' what.bounds

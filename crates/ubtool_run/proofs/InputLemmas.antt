@@ -13,7 +13,7 @@ whole-input (Some all) text is short =
     let fits : length all ≤ 1048577 = omega (arith, short, taken) in
     is ∙ take_all 1048577 all fits
 
--- an input of which more than the limit was read is longer than the limit
+-- if more than the limit was read of an input, the input is longer than the limit
 pub long-input : (input : Option (List ℕ)) (text : List ℕ) → IfSome input (λ left. text ≡ take 1048577 left) → 1048576 < length text
     → IfSome input (λ all. read_limit < length all)
 long-input None text is past = tt

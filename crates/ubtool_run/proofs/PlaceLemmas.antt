@@ -44,7 +44,7 @@ among-few (l ∷ m ∷ more) = pair-few l.0 m.0 (place_of l.0 (words_of l.1)) (p
 pub some-place : (text : List ℕ) → places text ≡ Ok [] → ⊥
 some-place text e = subst AreFew e (among-few (place_lines text))
 
--- What an iterator over the places gives first, and then second, are all of them.
+-- The first and the second thing that an iterator over the places gives are all of the places.
 pub places-named : (text : List ℕ) (items rest more : List Place) (first : Place) (second : Option Place) → places text ≡ Ok (map place_shown items)
     → items ≡ first ∷ rest → rest ≡ option_to_list second ++ more → (second ≡ None → length rest ≡ 0) → places text ≡ Ok (place_shown first ∷ second_place second)
 places-named text items rest more first None named e f none = named-one text items rest first named e (none refl)

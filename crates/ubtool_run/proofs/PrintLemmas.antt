@@ -16,7 +16,7 @@ use Rattle.ubtool_run.specs.PrintingFiles.{PrintsCopies, PrintsFrom, environment
 use Rattle.ubtool_run.specs.declared.images.Images.{Images}
 use Rattle.ubtool_run.specs.declared.read.StoredCopy.{StoredCopy}
 
--- a refusal of printing, told as a fault
+-- a refusal of printing, reported as a fault
 pub copies-refused : (order : ByteOrder) (found : List Copy) (names : List (List ℕ)) (header : Bool) (outputs : Outputs) (error : ToolError)
     → Prints (environment order found) names header outputs (Err error) → PrintsCopies order found names header outputs (Err (tool_fault error))
 copies-refused order found names header outputs (Image error) h = h

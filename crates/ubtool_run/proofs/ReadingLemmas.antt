@@ -1,4 +1,4 @@
--- Reads one after another, from files that tell.
+-- Reads one after another, from files whose contents are known.
 use Rattle.std.proofs.Common.{◌≡◌, ◌∙◌, ℕ, true, refl, sym, ap, subst, List, [], ◌∷◌, ◌++◌, map, append_assoc, Option, Some, None, Ok, Err, inl, inr}
 use Rattle.std.specs.Prelude.{Result, Vec}
 use Rattle.std.specs.declared.alloc.Global.{Global}
@@ -30,7 +30,7 @@ pub copy-reads : (place : Place) (old new : Told) (r : Result StoredCopy Fault) 
 copy-reads place old new (Ok copy) h = OnlyReads-one (place_shown place).device (read_of (place_shown place)).1 old new refl h.calls h.stored
 copy-reads place old new (Err fault) h = h.0
 
--- so do the configuration's and those of the copies that it names
+-- and so do the reads of the configuration and of the copies that it names
 pub found-reads : (config : List ℕ) (old new : Told) (found : List Copy) → HasRead config old new found → OnlyReads old new
 found-reads config old new found h = record { reads = (config, ReadAll) ∷ map (λ c. read_of c.0) found; calls = h.calls; all = each found; stored = h.stored }
   where
@@ -48,7 +48,7 @@ then-three (Some x) (Some y) None d join first second third = absurd second
 then-three (Some x) (Some y) (Some z) None join first second third = absurd third
 then-three (Some x) (Some y) (Some z) (Some w) join first second third = join x y z w first second third
 
--- what one call did, said in other words
+-- what one call did, in other words
 pub IfTold-weaker : {P Q : Told → Told → Type 0} (a b : Option Told) → ((x y : Told) → P x y → Q x y) → IfTold a b P → IfTold a b Q
 IfTold-weaker None b weaker h = tt
 IfTold-weaker (Some x) None weaker h = absurd h
@@ -82,7 +82,7 @@ pair-read config text x y a b c d first named second third = record {
   stored = third.stored ∙ second.stored ∙ first.stored;
 }
 
--- the text of the configuration, the first copy and the second, where there is one
+-- the text of the configuration, the first copy, and the second if there is one
 pub images-read : (config text : List ℕ) (p : Place) (q : Option Place) (x : StoredCopy) (y : Option StoredCopy) (a b c d : Told)
     → Reads (config, ReadAll) (file_at config a.stored) a b text → places text ≡ Ok (place_shown p ∷ second_place q) → x.place ≡ p
     → ReadsCopy p b c (Ok x) → ReadsSecond q c d (Ok y) → HasRead config a d (copies (record { first = x; second = y }))
@@ -96,7 +96,7 @@ images-read config text p (Some q) x None a b c d first named place second third
 
 -- ---- refusals
 
--- of a whole file, and of a place, as the files tell it
+-- the refusal of a whole file, and of a place, by the contents of the files
 pub text-refused : (path : List ℕ) (form : WordForm) (old new : Told) (k : FileFault) → IsPathOf form path → ReadsAll path old new (Err k) → ReadsText path old new (Err (read_fault form k))
 text-refused path form old new Failed is h = (OnlyReads-whole path old new (Err Failed) h, is)
 text-refused path form old new Short is h = absurd h.whole
@@ -110,7 +110,7 @@ copy-refused place form old new Short is h = (OnlyReads-part (place_shown place)
 copy-refused place form old new TooLong is h = absurd h.part
 copy-refused place form old new Memory is h = (OnlyReads-part (place_shown place).device (place_shown place).offset (place_shown place).size old new (Err Memory) h, tt)
 
--- of the configuration's file
+-- the refusal of the configuration's file
 pub images-unread : (config : List ℕ) (old new : Told) (f : Fault) → ReadsText config old new (Err f) → ReadsImages config old new (Err f)
 images-unread config old new (fault.Config error) h = absurd h.1
 images-unread config old new (fault.Tool error) h = absurd h.1
@@ -124,7 +124,7 @@ images-unread config old new (fault.NoSuchVariable name) h = absurd h.1
 images-unread config old new (fault.NotARun word) h = absurd h.1
 images-unread config old new fault.Memory h = h
 
--- of what the configuration says
+-- the refusal of what the configuration says
 pub images-unnamed : (config text : List ℕ) (old new : Told) (f : Fault) → Reads (config, ReadAll) (file_at config old.stored) old new text → Names (places text) (Err f)
     → ReadsImages config old new (Err f)
 images-unnamed config text old new (fault.Config error) read h = (OnlyReads-one config ReadAll old new refl read.calls read.stored, record { text = text; there = read.found; says = h })
@@ -139,7 +139,7 @@ images-unnamed config text old new (fault.NoSuchVariable name) read h = absurd h
 images-unnamed config text old new (fault.NotARun word) read h = absurd h
 images-unnamed config text old new fault.Memory read h = absurd h
 
--- of a copy, behind other reads; `named` are the places, of which this is one
+-- the refusal of a copy, after other reads; `named` are the places, and this is one of them
 copy-unread : (config text : List ℕ) (place : Place) (named : List PlaceShown) (a b c : Told) (f : Fault) → OnlyReads a b → file_at config a.stored ≡ Some text → places text ≡ Ok named
     → ((IsSo : PlaceShown → Type 0) → IsSo (place_shown place) → OfSome IsSo named) → ReadsCopy place b c (Err f) → ReadsImages config a c (Err f)
 copy-unread config text place named a b c (fault.Config error) reads there is among h = absurd h.1

@@ -38,7 +38,7 @@ asking_made variable bounds wanted names = record { variable = variable; bounds 
 abbrev IsRefusedRead : (config list : List ℕ) (old new : Told) → Fault → Type 0
 IsRefusedRead config list old new f = OnlyReads old new × (IsImagesFault config old.stored f ⊎ IsUnlisted config list old f)
 
--- no such refusal comes of a rehearsal
+-- a rehearsal gives no such refusal
 refused-read : (order : ByteOrder) (config list : List ℕ) (what : RehearseAsk) (out : Sink) (old new : Told) (f : Fault) → IsRefusedRead config list old new f
     → RehearsesFrom order config list what out out old new (Err f)
 refused-read order config list what out old new (fault.Config error) h = h
@@ -56,12 +56,12 @@ refused-read order config list what out old new (fault.NotARun word) (reads, inl
 refused-read order config list what out old new (fault.NotARun word) (reads, inr h) = absurd h.refused
 refused-read order config list what out old new fault.Memory h = inl (h.0, refl)
 
--- of the images
+-- the refusal of the images
 pub rehearses-unread : (order : ByteOrder) (config list : List ℕ) (what : RehearseAsk) (out : Sink) (old new : Told) (f : Fault) → ReadsImages config old new (Err f)
     → RehearsesFrom order config list what out out old new (Err f)
 rehearses-unread order config list what out old new f h = refused-read order config list what out old new f (h.0, inl h.1)
 
--- of the device list
+-- the refusal of the device list
 pub rehearses-unlisted : (order : ByteOrder) (config list : List ℕ) (what : RehearseAsk) (out : Sink) (found : List Copy) (x y z : Told) (f : Fault) → HasRead config x y found
     → ReadsText list y z (Err f) → RehearsesFrom order config list what out out x z (Err f)
 rehearses-unlisted order config list what out found x y z f read h =

@@ -1,4 +1,4 @@
--- What the version tells of the build of a program. The processor is named as uname does, and the rest is ours.
+-- What the version says of the build of a program. The processor is named as by uname, and the rest is ours.
 use Rattle.std.specs.Prelude.{◌++◌, ℕ, List, codes}
 use Rattle.ubtool_cli.specs.declared.ask.TheConstants.{VERSION}
 use Rattle.ubtool_run.specs.declared.build.Build.{Build}
@@ -14,6 +14,6 @@ build_text Arm64Static = codes "aarch64, static"
 abbrev pub line_of : List ℕ → List ℕ → List ℕ
 line_of program build = program ++ codes " " ++ VERSION.now ++ codes " (" ++ build ++ codes ")\n"
 
--- the line that tells the version of a program of this name, of this build
+-- the line with the version of a program of this name, of this build
 abbrev pub version_line : List ℕ → Build → List ℕ
 version_line program build = line_of program (build_text build)

@@ -1,6 +1,5 @@
--- What changing the environment in the images of a configuration does, on files that tell what stands
--- in them, with an input that tells its bytes, or does not. It follows fw_setenv (U-Boot, tools/env README); the order
--- of work is ours.
+-- What changing the environment in the images of a configuration does, on files whose contents are known, with an input
+-- whose bytes are known, or are not. It follows fw_setenv (U-Boot, tools/env README). The order of work is ours.
 use Rattle.std.specs.Prelude.{◌≡◌, ◌⊎◌, ℕ, List, [], ◌∷◌, ◌++◌, map, Option, Some, Result, Ok, Err, Vec, string_bytes}
 use Rattle.std.specs.declared.alloc.Global.{Global}
 use Rattle.envimage.specs.Config.{PlaceShown}
@@ -39,7 +38,7 @@ IsRefusal Memory answer = ⊥
 IsRefusal Write answer = ⊥
 IsRefusal error answer = answer ≡ Err error
 
--- the copy and its bytes, or the refusal; memory may be refused in place of any answer
+-- the copy and its bytes, or the refusal; memory may run out in place of any answer
 abbrev pub IsEdited : ByteOrder → List Copy → Edit → Result (Which × Vec ℕ Global) Fault → Type 0
 IsEdited order found change (Ok w) = edited order found change ≡ Ok (w.0, w.1.items)
 IsEdited order found change (Err (Tool error)) = IsRefusal error (edited order found change)
@@ -54,7 +53,7 @@ IsEdit input (Script path) stored (edit.Script text) = file_at (string_bytes pat
 IsEdit input Input stored (edit.Script text) = IsInput input text.now
 IsEdit input change stored _ = ⊥
 
--- the reads of files that a change asks for
+-- the reads of files that a change needs
 abbrev pub reads_of : Change → List (List ℕ × Action)
 reads_of (One name words) = []
 reads_of (Script path) = (string_bytes path, ReadAll) ∷ []
@@ -69,14 +68,14 @@ pub record HasEdited (input : Option (List ℕ)) (order : ByteOrder) (change : C
   pub calls : new.calls ≡ old.calls ++ reads_of change
   pub stored : new.stored ≡ old.stored
 
--- The change is refused, for what it says.
+-- The change is refused for what it says.
 pub record IsUnmade (input : Option (List ℕ)) (order : ByteOrder) (change : Change) (found : List Copy)
     (stored : Stored) (error : ToolError) : Type 0 where
   pub edit : Edit
   pub says : IsEdit input change stored edit
   pub refusal : IsRefusal error (edited order found edit)
 
--- why a change may be refused: by what it says of these copies, or as the file or the input of its script
+-- why a change may be refused: by what it says of these copies, or by the file or the input of its script
 abbrev pub IsChangeFault : (input : Option (List ℕ)) → ByteOrder → Change → List Copy → Stored → Fault → Type 0
 IsChangeFault input order change found stored (Tool error) = IsUnmade input order change found stored error
 IsChangeFault input order (One name words) found stored fault = fault ≡ faults.Memory
@@ -98,7 +97,7 @@ IsPlaceOf which (copy ∷ []) place = place ≡ copy.0
 IsPlaceOf First (copy ∷ second ∷ more) place = place ≡ copy.0
 IsPlaceOf Second (copy ∷ second ∷ more) place = place ≡ second.0
 
--- The bytes were written in the place of the copy, or that write was tried.
+-- The bytes were written at the place of the copy, or that write was tried.
 pub record WritesIn (which : Which) (found : List Copy) (bytes : List ℕ) (old new : Told)
     (answer : Result (Unit {0}) FileFault) : Type 0 where
   pub place : PlaceShown
@@ -111,15 +110,15 @@ pub record FailsToWrite (which : Which) (found : List Copy) (bytes : List ℕ) (
   pub tried : WritesIn which found bytes old new (Err Failed)
   pub path : IsPathOf told tried.place.device
 
--- one write in the place of the copy, done or failed; or none, if memory ran out
+-- one write at the place of the copy, done or failed; or none, if memory ran out
 abbrev pub WritesCopy : Which → List Copy → List ℕ → Told → Told → Result (Unit {0}) Fault → Type 0
 WritesCopy which found bytes old new (Ok done) = WritesIn which found bytes old new (Ok done)
 WritesCopy which found bytes old new (Err (CannotWrite told)) = FailsToWrite which found bytes old new told
 WritesCopy which found bytes old new (Err faults.Memory) = OnlyReads old new
 WritesCopy which found bytes old new (Err fault) = ⊥
 
--- The images were read, the change was made, and then one copy was written, or that write was tried. Of a pair,
--- whatever front of the bytes came to stand there, loading gives what it gave before, or that copy is right.
+-- The images were read, the change was made, and then one copy was written, or that write was tried. If only a prefix
+-- of the bytes was written to a pair, loading gives what it gave before, or that copy is right.
 pub record HasSet (input : Option (List ℕ)) (order : ByteOrder) (config : List ℕ) (change : Change) (old new : Told)
     (answer : Result (Unit {0}) FileFault) : Type 0 where
   pub found : List Copy
@@ -146,7 +145,7 @@ pub record IsRefusedChange (input : Option (List ℕ)) (order : ByteOrder) (conf
   pub read : HasRead config old after_images found
   pub refused : IsChangeFault input order change found old.stored fault
 
--- why nothing may be written: memory; or the images are refused, or the change of them
+-- why nothing may be written: memory ran out; or the images are refused, or their change
 abbrev pub IsSetFault : (input : Option (List ℕ)) → ByteOrder → List ℕ → Change → Told → Fault → Type 0
 IsSetFault input order config change old faults.Memory = Unit {0}
 IsSetFault input order config change old fault = IsImagesFault config old.stored fault

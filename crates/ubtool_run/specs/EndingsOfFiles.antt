@@ -1,5 +1,5 @@
--- How all runs of the images of a configuration end, from files that report what they hold. The order of work is that
--- of a rehearsal. Ours.
+-- How all runs of the images of a configuration end, from files whose contents are known. The order of work is that of
+-- a rehearsal. Ours.
 use Rattle.std.specs.Prelude.{◌≡◌, ◌⊎◌, ℕ, Bool, true, List, Result, Ok, Err, string_bytes}
 use Rattle.output.specs.Sink.{Sink}
 use Rattle.envimage.specs.declared.image.ByteOrder.{ByteOrder}
@@ -40,7 +40,7 @@ FromFiles order config device_list what old new IsSo =
     AreRead config device_list old new (λ found text. IsSo (endings_of order found text what))
 
 -- The images and the device list were read, and the lines were written; or the endings are refused; or a read is
--- refused, and files were only read. Where memory runs out nothing is written.
+-- refused, and files were only read. If memory runs out, nothing is written.
 abbrev pub TellsFrom : ByteOrder → (config device_list : List ℕ) → EndingsAsk → (out out' : Sink) → (old new : Told) →
     Result Bool Fault → Type 0
 TellsFrom order config device_list what out out' old new (Ok all) =

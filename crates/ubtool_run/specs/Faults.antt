@@ -1,11 +1,11 @@
--- Which faults tell that a file failed. They are ours.
+-- Which faults say that a file failed. They are ours.
 use Rattle.std.specs.Prelude.{◌≡◌, ℕ, Result, Err}
 use Rattle.output.specs.Sink.{counted}
 use Rattle.ubtool_core.specs.declared.fault.Fault.{Fault}
 use Rattle.ubtool_core.specs.declared.fault.Fault.TheVariants.{Config, CannotRead, CannotWrite, FileShort, FileTooLong, Memory}
 
--- "Cannot read" and "cannot write" are answered where one more failure of the device is counted, and
--- no other answer changes the count.
+-- If "cannot read" or "cannot write" is answered, one more failure of the device is counted. No other answer changes
+-- the count.
 abbrev pub CountsTold : {T : Type 0} → ℕ → ℕ → Result T Fault → Type 0
 CountsTold old new (Err (CannotRead path)) = new ≡ counted old
 CountsTold old new (Err (CannotWrite path)) = new ≡ counted old

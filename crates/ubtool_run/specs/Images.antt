@@ -1,5 +1,5 @@
--- The images that a configuration names, read from files that tell what stands in them.
--- The configuration is fw_env.config (U-Boot, tools/env README); the order of the reads is ours.
+-- The images that a configuration names, read from files whose contents are known. The configuration is fw_env.config
+-- (U-Boot, tools/env README). The order of the reads is ours.
 use Rattle.std.specs.Prelude.{◌≡◌, ◌<◌, ◌⊎◌, IsSomeAnd, length, ℕ, List, [], ◌∷◌, ◌++◌, map, Option, Some, None, Result, Ok, Err}
 use Rattle.envimage.specs.Config.{PlaceShown, places}
 use Rattle.envimage.specs.Place.{place_shown, AnswersPlaces}
@@ -15,7 +15,7 @@ use Rattle.ubtool_run.specs.ReadingFiles.{IsShort, ReadsCopy, bytes_at, read_of}
 use Rattle.ubtool_run.specs.declared.images.Images.{Images}
 use Rattle.ubtool_run.specs.declared.read.StoredCopy.{StoredCopy}
 
--- the second place, where there is one
+-- the second place, if there is one
 abbrev pub second_place : Option Place → List PlaceShown
 second_place None = []
 second_place (Some place) = place_shown place ∷ []
@@ -26,21 +26,21 @@ Names answer (Ok named) = answer ≡ Ok (place_shown named.0 ∷ second_place na
 Names answer (Err (Config error)) = AnswersPlaces answer (Err error)
 Names answer (Err _) = ⊥
 
--- the copy at the second place was read, where there is one, or refused
+-- the copy at the second place was read, if there is one, or refused
 abbrev pub ReadsSecond : Option Place → Told → Told → Result (Option StoredCopy) Fault → Type 0
 ReadsSecond None old new (Ok None) = new ≡ old
 ReadsSecond (Some place) old new (Ok (Some copy)) = (copy.place ≡ place) × ReadsCopy place old new (Ok copy)
 ReadsSecond (Some place) old new (Err fault) = ReadsCopy place old new (Err fault)
 ReadsSecond place old new _ = ⊥
 
--- a copy: where it stands, and its bytes
+-- a copy: its place, and its bytes
 abbrev pub Copy : Type 0
 Copy = PlaceShown × List ℕ
 
 abbrev pub copy_of : StoredCopy → Copy
 copy_of copy = (place_shown copy.place, copy.bytes.items)
 
--- the copies, the first one before the second
+-- the copies, the first before the second
 abbrev pub copies : Images → List Copy
 copies images = by images.second
   where
@@ -48,8 +48,7 @@ copies images = by images.second
     by None = copy_of images.first ∷ []
     by (Some second) = copy_of images.first ∷ copy_of second ∷ []
 
--- The configuration was read and names the places of these copies, and then each copy was read, the
--- first one first.
+-- The configuration was read and names the places of these copies. Then each copy was read, the first one first.
 pub record HasRead (config : List ℕ) (old new : Told) (found : List Copy) : Type 0 where
   pub text : List ℕ
   pub there : file_at config old.stored ≡ Some text
@@ -70,13 +69,13 @@ pub record FromConfig (config : List ℕ) (stored : Stored) (Says : Result (List
   pub there : file_at config stored ≡ Some text
   pub says : Says (places text)
 
--- the configuration names a place of which this holds
+-- the configuration names a place with this property
 abbrev pub NamesOne : (config : List ℕ) → Stored → (PlaceShown → Type 0) → Type 0
 NamesOne config stored IsSo =
     FromConfig config stored (λ answer. (named : List PlaceShown) × (answer ≡ Ok named) × OfSome IsSo named)
 
--- why images may be refused: a file fails, or memory; the configuration is too long or refused; or the
--- file of a place is too short. The fault names the file.
+-- why images may be refused: a file fails, or memory runs out; the configuration is too long or refused; or the file of
+-- a place is too short. The fault names the file.
 abbrev pub IsImagesFault : List ℕ → Stored → Fault → Type 0
 IsImagesFault config stored (CannotRead told) =
     IsPathOf told config ⊎ NamesOne config stored (λ place. IsPathOf told place.device)

@@ -1,5 +1,5 @@
--- What is done for what is asked, on files that tell what stands in them.
--- The subcommands follow fw_printenv and fw_setenv (U-Boot, tools/env README); the rehearsal is ours.
+-- What is done for what is asked, on files whose contents are known. The subcommands follow fw_printenv and fw_setenv
+-- (U-Boot, tools/env README). The rehearsal is ours.
 use Rattle.std.specs.Prelude.{◌≡◌, ◌++◌, ℕ, Bool, true, false, List, codes, length, map, Option, Result, Ok, Err, string_bytes}
 use Rattle.output.specs.Sink.{BrokeOff, Sink, Wrote}
 use Rattle.envimage.specs.declared.image.ByteOrder.{ByteOrder}
@@ -18,18 +18,18 @@ use Rattle.ubtool_run.specs.PrintingFiles.{LeavesOutputs, PrintsFrom}
 use Rattle.ubtool_run.specs.RehearsingFiles.{LeavesOutput, RehearsesFrom}
 use Rattle.ubtool_run.specs.ChangingFiles.{Sets}
 
--- a value without its name is asked for of one name
+-- a value without its name is asked for only with one name
 abbrev pub IsComplete : Ask → Type 0
 IsComplete (Print config what order) = what.header ≡ false → length what.names.items ≡ 1
 IsComplete ask = Unit {0}
 
--- the text was written, of the help or the version, or its output failed inside it
+-- the text of the help or the version was written, or its output failed inside it
 abbrev pub Helps : List ℕ → Sink → Sink → Result Bool Fault → Type 0
 Helps text old new (Ok all) = (all ≡ true) × Wrote old new text
 Helps text old new (Err (Tool Write)) = BrokeOff old new text
 Helps text old new (Err fault) = ⊥
 
--- the text was written so, and nothing else was done
+-- this text was written, and nothing else was done
 abbrev pub Shows : List ℕ → Option Told → Option Told → Outputs → Result Bool Fault → Type 0
 Shows text before after outputs result =
     Helps text outputs.out outputs.out' result
@@ -41,8 +41,8 @@ abbrev pub SetsOf : (input : Option (List ℕ)) → ByteOrder → List ℕ → C
 SetsOf input order config change old new (Ok all) = (all ≡ true) × Sets input order config change old new (Ok tt)
 SetsOf input order config change old new (Err fault) = Sets input order config change old new (Err fault)
 
--- What doing it comes to: by a program of this build, with an input of these bytes, if it tells them, with the files from before to after, and on
--- the outputs.
+-- What a program of this build does for it, with an input of these bytes, if they are known, with the files before and
+-- after, and on the outputs.
 abbrev pub Does : Build → (input : Option (List ℕ)) → Ask → Option Told → Option Told → Outputs → Result Bool Fault → Type 0
 Does build input (Print config what order) before after outputs result =
     IfTold before after (λ old new.

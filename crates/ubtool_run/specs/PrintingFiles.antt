@@ -1,5 +1,5 @@
--- What printing the images of a configuration does, from files that tell what stands in them.
--- It follows fw_printenv (U-Boot, tools/env README).
+-- What printing the images of a configuration does, from files whose contents are known. It follows fw_printenv
+-- (U-Boot, tools/env README).
 use Rattle.std.specs.Prelude.{◌≡◌, ℕ, Bool, List, [], ◌∷◌, Option, Some, None, Result, Ok, Err}
 use Rattle.envimage.specs.Data.{Pair}
 use Rattle.envimage.specs.declared.image.ByteOrder.{ByteOrder}
@@ -13,7 +13,7 @@ use Rattle.ubtool_core.specs.declared.fault.Fault.{Fault}
 use Rattle.ubtool_core.specs.declared.fault.Fault.TheVariants.{Memory, Tool}
 use Rattle.ubtool_run.specs.Images.{Copy, HasRead, IsImagesFault}
 
--- the bytes of the first copy, and of the second where there is one
+-- the bytes of the first copy, and of the second if there is one
 abbrev pub first_bytes : List Copy → List ℕ
 first_bytes [] = []
 first_bytes (copy ∷ more) = copy.1
@@ -36,14 +36,13 @@ PrintsCopies order found names header outputs (Err (Tool Write)) =
 PrintsCopies order found names header outputs (Err Memory) = AreUnchanged outputs
 PrintsCopies order found names header outputs (Err fault) = ⊥
 
--- Copies were read, and this holds of what they are.
+-- Copies were read, and they have this property.
 pub record FromImages (config : List ℕ) (old new : Told) (IsSo : List Copy → Type 0) : Type 0 where
   pub found : List Copy
   pub read : HasRead config old new found
   pub so : IsSo found
 
--- the images of the configuration were read and printed, or refused; a refusal for memory may come at
--- any time
+-- the images of the configuration were read and printed, or refused; memory may run out at any time
 abbrev pub PrintsFrom : ByteOrder → List ℕ → List (List ℕ) → Bool → Outputs → Told → Told → Result Bool Fault → Type 0
 PrintsFrom order config names header outputs old new (Ok all) =
     FromImages config old new (λ found. PrintsAll (environment order found) names header outputs all)

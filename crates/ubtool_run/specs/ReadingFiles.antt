@@ -1,5 +1,5 @@
--- What is read before an image is printed or changed, from files that tell what stands in them.
--- The order of work is ours; the configuration is fw_env.config (U-Boot, tools/env README).
+-- What is read before an image is printed or changed, from files whose contents are known. The order of work is ours.
+-- The configuration is fw_env.config (U-Boot, tools/env README).
 use Rattle.std.specs.Prelude.{◌≡◌, ◌<◌, ◌+◌, IfSome, IsSomeAnd, ℕ, List, [], ◌∷◌, ◌++◌, take, drop, length, nat_le, Option, Some, None, Result, Ok, Err, Vec, if◌then◌else◌, option_and_then}
 use Rattle.std.specs.declared.alloc.Global.{Global}
 use Rattle.envimage.specs.Config.{PlaceShown}
@@ -14,7 +14,7 @@ use Rattle.ubtool_files.specs.declared.files.Action.{Action}
 use Rattle.ubtool_files.specs.declared.files.Action.TheVariants.{ReadAll, ReadAt}
 use Rattle.ubtool_run.specs.declared.read.StoredCopy.{StoredCopy}
 
--- the bytes that stand at a place, where its file has so many
+-- the bytes at a place, if its file has that many
 abbrev pub bytes_at : PlaceShown → Stored → Option (List ℕ)
 bytes_at place stored = option_and_then (λ all.
     if nat_le (place.offset + place.size) (length all)
@@ -54,11 +54,11 @@ abbrev pub ReadsText : List ℕ → Told → Told → Result (Vec ℕ Global) Fa
 ReadsText path old new (Ok text) = Reads (path, ReadAll) (file_at path old.stored) old new text.items
 ReadsText path old new (Err fault) = OnlyReads old new × IsTextFault path (file_at path old.stored) fault
 
--- the text is the whole input, where the input tells its bytes
+-- the text is the whole input, if the input's bytes are known
 abbrev pub IsInput : Option (List ℕ) → List ℕ → Type 0
 IsInput input text = IfSome input (λ all. text ≡ all)
 
--- why an input may be refused as a text: it fails; it is too long, where it tells its bytes; or memory
+-- why an input may be refused as a text: it fails; it is too long, if its bytes are known; or memory runs out
 abbrev pub IsInputFault : Option (List ℕ) → Fault → Type 0
 IsInputFault input CannotReadInput = Unit {0}
 IsInputFault input InputTooLong = IfSome input (λ all. read_limit < length all)

@@ -1,5 +1,4 @@
--- What rehearsing the images of a configuration does, from files that tell what stands in them. The order of work is
--- ours.
+-- What rehearsing the images of a configuration does, from files whose contents are known. The order of work is ours.
 use Rattle.std.specs.Prelude.{◌≡◌, ◌⊎◌, ℕ, Bool, true, List, map, Option, Some, None, option_map, Result, Ok, Err, string_bytes, String}
 use Rattle.std.specs.declared.alloc.Global.{Global}
 use Rattle.output.specs.Sink.{Sink, counted}
@@ -30,12 +29,12 @@ abbrev pub rehearsal_of : ByteOrder → List Copy → (device_list : List ℕ) �
 rehearsal_of order found device_list what =
     given order (first_bytes found) (second_bytes found) device_list (asking_of what)
 
--- the word of a run that is given, if one is
+-- the word of the one run that is asked for, if there is one
 abbrev pub word_of : Wanted → Option (String Global)
 word_of (Listing bounds after limit) = after
 word_of (Word bounds word) = Some word
 
--- what a refusal is told as: a variable that is not set by its name, and a word that is no run as it was given
+-- how a refusal is reported: a variable that is not set by its name, and a word that spells no run as it was given
 abbrev pub no_run_of : Option (String Global) → Fault
 no_run_of None = Tool tool.NotARun
 no_run_of (Some word) = NotARun (path_form word)
@@ -45,7 +44,7 @@ refusal_of what tool.NoSuchVariable = NoSuchVariable (path_form what.name)
 refusal_of what tool.NotARun = no_run_of (word_of what.wanted)
 refusal_of what error = tool_fault error
 
--- want of memory leaves the output as it was, or whole records of the listing
+-- running out of memory leaves the output as it was, or whole records of the listing
 abbrev pub RunsOut : Given → (old new : Sink) → Type 0
 RunsOut g old new = (new ≡ old) ⊎ LacksMemory g old new
 
@@ -65,7 +64,7 @@ pub record AreRead (config device_list : List ℕ) (old new : Told) (IsSo : List
     pub listed : Reads (device_list, ReadAll) (file_at device_list after_images.stored) after_images new text
     pub so : IsSo found text
 
--- and this holds of the rehearsal of what they give
+-- and the rehearsal of what they give has this property
 abbrev pub FromFiles : ByteOrder → (config device_list : List ℕ) → RehearseAsk → (old new : Told) → (Given → Type 0) →
     Type 0
 FromFiles order config device_list what old new IsSo =
@@ -78,9 +77,9 @@ pub record IsUnlisted (config device_list : List ℕ) (old : Told) (fault : Faul
   pub read : HasRead config old after_images found
   pub refused : IsTextFault device_list (file_at device_list old.stored) fault
 
--- The images and the device list were read, and the whole listing was written; or the rehearsal is refused, the fault
--- told by what the words said; or a read is refused, and files were only read. Where memory runs out while they are
--- read, nothing is written; behind that, whole records may be.
+-- The images and the device list were read, and the whole listing was written; or the rehearsal is refused, and the
+-- fault names what the words said; or a read is refused, and files were only read. If memory runs out while they are
+-- read, nothing is written; if it runs out later, whole records may be written.
 abbrev pub RehearsesFrom : ByteOrder → (config device_list : List ℕ) → RehearseAsk → (out out' : Sink) →
     (old new : Told) → Result Bool Fault → Type 0
 RehearsesFrom order config device_list what out out' old new (Ok all) =
@@ -100,8 +99,8 @@ RehearsesFrom order config device_list what out out' old new (Err (NotARun word)
 RehearsesFrom order config device_list what out out' old new (Err fault) =
     OnlyReads old new × (IsImagesFault config old.stored fault ⊎ IsUnlisted config device_list old fault)
 
--- over any files: the output's failure is counted where it is told, and any refusal but that and memory leaves it as it
--- was
+-- over any files: a reported failure of the output is counted, and any refusal but this and memory leaves the output as
+-- it was
 abbrev pub LeavesOutput : Result Bool Fault → (old new : Sink) → Type 0
 LeavesOutput (Ok all) old new = new.failures ≡ old.failures
 LeavesOutput (Err (Tool tool.Write)) old new = new.failures ≡ counted old.failures

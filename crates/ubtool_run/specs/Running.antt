@@ -1,5 +1,5 @@
--- What a whole program has done when it ends with a status, by what it answers to its words and what doing that comes
--- to. The statuses are ours.
+-- What a whole program has done when it ends with a status, by what it answers to its words and what is done for that.
+-- The statuses are ours.
 use Rattle.std.specs.Prelude.{◌≡◌, ◌⊎◌, ℕ, Bool, true, false, List, Option, Result, Ok, Err, string_bytes}
 use Rattle.clap.specs.Words.{Text}
 use Rattle.output.specs.Sink.{BrokeOff, Sink, Wrote}
@@ -12,8 +12,7 @@ use Rattle.ubtool_core.specs.declared.fault.Fault.{Fault}
 use Rattle.ubtool_run.specs.Faults.{CountsTold}
 use Rattle.ubtool_run.specs.declared.starting.StartError.{StartError}
 
--- What the files show at a moment: how often the device has failed, and, where they tell it, what
--- stands in them.
+-- What the files show at a moment: how often the device has failed, and what is in the files, if that is known.
 pub record FilesShown : Type 0 where
   pub faults : ℕ
   pub told : Option Told
@@ -31,14 +30,14 @@ pub record HasDone {Ask : Type 0} (Answers : List Text → Result Ask UseError �
   pub sound : after.faults ≡ before.faults
   pub does : Does ask before.told after.told outputs (Ok true)
 
--- a fault is told last, and with any other answer nothing is
+-- a fault is reported last, and with any other answer nothing is reported
 abbrev pub TellsLast : Result Bool Fault → Sink → Sink → Type 0
 TellsLast (Ok all) old new = new ≡ old
 TellsLast (Err fault) old new = Unit {0}
 
--- Status 1: the words ask for something; the answer is no, as of a variable that is missing, or it was refused,
--- which is told on the error output last. A failing file is told where one call failed, and no other answer is
--- given where one did.
+-- Status 1: the words ask for something. Either the answer is no, as for a missing variable; or it was refused, which
+-- is the last thing reported on the error output. A fault that says that a file failed is reported if one call on files
+-- failed, and only then.
 pub record HasRefused {Ask : Type 0} (Answers : List Text → Result Ask UseError → Type 0)
     (Does : Ask → Option Told → Option Told → Outputs → Result Bool Fault → Type 0)
     (words : List Text) (before after : FilesShown) (outputs : Outputs) : Type 0 where
@@ -51,12 +50,12 @@ pub record HasRefused {Ask : Type 0} (Answers : List Text → Result Ask UseErro
   pub told : TellsLast answer told_from outputs.err'
   pub does : Does ask before.told after.told (record outputs { err' = told_from }) answer
 
--- what is told where words are refused: what `clap` says, as it is, or its front where the output failed
+-- what is reported if words are refused: what `clap` says, as it is, or a prefix of it if the output failed
 abbrev pub Tells : UseError → Sink → Sink → Type 0
 Tells (Line text) old new = Wrote old new (string_bytes text) ⊎ BrokeOff old new (string_bytes text)
 Tells error old new = Unit {0}
 
--- Status 2: the words were refused; no file was touched and nothing printed.
+-- Status 2: the words were refused. No file was touched, and nothing was printed.
 pub record IsMisused {Ask : Type 0} (Answers : List Text → Result Ask UseError → Type 0)
     (words : List Text) (before after : FilesShown) (outputs : Outputs) : Type 0 where
   pub error : UseError
@@ -66,12 +65,12 @@ pub record IsMisused {Ask : Type 0} (Answers : List Text → Result Ask UseError
   pub output : outputs.out' ≡ outputs.out
   pub tells : Tells error outputs.err outputs.err'
 
--- the status of a program: the one that it came to, or 2 where it did not start
+-- the status with which a program ended, or 2 if it did not start
 abbrev pub EndsAs : Result ℕ StartError → ℕ → Type 0
 EndsAs (Ok came) status = status ≡ came
 EndsAs (Err error) status = status ≡ 2
 
--- the status of an answer, which leaves the error output as it is where there is no fault
+-- the status of an answer, which leaves the error output as it is if there is no fault
 abbrev pub Ends : Result Bool Fault → Sink → Sink → ℕ → Type 0
 Ends (Ok true) old new status = (status ≡ 0) × (new ≡ old)
 Ends (Ok false) old new status = (status ≡ 1) × (new ≡ old)

@@ -1,9 +1,9 @@
-//! What a program is built for, as its version tells.
+//! What a program is built for, as its version says.
 ghost use Rattle.std.specs.Prelude.{◌≡◌};
 ghost use Rattle.ubtool_run.specs.Builds.{build_text};
 
-/// The processor that a program is built for, and how it is linked. The program has no way to find this out when it
-/// runs, so each build names it.
+/// The processor for which a program is built, and how it is linked. The program cannot find this
+/// out when it runs, so each build names it.
 #[derive(Clone, Copy, Debug, PartialEq, Eq)]
 pub enum Build {
     /// For x86-64. The program loads the C library of the machine.
@@ -15,7 +15,8 @@ pub enum Build {
 }
 
 impl Build {
-    /// The words for it in the version: the processor, as `uname -m` has it, and how the program is linked.
+    /// The words for it in the version: the processor, as `uname -m` names it, and how the program
+    /// is linked.
     pub fn text(self) -> &'static str
         ensures { result.now ≡ build_text self }
     {

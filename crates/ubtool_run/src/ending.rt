@@ -1,4 +1,4 @@
-//! How the programs end: what is told of a refusal, and the status.
+//! How the programs end: what is reported of a refusal, and the status.
 ghost use Rattle.std.specs.Prelude.{◌≡◌, ◌⊎◌};
 ghost use Rattle.ubtool_run.specs.Running.{EndsAs, Ends, Tells};
 
@@ -9,7 +9,7 @@ use std::io::Write;
 use ubtool_cli::UseError;
 use ubtool_core::{Fault, ToolError, write_fault_of};
 
-/// Tells why the words of a program are refused. What `clap` says of them is written as it is.
+/// Reports why the words of a program are refused. What `clap` says of them is written as it is.
 pub fn refuse<E: Out>(err: &mut E, program: &str, error: &UseError)
     ensures { Tells error.now (E.sink err.old) (E.sink err.new) }
 {
@@ -21,7 +21,7 @@ pub fn refuse<E: Out>(err: &mut E, program: &str, error: &UseError)
     }
 }
 
-/// The status of an answer. A fault is told by one line.
+/// The status of an answer. Reports a fault in one line.
 pub fn status_of<E: Out>(err: &mut E, program: &str, answer: Result<bool, Fault>) -> u8
     ensures { Ends answer (E.sink err.old) (E.sink err.new) result }
 {
@@ -35,8 +35,8 @@ pub fn status_of<E: Out>(err: &mut E, program: &str, answer: Result<bool, Fault>
     }
 }
 
-/// Lets the output of a program go, with all that its buffer still holds, and gives its status. Where that fails and
-/// nothing else was told, it is told, and the status is 1.
+/// Flushes and drops the output of a program, and returns the program's status. If the flush fails
+/// and nothing was reported yet, reports it and returns 1.
 pub fn finish<W: Write + Drop, E: Out>(
     out: Buffered<W>,
     err: &mut Telling<E>,
@@ -53,8 +53,8 @@ pub fn finish<W: Write + Drop, E: Out>(
     status
 }
 
-/// Lets the error output of a program go. The status is the one that it came to, or 2 where it did not start, which is
-/// told.
+/// Flushes and drops the error output of a program. Returns the program's status, or 2 if it did
+/// not start, which is reported.
 pub fn end<W: Write + Drop>(
     mut err: Telling<Buffered<W>>,
     program: &str,

@@ -25,7 +25,7 @@ fn refusal_of(error: ToolError, what: EndingsAsk) -> Fault
     }
 }
 
-/// Tells how the runs of a variable of images end.
+/// Reports how the runs of a variable of images end.
 fn endings_of_images<O: Out>(
     alloc: Global,
     images: &Images,
@@ -54,8 +54,8 @@ fn endings_of_images<O: Out>(
     )
 }
 
-/// Tells how all runs of a variable end, of the images that a configuration names: they are read, then the device list,
-/// and then the lines are written.
+/// Reports how all runs of a variable end, for the images that a configuration names. Reads the
+/// images, then the device list, and then writes the lines.
 pub fn endings<F: Files, O: Out>(
     alloc: Global,
     files: &mut F,

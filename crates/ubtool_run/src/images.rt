@@ -11,7 +11,7 @@ use std::alloc::Global;
 use ubtool_core::Fault;
 use ubtool_files::Files;
 
-/// A single image, or the two copies of a redundant pair, and where they stand.
+/// A single image, or the two copies of a redundant pair, and their places.
 #[derive(Debug, Drop)]
 pub struct Images {
     /// The single image or the first copy.
@@ -35,7 +35,7 @@ impl Images {
     }
 }
 
-/// The places that a configuration's text names: that of a single image, or those of a pair.
+/// The places that a configuration's text names: one for a single image, or two for a pair.
 fn places_in(alloc: Global, text: &[u8]) -> Result<(Place, Option<Place>), Fault>
     ensures fault { IfErr result IsReadFault }
     ensures named { Names (places text.now) result }
@@ -50,7 +50,7 @@ fn places_in(alloc: Global, text: &[u8]) -> Result<(Place, Option<Place>), Fault
     Ok((first, places.next()))
 }
 
-/// The copy at the second place, where one is named.
+/// The copy at the second place, if one is named.
 fn read_second<F: Files>(
     alloc: Global,
     files: &mut F,
@@ -70,7 +70,8 @@ fn read_second<F: Files>(
     }
 }
 
-/// The images that a configuration names: its text is read first, then the first copy, then the second.
+/// Reads the images that a configuration names: its text first, then the first copy, then the
+/// second.
 pub fn read_images<F: Files>(alloc: Global, files: &mut F, config: String) -> Result<Images, Fault>
     ensures count { CountsTold (F.faults files.old) (F.faults files.new) result }
     ensures fault { IfErr result IsReadFault }

@@ -1,4 +1,4 @@
-//! What is asked for, done.
+//! Does what is asked for.
 ghost use Rattle.output.specs.Outputs.{outputs};
 ghost use Rattle.ubtool_run.specs.Performing.{Does, IsComplete};
 ghost use Rattle.ubtool_run.specs.Faults.{CountsTold};
@@ -17,8 +17,8 @@ use ubtool_cli::Ask;
 use ubtool_core::Fault;
 use ubtool_files::Files;
 
-/// Does what is asked for; a script of changes may be on `input`, and the version tells of `build`. The answer is false where a variable that was to be
-/// printed is missing.
+/// Does what is asked for. A script of changes may be on `input`, and the version names `build`.
+/// Returns false if a variable that was to be printed is missing.
 pub fn perform<R: Read, F: Files, O: Out, E: Out>(
     alloc: Global,
     build: Build,

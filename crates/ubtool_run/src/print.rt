@@ -48,9 +48,9 @@ fn print_images<O: Out, E: Out>(
     Ok(print_bytes(alloc, &images.first.bytes, second, order, &ask, out, err)?)
 }
 
-/// Prints the variables of the images that a configuration names: all of them, or those that are
-/// asked for, in this order. The answer is false where a name is missing. Without `header` the value
-/// of the one name is printed alone.
+/// Prints the variables of the images that a configuration names: all of them, or the ones that are
+/// asked for, in this order. Returns false if a name is missing. Without `header` only the value of
+/// the one name is printed.
 pub fn print<F: Files, O: Out, E: Out>(
     alloc: Global,
     files: &mut F,

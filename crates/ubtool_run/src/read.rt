@@ -1,4 +1,5 @@
-//! Reading what a call needs: texts, also the one on an input, and the copies that a configuration names.
+//! Reads what a call needs: texts, also the one on an input, and the copies that a configuration
+//! names.
 ghost use Rattle.std.specs.Prelude.{◌≡◌, IfErr, IfOk, string_bytes};
 ghost use Rattle.ubtool_files.specs.Told.{IfTold};
 ghost use Rattle.ubtool_run.specs.Faults.{CountsTold, IsReadFault};
@@ -10,16 +11,16 @@ use std::io::Read;
 use ubtool_core::Fault;
 use ubtool_files::{Files, LIMIT, ReadFault, read_up_to};
 
-/// A copy of an image, and where it stands.
+/// A copy of an image, and its place.
 #[derive(Debug, Drop)]
 pub struct StoredCopy {
-    /// Where the copy stands.
+    /// The place of the copy.
     pub place: Place,
     /// Its bytes.
     pub bytes: Vec<u8>,
 }
 
-/// The whole file at the path.
+/// Reads the whole file at the path.
 pub fn read_text<F: Files>(alloc: Global, files: &mut F, path: String) -> Result<Vec<u8>, Fault>
     ensures count { CountsTold (F.faults files.old) (F.faults files.new) result }
     ensures fault { IfErr result IsReadFault }
@@ -32,7 +33,7 @@ pub fn read_text<F: Files>(alloc: Global, files: &mut F, path: String) -> Result
     }
 }
 
-/// The whole text on an input, of at most `LIMIT` bytes. No more than one byte after them is read.
+/// Reads the whole text on an input, of at most `LIMIT` bytes. Reads at most one byte after them.
 pub fn read_input<R: Read>(alloc: Global, input: &mut R) -> Result<Vec<u8>, Fault>
     ensures { ReadsInput (R.remaining input.old) result }
 {
@@ -47,7 +48,7 @@ pub fn read_input<R: Read>(alloc: Global, input: &mut R) -> Result<Vec<u8>, Faul
     Ok(text)
 }
 
-/// The copy at a place.
+/// Reads the copy at a place.
 pub fn read_copy<F: Files>(alloc: Global, files: &mut F, place: Place) -> Result<StoredCopy, Fault>
     ensures count { CountsTold (F.faults files.old) (F.faults files.new) result }
     ensures place { IfOk result (λ copy. copy.place ≡ place) }

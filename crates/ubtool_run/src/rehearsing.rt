@@ -18,7 +18,7 @@ use ubtool_cli::{RehearseAsk, Wanted};
 use ubtool_core::{Fault, Finish, ToolError, WordForm, rehearse_bytes};
 use ubtool_files::Files;
 
-/// The word of a run that is given, if one is.
+/// The word of the one run that is asked for, if there is one.
 fn word_of(wanted: Wanted) -> Option<String>
     ensures { result ≡ word_of wanted }
 {
@@ -28,7 +28,7 @@ fn word_of(wanted: Wanted) -> Option<String>
     }
 }
 
-/// What a refusal of a rehearsal is told as.
+/// How a refusal of a rehearsal is reported.
 fn refusal_of(error: ToolError, what: RehearseAsk) -> Fault
     ensures { result ≡ refusal_of what error }
 {
@@ -39,7 +39,7 @@ fn refusal_of(error: ToolError, what: RehearseAsk) -> Fault
     }
 }
 
-/// The bytes of a text that may be there.
+/// The bytes of an optional text.
 fn bytes_if(text: &Option<String>) -> Option<&[u8]>
     ensures { option_bytes result ≡ option_map string_bytes text.now }
 {
@@ -49,7 +49,7 @@ fn bytes_if(text: &Option<String>) -> Option<&[u8]>
     }
 }
 
-/// The runs that are wanted, as the rehearsal takes them.
+/// The wanted runs, as the rehearsal takes them.
 fn wanted_bytes(wanted: &Wanted) -> ubtool_core::Wanted<'_>
     ensures bounds { bytes.bounds_of result ≡ bounds_of wanted.now }
     ensures wanted { bytes.wanted_of result ≡ wanted_of wanted.now }
@@ -102,8 +102,8 @@ fn rehearse_images<O: Out>(
     )
 }
 
-/// Rehearses a variable of the images that a configuration names: they are read, then the device list,
-/// and then the listing is written.
+/// Rehearses a variable of the images that a configuration names. Reads the images, then the device
+/// list, and then writes the listing.
 pub fn rehearse<F: Files, O: Out>(
     alloc: Global,
     files: &mut F,

@@ -29,8 +29,8 @@ fn edited_copy(
     Ok(set_bytes(alloc, &images.first.bytes, second, order, edit)?)
 }
 
-/// Which copy of the images is to be written after a change, and its bytes. The text of a script is
-/// read from its file, or from the input.
+/// Which copy of the images is to be written after a change, and its bytes. Reads the text of a
+/// script from its file, or from the input.
 fn changed_copy<R: Read, F: Files>(
     alloc: Global,
     input: &mut R,
@@ -63,7 +63,7 @@ fn changed_copy<R: Read, F: Files>(
     }
 }
 
-/// Where a copy of the images stands. A single image has one place.
+/// The place of a copy of the images. A single image has one place.
 fn place_of(images: Images, which: Which) -> Place
     ensures { IsPlaceOf which (copies images) (place_shown result) }
 {
@@ -74,7 +74,7 @@ fn place_of(images: Images, which: Which) -> Place
     }
 }
 
-/// Writes the bytes of a copy in its place, by one call.
+/// Writes the bytes of a copy at its place, in one call.
 fn write_copy<F: Files>(
     files: &mut F,
     images: Images,
@@ -92,9 +92,9 @@ fn write_copy<F: Files>(
     }
 }
 
-/// Changes the environment in the images that a configuration names: they are read, then the
-/// script, if there is one, from its file or from the input, and at last one copy is written. Of a pair
-/// that is not the current one.
+/// Changes the environment in the images that a configuration names. Reads the images, then the
+/// script, if there is one, from its file or from the input. At the end writes one copy; of a pair
+/// it is not the current one.
 pub fn set<R: Read, F: Files>(
     alloc: Global,
     input: &mut R,

@@ -1,4 +1,4 @@
-//! The help and the version, which the programs show alike.
+//! Shows the help and the version, which the programs do alike.
 ghost use Rattle.ubtool_run.specs.Performing.{Helps};
 ghost use Rattle.ubtool_run.specs.Builds.{line_of, version_line};
 
@@ -17,7 +17,7 @@ pub fn show_help<O: Out>(out: &mut O, text: &str) -> Result<bool, Fault>
     }
 }
 
-/// Writes what tells the version of a program: its name, the version, and these words on its build.
+/// Writes the version line of a program: its name, the version, and these words on its build.
 fn show_line<O: Out>(out: &mut O, program: &str, build: &str) -> Result<bool, Fault>
     ensures { Helps (line_of program.now build.now) (O.sink out.old) (O.sink out.new) result }
 {
@@ -35,7 +35,7 @@ fn show_line<O: Out>(out: &mut O, program: &str, build: &str) -> Result<bool, Fa
     }
 }
 
-/// Writes the line that tells the version of a program, and its build.
+/// Writes the line with the version of a program, and its build.
 pub fn show_version<O: Out>(out: &mut O, program: &str, build: Build) -> Result<bool, Fault>
     ensures { Helps (version_line program.now build) (O.sink out.old) (O.sink out.new) result }
 {

@@ -1,4 +1,4 @@
-//! What the programs begin with: the words that they are called by, and their outputs behind buffers.
+//! How the programs start: the words by which they are called, and their buffered outputs.
 ghost use Rattle.std.specs.Prelude.{◌≡◌, ◌≤◌, length, IfErr};
 ghost use Rattle.ubtool_run.specs.declared.starting.StartError.TheVariants.{Memory};
 
@@ -15,7 +15,7 @@ pub enum StartError {
     /// A word of the command line is not UTF-8.
     #[error("the words are no text")]
     NoText,
-    /// A growth was refused.
+    /// Memory ran out.
     #[error("out of memory")]
     Memory,
 }
@@ -28,10 +28,10 @@ impl From<AllocError> for StartError {
     }
 }
 
-/// An output behind a buffer, which asks it no more once it has failed.
+/// A buffered output. The buffer does not call the writer again after it has failed.
 pub type Buffered<W> = Over<BufWriter<UntilFailed<W>>>;
 
-/// Puts a buffer before a writer. Only want of memory refuses it.
+/// Puts a buffer before a writer. The only error is that memory ran out.
 pub fn buffered<W: Write + Drop>(alloc: Global, writer: W) -> Result<Buffered<W>, StartError>
     ensures { IfErr result (λ error. error ≡ Memory) }
 {
@@ -41,7 +41,8 @@ pub fn buffered<W: Write + Drop>(alloc: Global, writer: W) -> Result<Buffered<W>
     }
 }
 
-/// Moves what stands behind the last slash of a path to its front, and answers how long it is: 0 where it is no text.
+/// Moves what is after the last slash of a path to its start. Returns its length, or 0 if it is not
+/// text.
 fn moved_name(path: &mut [u8]) -> usize
     ensures { result ≤ length path.new }
 {
@@ -57,8 +58,8 @@ fn moved_name(path: &mut [u8]) -> usize
     }
 }
 
-/// The words of a call, with the name that stands at the end of the program's path in place of the path: what stands in
-/// front of it need not be text. A name that is none is empty.
+/// The words of a call, with the name at the end of the program's path in place of the path: what
+/// is before it need not be text. A name that is not text is empty.
 #[derive(Drop)]
 struct Call<'a, R> {
     rt: &'a R,
@@ -82,7 +83,8 @@ impl<R: Env> Env for Call<'_, R> {
     }
 }
 
-/// The words of the command line, the first of them the name that the program was called by, without its folder.
+/// The words of the command line. The first is the name by which the program was called, without
+/// its folder.
 pub fn words_of_call<R: Env + AllocGlobal>(rt: &R) -> Result<Vec<String>, StartError> {
     let args = match env::args(&(Call { rt }, rt.alloc())) {
         Ok(args) => args,

@@ -1,4 +1,4 @@
-//! An output that knows whether anything was told on it.
+//! An output that knows whether anything was written to it.
 
 use output::{Out, OutFault};
 
@@ -10,7 +10,7 @@ pub struct Telling<E> {
 }
 
 impl<E> Telling<E> {
-    /// The output, to which nothing was written so far.
+    /// The output, to which nothing was written yet.
     pub fn new(out: E) -> Self {
         Telling { out, told: false }
     }

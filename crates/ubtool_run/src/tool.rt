@@ -18,7 +18,7 @@ use ubtool_cli::{CalledAs, read_command};
 use ubtool_core::run_input;
 use ubtool_files::Files;
 
-/// The name in front of what is told of a refusal.
+/// The name before the report of a refusal.
 pub const PROGRAM: &str = "ubtool";
 
 /// Reads the words and does what they ask for.
@@ -52,11 +52,12 @@ fn run_words<S: AsStr, R: Read, F: Files, O: Out, E: Out>(
     }
 }
 
-/// The whole program, from what it was called as and its words to its status. Without words the single
-/// image on `input` is printed, its checksum little-endian. If the program was called as one of U-Boot's
-/// tools, the script of `-s -` is read from `input`. The version tells of `build`. The status is 0 where all was done, 1 where something
-/// was refused or a variable to be printed is missing, and 2 where the words were not understood. A fault
-/// is told on `err` by one line; where `err` fails, nothing more is written there.
+/// The whole program, from what it was called as and its words to its status. Without words it
+/// prints the single image on `input`, whose checksum is little-endian. If the program was called
+/// as one of U-Boot's tools, the script of `-s -` is read from `input`. The version names `build`.
+/// The status is 0 if all was done, 1 if something was refused or a variable to be printed is
+/// missing, and 2 if the words were not understood. A fault is reported on `err` in one line. If
+/// `err` fails, nothing more is written there.
 pub fn run_tool<S: AsStr, R: Read, F: Files, O: Out, E: Out>(
     alloc: Global,
     build: Build,

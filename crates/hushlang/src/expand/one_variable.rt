@@ -1,8 +1,8 @@
-//! One variable, for callers that have no store of them.
+//! One variable, for callers that have no store of variables.
 
 use crate::expand::Vars;
 
-/// One variable alone is set.
+/// Variables of which only one is set.
 #[derive(Clone, Copy)]
 pub struct OneVariable<'a> {
     /// The variable.

@@ -3,7 +3,7 @@ use Rattle.bootstore.specs.Inverse.{CanGoBack, KeepsOnce, frame_reach, up_to_mar
 use Rattle.bootstore.specs.Present.{moment_of}
 use Rattle.bootstore.proofs.inverse.undo_to_mark.Given as goal
 
--- the moments at the marks stay; with nothing kept nothing was undone
+-- the moments at the marks stay; if nothing is kept, nothing was undone
 abbrev pub invariant-loop-last : goal.invariant-loop-last
 invariant-loop-last l = record {
   can : CanGoBack l.present (frame_reach (reverse l.kept.items)) (reverse l.kept.items);

@@ -3,7 +3,7 @@ use Rattle.envimage.specs.Place.{places_left}
 use Rattle.text.specs.Lines.{lines_left}
 use Rattle.envimage.proofs.config.next_place_line.Given as goal
 
--- the lines passed over name no place
+-- the skipped lines name no place
 abbrev pub invariant-loop-number : goal.invariant-loop-number
 invariant-loop-number l = places_left l.lines ≡ places_left l.initial.lines
 

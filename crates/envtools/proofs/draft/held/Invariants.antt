@@ -6,7 +6,7 @@ use Rattle.envtools.specs.Drafting.{place_of, held}
 use Rattle.envtools.proofs.EnvLemmas.{seen}
 use Rattle.envtools.proofs.draft.held.Given as goal
 
--- the variables before the place are taken over, and there is room for those that are left
+-- the variables before this place were copied if they hold, and there is room for those that are left
 abbrev pub invariant-loop-at : goal.invariant-loop-at
 invariant-loop-at l = record {
   taken : seen l.variables.entries ≡ held (place_of l.places.entries) 0 (take (enumerate_count l.at-iterator) (seen l.fn.written.items));

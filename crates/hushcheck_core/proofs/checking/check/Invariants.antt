@@ -6,6 +6,6 @@ use Rattle.hushcheck_core.proofs.checking.check.Given as goal
 abbrev pub invariant-names : goal.invariant-names
 invariant-names l = Standing l.env (map (λ name. name.now) l.asked) l.names l.at l.report.text.items l.report.sound
 
--- the names that may still come, and those that wait for their turns
+-- the names that may still come, and the names that wait for their turns
 abbrev pub decreases-names : goal.decreases-names
 decreases-names l = left l.env (take l.at l.names) + (length l.names - l.at)

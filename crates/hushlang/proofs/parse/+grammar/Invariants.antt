@@ -3,7 +3,7 @@ use Rattle.hushlang.specs.TreesShown as view
 use Rattle.hushlang.specs.Parsing as spec
 use Rattle.hushlang.proofs.parse.+grammar.Given as goal
 
--- a command goes one level down, the others stay above the command that they read
+-- a command goes one level down; the other rules stay above the command that they read
 abbrev pub decreases-command : goal.decreases-command
 decreases-command l = l.depth * 8
 
@@ -37,7 +37,7 @@ decreases-loop_command l = l.depth * 8 + 7
 abbrev pub decreases-for_command : goal.decreases-for_command
 decreases-for_command l = l.depth * 8 + 7
 
--- what is read so far goes on to the whole, within as many turns as there are tokens
+-- what is read so far leads to the whole, within as many turns as there are tokens
 abbrev pub invariant-joined-joined : goal.invariant-joined-joined
 invariant-joined-joined l =
     (length l.tokens.tokens ≤ length l.fn.tokens.tokens)

@@ -5,7 +5,7 @@ use Rattle.hushlang.specs.Grammar.{up_to_equals, is_name}
 use Rattle.hushlang.proofs.Names.{found_behind}
 use Rattle.hushlang.proofs.words.is_assignment.Given as goal
 
--- the bytes at the front are a name, or there is none
+-- the bytes at the start are a name, or there is none
 abbrev pub invariant-parts : goal.invariant-parts
 invariant-parts l = (front : List ℕ)
     × (up_to_equals (parts_of l.fn.token) ≡ found_behind front (up_to_equals (parts_in (to_come l.parts))))

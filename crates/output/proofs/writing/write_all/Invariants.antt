@@ -2,7 +2,7 @@ use Rattle.std.proofs.Common.{◌≡◌, ℕ, List, ◌++◌, length}
 use Rattle.output.specs.Sink.{Wrote}
 use Rattle.output.proofs.writing.write_all.Given as goal
 
--- a front of the bytes was written, and the rest is left
+-- a prefix of the bytes was written, and the rest is left
 abbrev pub invariant-loop-rest : goal.invariant-loop-rest
 invariant-loop-rest g l =
     (front : List ℕ) × (l.bytes ≡ front ++ l.rest) × Wrote (g.O.Out.sink l.initial.out) (g.O.Out.sink l.out) front

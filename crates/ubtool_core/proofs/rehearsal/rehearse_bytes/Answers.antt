@@ -14,7 +14,7 @@ use Rattle.ubtool_core.specs.declared.error.ToolError.TheVariants.{Memory}
 use Rattle.ubtool_core.proofs.RehearsalLemmas.{image-env, rehearses-image, refused-image}
 use Rattle.ubtool_core.proofs.rehearsal.rehearse_bytes.Goals as goal
 
--- data without a fault is refused for want of memory alone
+-- data without a fault is refused only if memory runs out
 pub returns-in_err-env-clause-err : goal.returns-in_err-env-clause-err
 returns-in_err-env-clause-err g c =
     let second = option_copied c.args.second in

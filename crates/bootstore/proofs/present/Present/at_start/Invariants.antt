@@ -5,7 +5,7 @@ use Rattle.bootstore.specs.Table.{variables_of, KeepsNothing}
 use Rattle.bootstore.specs.Present.{moment_of}
 use Rattle.bootstore.proofs.present.Present.at_start.Given as goal
 
--- what is left, set after what was set, makes the environment
+-- setting what is left, after what was set, makes the environment
 abbrev pub invariant-loop-place : goal.invariant-loop-place
 invariant-loop-place l = record {
   environment : set_in_turn (variables_of l.present.environment) (drop l.place l.env) ≡ environment_of l.env;

@@ -5,7 +5,7 @@ use Rattle.envimage.specs.Entries.{pairs_left}
 use Rattle.envtools.specs.Environment.{assigned, env_of}
 use Rattle.envtools.proofs.env.Env.from_checked.Given as goal
 
--- the variables that are left make the whole environment
+-- adding the variables that are left makes the whole environment
 abbrev pub invariant-loop-name : goal.invariant-loop-name
 invariant-loop-name l = record {
   whole : fold (λ env p. assigned env p.0 p.1) l.env (pairs_left l.name-iterator) ≡ env_of (pairs_of l.body);

@@ -4,7 +4,7 @@ use Rattle.std.specs.Cmp.Lexicographic.{slice_cmp, nat_list_cmp_total}
 use Rattle.std.specs.FinMap.{empty, insert, get, get-insert, get-empty}
 use Rattle.hushlang.proofs.expand.one_variable.OneVariableVars.get.Goals as goal
 
--- the value where the names are equal
+-- the value, if the names are equal
 one_variable : (name value asked : List ℕ) (same : Bool) → is_eq (slice_cmp nat_cmp asked name) ≡ same → get (insert (empty {K = List ℕ} {X = List ℕ} {R = slice_cmp nat_cmp}) name value) asked ≡ cond same (Some value) None
 one_variable name value asked same e =
     get-insert nat_list_cmp_total empty name value asked ∙ ap (λ same. cond same (Some value) (get (empty {R = slice_cmp nat_cmp}) asked)) e ∙ ap (cond same (Some value)) (get-empty (slice_cmp nat_cmp) asked)
