@@ -54,7 +54,7 @@ _ubtool() {
         *-printenv) options='-c --config --big-endian -l --lock -n --noheader -h --help -V --version' ;;
         *-setenv) options='-c --config --big-endian -l --lock -s --script -h --help -V --version' ;;
         *-rehearse)
-            options='-c --config --big-endian -d --device-list -b --variable --devices --steps --word --after --limit'
+            options='-c --config --big-endian -d --device-list -b --variable --devices --steps --word --failures --after --limit'
             options+=' -h --help -V --version'
             ;;
         *-endings)
@@ -77,7 +77,7 @@ _ubtool() {
             mapfile -t COMPREPLY < <(compgen -d -- "$word")
             return
             ;;
-        --devices | --steps | --word | --after | --limit | --states) return ;;
+        --devices | --steps | --word | --failures | --after | --limit | --states) return ;;
     esac
     if [[ $word == -* && -n $options ]]; then
         words=$options

@@ -60,6 +60,7 @@ complete -c ubtool -n $runs -l steps -x -d 'At most so many steps a run'
 
 set -l rehearse '__fish_seen_subcommand_from rehearse'
 complete -c ubtool -n $rehearse -l word -x -d 'Write the run of a word alone'
+complete -c ubtool -n $rehearse -l failures -x -d 'The runs in which at most so many device commands fail'
 complete -c ubtool -n $rehearse -l after -x -d 'Begin after the run of a word'
 complete -c ubtool -n $rehearse -l limit -x -d 'At most so many records'
 complete -c ubtool -n '__fish_seen_subcommand_from endings' -l states -x -d 'At most so many states'

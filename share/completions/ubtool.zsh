@@ -54,6 +54,7 @@ _ubtool() {
                 rehearse)
                     _arguments -S $common $runs \
                         '--word[write the run of a word alone]:word: ' \
+                        '--failures[the runs in which at most so many device commands fail]:number: ' \
                         '--after[begin after the run of a word]:word: ' \
                         '--limit[at most so many records]:number: ' \
                         '*: :_ubtool_names'

@@ -1,10 +1,11 @@
 -- What follows a run in the list of all runs.
-use Rattle.std.proofs.Common.{ℕ, zero, suc, true, false, List, [], ◌∷◌, ◌++◌, length, Option, Some, None, option_map, refl, sym, ap, subst, ◌∙◌, ◌≡◌, ◌≢◌, inl, inr, ◌≤◌, append_assoc, arith}
+use Rattle.std.proofs.Common.{ℕ, zero, suc, Bool, true, false, cond, List, [], ◌∷◌, ◌++◌, length, Option, Some, None, option_map, refl, sym, ap, subst, ◌∙◌, ◌≡◌, ◌≢◌, inl, inr, ◌≤◌, append_assoc, arith}
 use Rattle.std.specs.Prelude.{⊤}
+use Rattle.std.proofs.Math.Dec.{leb-zero, leb-suc-suc}
 use Rattle.std.proofs.lemmas.Bool.{false≢true}
-use Rattle.rehearse.specs.Outcomes.{OutcomeWord, Outcome, Success, Failure, Run, Long, is_run_kind, words, word_eq, comes_before, after, common_prefix, Short, turned, has_success, beyond, runs_within, first_run, first_from, IsChoice}
-use Rattle.rehearse.proofs.OrderOfWords.{AreOrdered, Before, ordered-filter, words_ordered}
-use Rattle.rehearse.proofs.Choice.{Kinds, next_run, IsFollowed, followed_by, begins_with_first}
+use Rattle.rehearse.specs.Outcomes.{OutcomeWord, Outcome, Success, Failure, Run, Long, is_run_kind, is_within, allows, one_less, words, word_eq, comes_before, after, common_prefix, Short, turned, has_success, beyond, runs_within, first_run, first_from, IsChoice}
+use Rattle.rehearse.proofs.OrderOfWords.{AreOrdered, Before, few_ordered}
+use Rattle.rehearse.proofs.Choice.{Kinds, few_within, next_run, IsFollowed, followed_by, begins_with_first}
 
 -- u is none of the words
 abbrev pub Absent : OutcomeWord → List OutcomeWord → Type 0
@@ -40,8 +41,8 @@ AreOrdered-AreDistinct [] h = tt
 AreOrdered-AreDistinct (w ∷ ws) h = (Before-Absent w ws h.0, AreOrdered-AreDistinct ws h.1)
 
 -- no run stands twice
-pub runs_distinct : (kind : Kinds) (n : ℕ) → AreDistinct (runs_within kind n)
-runs_distinct kind n = AreOrdered-AreDistinct (runs_within kind n) (ordered-filter (λ w. is_run_kind (kind w)) (words n) (words_ordered n))
+pub runs_distinct : (most : Option ℕ) (kind : Kinds) (n : ℕ) → AreDistinct (few_within most kind n)
+runs_distinct most kind n = AreOrdered-AreDistinct (few_within most kind n) (few_ordered most kind n)
 
 pub Absent_at : (w u : OutcomeWord) (a b : List OutcomeWord) → Absent w (a ++ u ∷ b) → word_eq w u ≡ false
 Absent_at w u [] b h = h.0
@@ -55,48 +56,72 @@ after_at u (v ∷ a) b h = let e = Absent_at v u a b h.0 in rw e (after_at u a b
 pub after_in : (u : OutcomeWord) (ws a b : List OutcomeWord) → ws ≡ a ++ u ∷ b → AreDistinct ws → after u ws ≡ b
 after_in u ws a b e h = subst (λ (vs : List OutcomeWord). after u vs ≡ b) (sym e) (after_at u a b (subst AreDistinct e h))
 
+-- what stands after a word stands at the end
+after_front : (b : Bool) (v : OutcomeWord) (vs rest : List OutcomeWord) → (front : List OutcomeWord) × (vs ≡ front ++ rest) → (front : List OutcomeWord) × (v ∷ vs ≡ front ++ cond b vs rest)
+after_front true v vs rest h = (v ∷ [], refl)
+after_front false v vs rest h = (v ∷ h.0, ap (λ (us : List OutcomeWord). v ∷ us) h.1)
+
+pub after_ends : (w : OutcomeWord) (ws : List OutcomeWord) → (front : List OutcomeWord) × (ws ≡ front ++ after w ws)
+after_ends w [] = ([], refl)
+after_ends w (v ∷ vs) = after_front (word_eq v w) v vs (after w vs) (after_ends w vs)
+
 -- the first run stands first
-pub runs_begin : (kind : Kinds) (n : ℕ) → IsChoice n kind → runs_within kind n ≡ first_run kind n ∷ after (first_run kind n) (runs_within kind n)
-runs_begin kind n c =
-    let t = begins_with_first kind n c in
-    let e = after_in (first_run kind n) (runs_within kind n) [] t.0 t.1 (runs_distinct kind n) in
+pub runs_begin : (most : Option ℕ) (kind : Kinds) (n : ℕ) → IsChoice n kind → few_within most kind n ≡ first_run kind n ∷ after (first_run kind n) (few_within most kind n)
+runs_begin most kind n c =
+    let t = begins_with_first most kind n c in
+    let e = after_in (first_run kind n) (few_within most kind n) [] t.0 t.1 (runs_distinct most kind n) in
     t.1 ∙ ap (λ (ws : List OutcomeWord). first_run kind n ∷ ws) (sym e)
 
--- a run without a success is the last
-pub none_follows : (kind : Kinds) (n : ℕ) → IsChoice n kind → (u : OutcomeWord) → kind u ≡ Run → turned u ≡ None → after u (runs_within kind n) ≡ []
-none_follows kind n c u r e =
-    let f = subst (λ (t : Option OutcomeWord). IsFollowed u (option_map (first_from kind n) t) (runs_within kind n)) e (followed_by kind n c u r) in
-    after_in u (runs_within kind n) f.0 [] f.1 (runs_distinct kind n)
+-- a run of which no success may fail is the last
+pub none_follows : (most : Option ℕ) (kind : Kinds) (n : ℕ) → IsChoice n kind → (u : OutcomeWord) → kind u ≡ Run → is_within most u ≡ true → turned most u ≡ None → after u (few_within most kind n) ≡ []
+none_follows most kind n c u r few e =
+    let f = subst (λ (t : Option OutcomeWord). IsFollowed u (option_map (first_from kind n) t) (few_within most kind n)) e (followed_by most kind n c u r few) in
+    after_in u (few_within most kind n) f.0 [] f.1 (runs_distinct most kind n)
 
--- the run after u is the first that begins with u cut after its last success, which became a failure
-pub follows : (kind : Kinds) (n : ℕ) → IsChoice n kind → (u p : OutcomeWord) → kind u ≡ Run → turned u ≡ Some p → after u (runs_within kind n) ≡ first_from kind n p ∷ after (first_from kind n p) (runs_within kind n)
-follows kind n c u p r e =
+-- the run after u is the first that begins with u cut after its last success that may fail, which became a failure
+pub follows : (most : Option ℕ) (kind : Kinds) (n : ℕ) → IsChoice n kind → (u p : OutcomeWord) → kind u ≡ Run → is_within most u ≡ true → turned most u ≡ Some p → after u (few_within most kind n) ≡ first_from kind n p ∷ after (first_from kind n p) (few_within most kind n)
+follows most kind n c u p r few e =
     let v = first_from kind n p in
-    let f = subst (λ (t : Option OutcomeWord). IsFollowed u (option_map (first_from kind n) t) (runs_within kind n)) e (followed_by kind n c u r) in
-    let one = after_in u (runs_within kind n) f.0 (v ∷ f.1) f.2 (runs_distinct kind n) in
-    let two = after_in v (runs_within kind n) (f.0 ++ u ∷ []) f.1 (f.2 ∙ sym (append_assoc f.0 (u ∷ []) (v ∷ f.1))) (runs_distinct kind n) in
+    let f = subst (λ (t : Option OutcomeWord). IsFollowed u (option_map (first_from kind n) t) (few_within most kind n)) e (followed_by most kind n c u r few) in
+    let one = after_in u (few_within most kind n) f.0 (v ∷ f.1) f.2 (runs_distinct most kind n) in
+    let two = after_in v (few_within most kind n) (f.0 ++ u ∷ []) f.1 (f.2 ∙ sym (append_assoc f.0 (u ∷ []) (v ∷ f.1))) (runs_distinct most kind n) in
     one ∙ ap (λ (ws : List OutcomeWord). v ∷ ws) (sym two)
 
--- a run is followed by another exactly where it holds a success
-turned-success : (u : OutcomeWord) → has_success u ≡ false → turned u ≡ None
-turned-success [] h = refl
-turned-success (Success ∷ u) h = absurd (let e = h in cc)
-turned-success (Failure ∷ u) h = let e = turned-success u h in rw e refl
+-- ---- a run is followed by another exactly where one of its successes may fail
 
-success_turned : (t : Option OutcomeWord) → (p : OutcomeWord) × (elim t [ Some v ↦ Some (Success ∷ v) | None ↦ Some (Failure ∷ []) ] ≡ Some p)
-success_turned (Some v) = (Success ∷ v, refl)
-success_turned None = (Failure ∷ [], refl)
+-- where no failure may be, none may behind
+none_allowed : (most : Option ℕ) → allows most 0 ≡ false → one_less most ≡ most
+none_allowed None h = absurd (let e = h in cc)
+none_allowed (Some zero) h = refl
+none_allowed (Some (suc most)) h = absurd (let e = sym h ∙ leb-suc-suc 0 most ∙ leb-zero most in cc)
 
-has-turned : (u : OutcomeWord) → has_success u ≡ true → (p : OutcomeWord) × (turned u ≡ Some p)
-has-turned [] h = absurd (let e = h in cc)
-has-turned (Success ∷ u) h = success_turned (turned u)
-has-turned (Failure ∷ u) h = let ih = has-turned u h in (Failure ∷ ih.0, ap (option_map (λ v. Failure ∷ v)) ih.1)
+map_none : (t : Option OutcomeWord) → t ≡ None → option_map (λ v. Failure ∷ v) t ≡ None
+map_none t e = ap (option_map (λ v. Failure ∷ v)) e
 
-pub none_without_success : (kind : Kinds) (n : ℕ) → IsChoice n kind → (u : OutcomeWord) → kind u ≡ Run → has_success u ≡ false → after u (runs_within kind n) ≡ []
-none_without_success kind n c u r h = none_follows kind n c u r (turned-success u h)
+pub turned_none : (most : Option ℕ) (u : OutcomeWord) → allows most 0 ≡ false → turned most u ≡ None
+turned_none most [] h = refl
+turned_none most (Success ∷ u) h = let ih = turned_none most u h in rw (ih, h) refl
+turned_none most (Failure ∷ u) h = map_none (turned (one_less most) u) (ap (λ (m : Option ℕ). turned m u) (none_allowed most h) ∙ turned_none most u h)
 
-pub one_with_success : (kind : Kinds) (n : ℕ) → IsChoice n kind → (u : OutcomeWord) → kind u ≡ Run → has_success u ≡ true → after u (runs_within kind n) ≢ []
-one_with_success kind n c u r h e = let t = has-turned u h in let f = follows kind n c u t.0 r t.1 in (let k = sym e ∙ f in cc)
+turned-success : (most : Option ℕ) (u : OutcomeWord) → has_success most u ≡ false → turned most u ≡ None
+turned-success most [] h = refl
+turned-success most (Success ∷ u) h = turned_none most (Success ∷ u) h
+turned-success most (Failure ∷ u) h = map_none (turned (one_less most) u) (turned-success (one_less most) u h)
+
+success_turned : (may : Bool) (t : Option OutcomeWord) → may ≡ true → (p : OutcomeWord) × (elim t [ Some v ↦ Some (Success ∷ v) | None ↦ cond may (Some (Failure ∷ [])) None ] ≡ Some p)
+success_turned may (Some v) h = (Success ∷ v, refl)
+success_turned may None h = (Failure ∷ [], rw h refl)
+
+has-turned : (most : Option ℕ) (u : OutcomeWord) → has_success most u ≡ true → (p : OutcomeWord) × (turned most u ≡ Some p)
+has-turned most [] h = absurd (let e = h in cc)
+has-turned most (Success ∷ u) h = success_turned (allows most 0) (turned most u) h
+has-turned most (Failure ∷ u) h = let ih = has-turned (one_less most) u h in (Failure ∷ ih.0, ap (option_map (λ v. Failure ∷ v)) ih.1)
+
+pub none_without_success : (most : Option ℕ) (kind : Kinds) (n : ℕ) → IsChoice n kind → (u : OutcomeWord) → kind u ≡ Run → is_within most u ≡ true → has_success most u ≡ false → after u (few_within most kind n) ≡ []
+none_without_success most kind n c u r few h = none_follows most kind n c u r few (turned-success most u h)
+
+pub one_with_success : (most : Option ℕ) (kind : Kinds) (n : ℕ) → IsChoice n kind → (u : OutcomeWord) → kind u ≡ Run → is_within most u ≡ true → has_success most u ≡ true → after u (few_within most kind n) ≢ []
+one_with_success most kind n c u r few h e = let t = has-turned most u h in let f = follows most kind n c u t.0 r few t.1 in (let k = sym e ∙ f in cc)
 
 -- no run is a prefix of another, and none is longer than the bound
 pub no_prefix : (kind : Kinds) (n : ℕ) → IsChoice n kind → (u : OutcomeWord) (d : Outcome) (v : OutcomeWord) → kind u ≡ Run → kind (u ++ d ∷ v) ≡ Long
@@ -120,8 +145,8 @@ stands_of u None ws f d = (f.0, f.1 ∙ ap (λ (b : List OutcomeWord). f.0 ++ u 
 stands_of u (Some v) ws f d = (f.0, f.2 ∙ ap (λ (b : List OutcomeWord). f.0 ++ u ∷ b) (sym (after_in u ws f.0 (v ∷ f.1) f.2 d)))
 
 -- each run stands in the list, before what follows it
-pub run_stands : (kind : Kinds) (n : ℕ) → IsChoice n kind → (u : OutcomeWord) → kind u ≡ Run → (front : List OutcomeWord) × (runs_within kind n ≡ front ++ u ∷ after u (runs_within kind n))
-run_stands kind n c u r = stands_of u (next_run kind n u) (runs_within kind n) (followed_by kind n c u r) (runs_distinct kind n)
+pub run_stands : (most : Option ℕ) (kind : Kinds) (n : ℕ) → IsChoice n kind → (u : OutcomeWord) → kind u ≡ Run → is_within most u ≡ true → (front : List OutcomeWord) × (few_within most kind n ≡ front ++ u ∷ after u (few_within most kind n))
+run_stands most kind n c u r few = stands_of u (next_run most kind n u) (few_within most kind n) (followed_by most kind n c u r few) (runs_distinct most kind n)
 
 -- two runs part where an outcome is asked for
 pub part_where_asked : (kind : Kinds) (n : ℕ) → IsChoice n kind → (u v : OutcomeWord) → kind u ≡ Run → kind v ≡ Run → u ≢ v → kind (common_prefix u v) ≡ Short

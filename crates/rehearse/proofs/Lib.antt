@@ -5,6 +5,7 @@ pub mod Following
 pub mod Keeping
 pub mod TaskChoices
 pub mod StepLemmas
+pub mod FewFailures
 pub mod OrderOfWords
 pub mod Growing
 pub mod BoundLemmas
@@ -34,3 +35,4 @@ mod ListedExamples
 mod RunningExamples
 mod EdgeExamples
 mod BoundExamples
+mod FailuresExamples

@@ -218,7 +218,7 @@ escaped_bytes : listed (bootcmd_among usual ((codes "bootcmd", codes "echo -n \"
 unfolding listed_along ends_along
 escaped_bytes = along 0 _ _ _ _ refl refl
 
-not_set : task_of usual [] (codes "q") ≡ None
+not_set : task_of usual None [] (codes "q") ≡ None
 not_set = refl
 
 -- ---- conditions and loops
@@ -237,7 +237,7 @@ numbers = along 0 _ _ _ _ refl refl
 
 arms : listed (bootcmd usual (codes "if test -e mmc 0:1 /a; then echo y; elif load x; then echo l; else exit 7; fi")) z None ≡ codes "run 0\ndev 0 test -e mmc 0:1 /a\ntext y\\n\nunset z\nend 0\nrun 10\ndev 1 test -e mmc 0:1 /a\ndev 0 load x\ntext l\\n\nunset z\nend 0\nrun 11\ndev 1 test -e mmc 0:1 /a\ndev 1 load x\nunset z\nend 7\ndone\n"
 unfolding listed_along ends_along
-arms = along 2 _ _ _ _ refl refl
+arms = along 2 (bootcmd usual (codes "if test -e mmc 0:1 /a; then echo y; elif load x; then echo l; else exit 7; fi")) z None _ refl refl
 
 until_loaded : listed (bootcmd (limits only_load 2 10000) (codes "until load; do echo n; done")) z None ≡ codes "run 0\ndev 0 load\nunset z\nend 0\nrun 10\ndev 1 load\ndev 0 load\ntext n\\n\nunset z\nend 0\nrun 11\ndev 1 load\ndev 1 load\ntext n\\nn\\n\nunset z\ncut devices\ndone\n"
 unfolding listed
@@ -256,7 +256,7 @@ no_script = along 0 _ _ _ _ refl refl
 -- a value that is doubled until a command's words are too many bytes
 doubled_until_too_large : listed (bootcmd usual (codes "setenv a 0123456789abcdef; while true; do setenv a $a$a; done")) z None ≡ codes "run .\nunset z\nstop size\ndone\n"
 unfolding listed_along ends_along
-doubled_until_too_large = along 0 _ _ _ _ refl refl
+doubled_until_too_large = along 0 (bootcmd usual (codes "setenv a 0123456789abcdef; while true; do setenv a $a$a; done")) z None _ refl refl
 
 -- and how long it then is
 doubled_length : option_map length (get (state_of (run_on (bootcmd usual (codes "setenv a 0123456789abcdef; while true; do setenv a $a$a; done")) [])).memory.environment (codes "a")) ≡ Some 32768
@@ -265,7 +265,7 @@ doubled_length = refl
 
 doubled_in_assignment : listed (bootcmd usual (codes "x=0123456789abcdef; while true; do x=$x$x; done")) z None ≡ codes "run .\nunset z\nstop size\ndone\n"
 unfolding listed_along ends_along
-doubled_in_assignment = along 0 _ _ _ _ refl refl
+doubled_in_assignment = along 0 (bootcmd usual (codes "x=0123456789abcdef; while true; do x=$x$x; done")) z None _ refl refl
 
 -- ---- many runs
 
@@ -284,8 +284,8 @@ nested levels = bootcmd (limits only_load 16 100) (times levels (codes "if true;
 
 deepest : listed (nested 64) z None ≡ codes "run .\ntext x\\n\nunset z\nend 0\ndone\n"
 unfolding listed_along ends_along
-deepest = along 0 _ _ _ _ refl refl
+deepest = along 0 (nested 64) z None _ refl refl
 
 too_deep : listed (nested 65) z None ≡ codes "run .\nunset z\nstop syntax bootcmd\ndone\n"
 unfolding listed_along ends_along
-too_deep = along 0 _ _ _ _ refl refl
+too_deep = along 0 (nested 65) z None _ refl refl

@@ -7,7 +7,8 @@ use Rattle.rehearse.specs.Outcomes.{OutcomeWord, Success, Failure, after, word_e
 use Rattle.rehearse.specs.State.{Text}
 use Rattle.rehearse.specs.Listing.{listing, record_of, line, last_of, spelled, outcome_digit}
 use Rattle.rehearse.specs.Runs.{Task, kind, runs, rest}
-use Rattle.rehearse.proofs.Following.{AreDistinct, runs_distinct, after_in}
+use Rattle.rehearse.proofs.Following.{AreDistinct, after_in, after_ends}
+use Rattle.rehearse.proofs.TaskChoices.{task_distinct}
 
 -- the first k words, of which the last is known
 taken_last : (k : ℕ) (w : OutcomeWord) (ws : List OutcomeWord) → 0 < k → k ≤ length ws → (c : List OutcomeWord) × (take k ws ≡ c ++ last_of w (take k ws) ∷ [])
@@ -143,15 +144,6 @@ pages_at false written all front ws limit page w t d e h k =
 pub pages_text : (written : OutcomeWord → Text) (all front ws : List OutcomeWord) (limit : ℕ) (page : Text) (w : OutcomeWord) → AreDistinct all → all ≡ front ++ ws → 0 < limit → listing written ws (Some limit) ≡ page ++ line (codes "more " ++ spelled w) → page ++ listing written (after w all) None ≡ listing written ws None
 pages_text written all front ws limit page w d e h k = pages_at (nat_le (length ws) limit) written all front ws limit page w refl d e h k
 
--- what stands after a word stands at the end
-after_front : (b : Bool) (v : OutcomeWord) (vs rest : List OutcomeWord) → (front : List OutcomeWord) × (vs ≡ front ++ rest) → (front : List OutcomeWord) × (v ∷ vs ≡ front ++ cond b vs rest)
-after_front true v vs rest h = (v ∷ [], refl)
-after_front false v vs rest h = (v ∷ h.0, ap (λ (us : List OutcomeWord). v ∷ us) h.1)
-
-pub after_ends : (w : OutcomeWord) (ws : List OutcomeWord) → (front : List OutcomeWord) × (ws ≡ front ++ after w ws)
-after_ends w [] = ([], refl)
-after_ends w (v ∷ vs) = after_front (word_eq v w) v vs (after w vs) (after_ends w vs)
-
 -- a listing ends in `more` exactly where words are left out
 more_left : (b : Bool) (written : OutcomeWord → Text) (ws : List OutcomeWord) (limit : ℕ) → nat_le (length ws) limit ≡ b → (page : Text) (w : OutcomeWord) → flat_map written (take limit ws) ++ line (elim b [ true ↦ codes "done" | false ↦ codes "more " ++ spelled (last_of [] (take limit ws)) ]) ≡ page ++ line (codes "more " ++ spelled w) → limit < length ws
 more_left true written ws limit t page w e = absurd (done_or_more (flat_map written (take limit ws)) page w e)
@@ -166,7 +158,7 @@ more_is_left task names ws limit = (λ h. more_left (nat_le (length ws) limit) (
 
 -- the laws of pages
 pub pages_of_runs : (task : Task) (names : List Text) (limit : ℕ) (page : Text) (w : OutcomeWord) → 0 < limit → listing (record_of task names) (runs task) (Some limit) ≡ page ++ line (codes "more " ++ spelled w) → page ++ listing (record_of task names) (rest task w) None ≡ listing (record_of task names) (runs task) None
-pages_of_runs task names limit page w h e = pages_text (record_of task names) (runs task) [] (runs task) limit page w (runs_distinct (kind task) task.limits.device_bound) refl h e
+pages_of_runs task names limit page w h e = pages_text (record_of task names) (runs task) [] (runs task) limit page w (task_distinct task) refl h e
 
 pub pages_of_rest : (task : Task) (names : List Text) (u : OutcomeWord) (limit : ℕ) (page : Text) (w : OutcomeWord) → 0 < limit → listing (record_of task names) (rest task u) (Some limit) ≡ page ++ line (codes "more " ++ spelled w) → page ++ listing (record_of task names) (rest task w) None ≡ listing (record_of task names) (rest task u) None
-pages_of_rest task names u limit page w h e = let f = after_ends u (runs task) in pages_text (record_of task names) (runs task) f.0 (rest task u) limit page w (runs_distinct (kind task) task.limits.device_bound) f.1 h e
+pages_of_rest task names u limit page w h e = let f = after_ends u (runs task) in pages_text (record_of task names) (runs task) f.0 (rest task u) limit page w (task_distinct task) f.1 h e

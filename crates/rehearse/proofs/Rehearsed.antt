@@ -2,12 +2,12 @@
 use Rattle.std.proofs.Common.{◌≡◌, ℕ, zero, suc, ◌&&◌, Bool, true, false, List, [], ◌∷◌, ◌++◌, Option, Some, None, codes, refl, ap, ◌∙◌, map, take}
 use Rattle.std.specs.Fmt.{digits}
 use Rattle.hushlang.specs.Expansion.{fields, joined, atoms}
-use Rattle.rehearse.specs.Outcomes.{OutcomeWord, WordKind, Run, Short, Long, is_run_kind, turned, first_run, first_from}
+use Rattle.rehearse.specs.Outcomes.{OutcomeWord, WordKind, Run, Short, Long, is_run_kind, is_within, turned, first_run, first_from}
 use Rattle.rehearse.specs.Trees.{tree_of}
 use Rattle.rehearse.specs.State.{Text, Variables}
 use Rattle.rehearse.specs.DeviceList.{Devices, only}
 use Rattle.rehearse.specs.Execution.{Limits, Ending, End, no_effect}
-use Rattle.rehearse.specs.Runs.{Task, run_on, state_of, ending_of, kind, runs, rest, work}
+use Rattle.rehearse.specs.Runs.{Task, run_on, state_of, ending_of, kind, runs, IsListed, rest, work}
 use Rattle.rehearse.specs.Listing.{listing, record_of}
 use Rattle.rehearse.proofs.TaskChoices.{task_begins, task_ends, task_goes_on}
 
@@ -20,7 +20,7 @@ limits devices device_bound step_bound = record { devices = devices; device_boun
 
 -- the rehearsal of a text as `bootcmd`, among other variables, which stand in byte order before and behind it
 abbrev pub bootcmd_among : Limits → Variables → Text → Task
-bootcmd_among s environment text = record { limits = s; environment = environment; name = codes "bootcmd"; text = text }
+bootcmd_among s environment text = record { limits = s; environment = environment; name = codes "bootcmd"; text = text; failures = None }
 
 abbrev pub bootcmd : Limits → Text → Task
 bootcmd s text = bootcmd_among s ((codes "bootcmd", text) ∷ []) text
@@ -81,36 +81,45 @@ letters (suc n) = 97 ∷ letters n
 abbrev pub begins : Task → OutcomeWord
 begins task = first_run (kind task) task.limits.device_bound
 
+-- the run that follows where u is turned into p
+abbrev pub begun_by : Task → OutcomeWord → OutcomeWord
+begun_by task p = first_from (kind task) task.limits.device_bound p
+
 -- the runs behind u, at most n of them
 abbrev pub followers : ℕ → Task → OutcomeWord → List OutcomeWord
 followers zero task u = []
-followers (suc n) task u = elim (turned u) [ None ↦ [] | Some p ↦ first_from (kind task) task.limits.device_bound p ∷ followers n task (first_from (kind task) task.limits.device_bound p) ]
+followers (suc n) task u = elim (turned task.failures u) [ None ↦ [] | Some p ↦ begun_by task p ∷ followers n task (begun_by task p) ]
 
--- whether u is a run, and has no more runs behind it
+-- whether u is listed
+abbrev pub is_listed : Task → OutcomeWord → Bool
+is_listed task u = is_run_kind (kind task u) && is_within task.failures u
+
+-- whether u is listed, and has no more runs behind it
 abbrev pub are_all : ℕ → Task → OutcomeWord → Bool
-are_all zero task u = is_run_kind (kind task u) && elim (turned u) [ None ↦ true | Some p ↦ false ]
-are_all (suc n) task u = is_run_kind (kind task u) && elim (turned u) [ None ↦ true | Some p ↦ are_all n task (first_from (kind task) task.limits.device_bound p) ]
+are_all zero task u = is_listed task u && elim (turned task.failures u) [ None ↦ true | Some p ↦ false ]
+are_all (suc n) task u = is_listed task u && elim (turned task.failures u) [ None ↦ true | Some p ↦ are_all n task (begun_by task p) ]
 
-is_run : (k : WordKind) (b : Bool) → (is_run_kind k && b) ≡ true → (k ≡ Run) × (b ≡ true)
-is_run Run b e = (refl, e)
-is_run Short b e = cc
-is_run Long b e = cc
+is_run : (task : Task) (u : OutcomeWord) (k : WordKind) (few b : Bool) → kind task u ≡ k → is_within task.failures u ≡ few → ((is_run_kind k && few) && b) ≡ true → IsListed task u × (b ≡ true)
+is_run task u Run true b is e h = (record { run = is; few = e }, h)
+is_run task u Run false b is e h = absurd (let f = h in cc)
+is_run task u Short few b is e h = absurd (let f = h in cc)
+is_run task u Long few b is e h = absurd (let f = h in cc)
 
 rest-followers : (n : ℕ) (task : Task) (u : OutcomeWord) → are_all n task u ≡ true → rest task u ≡ followers n task u
-rest-followers zero task u e = by (turned u) refl e
+rest-followers zero task u e = by (turned task.failures u) refl e
   where
-    by : (t : Option OutcomeWord) → turned u ≡ t → (is_run_kind (kind task u) && elim t [ None ↦ true | Some p ↦ false ]) ≡ true → rest task u ≡ []
-    by None is e = task_ends task u (is_run (kind task u) true e).0 is
-    by (Some p) is e = let h = (is_run (kind task u) false e).1 in cc
-rest-followers (suc n) task u e = by (turned u) refl e (λ v. rest-followers n task v)
+    by : (t : Option OutcomeWord) → turned task.failures u ≡ t → (is_listed task u && elim t [ None ↦ true | Some p ↦ false ]) ≡ true → rest task u ≡ []
+    by None is e = task_ends task u (is_run task u (kind task u) (is_within task.failures u) true refl refl e).0 is
+    by (Some p) is e = absurd (let h = (is_run task u (kind task u) (is_within task.failures u) false refl refl e).1 in cc)
+rest-followers (suc n) task u e = by (turned task.failures u) refl e (λ v. rest-followers n task v)
   where
-    by : (t : Option OutcomeWord) → turned u ≡ t → (is_run_kind (kind task u) && elim t [ None ↦ true | Some p ↦ are_all n task (first_from (kind task) task.limits.device_bound p) ]) ≡ true
+    by : (t : Option OutcomeWord) → turned task.failures u ≡ t → (is_listed task u && elim t [ None ↦ true | Some p ↦ are_all n task (begun_by task p) ]) ≡ true
         → ((v : OutcomeWord) → are_all n task v ≡ true → rest task v ≡ followers n task v)
-        → rest task u ≡ elim t [ None ↦ [] | Some p ↦ first_from (kind task) task.limits.device_bound p ∷ followers n task (first_from (kind task) task.limits.device_bound p) ]
-    by None is e later = task_ends task u (is_run (kind task u) true e).0 is
+        → rest task u ≡ elim t [ None ↦ [] | Some p ↦ begun_by task p ∷ followers n task (begun_by task p) ]
+    by None is e later = task_ends task u (is_run task u (kind task u) (is_within task.failures u) true refl refl e).0 is
     by (Some p) is e later =
-        let v : OutcomeWord = first_from (kind task) task.limits.device_bound p in
-        let h = is_run (kind task u) (are_all n task v) e in
+        let v : OutcomeWord = begun_by task p in
+        let h = is_run task u (kind task u) (is_within task.failures u) (are_all n task v) refl refl e in
         task_goes_on task u p h.0 is ∙ ap (λ (vs : List OutcomeWord). v ∷ vs) (later v h.1)
 
 -- whether the first run and at most n behind it, or those behind u, are all

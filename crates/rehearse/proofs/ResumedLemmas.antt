@@ -8,8 +8,9 @@ use Rattle.rehearse.specs.Execution.{Ending}
 use Rattle.rehearse.specs.Runs.{Task, run_on, state_of, ending_of, kind, runs, rest}
 use Rattle.rehearse.specs.Listing.{listing, line, last_of, spelled, words_listed, closing, record_of, record_lines, inner_lines, last_line}
 use Rattle.rehearse.specs.Resuming.{whole, next_text, ended_lines, is_last_line, Point, point_in, resume_point_of, point_after}
-use Rattle.rehearse.proofs.Following.{AreDistinct, Absent_at, runs_distinct, word_eq-same}
-use Rattle.rehearse.proofs.Pages.{after_page, spelled_same, after_ends}
+use Rattle.rehearse.proofs.Following.{AreDistinct, Absent_at, word_eq-same, after_ends}
+use Rattle.rehearse.proofs.TaskChoices.{task_distinct}
+use Rattle.rehearse.proofs.Pages.{after_page, spelled_same}
 use Rattle.rehearse.proofs.Whole.{IsSplit, split_whole, resumes}
 use Rattle.rehearse.proofs.RecordLines.{IsOneLine, spelled-line, lines-of, bytes_of, Told, told_lines, told_length, told_point, told-lines, AreOpen, past-records, part-lines, broken_off}
 
@@ -19,7 +20,7 @@ twice w [] between behind h = let a : word_eq w w ≡ false = Absent_at w w betw
 twice w (v ∷ before) between behind h = twice w before between behind h.1
 
 pub no_run_twice : (task : Task) (w : OutcomeWord) (before between behind : List OutcomeWord) → runs task ≢ before ++ w ∷ between ++ w ∷ behind
-no_run_twice task w before between behind e = twice w before between behind (subst AreDistinct e (runs_distinct (kind task) task.limits.device_bound))
+no_run_twice task w before between behind e = twice w before between behind (subst AreDistinct e (task_distinct task))
 
 bytes_of-append : (a b : List Text) → bytes_of (a ++ b) ≡ bytes_of a + bytes_of b
 bytes_of-append [] b = omega arith
@@ -132,7 +133,7 @@ module _ (task : Task) (names : List Text) where
       let at = point_words (take k ws) point (sym (resume_point ws None p q e) ∙ f) in
       let n = some_taken k ws at.0 in
       let word : w ≡ last_of [] (take k ws) = spelled_same w (last_of [] (take k ws)) (sym g ∙ at.1) in
-      let left : rest task w ≡ drop k ws = ap (λ (v : OutcomeWord). rest task v) (word ∙ ap (last_of []) n.3) ∙ after_page (runs task) front ws n.0 (runs_distinct (kind task) task.limits.device_bound) all n.1 n.2 ∙ sym n.4 in
+      let left : rest task w ≡ drop k ws = ap (λ (v : OutcomeWord). rest task v) (word ∙ ap (last_of []) n.3) ∙ after_page (runs task) front ws n.0 (task_distinct task) all n.1 n.2 ∙ sym n.4 in
       let kept : take point.length_before p ≡ flat_map written (take k ws) = ap (λ (t : Text). take point.length_before t) s.2 ∙ ap (λ (m : ℕ). take m (flat_map written (take k ws) ++ s.0)) at.2 ∙ take-append_seam (flat_map written (take k ws)) s.0 in
       ap (λ (t : Text). t ++ listing written (rest task w) None) kept ∙ ap (λ (us : List OutcomeWord). flat_map written (take k ws) ++ listing written us None) left ∙ resumes written ws p
 

@@ -3,10 +3,10 @@ use Rattle.std.specs.Prelude.{◌≡◌, ◌≢◌, ℕ, List, [], ◌∷◌, Op
 use Rattle.rehearse.specs.Bounds.{BoundsShown}
 use Rattle.rehearse.specs.Listing.{spelled}
 use Rattle.rehearse.specs.Outcomes.{OutcomeWord, Run}
-use Rattle.rehearse.specs.Runs.{Task, kind, runs, rest}
+use Rattle.rehearse.specs.Runs.{Task, kind, runs, IsListed, rest}
 use Rattle.rehearse.specs.State.{Text}
 
--- a listing, of all runs or of those after the run of a word, and no more records than a limit; or the run of a word
+-- a listing, of the runs or of those after the run of a word, and no more records than a limit; or the run of a word
 -- alone. A word is given as a listing prints it, the empty one as a dot
 pub data Wanted : Type 0 where
   Listed : (after : Option Text) (limit : Option ℕ) → Wanted
@@ -25,20 +25,21 @@ abbrev pub limit_of : Wanted → Option ℕ
 limit_of (Listed after limit) = limit
 limit_of (Alone word) = None
 
--- the word of a run that is given
-abbrev pub word_given : Wanted → Option Text
-word_given (Listed after limit) = after
-word_given (Alone word) = Some word
-
--- the words whose records are wanted: all runs, in dictionary order; those that follow the run of a word; or that one
+-- the words whose records are wanted: the runs of the listing, in dictionary order; those that follow one of them; or
+-- the run of a word, however many of its device commands fail
 abbrev pub AreToCome : Task → Wanted → List OutcomeWord → Type 0
 AreToCome task (Listed None limit) words = words ≡ runs task
 AreToCome task (Listed (Some text) limit) words =
-    (w : OutcomeWord) × (text ≡ spelled w) × (kind task w ≡ Run) × (words ≡ rest task w)
+    (w : OutcomeWord) × (text ≡ spelled w) × IsListed task w × (words ≡ rest task w)
 AreToCome task (Alone text) words =
     (w : OutcomeWord) × (text ≡ spelled w) × (kind task w ≡ Run) × (words ≡ w ∷ [])
 
--- no run has the word that is given
-abbrev pub SpellsNoRun : Task → (given : Option Text) → Type 0
-SpellsNoRun task None = ⊥
-SpellsNoRun task (Some text) = (w : OutcomeWord) → text ≡ spelled w → kind task w ≢ Run
+-- no run has the word
+abbrev pub SpellsNoRun : Task → (given : Text) → Type 0
+SpellsNoRun task text = (w : OutcomeWord) → text ≡ spelled w → kind task w ≢ Run
+
+-- the word that is given is none of the listing's; where one run is wanted, none has it
+abbrev pub GivesNoRun : Task → Wanted → Type 0
+GivesNoRun task (Listed None limit) = ⊥
+GivesNoRun task (Listed (Some text) limit) = (w : OutcomeWord) → text ≡ spelled w → IsListed task w → ⊥
+GivesNoRun task (Alone text) = SpellsNoRun task text

@@ -1,32 +1,47 @@
 -- The bounds of a rehearsal (ours).
-use Rattle.std.specs.Prelude.{ℕ, nat_le, Bool, ◌&&◌, Option, Some, None, if◌then◌else◌}
+use Rattle.std.specs.Prelude.{ℕ, nat_le, Bool, false, ◌&&◌, ◌||◌, Option, Some, None, if◌then◌else◌}
 
--- how many device commands a run may ask, and how many steps it may begin
+-- how many device commands a run may ask, how many steps it may begin, and how many of its device commands may fail for
+-- it to be listed, none for any number
 pub record BoundsShown : Type 0 where
   pub devices : ℕ
   pub steps : ℕ
+  pub failures : Option ℕ
 
 -- the most device commands that a listing may allow to a run
 abbrev pub most_devices : ℕ
 most_devices = 32
 
+-- the same of a run, where runs are not listed, or few of its device commands may fail
+abbrev pub most_run_devices : ℕ
+most_run_devices = 1000
+
+-- so few
+abbrev pub few_failures : ℕ
+few_failures = 3
+
+abbrev pub are_few : (failures : Option ℕ) → Bool
+are_few None = false
+are_few (Some failures) = nat_le failures few_failures
+
 -- the most steps that a run may begin
 abbrev pub most_steps : ℕ
 most_steps = 1000000
 
-abbrev pub are_bounds : ℕ → ℕ → Bool
-are_bounds devices steps = nat_le devices most_devices && nat_le steps most_steps
+-- whether these are bounds of a listing
+abbrev pub are_bounds : ℕ → ℕ → (failures : Option ℕ) → Bool
+are_bounds devices steps failures =
+    (nat_le devices most_devices || are_few failures && nat_le devices most_run_devices) && nat_le steps most_steps
 
--- the same of a run, where runs are not listed
-abbrev pub most_run_devices : ℕ
-most_run_devices = 1000
-
+-- and whether of a run
 abbrev pub are_run_bounds : ℕ → ℕ → Bool
 are_run_bounds devices steps = nat_le devices most_run_devices && nat_le steps most_steps
 
 abbrev pub run_bounds_of : ℕ → ℕ → Option BoundsShown
 run_bounds_of devices steps =
-    if are_run_bounds devices steps then Some (record { devices = devices; steps = steps }) else None
+    if are_run_bounds devices steps then Some (record { devices = devices; steps = steps; failures = None }) else None
 
-abbrev pub bounds_of : ℕ → ℕ → Option BoundsShown
-bounds_of devices steps = if are_bounds devices steps then Some (record { devices = devices; steps = steps }) else None
+abbrev pub bounds_of : ℕ → ℕ → (failures : Option ℕ) → Option BoundsShown
+bounds_of devices steps failures =
+    if are_bounds devices steps failures
+    then Some (record { devices = devices; steps = steps; failures = failures }) else None

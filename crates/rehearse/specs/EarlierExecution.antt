@@ -29,6 +29,7 @@ task_now devices task = record {
   environment = task.environment;
   name = task.name;
   text = task.text;
+  failures = None;
 }
 
 abbrev pub bounds_of_task : EarlierTask → Limits

@@ -1,13 +1,13 @@
 -- The laws of rehearsals, over the definitions alone. Ours.
-use Rattle.std.specs.Prelude.{ℕ, true, List, [], ◌∷◌, ◌++◌, length, map, flat_map, take, drop, Option, Some, None, ◌≡◌, ◌≢◌, ◌↔◌, ◌≤◌, ◌<◌, codes}
+use Rattle.std.specs.Prelude.{ℕ, ◌+◌, ◌^◌, true, filter, List, [], ◌∷◌, ◌++◌, length, map, flat_map, take, drop, Option, Some, None, ◌≡◌, ◌≢◌, ◌↔◌, ◌≤◌, ◌<◌, codes}
 use Rattle.hushlang.specs.Tree.{Script}
 use Rattle.hushlang.specs.Texts.{IsTreeOf, HasNoTree}
-use Rattle.rehearse.specs.Outcomes.{OutcomeWord, Outcome, Run, Short, common_prefix, comes_before, has_success, turned, first_run, first_from}
+use Rattle.rehearse.specs.Outcomes.{OutcomeWord, Outcome, Run, Short, common_prefix, comes_before, has_success, turned, is_within, failures, first_run, first_from}
 use Rattle.rehearse.specs.Trees.{tree_of}
 use Rattle.rehearse.specs.State.{Text, State}
 use Rattle.hushlang.specs.Tree.{IsProper}
 use Rattle.rehearse.specs.Execution.{Ended, Dry, CutSteps, CutDevices, succeeds}
-use Rattle.rehearse.specs.Runs.{Task, run_on, state_of, steps, asked, kind, runs, rest}
+use Rattle.rehearse.specs.Runs.{Task, run_on, state_of, steps, asked, kind, all_runs, runs, IsListed, rest}
 use Rattle.rehearse.specs.Listing.{listing, line, spelled, record_of, words_listed, closing}
 use Rattle.rehearse.specs.Resuming.{whole, next_text, Point, resume_point_of, point_after}
 
@@ -45,9 +45,10 @@ NoRunIsLonger = (task : Task) (u : OutcomeWord) → kind task u ≡ Run → leng
 abbrev pub RunsAreThere : Type 0
 RunsAreThere = (task : Task) → runs task ≢ []
 
--- a run is followed by another exactly where it holds a success
+-- a run is followed by another exactly where it holds a success that may fail
 abbrev pub AnotherFollows : Type 0
-AnotherFollows = (task : Task) (u : OutcomeWord) → kind task u ≡ Run → (rest task u ≢ []) ↔ (has_success u ≡ true)
+AnotherFollows =
+    (task : Task) (u : OutcomeWord) → IsListed task u → (rest task u ≢ []) ↔ (has_success task.failures u ≡ true)
 
 -- two runs part where a device command asks for an outcome
 abbrev pub RunsPartWhereAsked : Type 0
@@ -101,22 +102,51 @@ RunsAreOrdered = (task : Task) (u v : OutcomeWord) (before between behind : List
 abbrev pub RunsBegin : Type 0
 RunsBegin = (task : Task) → let w = first_run (kind task) task.limits.device_bound in runs task ≡ w ∷ rest task w
 
--- behind u comes the first run that begins with u cut behind its last success, which became a failure
+-- behind u comes the first run that begins with u cut behind its last success that may fail, which became a failure
 abbrev pub RunsFollow : Type 0
-RunsFollow = (task : Task) (u p : OutcomeWord) → kind task u ≡ Run → turned u ≡ Some p → let w =
+RunsFollow = (task : Task) (u p : OutcomeWord) → IsListed task u → turned task.failures u ≡ Some p → let w =
     first_from (kind task) task.limits.device_bound p in rest task u ≡ w ∷ rest task w
 
--- what stands in the runs is a run
+-- what stands in the runs is a run, in which no more device commands fail than may
 abbrev pub RunsAreRuns : Type 0
 RunsAreRuns =
     (task : Task) (w : OutcomeWord) (front behind : List OutcomeWord) → runs task ≡ front ++ w ∷ behind
-    → kind task w ≡ Run
+    → IsListed task w
 
--- each run stands in the runs, in front of what follows it
+-- each such run stands in the runs, in front of what follows it
 abbrev pub RunsStand : Type 0
 RunsStand =
-    (task : Task) (u : OutcomeWord) → kind task u ≡ Run
+    (task : Task) (u : OutcomeWord) → IsListed task u
     → (front : List OutcomeWord) × (runs task ≡ front ++ u ∷ rest task u)
+
+-- ---- few failures
+
+-- the task in which so many device commands may fail
+abbrev pub failing : Task → ℕ → Task
+failing task most = record task { failures = Some most }
+
+-- where as many may fail as a run may ask, the runs are all runs
+abbrev pub AllMayFail : Type 0
+AllMayFail = (task : Task) → runs (failing task task.limits.device_bound) ≡ all_runs task
+
+-- the runs in which at most so many fail are those, of the runs in which one more may, in which at most so many fail
+abbrev pub FewerAmongMore : Type 0
+FewerAmongMore = (task : Task) (most : ℕ) →
+    runs (failing task most) ≡ filter (is_within (Some most)) (runs (failing task (most + 1)))
+
+-- so each of them is one of these
+abbrev pub FewerAreMore : Type 0
+FewerAreMore = (task : Task) (most : ℕ) (w : OutcomeWord) → IsListed (failing task most) w →
+    IsListed (failing task (most + 1)) w
+
+-- there are at most as many as the words are that say at which device commands the failures are: one more than a run may
+-- ask, so often multiplied
+abbrev pub FewRuns : Type 0
+FewRuns = (task : Task) (most : ℕ) → length (runs (failing task most)) ≤ (task.limits.device_bound + 1) ^ most
+
+-- where none may fail, the first run is the only one
+abbrev pub NoneMayFail : Type 0
+NoneMayFail = (task : Task) → runs (failing task 0) ≡ first_run (kind task) task.limits.device_bound ∷ []
 
 -- ---- pages
 

@@ -1,5 +1,5 @@
 -- Outcome words: what the device commands of a run answered, in their order. Ours.
-use Rattle.std.specs.Prelude.{ℕ, zero, suc, pred, Bool, true, false, cond, ◌&&◌, List, [], ◌∷◌, ◌++◌, map, filter, Option, Some, None, option_map, ◌≡◌, ◌⊎◌}
+use Rattle.std.specs.Prelude.{ℕ, zero, suc, pred, ◌-◌, nat_le, nat_lt, Bool, true, false, cond, ◌&&◌, List, [], ◌∷◌, ◌++◌, map, filter, Option, Some, None, option_map, ◌≡◌, ◌⊎◌}
 
 -- what a device command answers, printed as `0` and `1`
 pub data Outcome : Type 0 where
@@ -26,6 +26,22 @@ is_run_kind Long = false
 abbrev pub runs_within : (OutcomeWord → WordKind) → ℕ → List OutcomeWord
 runs_within kind n = filter (λ w. is_run_kind (kind w)) (words n)
 
+-- how many device commands failed
+abbrev pub failures : OutcomeWord → ℕ
+failures [] = 0
+failures (Success ∷ w) = failures w
+failures (Failure ∷ w) = suc (failures w)
+
+-- whether at most so many failed; where no number is given, any may
+abbrev pub is_within : (most : Option ℕ) → OutcomeWord → Bool
+is_within None w = true
+is_within (Some most) w = nat_le (failures w) most
+
+-- the words in which at most so many failed, in the same order
+abbrev pub few_of : (most : Option ℕ) → List OutcomeWord → List OutcomeWord
+few_of None ws = ws
+few_of (Some most) ws = filter (is_within (Some most)) ws
+
 abbrev pub outcome_eq : Outcome → Outcome → Bool
 outcome_eq Success Success = true
 outcome_eq Failure Failure = true
@@ -49,10 +65,22 @@ common_prefix [] w = []
 common_prefix (c ∷ v) [] = []
 common_prefix (c ∷ v) (d ∷ w) = cond (outcome_eq c d) (c ∷ common_prefix v w) []
 
-abbrev pub has_success : OutcomeWord → Bool
-has_success [] = false
-has_success (Success ∷ w) = true
-has_success (Failure ∷ w) = has_success w
+-- whether one more may fail where so many did
+abbrev pub allows : (most : Option ℕ) → (failed : ℕ) → Bool
+allows None failed = true
+allows (Some most) failed = nat_lt failed most
+
+-- how many more may fail behind a failure
+abbrev pub one_less : Option ℕ → Option ℕ
+one_less None = None
+one_less (Some most) = Some (most - 1)
+
+-- whether one of its successes may fail, where those in front of it stay: its first one, as no other has fewer failures
+-- in front
+abbrev pub has_success : (most : Option ℕ) → OutcomeWord → Bool
+has_success most [] = false
+has_success most (Success ∷ w) = allows most 0
+has_success most (Failure ∷ w) = has_success (one_less most) w
 
 -- dictionary order, success before failure
 abbrev pub comes_before : OutcomeWord → OutcomeWord → Bool
@@ -66,11 +94,15 @@ comes_before (Failure ∷ v) (Failure ∷ w) = comes_before v w
 
 -- ---- in which words the laws say what follows a run
 
--- the word cut behind its last success, which becomes a failure; none without a success
-abbrev pub turned : OutcomeWord → Option OutcomeWord
-turned [] = None
-turned (Success ∷ w) = elim (turned w) [ Some v ↦ Some (Success ∷ v) | None ↦ Some (Failure ∷ []) ]
-turned (Failure ∷ w) = option_map (λ v. Failure ∷ v) (turned w)
+-- the word cut behind its last success that may fail, which becomes a failure; none where none of them may
+abbrev pub turned : (most : Option ℕ) → OutcomeWord → Option OutcomeWord
+turned most [] = None
+turned most (Success ∷ w) =
+    elim (turned most w) [
+      | Some v ↦ Some (Success ∷ v)
+      | None ↦ cond (allows most 0) (Some (Failure ∷ [])) None
+    ]
+turned most (Failure ∷ w) = option_map (λ v. Failure ∷ v) (turned (one_less most) w)
 
 -- the kinds of words, past one outcome
 abbrev pub beyond : Outcome → (OutcomeWord → WordKind) → OutcomeWord → WordKind

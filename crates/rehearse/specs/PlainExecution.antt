@@ -1,7 +1,7 @@
 -- Execution as it was when a device list was names alone (PlainList.antt): a command of the list asks for an outcome
 -- and changes nothing else. All that it does not define is that of Execution.antt, over the tree as in
 -- GivenExecution.antt. Ours.
-use Rattle.std.specs.Prelude.{◌≡◌, ℕ, nat_lt, true, false, List, [], ◌∷◌, ◌++◌, length, Option, Ok}
+use Rattle.std.specs.Prelude.{◌≡◌, ℕ, nat_lt, true, false, List, [], ◌∷◌, ◌++◌, length, Option, None, Ok}
 use Rattle.std.specs.List.{list_any}
 use Rattle.std.specs.Str.{bytes_eq}
 use Rattle.rehearse.specs.Outcomes.{OutcomeWord, runs_within, after}
@@ -29,6 +29,7 @@ task_over devices task = record {
   environment = task.environment;
   name = task.name;
   text = task.text;
+  failures = None;
 }
 
 -- the bounds, with no listed command: what is shared with Execution.antt reads these

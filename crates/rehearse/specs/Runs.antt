@@ -1,6 +1,6 @@
 -- The runs of the text of a variable. Ours.
-use Rattle.std.specs.Prelude.{ℕ, ◌+◌, ◌-◌, List, [], ◌∷◌, Option, option_map}
-use Rattle.rehearse.specs.Outcomes.{OutcomeWord, WordKind, Run, Short, Long, runs_within, after, common_prefix}
+use Rattle.std.specs.Prelude.{◌≡◌, ℕ, ◌+◌, ◌-◌, true, List, [], ◌∷◌, Option, option_map}
+use Rattle.rehearse.specs.Outcomes.{OutcomeWord, WordKind, Run, Short, Long, runs_within, is_within, few_of, after, common_prefix}
 use Rattle.rehearse.specs.State.{Text, Variables, get, State, start}
 use Rattle.rehearse.specs.Execution.{Limits, Answer, Normal, Exit, Ended, Dry, Ending, End, exec, run_text}
 
@@ -10,15 +10,18 @@ pub record Task : Type 0 where
   pub environment : Variables
   pub name : Text
   pub text : Text
+  -- how many device commands of a run may fail; none for any number
+  pub failures : Option ℕ
 
 -- the rehearsal of a variable, where it is set
-abbrev pub task_of : Limits → Variables → Text → Option Task
-task_of limits environment name =
+abbrev pub task_of : Limits → (failures : Option ℕ) → Variables → Text → Option Task
+task_of limits failures environment name =
     option_map (λ text. record {
       limits = limits;
       environment = environment;
       name = name;
       text = text;
+      failures = failures;
     }) (get environment name)
 
 -- what the text comes to with the outcomes of a word
@@ -54,8 +57,17 @@ abbrev pub kind : Task → OutcomeWord → WordKind
 kind task w = kind_of (run_on task w)
 
 -- all runs, in dictionary order
+abbrev pub all_runs : Task → List OutcomeWord
+all_runs task = runs_within (kind task) task.limits.device_bound
+
+-- those in which no more device commands fail than may, in the same order
 abbrev pub runs : Task → List OutcomeWord
-runs task = runs_within (kind task) task.limits.device_bound
+runs task = few_of task.failures (all_runs task)
+
+-- a word is one of them
+pub record IsListed (task : Task) (w : OutcomeWord) : Type 0 where
+  pub run : kind task w ≡ Run
+  pub few : is_within task.failures w ≡ true
 
 -- those behind w
 abbrev pub rest : Task → OutcomeWord → List OutcomeWord

@@ -1,7 +1,8 @@
 //! The bounds of a rehearsal.
 ghost use Rattle.std.specs.Prelude.{◌≡◌};
+ghost use Rattle.rehearse.specs.Bounds.{are_few};
 
-use crate::run_bounds::RunBounds;
+use crate::run_bounds::{RUN_DEVICES_MAX, RunBounds};
 use std::marker::Model;
 
 /// The greatest device bound.
@@ -10,11 +11,26 @@ pub const DEVICES_MAX: u32 = 32;
 /// The greatest step bound.
 pub const STEPS_MAX: u32 = 1_000_000;
 
-/// How many device commands each run of a listing may ask, and how many steps it may begin.
+/// The greatest bound of failures with which the device bound may be greater.
+pub const FEW_FAILURES: u32 = 3;
+
+/// Whether the device bound may be greater with this bound of failures.
+fn are_few(failures: Option<u32>) -> bool
+    ensures { result ≡ are_few failures }
+{
+    match failures {
+        None => false,
+        Some(most) => most <= FEW_FAILURES,
+    }
+}
+
+/// How many device commands each run of a listing may ask, how many steps it may begin, and how many of its device
+/// commands may fail; where there is no such number, any may.
 #[derive(Clone, Copy, Debug)]
 pub struct Bounds {
     devices: u32,
     steps: u32,
+    failures: Option<u32>,
 }
 
 impl Model for Bounds {
@@ -23,24 +39,37 @@ impl Model for Bounds {
 
     ghost Value = { BoundsShown };
 
-    ghost view = { λ b. record { devices = b.devices; steps = b.steps } };
+    ghost view = { λ b. record { devices = b.devices; steps = b.steps; failures = b.failures } };
 
-    ghost invariant = { λ b. are_bounds b.devices b.steps ≡ true };
+    ghost invariant = { λ b. are_bounds b.devices b.steps b.failures ≡ true };
 
-    ghost inverse = { λ b. record { devices = b.devices; steps = b.steps } };
+    ghost inverse = { λ b. record { devices = b.devices; steps = b.steps; failures = b.failures } };
 }
 
 impl Bounds {
-    ghost use Rattle.std.specs.Prelude.{true};
+    ghost use Rattle.std.specs.Prelude.{true, None, Some};
     ghost use Rattle.rehearse.specs.Bounds.{bounds_of, are_bounds};
 
-    /// These bounds; none where there are more than 32 device commands or 1,000,000 steps. It takes
-    /// no memory.
+    /// These bounds, where any device command may fail; none where there are more than 32 device commands or 1,000,000
+    /// steps. It takes no memory.
     pub fn new(devices: u32, steps: u32) -> Option<Self>
-        ensures { result ≡ bounds_of devices steps }
+        ensures { result ≡ bounds_of devices steps None }
     {
-        if devices <= DEVICES_MAX && steps <= STEPS_MAX {
-            Some(Bounds { devices, steps })
+        Bounds::with_failures(devices, steps, None)
+    }
+
+    /// These bounds; none where there are more than 1,000,000 steps or 32 device commands. Where at most 3 of them may
+    /// fail, there may be 1,000. It takes no memory.
+    pub fn with_failures(devices: u32, steps: u32, failures: Option<u32>) -> Option<Self>
+        ensures { result ≡ bounds_of devices steps failures }
+    {
+        let fit = devices <= DEVICES_MAX || are_few(failures) && devices <= RUN_DEVICES_MAX;
+        if fit && steps <= STEPS_MAX {
+            Some(Bounds {
+                devices,
+                steps,
+                failures,
+            })
         } else {
             None
         }
@@ -49,7 +78,7 @@ impl Bounds {
     /// How many device commands a run may ask.
     pub fn devices(&self) -> u32
         ensures devices { result ≡ self.now.devices }
-        ensures within { are_bounds self.now.devices self.now.steps ≡ true }
+        ensures within { are_bounds self.now.devices self.now.steps self.now.failures ≡ true }
     {
         self.devices
     }
@@ -57,15 +86,22 @@ impl Bounds {
     /// How many steps a run may begin.
     pub fn steps(&self) -> u32
         ensures steps { result ≡ self.now.steps }
-        ensures within { are_bounds self.now.devices self.now.steps ≡ true }
+        ensures within { are_bounds self.now.devices self.now.steps self.now.failures ≡ true }
     {
         self.steps
+    }
+
+    /// How many of its device commands may fail.
+    pub fn failures(&self) -> Option<u32>
+        ensures { result ≡ self.now.failures }
+    {
+        self.failures
     }
 
     /// The same, as bounds of a run.
     pub fn of_run(self) -> RunBounds
         ensures { result ≡ self }
     {
-        RunBounds::of(self.devices, self.steps)
+        RunBounds::of(self.devices, self.steps, self.failures)
     }
 }

@@ -6,6 +6,7 @@ ghost use Rattle.rehearse.specs.Laws.{RunsPartWhereAsked, LogIsWord};
 ghost use Rattle.rehearse.specs.Laws.{StepsAreBounded, CutAtStepBound, CutAtDeviceBound, AskedBelowBound};
 ghost use Rattle.rehearse.specs.Laws.{AskedInFront, SharedIsWithin};
 ghost use Rattle.rehearse.specs.Laws.{RunsBegin, RunsFollow, RunsStand, RunsAreRuns, RunsAreOrdered};
+ghost use Rattle.rehearse.specs.Laws.{AllMayFail, FewerAmongMore, FewerAreMore, FewRuns, NoneMayFail};
 ghost use Rattle.rehearse.specs.Laws.{MoreIsLeft, PagesOfRuns, PagesOfRest};
 ghost use Rattle.rehearse.specs.Laws.{WholeIsGreatest, WholeRecords, Resuming};
 ghost use Rattle.rehearse.specs.Laws.{ResumePoint, ResumedAtPoint, ResumedRest};
@@ -18,7 +19,7 @@ pub fn trees_are_read()
 {}
 
 /// There is a run; none stands twice, none begins another, and none is longer than the device bound. Another
-/// follows exactly where a success stands.
+/// follows exactly where a success stands that may fail.
 pub fn words_of_runs()
     ensures distinct { NoRunTwice }
     ensures no_prefix { NoRunBeginsAnother }
@@ -48,14 +49,25 @@ pub fn work_of_runs()
     ensures shared { SharedIsWithin }
 {}
 
-/// The runs are exactly the words that are runs, in dictionary order; and which comes first, and which behind
-/// another.
+/// The runs are exactly the words that are runs and have no more failures than may be, in dictionary order; and which
+/// comes first, and which behind another.
 pub fn order_of_runs()
     ensures begin { RunsBegin }
     ensures follow { RunsFollow }
     ensures stand { RunsStand }
     ensures alone { RunsAreRuns }
     ensures ordered { RunsAreOrdered }
+{}
+
+/// Where as many device commands may fail as a run may ask, the runs are all runs. Where fewer may, they are some of
+/// the runs in which one more may, and no more than a power of what a run may ask; and where none may, the first run is
+/// the only one.
+pub fn few_failures()
+    ensures all { AllMayFail }
+    ensures among { FewerAmongMore }
+    ensures more { FewerAreMore }
+    ensures few { FewRuns }
+    ensures none { NoneMayFail }
 {}
 
 /// Pages made by a limit, less their lines `more`, are the listing without limit. A page ends in `more` exactly

@@ -4,14 +4,16 @@ ghost use Rattle.std.specs.Prelude.{◌≡◌};
 use crate::bounds::STEPS_MAX;
 use std::marker::Model;
 
-/// The greatest device bound of a run, where runs are not listed.
+/// The greatest device bound of a run, where runs are not listed, or few of its device commands may fail.
 pub const RUN_DEVICES_MAX: u32 = 1_000;
 
-/// How many device commands a run may ask, and how many steps it may begin. The `Bounds` of a listing are narrower.
+/// How many device commands a run may ask, and how many steps it may begin. The `Bounds` of a listing are narrower; how
+/// many device commands may fail in a run that is listed is kept of them, and changes nothing of a run.
 #[derive(Clone, Copy, Debug)]
 pub struct RunBounds {
     devices: u32,
     steps: u32,
+    failures: Option<u32>,
 }
 
 impl Model for RunBounds {
@@ -20,11 +22,11 @@ impl Model for RunBounds {
 
     ghost Value = { BoundsShown };
 
-    ghost view = { λ b. record { devices = b.devices; steps = b.steps } };
+    ghost view = { λ b. record { devices = b.devices; steps = b.steps; failures = b.failures } };
 
     ghost invariant = { λ b. are_run_bounds b.devices b.steps ≡ true };
 
-    ghost inverse = { λ b. record { devices = b.devices; steps = b.steps } };
+    ghost inverse = { λ b. record { devices = b.devices; steps = b.steps; failures = b.failures } };
 }
 
 impl RunBounds {
@@ -37,18 +39,26 @@ impl RunBounds {
         ensures { result ≡ run_bounds_of devices steps }
     {
         if devices <= RUN_DEVICES_MAX && steps <= STEPS_MAX {
-            Some(RunBounds { devices, steps })
+            Some(RunBounds {
+                devices,
+                steps,
+                failures: None,
+            })
         } else {
             None
         }
     }
 
     /// These bounds, which are within the greatest.
-    pub(crate) fn of(devices: u32, steps: u32) -> Self
+    pub(crate) fn of(devices: u32, steps: u32, failures: Option<u32>) -> Self
         requires { are_run_bounds devices steps ≡ true }
-        ensures { result ≡ record { devices = devices; steps = steps } }
+        ensures { result ≡ record { devices = devices; steps = steps; failures = failures } }
     {
-        RunBounds { devices, steps }
+        RunBounds {
+            devices,
+            steps,
+            failures,
+        }
     }
 
     /// How many device commands a run may ask.
@@ -65,5 +75,12 @@ impl RunBounds {
         ensures within { are_run_bounds self.now.devices self.now.steps ≡ true }
     {
         self.steps
+    }
+
+    /// How many device commands may fail in a run that is listed.
+    pub fn failures(&self) -> Option<u32>
+        ensures { result ≡ self.now.failures }
+    {
+        self.failures
     }
 }

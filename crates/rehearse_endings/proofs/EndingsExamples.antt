@@ -3,13 +3,13 @@
 use Rattle.std.proofs.Common.{ℕ, Bool, [], ◌∷◌, ◌+◌, ◌-◌, ◌^◌, List, codes, refl, ◌≡◌, map, length, nat_eq}
 use Rattle.std.specs.Fmt.{digits}
 use Rattle.hushlang.specs.Expansion.{fields, joined, atoms}
-use Rattle.rehearse.specs.Outcomes.{OutcomeWord, Success, Failure}
+use Rattle.rehearse.specs.Outcomes.{OutcomeWord, Success, Failure, failures}
 use Rattle.rehearse.specs.Trees.{tree_of}
 use Rattle.rehearse.specs.State.{Text}
 use Rattle.rehearse.specs.Execution.{Ending, End, CutDevices, CutSteps, Unknown, Syntax, Size, Booted}
-use Rattle.rehearse.specs.Runs.{Task, runs}
+use Rattle.rehearse.specs.Runs.{Task, all_runs}
 use Rattle.rehearse.proofs.Rehearsed.{only_load, limits, bootcmd}
-use Rattle.rehearse_endings.specs.Endings.{Row, ending_eq, failures, fewer, joined as with_further, with_row, gather, endings, of_both}
+use Rattle.rehearse_endings.specs.Endings.{Row, ending_eq, fewer, joined as with_further, with_row, gather, endings, of_both}
 use Rattle.rehearse_endings.specs.Lines.{count_text, endings_text, counted}
 use Rattle.rehearse_endings.specs.RowsShown.{most_runs, saturated, with_row_up}
 
@@ -18,7 +18,7 @@ task devices text = bootcmd (limits only_load devices 20) text
 
 -- the lines of all runs, with the number of states
 abbrev lines : Task → ℕ → Text
-lines t states = endings_text (endings t) (length (runs t)) states
+lines t states = endings_text (endings t) (length (all_runs t)) states
 
 -- ---- scripts
 

@@ -2,7 +2,7 @@
 use Rattle.std.proofs.Common.{◌≡◌, ◌≢◌, true, false, List, [], ◌∷◌, ◌++◌, map, ap, subst, ◌∙◌, append_assoc}
 use Rattle.std.specs.List.{list_any}
 use Rattle.rehearse.specs.Execution.{Ending}
-use Rattle.rehearse.specs.Runs.{Task, runs}
+use Rattle.rehearse.specs.Runs.{Task, all_runs}
 use Rattle.rehearse_endings.specs.Endings.{Row, ending_eq, with_row, merge, one_run, ending, endings}
 use Rattle.rehearse_endings.proofs.Gathering.{AreApart, Misses, apart_on, either_left, either_right, ending_itself}
 
@@ -25,6 +25,6 @@ other_ending r s h e = let k : ending_eq s.ending r.ending ≡ true = ap (ending
 
 pub no_ending_twice : (task : Task) (r s : Row) (before between behind : List Row) → endings task ≡ before ++ r ∷ between ++ s ∷ behind → r.ending ≢ s.ending
 no_ending_twice task r s before between behind is =
-    let all : AreApart (endings task) = apart_merge [] (map one_run (map (λ w. (ending task w, w)) (runs task))) tt in
+    let all : AreApart (endings task) = apart_merge [] (map one_run (map (λ w. (ending task w, w)) (all_runs task))) tt in
     let apart = apart_behind before (r ∷ between ++ s ∷ behind) (subst AreApart (is ∙ append_assoc before (r ∷ between) (s ∷ behind)) all) in
     other_ending r s (missed_in r.ending between s behind apart.0)

@@ -4,11 +4,11 @@ use Rattle.std.proofs.lemmas.Bool.{ltb-true, ltb-false}
 use Rattle.std.proofs.lemmas.List.{length-map, length-reverse, map-append, reverse-append}
 use Rattle.rehearse.specs.State.{Text}
 use Rattle.rehearse.specs.Listing.{digit_when, outcome_digit, spelled, line, last_line}
-use Rattle.rehearse.specs.Outcomes.{OutcomeWord, Outcome}
+use Rattle.rehearse.specs.Outcomes.{OutcomeWord, Outcome, failures}
 use Rattle.rehearse_machine.specs.Machine.{outcome_when}
 use Rattle.rehearse.specs.Execution.{Ending}
-use Rattle.rehearse.specs.Runs.{Task, runs}
-use Rattle.rehearse_endings.specs.Endings.{Row, ending_eq, failures, joined, with_row, merge, one_run, ending, endings}
+use Rattle.rehearse.specs.Runs.{Task, all_runs}
+use Rattle.rehearse_endings.specs.Endings.{Row, ending_eq, joined, with_row, merge, one_run, ending, endings}
 use Rattle.rehearse_endings.specs.RowsShown.{most_runs, saturated}
 use Rattle.rehearse_endings.specs.Lines.{count_text, row_text, all_text, endings_text, counted}
 
@@ -68,17 +68,17 @@ counted_singles : (es : List (Ending × OutcomeWord)) → counted (map one_run e
 counted_singles [] = refl
 counted_singles (e ∷ es) = let h = counted_singles es in omega (arith, h)
 
-pub counted_all : (task : Task) → counted (endings task) ≡ length (runs task)
+pub counted_all : (task : Task) → counted (endings task) ≡ length (all_runs task)
 counted_all task =
     let pair : OutcomeWord → Ending × OutcomeWord = λ w. (ending task w, w) in
-    let es = map pair (runs task) in
+    let es = map pair (all_runs task) in
     let h = counted_merge [] (map one_run es) in
     let k = counted_singles es in
-    let l = length-map (runs task) pair in
+    let l = length-map (all_runs task) pair in
     omega (arith, h, k, l)
 
 -- what is told of the rows with counts up to the greatest
-pub text_told : (task : Task) (rows : List Row) (text : Text) (states : ℕ) → rows ≡ map saturated (endings task) → text ≡ endings_text rows (counted rows) states → text ≡ endings_text (endings task) (length (runs task)) states
+pub text_told : (task : Task) (rows : List Row) (text : Text) (states : ℕ) → rows ≡ map saturated (endings task) → text ≡ endings_text rows (counted rows) states → text ≡ endings_text (endings task) (length (all_runs task)) states
 text_told task rows text states e h =
     h ∙ ap (λ (x : List Row). endings_text x (counted x) states) e
     ∙ saturated_told (endings task) states

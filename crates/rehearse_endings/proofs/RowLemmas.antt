@@ -2,10 +2,10 @@
 use Rattle.std.proofs.Common.{ℕ, ◌+◌, ◌<◌, ◌≤◌, Bool, cond, List, [], ◌∷◌, ◌++◌, map, reverse, refl, ap, ◌∙◌, ◌≡◌, arith}
 use Rattle.std.proofs.lemmas.Bool.{le-leb, lt-leb}
 use Rattle.std.proofs.lemmas.List.{reverse-append}
-use Rattle.rehearse.specs.Outcomes.{OutcomeWord, Success, Failure}
+use Rattle.rehearse.specs.Outcomes.{OutcomeWord, Success, Failure, failures}
 use Rattle.rehearse.specs.Execution.{Ending}
 use Rattle.rehearse_machine.specs.Machine.{outcome_when}
-use Rattle.rehearse_endings.specs.Endings.{Row, failures, fewer}
+use Rattle.rehearse_endings.specs.Endings.{Row, fewer}
 
 abbrev row_with : Ending → ℕ → (word fewest : List Bool) → Row
 row_with e n word fewest = record {

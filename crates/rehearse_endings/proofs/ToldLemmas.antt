@@ -2,10 +2,10 @@
 use Rattle.std.proofs.Common.{◌≡◌, ◌<◌, ◌≤◌, nat_le, Bool, true, false, cond, List, [], ◌∷◌, ◌++◌, map, refl, sym, ap, subst, ◌∙◌, append_assoc, append-nil, arith}
 use Rattle.std.proofs.lemmas.Bool.{leb-true, leb-false}
 use Rattle.std.specs.List.{list_any}
-use Rattle.rehearse.specs.Outcomes.{OutcomeWord}
+use Rattle.rehearse.specs.Outcomes.{OutcomeWord, failures}
 use Rattle.rehearse.specs.Execution.{Ending}
-use Rattle.rehearse.specs.Runs.{Task, runs}
-use Rattle.rehearse_endings.specs.Endings.{Row, ending_eq, failures, joined, with_row, merge, one_run, ending, endings}
+use Rattle.rehearse.specs.Runs.{Task, all_runs}
+use Rattle.rehearse_endings.specs.Endings.{Row, ending_eq, joined, with_row, merge, one_run, ending, endings}
 use Rattle.rehearse_endings.specs.Laws.{Each, IsFirst, IsFewest}
 use Rattle.rehearse_endings.proofs.Gathering.{AreApart, Misses, row_if, apart_on, either_left, either_right, neither, ending_itself, ending_same, stands_on, stands_new}
 
@@ -124,7 +124,7 @@ module _ (ends : OutcomeWord → Ending) where
   told_in seen [] r behind h = h.0
   told_in seen (q ∷ before) r behind h = told_in seen before r behind h.1
 
-pub rows_tell_of_runs : (task : Task) (r : Row) (before behind : List Row) → endings task ≡ before ++ r ∷ behind → IsFirst (λ w. ending task w ≡ r.ending) r.word (runs task) × IsFewest (λ w. ending task w ≡ r.ending) r.fewest (runs task)
+pub rows_tell_of_runs : (task : Task) (r : Row) (before behind : List Row) → endings task ≡ before ++ r ∷ behind → IsFirst (λ w. ending task w ≡ r.ending) r.word (all_runs task) × IsFewest (λ w. ending task w ≡ r.ending) r.fewest (all_runs task)
 rows_tell_of_runs task r before behind is =
-    told_in (ending task) (runs task) before r behind
-    (subst (AreTold (ending task) (runs task)) is (told_all (ending task) (runs task) [] [] tt tt (λ e m. tt)))
+    told_in (ending task) (all_runs task) before r behind
+    (subst (AreTold (ending task) (all_runs task)) is (told_all (ending task) (all_runs task) [] [] tt tt (λ e m. tt)))

@@ -1,9 +1,9 @@
 -- How all runs end: for each ending how many runs end like this, and the first of them. Ours.
 use Rattle.std.specs.Prelude.{◌≡◌, ℕ, suc, ◌+◌, nat_eq, nat_le, Bool, true, false, cond, List, [], ◌∷◌, map}
 use Rattle.std.specs.Str.{bytes_eq}
-use Rattle.rehearse.specs.Outcomes.{OutcomeWord, Outcome, Success, Failure, WordKind, Run, Short, Long, runs_within, beyond}
+use Rattle.rehearse.specs.Outcomes.{OutcomeWord, Outcome, Success, Failure, WordKind, Run, Short, Long, failures, runs_within, beyond}
 use Rattle.rehearse.specs.Execution.{Ending, End, CutDevices, CutSteps, Unknown, Syntax, Size, Booted}
-use Rattle.rehearse.specs.Runs.{Task, run_on, ending_of, runs}
+use Rattle.rehearse.specs.Runs.{Task, run_on, ending_of, all_runs}
 
 abbrev pub ending_eq : Ending → Ending → Bool
 ending_eq (End a) (End b) = nat_eq a b
@@ -14,12 +14,6 @@ ending_eq (Syntax a) (Syntax b) = bytes_eq a b
 ending_eq Size Size = true
 ending_eq (Booted a) (Booted b) = bytes_eq a b
 ending_eq _ _ = false
-
--- how many device commands failed
-abbrev pub failures : OutcomeWord → ℕ
-failures [] = 0
-failures (Success ∷ w) = failures w
-failures (Failure ∷ w) = suc (failures w)
 
 -- the word with fewer failures, and of as many the first
 abbrev pub fewer : OutcomeWord → OutcomeWord → OutcomeWord
@@ -66,7 +60,7 @@ ending task w = ending_of (run_on task w)
 
 -- the rows of all runs of a task
 abbrev pub endings : Task → List Row
-endings task = gather (map (λ w. (ending task w, w)) (runs task))
+endings task = gather (map (λ w. (ending task w, w)) (all_runs task))
 
 -- ---- from the rows of both sides
 

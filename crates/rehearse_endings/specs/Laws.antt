@@ -1,13 +1,13 @@
 -- What the rows of endings say of the list of all runs. Ours.
 use Rattle.std.specs.Prelude.{◌≡◌, ◌≢◌, ◌<◌, ◌≤◌, List, [], ◌∷◌, ◌++◌, length}
-use Rattle.rehearse.specs.Outcomes.{OutcomeWord}
-use Rattle.rehearse.specs.Runs.{Task, runs}
-use Rattle.rehearse_endings.specs.Endings.{Row, ending, endings, failures}
+use Rattle.rehearse.specs.Outcomes.{OutcomeWord, failures}
+use Rattle.rehearse.specs.Runs.{Task, all_runs}
+use Rattle.rehearse_endings.specs.Endings.{Row, ending, endings}
 use Rattle.rehearse_endings.specs.Lines.{counted}
 
 -- each run is counted, and once
 abbrev pub RunsAreCounted : Type 0
-RunsAreCounted = (task : Task) → counted (endings task) ≡ length (runs task)
+RunsAreCounted = (task : Task) → counted (endings task) ≡ length (all_runs task)
 
 -- no ending stands twice
 abbrev pub NoEndingTwice : Type 0
@@ -39,5 +39,5 @@ pub record IsFewest (IsSo : OutcomeWord → Type 0) (w : OutcomeWord) (words : L
 -- a row's words are the first run that ends so, and the first with the fewest failures
 abbrev pub RowsTellOfRuns : Type 0
 RowsTellOfRuns = (task : Task) (r : Row) (before behind : List Row) → endings task ≡ before ++ r ∷ behind →
-    IsFirst (λ w. ending task w ≡ r.ending) r.word (runs task)
-    × IsFewest (λ w. ending task w ≡ r.ending) r.fewest (runs task)
+    IsFirst (λ w. ending task w ≡ r.ending) r.word (all_runs task)
+    × IsFewest (λ w. ending task w ≡ r.ending) r.fewest (all_runs task)

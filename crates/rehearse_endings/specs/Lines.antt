@@ -2,7 +2,8 @@
 use Rattle.std.specs.Prelude.{ℕ, ◌+◌, nat_lt, List, [], ◌∷◌, ◌++◌, flat_map, codes, decimal, if◌then◌else◌}
 use Rattle.rehearse.specs.State.{Text}
 use Rattle.rehearse.specs.Listing.{spelled, line, last_line}
-use Rattle.rehearse_endings.specs.Endings.{Row, failures}
+use Rattle.rehearse.specs.Outcomes.{failures}
+use Rattle.rehearse_endings.specs.Endings.{Row}
 use Rattle.rehearse_endings.specs.RowsShown.{most_runs}
 
 -- a number of runs; one that is too great is told as the greatest

@@ -3,7 +3,7 @@ use Rattle.std.specs.Prelude.{◌≡◌, ℕ, ◌+◌, ◌≤◌, Bool, true, fa
 use Rattle.output.specs.Sink.{Sink, Wrote, BrokeOff}
 use Rattle.rehearse.specs.State.{Text}
 use Rattle.rehearse.specs.DeviceList.{Devices, listed}
-use Rattle.rehearse.specs.Runs.{Task, runs}
+use Rattle.rehearse.specs.Runs.{Task, all_runs}
 use Rattle.rehearse_machine.specs.Tasks.{task_set}
 use Rattle.rehearse_endings.specs.Endings.{endings}
 use Rattle.rehearse_endings.specs.Flow.{Node, IsFlow, flow_text}
@@ -23,7 +23,7 @@ pub record HasDevices (environment : List (Text × Text)) (devices_text : Text) 
 -- the flow of the task, or how its runs end, which come to so many states
 abbrev pub Tells : (flow : Bool) → Task → (states : ℕ) → Text → Type 0
 Tells true task states text = (nodes : List Node) × IsFlow task nodes × (text ≡ flow_text nodes)
-Tells false task states text = text ≡ endings_text (endings task) (length (runs task)) states
+Tells false task states text = text ≡ endings_text (endings task) (length (all_runs task)) states
 
 -- the lines of the task, whose runs come to so many states, no two alike, and no more than this
 abbrev pub AreLines : (flow : Bool) → (most : ℕ) → Option Task → Text → Type 0

@@ -1,5 +1,5 @@
 -- Where a text stops, and how an outcome takes it on.
-use Rattle.std.proofs.Common.{ℕ, ◌+◌, Bool, true, false, List, [], ◌∷◌, Result, Ok, Err, refl, sym, ap, subst, ◌∙◌, ◌≡◌, ◌≤◌, arith}
+use Rattle.std.proofs.Common.{ℕ, ◌+◌, Bool, true, false, List, [], ◌∷◌, Result, Ok, Err, refl, sym, ap, subst, ◌∙◌, ◌≡◌, ◌≤◌, None, arith}
 use Rattle.std.specs.Prelude.{IfOk, OnOk}
 use Rattle.bootstore.specs.declared.store.StoreError.{StoreError}
 use Rattle.bootstore.specs.Moment.{RunningFrame, Moment}
@@ -139,7 +139,7 @@ module _ (limits : Limits) (old mid : Record) (step : Step) (asking : IsAsking l
         ∙ ap (place_answered outcome asking_at.request old.present.frames) (same_state w)
 
     abbrev task : Task
-    task = record { limits = limits; environment = []; name = []; text = [] }
+    task = record { limits = limits; environment = []; name = []; text = []; failures = None }
 
     pub resumed : (w : OutcomeWord) → asked_at limits old.present (outcome ∷ w) ≡ step_comes limits next new.present w
     unfolding asked_at

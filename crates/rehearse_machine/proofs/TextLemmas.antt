@@ -51,11 +51,11 @@ module _ (old mid new : Record) (variables : stored.Variables) (child : stored.R
   pub stands_sound : IsSound new.present
   stands_sound = subst IsSound (sym stands) (text_sound text (view.script code) read)
 
-  pub stands_runs : (limits : Limits) (name : Text) (w : OutcomeWord) → to_come limits new.present w ≡ settled (run_on (record { limits = limits; environment = entries variables; name = name; text = text }) w)
+  pub stands_runs : (limits : Limits) (name : Text) (w : OutcomeWord) → to_come limits new.present w ≡ settled (run_on (record { limits = limits; environment = entries variables; name = name; text = text; failures = None }) w)
   stands_runs limits name w =
       ap (λ (m : stored.Moment). to_come limits m w) stands
       ∙ ap (λ (x : State). continue limits (frames_of (text_frame (view.script code) ∷ [])) (Normal x)) (stored_starts variables w)
-      ∙ text_runs (record { limits = limits; environment = entries variables; name = name; text = text }) (view.script code) w read
+      ∙ text_runs (record { limits = limits; environment = entries variables; name = name; text = text; failures = None }) (view.script code) w read
 
 -- a text that is no script
 pub refused_runs : (task : Task) (w : OutcomeWord) → tree_of task.text ≡ None → settled (run_on task w) ≡ Over (Syntax task.name) (start task.environment w)

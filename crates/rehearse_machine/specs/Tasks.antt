@@ -17,12 +17,13 @@ task_shown env devices name bounds =
       environment = environment;
       name = name;
       text = unwrap_or (get environment name) [];
+      failures = bounds.failures;
     }
 
 -- the same, where the variable is set
 abbrev pub task_set : List (Text × Text) → Devices → Text → BoundsShown → Option Task
 task_set env devices name bounds =
-    task_of (record { devices = devices; device_bound = bounds.devices; step_bound = bounds.steps })
+    task_of (record { devices = devices; device_bound = bounds.devices; step_bound = bounds.steps }) bounds.failures
     (entries (environment_of env)) name
 
 abbrev pub task_in : Rehearsal → Task

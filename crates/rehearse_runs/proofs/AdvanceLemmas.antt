@@ -1,17 +1,19 @@
 -- How a rehearsal goes on from run to run.
-use Rattle.std.proofs.Common.{rules, ◌≡◌, ℕ, zero, suc, ◌+◌, ◌*◌, ◌^◌, ◌≤◌, Bool, true, false, List, [], ◌∷◌, ◌++◌, length, map, None, refl, sym, ap, subst, ◌∙◌, length-append, arith}
-use Rattle.std.specs.Prelude.{filter}
+use Rattle.std.proofs.Common.{rules, ◌≡◌, ℕ, zero, suc, ◌+◌, ◌*◌, ◌^◌, ◌≤◌, Bool, true, false, List, [], ◌∷◌, ◌++◌, length, map, Option, Some, None, ◌⊎◌, inl, inr, refl, sym, ap, subst, ◌∙◌, length-append, arith}
+use Rattle.std.specs.Prelude.{filter, nat_le, ◌&&◌, ◌||◌}
 use Rattle.std.proofs.lemmas.List.{length-map}
 use Rattle.std.proofs.lemmas.List.Sums.{length-filter}
 use Rattle.std.proofs.lemmas.Grind.{pow_more}
 use Rattle.std.proofs.Math.Pow.{pow_mono}
 use Rattle.bootstore.specs.Record.{Record, fresh}
 use Rattle.std.proofs.lemmas.List.Sums.{count_by-le-length}
-use Rattle.rehearse.specs.Bounds.{BoundsShown, are_bounds, most_devices}
-use Rattle.rehearse.specs.Outcomes.{OutcomeWord, Success, Failure, words, is_run_kind}
+use Rattle.rehearse.specs.Bounds.{BoundsShown, are_bounds, are_few, few_failures, most_devices, most_run_devices, most_steps}
+use Rattle.rehearse.specs.Outcomes.{OutcomeWord, Success, Failure, words, is_run_kind, is_within, few_of}
 use Rattle.rehearse.specs.State.{Text}
-use Rattle.rehearse.specs.Runs.{Task, kind, runs, steps}
+use Rattle.rehearse.specs.Runs.{Task, kind, all_runs, runs, steps}
 use Rattle.rehearse_runs.specs.Phases.{AreDigits, HasBudget, HasBegun}
+use Rattle.std.proofs.lemmas.Bool.{leb-true}
+use Rattle.rehearse.proofs.FewFailures.{few_runs_if, power-le}
 use Rattle.rehearse_runs.proofs.WorkLemmas.{begun_first}
 
 -- ---- there are few runs
@@ -34,27 +36,80 @@ words_length (suc n) =
 filter_less : (p : OutcomeWord → Bool) (ws : List OutcomeWord) → length (filter p ws) ≤ length ws
 filter_less p ws = rw (length-filter p ws) (count_by-le-length p ws)
 
-within_bound : (devices steps : ℕ) → are_bounds devices steps ≡ true → devices ≤ most_devices
-within_bound devices steps h = search rules
+-- ---- what the bounds of a listing say
 
-pub are_within : (b : BoundsShown) → are_bounds b.devices b.steps ≡ true → b.devices ≤ most_devices
-are_within b h = within_bound b.devices b.steps h
+abbrev pub AreBounds : Task → Type 0
+AreBounds task = are_bounds task.limits.device_bound task.limits.step_bound task.failures ≡ true
 
-pub within_as : (b c : BoundsShown) → c ≡ b → b.devices ≤ most_devices → c.devices ≤ most_devices
-within_as b c e h = subst (λ (x : BoundsShown). x.devices ≤ most_devices) (sym e) h
+both_true : (b c : Bool) → (b && c) ≡ true → (b ≡ true) × (c ≡ true)
+both_true true c e = (refl, e)
+both_true false c e = absurd (let f = e in cc)
 
-pub few_runs : (task : Task) → task.limits.device_bound ≤ most_devices → length (runs task) ≤ 8589934591
-few_runs task h =
+either_true : (b c : Bool) → (b || c) ≡ true → (b ≡ true) ⊎ (c ≡ true)
+either_true true c e = inl refl
+either_true false c e = inr e
+
+-- few devices, or few failures of more
+fit : (devices steps : ℕ) (failures : Option ℕ) → are_bounds devices steps failures ≡ true → (devices ≤ most_devices) ⊎ ((are_few failures ≡ true) × (devices ≤ most_run_devices))
+fit devices steps failures e =
+    let b = both_true (nat_le devices most_devices || are_few failures && nat_le devices most_run_devices) (nat_le steps most_steps) e in
+    elim (either_true (nat_le devices most_devices) (are_few failures && nat_le devices most_run_devices) b.0) [
+      | inl l ↦ inl (leb-true devices most_devices l)
+      | inr r ↦ let c = both_true (are_few failures) (nat_le devices most_run_devices) r in inr (c.0, leb-true devices most_run_devices c.1)
+    ]
+
+within_if : (devices : ℕ) (failures : Option ℕ) → (devices ≤ most_devices) ⊎ ((are_few failures ≡ true) × (devices ≤ most_run_devices)) → devices ≤ most_run_devices
+within_if devices failures (inl l) = omega arith
+within_if devices failures (inr r) = r.1
+
+pub are_within : (task : Task) → AreBounds task → task.limits.device_bound ≤ most_run_devices
+are_within task h = within_if task.limits.device_bound task.failures (fit task.limits.device_bound task.limits.step_bound task.failures h)
+
+-- of bounds that are the same
+pub bounds_as : (b c : BoundsShown) → c ≡ b → are_bounds b.devices b.steps b.failures ≡ true → are_bounds c.devices c.steps c.failures ≡ true
+bounds_as b c e h = subst (λ (x : BoundsShown). are_bounds x.devices x.steps x.failures ≡ true) (sym e) h
+
+few_less : (most : Option ℕ) (ws : List OutcomeWord) → length (few_of most ws) ≤ length ws
+few_less None ws = omega arith
+few_less (Some most) ws = filter_less (is_within (Some most)) ws
+
+few_devices : (task : Task) → task.limits.device_bound ≤ most_devices → length (runs task) ≤ 8589934591
+few_devices task h =
+    let g = few_less task.failures (all_runs task) in
     let f = filter_less (λ w. is_run_kind (kind task w)) (words task.limits.device_bound) in
     let l = words_length task.limits.device_bound in
     let k : task.limits.device_bound + 1 ≤ 33 = omega arith in
     let m : 2 ^ (task.limits.device_bound + 1) ≤ 8589934592 = pow_mono {i = task.limits.device_bound + 1} {j = 33} k in
-    omega arith
+    omega (arith, g, f, l, m)
+
+thousands : (most : ℕ) → most ≤ 3 → 1001 ^ most ≤ 1003003001
+thousands zero h = omega arith
+thousands (suc zero) h = omega arith
+thousands (suc (suc zero)) h = omega arith
+thousands (suc (suc (suc zero))) h = omega arith
+thousands (suc (suc (suc (suc most)))) h = absurd (omega arith)
+
+few_failing : (task : Task) (failures : Option ℕ) → task.failures ≡ failures → are_few failures ≡ true → task.limits.device_bound ≤ most_run_devices → length (runs task) ≤ 8589934591
+few_failing task None e f h = absurd (let g = f in cc)
+few_failing task (Some most) e f h =
+    let l = few_runs_if task most e in
+    let n : most ≤ 3 = leb-true most few_failures f in
+    let b : task.limits.device_bound + 1 ≤ 1001 = omega (arith, h) in
+    let p : (task.limits.device_bound + 1) ^ most ≤ 1001 ^ most = power-le (task.limits.device_bound + 1) 1001 b most in
+    let q = thousands most n in
+    omega (arith, l, p, q)
+
+few_if : (task : Task) → (task.limits.device_bound ≤ most_devices) ⊎ ((are_few task.failures ≡ true) × (task.limits.device_bound ≤ most_run_devices)) → length (runs task) ≤ 8589934591
+few_if task (inl l) = few_devices task l
+few_if task (inr r) = few_failing task task.failures refl r.0 r.1
+
+pub few_runs : (task : Task) → AreBounds task → length (runs task) ≤ 8589934591
+few_runs task h = few_if task (fit task.limits.device_bound task.limits.step_bound task.failures h)
 
 -- where no run was found yet
-pub stands_fresh : (task : Task) (digits : Text) (r : Record) → digits ≡ [] → r ≡ fresh → task.limits.device_bound ≤ most_devices
-    → AreDigits digits × Unit {0} × ((false ≡ false) × HasBudget r.begun (runs task)) × HasBegun task None None (runs task) r.begun × (task.limits.device_bound ≤ most_devices)
+pub stands_fresh : (task : Task) (digits : Text) (r : Record) → digits ≡ [] → r ≡ fresh → AreBounds task
+    → AreDigits digits × Unit {0} × ((false ≡ false) × HasBudget r.begun (runs task)) × HasBegun task None None (runs task) r.begun × (task.limits.device_bound ≤ most_run_devices)
 stands_fresh task digits r d e h =
     let k = few_runs task h in
     let b = ap (λ (x : Record). x.begun) e in
-    (subst AreDigits (sym d) refl, tt, (refl, omega arith), begun_first task r.begun b, h)
+    (subst AreDigits (sym d) refl, tt, (refl, omega arith), begun_first task r.begun b, are_within task h)

@@ -1,21 +1,21 @@
 -- The runs behind a word, and the kinds of texts.
-use Rattle.std.proofs.Common.{◌≡◌, ℕ, ◌+◌, ◌≤◌, true, List, [], ◌∷◌, length, map, refl, sym, ap, subst, ◌∙◌, length-append, zero-add, Some, arith}
+use Rattle.std.proofs.Common.{◌≡◌, ℕ, ◌+◌, ◌≤◌, true, false, List, [], ◌∷◌, length, map, refl, sym, ap, subst, ◌∙◌, length-append, zero-add, Some, arith}
 use Rattle.bootstore.specs.Record.{Record, fresh}
-use Rattle.rehearse.specs.Bounds.{most_devices}
-use Rattle.rehearse.specs.Outcomes.{OutcomeWord, Success, Failure, Run, Short}
+use Rattle.rehearse.specs.Bounds.{most_run_devices}
+use Rattle.rehearse.specs.Outcomes.{OutcomeWord, Success, Failure, Run, Short, is_within}
 use Rattle.rehearse.specs.State.{Text, State}
-use Rattle.rehearse.specs.Runs.{Task, kind, rest, steps}
+use Rattle.rehearse.specs.Runs.{Task, kind, IsListed, rest, steps}
 use Rattle.rehearse.specs.Listing.{outcome_digit}
 use Rattle.rehearse_runs.specs.RunsShown.{outcomes}
 use Rattle.rehearse_runs.specs.Phases.{AreDigits, StandsOn, HasBegun, shown_at}
 use Rattle.rehearse_runs.proofs.WorkLemmas.{begun_behind, none_in_front}
 use Rattle.rehearse_runs.specs.Walking.{IsShortBehind, ReachedFirst, WalksTo}
-use Rattle.rehearse_runs.specs.Behind.{GoesOnBehind, IsNoRun, HasKind, runs_behind}
+use Rattle.rehearse_runs.specs.Behind.{GoesOnBehind, IsNoRun, IsNotListed, HasKind, runs_behind}
 use Rattle.rehearse_machine.specs.declared.halt.Halt.{Halt}
 use Rattle.rehearse_runs.specs.declared.runs.Phase.TheVariants.{At}
 use Rattle.rehearse_runs.specs.declared.walking.Walked.{Walked}
 use Rattle.rehearse_runs.specs.declared.walking.Walked.TheVariants as walked
-use Rattle.rehearse_runs.proofs.AdvanceLemmas.{few_runs}
+use Rattle.rehearse_runs.proofs.AdvanceLemmas.{AreBounds, are_within, few_runs}
 use Rattle.rehearse.proofs.TaskChoices.{task_stands}
 
 read_word : (w : OutcomeWord) → outcomes (map outcome_digit w) ≡ w
@@ -37,34 +37,51 @@ kind_run task text all halt old new h = record { digits = λ w e. ap (kind task)
 pub short_no_run : (task : Task) (text : Text) → IsShortBehind task [] text → IsNoRun task text
 short_no_run task text h w e r = let k = (kind_short task text h).digits w e in cc
 
+-- nor is a text the digits of a listed run where it is those of none, or too many fail
+pub run_not_listed : (task : Task) (text : Text) → IsNoRun task text → IsNotListed task text
+run_not_listed task text h w e is = h w e is.run
+
+pub fails_too_often : (task : Task) (text : Text) → false ≡ is_within task.failures (outcomes text) → IsNotListed task text
+fails_too_often task text h w e is =
+    let same : outcomes text ≡ w = ap outcomes e ∙ read_word w in
+    let f : false ≡ true = h ∙ ap (is_within task.failures) same ∙ is.few in
+    cc
+
 -- of where it comes to
 pub walked_at : (task : Task) (text all : Text) (w : OutcomeWord) (reached : Walked) (at : Walked) (old new : Record) → reached ≡ at → WalksTo task text all w reached old new → WalksTo task text all w at old new
 walked_at task text all w reached at old new e h = subst (λ (x : Walked). WalksTo task text all w x old new) e h
 
 -- ---- the runs behind it
 
-rest_less : (task : Task) (w : OutcomeWord) → kind task w ≡ Run → task.limits.device_bound ≤ most_devices → length (rest task w) ≤ 8589934590
+rest_less : (task : Task) (w : OutcomeWord) → IsListed task w → AreBounds task → length (rest task w) ≤ 8589934590
 rest_less task w r b =
     let s = task_stands task w r in
     let l = ap length s.1 ∙ length-append s.0 (w ∷ rest task w) in
     let f = few_runs task b in
     omega arith
 
-pub stands_behind : (task : Task) (text all : Text) (halt : Halt) (old new : Record) → old ≡ fresh → task.limits.device_bound ≤ most_devices → WalksTo task text all (outcomes all) (walked.Ends halt) old new
-    → AreDigits all × (kind task (outcomes all) ≡ Run) × ((true ≡ true) × StandsOn task (outcomes all) halt new) × HasBegun task (Some (outcomes all)) (Some (outcomes all)) (rest task (outcomes all)) new.begun × (task.limits.device_bound ≤ most_devices)
-stands_behind task text all halt old new e b h =
+-- a run that the walk comes to is listed where few fail
+listed_at : (task : Task) (text all : Text) (halt : Halt) (old new : Record) → true ≡ is_within task.failures (outcomes text) → WalksTo task text all (outcomes all) (walked.Ends halt) old new → IsListed task (outcomes all)
+listed_at task text all halt old new few h =
+    let same : outcomes text ≡ outcomes all = ap outcomes h.0 ∙ read_word (outcomes all) in
+    record { run = h.2.run; few = sym (few ∙ ap (is_within task.failures) same) }
+
+pub stands_behind : (task : Task) (text all : Text) (halt : Halt) (old new : Record) → old ≡ fresh → AreBounds task → true ≡ is_within task.failures (outcomes text) → WalksTo task text all (outcomes all) (walked.Ends halt) old new
+    → AreDigits all × IsListed task (outcomes all) × ((true ≡ true) × StandsOn task (outcomes all) halt new) × HasBegun task (Some (outcomes all)) (Some (outcomes all)) (rest task (outcomes all)) new.begun × (task.limits.device_bound ≤ most_run_devices)
+stands_behind task text all halt old new e b few h =
     let f = h.2 in
+    let is = listed_at task text all halt old new few h in
     let n = f.begun in
     let z : old.begun ≡ 0 = ap (λ (x : Record). x.begun) e in
     let k = f.within in
-    let l = rest_less task (outcomes all) f.run b in
-    (sym h.0 ∙ sym h.1, f.run, (refl, record { moment = f.moment; ending = f.ending; marks = f.marks; budget = omega arith }), begun_behind task (outcomes all) new.begun (n ∙ ap (λ (k : ℕ). k + new.present.steps) z ∙ zero-add new.present.steps ∙ ap (λ (s : State). s.steps) f.moment), b)
+    let l = rest_less task (outcomes all) is b in
+    (sym h.0 ∙ sym h.1, is, (refl, record { moment = f.moment; ending = f.ending; marks = f.marks; budget = omega arith }), begun_behind task (outcomes all) new.begun (n ∙ ap (λ (k : ℕ). k + new.present.steps) z ∙ zero-add new.present.steps ∙ ap (λ (s : State). s.steps) f.moment), are_within task b)
 
 -- the same, where the start word is kept as a copy of its digits
-pub stands_from : (task : Task) (text all copy : Text) (halt : Halt) (old new : Record) → copy ≡ all → old ≡ fresh → task.limits.device_bound ≤ most_devices → WalksTo task text all (outcomes all) (walked.Ends halt) old new
-    → AreDigits all × (kind task (outcomes all) ≡ Run) × ((true ≡ true) × StandsOn task (outcomes all) halt new) × HasBegun task (Some (outcomes copy)) (Some (outcomes all)) (rest task (outcomes all)) new.begun × (task.limits.device_bound ≤ most_devices)
-stands_from task text all copy halt old new c e b h =
-    let s = stands_behind task text all halt old new e b h in
+pub stands_from : (task : Task) (text all copy : Text) (halt : Halt) (old new : Record) → copy ≡ all → old ≡ fresh → AreBounds task → true ≡ is_within task.failures (outcomes text) → WalksTo task text all (outcomes all) (walked.Ends halt) old new
+    → AreDigits all × IsListed task (outcomes all) × ((true ≡ true) × StandsOn task (outcomes all) halt new) × HasBegun task (Some (outcomes copy)) (Some (outcomes all)) (rest task (outcomes all)) new.begun × (task.limits.device_bound ≤ most_run_devices)
+stands_from task text all copy halt old new c e b few h =
+    let s = stands_behind task text all halt old new e b few h in
     (s.0, s.1, s.2, subst (λ (t : Text). HasBegun task (Some (outcomes t)) (Some (outcomes all)) (rest task (outcomes all)) new.begun) (sym c) s.3, s.4)
 
 steps_begun : (task : Task) (w : OutcomeWord) (old new : Record) (halt : Halt) → old ≡ fresh → ReachedFirst task w halt old new → new.begun ≡ steps task w
@@ -72,12 +89,12 @@ steps_begun task w old new halt e f =
     let z : old.begun ≡ 0 = ap (λ (x : Record). x.begun) e in
     f.begun ∙ ap (λ (k : ℕ). k + new.present.steps) z ∙ zero-add new.present.steps ∙ ap (λ (s : State). s.steps) f.moment
 
-pub goes_on_from : (task : Task) (text all copy : Text) (halt : Halt) (old new : Record) → copy ≡ all → old ≡ fresh → WalksTo task text all (outcomes all) (walked.Ends halt) old new
+pub goes_on_from : (task : Task) (text all copy : Text) (halt : Halt) (old new : Record) → copy ≡ all → old ≡ fresh → true ≡ is_within task.failures (outcomes text) → WalksTo task text all (outcomes all) (walked.Ends halt) old new
     → GoesOnBehind task text (shown_at task (Some (outcomes copy)) true (outcomes all) new.begun (At halt))
-goes_on_from task text all copy halt old new c e h =
+goes_on_from task text all copy halt old new c e few h =
     let w = outcomes all in
     let same : shown_at task (Some (outcomes copy)) true w new.begun (At halt) ≡ runs_behind task w =
     ap (λ (t : Text). shown_at task (Some (outcomes t)) true w new.begun (At halt)) c
     ∙ ap (λ (n : ℕ). shown_at task (Some w) true w n (At halt)) (steps_begun task w old new halt e h.2)
     ∙ ap (λ (ws : List OutcomeWord). record (runs_behind task w) { answers = ws }) (none_in_front (rest task w)) in
-    record { word = w; digits = h.0; run = h.2.run; behind = same }
+    record { word = w; digits = h.0; run = listed_at task text all halt old new few h; behind = same }

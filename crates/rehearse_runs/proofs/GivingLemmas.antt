@@ -1,10 +1,10 @@
 -- A run that is given, and what a rehearsal keeps then.
-use Rattle.std.proofs.Common.{◌≡◌, ℕ, ◌+◌, ◌≤◌, Bool, true, false, ◌∷◌, length, Option, Some, refl, sym, ap, subst, ◌∙◌, arith}
+use Rattle.std.proofs.Common.{◌≡◌, ℕ, ◌+◌, ◌≤◌, Bool, true, false, [], ◌∷◌, length, Option, Some, refl, sym, ap, subst, ◌∙◌, arith}
 use Rattle.bootstore.specs.Record.{Record}
-use Rattle.rehearse.specs.Bounds.{most_devices}
-use Rattle.rehearse.specs.Outcomes.{OutcomeWord, Run, common_prefix}
+use Rattle.rehearse.specs.Bounds.{most_run_devices}
+use Rattle.rehearse.specs.Outcomes.{OutcomeWord, common_prefix}
 use Rattle.rehearse.specs.State.{Text, State}
-use Rattle.rehearse.specs.Runs.{Task, kind, runs, rest, steps, asked}
+use Rattle.rehearse.specs.Runs.{Task, runs, IsListed, rest, steps, asked}
 use Rattle.rehearse_machine.specs.declared.halt.Halt.{Halt}
 use Rattle.rehearse_runs.specs.declared.runs.Phase.{Phase}
 use Rattle.rehearse_runs.specs.declared.runs.Phase.TheVariants.{Fresh, At}
@@ -13,6 +13,7 @@ use Rattle.rehearse_runs.specs.Phases.{AreDigits, HasBudget, StandsOn, StandsAt,
 use Rattle.rehearse_runs.specs.Searching.{FoundFirst, FoundBehind, FoundNext}
 use Rattle.rehearse_runs.specs.Giving.{GivesWord}
 use Rattle.rehearse_runs.proofs.WorkLemmas.{answers_more, begun_more}
+use Rattle.rehearse.proofs.TaskChoices.{rest_is_listed, runs_are_runs}
 
 module _ (task : Task) (start : Option OutcomeWord) (has : Bool) (u : OutcomeWord) (phase : Phase) (halt : Halt) (w : OutcomeWord) (begun begun' : ℕ) (live : is_failed phase ≡ false) (has_begun : HasBegun task start (given_if has u) (to_come_after has task u) begun) (first : to_come_after has task u ≡ w ∷ rest task w) (e : begun' + steps_shared task (given_if has u) w ≡ begun + steps task w) (l : steps_shared task (given_if has u) w ≤ steps task w) where
   gives : GivesWord (shown_at task start has u begun phase) (shown_at task start true w begun' (At halt))
@@ -65,11 +66,11 @@ module _ (task : Task) (start : Option OutcomeWord) (has : Bool) (u : OutcomeWor
       let k = found.within in
       omega arith
 
-  pub first_stands : AreDigits digits → task.limits.device_bound ≤ most_devices
-      → AreDigits digits × (kind task (outcomes digits) ≡ Run) × ((true ≡ true) × StandsOn task (outcomes digits) halt r') × HasBegun task start (Some (outcomes digits)) (rest task (outcomes digits)) r'.begun × (task.limits.device_bound ≤ most_devices)
+  pub first_stands : AreDigits digits → task.limits.device_bound ≤ most_run_devices
+      → AreDigits digits × IsListed task (outcomes digits) × ((true ≡ true) × StandsOn task (outcomes digits) halt r') × HasBegun task start (Some (outcomes digits)) (rest task (outcomes digits)) r'.begun × (task.limits.device_bound ≤ most_run_devices)
   first_stands d b = (
     d,
-    found.run,
+    runs_are_runs task (outcomes digits) [] (rest task (outcomes digits)) found.begins,
     (refl, record { moment = found.moment; ending = found.ending; marks = found.marks; budget = first_budget }),
     given_begun task start has u phase halt (outcomes digits) r.begun r'.begun (ap is_failed fresh) begun_fresh first_word first_work first_shared,
     b,
@@ -118,11 +119,11 @@ module _ (task : Task) (start : Option OutcomeWord) (has : Bool) (all copy : Tex
       let k = behind.within in
       omega arith
 
-  pub next_stands : AreDigits digits → task.limits.device_bound ≤ most_devices
-      → AreDigits digits × IsRunIf has task (outcomes digits) × ((has ≡ true) × StandsOn task (outcomes digits) halt r') × HasBegun task start (given_if has (outcomes digits)) (to_come_after has task (outcomes digits)) r'.begun × (task.limits.device_bound ≤ most_devices)
+  pub next_stands : AreDigits digits → task.limits.device_bound ≤ most_run_devices
+      → AreDigits digits × IsRunIf has task (outcomes digits) × ((has ≡ true) × StandsOn task (outcomes digits) halt r') × HasBegun task start (given_if has (outcomes digits)) (to_come_after has task (outcomes digits)) r'.begun × (task.limits.device_bound ≤ most_run_devices)
   next_stands d b = (
     d,
-    subst (λ (x : Bool). IsRunIf x task (outcomes digits)) (sym stands_at.0) behind.run,
+    subst (λ (x : Bool). IsRunIf x task (outcomes digits)) (sym stands_at.0) (rest_is_listed task (outcomes all) (outcomes digits) (rest task (outcomes digits)) behind.follows),
     (stands_at.0, record { moment = behind.moment; ending = behind.ending; marks = behind.marks; budget = next_budget }),
     subst (λ (x : Bool). HasBegun task start (given_if x (outcomes digits)) (to_come_after x task (outcomes digits)) r'.begun) (sym stands_at.0)
         (given_begun task start has (outcomes all) phase halt (outcomes digits) r.begun r'.begun (ap is_failed at) begun_at next_word next_work next_shared),

@@ -5,7 +5,7 @@ use Rattle.std.specs.List.{flat_map}
 use Rattle.std.proofs.lemmas.Bool.{eqb-true}
 use Rattle.output.specs.Sink.{Sink, Wrote, BrokeOff}
 use Rattle.envtools.specs.Environment.{value_of}
-use Rattle.rehearse.specs.Asking.{Asking, AreToCome, Listed, SpellsNoRun}
+use Rattle.rehearse.specs.Asking.{Asking, AreToCome, GivesNoRun, Listed, SpellsNoRun}
 use Rattle.rehearse.specs.Listing.{outcome_digit, spelled, record_of, line}
 use Rattle.rehearse.specs.Outcomes.{Outcome, OutcomeWord, Success, Failure}
 use Rattle.rehearse.specs.State.{Text}
@@ -14,7 +14,7 @@ use Rattle.rehearse.specs.Runs.{Task}
 use Rattle.rehearse_machine.specs.Tasks.{task_shown, task_set}
 use Rattle.rehearse.specs.Bounds.{BoundsShown}
 use Rattle.rehearse_runs.specs.AskShown.{asking_alone, asking_by, asking_of}
-use Rattle.rehearse_runs.specs.Behind.{GoesOnBehind, IsNoRun, RefusesWord, runs_behind}
+use Rattle.rehearse_runs.specs.Behind.{GoesOnBehind, IsNoRun, IsNotListed, RefusesWord, runs_behind}
 use Rattle.rehearse_runs.specs.RehearsedEnvironment.{Begins, BreaksOff, Refuses, RefusesAsk, RefusesRuns, Rehearses, WithDevices, task_asked}
 use Rattle.rehearse_runs.specs.RunAlone.{BreaksAlone, WritesAlone, alone_text}
 use Rattle.rehearse_runs.specs.RunsShown.{RunsShown}
@@ -55,8 +55,12 @@ digits-spelled (b ∷ c ∷ more) [] e = cc
 digits-spelled (b ∷ c ∷ more) (d ∷ w) e = e
 
 -- digits that are no run's are those of a word that spells none
-pub spells_no_run : (task : Task) (printed digits : Text) → digits ≡ digits_in printed → IsNoRun task digits → SpellsNoRun task (Some printed)
+pub spells_no_run : (task : Task) (printed digits : Text) → digits ≡ digits_in printed → IsNoRun task digits → SpellsNoRun task printed
 spells_no_run task printed digits is h = λ w e. h w (is ∙ ap digits_in e ∙ spelled-digits w)
+
+-- and so of the runs of a listing
+gives_no_run : (task : Task) (printed digits : Text) → digits ≡ digits_in printed → IsNotListed task digits → GivesNoRun task (Listed (Some printed) None)
+gives_no_run task printed digits is h = λ w e. h w (is ∙ ap digits_in e ∙ spelled-digits w)
 
 -- ---- the runs of a listing
 
@@ -84,7 +88,7 @@ refuses_behind env devices name bounds printed digits Memory is h u = tt
 refuses_behind env devices name bounds printed digits NotARun is h u = record {
   task = task_shown env devices name bounds;
   task_is = task_is_set env devices name bounds h.0;
-  no_run = spells_no_run (task_shown env devices name bounds) printed digits is h.1;
+  no_run = gives_no_run (task_shown env devices name bounds) printed digits is h.1;
 }
 refuses_behind env devices name bounds printed digits Failed is h u = h
 

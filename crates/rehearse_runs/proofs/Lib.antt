@@ -3,6 +3,7 @@ pub mod EscapeLemmas
 pub mod RecordParts
 pub mod RunsLemmas
 pub mod ListingLemmas
+pub mod FailingLemmas
 pub mod SearchLemmas
 pub mod WorkLemmas
 pub mod AdvanceLemmas

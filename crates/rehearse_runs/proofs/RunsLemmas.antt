@@ -3,11 +3,11 @@ use Rattle.std.proofs.Common.{◌≡◌, ◌≢◌, ◌↔◌, ◌≤◌, length
 use Rattle.bootstore.specs.Moment.{Moment}
 use Rattle.bootstore.specs.Record.{Record}
 use Rattle.bootstore.specs.declared.store.Store.{Ghosts}
-use Rattle.rehearse.specs.Bounds.{most_devices}
-use Rattle.rehearse.specs.Outcomes.{OutcomeWord, Run, has_success}
+use Rattle.rehearse.specs.Bounds.{most_run_devices}
+use Rattle.rehearse.specs.Outcomes.{OutcomeWord, has_success}
 use Rattle.rehearse.specs.State.{Text}
 use Rattle.bootstore.specs.StoredState.{state_at}
-use Rattle.rehearse.specs.Runs.{Task, kind, rest, runs, run_on, state_of, ending_of}
+use Rattle.rehearse.specs.Runs.{Task, IsListed, rest, runs, run_on, state_of, ending_of}
 use Rattle.rehearse.specs.Listing.{outcome_digit}
 use Rattle.rehearse_runs.specs.RunsShown.{outcomes, given_if, to_come_after, has_words, successes}
 use Rattle.rehearse_runs.specs.Searching.{AreMarks}
@@ -24,19 +24,19 @@ use Rattle.rehearse.proofs.TaskChoices.{another_follows, runs_are_there}
 
 -- the run that stands in a store is the one that is shown
 pub stood : {S : Type 0} (g : Ghosts S) (task : Task) (digits : Text) (has : Bool) (r : Record) (phase : Phase) (halt : Halt) (v : RunView S)
-    → phase ≡ At halt → AreDigits digits → StandsAt task has (outcomes digits) r phase → shown_word v ≡ digits → shown_ending v ≡ halt_shown halt → shown_moment g v ≡ r.present → shown_marks g v ≡ r.marked → IsRunIf has task (outcomes digits) → task.limits.device_bound ≤ most_devices
+    → phase ≡ At halt → AreDigits digits → StandsAt task has (outcomes digits) r phase → shown_word v ≡ digits → shown_ending v ≡ halt_shown halt → shown_moment g v ≡ r.present → shown_marks g v ≡ r.marked → IsRunIf has task (outcomes digits) → task.limits.device_bound ≤ most_run_devices
     → (shows_run phase ≡ true) × ShowsRun g task (unwrap_or (given_if has (outcomes digits)) []) v
 stood g task digits has r phase halt v e d s sw se sm ss run bound =
     let h : StandsAt task has (outcomes digits) r (At halt) = subst (λ (p : Phase). StandsAt task has (outcomes digits) r p) e s in
     let marks : AreMarks task (outcomes digits) (shown_marks g v) = subst (AreMarks task (outcomes digits)) (sym ss) h.1.marks in
-    let is_run : kind task (outcomes digits) ≡ Run = subst (λ (b : Bool). IsRunIf b task (outcomes digits)) h.0 run in (
+    let is_run : IsListed task (outcomes digits) = subst (λ (b : Bool). IsRunIf b task (outcomes digits)) h.0 run in (
       ap shows_run e,
       record {
         word = sw ∙ sym d ∙ ap (λ (b : Bool). map outcome_digit (unwrap_or (given_if b (outcomes digits)) [])) (sym h.0);
         moment = subst (λ (b : Bool). state_at (shown_moment g v) [] ≡ state_of (run_on task (unwrap_or (given_if b (outcomes digits)) []))) (sym h.0) (ap (λ (n : Moment). state_at n []) sm ∙ h.1.moment);
         ending = subst (λ (b : Bool). shown_ending v ≡ ending_of (run_on task (unwrap_or (given_if b (outcomes digits)) []))) (sym h.0) (se ∙ h.1.ending);
         marks = subst (λ (b : Bool). length (shown_marks g v) ≤ successes (unwrap_or (given_if b (outcomes digits)) [])) (sym h.0) (few_marks task (outcomes digits) (shown_marks g v) marks);
-        few = marks_within task (outcomes digits) (shown_marks g v) marks is_run bound;
+        few = marks_within task (outcomes digits) (shown_marks g v) marks is_run.run bound;
       },
     )
 
@@ -46,9 +46,9 @@ pick [] false i = refl
 pick (w ∷ ws) true i = refl
 pick (w ∷ ws) false i = i.0 (λ e. cc)
 
--- a word is followed exactly where a success stands in it
-pub more_behind : (task : Task) (has : Bool) (w : OutcomeWord) → has ≡ true → IsRunIf has task w → has_success w ≡ has_words (to_come_after has task w)
-more_behind task true w e r = pick (rest task w) (has_success w) (another_follows task w r)
+-- a word is followed exactly where a success stands in it that may fail
+pub more_behind : (task : Task) (has : Bool) (w : OutcomeWord) → has ≡ true → IsRunIf has task w → has_success task.failures w ≡ has_words (to_come_after has task w)
+more_behind task true w e r = pick (rest task w) (has_success task.failures w) (another_follows task w r)
 more_behind task false w e r = absurd cc
 
 some_words : (ws : List OutcomeWord) → ws ≢ [] → true ≡ has_words ws

@@ -1,12 +1,13 @@
 -- The search for the next run, over the words of runs.
-use Rattle.std.proofs.Common.{◌≡◌, ℕ, zero, suc, ◌+◌, ◌<◌, ◌≤◌, Bool, true, false, List, [], ◌∷◌, ◌++◌, length, map, Option, Some, None, option_map, pred, refl, sym, ap, subst, ◌∙◌, append_assoc, append-nil, arith}
+use Rattle.std.proofs.Common.{◌≡◌, ℕ, zero, suc, ◌+◌, ◌-◌, cond, ◌<◌, ◌≤◌, Bool, true, false, List, [], ◌∷◌, ◌++◌, length, map, Option, Some, None, option_map, pred, refl, sym, ap, subst, ◌∙◌, append_assoc, append-nil, arith}
 use Rattle.bootstore.specs.Moment.{Moment}
 use Rattle.rehearse.specs.Bounds.{most_steps}
-use Rattle.rehearse.specs.Outcomes.{OutcomeWord, Outcome, Success, Failure, WordKind, Run, Short, Long, turned, beyond, first_run, first_from, common_prefix}
+use Rattle.rehearse.specs.Outcomes.{OutcomeWord, Outcome, Success, Failure, WordKind, Run, Short, Long, failures, allows, one_less, turned, beyond, first_run, first_from, common_prefix}
 use Rattle.rehearse.specs.State.{Text, State}
 use Rattle.bootstore.specs.StoredState.{state_at}
 use Rattle.rehearse.specs.Execution.{Answer, Normal, Exit, Ended, Dry, Ending}
-use Rattle.rehearse.specs.Runs.{Task, run_on, kind, kind_of, taken_kind, state_of, ending_of, runs, rest, asked}
+use Rattle.rehearse.specs.Runs.{Task, run_on, kind, kind_of, taken_kind, state_of, ending_of, runs, IsListed, rest, asked}
+use Rattle.std.proofs.Math.Dec.{leb-suc-zero, leb-suc-suc}
 use Rattle.std.proofs.lemmas.Bool.{ne_eqb}
 use Rattle.rehearse.specs.Listing.{outcome_digit}
 use Rattle.rehearse_runs.specs.RunsShown.{outcomes, outcome_of}
@@ -15,26 +16,41 @@ use Rattle.rehearse_runs.specs.Phases.{AreDigits}
 use Rattle.rehearse_machine.specs.Came.{Came, Over, Wants, settled}
 use Rattle.rehearse_machine.specs.Machine.{Stops, asked_at}
 use Rattle.std.proofs.Common.{Result, Ok, Err}
-use Rattle.std.specs.Prelude.{IfOk}
+use Rattle.std.specs.Prelude.{IfOk, nat_lt}
 use Rattle.std.proofs.lemmas.Option.{same_Some}
 use Rattle.bootstore.specs.Record.{Record, with_mark, gone_back, returned}
 use Rattle.bootstore.specs.declared.store.StoreError.{StoreError}
 use Rattle.rehearse_machine.specs.declared.halt.Halt.{Halt}
 use Rattle.rehearse_machine.specs.Machine.{outcome_when}
-use Rattle.rehearse_runs.specs.Searching.{StoppedAt, AreMarks, Found, FoundFirst, FoundBehind}
+use Rattle.rehearse_runs.specs.Searching.{StoppedAt, AreMarks, MarksIf, Found, FoundFirst, FoundBehind, may_fail}
 use Rattle.rehearse_machine.specs.declared.rehearsal.Stop.{Stop}
 use Rattle.rehearse_machine.specs.declared.rehearsal.Stop.TheVariants.{Asks, Ends}
 use Rattle.rehearse.proofs.TaskChoices.{dry_within, no_run_is_longer, task_begins, task_goes_on}
 
-pub turned_by_success : (p : OutcomeWord) → turned (p ++ Success ∷ []) ≡ Some (p ++ Failure ∷ [])
-turned_by_success [] = refl
-turned_by_success (Success ∷ p) = let e = turned_by_success p in rw e refl
-turned_by_success (Failure ∷ p) = let e = turned_by_success p in rw e refl
+-- behind a failure one less may fail
+lt_less : (k most : ℕ) → nat_lt (suc k) most ≡ nat_lt k (most - 1)
+lt_less k zero = leb-suc-zero (suc k) ∙ sym (leb-suc-zero k)
+lt_less k (suc most) = let e : suc most - 1 ≡ most = omega arith in leb-suc-suc (suc k) most ∙ ap (nat_lt k) (sym e)
 
-pub turned_by_failure : (p : OutcomeWord) → turned (p ++ Failure ∷ []) ≡ turned p
-turned_by_failure [] = refl
-turned_by_failure (Success ∷ p) = let e = turned_by_failure p in rw e refl
-turned_by_failure (Failure ∷ p) = let e = turned_by_failure p in rw e refl
+allows_less : (most : Option ℕ) (k : ℕ) → allows most (suc k) ≡ allows (one_less most) k
+allows_less None k = refl
+allows_less (Some most) k = lt_less k most
+
+pub turned_by_success : (most : Option ℕ) (p : OutcomeWord) → allows most (failures p) ≡ true → turned most (p ++ Success ∷ []) ≡ Some (p ++ Failure ∷ [])
+turned_by_success most [] h = ap (λ (b : Bool). cond b (Some (Failure ∷ [])) None) h
+turned_by_success most (Success ∷ p) h = let e = turned_by_success most p h in rw e refl
+turned_by_success most (Failure ∷ p) h = let e = turned_by_success (one_less most) p (sym (allows_less most (failures p)) ∙ h) in rw e refl
+
+-- a success that may not fail
+pub turned_stays : (most : Option ℕ) (p : OutcomeWord) → allows most (failures p) ≡ false → turned most (p ++ Success ∷ []) ≡ turned most p
+turned_stays most [] h = ap (λ (b : Bool). cond b (Some (Failure ∷ [])) None) h
+turned_stays most (Success ∷ p) h = let e = turned_stays most p h in rw e refl
+turned_stays most (Failure ∷ p) h = ap (option_map (λ v. Failure ∷ v)) (turned_stays (one_less most) p (sym (allows_less most (failures p)) ∙ h))
+
+pub turned_by_failure : (most : Option ℕ) (p : OutcomeWord) → turned most (p ++ Failure ∷ []) ≡ turned most p
+turned_by_failure most [] = refl
+turned_by_failure most (Success ∷ p) = let e = turned_by_failure most p in rw e refl
+turned_by_failure most (Failure ∷ p) = ap (option_map (λ v. Failure ∷ v)) (turned_by_failure (one_less most) p)
 
 abbrev first_pick : WordKind → OutcomeWord → OutcomeWord
 first_pick k w = elim k [ Run ↦ [] | Long ↦ [] | Short ↦ w ]
@@ -107,9 +123,21 @@ asked_within task p m h = dry_within task p (state_at m []) (dry_there task p m 
 pub asked_kind : (task : Task) (p : OutcomeWord) (m : Moment) → StoppedAt task p Asks m → kind task p ≡ Short
 asked_kind task p m h = ap kind_of (dry_there task p m h)
 
+-- the marks of a word are those of another that is turned into the same
+marked_same : (task : Task) (u p : OutcomeWord) (ms : List Moment) → turned task.failures u ≡ turned task.failures p → AreMarks task p ms → AreMarks task u ms
+marked_same task u p [] e h = e ∙ h
+marked_same task u p (m ∷ ms) e h = (h.0, e ∙ h.1, h.2, h.3)
+
 -- the marks behind a success
-pub marked_success : (task : Task) (p : OutcomeWord) (m : Moment) (ms : List Moment) → StoppedAt task p Asks m → AreMarks task p ms → AreMarks task (p ++ Success ∷ []) (m ∷ ms)
-marked_success task p m ms h k = (p, turned_by_success p, h, k)
+marked_success : (may : Bool) (task : Task) (p : OutcomeWord) (old new : Record) → may ≡ may_fail task p → MarksIf may old new → StoppedAt task p Asks old.present → AreMarks task p old.marked → AreMarks task (p ++ Success ∷ []) new.marked
+marked_success true task p old new e m h k = subst (λ (x : Record). AreMarks task (p ++ Success ∷ []) x.marked) (sym m) (p, turned_by_success task.failures p (sym e), h, k)
+marked_success false task p old new e m h k =
+    subst (λ (x : Record). AreMarks task (p ++ Success ∷ []) x.marked) (sym m) (marked_same task (p ++ Success ∷ []) p old.marked (turned_stays task.failures p (sym e)) k)
+
+-- a mark changes nothing else
+pub marks_keep : (may : Bool) (old new : Record) → MarksIf may old new → (new.present ≡ old.present) × (new.begun ≡ old.begun)
+marks_keep true old new m = (ap (λ (x : Record). x.present) m, ap (λ (x : Record). x.begun) m)
+marks_keep false old new m = (ap (λ (x : Record). x.present) m, ap (λ (x : Record). x.begun) m)
 
 -- where the command that asks takes an outcome, the text means what follows it
 pub stopped_on : (task : Task) (p : OutcomeWord) (m n : Moment) (d : Outcome) (stop : Stop) → StoppedAt task p Asks m → Stops task.limits stop (λ w. asked_at task.limits m (d ∷ w)) n → StoppedAt task (p ++ d ∷ []) stop n
@@ -165,18 +193,26 @@ asked_here task digits stop m e h =
     }
 
 -- where the search goes on
-pub goes_on : (task : Task) (digits : Text) (stop next : Stop) (r₀ r r₁ : Record) (digits' : Text) → Asked task digits stop r₀.present → r ≡ with_mark r₀ → digits' ≡ digits ++ 48 ∷ []
+pub goes_on : (may : Bool) (task : Task) (digits : Text) (stop next : Stop) (r₀ r r₁ : Record) (digits' : Text) → Asked task digits stop r₀.present → MarksIf may r₀ r → digits' ≡ digits ++ 48 ∷ []
     → Stops task.limits next (λ w. asked_at task.limits r.present (outcome_when true ∷ w)) r₁.present → StoppedAt task (outcomes digits') next r₁.present
-goes_on task digits stop next r₀ r r₁ digits' a e d k =
-    let k' : Stops task.limits next (λ w. asked_at task.limits r₀.present (Success ∷ w)) r₁.present = subst (λ (x : Record). Stops task.limits next (λ w. asked_at task.limits x.present (Success ∷ w)) r₁.present) e k in
+goes_on may task digits stop next r₀ r r₁ digits' a e d k =
+    let k' : Stops task.limits next (λ w. asked_at task.limits r₀.present (Success ∷ w)) r₁.present = subst (λ (m : Moment). Stops task.limits next (λ w. asked_at task.limits m (Success ∷ w)) r₁.present) (marks_keep may r₀ r e).0 k in
     subst (λ (p : OutcomeWord). StoppedAt task p next r₁.present) (sym (ap outcomes d ∙ outcomes_success digits)) (stopped_on task (outcomes digits) r₀.present r₁.present Success next a.asks k')
 
-pub marks_go_on : (task : Task) (digits : Text) (stop : Stop) (r₀ r r₁ : Record) (digits' : Text) → Asked task digits stop r₀.present → r ≡ with_mark r₀ → digits' ≡ digits ++ 48 ∷ []
+pub marks_go_on : (may : Bool) (task : Task) (digits : Text) (stop : Stop) (r₀ r r₁ : Record) (digits' : Text) → Asked task digits stop r₀.present → may ≡ may_fail task (outcomes digits) → MarksIf may r₀ r → digits' ≡ digits ++ 48 ∷ []
     → r₁.marked ≡ r.marked → AreMarks task (outcomes digits) r₀.marked → AreMarks task (outcomes digits') r₁.marked
-marks_go_on task digits stop r₀ r r₁ digits' a e d m k =
-    let ms : r₁.marked ≡ r₀.present ∷ r₀.marked = m ∙ ap (λ (x : Record). x.marked) e in
-    let all : AreMarks task (outcomes digits ++ Success ∷ []) (r₀.present ∷ r₀.marked) = marked_success task (outcomes digits) r₀.present r₀.marked a.asks k in
-    subst (λ (p : OutcomeWord). AreMarks task p r₁.marked) (sym (ap outcomes d ∙ outcomes_success digits)) (subst (λ (xs : List Moment). AreMarks task (outcomes digits ++ Success ∷ []) xs) (sym ms) all)
+marks_go_on may task digits stop r₀ r r₁ digits' a is e d m k =
+    let all : AreMarks task (outcomes digits ++ Success ∷ []) r.marked = marked_success may task (outcomes digits) r₀ r is e a.asks k in
+    subst (λ (p : OutcomeWord). AreMarks task p r₁.marked) (sym (ap outcomes d ∙ outcomes_success digits)) (subst (λ (xs : List Moment). AreMarks task (outcomes digits ++ Success ∷ []) xs) (sym m) all)
+
+-- a success more
+failures_success : (p : OutcomeWord) → failures (p ++ Success ∷ []) ≡ failures p
+failures_success [] = refl
+failures_success (Success ∷ p) = failures_success p
+failures_success (Failure ∷ p) = ap suc (failures_success p)
+
+pub may_fail_on : (may : Bool) (task : Task) (digits digits' : Text) → may ≡ may_fail task (outcomes digits) → digits' ≡ digits ++ 48 ∷ [] → may ≡ may_fail task (outcomes digits')
+may_fail_on may task digits digits' e d = e ∙ ap (allows task.failures) (sym (ap (λ (t : Text). failures (outcomes t)) d ∙ ap failures (outcomes_success digits) ∙ failures_success (outcomes digits)))
 
 pub digits_go_on : (digits digits' : Text) → digits' ≡ digits ++ 48 ∷ [] → AreDigits digits → AreDigits digits'
 digits_go_on digits digits' d h = subst AreDigits (sym d) (digits_success digits h)
@@ -210,22 +246,41 @@ pub outcomes_more : (digits : Text) (b : ℕ) → outcomes (digits ++ b ∷ []) 
 outcomes_more [] b = refl
 outcomes_more (d ∷ digits) b = ap (λ (w : OutcomeWord). outcome_of d ∷ w) (outcomes_more digits b)
 
-failure_of : (b : ℕ) → (b ≡ 48 → ⊥) → outcome_of b ≡ Failure
+pub failure_of : (b : ℕ) → (b ≡ 48 → ⊥) → outcome_of b ≡ Failure
 failure_of b h = ap (λ (t : Bool). elim t [ true ↦ Success | false ↦ Failure ]) (ne_eqb b 48 h)
 
 -- the digit that is dropped was a failure
-pub dropped : (all digits : Text) (b : ℕ) → all ≡ digits ++ b ∷ [] → (b ≡ 48 → ⊥) → turned (outcomes digits) ≡ turned (outcomes all)
-dropped all digits b e h = sym (ap (λ (t : Text). turned (outcomes t)) e ∙ ap turned (outcomes_more digits b ∙ ap (λ (o : Outcome). outcomes digits ++ o ∷ []) (failure_of b h)) ∙ turned_by_failure (outcomes digits))
+pub dropped : (most : Option ℕ) (all digits : Text) (b : ℕ) → all ≡ digits ++ b ∷ [] → (b ≡ 48 → ⊥) → turned most (outcomes digits) ≡ turned most (outcomes all)
+dropped most all digits b e h = sym (ap (λ (t : Text). turned most (outcomes t)) e ∙ ap (turned most) (outcomes_more digits b ∙ ap (λ (o : Outcome). outcomes digits ++ o ∷ []) (failure_of b h)) ∙ turned_by_failure most (outcomes digits))
+
+failures_behind : (p : OutcomeWord) → failures (p ++ Failure ∷ []) ≡ suc (failures p)
+failures_behind [] = refl
+failures_behind (Success ∷ p) = failures_behind p
+failures_behind (Failure ∷ p) = ap suc (failures_behind p)
+
+pub dropped_failures : (all digits : Text) (b : ℕ) → all ≡ digits ++ b ∷ [] → (b ≡ 48 → ⊥) → failures (outcomes all) ≡ suc (failures (outcomes digits))
+dropped_failures all digits b e h = ap (λ (t : Text). failures (outcomes t)) e ∙ ap failures (outcomes_more digits b ∙ ap (λ (o : Outcome). outcomes digits ++ o ∷ []) (failure_of b h)) ∙ failures_behind (outcomes digits)
+
+-- it was a success
+with_success : (all digits : Text) (b : ℕ) → all ≡ digits ++ b ∷ [] → b ≡ 48 → outcomes all ≡ outcomes digits ++ Success ∷ []
+with_success all digits b e h = ap outcomes (e ∙ ap (λ (k : ℕ). digits ++ k ∷ []) h) ∙ outcomes_more digits 48
+
+pub passed_failures : (all digits : Text) (b : ℕ) → all ≡ digits ++ b ∷ [] → b ≡ 48 → failures (outcomes all) ≡ failures (outcomes digits)
+passed_failures all digits b e h = ap failures (with_success all digits b e h) ∙ failures_success (outcomes digits)
+
+-- that may not fail
+pub passed : (most : Option ℕ) (all digits : Text) (b : ℕ) → all ≡ digits ++ b ∷ [] → b ≡ 48 → allows most (failures (outcomes digits)) ≡ false → turned most (outcomes digits) ≡ turned most (outcomes all)
+passed most all digits b e h n = sym (ap (turned most) (with_success all digits b e h) ∙ turned_stays most (outcomes digits) n)
 
 -- no digit is left
-pub none_left : (all digits : Text) → (0 < length digits → ⊥) → turned (outcomes digits) ≡ turned (outcomes all) → turned (outcomes all) ≡ None
-none_left all [] h e = sym e
-none_left all (d ∷ digits) h e = absurd (h (omega arith))
+pub none_left : (most : Option ℕ) (all digits : Text) → (0 < length digits → ⊥) → turned most (outcomes digits) ≡ turned most (outcomes all) → turned most (outcomes all) ≡ None
+none_left most all [] h e = sym e
+none_left most all (d ∷ digits) h e = absurd (h (omega arith))
 
 -- a success became a failure
-pub turned_here : (all digits new : Text) (b : ℕ) → all ≡ digits ++ b ∷ [] → b ≡ 48 → new ≡ digits ++ 49 ∷ [] → turned (outcomes all) ≡ Some (outcomes new)
-turned_here all digits new b e h n =
-    ap (λ (t : Text). turned (outcomes t)) (e ∙ ap (λ (k : ℕ). digits ++ k ∷ []) h) ∙ ap turned (outcomes_more digits 48) ∙ turned_by_success (outcomes digits) ∙ ap Some (sym (ap outcomes n ∙ outcomes_more digits 49))
+pub turned_here : (most : Option ℕ) (all digits new : Text) (b : ℕ) → all ≡ digits ++ b ∷ [] → b ≡ 48 → allows most (failures (outcomes digits)) ≡ true → new ≡ digits ++ 49 ∷ [] → turned most (outcomes all) ≡ Some (outcomes new)
+turned_here most all digits new b e h may n =
+    ap (turned most) (with_success all digits b e h) ∙ turned_by_success most (outcomes digits) may ∙ ap Some (sym (ap outcomes n ∙ outcomes_more digits 49))
 
 pub digits_failure : (digits new : Text) → new ≡ digits ++ 49 ∷ [] → AreDigits digits → AreDigits new
 digits_failure digits new n h = subst AreDigits (sym n) (ap (map outcome_digit) (outcomes_more digits 49) ∙ map_digits (outcomes digits) (Failure ∷ []) ∙ ap (λ (t : Text). t ++ 49 ∷ []) h)
@@ -233,8 +288,7 @@ digits_failure digits new n h = subst AreDigits (sym n) (ap (map outcome_digit) 
 -- ---- the next run
 
 pub marked_failure : (task : Task) (p : OutcomeWord) (ms : List Moment) → AreMarks task p ms → AreMarks task (p ++ Failure ∷ []) ms
-marked_failure task p [] h = turned_by_failure p ∙ h
-marked_failure task p (m ∷ ms) h = (h.0, turned_by_failure p ∙ h.1, h.2, h.3)
+marked_failure task p ms h = marked_same task (p ++ Failure ∷ []) p ms (turned_by_failure task.failures p) h
 
 -- the last mark
 pub record BackAt (task : Task) (q : OutcomeWord) (r back : Record) : Type 0 where
@@ -244,11 +298,11 @@ pub record BackAt (task : Task) (q : OutcomeWord) (r back : Record) : Type 0 whe
   pub marks : AreMarks task parted back.marked
   pub begun : back.begun ≡ r.begun
 
-back_in : (task : Task) (u q : OutcomeWord) (present : Moment) (begun : ℕ) (marked : List Moment) → AreMarks task u marked → turned u ≡ Some q → BackAt task q (record { present = present; marked = marked; begun = begun }) (returned present begun marked)
+back_in : (task : Task) (u q : OutcomeWord) (present : Moment) (begun : ℕ) (marked : List Moment) → AreMarks task u marked → turned task.failures u ≡ Some q → BackAt task q (record { present = present; marked = marked; begun = begun }) (returned present begun marked)
 back_in task u q present begun [] h e = let k = h in absurd cc
 back_in task u q present begun (m ∷ ms) h e = record { parted = h.0; word = same_Some q (h.0 ++ Failure ∷ []) (sym e ∙ h.1); asks = h.2; marks = h.3; begun = refl }
 
-pub back_at : (task : Task) (u q : OutcomeWord) (r back : Record) → AreMarks task u r.marked → turned u ≡ Some q → back ≡ gone_back r → BackAt task q r back
+pub back_at : (task : Task) (u q : OutcomeWord) (r back : Record) → AreMarks task u r.marked → turned task.failures u ≡ Some q → back ≡ gone_back r → BackAt task q r back
 back_at task u q r back h e b = subst (λ (x : Record). BackAt task q r x) (sym b) (back_in task u q r.present r.begun r.marked h e)
 
 -- the steps at the mark
@@ -267,26 +321,29 @@ none_empty : (p : OutcomeWord) → [] ≡ p ++ Failure ∷ [] → ⊥
 none_empty [] e = cc
 none_empty (d ∷ p) e = cc
 
-turned_success_some : (t : Option OutcomeWord) (v : OutcomeWord) → elim t [ Some w ↦ Some (Success ∷ w) | None ↦ Some (Failure ∷ []) ] ≡ Some v → [] ≡ v → ⊥
-turned_success_some (Some w) v e h = cc
-turned_success_some None v e h = cc
+turned_success_some : (may : Bool) (t : Option OutcomeWord) (v : OutcomeWord) → elim t [ Some w ↦ Some (Success ∷ w) | None ↦ cond may (Some (Failure ∷ [])) None ] ≡ Some v → [] ≡ v → ⊥
+turned_success_some may (Some w) v e h = cc
+turned_success_some true None v e h = cc
+turned_success_some false None v e h = cc
 
 turned_failure_some : (t : Option OutcomeWord) (v : OutcomeWord) → option_map (λ w. Failure ∷ w) t ≡ Some v → [] ≡ v → ⊥
 turned_failure_some (Some w) v e h = cc
 turned_failure_some None v e h = cc
 
-turned_some : (u v : OutcomeWord) → turned u ≡ Some v → [] ≡ v → ⊥
-turned_some [] v e h = cc
-turned_some (Success ∷ u) v e h = turned_success_some (turned u) v e h
-turned_some (Failure ∷ u) v e h = turned_failure_some (turned u) v e h
+turned_some : (most : Option ℕ) (u v : OutcomeWord) → turned most u ≡ Some v → [] ≡ v → ⊥
+turned_some most [] v e h = cc
+turned_some most (Success ∷ u) v e h = turned_success_some (allows most 0) (turned most u) v e h
+turned_some most (Failure ∷ u) v e h = turned_failure_some (turned (one_less most) u) v e h
 
-cut_success : (t : Option OutcomeWord) (u p : OutcomeWord) → elim t [ Some v ↦ Some (Success ∷ v) | None ↦ Some (Failure ∷ []) ] ≡ Some (p ++ Failure ∷ []) → ((q : OutcomeWord) → t ≡ Some (q ++ Failure ∷ []) → (x : OutcomeWord) × (u ≡ q ++ Success ∷ x)) → (x : OutcomeWord) × (Success ∷ u ≡ p ++ Success ∷ x)
-cut_success (Some v) u [] e next = absurd cc
-cut_success None u [] e next = (u, refl)
-cut_success (Some v) u (Success ∷ p) e next = let f : v ≡ p ++ Failure ∷ [] = cc in let n = next p (ap Some f) in (n.0, ap (λ (w : OutcomeWord). Success ∷ w) n.1)
-cut_success None u (Success ∷ p) e next = absurd cc
-cut_success (Some v) u (Failure ∷ p) e next = absurd cc
-cut_success None u (Failure ∷ p) e next = absurd (none_empty p cc)
+cut_success : (may : Bool) (t : Option OutcomeWord) (u p : OutcomeWord) → elim t [ Some v ↦ Some (Success ∷ v) | None ↦ cond may (Some (Failure ∷ [])) None ] ≡ Some (p ++ Failure ∷ []) → ((q : OutcomeWord) → t ≡ Some (q ++ Failure ∷ []) → (x : OutcomeWord) × (u ≡ q ++ Success ∷ x)) → (x : OutcomeWord) × (Success ∷ u ≡ p ++ Success ∷ x)
+cut_success may (Some v) u [] e next = absurd cc
+cut_success may None u [] e next = (u, refl)
+cut_success may (Some v) u (Success ∷ p) e next = let f : v ≡ p ++ Failure ∷ [] = cc in let n = next p (ap Some f) in (n.0, ap (λ (w : OutcomeWord). Success ∷ w) n.1)
+cut_success true None u (Success ∷ p) e next = absurd cc
+cut_success false None u (Success ∷ p) e next = absurd cc
+cut_success may (Some v) u (Failure ∷ p) e next = absurd cc
+cut_success true None u (Failure ∷ p) e next = absurd (none_empty p cc)
+cut_success false None u (Failure ∷ p) e next = absurd cc
 
 cut_failure : (t : Option OutcomeWord) (u p : OutcomeWord) → ((v : OutcomeWord) → t ≡ Some v → [] ≡ v → ⊥) → option_map (λ v. Failure ∷ v) t ≡ Some (p ++ Failure ∷ []) → ((q : OutcomeWord) → t ≡ Some (q ++ Failure ∷ []) → (x : OutcomeWord) × (u ≡ q ++ Success ∷ x)) → (x : OutcomeWord) × (Failure ∷ u ≡ p ++ Success ∷ x)
 cut_failure None u p some e next = absurd cc
@@ -295,10 +352,10 @@ cut_failure (Some v) u (Success ∷ p) some e next = absurd cc
 cut_failure (Some v) u (Failure ∷ p) some e next = let f : v ≡ p ++ Failure ∷ [] = cc in let n = next p (ap Some f) in (n.0, ap (λ (w : OutcomeWord). Failure ∷ w) n.1)
 
 -- a word that is cut goes on with a success there
-pub cut_of : (u p : OutcomeWord) → turned u ≡ Some (p ++ Failure ∷ []) → (x : OutcomeWord) × (u ≡ p ++ Success ∷ x)
-cut_of [] p e = absurd cc
-cut_of (Success ∷ u) p e = cut_success (turned u) u p e (λ q h. cut_of u q h)
-cut_of (Failure ∷ u) p e = cut_failure (turned u) u p (λ v h. turned_some u v h) e (λ q h. cut_of u q h)
+pub cut_of : (most : Option ℕ) (u p : OutcomeWord) → turned most u ≡ Some (p ++ Failure ∷ []) → (x : OutcomeWord) × (u ≡ p ++ Success ∷ x)
+cut_of most [] p e = absurd cc
+cut_of most (Success ∷ u) p e = cut_success (allows most 0) (turned most u) u p e (λ q h. cut_of most u q h)
+cut_of most (Failure ∷ u) p e = cut_failure (turned (one_less most) u) u p (λ v h. turned_some (one_less most) u v h) e (λ q h. cut_of (one_less most) u q h)
 
 begins_with : (kinds : OutcomeWord → WordKind) (n : ℕ) (q : OutcomeWord) → (y : OutcomeWord) × (first_from kinds n q ≡ q ++ y)
 begins_with kinds n [] = (first_run kinds n, refl)
@@ -309,17 +366,17 @@ shared [] x y = refl
 shared (Success ∷ p) x y = ap (λ (w : OutcomeWord). Success ∷ w) (shared p x y)
 shared (Failure ∷ p) x y = ap (λ (w : OutcomeWord). Failure ∷ w) (shared p x y)
 
-parts_there : (kinds : OutcomeWord → WordKind) (n : ℕ) (u p w : OutcomeWord) → turned u ≡ Some (p ++ Failure ∷ []) → first_from kinds n (p ++ Failure ∷ []) ≡ w → common_prefix u w ≡ p
-parts_there kinds n u p w e f =
-    let x = cut_of u p e in
+parts_there : (most : Option ℕ) (kinds : OutcomeWord → WordKind) (n : ℕ) (u p w : OutcomeWord) → turned most u ≡ Some (p ++ Failure ∷ []) → first_from kinds n (p ++ Failure ∷ []) ≡ w → common_prefix u w ≡ p
+parts_there most kinds n u p w e f =
+    let x = cut_of most u p e in
     let y = begins_with kinds n (p ++ Failure ∷ []) in
     let w' : w ≡ p ++ Failure ∷ y.0 = sym f ∙ y.1 ∙ append_assoc p (Failure ∷ []) y.0 in
     ap (λ (v : OutcomeWord). common_prefix v w) x.1 ∙ ap (λ (v : OutcomeWord). common_prefix (p ++ Success ∷ x.0) v) w' ∙ shared p x.0 y.0
 
-pub found_behind : (task : Task) (u q w : OutcomeWord) (halt : Halt) (r back r₁ r₂ : Record) → kind task u ≡ Run → turned u ≡ Some q → BackAt task q r back → r₁.begun + back.present.steps ≡ back.begun + r₁.present.steps → back.present.steps ≤ r₁.present.steps → Found task q w halt r₁ r₂ → FoundBehind task u w halt r r₂
+pub found_behind : (task : Task) (u q w : OutcomeWord) (halt : Halt) (r back r₁ r₂ : Record) → IsListed task u → turned task.failures u ≡ Some q → BackAt task q r back → r₁.begun + back.present.steps ≡ back.begun + r₁.present.steps → back.present.steps ≤ r₁.present.steps → Found task q w halt r₁ r₂ → FoundBehind task u w halt r r₂
 found_behind task u q w halt r back r₁ r₂ run t a b l f =
     let g = f.grows in
-    let parted = parts_there (kind task) task.limits.device_bound u a.parted w (t ∙ ap Some a.word) (ap (first_from (kind task) task.limits.device_bound) (sym a.word) ∙ f.first) in
+    let parted = parts_there task.failures (kind task) task.limits.device_bound u a.parted w (t ∙ ap Some a.word) (ap (first_from (kind task) task.limits.device_bound) (sym a.word) ∙ f.first) in
     let c = f.begun in
     let d = a.begun in
     let k = asked_steps task a.parted back.present a.asks in

@@ -2,7 +2,7 @@
 use Rattle.std.proofs.Common.{◌≡◌, ℕ, ◌+◌, ◌-◌, ◌<◌, ◌≤◌, List, [], ◌∷◌, ◌++◌, length, take, Option, Some, None, refl, sym, ap, subst, ◌∙◌, append_assoc, length-append, arith}
 use Rattle.bootstore.specs.Moment.{Moment}
 use Rattle.rehearse.specs.Listing.{last_of}
-use Rattle.rehearse.specs.Bounds.{most_devices}
+use Rattle.rehearse.specs.Bounds.{most_run_devices}
 use Rattle.rehearse.specs.Outcomes.{OutcomeWord, Success, Failure, Run, common_prefix}
 use Rattle.rehearse.specs.Runs.{Task, kind, runs, rest, steps, asked, work_from}
 use Rattle.rehearse_runs.specs.RunsShown.{words_made, in_front_of, work_of, steps_shared, successes, last_answer}
@@ -88,7 +88,7 @@ successes_front (Failure ∷ p) x = successes_front p x
 pub few_marks : (task : Task) (w : OutcomeWord) (ms : List Moment) → AreMarks task w ms → length ms ≤ successes w
 few_marks task w [] h = omega arith
 few_marks task w (m ∷ ms) h =
-    let x = cut_of w h.0 h.1 in
+    let x = cut_of task.failures w h.0 h.1 in
     let l = few_marks task h.0 ms h.3 in
     let k : successes h.0 < successes w = subst (λ (v : OutcomeWord). successes h.0 < successes v) (sym x.1) (successes_front h.0 x.0) in
     omega (arith, l, k)
@@ -98,7 +98,7 @@ few_successes [] = omega arith
 few_successes (Success ∷ w) = let h = few_successes w in omega (arith, h)
 few_successes (Failure ∷ w) = let h = few_successes w in omega (arith, h)
 
-pub marks_within : (task : Task) (w : OutcomeWord) (ms : List Moment) → AreMarks task w ms → kind task w ≡ Run → task.limits.device_bound ≤ most_devices → length ms ≤ 32
+pub marks_within : (task : Task) (w : OutcomeWord) (ms : List Moment) → AreMarks task w ms → kind task w ≡ Run → task.limits.device_bound ≤ most_run_devices → length ms ≤ most_run_devices
 marks_within task w ms h r b =
     let l = few_marks task w ms h in
     let k = few_successes w in

@@ -3,7 +3,7 @@ use Rattle.std.specs.Prelude.{◌≡◌, ◌≢◌, [], true, false, map, Option
 use Rattle.rehearse.specs.Outcomes as outcomes
 use Rattle.rehearse.specs.Outcomes.{OutcomeWord}
 use Rattle.rehearse.specs.State.{Text}
-use Rattle.rehearse.specs.Runs.{Task, kind, rest, steps}
+use Rattle.rehearse.specs.Runs.{Task, kind, IsListed, rest, steps}
 use Rattle.rehearse.specs.Listing.{outcome_digit}
 use Rattle.rehearse_runs.specs.RunsShown.{RunsShown}
 use Rattle.rehearse_runs.specs.declared.run_error.RunError.{RunError}
@@ -24,22 +24,26 @@ runs_behind task w = record {
   work = steps task w;
 }
 
--- the text is the digits of a run, and the runs behind it are to come
+-- the text is the digits of one of the runs, and those behind it are to come
 pub record GoesOnBehind (task : Task) (text : Text) (runs : RunsShown) : Type 0 where
   pub word : OutcomeWord
   pub digits : text ≡ map outcome_digit word
-  pub run : kind task word ≡ outcomes.Run
+  pub run : IsListed task word
   pub behind : runs ≡ runs_behind task word
 
 -- a text is not the digits of a run
 abbrev pub IsNoRun : Task → Text → Type 0
 IsNoRun task text = (w : OutcomeWord) → text ≡ map outcome_digit w → kind task w ≢ outcomes.Run
 
+-- nor of one of the runs in which no more device commands fail than may
+abbrev pub IsNotListed : Task → Text → Type 0
+IsNotListed task text = (w : OutcomeWord) → text ≡ map outcome_digit w → IsListed task w → ⊥
+
 -- why there are no runs behind a text, where the variable has this value
 abbrev pub RefusesWord : Task → (value : Option Text) → Text → RunError → Type 0
 RefusesWord task value text NoSuchVariable = value ≡ None
 RefusesWord task value text Memory = IsSome value
-RefusesWord task value text NotARun = IsSome value × IsNoRun task text
+RefusesWord task value text NotARun = IsSome value × IsNotListed task text
 RefusesWord task value text Failed = ⊥
 
 abbrev pub kind_shown : WordKind → outcomes.WordKind

@@ -4,7 +4,7 @@ use Rattle.std.specs.Borrow.{Fml, MutBor, RattleType}
 use Rattle.std.specs.Io.BufRead.{Rests}
 use mir.Syntax.{named}
 use Rattle.bootstore.specs.declared.store.Store.{Ghosts}
-use Rattle.rehearse.specs.Bounds.{most_devices}
+use Rattle.rehearse.specs.Bounds.{most_run_devices}
 use Rattle.rehearse.specs.Outcomes.{OutcomeWord}
 use Rattle.bootstore.specs.StoredState.{state_at}
 use Rattle.rehearse.specs.Runs.{Task, run_on, state_of, ending_of, steps}
@@ -63,7 +63,7 @@ module _ {S : Type 0} (g : Ghosts S) where
     pub ending : shown_ending view ≡ ending_of (run_on task w)
     -- no more moments are marked than device commands succeeded, so never more than a run may ask
     pub marks : length (shown_marks g view) ≤ successes w
-    pub few : length (shown_marks g view) ≤ most_devices
+    pub few : length (shown_marks g view) ≤ most_run_devices
 
   abbrev pub IsView : RunsShown → Option (RunView S) → Type 0
   IsView shown None = shown.shows ≡ false

@@ -2,10 +2,10 @@
 use Rattle.std.specs.Prelude.{◌≡◌, ◌++◌, Option, Some, None, ℕ, ◌+◌, ◌*◌, ◌^◌, ◌≤◌, Bool, true, false, List, [], length, map, ⊤}
 use Rattle.bootstore.specs.Record.{Record}
 use Rattle.rehearse.specs.Bounds.{most_steps}
-use Rattle.rehearse.specs.Outcomes.{OutcomeWord, Run}
+use Rattle.rehearse.specs.Outcomes.{OutcomeWord}
 use Rattle.rehearse.specs.State.{Text}
 use Rattle.bootstore.specs.StoredState.{state_at}
-use Rattle.rehearse.specs.Runs.{Task, kind, run_on, state_of, ending_of, runs, rest}
+use Rattle.rehearse.specs.Runs.{Task, run_on, state_of, ending_of, runs, IsListed, rest}
 use Rattle.rehearse.specs.Listing.{outcome_digit}
 use Rattle.rehearse_runs.specs.BytesShown.{Held}
 use Rattle.rehearse_runs.specs.RunsShown.{RunsShown, outcomes, to_come_after, given_if, words_made, in_front_of, work_of, last_answer}
@@ -82,7 +82,7 @@ shown_at task start given w begun phase = record {
 abbrev pub AreDigits : Text → Type 0
 AreDigits digits = map outcome_digit (outcomes digits) ≡ digits
 
--- the word that was given is a run
+-- the word that was given is one of the runs
 abbrev pub IsRunIf : Bool → Task → OutcomeWord → Type 0
-IsRunIf true task w = kind task w ≡ Run
+IsRunIf true task w = IsListed task w
 IsRunIf false task w = ⊤

@@ -2,7 +2,7 @@
 use Rattle.std.specs.Prelude.{◌≡◌, ◌⊎◌, ◌++◌, false, List, Option, Some, None, Ok, Err, ℕ}
 use Rattle.std.specs.List.{flat_map}
 use Rattle.output.specs.Sink.{Sink, Wrote, BrokeOff}
-use Rattle.rehearse.specs.Asking.{Asking, AreToCome, Listed, SpellsNoRun, limit_of, word_given}
+use Rattle.rehearse.specs.Asking.{Asking, AreToCome, GivesNoRun, Listed, limit_of}
 use Rattle.rehearse.specs.Bounds.{BoundsShown}
 use Rattle.rehearse.specs.DeviceList.{Devices, listed}
 use Rattle.rehearse.specs.Listing.{record_of, listing, words_listed}
@@ -41,11 +41,11 @@ pub record Rehearses (environment : List (Text × Text)) (devices : Devices) (as
   pub wrote : Wrote old new (text_asked asking task words)
   pub finish_is : finish ≡ finish_of words (limit_of asking.wanted)
 
--- no run has the word that is given
+-- the word that is given is none of the listing's, or no run has it
 pub record LacksRun (environment : List (Text × Text)) (devices : Devices) (asking : Asking) : Type 0 where
   pub task : Task
   pub task_is : task_asked environment devices asking ≡ Some task
-  pub no_run : SpellsNoRun task (word_given asking.wanted)
+  pub no_run : GivesNoRun task asking.wanted
 
 -- the output failed inside the listing
 pub record BreaksOff (environment : List (Text × Text)) (devices : Devices) (asking : Asking) (old new : Sink) :
@@ -104,7 +104,7 @@ pub record LacksStart (environment : List (Text × Text)) (devices : Devices) (n
     (after : Option Text) : Type 0 where
   pub task : Task
   pub task_is : task_set environment devices name bounds ≡ Some task
-  pub no_run : SpellsNoRun task after
+  pub no_run : GivesNoRun task (Listed after None)
 
 abbrev pub RefusesRuns : List (Text × Text) → Devices → Text → BoundsShown → (after : Option Text) → RunError → Type 0
 RefusesRuns environment devices name bounds after run.NoSuchVariable = task_set environment devices name bounds ≡ None

@@ -1,5 +1,5 @@
 -- What writing the run of one word does. Ours.
-use Rattle.std.specs.Prelude.{◌≡◌, ◌++◌, List, Some, codes}
+use Rattle.std.specs.Prelude.{◌≡◌, ◌++◌, List, codes}
 use Rattle.output.specs.Sink.{Sink, Wrote, BrokeOff}
 use Rattle.rehearse.specs.Asking.{SpellsNoRun}
 use Rattle.rehearse.specs.Listing.{spelled, record_of, line}
@@ -30,7 +30,7 @@ pub record BreaksInside (task : Task) (printed : Text) (names : List Text) (old 
   pub broke : BrokeOff old new (alone_text task names is_run.word)
 
 abbrev pub BreaksAlone : Task → (printed : Text) → (names : List Text) → (old new : Sink) → RehearseError → Type 0
-BreaksAlone task printed names old new NotARun = SpellsNoRun task (Some printed) × (new ≡ old)
+BreaksAlone task printed names old new NotARun = SpellsNoRun task printed × (new ≡ old)
 BreaksAlone task printed names old new Write = BreaksInside task printed names old new
 BreaksAlone task printed names old new Memory = new ≡ old
 BreaksAlone task printed names old new _ = ⊥

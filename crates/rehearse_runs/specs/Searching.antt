@@ -1,9 +1,9 @@
 -- The search for the next run. Ours.
-use Rattle.std.specs.Prelude.{◌≡◌, ◌+◌, ◌≤◌, Bool, true, false, Option, None, List, [], ◌∷◌, ◌++◌, Some}
+use Rattle.std.specs.Prelude.{ℕ, ◌≡◌, ◌+◌, ◌≤◌, Bool, true, false, Option, None, List, [], ◌∷◌, ◌++◌, Some}
 use Rattle.bootstore.specs.Moment.{Moment}
-use Rattle.bootstore.specs.Record.{Record}
+use Rattle.bootstore.specs.Record.{Record, with_mark}
 use Rattle.rehearse.specs.Bounds.{most_steps}
-use Rattle.rehearse.specs.Outcomes.{OutcomeWord, Failure, Run, turned, first_from, common_prefix}
+use Rattle.rehearse.specs.Outcomes.{OutcomeWord, Failure, Run, failures, allows, turned, first_from, common_prefix}
 use Rattle.bootstore.specs.StoredState.{state_at}
 use Rattle.rehearse.specs.Runs.{Task, run_on, state_of, ending_of, kind, runs, rest, asked}
 use Rattle.rehearse_machine.specs.EndingsShown.{halt_shown}
@@ -17,11 +17,20 @@ use Rattle.rehearse_machine.specs.declared.rehearsal.Stop.TheVariants.{Asks}
 abbrev pub StoppedAt : Task → OutcomeWord → Stop → Moment → Type 0
 StoppedAt task p stop m = Stops task.limits stop (λ w. settled (run_on task (p ++ w))) m
 
--- the marked moments are those at which the successes of a word were asked, the last first
+-- whether one more device command may fail behind a word
+abbrev pub may_fail : Task → OutcomeWord → Bool
+may_fail task w = allows task.failures (failures w)
+
+-- the marked moments are those at which the successes of a word that may fail were asked, the last first
 abbrev pub AreMarks : Task → OutcomeWord → List Moment → Type 0
-AreMarks task w [] = turned w ≡ None
-AreMarks task w (m ∷ ms) = (p : OutcomeWord) × (turned w ≡ Some (p ++ Failure ∷ [])) × StoppedAt task p Asks m
-    × AreMarks task p ms
+AreMarks task w [] = turned task.failures w ≡ None
+AreMarks task w (m ∷ ms) = (p : OutcomeWord) × (turned task.failures w ≡ Some (p ++ Failure ∷ []))
+    × StoppedAt task p Asks m × AreMarks task p ms
+
+-- the moment was marked, or nothing changed
+abbrev pub MarksIf : Bool → (old new : Record) → Type 0
+MarksIf true old new = new ≡ with_mark old
+MarksIf false old new = new ≡ old
 
 -- the first run that begins with p stands in the store
 pub record Found (task : Task) (p w : OutcomeWord) (halt : Halt) (old new : Record) : Type 0 where
@@ -44,10 +53,10 @@ pub record FoundFirst (task : Task) (w : OutcomeWord) (halt : Halt) (old new : R
   pub begun : new.begun ≡ old.begun + new.present.steps
   pub within : new.present.steps ≤ most_steps
 
--- the word was cut behind its last success, which became a failure; or there is no success
-abbrev pub Turns : Bool → (old new : OutcomeWord) → Type 0
-Turns true old new = turned old ≡ Some new
-Turns false old new = turned old ≡ None
+-- the word was cut behind its last success that may fail, which became a failure; or there is no such success
+abbrev pub Turns : (most : Option ℕ) → Bool → (old new : OutcomeWord) → Type 0
+Turns most true old new = turned most old ≡ Some new
+Turns most false old new = turned most old ≡ None
 
 -- the run that follows that on u stands in the store: of its steps, those were begun before that the two runs share
 pub record FoundBehind (task : Task) (u w : OutcomeWord) (halt : Halt) (old new : Record) : Type 0 where

@@ -4,6 +4,7 @@
 mod alone;
 mod ask;
 mod bytes;
+mod failing;
 mod listing;
 mod page;
 mod pieces;

@@ -7,6 +7,7 @@ ghost use Rattle.rehearse_runs.specs.RunsShown.{has_words, last_given, outcomes,
 ghost use Rattle.std.specs.Borrow.{sem};
 
 use crate::bytes::Bytes;
+use crate::failing::{allows, is_within};
 use crate::run_error::RunError;
 use crate::searching::{Digits, first_run, next_run};
 use crate::view::RunView;
@@ -41,19 +42,20 @@ fn copy_of(digits: &Digits) -> Digits
     copy
 }
 
-/// Whether a device command succeeded.
-fn has_success(digits: &[u8]) -> bool
-    ensures { result ≡ has_success (outcomes digits.now) }
+/// Whether a device command succeeded that may fail: the first one that did, if any.
+fn has_success(digits: &[u8], most: Option<u32>) -> bool
+    ensures { result ≡ has_success most (outcomes digits.now) }
 {
-    for digit in digits {
+    for (failed, digit) in digits.iter().enumerate() {
         if *digit == b'0' {
-            return true;
+            return allows(most, failed);
         }
     }
     false
 }
 
-/// The runs of the text of a variable, in dictionary order of their words, success before failure.
+/// The runs of the text of a variable in which no more device commands fail than may, in dictionary order of their
+/// words, success before failure.
 #[derive(Drop)]
 pub struct Runs<'a, S: Store> {
     rehearsal: Rehearsal<'a>,
@@ -66,7 +68,7 @@ pub struct Runs<'a, S: Store> {
 
 impl<'a, S: Store> Model for Runs<'a, S> {
     ghost use Rattle.std.specs.Prelude.{◌≤◌};
-    ghost use Rattle.rehearse.specs.Bounds.{most_devices};
+    ghost use Rattle.rehearse.specs.Bounds.{most_run_devices};
     ghost use Rattle.rehearse_runs.specs.RunsShown.{RunsShown, outcomes, given_if, to_come_after};
 
     ghost Value = { RunsShown };
@@ -81,7 +83,7 @@ impl<'a, S: Store> Model for Runs<'a, S> {
         × IsRunIf r.has_given (task_in r.rehearsal) (outcomes r.word.items)
         × StandsAt (task_in r.rehearsal) r.has_given (outcomes r.word.items) (S.record_of r.store) r.phase
         × HasBegunIf r.phase (task_in r.rehearsal) (start_of r.start) (given_if r.has_given (outcomes r.word.items)) (to_come_after r.has_given (task_in r.rehearsal) (outcomes r.word.items)) (S.record_of r.store).begun
-        × (task_in r.rehearsal).limits.device_bound ≤ most_devices };
+        × (task_in r.rehearsal).limits.device_bound ≤ most_run_devices };
 }
 
 impl<'a, S: Store> Runs<'a, S> {
@@ -145,6 +147,9 @@ impl<'a, S: Store> Runs<'a, S> {
     {
         if env.get(name).is_none() {
             return Err(RunError::NoSuchVariable);
+        }
+        if !is_within(bounds.failures(), word) {
+            return Err(RunError::NotARun);
         }
         let _bound = bounds.devices();
         let run_bounds = bounds.of_run();
@@ -239,7 +244,7 @@ impl<'a, S: Store> Runs<'a, S> {
         ensures { result ≡ has_words self.now.to_come }
     {
         if self.has_given {
-            has_success(self.word.as_slice())
+            has_success(self.word.as_slice(), self.rehearsal.bounds.failures())
         } else {
             true
         }

@@ -10,6 +10,8 @@ ghost use Rattle.rehearse_runs.specs.Walking.{BeginsWithDigit, Walks, WalksTo};
 ghost use Rattle.rehearse_machine.specs.declared.rehearsal.Stop.TheVariants.{Asks};
 
 use crate::bytes::Bytes;
+use crate::failing::may_fail;
+use crate::searching::mark_if;
 use bootstore::{Store, StoreError};
 use rehearse_machine::{Halt, Rehearsal, Stop, begin, resume};
 
@@ -24,7 +26,7 @@ pub(crate) enum Walked {
     Long,
 }
 
-/// Gives the device command that asks an outcome; a success is marked.
+/// Gives the device command that asks an outcome; a success is marked if it may fail.
 fn choose<S: Store, const N: usize>(
     rehearsal: &Rehearsal<'_>,
     store: &mut S,
@@ -42,7 +44,8 @@ fn choose<S: Store, const N: usize>(
     ensures within { OnOk result ((S.record_of store.new).present.steps ≤ most_steps) }
 {
     if success {
-        store.mark()?;
+        let may = may_fail(rehearsal, digits.as_slice());
+        mark_if(store, may)?;
         digits.push(b'0');
         let next = resume(rehearsal, store, true)?;
         Ok(next)

@@ -28,7 +28,7 @@ rehearsal : AsksFor
     (codes "rehearse" ∷ codes "-d" ∷ codes "d.txt" ∷ codes "--limit" ∷ codes "1" ∷ codes "z" ∷ [])
     (rehearsing (codes "/etc/fw_env.config") (codes "d.txt") (record {
       variable = codes "bootcmd";
-      bounds = record { devices = 16; steps = 10000 };
+      bounds = record { devices = 16; steps = 10000; failures = None };
       wanted = Listed None (Some 1);
       names = codes "z" ∷ [];
     }) Little)
@@ -118,7 +118,7 @@ bounded : AsksFor
     (codes "rehearse" ∷ codes "-d" ∷ codes "d" ∷ codes "--devices" ∷ codes "32" ∷ codes "--steps" ∷ codes "0" ∷ codes "--after" ∷ codes "." ∷ codes "--big-endian" ∷ [])
     (rehearsing (codes "/etc/fw_env.config") (codes "d") (record {
       variable = codes "bootcmd";
-      bounds = record { devices = 32; steps = 0 };
+      bounds = record { devices = 32; steps = 0; failures = None };
       wanted = Listed (Some (codes ".")) None;
       names = [];
     }) Big)
@@ -144,7 +144,7 @@ more_devices_than_listed = (refl, refl)
 one_run : AsksFor (codes "rehearse" ∷ codes "-d" ∷ codes "d" ∷ codes "--word" ∷ codes "01" ∷ codes "z" ∷ [])
     (rehearsing (codes "/etc/fw_env.config") (codes "d") (record {
       variable = codes "bootcmd";
-      bounds = record { devices = 1000; steps = 1000000 };
+      bounds = record { devices = 1000; steps = 1000000; failures = None };
       wanted = Alone (codes "01");
       names = codes "z" ∷ [];
     }) Little)
@@ -155,6 +155,32 @@ one_run = (refl, refl)
 word_beside_limit : AsksFor (codes "rehearse" ∷ codes "-d" ∷ codes "d" ∷ codes "--word" ∷ codes "." ∷ codes "--limit" ∷ codes "1" ∷ []) word_alone
 unfolding clap_on_literals ubtool
 word_beside_limit = (refl, refl)
+
+-- rehearse -d d --failures 3 --devices 1000
+few_failures : AsksFor (codes "rehearse" ∷ codes "-d" ∷ codes "d" ∷ codes "--failures" ∷ codes "3" ∷ codes "--devices" ∷ codes "1000" ∷ [])
+    (rehearsing (codes "/etc/fw_env.config") (codes "d") (record {
+      variable = codes "bootcmd";
+      bounds = record { devices = 1000; steps = 10000; failures = Some 3 };
+      wanted = Listed None None;
+      names = [];
+    }) Little)
+unfolding clap_on_literals ubtool
+few_failures = (refl, refl)
+
+-- rehearse -d d --failures 4 --devices 33
+more_failures_than_few : AsksFor (codes "rehearse" ∷ codes "-d" ∷ codes "d" ∷ codes "--failures" ∷ codes "4" ∷ codes "--devices" ∷ codes "33" ∷ []) too_many_devices
+unfolding clap_on_literals ubtool
+more_failures_than_few = (refl, refl)
+
+-- rehearse -d d --word . --failures 0
+word_beside_failures : AsksFor (codes "rehearse" ∷ codes "-d" ∷ codes "d" ∷ codes "--word" ∷ codes "." ∷ codes "--failures" ∷ codes "0" ∷ []) word_alone
+unfolding clap_on_literals ubtool
+word_beside_failures = (refl, refl)
+
+-- rehearse -d d --failures 33
+too_many_failures : IsRefused (codes "rehearse" ∷ codes "-d" ∷ codes "d" ∷ codes "--failures" ∷ codes "33" ∷ [])
+unfolding clap_on_literals ubtool
+too_many_failures = refl
 
 -- rehearse -d d --devices 1001
 too_many_word_devices : IsRefused (codes "rehearse" ∷ codes "-d" ∷ codes "d" ∷ codes "--devices" ∷ codes "1001" ∷ [])
@@ -170,7 +196,7 @@ limit_of_none = refl
 all_endings : AsksFor (codes "endings" ∷ codes "-d" ∷ codes "d" ∷ [])
     (ending (codes "/etc/fw_env.config") (codes "d") (record {
       variable = codes "bootcmd";
-      bounds = record { devices = 1000; steps = 1000000 };
+      bounds = record { devices = 1000; steps = 1000000; failures = None };
       states = 1000000;
       flow = false;
     }) Little)
@@ -182,7 +208,7 @@ few_endings : AsksFor
     (codes "endings" ∷ codes "-c" ∷ codes "f" ∷ codes "-d" ∷ codes "d" ∷ codes "-b" ∷ codes "q" ∷ codes "--devices" ∷ codes "0" ∷ codes "--steps" ∷ codes "7" ∷ codes "--states" ∷ codes "0" ∷ codes "--flow" ∷ codes "--big-endian" ∷ [])
     (ending (codes "f") (codes "d") (record {
       variable = codes "q";
-      bounds = record { devices = 0; steps = 7 };
+      bounds = record { devices = 0; steps = 7; failures = None };
       states = 0;
       flow = true;
     }) Big)

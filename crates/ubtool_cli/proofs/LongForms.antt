@@ -35,7 +35,7 @@ long_script = (refl, refl)
 long_rehearsal : AsksFor (codes "rehearse" ∷ codes "--device-list" ∷ codes "d" ∷ codes "--variable" ∷ codes "q" ∷ [])
     (rehearsing (codes "/etc/fw_env.config") (codes "d") (record {
       variable = codes "q";
-      bounds = record { devices = 16; steps = 10000 };
+      bounds = record { devices = 16; steps = 10000; failures = None };
       wanted = Listed None None;
       names = [];
     }) Little)

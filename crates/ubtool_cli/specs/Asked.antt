@@ -15,7 +15,7 @@ use Rattle.ubtool_cli.specs.declared.called.CalledAs.{CalledAs}
 use Rattle.ubtool_cli.specs.declared.called.CalledAs.TheVariants.{FwTool, Ubtool}
 use Rattle.rehearse.specs.Asking.{Asking, Wanted, Listed, Alone}
 use Rattle.rehearse.specs.Bounds.{BoundsShown, bounds_of, run_bounds_of, most_run_devices, most_steps}
-use Rattle.ubtool_cli.specs.CommandLine.{most_records, most_states}
+use Rattle.ubtool_cli.specs.CommandLine.{most_failures, most_records, most_states}
 
 -- what `endings` is asked for
 pub record Endings : Type 0 where
@@ -139,26 +139,29 @@ run_bounds_asked rows = bounds_or most_run_devices most_steps rows
 abbrev pub WantedAsked : Type 0
 WantedAsked = Result (BoundsShown × Wanted) Asked
 
--- of a listing: at most 32 device commands
-abbrev pub listing_asked : (after : Option Text) → (limit : Option ℕ) → BoundsShown → WantedAsked
-listing_asked after limit bounds =
-    elim (bounds_of bounds.devices bounds.steps) [
+-- of a listing: at most 32 device commands, or 1,000 where few of them may fail
+abbrev pub listing_asked : (after : Option Text) → (limit failures : Option ℕ) → BoundsShown → WantedAsked
+listing_asked after limit failures bounds =
+    elim (bounds_of bounds.devices bounds.steps failures) [
       | Some narrow ↦ Ok (narrow, Listed after limit)
       | None ↦ Err too_many_devices
     ]
 
--- of a word, which takes neither `--after` nor `--limit`
-abbrev pub word_asked : (word : Text) → (after : Option Text) → (limit : Option ℕ) → BoundsShown → WantedAsked
-word_asked word None None bounds = Ok (bounds, Alone word)
-word_asked word (Some after) limit bounds = Err word_alone
-word_asked word None (Some limit) bounds = Err word_alone
+-- of a word, which takes no `--after`, no `--limit` and no `--failures`
+abbrev pub word_asked : (word : Text) → (after : Option Text) → (limit failures : Option ℕ) → BoundsShown → WantedAsked
+word_asked word None None None bounds = Ok (bounds, Alone word)
+word_asked word (Some after) limit failures bounds = Err word_alone
+word_asked word None (Some limit) failures bounds = Err word_alone
+word_asked word None None (Some failures) bounds = Err word_alone
 
-abbrev pub wanted_by : (word after : Option Text) → (limit : Option ℕ) → List Row → Option WantedAsked
-wanted_by None after limit rows = option_map (listing_asked after limit) (bounds_asked rows)
-wanted_by (Some word) after limit rows = option_map (word_asked word after limit) (run_bounds_asked rows)
+abbrev pub wanted_by : (word after : Option Text) → (limit failures : Option ℕ) → List Row → Option WantedAsked
+wanted_by None after limit failures rows = option_map (listing_asked after limit failures) (bounds_asked rows)
+wanted_by (Some word) after limit failures rows =
+    option_map (word_asked word after limit failures) (run_bounds_asked rows)
 
-abbrev pub wanted_asked : (limit : Option ℕ) → List Row → Option WantedAsked
-wanted_asked limit rows = wanted_by (first_of (codes "word") rows) (first_of (codes "after") rows) limit rows
+abbrev pub wanted_asked : (limit failures : Option ℕ) → List Row → Option WantedAsked
+wanted_asked limit failures rows =
+    wanted_by (first_of (codes "word") rows) (first_of (codes "after") rows) limit failures rows
 
 abbrev pub rehearsal_of : (device_list : Text) → List Row → WantedAsked → Asked
 rehearsal_of device_list rows (Ok within) =
@@ -170,16 +173,20 @@ rehearsal_of device_list rows (Ok within) =
     }) (order_of rows)
 rehearsal_of device_list rows (Err refusal) = refusal
 
--- with a device list, a limit and bounds that can be read
-abbrev pub rehearsal_with : (device_list : Option Text) → (limit : Option (Option ℕ)) → List Row → Option Asked
-rehearsal_with (Some device_list) (Some limit) rows = option_map (rehearsal_of device_list rows) (wanted_asked limit rows)
-rehearsal_with None limit rows = None
-rehearsal_with (Some device_list) None rows = None
+-- with a device list, a limit, a number of failures and bounds that can be read
+abbrev pub rehearsal_with : (device_list : Option Text) → (limit failures : Option (Option ℕ)) → List Row →
+    Option Asked
+rehearsal_with (Some device_list) (Some limit) (Some failures) rows =
+    option_map (rehearsal_of device_list rows) (wanted_asked limit failures rows)
+rehearsal_with None limit failures rows = None
+rehearsal_with (Some device_list) None failures rows = None
+rehearsal_with (Some device_list) (Some limit) None rows = None
 
--- the limit is at least 1
+-- the limit is at least 1, and the failures are at most 32
 abbrev pub rehearse_asked : List Row → Option Asked
 rehearse_asked rows =
-    rehearsal_with (first_of (codes "device-list") rows) (number_within 1 most_records (codes "limit") rows) rows
+    rehearsal_with (first_of (codes "device-list") rows) (number_within 1 most_records (codes "limit") rows)
+        (number_within 0 most_failures (codes "failures") rows) rows
 
 -- the states if none are given
 abbrev pub usual_states : ℕ

@@ -17,6 +17,10 @@ letter (b ∷ text) = b
 abbrev pub most_records : ℕ
 most_records = 4294967295
 
+-- the most device commands of a run that a listing may allow to fail
+abbrev pub most_failures : ℕ
+most_failures = 32
+
 -- `--word VALUE`
 abbrev pub long_option : Text → Rule
 long_option id = record (new_rule id) { long = Some id; value_names = 1 }
@@ -103,9 +107,13 @@ abbrev pub rehearse_options : App
 rehearse_options =
     with_rule (with_rule (with_rule (with_rule (subcommand (codes "rehearse")) device_list) variable) devices) steps
 
--- the one run that is written, or where the listing begins and how many records it has
+-- the one run that is written, or how many device commands of a listed run may fail, where the listing begins and how
+-- many records it has
 abbrev pub word : Rule
 word = long_option (codes "word")
+
+abbrev pub failures : Rule
+failures = number_option (codes "failures") 0 most_failures
 
 abbrev pub after : Rule
 after = long_option (codes "after")
@@ -114,7 +122,7 @@ abbrev pub limit : Rule
 limit = number_option (codes "limit") 1 most_records
 
 abbrev pub rehearse : App
-rehearse = with_rule (with_rule (with_rule (with_rule rehearse_options word) after) limit) names
+rehearse = with_rule (with_rule (with_rule (with_rule (with_rule rehearse_options word) failures) after) limit) names
 
 -- `-d FILE`, `-b NAME`, the two bounds, how many states may be gone through, and whether the flow is told;
 -- the most states that can be allowed

@@ -23,6 +23,9 @@ pub const DEFAULT_DEVICES: u32 = 16;
 /// The steps that a run may begin where a call sets no bound.
 pub const DEFAULT_STEPS: u32 = 10_000;
 
+/// The most device commands that may fail in a run that is listed.
+pub const FAILURES_MAX: u32 = 32;
+
 /// The device commands that a run may have where the endings are asked for and a call sets no bound.
 pub const DEFAULT_RUN_DEVICES: u32 = 1_000;
 
@@ -162,11 +165,11 @@ pub enum UseError {
     /// `printenv -n` is given no name, or several.
     #[error("-n takes exactly one NAME")]
     HeaderNeedsOne,
-    /// `rehearse` is given the word of one run, and where a listing begins or ends.
-    #[error("--word takes no --after and no --limit")]
+    /// `rehearse` is given the word of one run, and which runs a listing has.
+    #[error("--word takes no --failures, no --after and no --limit")]
     WordAlone,
-    /// `rehearse` is given a device bound of a run for a listing.
-    #[error("--devices above 32 needs --word")]
+    /// `rehearse` is given a device bound of a run for a listing in which many device commands may fail.
+    #[error("--devices above 32 needs --word, or --failures of at most 3")]
     TooManyDevices,
     /// A growth was refused.
     #[error("out of memory")]

@@ -1,10 +1,10 @@
 //! The command line that `clap` is given.
 ghost use Rattle.std.specs.Prelude.{◌≡◌, IfOk, false};
 ghost use Rattle.clap.specs.Words.{new_app, rule_of};
-ghost use Rattle.ubtool_cli.specs.CommandLine.{after, base, big_endian, config, device_list, devices, endings, endings_options, flow, lettered_flag, lettered_option, limit, lock, long_flag, long_option, many, name, names, no_header, number_option, one, printenv, rehearse, rehearse_options, script, setenv, states, steps, subcommand, ubtool, values, variable, word};
+ghost use Rattle.ubtool_cli.specs.CommandLine.{after, base, big_endian, config, device_list, devices, endings, endings_options, failures, flow, lettered_flag, lettered_option, limit, lock, long_flag, long_option, many, name, names, no_header, number_option, one, printenv, rehearse, rehearse_options, script, setenv, states, steps, subcommand, ubtool, values, variable, word};
 ghost use Rattle.ubtool_cli.specs.Made.{IsMade};
 
-use crate::ask::VERSION;
+use crate::ask::{FAILURES_MAX, VERSION};
 use clap::builder::ValueParser;
 use clap::{Arg, ArgAction, Command};
 use rehearse::{RUN_DEVICES_MAX, STEPS_MAX};
@@ -62,8 +62,10 @@ const REHEARSE_NOTES: &str = "\
 Each way that the device commands can succeed or fail is a run, and each run is
 listed once, success before failure. A run's word has a digit for each device
 command: 0 where it succeeds, 1 where it fails. A run that meets a bound is
-listed as cut. With --word the run of one word is written alone, also of a word
-that endings names. The image is read and never written.
+listed as cut. With --failures 1 the runs are those in which any one device
+command fails, or none; with 2, any two. With --word the run of one word is
+written alone, also of a word that endings names. The image is read and never
+written.
 
 A line of the device list is 'NAME', 'NAME VAR=VALUE' for a command that sets
 variables when it succeeds, or 'final NAME' for one that boots and so ends the
@@ -72,6 +74,7 @@ run. Lines that begin with # are skipped.
 Examples:
   ubtool rehearse -d devices.txt
   ubtool rehearse -d devices.txt -b altbootcmd bootargs fdtfile
+  ubtool rehearse -d devices.txt --failures 1
   ubtool rehearse -d devices.txt --limit 20 --after 0110
   ubtool rehearse -d devices.txt --word 0110 bootargs
 ";
@@ -305,7 +308,7 @@ fn devices<'a>(alloc: Global) -> Arg<'a>
     ensures local { result.global ≡ false }
 {
     number_option(alloc, "devices", 0, RUN_DEVICES_MAX).help(
-        "At most N device commands a run, 0 to 32, with --word to 1000 [default: 16, with --word 1000]",
+        "At most N device commands a run, 0 to 32, with --word or --failures 3 to 1000 [default: 16, with --word 1000]",
     )
 }
 
@@ -343,6 +346,15 @@ fn word<'a>(alloc: Global) -> Arg<'a>
     )
 }
 
+fn failures<'a>(alloc: Global) -> Arg<'a>
+    ensures rule { rule_of result ≡ failures }
+    ensures local { result.global ≡ false }
+{
+    number_option(alloc, "failures", 0, FAILURES_MAX).help(
+        "The runs in which at most N device commands fail, 0 to 32 [default: all]",
+    )
+}
+
 fn after<'a>(alloc: Global) -> Arg<'a>
     ensures rule { rule_of result ≡ after }
     ensures local { result.global ≡ false }
@@ -365,6 +377,7 @@ fn rehearse<'a>(alloc: Global) -> Result<Command<'a>, AllocError>
     ensures { IfOk result (IsMade rehearse) }
 {
     let word = word(alloc);
+    let failures = failures(alloc);
     let after = after(alloc);
     let limit = limit(alloc);
     let names = names(
@@ -372,7 +385,12 @@ fn rehearse<'a>(alloc: Global) -> Result<Command<'a>, AllocError>
         "Variables to list after each run, in this order [default: all]",
     );
     let command = rehearse_options(alloc)?;
-    command.arg(word)?.arg(after)?.arg(limit)?.arg(names)
+    command
+        .arg(word)?
+        .arg(failures)?
+        .arg(after)?
+        .arg(limit)?
+        .arg(names)
 }
 
 fn run_devices<'a>(alloc: Global) -> Arg<'a>

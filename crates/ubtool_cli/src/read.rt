@@ -11,8 +11,8 @@ ghost use Rattle.ubtool_cli.specs.CommandAnswers.{Answers, IsUnread, NamesLock, 
 
 use crate::ask::{
     Ask, Change, DEFAULT_CONFIG, DEFAULT_DEVICES, DEFAULT_RUN_DEVICES, DEFAULT_RUN_STEPS,
-    DEFAULT_STATES, DEFAULT_STEPS, DEFAULT_VARIABLE, EndingsAsk, PrintAsk, RehearseAsk, UseError,
-    Wanted,
+    DEFAULT_STATES, DEFAULT_STEPS, DEFAULT_VARIABLE, EndingsAsk, FAILURES_MAX, PrintAsk,
+    RehearseAsk, UseError, Wanted,
 };
 use crate::called::CalledAs;
 use crate::command::ubtool;
@@ -197,15 +197,20 @@ fn bounds_or(matches: &ArgMatches<'_>, devices: u32, steps: u32) -> Option<RunBo
 }
 
 /// The runs of a listing.
-fn listing(alloc: Global, matches: &ArgMatches<'_>, limit: Option<u32>) -> Result<Wanted, UseError>
+fn listing(
+    alloc: Global,
+    matches: &ArgMatches<'_>,
+    limit: Option<u32>,
+    failures: Option<u32>,
+) -> Result<Wanted, UseError>
     requires { ForSome limit (λ n. 0 < n) }
-    ensures says { SaysWanted (wanted_by None (first_of (codes "after") (rows_of (found_of matches.now))) limit (rows_of (found_of matches.now))) result }
+    ensures says { SaysWanted (wanted_by None (first_of (codes "after") (rows_of (found_of matches.now))) limit failures (rows_of (found_of matches.now))) result }
     ensures limit { IfOk result (λ w. ForSome (limit_of (wanted_of w)) (λ n. 0 < n)) }
 {
     let Some(wide) = bounds_or(matches, DEFAULT_DEVICES, DEFAULT_STEPS) else {
         return Err(unread(alloc));
     };
-    let Some(bounds) = Bounds::new(wide.devices(), wide.steps()) else {
+    let Some(bounds) = Bounds::with_failures(wide.devices(), wide.steps(), failures) else {
         return Err(UseError::TooManyDevices);
     };
     Ok(Wanted::Listing {
@@ -221,31 +226,38 @@ fn word(
     matches: &ArgMatches<'_>,
     word: String,
     limit: Option<u32>,
+    failures: Option<u32>,
 ) -> Result<Wanted, UseError>
     requires { ForSome limit (λ n. 0 < n) }
-    ensures says { SaysWanted (wanted_by (Some (string_bytes word)) (first_of (codes "after") (rows_of (found_of matches.now))) limit (rows_of (found_of matches.now))) result }
+    ensures says { SaysWanted (wanted_by (Some (string_bytes word)) (first_of (codes "after") (rows_of (found_of matches.now))) limit failures (rows_of (found_of matches.now))) result }
     ensures limit { IfOk result (λ w. ForSome (limit_of (wanted_of w)) (λ n. 0 < n)) }
 {
     let Some(bounds) = bounds_or(matches, DEFAULT_RUN_DEVICES, DEFAULT_RUN_STEPS) else {
         return Err(unread(alloc));
     };
     let after = text_of(alloc, matches, "after")?;
-    match (after, limit) {
-        (Some(_), _) => Err(UseError::WordAlone),
-        (None, Some(_)) => Err(UseError::WordAlone),
-        (None, None) => Ok(Wanted::Word { bounds, word }),
+    match (after, limit, failures) {
+        (Some(_), _, _) => Err(UseError::WordAlone),
+        (None, Some(_), _) => Err(UseError::WordAlone),
+        (None, None, Some(_)) => Err(UseError::WordAlone),
+        (None, None, None) => Ok(Wanted::Word { bounds, word }),
     }
 }
 
 /// The runs that are to be listed.
-fn wanted(alloc: Global, matches: &ArgMatches<'_>, limit: Option<u32>) -> Result<Wanted, UseError>
+fn wanted(
+    alloc: Global,
+    matches: &ArgMatches<'_>,
+    limit: Option<u32>,
+    failures: Option<u32>,
+) -> Result<Wanted, UseError>
     requires { ForSome limit (λ n. 0 < n) }
-    ensures says { SaysWanted (wanted_asked limit (rows_of (found_of matches.now))) result }
+    ensures says { SaysWanted (wanted_asked limit failures (rows_of (found_of matches.now))) result }
     ensures limit { IfOk result (λ w. ForSome (limit_of (wanted_of w)) (λ n. 0 < n)) }
 {
     match text_of(alloc, matches, "word")? {
-        Some(text) => word(alloc, matches, text, limit),
-        None => listing(alloc, matches, limit),
+        Some(text) => word(alloc, matches, text, limit, failures),
+        None => listing(alloc, matches, limit, failures),
     }
 }
 
@@ -254,10 +266,11 @@ fn rehearse_ask(alloc: Global, matches: &ArgMatches<'_>) -> Result<Ask, UseError
 {
     let list = text_of(alloc, matches, "device-list")?;
     let limit = number_within(matches, "limit", 1, u32::MAX);
-    let (Some(devices_file), Some(limit)) = (list, limit) else {
+    let failures = number_within(matches, "failures", 0, FAILURES_MAX);
+    let (Some(devices_file), Some(limit), Some(failures)) = (list, limit, failures) else {
         return Err(unread(alloc));
     };
-    let wanted = match wanted(alloc, matches, limit) {
+    let wanted = match wanted(alloc, matches, limit, failures) {
         Ok(wanted) => wanted,
         Err(error) => return Err(error),
     };

@@ -31,8 +31,8 @@ pub record Rehearsed (g : Given) (task : Task) (words : List OutcomeWord) : Type
   pub device_list : listed g.device_list ≡ Ok devices
   -- "and bounds"; "bootcmd": the variable that is named, which is set
   pub task_is : task_set environment devices g.asking.variable g.asking.bounds ≡ Some task
-  -- "exactly the runs .., each once, in dictionary order": all of them; "started after any run's word": those that
-  -- follow that run; or the run of a word alone
+  -- "exactly the runs .., each once, in dictionary order": all of them, or those in which no more device commands fail
+  -- than the bounds say; "started after any run's word": those that follow that run; or the run of a word alone
   pub to_come : AreToCome task g.asking.wanted words
 
 -- "the records": what the run on a word did, its last line saying how it ended, "runs that meet a bound marked cut"

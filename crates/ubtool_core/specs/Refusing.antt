@@ -3,7 +3,7 @@
 use Rattle.std.specs.Prelude.{◌≡◌, ◌⊎◌, List, Option, Some, None, Ok, Err}
 use Rattle.envimage.specs.Data.{Pair}
 use Rattle.output.specs.Sink.{Sink}
-use Rattle.rehearse.specs.Asking.{SpellsNoRun, word_given}
+use Rattle.rehearse.specs.Asking.{GivesNoRun}
 use Rattle.rehearse.specs.DeviceList as list
 use Rattle.rehearse.specs.DeviceList.{listed}
 use Rattle.rehearse.specs.Runs.{Task}
@@ -31,8 +31,8 @@ abbrev pub Refuses : Given → (old new : Sink) → ToolError → Type 0
 Refuses g old new (Image fault) = (environment_in g.order g.first g.second ≡ Err fault) × (new ≡ old)
 Refuses g old new (Devices fault) = HasImage g × (listed g.device_list ≡ Err fault) × (new ≡ old)
 Refuses g old new NoSuchVariable = HasDevices g (λ found. found ≡ None) × (new ≡ old)
-Refuses g old new NotARun = HasDevices g (λ found. (task : Task) × (found ≡ Some task) × SpellsNoRun task (word_given g.asking.wanted))
-    × (new ≡ old)
+Refuses g old new NotARun =
+    HasDevices g (λ found. (task : Task) × (found ≡ Some task) × GivesNoRun task g.asking.wanted) × (new ≡ old)
 Refuses g old new Write = BreaksOff g old new
 Refuses g old new Memory = (HasImage g × (new ≡ old)) ⊎ LacksMemory g old new
 Refuses g old new _ = ⊥

@@ -10,7 +10,7 @@ use Rattle.rehearse.specs.Asking.{Listed}
 use Rattle.rehearse.specs.Bounds.{BoundsShown, bounds_of}
 use Rattle.ubtool_cli.specs.CommandAnswers.{Answers, asked, meaning_of}
 use Rattle.ubtool_cli.specs.Asked.{Asked, asked_of, bounds_asked, endings_asked, endings_with, run_bounds_asked, change_asked, config_of, header_needs_one, input_scripted, is_set, listing_asked, number_within, order_of, print_asked, printing, rehearsal_of, rehearsal_with, rehearse_asked, scripted, set_asked, too_many_devices, values_of, wanted_by, word_asked}
-use Rattle.ubtool_cli.specs.CommandLine.{most_records, most_states, ubtool}
+use Rattle.ubtool_cli.specs.CommandLine.{most_failures, most_records, most_states, ubtool}
 use Rattle.ubtool_cli.specs.declared.called.CalledAs.{CalledAs}
 use Rattle.ubtool_cli.specs.declared.called.CalledAs.TheVariants.{FwTool, Ubtool}
 use Rattle.ubtool_cli.specs.declared.ask.Ask.{Ask}
@@ -49,24 +49,26 @@ listing-fit : (list : Text) (rows : List Row) (after : Option Text) (limit : Opt
 listing-fit list rows after limit (Some within) = tt
 listing-fit list rows after limit None = tt
 
-narrow-fit : (list : Text) (rows : List Row) (after : Option Text) (limit : Option ℕ) (bounds : Option BoundsShown) → IsFit (option_map (rehearsal_of list rows) (option_map (listing_asked after limit) bounds))
-narrow-fit list rows after limit (Some bounds) = listing-fit list rows after limit (bounds_of bounds.devices bounds.steps)
-narrow-fit list rows after limit None = tt
+narrow-fit : (list : Text) (rows : List Row) (after : Option Text) (limit failures : Option ℕ) (bounds : Option BoundsShown) → IsFit (option_map (rehearsal_of list rows) (option_map (listing_asked after limit failures) bounds))
+narrow-fit list rows after limit failures (Some bounds) = listing-fit list rows after limit (bounds_of bounds.devices bounds.steps failures)
+narrow-fit list rows after limit failures None = tt
 
-wide-fit : (list : Text) (rows : List Row) (word : Text) (after : Option Text) (limit : Option ℕ) (bounds : Option BoundsShown) → IsFit (option_map (rehearsal_of list rows) (option_map (word_asked word after limit) bounds))
-wide-fit list rows word None None (Some bounds) = tt
-wide-fit list rows word (Some after) limit (Some bounds) = tt
-wide-fit list rows word None (Some limit) (Some bounds) = tt
-wide-fit list rows word after limit None = tt
+wide-fit : (list : Text) (rows : List Row) (word : Text) (after : Option Text) (limit failures : Option ℕ) (bounds : Option BoundsShown) → IsFit (option_map (rehearsal_of list rows) (option_map (word_asked word after limit failures) bounds))
+wide-fit list rows word None None None (Some bounds) = tt
+wide-fit list rows word (Some after) limit failures (Some bounds) = tt
+wide-fit list rows word None (Some limit) failures (Some bounds) = tt
+wide-fit list rows word None None (Some failures) (Some bounds) = tt
+wide-fit list rows word after limit failures None = tt
 
-wanted-fit : (list : Text) (word after : Option Text) (limit : Option ℕ) (rows : List Row) → IsFit (option_map (rehearsal_of list rows) (wanted_by word after limit rows))
-wanted-fit list None after limit rows = narrow-fit list rows after limit (bounds_asked rows)
-wanted-fit list (Some word) after limit rows = wide-fit list rows word after limit (run_bounds_asked rows)
+wanted-fit : (list : Text) (word after : Option Text) (limit failures : Option ℕ) (rows : List Row) → IsFit (option_map (rehearsal_of list rows) (wanted_by word after limit failures rows))
+wanted-fit list None after limit failures rows = narrow-fit list rows after limit failures (bounds_asked rows)
+wanted-fit list (Some word) after limit failures rows = wide-fit list rows word after limit failures (run_bounds_asked rows)
 
-rehearse-fit : (list : Option Text) (limit : Option (Option ℕ)) (rows : List Row) → IsFit (rehearsal_with list limit rows)
-rehearse-fit (Some list) (Some limit) rows = wanted-fit list (first_of (codes "word") rows) (first_of (codes "after") rows) limit rows
-rehearse-fit None limit rows = tt
-rehearse-fit (Some list) None rows = tt
+rehearse-fit : (list : Option Text) (limit failures : Option (Option ℕ)) (rows : List Row) → IsFit (rehearsal_with list limit failures rows)
+rehearse-fit (Some list) (Some limit) (Some failures) rows = wanted-fit list (first_of (codes "word") rows) (first_of (codes "after") rows) limit failures rows
+rehearse-fit None limit failures rows = tt
+rehearse-fit (Some list) None failures rows = tt
+rehearse-fit (Some list) (Some limit) None rows = tt
 
 endings-fit : (list : Option Text) (bounds : Option BoundsShown) (states : Option (Option ℕ)) (rows : List Row) → IsFit (endings_with list bounds states rows)
 endings-fit (Some list) (Some bounds) (Some states) rows = tt
@@ -82,7 +84,7 @@ asked-fit called words = by (subcommand_of ubtool words)
         let names = values_of (codes "names") rows in
         let printed = print-fit (is_set (codes "noheader") rows) (length names == 1) (config_of rows) names (order_of rows) refl in
         let set = set-fit called (first_of (codes "script") rows) (first_of (codes "name") rows) rows in
-        let rehearsed = rehearse-fit (first_of (codes "device-list") rows) (number_within 1 most_records (codes "limit") rows) rows in
+        let rehearsed = rehearse-fit (first_of (codes "device-list") rows) (number_within 1 most_records (codes "limit") rows) (number_within 0 most_failures (codes "failures") rows) rows in
         let ended = endings-fit (first_of (codes "device-list") rows) (run_bounds_asked rows) (number_within 0 most_states (codes "states") rows) rows in
         let last = either (bytes_eq name (codes "endings")) (endings_asked rows) None ended tt in
         let two = either (bytes_eq name (codes "rehearse")) (rehearse_asked rows) (if bytes_eq name (codes "endings") then endings_asked rows else None) rehearsed last in

@@ -1,8 +1,9 @@
 use Rattle.std.proofs.Common.{◌≡◌, drop}
 use Rattle.rehearse.specs.Outcomes.{has_success}
 use Rattle.rehearse_runs.specs.RunsShown.{outcomes}
+use Rattle.rehearse_runs.proofs.FailingLemmas.{less_by}
 use Rattle.rehearse_runs.proofs.runs.has_success.Given as goal
 
 -- the digits so far are failures
-abbrev pub invariant-loop-digit : goal.invariant-loop-digit
-invariant-loop-digit l = has_success (outcomes (drop l.digit-index l.digits)) ≡ has_success (outcomes l.digits)
+abbrev pub invariant-loop-failed : goal.invariant-loop-failed
+invariant-loop-failed l = has_success (less_by l.failed l.most) (outcomes (drop l.failed l.digits)) ≡ has_success l.most (outcomes l.digits)

@@ -2,8 +2,9 @@ use Rattle.std.proofs.Common.{◌≡◌, List, [], ◌∷◌, length, length-app
 use Rattle.rehearse.specs.Outcomes.{first_from}
 use Rattle.rehearse.specs.Runs.{kind}
 use Rattle.rehearse_runs.specs.RunsShown.{outcomes}
+use Rattle.rehearse_runs.specs.Searching.{MarksIf}
 use Rattle.rehearse_machine.specs.Tasks.{task_in}
-use Rattle.rehearse_runs.proofs.SearchLemmas.{found_end, all_more, asked_here, goes_on, marks_go_on, digits_go_on}
+use Rattle.rehearse_runs.proofs.SearchLemmas.{found_end, all_more, asked_here, goes_on, marks_go_on, marks_keep, may_fail_on, digits_go_on}
 use Rattle.rehearse_runs.proofs.searching.+search.Goals as goal
 
 pub push-requires : goal.push-requires
@@ -23,17 +24,19 @@ returns-in_ok-next-in-Asks-clause-ok g t c =
     let task = task_in c.args.rehearsal.now in
     let r = g.S.Store.record_of c.args.store.now in
     let a = asked_here task c.args.digits.now.items c.args.stop r.present c.in-Asks.is c.requires.stopped in
-    let m = c.in_ok-mark-in-Asks.ensures.ok in
-    let b = rw m at c.in_ok-next-in-Asks.ensures.begun in
-    all_more c.search.result task (outcomes c.args.digits.now.items) (outcomes c.push.new.self.items) (outcomes c.search.new.digits.items) r (g.S.Store.record_of c.resume.new.store) (g.S.Store.record_of c.search.new.store) (a.first ∙ ap (λ (ds : List ℕ). first_from (kind task) task.limits.device_bound (outcomes ds)) (sym c.push.ensures)) b (rw m at c.in_ok-next-in-Asks.ensures.grows) c.search.ensures.ok
+    let n : MarksIf c.args.may r (g.S.Store.record_of c.mark_if.new.store) = c.in_ok-mark_if-in-Asks.ensures in
+    let m = marks_keep c.args.may r (g.S.Store.record_of c.mark_if.new.store) n in
+    let b = rw (m.0, m.1) at c.in_ok-next-in-Asks.ensures.begun in
+    all_more c.search.result task (outcomes c.args.digits.now.items) (outcomes c.push.new.self.items) (outcomes c.search.new.digits.items) r (g.S.Store.record_of c.resume.new.store) (g.S.Store.record_of c.search.new.store) (a.first ∙ ap (λ (ds : List ℕ). first_from (kind task) task.limits.device_bound (outcomes ds)) (sym c.push.ensures)) b (rw m.0 at c.in_ok-next-in-Asks.ensures.grows) c.search.ensures.ok
 
 pub search-requires : goal.search-requires
 search-requires g t c =
     let task = task_in c.args.rehearsal.now in
     let r = g.S.Store.record_of c.args.store.now in
     let a = asked_here task c.args.digits.now.items c.args.stop r.present c.in-Asks.is c.requires.stopped in
-    let m = c.in_ok-mark-in-Asks.ensures.ok in
-    let b = rw m at c.in_ok-next-in-Asks.ensures.begun in
+    let m : MarksIf c.args.may r (g.S.Store.record_of c.mark_if.new.store) = c.in_ok-mark_if-in-Asks.ensures in
+    let p = marks_keep c.args.may r (g.S.Store.record_of c.mark_if.new.store) m in
+    let b = rw (p.0, p.1) at c.in_ok-next-in-Asks.ensures.begun in
     let d = c.push.ensures in
     let l : length c.push.new.self.items ≡ length c.args.digits.now.items + 1 = ap length d ∙ length-append c.args.digits.now.items (48 ∷ []) in
     let k = a.room in
@@ -46,12 +49,15 @@ search-requires g t c =
       (
         h,
         (
-          goes_on task c.args.digits.now.items c.args.stop c.in_ok-next-in-Asks.next r (g.S.Store.record_of c.mark.new.self) (g.S.Store.record_of c.resume.new.store) c.push.new.self.items a m d c.in_ok-next-in-Asks.ensures.stops,
+          may_fail_on c.args.may task c.args.digits.now.items c.push.new.self.items c.requires.may d,
           (
-            marks_go_on task c.args.digits.now.items c.args.stop r (g.S.Store.record_of c.mark.new.self) (g.S.Store.record_of c.resume.new.store) c.push.new.self.items a m d c.in_ok-next-in-Asks.ensures.marks c.requires.marks,
+            goes_on c.args.may task c.args.digits.now.items c.args.stop c.in_ok-next-in-Asks.next r (g.S.Store.record_of c.mark_if.new.store) (g.S.Store.record_of c.resume.new.store) c.push.new.self.items a m d c.in_ok-next-in-Asks.ensures.stops,
             (
-              digits_go_on c.args.digits.now.items c.push.new.self.items d c.requires.digits,
-              (w, (omega arith, n)),
+              marks_go_on c.args.may task c.args.digits.now.items c.args.stop r (g.S.Store.record_of c.mark_if.new.store) (g.S.Store.record_of c.resume.new.store) c.push.new.self.items a c.requires.may m d c.in_ok-next-in-Asks.ensures.marks c.requires.marks,
+              (
+                digits_go_on c.args.digits.now.items c.push.new.self.items d c.requires.digits,
+                (w, (omega arith, n)),
+              ),
             ),
           ),
         ),

@@ -6,7 +6,7 @@ use Rattle.rehearse_runs.proofs.SearchLemmas.{back_at, marks_behind, found_behin
 use Rattle.rehearse_runs.proofs.searching.next_run.Goals as goal
 
 pub returns-then-not-turn-clause-ok : goal.returns-then-not-turn-clause-ok
-returns-then-not-turn-clause-ok g c = (task_ends (task_in c.args.rehearsal.now) (outcomes c.args.digits.now.items) c.requires.run c.if-not-turn.ensures.turns, refl)
+returns-then-not-turn-clause-ok g c = (task_ends (task_in c.args.rehearsal.now) (outcomes c.args.digits.now.items) c.requires.run (rw c.failures.ensures at c.if-not-turn.ensures.turns), refl)
 
 pub search-requires-clause-marks : goal.search-requires-clause-marks
 search-requires-clause-marks g c =
@@ -15,7 +15,7 @@ search-requires-clause-marks g c =
     let q = outcomes c.turn.new.digits.items in
     let r = g.S.Store.record_of c.args.store.now in
     let back = g.S.Store.record_of c.back.new.self in
-    let a = back_at task u q r back c.requires.marks c.if-not-turn.ensures.turns c.back.ensures in
+    let a = back_at task u q r back c.requires.marks (rw c.failures.ensures at c.if-not-turn.ensures.turns) c.back.ensures in
     marks_behind task q r back (g.S.Store.record_of c.resume.new.store) a c.in_ok-stop.ensures.marks
 
 pub returns-clause-ok : goal.returns-clause-ok
@@ -25,5 +25,5 @@ returns-clause-ok g c =
     let q = outcomes c.turn.new.digits.items in
     let r = g.S.Store.record_of c.args.store.now in
     let back = g.S.Store.record_of c.back.new.self in
-    let a = back_at task u q r back c.requires.marks c.if-not-turn.ensures.turns c.back.ensures in
-    found_behind task u q (outcomes c.search.new.digits.items) c.in_ok-halt.halt r back (g.S.Store.record_of c.resume.new.store) (g.S.Store.record_of c.search.new.store) c.requires.run c.if-not-turn.ensures.turns a c.in_ok-stop.ensures.begun c.in_ok-stop.ensures.grows c.in_ok-halt.ensures.ok
+    let a = back_at task u q r back c.requires.marks (rw c.failures.ensures at c.if-not-turn.ensures.turns) c.back.ensures in
+    found_behind task u q (outcomes c.search.new.digits.items) c.in_ok-halt.halt r back (g.S.Store.record_of c.resume.new.store) (g.S.Store.record_of c.search.new.store) c.requires.run (rw c.failures.ensures at c.if-not-turn.ensures.turns) a c.in_ok-stop.ensures.begun c.in_ok-stop.ensures.grows c.in_ok-halt.ensures.ok
