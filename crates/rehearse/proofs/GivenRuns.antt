@@ -5,8 +5,8 @@ use Rattle.hushlang.specs.Tree.{Script, AndOr, Joined, Command, Arms}
 use Rattle.hushlang.specs.Expansion.{fields}
 use Rattle.rehearse.specs.Outcomes.{OutcomeWord}
 use Rattle.rehearse.specs.State.{Text, Variables, State, get, start, parameters_in}
-use Rattle.rehearse.specs.Builtins.{Builtin, SetEnv, Run, Test, Echo, True, False, Leave, builtin_of}
-use Rattle.rehearse.specs.Commands.{BuiltIn, listed_by}
+use Rattle.rehearse.specs.Builtins.{Builtin, builtin_of}
+use Rattle.rehearse.specs.Commands.{Deed, ChangesVariables, WritesText, RunsTexts, Tests, Exits, BuiltIn, deed_of, listed_by}
 use Rattle.rehearse.specs.DeviceList.{Devices}
 use Rattle.rehearse.specs.Execution.{Limits, Answer, Normal, Ended, CutSteps, go_on, set_status, goes, begin, command, simple, sized, turns, for_each, text_end, run_text, run_all, exec_script, exec_list, exec_joined, exec_command, exec_arms, exec}
 use Rattle.rehearse.specs.GivenExecution.{Others, given_simple, given_script, given_list, given_joined, given_command, given_arms, given_exec, given_run_on}
@@ -39,23 +39,21 @@ AreGiven bounds devices others = (f : Script → Does) (name : Text) (words : Li
 
 module _ (bounds : Limits) (devices : Devices) (others : Others) (given : AreGiven bounds devices others) where
   module _ (f g : Script → Does) (same : f ≡ g) where
-    builtin-same : (b : Builtin) (name : Text) (words : List Text) (s : State) → command (limits bounds devices) f (BuiltIn b) name words s ≡ command bounds g (BuiltIn b) name words s
-    builtin-same SetEnv name words s = refl
-    builtin-same Run name [] s = refl
-    builtin-same Run name (w ∷ ws) s = λ i. run_all-same (limits bounds devices) bounds f g same (w ∷ ws) i s
-    builtin-same Test name words s = refl
-    builtin-same Echo name words s = refl
-    builtin-same True name words s = refl
-    builtin-same False name words s = refl
-    builtin-same Leave name words s = refl
+    builtin-same : (d : Deed) (name : Text) (words : List Text) (s : State) → command (limits bounds devices) f (BuiltIn d) name words s ≡ command bounds g (BuiltIn d) name words s
+    builtin-same (ChangesVariables change) name words s = refl
+    builtin-same (WritesText written) name words s = refl
+    builtin-same RunsTexts name [] s = refl
+    builtin-same RunsTexts name (w ∷ ws) s = λ i. run_all-same (limits bounds devices) bounds f g same (w ∷ ws) i s
+    builtin-same Tests name words s = refl
+    builtin-same Exits name words s = refl
 
     simple-same : (fs : List Text) (s : State) → simple (limits bounds devices) f fs s ≡ given_simple bounds others g fs s
     simple-same [] s = refl
     simple-same (name ∷ words) s = by (builtin_of name)
       where
-        by : (b : Option Builtin) → ◌≡◌ {A = Answer} (command (limits bounds devices) f (elim b [ Some builtin ↦ BuiltIn builtin | None ↦ listed_by devices name words ]) name words s)
-            (elim b [ Some builtin ↦ command bounds g (BuiltIn builtin) name words s | None ↦ others name words s ])
-        by (Some builtin) = builtin-same builtin name words s
+        by : (b : Option Builtin) → ◌≡◌ {A = Answer} (command (limits bounds devices) f (elim b [ Some builtin ↦ BuiltIn (deed_of builtin) | None ↦ listed_by devices name words ]) name words s)
+            (elim b [ Some builtin ↦ command bounds g (BuiltIn (deed_of builtin)) name words s | None ↦ others name words s ])
+        by (Some builtin) = builtin-same (deed_of builtin) name words s
         by None = given f name words s
 
   -- ---- the tree

@@ -3,23 +3,28 @@
 use Rattle.std.specs.Prelude.{ℕ, ◌+◌, ◌-◌, ◌*◌, nat_le, nat_eq, Bool, true, false, not, cond, ◌&&◌, ◌||◌, List, [], ◌∷◌, ◌++◌, length, Option, Some, None, bytes_eq, slice_get, codes}
 use Rattle.std.specs.List.{join_with_byte, list_any, list_all}
 use Rattle.text.specs.Bytes as ascii
-use Rattle.rehearse.specs.Builtins.{Builtin, builtin_of}
+use Rattle.rehearse.specs.Builtins.{Builtin, SetEnv, Run, Test, Echo, True, False, Leave, builtin_of}
 use Rattle.rehearse.specs.DeviceList.{LeftSide, Variable, WordAt, LastWord, Setting, Effect, Devices, effect_of}
-use Rattle.rehearse.specs.State.{Text, Memory, with_value, without}
+use Rattle.rehearse.specs.State.{Text, Variables, Memory, with_value, without}
+
+-- what a built-in command does with its words
+pub data Deed : Type 0 where
+  -- it changes the environment, and gives a status
+  ChangesVariables : (List Text → Variables → Variables × ℕ) → Deed
+  -- it writes a text, with status 0
+  WritesText : (List Text → Text) → Deed
+  -- it runs the texts of variables
+  RunsTexts : Deed
+  -- it says whether its words hold, or asks a device
+  Tests : Deed
+  -- it ends the text that is running
+  Exits : Deed
 
 -- what the fields of a command call
 pub data Called : Type 0 where
-  BuiltIn : Builtin → Called
+  BuiltIn : Deed → Called
   Device : Effect → Called
   NoCommand : Called
-
-abbrev pub listed_by : Devices → (name : Text) → (words : List Text) → Called
-listed_by devices name words = elim (effect_of devices name words) [ Some effect ↦ Device effect | None ↦ NoCommand ]
-
--- a command that is built in, else a call of one of the device list
-abbrev pub called_by : Devices → (name : Text) → (words : List Text) → Called
-called_by devices name words =
-    elim (builtin_of name) [ Some builtin ↦ BuiltIn builtin | None ↦ listed_by devices name words ]
 
 -- `test` with exactly four words, the first `-e`, asks a device
 abbrev pub asks_device : List Text → Bool
@@ -51,24 +56,18 @@ sets_in words (set ∷ sets) =
     ]
 
 -- `setenv` and its words: the name alone deletes the variable, words behind it are its value, joined by spaces
-abbrev pub setenv : List Text → Memory → Memory
-setenv [] m = record m { status = 1 }
-setenv (name ∷ []) m =
-    cond (is_bad_name name) (record m { status = 1 }) (record m {
-      environment = without m.environment name;
-      status = 0;
-    })
-setenv (name ∷ w ∷ ws) m =
-    cond (is_bad_name name) (record m { status = 1 })
-    (record m { environment = with_value m.environment name (join_with_byte ascii.space (w ∷ ws)); status = 0 })
+abbrev pub setenv : List Text → Variables → Variables × ℕ
+setenv [] variables = (variables, 1)
+setenv (name ∷ []) variables = cond (is_bad_name name) (variables, 1) (without variables name, 0)
+setenv (name ∷ w ∷ ws) variables =
+    cond (is_bad_name name) (variables, 1) (with_value variables name (join_with_byte ascii.space (w ∷ ws)), 0)
 
 -- `echo` and its words: they are written, joined by spaces, and a newline, which a first word `-n` leaves out
-abbrev pub echo : List Text → Memory → Memory
-echo [] m = record m { text = m.text ++ ascii.newline ∷ []; status = 0 }
-echo (w ∷ ws) m = cond (bytes_eq w (codes "-n")) (record m {
-  text = m.text ++ join_with_byte ascii.space ws;
-  status = 0;
-}) (record m { text = m.text ++ join_with_byte ascii.space (w ∷ ws) ++ ascii.newline ∷ []; status = 0 })
+abbrev pub echo : List Text → Text
+echo [] = ascii.newline ∷ []
+echo (w ∷ ws) =
+    cond (bytes_eq w (codes "-n")) (join_with_byte ascii.space ws)
+    (join_with_byte ascii.space (w ∷ ws) ++ ascii.newline ∷ [])
 
 abbrev pub is_digit : ℕ → Bool
 is_digit b = nat_le ascii.digit_zero b && nat_le b ascii.digit_nine
@@ -85,3 +84,35 @@ exit_status ([] ∷ []) = None
 exit_status ((b ∷ bs) ∷ []) =
     cond (nat_eq b ascii.minus && not (nat_eq (length bs) 0) && list_all is_digit bs) (Some 0) (decimal_from 0 (b ∷ bs))
 exit_status (w ∷ v ∷ ws) = None
+
+-- ---- the rows
+
+-- a status, whatever the words are
+abbrev pub gives : ℕ → List Text → Variables → Variables × ℕ
+gives status words variables = (variables, status)
+
+abbrev pub deed_of : Builtin → Deed
+deed_of SetEnv = ChangesVariables setenv
+deed_of Run = RunsTexts
+deed_of Test = Tests
+deed_of Echo = WritesText echo
+deed_of True = ChangesVariables (gives 0)
+deed_of False = ChangesVariables (gives 1)
+deed_of Leave = Exits
+
+abbrev pub variables_changed : (List Text → Variables → Variables × ℕ) → List Text → Memory → Memory
+variables_changed change words m =
+    let after = change words m.environment in record m { environment = after.0; status = after.1 }
+
+abbrev pub text_written : (List Text → Text) → List Text → Memory → Memory
+text_written written words m = record m { text = m.text ++ written words; status = 0 }
+
+-- ---- what a name calls
+
+abbrev pub listed_by : Devices → (name : Text) → (words : List Text) → Called
+listed_by devices name words = elim (effect_of devices name words) [ Some effect ↦ Device effect | None ↦ NoCommand ]
+
+-- a command that is built in, else a call of one of the device list
+abbrev pub called_by : Devices → (name : Text) → (words : List Text) → Called
+called_by devices name words =
+    elim (builtin_of name) [ Some builtin ↦ BuiltIn (deed_of builtin) | None ↦ listed_by devices name words ]

@@ -93,7 +93,7 @@ pub(crate) fn setenv<S: Store>(
     store: &mut S,
     words: &[Vec<u8>],
 ) -> Result<(), StoreError>
-    ensures { Changed result (S.record_of store.old) (S.record_of store.new) (says.setenv (bytes_of_words words.now)) }
+    ensures { Changed result (S.record_of store.old) (S.record_of store.new) (says.variables_changed says.setenv (bytes_of_words words.now)) }
 {
     let [name, values @ ..] = words else {
         return store.set_status(1);
@@ -172,7 +172,7 @@ pub(crate) fn echo<S: Store>(
     store: &mut S,
     words: &[Vec<u8>],
 ) -> Result<(), StoreError>
-    ensures { Changed result (S.record_of store.old) (S.record_of store.new) (says.echo (bytes_of_words words.now)) }
+    ensures { Changed result (S.record_of store.old) (S.record_of store.new) (says.text_written says.echo (bytes_of_words words.now)) }
 {
     let mut shown = words;
     let mut ends_line = true;
