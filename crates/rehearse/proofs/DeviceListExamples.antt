@@ -163,7 +163,7 @@ first_fault = refl
 -- ---- the calls of a command
 
 abbrev sub_list : Text → Text → Effect → Devices
-sub_list name word effect = record { commands = []; subs = (name, (word, effect) ∷ []) ∷ [] }
+sub_list name word effect = record { commands = []; subs = (name, (word, effect) ∷ []) ∷ []; known = [] }
 
 sub_line : listed (codes "sub part list") ≡ Ok (sub_list (codes "part") (codes "list") quiet)
 sub_line = refl
@@ -213,13 +213,14 @@ sub_lines_joined : listed (codes "sub part list a=1\npart\nfinal sub part list b
     ≡ Ok (record {
       commands = (codes "part", quiet) ∷ [];
       subs = (codes "part", (codes "list", record { ends = true; sets = (Variable (codes "a"), codes "1") ∷ (Variable (codes "b"), codes "2") ∷ [] }) ∷ (codes "uuid", quiet) ∷ []) ∷ [];
+      known = [];
     })
 sub_lines_joined = refl
 
 -- ---- which lines a call goes by
 
 abbrev parts : Devices
-parts = record { commands = (codes "part", quiet) ∷ []; subs = (codes "part", (codes "list", final) ∷ []) ∷ (codes "mmc", (codes "dev", final) ∷ []) ∷ [] }
+parts = record { commands = (codes "part", quiet) ∷ []; subs = (codes "part", (codes "list", final) ∷ []) ∷ (codes "mmc", (codes "dev", final) ∷ []) ∷ []; known = [] }
 
 by_its_sub_line : effect_of parts (codes "part") (codes "list" ∷ codes "mmc" ∷ []) ≡ Some final
 by_its_sub_line = refl

@@ -18,7 +18,9 @@ mod ExecutionExamples
 mod BootingExamples
 mod ResumingExamples
 pub mod DeviceLemmas
+pub mod ComputedLemmas
 mod DeviceListExamples
+pub mod CallLists
 pub mod JoinedLines
 pub mod MapLemmas
 pub mod QuietNames
@@ -27,6 +29,7 @@ pub mod EarlierLists
 pub mod GivenRuns
 pub mod PlainRuns
 pub mod EarlierRuns
+pub mod CallRuns
 mod PlainExecutionExamples
 pub mod VerdictLemmas
 mod VerdictExamples

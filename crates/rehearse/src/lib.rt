@@ -3,6 +3,7 @@
 
 mod bounds;
 mod builtins;
+mod computed;
 pub mod device_laws;
 mod device_line;
 mod devices;
@@ -15,6 +16,7 @@ mod truth;
 
 pub use bounds::{Bounds, DEVICES_MAX, STEPS_MAX};
 pub use builtins::{Builtin, builtin_of};
+pub use computed::Computed;
 pub use devices::{Devices, Effect};
 pub use devices_error::DevicesError;
 pub use run_bounds::{RUN_DEVICES_MAX, RunBounds};

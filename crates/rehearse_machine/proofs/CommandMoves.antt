@@ -13,10 +13,11 @@ use Rattle.hushlang.specs.Tree.{Script}
 use Rattle.rehearse.specs.Outcomes.{OutcomeWord}
 use Rattle.rehearse.specs.State.{Text, Variables, State, with_value, without}
 use Rattle.bootstore.specs.StoredState.{state_at}
-use Rattle.rehearse.specs.Commands.{Called, ChangesVariables, WritesText, Tests, BuiltIn, Device, called_by, asks_device, is_bad_name, setenv, variables_changed, text_written, is_digit, decimal_from}
+use Rattle.rehearse.specs.Commands.{Called, ChangesVariables, WritesText, Tests, BuiltIn, Device, carried, called_by_name, called_by, asks_device, is_bad_name, setenv, variables_changed, text_written, is_digit, decimal_from}
 use Rattle.rehearse.specs.Execution.{Limits, Request, no_effect, remember, set_status, status_when}
 use Rattle.rehearse.specs.Verdict.{verdict}
-use Rattle.rehearse.specs.DeviceList.{Effect}
+use Rattle.rehearse.specs.Computed.{Computed}
+use Rattle.rehearse.specs.DeviceList.{Effect, Devices, computed_by}
 use Rattle.bootstore.proofs.StateLemmas.{stored_changes, stored_deletions}
 use Rattle.rehearse_machine.specs.declared.ask.Step.{Step}
 use Rattle.rehearse_machine.specs.declared.ask.Step.TheVariants as steps
@@ -121,6 +122,15 @@ module _ (limits : Limits) (old new : Record) (name : Text) (words : List Text) 
         ∙ sym (ap (λ (x : Called). place_called limits x name words script frames (state_at old.present w)) e),
     record { marked = refl; begun = omega arith },
   )
+
+-- a call that is computed, and one that is not
+pub called_computed : (devices : Devices) (name : Text) (words : List Text) (computed : Computed) → computed_by devices name words ≡ Some computed → called_by devices name words ≡ BuiltIn (ChangesVariables (λ ws. carried computed))
+called_computed devices name words computed e =
+    ap (λ (o : Option Computed). let c : Called = elim o [ Some computed ↦ BuiltIn (ChangesVariables (λ ws. carried computed)) | None ↦ called_by_name devices name words ] in c) e
+
+pub called_named : (devices : Devices) (name : Text) (words : List Text) → computed_by devices name words ≡ None → called_by devices name words ≡ called_by_name devices name words
+called_named devices name words e =
+    ap (λ (o : Option Computed). let c : Called = elim o [ Some computed ↦ BuiltIn (ChangesVariables (λ ws. carried computed)) | None ↦ called_by_name devices name words ] in c) e
 
 pub fields_named : (limits : Limits) (fields : List (Vec ℕ Global)) (name : Vec ℕ Global) (rest : List (Vec ℕ Global)) (script : Script) (ps : List RunningFrame) (s : State) → fields ≡ name ∷ rest → place_called limits (called_by limits.devices name.items (bytes_of_words rest)) name.items (bytes_of_words rest) script ps s ≡ place_fields limits (bytes_of_words fields) script ps s
 fields_named limits fields name rest script ps s e = sym (ap (λ (x : List (Vec ℕ Global)). place_fields limits (bytes_of_words x) script ps s) e)

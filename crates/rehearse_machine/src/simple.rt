@@ -13,7 +13,8 @@ ghost use Rattle.rehearse_machine.specs.MovesShown.{Comes, IsTop, under, limits_
 ghost use Rattle.rehearse_machine.specs.CalledShown.{builtin_called, called_shown};
 
 use crate::ask::Step;
-use crate::commands::{Called, ask, asks_device, called_by, echo, exit_status, setenv};
+use crate::commands::{Called, ask, asks_device, called_by_name, echo, exit_status, setenv};
+use crate::computed::carry_out;
 use crate::frames::{behind, enter, finish, place};
 use crate::halt::Halt;
 use crate::steps::{count, expanded};
@@ -154,7 +155,11 @@ pub(crate) fn run_fields<'d, S: Store>(
         return done(store, 0);
     }
     let name = fields.remove(0);
-    let called = called_by(devices, &name, &fields);
+    if let Some(computed) = devices.computed(&name, &fields) {
+        carry_out(alloc, store, computed)?;
+        return Ok(Step::Going);
+    }
+    let called = called_by_name(devices, &name, &fields);
     run_called(alloc, store, script, bounds, called, name, fields)
 }
 
