@@ -15,12 +15,17 @@ use Rattle.rehearse.specs.declared.devices_error.DevicesError.TheVariants.{BadLi
 
 -- ---- a `known` line was a bad line
 
-named_env : (name : Text) → is_some (known_of name) ≡ true → name ≡ codes "env"
-named_env name e = by (bytes_eq name (codes "env")) refl e
+bad_name : (number : ℕ) (name : Text) → is_some (known_of name) ≡ true → line_of number (heading_of (codes "known") (name ∷ [])) ≡ Err (BadLine number)
+bad_name number name e = by (bytes_eq name (codes "env")) (bytes_eq name (codes "itest")) (bytes_eq name (codes "setexpr")) refl refl refl e
   where
-    by : (b : Bool) → bytes_eq name (codes "env") ≡ b → is_some (known_of name) ≡ true → name ≡ codes "env"
-    by true is f = (bytes_decides name (codes "env")).0 is
-    by false is f = absurd (let g : is_some (known_of name) ≡ false = rw is refl in let h = sym g ∙ f in cc)
+    one : (known : Text) → line_of number (heading_of (codes "known") (known ∷ [])) ≡ Err (BadLine number) → name ≡ known → line_of number (heading_of (codes "known") (name ∷ [])) ≡ Err (BadLine number)
+    one known bad is = ap (λ (n : Text). line_of number (heading_of (codes "known") (n ∷ []))) is ∙ bad
+
+    by : (a b c : Bool) → bytes_eq name (codes "env") ≡ a → bytes_eq name (codes "itest") ≡ b → bytes_eq name (codes "setexpr") ≡ c → is_some (known_of name) ≡ true → line_of number (heading_of (codes "known") (name ∷ [])) ≡ Err (BadLine number)
+    by true b c p q r f = one (codes "env") refl ((bytes_decides name (codes "env")).0 p)
+    by false true c p q r f = one (codes "itest") refl ((bytes_decides name (codes "itest")).0 q)
+    by false false true p q r f = one (codes "setexpr") refl ((bytes_decides name (codes "setexpr")).0 r)
+    by false false false p q r f = absurd (let g : is_some (known_of name) ≡ false = rw (p, q, r) refl in let h = sym g ∙ f in cc)
 
 pub known_was_bad : (number : ℕ) (first : Text) (words : List Text) (name : Text) → known_named first words ≡ Some name → line_of number (heading_of first words) ≡ Err (BadLine number)
 known_was_bad number first [] name e = cc
@@ -30,8 +35,7 @@ known_was_bad number first (second ∷ []) name e =
       | inl both ↦
           let parts = and_parts (bytes_eq first (codes "known")) (is_some (known_of second)) both in
           let a = (bytes_decides first (codes "known")).0 parts.0 in
-          let b = named_env second parts.1 in
-          (λ i. line_of number (heading_of (a i) (b i ∷ [])))
+          (λ i. line_of number (heading_of (a i) (second ∷ []))) ∙ bad_name number second parts.1
       | inr neither ↦ absurd (let none : known_named first (second ∷ []) ≡ None = rw neither refl in let f = sym none ∙ e in cc)
     ]
 

@@ -34,6 +34,7 @@ mod PlainExecutionExamples
 pub mod VerdictLemmas
 mod VerdictExamples
 mod ListedExamples
+mod ComputedExamples
 mod RunningExamples
 mod EdgeExamples
 mod BoundExamples

@@ -30,10 +30,10 @@ is_built_in name = is_some (builtin_of name)
 -- ---- commands that a device list may have computed
 
 pub data Known : Type 0 where
-  Env : Known
+  Env Itest SetExpr : Known
 
 abbrev pub known_names : List (Text × Known)
-known_names = (codes "env", Env) ∷ []
+known_names = (codes "env", Env) ∷ (codes "itest", Itest) ∷ (codes "setexpr", SetExpr) ∷ []
 
 abbrev pub known_of : Text → Option Known
 known_of name = lookup (bytes_eq name) known_names

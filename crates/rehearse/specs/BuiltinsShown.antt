@@ -16,3 +16,5 @@ builtin_shown names.Leave = says.Leave
 
 abbrev pub known_shown : Known → says.Known
 known_shown known_names.Env = says.Env
+known_shown known_names.Itest = says.Itest
+known_shown known_names.SetExpr = says.SetExpr

@@ -2,9 +2,10 @@
 -- doc/usage/cmd, on `echo`, `env`, `exit`, `true` and `false`); what the pages leave open is ours.
 use Rattle.std.specs.Prelude.{ℕ, ◌+◌, ◌-◌, ◌*◌, nat_le, nat_eq, Bool, true, false, not, cond, ◌&&◌, ◌||◌, List, [], ◌∷◌, ◌++◌, length, Option, Some, None, is_some, bytes_eq, slice_get, codes}
 use Rattle.std.specs.List.{join_with_byte, list_any, list_all}
+use Rattle.std.specs.Fmt.{digits}
 use Rattle.text.specs.Bytes as ascii
 use Rattle.rehearse.specs.Builtins.{Builtin, SetEnv, Run, Test, Echo, True, False, Leave, builtin_of}
-use Rattle.rehearse.specs.Computed.{Computed, Gives, Exists, Sets, Deletes}
+use Rattle.rehearse.specs.Computed.{Computed, Gives, Exists, Sets, Deletes, SetsNumber}
 use Rattle.rehearse.specs.DeviceList.{LeftSide, Variable, WordAt, LastWord, Setting, Effect, Devices, effect_of, computed_by}
 use Rattle.rehearse.specs.State.{Text, Variables, Memory, get, with_value, without}
 pub use Rattle.rehearse.specs.State.{is_bad_name}
@@ -96,6 +97,7 @@ carried (Gives status) variables = (variables, status)
 carried (Exists name) variables = (variables, cond (is_some (get variables name)) 0 1)
 carried (Sets words) variables = setenv words variables
 carried (Deletes names) variables = deletions 0 names variables
+carried (SetsNumber name number) variables = (with_value variables name (digits 16 false number), 0)
 
 -- ---- the rows
 

@@ -10,6 +10,7 @@ computed_shown (names.Gives status) = says.Gives status
 computed_shown (names.Exists name) = says.Exists name.now
 computed_shown (names.Sets words) = says.Sets (texts words.now)
 computed_shown (names.Deletes words) = says.Deletes (texts words.now)
+computed_shown (names.SetsNumber name number) = says.SetsNumber name.now number
 
 abbrev pub call_shown : Option Computed → Option says.Computed
 call_shown = option_map computed_shown

@@ -5,6 +5,7 @@ pub mod DeviceList
 pub mod Verdict
 pub mod Builtins
 pub mod BuiltinsShown
+pub mod Hexadecimal
 pub mod Computed
 pub mod ComputedShown
 pub mod Commands

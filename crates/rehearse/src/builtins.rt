@@ -51,6 +51,8 @@ pub(crate) fn is_built_in(name: &[u8]) -> bool
 #[derive(Clone, Copy, Debug)]
 pub(crate) enum Known {
     Env,
+    Itest,
+    SetExpr,
 }
 
 /// The command of a name, if a device list may have it computed.
@@ -59,6 +61,10 @@ pub(crate) fn known_of(name: &[u8]) -> Option<Known>
 {
     if name == b"env".as_slice() {
         Some(Known::Env)
+    } else if name == b"itest".as_slice() {
+        Some(Known::Itest)
+    } else if name == b"setexpr".as_slice() {
+        Some(Known::SetExpr)
     } else {
         None
     }

@@ -8,6 +8,9 @@ ghost use Rattle.rehearse.specs.ComputedShown.{computed_shown, call_shown};
 ghost use Rattle.rehearse.specs.TextsShown.{texts};
 
 use crate::builtins::Known;
+use crate::hexadecimal::hexadecimal;
+use crate::itest::itest;
+use crate::setexpr::setexpr;
 
 /// What a computed call comes to.
 #[derive(Clone, Copy, Debug)]
@@ -20,6 +23,8 @@ pub enum Computed<'a> {
     Sets(&'a [Vec<u8>]),
     /// These environment variables are deleted. Status 1 if one of them is not set.
     Deletes(&'a [Vec<u8>]),
+    /// This environment variable is set to this number, in hexadecimal.
+    SetsNumber(&'a [u8], u64),
 }
 
 /// Whether a word is an option.
@@ -114,11 +119,24 @@ fn env(words: &[Vec<u8>]) -> Option<Computed<'_>>
     }
 }
 
+/// The number that an operand is, unless it is read from memory.
+pub(crate) fn operand(word: &[u8]) -> Option<u64>
+    ensures { result ≡ says.operand word.now }
+{
+    match word {
+        [] => Some(0),
+        [b'*', ..] => None,
+        _ => Some(hexadecimal(word)),
+    }
+}
+
 /// What the words of a command come to, if they can be computed.
 pub(crate) fn computes(known: Known, words: &[Vec<u8>]) -> Option<Computed<'_>>
     ensures { call_shown result ≡ says.computes (known_shown known) (texts words.now) }
 {
     match known {
         Known::Env => env(words),
+        Known::Itest => itest(words),
+        Known::SetExpr => setexpr(words),
     }
 }

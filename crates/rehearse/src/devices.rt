@@ -133,7 +133,7 @@ impl Devices {
     /// The commands of a device list, a line each: `NAME SETTINGS`, or `final NAME SETTINGS` for one
     /// that ends the run; `sub NAME WORD SETTINGS` and `final sub NAME WORD SETTINGS` speak of the calls
     /// of NAME whose first word is WORD. `known NAME` has the calls of NAME computed, where its words can
-    /// be; NAME is `env`. Spaces, tabs and carriage returns round a line are dropped;
+    /// be; NAME is `env`, `itest` or `setexpr`. Spaces, tabs and carriage returns round a line are dropped;
     /// spaces and tabs separate its words. Lines without a word, and lines that begin with `#`, are
     /// skipped. The first word is the name, unless it is `final` and a word without `=` follows, or
     /// `sub` and two such words follow. Each further word is a setting: a variable, the first `=`, and a

@@ -1,5 +1,5 @@
 -- What computed calls do to a store.
-use Rattle.std.proofs.Common.{ℕ, Bool, cond, List, [], ◌∷◌, ◌+◌, drop, length, get_or, None, Result, Ok, Err, refl, sym, ap, subst, ◌∙◌, ◌≡◌, ◌<◌, ◌≤◌, arith}
+use Rattle.std.proofs.Common.{ℕ, Bool, cond, List, [], ◌∷◌, ◌+◌, drop, length, get_or, Some, None, Result, Ok, Err, refl, sym, ap, subst, ◌∙◌, ◌≡◌, ◌<◌, ◌≤◌, arith}
 use Rattle.std.specs.Prelude.{Vec, OnOk}
 use Rattle.std.specs.Option.{is_some}
 use Rattle.std.specs.FinMap.{entries}
@@ -9,10 +9,10 @@ use Rattle.hushlang.proofs.ExpandLemmas.{drop_next}
 use Rattle.bootstore.specs.declared.store.StoreError.{StoreError}
 use Rattle.bootstore.specs.Record.{Record, changed, with_environment, with_status}
 use Rattle.bootstore.specs.StoredState.{state_at}
-use Rattle.bootstore.proofs.StateLemmas.{stored_deletions}
+use Rattle.bootstore.proofs.StateLemmas.{stored_changes, stored_deletions}
 use Rattle.text.specs.TextsShown.{bytes_of_words}
 use Rattle.rehearse.specs.Outcomes.{OutcomeWord}
-use Rattle.rehearse.specs.State.{Text, Variables, Memory, State, get, without}
+use Rattle.rehearse.specs.State.{Text, Variables, Memory, State, get, with_value, without}
 use Rattle.rehearse.specs.Commands.{changed_by, deletions}
 use Rattle.rehearse.specs.Execution.{remember}
 use Rattle.rehearse_machine.specs.MovesShown.{Keeps, Changes, Changed}
@@ -84,6 +84,18 @@ gives_set (Ok done) old new n was_set name was by e = (
   subst (Keeps old) (sym e) (keeps_change (with_status n) old refl),
 )
 gives_set (Err x) old new n was_set name was by e = tt
+
+-- one variable set, with status 0
+pub sets_value : (r : Result (Unit {0}) StoreError) (old mid new : Record) (name value : Text) → mid ≡ changed (with_environment name (Some value)) old → OnOk r (new ≡ changed (with_status 0) mid)
+    → Changed r old new (changed_by (λ variables. (with_value variables name value, 0)))
+sets_value (Ok done) old mid new name value made e =
+    let both = e ∙ ap (changed (with_status 0)) made in (
+      λ w. ap (λ (r : Record). state_at r.present w) both
+          ∙ ap (λ (x : Variables). remember (λ m. record m { environment = x; status = 0 }) (state_at old.present w)) (stored_changes old.present.environment name value),
+      ap (λ (r : Record). r.present.frames) both,
+      subst (Keeps old) (sym both) (record { marked = refl; begun = refl }),
+    )
+sets_value (Err x) old mid new name value made e = tt
 
 -- what is said of a change is said of the same change
 pub changed_as : (r : Result (Unit {0}) StoreError) (old new : Record) (f g : Memory → Memory) → f ≡ g → Changed r old new f → Changed r old new g

@@ -16,7 +16,7 @@ ghost use Rattle.rehearse_machine.specs.CalledShown.{called_shown};
 use crate::ask::{Ask, Step};
 use crate::halt::Halt;
 use bootstore::{Store, StoreError};
-use rehearse::{Builtin, Devices, Effect, RunBounds, builtin_of};
+use rehearse::{Builtin, Devices, Effect, RunBounds, builtin_of, is_bad_name};
 use std::alloc::{AllocError, Global};
 
 /// What the fields of a command call.
@@ -75,16 +75,6 @@ pub(crate) fn joined(alloc: Global, words: &[Vec<u8>]) -> Result<Vec<u8>, AllocE
         joined.extend_from_slice(word)?;
     }
     Ok(joined)
-}
-
-/// Whether no variable has this name: it is empty, holds `=`, or begins with `-`.
-pub(crate) fn is_bad_name(name: &[u8]) -> bool
-    ensures { result ≡ says.is_bad_name name.now }
-{
-    match name {
-        [] => true,
-        [first, behind @ ..] => *first == b'-' || *first == b'=' || behind.contains(&b'='),
-    }
 }
 
 /// `setenv`: a name alone is deleted, else it gets the words behind it.

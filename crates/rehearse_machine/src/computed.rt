@@ -1,17 +1,18 @@
 //! Computed calls over a store.
-ghost use Rattle.std.specs.Prelude.{◌≡◌, cond, is_some, IfOk, None};
+ghost use Rattle.std.specs.Prelude.{◌≡◌, cond, is_some, false, string_bytes, IfOk, None};
 ghost use Rattle.std.specs.FinMap.{entries};
+ghost use Rattle.std.specs.Fmt.{digits};
 ghost use Rattle.bootstore.specs.Record.{changed, with_environment};
 ghost use Rattle.text.specs.TextsShown.{bytes_of_words};
 ghost use Rattle.rehearse.specs.Commands as says;
 ghost use Rattle.rehearse.specs.ComputedShown.{computed_shown};
-ghost use Rattle.rehearse.specs.State.{get};
+ghost use Rattle.rehearse.specs.State.{get, with_value};
 ghost use Rattle.rehearse_machine.specs.MovesShown.{Changed};
 
 use crate::commands::setenv;
 use bootstore::{Store, StoreError};
 use rehearse::Computed;
-use std::alloc::Global;
+use std::alloc::{AllocError, Global};
 
 /// Whether an environment variable is set.
 fn is_set<S: Store>(store: &S, name: &[u8]) -> bool
@@ -55,6 +56,28 @@ fn delete_all<S: Store>(store: &mut S, names: &[Vec<u8>]) -> Result<(), StoreErr
     store.set_status(status)
 }
 
+/// A number in hexadecimal.
+fn hexadecimal(alloc: Global, number: u64) -> Result<String, AllocError>
+    ensures { IfOk result (λ text. string_bytes text ≡ digits 16 false number) }
+{
+    format!(in alloc; "{number:x}")
+}
+
+/// Sets an environment variable to a number, in hexadecimal.
+fn set_number<S: Store>(
+    alloc: Global,
+    store: &mut S,
+    name: &[u8],
+    number: u64,
+) -> Result<(), StoreError>
+    ensures { Changed result (S.record_of store.old) (S.record_of store.new)
+        (says.changed_by (λ variables. (with_value variables name.now (digits 16 false number), 0))) }
+{
+    let value = hexadecimal(alloc, number)?;
+    store.set_env(name, Some(value.as_bytes()))?;
+    store.set_status(0)
+}
+
 /// Does what a computed call comes to.
 pub(crate) fn carry_out<S: Store>(
     alloc: Global,
@@ -72,5 +95,6 @@ pub(crate) fn carry_out<S: Store>(
         }
         Computed::Sets(words) => setenv(alloc, store, words),
         Computed::Deletes(names) => delete_all(store, names),
+        Computed::SetsNumber(name, number) => set_number(alloc, store, name, number),
     }
 }

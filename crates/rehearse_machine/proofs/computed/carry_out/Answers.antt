@@ -10,3 +10,6 @@ returns-in-Sets g c = changed_as c.setenv.result _ _ _ _ (ap (λ (x : Computed).
 
 pub returns-in-Deletes : goal.returns-in-Deletes
 returns-in-Deletes g c = changed_as c.delete_all.result _ _ _ _ (ap (λ (x : Computed). changed_by (carried (computed_shown x))) (sym c.in-Deletes.is)) c.delete_all.ensures
+
+pub returns-in-SetsNumber : goal.returns-in-SetsNumber
+returns-in-SetsNumber g c = changed_as c.set_number.result _ _ _ _ (ap (λ (x : Computed). changed_by (carried (computed_shown x))) (sym c.in-SetsNumber.is)) c.set_number.ensures
