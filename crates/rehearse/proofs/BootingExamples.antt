@@ -49,7 +49,7 @@ test_has_no_effect = along 1 _ _ _ _ refl refl
 -- the device list `sub part list @last=1`, `part`: on success the call's last word is set; the line of the name is of
 -- the other calls
 abbrev part_list : Devices
-part_list = record { commands = (codes "part", record { ends = false; sets = [] }) ∷ []; subs = (codes "part", (codes "list", record { ends = false; sets = (LastWord, codes "1") ∷ [] }) ∷ []) ∷ [] }
+part_list = record { commands = (codes "part", record { ends = false; sets = [] }) ∷ []; subs = (codes "part", (codes "list", record { ends = false; sets = (LastWord, codes "1") ∷ [] }) ∷ []) ∷ []; known = [] }
 
 sets_by_the_call : listed (bootcmd (limits part_list 16 10000) (codes "part list mmc 0 v || part uuid mmc w")) (codes "v" ∷ codes "w" ∷ []) None ≡ codes "run 0\ndev 0 part list mmc 0 v\nvar v=1\nunset w\nend 0\nrun 10\ndev 1 part list mmc 0 v\ndev 0 part uuid mmc w\nunset v\nunset w\nend 0\nrun 11\ndev 1 part list mmc 0 v\ndev 1 part uuid mmc w\nunset v\nunset w\nend 1\ndone\n"
 unfolding listed_along ends_along

@@ -7,8 +7,7 @@ use Rattle.rehearse.specs.Outcomes.{OutcomeWord, Outcome, Success, Failure}
 use Rattle.rehearse.specs.Trees.{tree_of}
 use Rattle.rehearse.specs.State.{Text, get, State, start, parameters_in}
 use Rattle.rehearse.specs.Verdict.{verdict}
-use Rattle.rehearse.specs.Builtins.{SetEnv, Run as RunTexts, Test, Echo, True, False, Leave}
-use Rattle.rehearse.specs.Commands.{Called, BuiltIn, Device, NoCommand, called_by, sets_in, asks_device, exit_status}
+use Rattle.rehearse.specs.Commands.{Called, ChangesVariables, WritesText, RunsTexts, Tests, Exits, BuiltIn, Device, NoCommand, called_by, sets_in, asks_device, exit_status}
 use Rattle.hushlang.specs.Tree.{IsProper, IsProperList, IsProperJoined, IsProperCommand, HasArm, AreProperArms, HoldsCommand}
 use Rattle.rehearse.specs.Execution.{Limits, Answer, Normal, Exit, Ended, Dry, Ending, CutDevices, CutSteps, Syntax, Size, go_on, set_status, set_local, status_when, goes, holds, begin, take_outcome, device, Request, no_effect, logged, set_environment, boot, text_end, run_text, run_all, command, simple, sized, assign, turns, for_each, exec_script, exec_list, exec_joined, exec_command, exec_arms, exec}
 use Rattle.rehearse.specs.Runs.{Task, run_on, state_of, steps}
@@ -108,14 +107,12 @@ module _ (limits : Limits) where
     leave-ends None t h = h
 
     command-ends : (b : Called) (name : Text) (ws : List Text) (t : State) → IsWithin t → limits.step_bound < n + t.steps → Ends (command limits script b name ws t)
-    command-ends (BuiltIn SetEnv) name ws t h r = h
-    command-ends (BuiltIn RunTexts) name [] t h r = h
-    command-ends (BuiltIn RunTexts) name (w ∷ ws) t h r = run-ends (w ∷ ws) t h r
-    command-ends (BuiltIn Test) name ws t h r = Ends-if (asks_device ws) (device limits (record { name = name; words = ws; effect = no_effect }) t) (Normal (set_status (status_when (verdict ws)) t)) (λ e. device-ends t (record { name = name; words = ws; effect = no_effect }) h) (λ e. h)
-    command-ends (BuiltIn Echo) name ws t h r = h
-    command-ends (BuiltIn True) name ws t h r = h
-    command-ends (BuiltIn False) name ws t h r = h
-    command-ends (BuiltIn Leave) name ws t h r = leave-ends (exit_status ws) t h
+    command-ends (BuiltIn (ChangesVariables change)) name ws t h r = h
+    command-ends (BuiltIn RunsTexts) name [] t h r = h
+    command-ends (BuiltIn RunsTexts) name (w ∷ ws) t h r = run-ends (w ∷ ws) t h r
+    command-ends (BuiltIn Tests) name ws t h r = Ends-if (asks_device ws) (device limits (record { name = name; words = ws; effect = no_effect }) t) (Normal (set_status (status_when (verdict ws)) t)) (λ e. device-ends t (record { name = name; words = ws; effect = no_effect }) h) (λ e. h)
+    command-ends (BuiltIn (WritesText written)) name ws t h r = h
+    command-ends (BuiltIn Exits) name ws t h r = leave-ends (exit_status ws) t h
     command-ends (Device effect) name ws t h r = device-ends t (record { name = name; words = ws; effect = effect }) h
     command-ends NoCommand name ws t h r = (h, tt)
 

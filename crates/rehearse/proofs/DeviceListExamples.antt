@@ -163,7 +163,7 @@ first_fault = refl
 -- ---- the calls of a command
 
 abbrev sub_list : Text → Text → Effect → Devices
-sub_list name word effect = record { commands = []; subs = (name, (word, effect) ∷ []) ∷ [] }
+sub_list name word effect = record { commands = []; subs = (name, (word, effect) ∷ []) ∷ []; known = [] }
 
 sub_line : listed (codes "sub part list") ≡ Ok (sub_list (codes "part") (codes "list") quiet)
 sub_line = refl
@@ -213,13 +213,42 @@ sub_lines_joined : listed (codes "sub part list a=1\npart\nfinal sub part list b
     ≡ Ok (record {
       commands = (codes "part", quiet) ∷ [];
       subs = (codes "part", (codes "list", record { ends = true; sets = (Variable (codes "a"), codes "1") ∷ (Variable (codes "b"), codes "2") ∷ [] }) ∷ (codes "uuid", quiet) ∷ []) ∷ [];
+      known = [];
     })
 sub_lines_joined = refl
+
+-- ---- commands that are computed
+
+known_line : listed (codes "known env\nknown itest\nknown setexpr") ≡ Ok (record (only []) { known = codes "env" ∷ codes "itest" ∷ codes "setexpr" ∷ [] })
+known_line = refl
+
+known_beside_its_lines : listed (codes "env\nknown env\nsub env default") ≡ Ok (record { commands = (codes "env", quiet) ∷ []; subs = (codes "env", (codes "default", quiet) ∷ []) ∷ []; known = codes "env" ∷ [] })
+known_beside_its_lines = refl
+
+-- no other command is computed, and a `known` line has nothing behind the name
+known_other : listed (codes "known load") ≡ Err (BadLine 1)
+known_other = refl
+
+known_built_in : listed (codes "known setenv") ≡ Err (BadLine 1)
+known_built_in = refl
+
+known_more : listed (codes "known env a=1") ≡ Err (BadLine 1)
+known_more = refl
+
+known_final : listed (codes "final known env") ≡ Err (BadLine 1)
+known_final = refl
+
+-- a line that was accepted before there were `known` lines says what it said
+command_known : listed (codes "known") ≡ Ok (only ((codes "known", quiet) ∷ []))
+command_known = refl
+
+command_known_sets : listed (codes "known env=1") ≡ Ok (only ((codes "known", record { ends = false; sets = (Variable (codes "env"), codes "1") ∷ [] }) ∷ []))
+command_known_sets = refl
 
 -- ---- which lines a call goes by
 
 abbrev parts : Devices
-parts = record { commands = (codes "part", quiet) ∷ []; subs = (codes "part", (codes "list", final) ∷ []) ∷ (codes "mmc", (codes "dev", final) ∷ []) ∷ [] }
+parts = record { commands = (codes "part", quiet) ∷ []; subs = (codes "part", (codes "list", final) ∷ []) ∷ (codes "mmc", (codes "dev", final) ∷ []) ∷ []; known = [] }
 
 by_its_sub_line : effect_of parts (codes "part") (codes "list" ∷ codes "mmc" ∷ []) ≡ Some final
 by_its_sub_line = refl

@@ -12,8 +12,10 @@ use Rattle.text.specs.Words.{is_equals}
 use Rattle.rehearse.specs.Verdict.{Text}
 use Rattle.rehearse.specs.Builtins.{is_built_in}
 use Rattle.rehearse.specs.Commands.{sets_in}
-use Rattle.rehearse.specs.DeviceList.{Setting, Effect, Devices, DeviceLine, is_variable, variable, left_side, setting, settings, named, call_of, heading_of, line_of, line_with, begins_comment, device_words, joint, joint_behind, joined_in, changed_at, only, with_line, after_words, after_line, listed_lines}
+use Rattle.rehearse.specs.DeviceList.{Setting, Effect, Devices, DeviceLine, is_variable, variable, left_side, setting, settings, named, call_of, heading_of, line_of, line_with, begins_comment, device_words, joint, joint_behind, joined_in, changed_at, only, with_line}
+use Rattle.rehearse.specs.CallList.{call_words, call_line, call_lines}
 use Rattle.rehearse.specs.EarlierList.{EarlierEffect, EarlierDevices, earlier_setting, earlier_settings, earlier_with, earlier_line, earlier_joint, earlier_more, earlier_words, earlier_lines, of_variable, now_effect, now_effects, EarlierListsStand, EarlierCallsStand, EarlierSettingsStand}
+use Rattle.rehearse.proofs.CallLists.{call_lists_stand}
 use Rattle.rehearse.specs.declared.devices_error.DevicesError.{DevicesError}
 use Rattle.rehearse.specs.declared.devices_error.DevicesError.TheVariants.{BadLine, BuiltIn}
 
@@ -142,7 +144,7 @@ joined-same (d ∷ devices) name more = by (bytes_eq name d.0) (joined-same devi
     by false rest = ap (λ ds. (d.0, now_effect d.1) ∷ ds) rest
 
 words-same : (devices next : EarlierDevices) (number : ℕ) (line : Text) (words : List Text) → earlier_words devices number line words ≡ Ok next
-    → after_words (only (now_effects devices)) number line words ≡ Ok (only (now_effects next))
+    → call_words (only (now_effects devices)) number line words ≡ Ok (only (now_effects next))
 words-same devices next number line [] e = ap (λ ds. let r : Result Devices DevicesError = Ok (only (now_effects ds)) in r) (accepted-same e)
 words-same devices next number line (first ∷ words) e =
     by (begins_comment first) (list_any (λ b. eqb b 0) line) (earlier_line number first words) refl e
@@ -157,18 +159,18 @@ words-same devices next number line (first ∷ words) e =
         ∙ ap (λ ds. let r : Result Devices DevicesError = Ok (only ds) in r) (joined-same devices one.0 one.1)
         ∙ ap (λ ds. let r : Result Devices DevicesError = Ok (only (now_effects ds)) in r) (accepted-same f)
 
-lines-same : (lines : List (ℕ × Text)) (devices done : EarlierDevices) → earlier_lines devices lines ≡ Ok done → listed_lines (only (now_effects devices)) lines ≡ Ok (only (now_effects done))
+lines-same : (lines : List (ℕ × Text)) (devices done : EarlierDevices) → earlier_lines devices lines ≡ Ok done → call_lines (only (now_effects devices)) lines ≡ Ok (only (now_effects done))
 lines-same [] devices done e = ap (λ ds. let r : Result Devices DevicesError = Ok (only (now_effects ds)) in r) (accepted-same e)
 lines-same (l ∷ lines) devices done e = by (earlier_words devices l.0 l.1 (device_words l.1)) refl e (λ next. lines-same lines next done)
   where
     by : (r : Result EarlierDevices DevicesError) → earlier_words devices l.0 l.1 (device_words l.1) ≡ r → ◌≡◌ {A = Result EarlierDevices DevicesError} (elim r [ Ok next ↦ earlier_lines next lines | Err fault ↦ Err fault ]) (Ok done)
-        → ((next : EarlierDevices) → earlier_lines next lines ≡ Ok done → listed_lines (only (now_effects next)) lines ≡ Ok (only (now_effects done)))
-        → ◌≡◌ {A = Result Devices DevicesError} (elim (after_line (only (now_effects devices)) l.0 l.1) [ Ok next ↦ listed_lines next lines | Err fault ↦ Err fault ]) (Ok (only (now_effects done)))
+        → ((next : EarlierDevices) → earlier_lines next lines ≡ Ok done → call_lines (only (now_effects next)) lines ≡ Ok (only (now_effects done)))
+        → ◌≡◌ {A = Result Devices DevicesError} (elim (call_line (only (now_effects devices)) l.0 l.1) [ Ok next ↦ call_lines next lines | Err fault ↦ Err fault ]) (Ok (only (now_effects done)))
     by (Err fault) is f later = cc
-    by (Ok next) is f later = let this : after_line (only (now_effects devices)) l.0 l.1 ≡ Ok (only (now_effects next)) = words-same devices next l.0 l.1 (device_words l.1) is in rw this (later next f)
+    by (Ok next) is f later = let this : call_line (only (now_effects devices)) l.0 l.1 ≡ Ok (only (now_effects next)) = words-same devices next l.0 l.1 (device_words l.1) is in rw this (later next f)
 
 pub earlier_lists_stand : EarlierListsStand
-earlier_lists_stand text devices e = lines-same (numbered_lines text) [] devices e
+earlier_lists_stand text devices e = call_lists_stand text (only (now_effects devices)) (lines-same (numbered_lines text) [] devices e)
 
 pub earlier_calls_stand : EarlierCallsStand
 earlier_calls_stand devices name [] = refl

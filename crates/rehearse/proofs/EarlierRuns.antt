@@ -55,7 +55,7 @@ module _ (task : EarlierTask) where
       ∙ other-same f (lookup (bytes_eq name) task.devices) name words s
 
   run-earlier : (w : OutcomeWord) → run_on (task_now (only (now_effects task.devices)) task) w ≡ earlier_run_on task w
-  run-earlier w = run-same (bounds_of_task task) (only (now_effects task.devices)) (earlier_others task) others-same task.environment task.name task.text w
+  run-earlier w = run-same (bounds_of_task task) (only (now_effects task.devices)) refl (earlier_others task) others-same task.environment task.name task.text w
 
 pub earlier_runs_stand : EarlierRunsStand
 earlier_runs_stand text devices task w earlier now =

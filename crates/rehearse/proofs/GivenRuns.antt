@@ -1,12 +1,15 @@
 -- Runs where it is given what a command does that is not built in.
-use Rattle.std.proofs.Common.{◌≡◌, ℕ, zero, suc, nat_eq, true, false, List, [], ◌∷◌, Option, Some, None, refl}
+use Rattle.std.proofs.Common.{◌≡◌, ℕ, zero, suc, nat_eq, true, false, cond, List, [], ◌∷◌, Option, Some, None, refl, ap, ◌∙◌}
 use Rattle.hushlang.specs.Tree as tree
 use Rattle.hushlang.specs.Tree.{Script, AndOr, Joined, Command, Arms}
 use Rattle.hushlang.specs.Expansion.{fields}
 use Rattle.rehearse.specs.Outcomes.{OutcomeWord}
 use Rattle.rehearse.specs.State.{Text, Variables, State, get, start, parameters_in}
-use Rattle.rehearse.specs.Builtins.{Builtin, SetEnv, Run, Test, Echo, True, False, Leave, builtin_of}
-use Rattle.rehearse.specs.Commands.{BuiltIn, listed_by}
+use Rattle.std.specs.List.{list_any}
+use Rattle.std.specs.Str.{bytes_eq}
+use Rattle.rehearse.specs.Builtins.{Builtin, known_of, builtin_of}
+use Rattle.rehearse.specs.Computed.{Computed, computes}
+use Rattle.rehearse.specs.Commands.{Deed, ChangesVariables, WritesText, RunsTexts, Tests, Exits, Called, BuiltIn, deed_of, carried, listed_by, called_by_name, called_by}
 use Rattle.rehearse.specs.DeviceList.{Devices}
 use Rattle.rehearse.specs.Execution.{Limits, Answer, Normal, Ended, CutSteps, go_on, set_status, goes, begin, command, simple, sized, turns, for_each, text_end, run_text, run_all, exec_script, exec_list, exec_joined, exec_command, exec_arms, exec}
 use Rattle.rehearse.specs.GivenExecution.{Others, given_simple, given_script, given_list, given_joined, given_command, given_arms, given_exec, given_run_on}
@@ -37,25 +40,29 @@ abbrev pub AreGiven : Limits → Devices → Others → Type 0
 AreGiven bounds devices others = (f : Script → Does) (name : Text) (words : List Text) (s : State)
     → command (limits bounds devices) f (listed_by devices name words) name words s ≡ others name words s
 
-module _ (bounds : Limits) (devices : Devices) (others : Others) (given : AreGiven bounds devices others) where
+-- where no command is computed, a call goes by its name
+uncomputed : (devices : Devices) (name : Text) (words : List Text) → devices.known ≡ [] → called_by devices name words ≡ called_by_name devices name words
+uncomputed devices name words none =
+    ap (λ (names : List Text). let o : Option Computed = cond (list_any (bytes_eq name) names) (elim (known_of name) [ Some known ↦ computes known words | None ↦ None ]) None in
+    let c : Called = elim o [ Some computed ↦ BuiltIn (ChangesVariables (λ ws. carried computed)) | None ↦ called_by_name devices name words ] in c) none
+
+module _ (bounds : Limits) (devices : Devices) (none : devices.known ≡ []) (others : Others) (given : AreGiven bounds devices others) where
   module _ (f g : Script → Does) (same : f ≡ g) where
-    builtin-same : (b : Builtin) (name : Text) (words : List Text) (s : State) → command (limits bounds devices) f (BuiltIn b) name words s ≡ command bounds g (BuiltIn b) name words s
-    builtin-same SetEnv name words s = refl
-    builtin-same Run name [] s = refl
-    builtin-same Run name (w ∷ ws) s = λ i. run_all-same (limits bounds devices) bounds f g same (w ∷ ws) i s
-    builtin-same Test name words s = refl
-    builtin-same Echo name words s = refl
-    builtin-same True name words s = refl
-    builtin-same False name words s = refl
-    builtin-same Leave name words s = refl
+    builtin-same : (d : Deed) (name : Text) (words : List Text) (s : State) → command (limits bounds devices) f (BuiltIn d) name words s ≡ command bounds g (BuiltIn d) name words s
+    builtin-same (ChangesVariables change) name words s = refl
+    builtin-same (WritesText written) name words s = refl
+    builtin-same RunsTexts name [] s = refl
+    builtin-same RunsTexts name (w ∷ ws) s = λ i. run_all-same (limits bounds devices) bounds f g same (w ∷ ws) i s
+    builtin-same Tests name words s = refl
+    builtin-same Exits name words s = refl
 
     simple-same : (fs : List Text) (s : State) → simple (limits bounds devices) f fs s ≡ given_simple bounds others g fs s
     simple-same [] s = refl
-    simple-same (name ∷ words) s = by (builtin_of name)
+    simple-same (name ∷ words) s = ap (λ (c : Called). command (limits bounds devices) f c name words s) (uncomputed devices name words none) ∙ by (builtin_of name)
       where
-        by : (b : Option Builtin) → ◌≡◌ {A = Answer} (command (limits bounds devices) f (elim b [ Some builtin ↦ BuiltIn builtin | None ↦ listed_by devices name words ]) name words s)
-            (elim b [ Some builtin ↦ command bounds g (BuiltIn builtin) name words s | None ↦ others name words s ])
-        by (Some builtin) = builtin-same builtin name words s
+        by : (b : Option Builtin) → ◌≡◌ {A = Answer} (command (limits bounds devices) f (elim b [ Some builtin ↦ BuiltIn (deed_of builtin) | None ↦ listed_by devices name words ]) name words s)
+            (elim b [ Some builtin ↦ command bounds g (BuiltIn (deed_of builtin)) name words s | None ↦ others name words s ])
+        by (Some builtin) = builtin-same (deed_of builtin) name words s
         by None = given f name words s
 
   -- ---- the tree

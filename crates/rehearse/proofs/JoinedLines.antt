@@ -13,7 +13,8 @@ use Rattle.std.specs.Str.{bytes_eq}
 use Rattle.text.specs.Lines.{numbered_lines}
 use Rattle.std.proofs.Math.Bool.{or-false}
 use Rattle.rehearse.specs.Verdict.{Text}
-use Rattle.rehearse.specs.DeviceList.{Effect, Effects, Devices, DeviceLine, effect_at, changed_at, joint_behind, joined_behind, joined_by, joined, only, device_words, begins_comment, heading_of, line_of, with_line, after_words, after_line, listed_lines}
+use Rattle.rehearse.specs.DeviceList.{Effect, Effects, Devices, DeviceLine, effect_at, changed_at, joint_behind, joined_behind, joined_by, joined, only, device_words, begins_comment, heading_of, line_of, with_line, known_named, with_known, after_known, after_words, after_line, listed_lines}
+use Rattle.rehearse.proofs.CallLists.{known_was_bad}
 use Rattle.rehearse.specs.DeviceLaws.{line_said, with_said, lines_said, lines_at, same_word, whole_effect, LinesAreJoined}
 use Rattle.rehearse.specs.declared.devices_error.DevicesError.{DevicesError}
 use Rattle.rehearse.specs.declared.devices_error.DevicesError.TheVariants.{BadLine}
@@ -120,19 +121,27 @@ IsWhole-kept devices next before e h name word =
 IsWhole-next : (devices next : Devices) (before : List DeviceLine) (one : DeviceLine) → joined devices one ≡ next → IsWhole devices before → IsWhole next (before ++ one ∷ [])
 IsWhole-next devices next before one e h name word = ap (λ d. effect_at d name word) (sym e) ∙ IsWhole-joined devices before one h name word
 
+-- a command that is computed has the lines that it had
+IsWhole-known : (devices : Devices) (before : List DeviceLine) (added : Text) → IsWhole devices before → IsWhole (with_known devices added) before
+IsWhole-known devices before added h name None = h name None
+IsWhole-known devices before added h name (Some word) = h name (Some word)
+
 -- one line more
 IsWhole-words : (devices next : Devices) (before : List DeviceLine) (number : ℕ) (line : Text) (words : List Text) → after_words devices number line words ≡ Ok next
     → IsWhole devices before → IsWhole next (before ++ with_said (line_said number words) [])
 IsWhole-words devices next before number line [] e h = IsWhole-kept devices next before (ok-same e) h
 IsWhole-words devices next before number line (first ∷ words) e h =
-    by (begins_comment first) (list_any (λ b. eqb b 0) line) (line_of number (heading_of first words)) e
+    by (known_named first words) refl (begins_comment first) (list_any (λ b. eqb b 0) line) (line_of number (heading_of first words)) refl e
   where
-    by : (comment nul : Bool) (r : Result DeviceLine DevicesError) → cond comment (Ok devices) (cond nul (Err (BadLine number)) (with_line devices r)) ≡ Ok next
+    by : (o : Option Text) → known_named first words ≡ o → (comment nul : Bool) (r : Result DeviceLine DevicesError) → line_of number (heading_of first words) ≡ r
+        → cond comment (Ok devices) (cond nul (Err (BadLine number)) (after_known devices o r)) ≡ Ok next
         → IsWhole next (before ++ with_said (cond comment None (result_ok r)) [])
-    by true nul r e = IsWhole-kept devices next before (ok-same e) h
-    by false true r e = cc
-    by false false (Err fault) e = cc
-    by false false (Ok one) e = IsWhole-next devices next before one (ok-same e) h
+    by o is true nul r line_is e = IsWhole-kept devices next before (ok-same e) h
+    by o is false true r line_is e = cc
+    by None is false false (Err fault) line_is e = cc
+    by None is false false (Ok one) line_is e = IsWhole-next devices next before one (ok-same e) h
+    by (Some name) is false false (Err fault) line_is e = IsWhole-kept (with_known devices name) next before (ok-same e) (IsWhole-known devices before name h)
+    by (Some name) is false false (Ok one) line_is e = absurd (let bad = sym (known_was_bad number first words name is) ∙ line_is in cc)
 
 with_said-append : (o : Option DeviceLine) (more : List DeviceLine) → with_said o [] ++ more ≡ with_said o more
 with_said-append None more = refl

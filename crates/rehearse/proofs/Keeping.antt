@@ -8,8 +8,7 @@ use Rattle.rehearse.specs.State.{Text, get, Memory, State, parameters_in, Logged
 use Rattle.hushlang.specs.Expansion.{fields, joined, size, most_bytes}
 use Rattle.rehearse.specs.Trees.{tree_of}
 use Rattle.rehearse.specs.Verdict.{verdict}
-use Rattle.rehearse.specs.Builtins.{SetEnv, Run as RunTexts, Test, Echo, True, False, Leave}
-use Rattle.rehearse.specs.Commands.{Called, BuiltIn, Device, NoCommand, called_by, sets_in, asks_device, setenv, echo, exit_status}
+use Rattle.rehearse.specs.Commands.{Called, ChangesVariables, WritesText, RunsTexts, Tests, Exits, BuiltIn, Device, NoCommand, called_by, sets_in, asks_device, exit_status, variables_changed, text_written}
 use Rattle.rehearse.specs.Execution.{Limits, Answer, Normal, Exit, Ended, Dry, Ending, CutDevices, CutSteps, Unknown, Syntax, Size, go_on, remember, set_status, set_local, status_when, goes, holds, begin, take_outcome, device, Request, no_effect, logged, set_environment, boot, text_end, run_text, run_all, command, simple, sized, assign, turns, for_each, exec_script, exec_list, exec_joined, exec_command, exec_arms, exec, succeeds}
 use Rattle.rehearse.specs.Runs.{state_of}
 
@@ -245,14 +244,12 @@ module _ (limits : Limits) where
     Keeps-leave None s = Keeps-normal limits.device_bound s (λ m. record m { status = 1 })
 
     pub Keeps-command : (b : Called) (name : Text) (ws : List Text) → KeepsAll (command limits script b name ws)
-    Keeps-command (BuiltIn SetEnv) name ws s = Keeps-normal limits.device_bound s (setenv ws)
-    Keeps-command (BuiltIn RunTexts) name [] s = Keeps-normal limits.device_bound s (λ m. record m { status = 1 })
-    Keeps-command (BuiltIn RunTexts) name (w ∷ ws) s = Keeps-run (w ∷ ws) s
-    Keeps-command (BuiltIn Test) name ws s = Keeps-if limits.device_bound s (asks_device ws) (device limits (record { name = name; words = ws; effect = no_effect })) (λ t. Normal (set_status (status_when (verdict ws)) t)) (Keeps-device (record { name = name; words = ws; effect = no_effect }) s) (Keeps-normal limits.device_bound s (λ m. record m { status = status_when (verdict ws) }))
-    Keeps-command (BuiltIn Echo) name ws s = Keeps-normal limits.device_bound s (echo ws)
-    Keeps-command (BuiltIn True) name ws s = Keeps-normal limits.device_bound s (λ m. record m { status = 0 })
-    Keeps-command (BuiltIn False) name ws s = Keeps-normal limits.device_bound s (λ m. record m { status = 1 })
-    Keeps-command (BuiltIn Leave) name ws s = Keeps-leave (exit_status ws) s
+    Keeps-command (BuiltIn (ChangesVariables change)) name ws s = Keeps-normal limits.device_bound s (variables_changed change ws)
+    Keeps-command (BuiltIn RunsTexts) name [] s = Keeps-normal limits.device_bound s (λ m. record m { status = 1 })
+    Keeps-command (BuiltIn RunsTexts) name (w ∷ ws) s = Keeps-run (w ∷ ws) s
+    Keeps-command (BuiltIn Tests) name ws s = Keeps-if limits.device_bound s (asks_device ws) (device limits (record { name = name; words = ws; effect = no_effect })) (λ t. Normal (set_status (status_when (verdict ws)) t)) (Keeps-device (record { name = name; words = ws; effect = no_effect }) s) (Keeps-normal limits.device_bound s (λ m. record m { status = status_when (verdict ws) }))
+    Keeps-command (BuiltIn (WritesText written)) name ws s = Keeps-normal limits.device_bound s (text_written written ws)
+    Keeps-command (BuiltIn Exits) name ws s = Keeps-leave (exit_status ws) s
     Keeps-command (Device effect) name ws s = Keeps-device (record { name = name; words = ws; effect = effect }) s
     Keeps-command NoCommand name ws s = Keeps-ended limits.device_bound s (Unknown name)
 

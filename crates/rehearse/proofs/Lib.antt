@@ -19,7 +19,9 @@ mod ExecutionExamples
 mod BootingExamples
 mod ResumingExamples
 pub mod DeviceLemmas
+pub mod ComputedLemmas
 mod DeviceListExamples
+pub mod CallLists
 pub mod JoinedLines
 pub mod MapLemmas
 pub mod QuietNames
@@ -28,10 +30,12 @@ pub mod EarlierLists
 pub mod GivenRuns
 pub mod PlainRuns
 pub mod EarlierRuns
+pub mod CallRuns
 mod PlainExecutionExamples
 pub mod VerdictLemmas
 mod VerdictExamples
 mod ListedExamples
+mod ComputedExamples
 mod RunningExamples
 mod EdgeExamples
 mod BoundExamples

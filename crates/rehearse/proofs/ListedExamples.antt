@@ -43,3 +43,8 @@ names_alone = along 2 _ _ _ _ refl refl
 named_final : listed (bootcmd (with_list (codes "final")) (codes "final; echo a")) z None ≡ codes "run 0\ndev 0 final\ntext a\\n\nunset z\nend 0\nrun 1\ndev 1 final\ntext a\\n\nunset z\nend 0\ndone\n"
 unfolding listed_along ends_along
 named_final = along 1 _ _ _ _ refl refl
+
+-- what is computed is not asked; a shell variable is no variable of the environment, which is set where its line says so
+computed : listed (bootcmd (with_list (codes "known env\nknown itest\nknown setexpr\nload filesize=1f")) (codes "v=1; env exists v || echo no; load; env exists filesize && setexpr n 0x$filesize + 1 && itest $n == 20 && echo yes; env delete n")) (codes "filesize" ∷ []) None ≡ codes "run 0\ndev 0 load\ntext no\\nyes\\n\nvar filesize=1f\nend 0\nrun 1\ndev 1 load\ntext no\\n\nunset filesize\nend 1\ndone\n"
+unfolding listed_along ends_along
+computed = along 1 _ _ _ _ refl refl

@@ -84,10 +84,10 @@ listed-joined l w more ends sets =
     let shown : map setting_shown w.sets.items ≡ map setting_shown l.sets.items ++ map setting_shown more.sets.items = ap (map setting_shown) sets ∙ map-append setting_shown l.sets.items more.sets.items in cc
 
 -- whether one of the maps has a name
-pub has-either : {S : Type 0} (commands : List (Bytes × Listed)) (subs : List (Bytes × IndexMap Bytes Listed S)) (name : Text) (devices : Devices)
-    → (let d : Devices = record { commands = commands_shown commands; subs = subs_shown subs } in d) ≡ devices
+pub has-either : {S : Type 0} (commands : List (Bytes × Listed)) (subs : List (Bytes × IndexMap Bytes Listed S)) (known : List Text) (name : Text) (devices : Devices)
+    → (let d : Devices = record { commands = commands_shown commands; subs = subs_shown subs; known = known } in d) ≡ devices
     → (a b : Bool) → a ≡ is_some (lookup (is_key name) commands) → b ≡ is_some (lookup (is_key name) subs) → (a || b) ≡ is_listed devices name
-has-either commands subs name devices view a b here there =
+has-either commands subs known name devices view a b here there =
     let first = ap is_some (looked_up listed_shown commands name _ refl) ∙ is_some-shown listed_shown (lookup (is_key name) commands) in
     let second = ap is_some (looked_up table_shown subs name _ refl) ∙ is_some-shown table_shown (lookup (is_key name) subs) in
     (λ i. (here ∙ sym first) i || (there ∙ sym second) i) ∙ ap (λ d. is_listed d name) view

@@ -1,5 +1,5 @@
--- The commands that are built in: the one list of their names. What each of them does: `command` in Execution.antt.
--- After the U-Boot documentation, doc/usage/cmd.
+-- The commands that are built in, and those that a device list may have computed: the one list of their names. What each
+-- of them does: `deed_of` in Commands.antt, and Computed.antt. After the U-Boot documentation, doc/usage/cmd.
 use Rattle.std.specs.Prelude.{Bool, List, [], ◌∷◌, Option, codes, is_some}
 use Rattle.std.specs.Str.{bytes_eq}
 use Rattle.std.specs.Map.{lookup}
@@ -26,3 +26,14 @@ builtin_of name = lookup (bytes_eq name) builtins
 -- what a device list may not name
 abbrev pub is_built_in : Text → Bool
 is_built_in name = is_some (builtin_of name)
+
+-- ---- commands that a device list may have computed
+
+pub data Known : Type 0 where
+  Env Itest SetExpr : Known
+
+abbrev pub known_names : List (Text × Known)
+known_names = (codes "env", Env) ∷ (codes "itest", Itest) ∷ (codes "setexpr", SetExpr) ∷ []
+
+abbrev pub known_of : Text → Option Known
+known_of name = lookup (bytes_eq name) known_names

@@ -1,34 +1,37 @@
 -- What a name calls, and what the built-in commands do that ask no device and run no text (U-Boot documentation,
 -- doc/usage/cmd, on `echo`, `env`, `exit`, `true` and `false`); what the pages leave open is ours.
-use Rattle.std.specs.Prelude.{ℕ, ◌+◌, ◌-◌, ◌*◌, nat_le, nat_eq, Bool, true, false, not, cond, ◌&&◌, ◌||◌, List, [], ◌∷◌, ◌++◌, length, Option, Some, None, bytes_eq, slice_get, codes}
+use Rattle.std.specs.Prelude.{ℕ, ◌+◌, ◌-◌, ◌*◌, nat_le, nat_eq, Bool, true, false, not, cond, ◌&&◌, ◌||◌, List, [], ◌∷◌, ◌++◌, length, Option, Some, None, is_some, bytes_eq, slice_get, codes}
 use Rattle.std.specs.List.{join_with_byte, list_any, list_all}
+use Rattle.std.specs.Fmt.{digits}
 use Rattle.text.specs.Bytes as ascii
-use Rattle.rehearse.specs.Builtins.{Builtin, builtin_of}
-use Rattle.rehearse.specs.DeviceList.{LeftSide, Variable, WordAt, LastWord, Setting, Effect, Devices, effect_of}
-use Rattle.rehearse.specs.State.{Text, Memory, with_value, without}
+use Rattle.rehearse.specs.Builtins.{Builtin, SetEnv, Run, Test, Echo, True, False, Leave, builtin_of}
+use Rattle.rehearse.specs.Computed.{Computed, Gives, Exists, Sets, Deletes, SetsNumber}
+use Rattle.rehearse.specs.DeviceList.{LeftSide, Variable, WordAt, LastWord, Setting, Effect, Devices, effect_of, computed_by}
+use Rattle.rehearse.specs.State.{Text, Variables, Memory, get, with_value, without}
+pub use Rattle.rehearse.specs.State.{is_bad_name}
+
+-- what a built-in command does with its words
+pub data Deed : Type 0 where
+  -- it changes the environment, and gives a status
+  ChangesVariables : (List Text → Variables → Variables × ℕ) → Deed
+  -- it writes a text, with status 0
+  WritesText : (List Text → Text) → Deed
+  -- it runs the texts of variables
+  RunsTexts : Deed
+  -- it says whether its words hold, or asks a device
+  Tests : Deed
+  -- it ends the text that is running
+  Exits : Deed
 
 -- what the fields of a command call
 pub data Called : Type 0 where
-  BuiltIn : Builtin → Called
+  BuiltIn : Deed → Called
   Device : Effect → Called
   NoCommand : Called
-
-abbrev pub listed_by : Devices → (name : Text) → (words : List Text) → Called
-listed_by devices name words = elim (effect_of devices name words) [ Some effect ↦ Device effect | None ↦ NoCommand ]
-
--- a command that is built in, else a call of one of the device list
-abbrev pub called_by : Devices → (name : Text) → (words : List Text) → Called
-called_by devices name words =
-    elim (builtin_of name) [ Some builtin ↦ BuiltIn builtin | None ↦ listed_by devices name words ]
 
 -- `test` with exactly four words, the first `-e`, asks a device
 abbrev pub asks_device : List Text → Bool
 asks_device words = nat_eq (length words) 4 && elim words [ [] ↦ false | w ∷ ws ↦ bytes_eq w (codes "-e") ]
-
--- no name of a variable: empty, with `=` in it, or with `-` in front
-abbrev pub is_bad_name : Text → Bool
-is_bad_name [] = true
-is_bad_name (b ∷ name) = nat_eq b ascii.minus || nat_eq b ascii.equals || list_any (nat_eq ascii.equals) name
 
 -- the variable that a word of a call names, if it is the name of one
 abbrev pub named_by : Option Text → Option Text
@@ -51,24 +54,18 @@ sets_in words (set ∷ sets) =
     ]
 
 -- `setenv` and its words: the name alone deletes the variable, words behind it are its value, joined by spaces
-abbrev pub setenv : List Text → Memory → Memory
-setenv [] m = record m { status = 1 }
-setenv (name ∷ []) m =
-    cond (is_bad_name name) (record m { status = 1 }) (record m {
-      environment = without m.environment name;
-      status = 0;
-    })
-setenv (name ∷ w ∷ ws) m =
-    cond (is_bad_name name) (record m { status = 1 })
-    (record m { environment = with_value m.environment name (join_with_byte ascii.space (w ∷ ws)); status = 0 })
+abbrev pub setenv : List Text → Variables → Variables × ℕ
+setenv [] variables = (variables, 1)
+setenv (name ∷ []) variables = cond (is_bad_name name) (variables, 1) (without variables name, 0)
+setenv (name ∷ w ∷ ws) variables =
+    cond (is_bad_name name) (variables, 1) (with_value variables name (join_with_byte ascii.space (w ∷ ws)), 0)
 
 -- `echo` and its words: they are written, joined by spaces, and a newline, which a first word `-n` leaves out
-abbrev pub echo : List Text → Memory → Memory
-echo [] m = record m { text = m.text ++ ascii.newline ∷ []; status = 0 }
-echo (w ∷ ws) m = cond (bytes_eq w (codes "-n")) (record m {
-  text = m.text ++ join_with_byte ascii.space ws;
-  status = 0;
-}) (record m { text = m.text ++ join_with_byte ascii.space (w ∷ ws) ++ ascii.newline ∷ []; status = 0 })
+abbrev pub echo : List Text → Text
+echo [] = ascii.newline ∷ []
+echo (w ∷ ws) =
+    cond (bytes_eq w (codes "-n")) (join_with_byte ascii.space ws)
+    (join_with_byte ascii.space (w ∷ ws) ++ ascii.newline ∷ [])
 
 abbrev pub is_digit : ℕ → Bool
 is_digit b = nat_le ascii.digit_zero b && nat_le b ascii.digit_nine
@@ -85,3 +82,61 @@ exit_status ([] ∷ []) = None
 exit_status ((b ∷ bs) ∷ []) =
     cond (nat_eq b ascii.minus && not (nat_eq (length bs) 0) && list_all is_digit bs) (Some 0) (decimal_from 0 (b ∷ bs))
 exit_status (w ∷ v ∷ ws) = None
+
+-- ---- computed commands
+
+-- the variables without these names; the status is 1 where one of them is not set, else the one before
+abbrev pub deletions : (status : ℕ) → (names : List Text) → Variables → Variables × ℕ
+deletions status [] variables = (variables, status)
+deletions status (name ∷ names) variables =
+    deletions (cond (is_some (get variables name)) status 1) names (without variables name)
+
+-- what a computed call does to the variables of the environment, and its status
+abbrev pub carried : Computed → Variables → Variables × ℕ
+carried (Gives status) variables = (variables, status)
+carried (Exists name) variables = (variables, cond (is_some (get variables name)) 0 1)
+carried (Sets words) variables = setenv words variables
+carried (Deletes names) variables = deletions 0 names variables
+carried (SetsNumber name number) variables = (with_value variables name (digits 16 false number), 0)
+
+-- ---- the rows
+
+-- a status, whatever the words are
+abbrev pub gives : ℕ → List Text → Variables → Variables × ℕ
+gives status words variables = (variables, status)
+
+abbrev pub deed_of : Builtin → Deed
+deed_of SetEnv = ChangesVariables setenv
+deed_of Run = RunsTexts
+deed_of Test = Tests
+deed_of Echo = WritesText echo
+deed_of True = ChangesVariables (gives 0)
+deed_of False = ChangesVariables (gives 1)
+deed_of Leave = Exits
+
+abbrev pub changed_by : (Variables → Variables × ℕ) → Memory → Memory
+changed_by change m = let after = change m.environment in record m { environment = after.0; status = after.1 }
+
+abbrev pub variables_changed : (List Text → Variables → Variables × ℕ) → List Text → Memory → Memory
+variables_changed change words = changed_by (change words)
+
+abbrev pub text_written : (List Text → Text) → List Text → Memory → Memory
+text_written written words m = record m { text = m.text ++ written words; status = 0 }
+
+-- ---- what a name calls
+
+abbrev pub listed_by : Devices → (name : Text) → (words : List Text) → Called
+listed_by devices name words = elim (effect_of devices name words) [ Some effect ↦ Device effect | None ↦ NoCommand ]
+
+-- a command that is built in, else a call of one of the device list
+abbrev pub called_by_name : Devices → (name : Text) → (words : List Text) → Called
+called_by_name devices name words =
+    elim (builtin_of name) [ Some builtin ↦ BuiltIn (deed_of builtin) | None ↦ listed_by devices name words ]
+
+-- a call that is computed changes variables as a built-in command does
+abbrev pub called_by : Devices → (name : Text) → (words : List Text) → Called
+called_by devices name words =
+    elim (computed_by devices name words) [
+      | Some computed ↦ BuiltIn (ChangesVariables (λ ws. carried computed))
+      | None ↦ called_by_name devices name words
+    ]

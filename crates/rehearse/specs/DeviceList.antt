@@ -8,7 +8,8 @@ use Rattle.text.specs.Lines.{numbered_lines}
 use Rattle.text.specs.Numbers.{digit_of, value_in}
 use Rattle.text.specs.Words.{is_equals, is_space, trimmed}
 use Rattle.rehearse.specs.Verdict.{Text}
-use Rattle.rehearse.specs.Builtins.{is_built_in}
+use Rattle.rehearse.specs.Builtins.{is_built_in, known_of}
+use Rattle.rehearse.specs.Computed.{Computed, computes}
 use Rattle.rehearse.specs.declared.devices_error.DevicesError.{DevicesError}
 use Rattle.rehearse.specs.declared.devices_error.DevicesError.TheVariants.{BadLine, BuiltIn}
 
@@ -34,10 +35,12 @@ Effects = List (Text × Effect)
 abbrev pub effect_in : Effects → Text → Option Effect
 effect_in effects name = lookup (bytes_eq name) effects
 
--- what a list says of the commands by their names alone, and what its `sub` lines say of the calls of a name
+-- what a list says of the commands by their names alone, what its `sub` lines say of the calls of a name, and which
+-- commands are computed
 pub record Devices : Type 0 where
   pub commands : Effects
   pub subs : List (Text × Effects)
+  pub known : List Text
 
 -- what the lines of a name say, or its `sub` lines of a first word
 abbrev pub effect_at : Devices → (name : Text) → (word : Option Text) → Option Effect
@@ -53,6 +56,12 @@ sub_effect devices name (word ∷ words) = effect_at devices name (Some word)
 abbrev pub effect_of : Devices → (name : Text) → (words : List Text) → Option Effect
 effect_of devices name words =
     elim (sub_effect devices name words) [ Some effect ↦ Some effect | None ↦ effect_at devices name None ]
+
+-- what a call comes to, where the list has its command computed, and its words can be
+abbrev pub computed_by : Devices → (name : Text) → (words : List Text) → Option Computed
+computed_by devices name words =
+    if list_any (bytes_eq name) devices.known
+    then elim (known_of name) [ Some known ↦ computes known words | None ↦ None ] else None
 
 -- whether a line names the command
 abbrev pub is_listed : Devices → Text → Bool
@@ -195,6 +204,20 @@ abbrev pub with_line : Devices → Result DeviceLine DevicesError → Result Dev
 with_line devices (Ok more) = Ok (joined devices more)
 with_line devices (Err fault) = Err fault
 
+-- a line `known NAME`, where NAME may be computed
+abbrev pub known_named : Text → List Text → Option Text
+known_named first [] = None
+known_named first (name ∷ []) =
+    if bytes_eq first (codes "known") && is_some (known_of name) then Some name else None
+known_named first (second ∷ third ∷ words) = None
+
+abbrev pub with_known : Devices → (name : Text) → Devices
+with_known devices name = record devices { known = devices.known ++ name ∷ [] }
+
+abbrev pub after_known : Devices → Option Text → Result DeviceLine DevicesError → Result Devices DevicesError
+after_known devices (Some name) line = Ok (with_known devices name)
+after_known devices None line = with_line devices line
+
 -- The list after the words of one more line, or the line's fault. A line without a word, and one that begins with `#`,
 -- says nothing.
 abbrev pub after_words : Devices → ℕ → Text → List Text → Result Devices DevicesError
@@ -202,7 +225,7 @@ after_words devices number line [] = Ok devices
 after_words devices number line (first ∷ words) =
     if begins_comment first then Ok devices
     else (if list_any (λ b. b == ascii.nul) line then Err (BadLine number)
-    else with_line devices (line_of number (heading_of first words)))
+    else after_known devices (known_named first words) (line_of number (heading_of first words)))
 
 abbrev pub after_line : Devices → ℕ → Text → Result Devices DevicesError
 after_line devices number line = after_words devices number line (device_words line)
@@ -218,7 +241,7 @@ listed_lines devices (l ∷ lines) =
 
 -- commands by their names alone
 abbrev pub only : Effects → Devices
-only commands = record { commands = commands; subs = [] }
+only commands = record { commands = commands; subs = []; known = [] }
 
 -- the commands that a device list names, or its first fault
 abbrev pub listed : Text → Result Devices DevicesError

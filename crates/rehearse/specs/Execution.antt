@@ -11,8 +11,7 @@ use Rattle.rehearse.specs.Trees.{tree_of}
 use Rattle.rehearse.specs.State.{Text, Variables, get, with_value, Memory, State, parameters_in}
 use Rattle.rehearse.specs.DeviceList.{Effect, Devices}
 use Rattle.rehearse.specs.Verdict.{verdict}
-use Rattle.rehearse.specs.Builtins.{SetEnv, Run, Test, Echo, True, False, Leave}
-use Rattle.rehearse.specs.Commands.{Called, BuiltIn, NoCommand, Device, called_by, sets_in, asks_device, setenv, echo, exit_status}
+use Rattle.rehearse.specs.Commands.{Called, ChangesVariables, WritesText, RunsTexts, Tests, Exits, BuiltIn, NoCommand, Device, called_by, sets_in, asks_device, exit_status, variables_changed, text_written}
 
 -- the device list, how many device commands a run may ask, and how many steps it may begin
 pub record Limits : Type 0 where
@@ -196,18 +195,16 @@ module _ (limits : Limits) where
   -- a command by its fields, the name first
   abbrev pub command : (script : Script → State → Answer) → Called → (name : Text) → (words : List Text) → State →
       Answer
-  command script (BuiltIn SetEnv) name words s = Normal (remember (setenv words) s)
-  command script (BuiltIn Run) name [] s = Normal (set_status 1 s)
-  command script (BuiltIn Run) name (w ∷ ws) s = run_all script (w ∷ ws) s
-  command script (BuiltIn Test) name words s =
+  command script (BuiltIn (ChangesVariables change)) name words s = Normal (remember (variables_changed change words) s)
+  command script (BuiltIn RunsTexts) name [] s = Normal (set_status 1 s)
+  command script (BuiltIn RunsTexts) name (w ∷ ws) s = run_all script (w ∷ ws) s
+  command script (BuiltIn Tests) name words s =
       elim (asks_device words) [
         | true ↦ device (record { name = name; words = words; effect = no_effect }) s
         | false ↦ Normal (set_status (status_when (verdict words)) s)
       ]
-  command script (BuiltIn Echo) name words s = Normal (remember (echo words) s)
-  command script (BuiltIn True) name words s = Normal (set_status 0 s)
-  command script (BuiltIn False) name words s = Normal (set_status 1 s)
-  command script (BuiltIn Leave) name words s =
+  command script (BuiltIn (WritesText written)) name words s = Normal (remember (text_written written words) s)
+  command script (BuiltIn Exits) name words s =
       elim (exit_status words) [
         | Some status ↦ Exit (set_status status s)
         | None ↦ Normal (set_status 1 s)

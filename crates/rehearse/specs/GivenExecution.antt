@@ -7,7 +7,7 @@ use Rattle.hushlang.specs.Expansion.{fields}
 use Rattle.rehearse.specs.Outcomes.{OutcomeWord}
 use Rattle.rehearse.specs.State.{Text, Variables, State, start, parameters_in}
 use Rattle.rehearse.specs.Builtins.{builtin_of}
-use Rattle.rehearse.specs.Commands.{BuiltIn}
+use Rattle.rehearse.specs.Commands.{BuiltIn, deed_of}
 use Rattle.rehearse.specs.Execution.{Limits, Answer, Normal, Ended, CutSteps, go_on, set_status, goes, begin, command, sized, assign, turns, for_each, run_text}
 
 -- what a command does that is not built in, by its name and its words
@@ -20,7 +20,7 @@ module _ (bounds : Limits) (others : Others) where
   given_simple script [] s = Normal (set_status 0 s)
   given_simple script (name ∷ words) s =
       elim (builtin_of name) [
-        | Some builtin ↦ command bounds script (BuiltIn builtin) name words s
+        | Some builtin ↦ command bounds script (BuiltIn (deed_of builtin)) name words s
         | None ↦ others name words s
       ]
 

@@ -5,6 +5,9 @@ pub mod DeviceList
 pub mod Verdict
 pub mod Builtins
 pub mod BuiltinsShown
+pub mod Hexadecimal
+pub mod Computed
+pub mod ComputedShown
 pub mod Commands
 pub mod Execution
 pub mod Runs
@@ -21,5 +24,7 @@ pub mod EarlierList
 pub mod GivenExecution
 pub mod PlainExecution
 pub mod EarlierExecution
+pub mod CallList
+pub mod CallExecution
 pub mod DeviceListAnswers
 pub mod TextsShown

@@ -1,9 +1,11 @@
 -- What a run has at a moment: the state of the script (U-Boot documentation, doc/usage/cmdline and
 -- doc/usage/environment, on variables and `$?`), and the rest of its outcome word (ours).
-use Rattle.std.specs.Prelude.{ℕ, Bool, List, [], not, Option, Some, None, filter}
+use Rattle.std.specs.Prelude.{ℕ, nat_eq, Bool, true, List, [], ◌∷◌, not, ◌||◌, Option, Some, None, filter}
 use Rattle.std.specs.FinMap.{find, put}
 use Rattle.std.specs.Cmp.Lexicographic.{slice_cmp}
+use Rattle.std.specs.List.{list_any}
 use Rattle.std.specs.Ordering.{nat_cmp, eq_by_cmp}
+use Rattle.text.specs.Bytes as ascii
 pub use Rattle.text.specs.Lines.{Text}
 use Rattle.hushlang.specs.Expansion as expansion
 use Rattle.rehearse.specs.Outcomes.{OutcomeWord}
@@ -20,6 +22,11 @@ with_value variables name value = put (slice_cmp nat_cmp) name value variables
 
 abbrev pub without : Variables → Text → Variables
 without variables name = filter (λ e. not (eq_by_cmp (slice_cmp nat_cmp) name e.0)) variables
+
+-- no name of a variable: empty, with `=` in it, or with `-` in front
+abbrev pub is_bad_name : Text → Bool
+is_bad_name [] = true
+is_bad_name (b ∷ name) = nat_eq b ascii.minus || nat_eq b ascii.equals || list_any (nat_eq ascii.equals) name
 
 -- what a script reads and writes
 pub record Memory : Type 0 where

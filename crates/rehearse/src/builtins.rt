@@ -1,7 +1,8 @@
-//! The commands that are built in: the one list of their names.
+//! The commands that are built in, and those that a device list may have computed: the one list of their
+//! names.
 ghost use Rattle.std.specs.Prelude.{◌≡◌, option_map};
 ghost use Rattle.rehearse.specs.Builtins as says;
-ghost use Rattle.rehearse.specs.BuiltinsShown.{builtin_shown};
+ghost use Rattle.rehearse.specs.BuiltinsShown.{builtin_shown, known_shown};
 
 /// A command that is built in.
 #[derive(Clone, Copy, Debug)]
@@ -44,4 +45,27 @@ pub(crate) fn is_built_in(name: &[u8]) -> bool
     ensures { result ≡ says.is_built_in name.now }
 {
     builtin_of(name).is_some()
+}
+
+/// A command that a device list may have computed.
+#[derive(Clone, Copy, Debug)]
+pub(crate) enum Known {
+    Env,
+    Itest,
+    SetExpr,
+}
+
+/// The command of a name, if a device list may have it computed.
+pub(crate) fn known_of(name: &[u8]) -> Option<Known>
+    ensures { option_map known_shown result ≡ says.known_of name.now }
+{
+    if name == b"env".as_slice() {
+        Some(Known::Env)
+    } else if name == b"itest".as_slice() {
+        Some(Known::Itest)
+    } else if name == b"setexpr".as_slice() {
+        Some(Known::SetExpr)
+    } else {
+        None
+    }
 }

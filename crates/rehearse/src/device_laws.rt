@@ -1,5 +1,7 @@
 //! Laws of device lists, each the contract of a function that does nothing.
 
+ghost use Rattle.rehearse.specs.CallExecution.{CallListingsStand, CallRestsStand, CallRunsStand};
+ghost use Rattle.rehearse.specs.CallList.{CallListsAsk, CallListsStand};
 ghost use Rattle.rehearse.specs.DeviceLaws.{LinesAreJoined, NamesAreQuiet};
 ghost use Rattle.rehearse.specs.EarlierExecution.{EarlierListingsStand, EarlierRestsStand, EarlierRunsStand};
 ghost use Rattle.rehearse.specs.EarlierList.{EarlierListsStand, EarlierCallsStand, EarlierSettingsStand};
@@ -85,4 +87,34 @@ pub fn earlier_listings_stand()
 #[tactic(auto, using(crate::proofs::EarlierRuns::earlier_rests_stand))]
 pub fn earlier_rests_stand()
     ensures { EarlierRestsStand }
+{}
+
+/// Every list in the form before a command could be computed is accepted, and says the same.
+#[tactic(auto, using(crate::proofs::CallLists::call_lists_stand))]
+pub fn call_lists_stand()
+    ensures { CallListsStand }
+{}
+
+/// No command is computed over a list in that form.
+#[tactic(auto, using(crate::proofs::CallLists::call_lists_ask))]
+pub fn call_lists_ask()
+    ensures { CallListsAsk }
+{}
+
+/// A run over a list in that form is the run that it was.
+#[tactic(auto, using(crate::proofs::CallRuns::call_runs_stand))]
+pub fn call_runs_stand()
+    ensures { CallRunsStand }
+{}
+
+/// The listing over a list in that form has the same bytes as before.
+#[tactic(auto, using(crate::proofs::CallRuns::call_listings_stand))]
+pub fn call_listings_stand()
+    ensures { CallListingsStand }
+{}
+
+/// The listing of the runs that follow a word has, over such a list, the same bytes too.
+#[tactic(auto, using(crate::proofs::CallRuns::call_rests_stand))]
+pub fn call_rests_stand()
+    ensures { CallRestsStand }
 {}

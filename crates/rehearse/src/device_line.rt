@@ -1,10 +1,11 @@
 //! What one line of a device list says.
-ghost use Rattle.std.specs.Prelude.{◌≡◌, ◌==◌, map, IfOk};
+ghost use Rattle.std.specs.Prelude.{◌≡◌, ◌==◌, map, option_map, IfOk};
 ghost use Rattle.std.specs.List.{list_any};
 ghost use Rattle.text.specs.Words.{is_equals};
-ghost use Rattle.rehearse.specs.DeviceList.{device_words, named, call_of, heading_of, begins_comment};
+ghost use Rattle.rehearse.specs.DeviceList.{device_words, named, call_of, heading_of, known_named, begins_comment};
 ghost use Rattle.rehearse.specs.DevicesShown.{heading_shown};
 
+use crate::builtins::known_of;
 use std::alloc::{AllocError, Global};
 use text::{is_space, trimmed};
 
@@ -93,5 +94,15 @@ pub(crate) fn heading_of<'a>(first: &'a [u8], behind: &'a [&'a [u8]]) -> Heading
             call_of(true, second, words)
         }
         _ => call_of(false, first, behind),
+    }
+}
+
+/// The command that a line `known NAME` has computed, if NAME is one that may be.
+pub(crate) fn known_named<'a>(first: &[u8], behind: &[&'a [u8]]) -> Option<&'a [u8]>
+    ensures { option_map (λ name. name.now) result ≡ known_named first.now (map (λ w. w.now) behind.now) }
+{
+    match behind {
+        [name] if first == b"known".as_slice() && known_of(name).is_some() => Some(name),
+        _ => None,
     }
 }

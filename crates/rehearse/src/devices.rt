@@ -1,11 +1,14 @@
 //! The device list: which commands are device commands, and what each does on success.
 ghost use Rattle.std.specs.Prelude.{◌≡◌, [], OnOk, Some, option_map};
-ghost use Rattle.rehearse.specs.DeviceList.{only, changed_at, joined_in, joined_behind, joined_by, effect_at, sub_effect, effect_of, is_listed};
+ghost use Rattle.rehearse.specs.DeviceList.{only, changed_at, joined_in, joined_behind, joined_by, effect_at, sub_effect, effect_of, computed_by, with_known, is_listed};
 ghost use Rattle.rehearse.specs.CommandsShown.{commands_shown, subs_shown, listed_shown, found_shown};
+ghost use Rattle.std.specs.List.{list_any};
+ghost use Rattle.std.specs.Str.{bytes_eq};
 ghost use Rattle.rehearse.specs.TextsShown.{texts};
 
-use crate::builtins::is_built_in;
-use crate::device_line::{begins_comment, device_words, has_nul, heading_of};
+use crate::builtins::{is_built_in, known_of};
+use crate::computed::{Computed, computes};
+use crate::device_line::{begins_comment, device_words, has_nul, heading_of, known_named};
 use crate::devices_error::DevicesError;
 use crate::setting::{Setting, settings};
 use indexmap::IndexMap;
@@ -75,6 +78,8 @@ pub struct Devices {
     commands: Table,
     /// By the name, and then by the first word of a call.
     subs: IndexMap<Vec<u8>, Table>,
+    /// The names of the commands that are computed.
+    known: Vec<Vec<u8>>,
 }
 
 /// Joins one more line to those before it that have its name.
@@ -91,17 +96,26 @@ fn join(alloc: Global, table: &mut Table, name: &[u8], mut more: Listed) -> Resu
     Ok(())
 }
 
+/// Whether a name is one of these.
+fn is_among(names: &[Vec<u8>], name: &[u8]) -> bool
+    ensures { result ≡ list_any (λ one. bytes_eq name.now one.items) names.now }
+{
+    names.iter().any(|one| name == one.as_slice())
+}
+
 impl Model for Devices {
     ghost use Rattle.rehearse.specs.DeviceList as spec;
     ghost use Rattle.rehearse.specs.CommandsShown.{commands_shown, subs_shown};
+    ghost use Rattle.rehearse.specs.TextsShown.{texts};
 
     ghost Value = { spec.Devices };
 
-    ghost view = { λ d. record { commands = commands_shown d.commands.entries; subs = subs_shown d.subs.entries } };
+    ghost view = { λ d. record { commands = commands_shown d.commands.entries; subs = subs_shown d.subs.entries; known = texts d.known.items } };
 }
 
 impl Devices {
     ghost use Rattle.rehearse.specs.CommandsShown.{lent_effect};
+    ghost use Rattle.rehearse.specs.ComputedShown.{call_shown};
     ghost use Rattle.rehearse.specs.DeviceListAnswers.{AddsLine, IsListed};
 
     /// A list of no command. It takes no memory.
@@ -112,12 +126,14 @@ impl Devices {
             alloc,
             commands: IndexMap::new(alloc),
             subs: IndexMap::new(alloc),
+            known: Vec::new(alloc),
         }
     }
 
     /// The commands of a device list, a line each: `NAME SETTINGS`, or `final NAME SETTINGS` for one
     /// that ends the run; `sub NAME WORD SETTINGS` and `final sub NAME WORD SETTINGS` speak of the calls
-    /// of NAME whose first word is WORD. Spaces, tabs and carriage returns round a line are dropped;
+    /// of NAME whose first word is WORD. `known NAME` has the calls of NAME computed, where its words can
+    /// be; NAME is `env`, `itest` or `setexpr`. Spaces, tabs and carriage returns round a line are dropped;
     /// spaces and tabs separate its words. Lines without a word, and lines that begin with `#`, are
     /// skipped. The first word is the name, unless it is `final` and a word without `=` follows, or
     /// `sub` and two such words follow. Each further word is a setting: a variable, the first `=`, and a
@@ -157,6 +173,25 @@ impl Devices {
         Some(listed.effect())
     }
 
+    /// What a call comes to, if the list has its command computed and its words can be. It takes no
+    /// memory.
+    pub fn computed<'w>(&self, name: &[u8], words: &'w [Vec<u8>]) -> Option<Computed<'w>>
+        ensures { call_shown result ≡ computed_by self.now name.now (texts words.now) }
+    {
+        if !self.is_known(name) {
+            return None;
+        }
+        let known = known_of(name)?;
+        computes(known, words)
+    }
+
+    /// Whether the list has a command computed.
+    fn is_known(&self, name: &[u8]) -> bool
+        ensures { result ≡ list_any (bytes_eq name.now) (self.now).known }
+    {
+        is_among(&self.known, name)
+    }
+
     /// What the `sub` lines of a call's name and first word say.
     fn sub_listed(&self, name: &[u8], words: &[Vec<u8>]) -> Option<&Listed>
         ensures { option_map found_shown result ≡ sub_effect self.now name.now (texts words.now) }
@@ -189,6 +224,10 @@ impl Devices {
         if has_nul(line) {
             return Err(DevicesError::BadLine(number));
         }
+        if let Some(name) = known_named(first, behind) {
+            self.add_known(name)?;
+            return Ok(());
+        }
         let heading = heading_of(first, behind);
         let Some(sets) = settings(self.alloc, heading.words, heading.word.is_some())? else {
             return Err(DevicesError::BadLine(number));
@@ -198,6 +237,15 @@ impl Devices {
         }
         let ends = heading.ends;
         self.add(heading.name, heading.word, Listed { ends, sets })?;
+        Ok(())
+    }
+
+    /// One more command is computed.
+    fn add_known(&mut self, name: &[u8]) -> Result<(), AllocError>
+        ensures { OnOk result (self.new ≡ with_known self.old name.now) }
+    {
+        let name = Vec::from_slice(self.alloc, name)?;
+        self.known.push(name)?;
         Ok(())
     }
 

@@ -3,20 +3,26 @@
 
 mod bounds;
 mod builtins;
+mod computed;
 pub mod device_laws;
 mod device_line;
 mod devices;
 mod devices_error;
+mod hexadecimal;
+mod itest;
 pub mod laws;
 mod number;
 mod run_bounds;
+mod setexpr;
 mod setting;
 mod truth;
 
 pub use bounds::{Bounds, DEVICES_MAX, STEPS_MAX};
 pub use builtins::{Builtin, builtin_of};
+pub use computed::Computed;
 pub use devices::{Devices, Effect};
 pub use devices_error::DevicesError;
 pub use run_bounds::{RUN_DEVICES_MAX, RunBounds};
+pub use setexpr::is_bad_name;
 pub use setting::{LeftSide, Setting};
 pub use truth::verdict;

@@ -9,8 +9,7 @@ use Rattle.std.specs.List.{join_with_byte}
 use Rattle.text.specs.Bytes as ascii
 use Rattle.rehearse.specs.Trees.{tree_of}
 use Rattle.rehearse.specs.Verdict.{verdict}
-use Rattle.rehearse.specs.Builtins.{SetEnv, Run as RunTexts, Test, Echo, True, False, Leave}
-use Rattle.rehearse.specs.Commands.{Called, BuiltIn, Device, NoCommand, called_by, sets_in, asks_device, setenv, echo, exit_status, is_bad_name}
+use Rattle.rehearse.specs.Commands.{Called, ChangesVariables, WritesText, RunsTexts, Tests, Exits, BuiltIn, Device, NoCommand, called_by, sets_in, asks_device, exit_status, is_bad_name, variables_changed, text_written}
 use Rattle.rehearse.specs.Execution.{Limits, Answer, Normal, Exit, Ended, Dry, Ending, CutDevices, CutSteps, Unknown, Syntax, Size, go_on, remember, set_status, set_local, status_when, goes, holds, begin, take_outcome, device, Request, no_effect, logged, set_environment, boot, text_end, run_text, run_all, command, simple, sized, assign, turns, for_each, exec_script, exec_list, exec_joined, exec_command, exec_arms, exec}
 use Rattle.rehearse.specs.Runs.{state_of}
 use Rattle.rehearse.proofs.Keeping.{Track-of, KeepsAll, Keeps-script, Keeps-joined, Keeps-arms, Keeps-exec, Keeps-run, Keeps-turns, Keeps-for, Keeps-if, Keeps-stays, after_condition, Keeps-after_condition, Keeps-ended, Keeps-simple, Keeps-sized, Keeps-assign}
@@ -116,19 +115,6 @@ module _ (limits : Limits) (i j : ℕ) (k l : List LoggedCommand) where
   -- a change that reads nothing but its own memory
   reaches_status : (n : ℕ) (m : Memory) → Reaches (λ m'. record m' { status = n }) m
   reaches_status n m = λ text. (text, refl)
-
-  reaches_if : (b : Bool) (f g : Memory → Memory) (m : Memory) → Reaches f m → Reaches g m → Reaches (λ m'. cond b (f m') (g m')) m
-  reaches_if true f g m h k = h
-  reaches_if false f g m h k = k
-
-  reaches_setenv : (words : List Text) (m : Memory) → Reaches (setenv words) m
-  reaches_setenv [] m = λ text. (text, refl)
-  reaches_setenv (name ∷ []) m = reaches_if (is_bad_name name) (λ m'. record m' { status = 1 }) (λ m'. record m' { environment = without m'.environment name; status = 0 }) m (λ text. (text, refl)) (λ text. (text, refl))
-  reaches_setenv (name ∷ w ∷ ws) m = reaches_if (is_bad_name name) (λ m'. record m' { status = 1 }) (λ m'. record m' { environment = with_value m'.environment name (join_with_byte ascii.space (w ∷ ws)); status = 0 }) m (λ text. (text, refl)) (λ text. (text, refl))
-
-  reaches_echo : (words : List Text) (m : Memory) → Reaches (echo words) m
-  reaches_echo [] m = λ text. (text ++ ascii.newline ∷ [], refl)
-  reaches_echo (w ∷ ws) m = reaches_if (bytes_eq w (codes "-n")) (λ m'. record m' { text = m'.text ++ join_with_byte ascii.space ws; status = 0 }) (λ m'. record m' { text = m'.text ++ join_with_byte ascii.space (w ∷ ws) ++ ascii.newline ∷ []; status = 0 }) m (λ text. (text ++ join_with_byte ascii.space ws, refl)) (λ text. (text ++ join_with_byte ascii.space (w ∷ ws) ++ ascii.newline ∷ [], refl))
 
   -- ---- steps
   begin_by : (s : State) (f : State → Answer) → Does (record s { steps = suc s.steps }) f → KeepsAll limits f → (text : Text) (log : List LoggedCommand) (n : ℕ) → AreApart limits i j k l s log n → (b c : Bool) → nat_lt s.steps limits.step_bound ≡ b → nat_lt n limits.step_bound ≡ c
@@ -256,14 +242,12 @@ module _ (limits : Limits) (i j : ℕ) (k l : List LoggedCommand) where
     Alike-leave None s = Alike-normal s (λ m. record m { status = 1 }) (reaches_status 1 s.memory)
 
     Alike-command : (b : Called) (name : Text) (ws : List Text) → AlwaysDoes (command limits script b name ws)
-    Alike-command (BuiltIn SetEnv) name ws s = Alike-normal s (setenv ws) (reaches_setenv ws s.memory)
-    Alike-command (BuiltIn RunTexts) name [] s = Alike-normal s (λ m. record m { status = 1 }) (reaches_status 1 s.memory)
-    Alike-command (BuiltIn RunTexts) name (w ∷ ws) s = Alike-run (w ∷ ws) s
-    Alike-command (BuiltIn Test) name ws s = Alike-if s (asks_device ws) (device limits (record { name = name; words = ws; effect = no_effect })) (λ t. Normal (set_status (status_when (verdict ws)) t)) (Alike-device (record { name = name; words = ws; effect = no_effect }) s) (Alike-normal s (λ m. record m { status = status_when (verdict ws) }) (reaches_status (status_when (verdict ws)) s.memory))
-    Alike-command (BuiltIn Echo) name ws s = Alike-normal s (echo ws) (reaches_echo ws s.memory)
-    Alike-command (BuiltIn True) name ws s = Alike-normal s (λ m. record m { status = 0 }) (reaches_status 0 s.memory)
-    Alike-command (BuiltIn False) name ws s = Alike-normal s (λ m. record m { status = 1 }) (reaches_status 1 s.memory)
-    Alike-command (BuiltIn Leave) name ws s = Alike-leave (exit_status ws) s
+    Alike-command (BuiltIn (ChangesVariables change)) name ws s = Alike-normal s (variables_changed change ws) (λ text. (text, refl))
+    Alike-command (BuiltIn RunsTexts) name [] s = Alike-normal s (λ m. record m { status = 1 }) (reaches_status 1 s.memory)
+    Alike-command (BuiltIn RunsTexts) name (w ∷ ws) s = Alike-run (w ∷ ws) s
+    Alike-command (BuiltIn Tests) name ws s = Alike-if s (asks_device ws) (device limits (record { name = name; words = ws; effect = no_effect })) (λ t. Normal (set_status (status_when (verdict ws)) t)) (Alike-device (record { name = name; words = ws; effect = no_effect }) s) (Alike-normal s (λ m. record m { status = status_when (verdict ws) }) (reaches_status (status_when (verdict ws)) s.memory))
+    Alike-command (BuiltIn (WritesText written)) name ws s = Alike-normal s (text_written written ws) (λ text. (text ++ written ws, refl))
+    Alike-command (BuiltIn Exits) name ws s = Alike-leave (exit_status ws) s
     Alike-command (Device effect) name ws s = Alike-device (record { name = name; words = ws; effect = effect }) s
     Alike-command NoCommand name ws s = Alike-ended s (Unknown name)
 

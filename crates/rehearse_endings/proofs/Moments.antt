@@ -9,8 +9,7 @@ use Rattle.rehearse.specs.Outcomes.{OutcomeWord}
 use Rattle.rehearse.specs.State.{Text, State, Variables, parameters_in, LoggedCommand}
 use Rattle.bootstore.specs.StoredState.{state_at}
 use Rattle.rehearse.specs.Verdict.{verdict}
-use Rattle.rehearse.specs.Builtins.{SetEnv, Run, Test, Echo, True, False, Leave}
-use Rattle.rehearse.specs.Commands.{Called, BuiltIn, NoCommand, Device, called_by, asks_device, exit_status}
+use Rattle.rehearse.specs.Commands.{Called, ChangesVariables, WritesText, RunsTexts, Tests, Exits, BuiltIn, NoCommand, Device, called_by, asks_device, exit_status}
 use Rattle.rehearse.specs.Execution.{Limits, CutDevices, Size, Request, no_effect, set_status, status_when, take_outcome}
 use Rattle.rehearse_machine.specs.Came.{Came}
 use Rattle.rehearse_machine.specs.Meaning.{continue, comes_to}
@@ -58,14 +57,12 @@ module _ (limits : Limits) (text : Text) (log : List LoggedCommand) (n : ℕ) wh
   ask_same r ps s = ask_by (nat_lt (length s.log) limits.device_bound) (nat_lt (length log) limits.device_bound) r ps s (there s)
 
   called_same : (b : Called) (name : Text) (ws : List Text) (script : Script) (ps : List RunningFrame) (s : State) → AskSame (place_called limits b name ws script ps s) (place_called limits b name ws script ps (there s))
-  called_same (BuiltIn SetEnv) name ws script ps s = tt
-  called_same (BuiltIn Run) name [] script ps s = tt
-  called_same (BuiltIn Run) name (w ∷ ws) script ps s = tt
-  called_same (BuiltIn Test) name ws script ps s = either_same (asks_device ws) (place_ask limits (record { name = name; words = ws; effect = no_effect }) ps) (λ t. GoOn ps (set_status (status_when (verdict ws)) t)) s (ask_same (record { name = name; words = ws; effect = no_effect }) ps s) tt
-  called_same (BuiltIn Echo) name ws script ps s = tt
-  called_same (BuiltIn True) name ws script ps s = tt
-  called_same (BuiltIn False) name ws script ps s = tt
-  called_same (BuiltIn Leave) name ws script ps s = exit_same (exit_status ws) ps s (place_exit (exit_status ws) ps (there s))
+  called_same (BuiltIn (ChangesVariables change)) name ws script ps s = tt
+  called_same (BuiltIn RunsTexts) name [] script ps s = tt
+  called_same (BuiltIn RunsTexts) name (w ∷ ws) script ps s = tt
+  called_same (BuiltIn Tests) name ws script ps s = either_same (asks_device ws) (place_ask limits (record { name = name; words = ws; effect = no_effect }) ps) (λ t. GoOn ps (set_status (status_when (verdict ws)) t)) s (ask_same (record { name = name; words = ws; effect = no_effect }) ps s) tt
+  called_same (BuiltIn (WritesText written)) name ws script ps s = tt
+  called_same (BuiltIn Exits) name ws script ps s = exit_same (exit_status ws) ps s (place_exit (exit_status ws) ps (there s))
   called_same (Device effect) name ws script ps s = ask_same (record { name = name; words = ws; effect = effect }) ps s
   called_same NoCommand name ws script ps s = tt
 

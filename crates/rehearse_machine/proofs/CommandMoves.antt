@@ -13,11 +13,11 @@ use Rattle.hushlang.specs.Tree.{Script}
 use Rattle.rehearse.specs.Outcomes.{OutcomeWord}
 use Rattle.rehearse.specs.State.{Text, Variables, State, with_value, without}
 use Rattle.bootstore.specs.StoredState.{state_at}
-use Rattle.rehearse.specs.Builtins.{SetEnv, Test, Echo}
-use Rattle.rehearse.specs.Commands.{Called, BuiltIn, Device, called_by, asks_device, is_bad_name, setenv, echo, is_digit, decimal_from}
+use Rattle.rehearse.specs.Commands.{Called, ChangesVariables, WritesText, Tests, BuiltIn, Device, carried, called_by_name, called_by, asks_device, is_bad_name, setenv, variables_changed, text_written, is_digit, decimal_from}
 use Rattle.rehearse.specs.Execution.{Limits, Request, no_effect, remember, set_status, status_when}
 use Rattle.rehearse.specs.Verdict.{verdict}
-use Rattle.rehearse.specs.DeviceList.{Effect}
+use Rattle.rehearse.specs.Computed.{Computed}
+use Rattle.rehearse.specs.DeviceList.{Effect, Devices, computed_by}
 use Rattle.bootstore.proofs.StateLemmas.{stored_changes, stored_deletions}
 use Rattle.rehearse_machine.specs.declared.ask.Step.{Step}
 use Rattle.rehearse_machine.specs.declared.ask.Step.TheVariants as steps
@@ -62,28 +62,28 @@ removed_first (y ∷ ys) x rest h e k = ap (λ z. z ∷ ys) (sym e) ∙ ap (λ z
 abbrev with_memory : State → Variables → State
 with_memory s variables = record s { memory = record { environment = variables; locals = s.memory.locals; status = 0; text = s.memory.text } }
 
-pub deleted : (old : Moment) (name : Text) (words : List Text) (w : OutcomeWord) → words ≡ name ∷ [] → is_bad_name name ≡ false → state_at (with_status 0 (with_environment name None old)) w ≡ remember (setenv words) (state_at old w)
+pub deleted : (old : Moment) (name : Text) (words : List Text) (w : OutcomeWord) → words ≡ name ∷ [] → is_bad_name name ≡ false → state_at (with_status 0 (with_environment name None old)) w ≡ remember (variables_changed setenv words) (state_at old w)
 deleted old name words w e b =
     ap (with_memory (state_at old w)) (stored_deletions old.environment name)
-    ∙ ap (λ (x : Bool). remember (λ m. cond x (record m { status = 1 }) (record m { environment = without m.environment name; status = 0 })) (state_at old w)) (sym b)
-    ∙ ap (λ (x : List Text). remember (setenv x) (state_at old w)) (sym e)
+    ∙ ap (λ (x : Bool). remember (variables_changed (λ ws variables. cond x (variables, 1) (without variables name, 0)) words) (state_at old w)) (sym b)
+    ∙ ap (λ (x : List Text). remember (variables_changed setenv x) (state_at old w)) (sym e)
 
-pub assigned : (old : Moment) (name value v : Text) (vs words : List Text) (w : OutcomeWord) → words ≡ name ∷ v ∷ vs → value ≡ join_with_byte 32 (v ∷ vs) → is_bad_name name ≡ false → state_at (with_status 0 (with_environment name (Some value) old)) w ≡ remember (setenv words) (state_at old w)
+pub assigned : (old : Moment) (name value v : Text) (vs words : List Text) (w : OutcomeWord) → words ≡ name ∷ v ∷ vs → value ≡ join_with_byte 32 (v ∷ vs) → is_bad_name name ≡ false → state_at (with_status 0 (with_environment name (Some value) old)) w ≡ remember (variables_changed setenv words) (state_at old w)
 assigned old name value v vs words w e k b =
     ap (with_memory (state_at old w)) (stored_changes old.environment name value)
     ∙ ap (λ (x : Text). with_memory (state_at old w) (with_value (state_at old w).memory.environment name x)) k
-    ∙ ap (λ (x : Bool). remember (λ m. cond x (record m { status = 1 }) (record m { environment = with_value m.environment name (join_with_byte 32 (v ∷ vs)); status = 0 })) (state_at old w)) (sym b)
-    ∙ ap (λ (x : List Text). remember (setenv x) (state_at old w)) (sym e)
+    ∙ ap (λ (x : Bool). remember (variables_changed (λ ws variables. cond x (variables, 1) (with_value variables name (join_with_byte 32 (v ∷ vs)), 0)) words) (state_at old w)) (sym b)
+    ∙ ap (λ (x : List Text). remember (variables_changed setenv x) (state_at old w)) (sym e)
 
-set_changed : (r : Result (Unit {0}) StoreError) (old mid new : Record) (name : Text) (o : Option Text) (words : List Text) → ((w : OutcomeWord) → state_at (with_status 0 (with_environment name o old.present)) w ≡ remember (setenv words) (state_at old.present w)) → mid ≡ changed (with_environment name o) old → OnOk r (new ≡ changed (with_status 0) mid) → Changed r old new (setenv words)
+set_changed : (r : Result (Unit {0}) StoreError) (old mid new : Record) (name : Text) (o : Option Text) (words : List Text) → ((w : OutcomeWord) → state_at (with_status 0 (with_environment name o old.present)) w ≡ remember (variables_changed setenv words) (state_at old.present w)) → mid ≡ changed (with_environment name o) old → OnOk r (new ≡ changed (with_status 0) mid) → Changed r old new (variables_changed setenv words)
 set_changed (Ok done) old mid new name o words h e k =
-    subst (λ (x : Record). Changes old x (setenv words)) (sym (k ∙ ap (changed (with_status 0)) e)) (h, refl, record { marked = refl; begun = omega arith })
+    subst (λ (x : Record). Changes old x (variables_changed setenv words)) (sym (k ∙ ap (changed (with_status 0)) e)) (h, refl, record { marked = refl; begun = omega arith })
 set_changed (Err x) old mid new name o words h e k = tt
 
-pub deletes : (r : Result (Unit {0}) StoreError) (old mid new : Record) (name : Text) (words : List Text) → words ≡ name ∷ [] → is_bad_name name ≡ false → mid ≡ changed (with_environment name None) old → OnOk r (new ≡ changed (with_status 0) mid) → Changed r old new (setenv words)
+pub deletes : (r : Result (Unit {0}) StoreError) (old mid new : Record) (name : Text) (words : List Text) → words ≡ name ∷ [] → is_bad_name name ≡ false → mid ≡ changed (with_environment name None) old → OnOk r (new ≡ changed (with_status 0) mid) → Changed r old new (variables_changed setenv words)
 deletes r old mid new name words p b e k = set_changed r old mid new name None words (λ w. deleted old.present name words w p b) e k
 
-pub assigns : (r : Result (Unit {0}) StoreError) (old mid new : Record) (name value : Text) (values words : List Text) → words ≡ name ∷ values → 0 < length values → value ≡ join_with_byte 32 values → is_bad_name name ≡ false → mid ≡ changed (with_environment name (Some value)) old → OnOk r (new ≡ changed (with_status 0) mid) → Changed r old new (setenv words)
+pub assigns : (r : Result (Unit {0}) StoreError) (old mid new : Record) (name value : Text) (values words : List Text) → words ≡ name ∷ values → 0 < length values → value ≡ join_with_byte 32 values → is_bad_name name ≡ false → mid ≡ changed (with_environment name (Some value)) old → OnOk r (new ≡ changed (with_status 0) mid) → Changed r old new (variables_changed setenv words)
 assigns r old mid new name value [] words p l j b e k = absurd (omega arith)
 assigns r old mid new name value (v ∷ vs) words p l j b e k = set_changed r old mid new name (Some value) words (λ w. assigned old.present name value v vs words w p j b) e k
 
@@ -93,16 +93,16 @@ module _ (limits : Limits) (old new : Record) (name : Text) (words : List Text) 
   abbrev frames : List RunningFrame
   frames = old.present.frames
 
-  pub setenv_does : (b : Called) (list : List Text) → b ≡ BuiltIn SetEnv → list ≡ words → Changes old new (setenv list) → Does steps.Going old new (place_called limits b name words script old.present.frames)
-  setenv_does b list e l h = (
-    λ w. ap (λ (x : List RunningFrame). GoOn x (state_at new.present w)) h.1 ∙ ap (GoOn frames) (h.0 w) ∙ ap (λ (x : List Text). GoOn frames (remember (setenv x) (state_at old.present w))) l
+  pub change_does : (b : Called) (list : List Text) (change : List Text → Variables → Variables × ℕ) → b ≡ BuiltIn (ChangesVariables change) → list ≡ words → Changes old new (variables_changed change list) → Does steps.Going old new (place_called limits b name words script old.present.frames)
+  change_does b list change e l h = (
+    λ w. ap (λ (x : List RunningFrame). GoOn x (state_at new.present w)) h.1 ∙ ap (GoOn frames) (h.0 w) ∙ ap (λ (x : List Text). GoOn frames (remember (variables_changed change x) (state_at old.present w))) l
         ∙ sym (ap (λ (x : Called). place_called limits x name words script frames (state_at old.present w)) e),
     h.2,
   )
 
-  pub echo_does : (b : Called) (list : List Text) → b ≡ BuiltIn Echo → list ≡ words → Changes old new (echo list) → Does steps.Going old new (place_called limits b name words script old.present.frames)
-  echo_does b list e l h = (
-    λ w. ap (λ (x : List RunningFrame). GoOn x (state_at new.present w)) h.1 ∙ ap (GoOn frames) (h.0 w) ∙ ap (λ (x : List Text). GoOn frames (remember (echo x) (state_at old.present w))) l
+  pub writing_does : (b : Called) (list : List Text) (written : List Text → Text) → b ≡ BuiltIn (WritesText written) → list ≡ words → Changes old new (text_written written list) → Does steps.Going old new (place_called limits b name words script old.present.frames)
+  writing_does b list written e l h = (
+    λ w. ap (λ (x : List RunningFrame). GoOn x (state_at new.present w)) h.1 ∙ ap (GoOn frames) (h.0 w) ∙ ap (λ (x : List Text). GoOn frames (remember (text_written written x) (state_at old.present w))) l
         ∙ sym (ap (λ (x : Called). place_called limits x name words script frames (state_at old.present w)) e),
     h.2,
   )
@@ -116,12 +116,21 @@ module _ (limits : Limits) (old new : Record) (name : Text) (words : List Text) 
   pub device_does : (step : Step) (b : Called) (effect : Effect) → b ≡ Device effect → Asked step effect → Does step old old (place_called limits b name words script old.present.frames)
   device_does step b effect e h = (λ w. h w ∙ sym (ap (λ (x : Called). place_called limits x name words script frames (state_at old.present w)) e), record { marked = refl; begun = omega arith })
 
-  pub test_does : (step : Step) (b : Called) → b ≡ BuiltIn Test → asks_device words ≡ true → Asked step no_effect → Does step old old (place_called limits b name words script old.present.frames)
+  pub test_does : (step : Step) (b : Called) → b ≡ BuiltIn Tests → asks_device words ≡ true → Asked step no_effect → Does step old old (place_called limits b name words script old.present.frames)
   test_does step b e d h = (
     λ w. h w ∙ chosen (asks_device words) (place_ask limits (request no_effect) frames (state_at old.present w)) (GoOn frames (set_status (status_when (verdict words)) (state_at old.present w))) d
         ∙ sym (ap (λ (x : Called). place_called limits x name words script frames (state_at old.present w)) e),
     record { marked = refl; begun = omega arith },
   )
+
+-- a call that is computed, and one that is not
+pub called_computed : (devices : Devices) (name : Text) (words : List Text) (computed : Computed) → computed_by devices name words ≡ Some computed → called_by devices name words ≡ BuiltIn (ChangesVariables (λ ws. carried computed))
+called_computed devices name words computed e =
+    ap (λ (o : Option Computed). let c : Called = elim o [ Some computed ↦ BuiltIn (ChangesVariables (λ ws. carried computed)) | None ↦ called_by_name devices name words ] in c) e
+
+pub called_named : (devices : Devices) (name : Text) (words : List Text) → computed_by devices name words ≡ None → called_by devices name words ≡ called_by_name devices name words
+called_named devices name words e =
+    ap (λ (o : Option Computed). let c : Called = elim o [ Some computed ↦ BuiltIn (ChangesVariables (λ ws. carried computed)) | None ↦ called_by_name devices name words ] in c) e
 
 pub fields_named : (limits : Limits) (fields : List (Vec ℕ Global)) (name : Vec ℕ Global) (rest : List (Vec ℕ Global)) (script : Script) (ps : List RunningFrame) (s : State) → fields ≡ name ∷ rest → place_called limits (called_by limits.devices name.items (bytes_of_words rest)) name.items (bytes_of_words rest) script ps s ≡ place_fields limits (bytes_of_words fields) script ps s
 fields_named limits fields name rest script ps s e = sym (ap (λ (x : List (Vec ℕ Global)). place_fields limits (bytes_of_words x) script ps s) e)

@@ -5,8 +5,7 @@ use Rattle.hushlang.specs.Tree.{Script, AndOr, Joined, Command, Arms}
 use Rattle.hushlang.specs.Expansion.{fields, size, most_bytes}
 use Rattle.rehearse.specs.Trees.{tree_of}
 use Rattle.rehearse.specs.State.{Text, get, State, parameters_in}
-use Rattle.rehearse.specs.Builtins.{SetEnv, Run, Test, Echo, True, False, Leave}
-use Rattle.rehearse.specs.Commands.{Called, BuiltIn, NoCommand, Device, called_by}
+use Rattle.rehearse.specs.Commands.{Called, ChangesVariables, WritesText, RunsTexts, Tests, Exits, BuiltIn, NoCommand, Device, called_by}
 use Rattle.hushlang.specs.Tree.{IsProper, IsProperList, IsProperJoined, IsProperCommand, AreProperArms, HoldsCommand}
 use Rattle.rehearse.specs.Execution.{Limits, Answer, Normal, Exit, Ended, Dry, CutSteps, Syntax, Size, go_on, set_status, set_local, goes, holds, begin, text_end, run_text, run_all, command, simple, sized, turns, for_each, exec_script, exec_list, exec_joined, exec_command, exec_arms, exec}
 use Rattle.rehearse.proofs.Growing.{AtLeast, Grew, AtLeast-track, Grew-block}
@@ -62,14 +61,12 @@ module _ (limits : Limits) where
     same_run (name ∷ names) t h = same_named (get t.memory.environment name) name (run_all limits text names) (run_all limits text' names) t h (λ u l. same_run names u (omega arith))
 
     same_command : (b : Called) (name : Text) (ws : List Text) (t : State) → limits.step_bound < n + t.steps → command limits text b name ws t ≡ command limits text' b name ws t
-    same_command (BuiltIn SetEnv) name ws t h = refl
-    same_command (BuiltIn Run) name [] t h = refl
-    same_command (BuiltIn Run) name (w ∷ ws) t h = same_run (w ∷ ws) t h
-    same_command (BuiltIn Test) name ws t h = refl
-    same_command (BuiltIn Echo) name ws t h = refl
-    same_command (BuiltIn True) name ws t h = refl
-    same_command (BuiltIn False) name ws t h = refl
-    same_command (BuiltIn Leave) name ws t h = refl
+    same_command (BuiltIn (ChangesVariables change)) name ws t h = refl
+    same_command (BuiltIn RunsTexts) name [] t h = refl
+    same_command (BuiltIn RunsTexts) name (w ∷ ws) t h = same_run (w ∷ ws) t h
+    same_command (BuiltIn Tests) name ws t h = refl
+    same_command (BuiltIn (WritesText written)) name ws t h = refl
+    same_command (BuiltIn Exits) name ws t h = refl
     same_command (Device effect) name ws t h = refl
     same_command NoCommand name ws t h = refl
 

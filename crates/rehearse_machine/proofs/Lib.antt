@@ -11,6 +11,7 @@ pub mod Ends
 pub mod AskingLemmas
 pub mod Turning
 pub mod CommandMoves
+pub mod ComputedLemmas
 pub mod Beginnings
 pub mod ListLemmas
 pub mod WordLemmas

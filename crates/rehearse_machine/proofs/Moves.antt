@@ -7,8 +7,7 @@ use Rattle.rehearse.specs.Trees.{tree_of}
 use Rattle.rehearse.specs.Verdict.{verdict}
 use Rattle.rehearse.specs.Outcomes.{OutcomeWord}
 use Rattle.rehearse.specs.State.{Text, get, State, parameters_in}
-use Rattle.rehearse.specs.Builtins.{SetEnv, Run, Test, Echo, True, False, Leave}
-use Rattle.rehearse.specs.Commands.{Called, BuiltIn, NoCommand, Device, called_by, asks_device, exit_status}
+use Rattle.rehearse.specs.Commands.{Called, ChangesVariables, WritesText, RunsTexts, Tests, Exits, BuiltIn, NoCommand, Device, called_by, asks_device, exit_status}
 use Rattle.hushlang.specs.Tree.{IsProper, IsProperCommand, HoldsCommand}
 use Rattle.rehearse.specs.Execution.{Limits, Answer, Normal, Exit, Ended, Dry, Ending, CutDevices, CutSteps, Unknown, Syntax, Size, go_on, set_status, set_local, status_when, goes, holds, begin, take_outcome, device, Request, no_effect, text_end, run_text, run_all, command, simple, sized, assign, turns, for_each}
 use Rattle.rehearse_machine.specs.Frames.{Frame, Lists, Linked, IfCondition, LoopCondition, LoopBody, ForBody, RunNames, RunText, Next, Go, Ask, Stop, leave, begin_assign, begin_for, begin_arms, begin_tree, begin_text, begin_names, begin_exit, fitting, ask, begin_called, begin_fields, counted, begin_command, move}
@@ -93,14 +92,12 @@ module _ (limits : Limits) where
     exit-is None fs s = refl
 
     builtin-is : (b : Called) (name : Text) (ws : List Text) (fs : List Frame) (s : State) → comes_to limits w (begin_called limits b name ws fs s) ≡ continue limits fs (command limits (full limits) b name ws (with w s))
-    builtin-is (BuiltIn Run) name [] fs s = refl
-    builtin-is (BuiltIn Run) name (v ∷ ws) fs s = refl
-    builtin-is (BuiltIn SetEnv) name ws fs s = refl
-    builtin-is (BuiltIn Test) name ws fs s = if-is (asks_device ws) (ask limits (record { name = name; words = ws; effect = no_effect }) fs s) (Go fs (set_status (status_when (verdict ws)) s)) fs (device limits (record { name = name; words = ws; effect = no_effect }) (with w s)) (Normal (set_status (status_when (verdict ws)) (with w s))) (ask-is (record { name = name; words = ws; effect = no_effect }) fs s) refl
-    builtin-is (BuiltIn Echo) name ws fs s = refl
-    builtin-is (BuiltIn True) name ws fs s = refl
-    builtin-is (BuiltIn False) name ws fs s = refl
-    builtin-is (BuiltIn Leave) name ws fs s = exit-is (exit_status ws) fs s
+    builtin-is (BuiltIn RunsTexts) name [] fs s = refl
+    builtin-is (BuiltIn RunsTexts) name (v ∷ ws) fs s = refl
+    builtin-is (BuiltIn (ChangesVariables change)) name ws fs s = refl
+    builtin-is (BuiltIn Tests) name ws fs s = if-is (asks_device ws) (ask limits (record { name = name; words = ws; effect = no_effect }) fs s) (Go fs (set_status (status_when (verdict ws)) s)) fs (device limits (record { name = name; words = ws; effect = no_effect }) (with w s)) (Normal (set_status (status_when (verdict ws)) (with w s))) (ask-is (record { name = name; words = ws; effect = no_effect }) fs s) refl
+    builtin-is (BuiltIn (WritesText written)) name ws fs s = refl
+    builtin-is (BuiltIn Exits) name ws fs s = exit-is (exit_status ws) fs s
     builtin-is (Device effect) name ws fs s = ask-is (record { name = name; words = ws; effect = effect }) fs s
     builtin-is NoCommand name ws fs s = sym (continue-ended fs (Unknown name) (with w s))
 

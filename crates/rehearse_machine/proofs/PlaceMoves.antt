@@ -15,8 +15,7 @@ use Rattle.rehearse.specs.Outcomes.{Outcome, Success, Failure}
 use Rattle.rehearse.specs.Trees.{tree_of}
 use Rattle.rehearse.specs.State.{Text, get, State, parameters_in}
 use Rattle.rehearse.specs.Verdict.{verdict}
-use Rattle.rehearse.specs.Builtins.{SetEnv, Run, Test, Echo, True, False, Leave}
-use Rattle.rehearse.specs.Commands.{Called, BuiltIn, NoCommand, Device, called_by, sets_in, asks_device, exit_status}
+use Rattle.rehearse.specs.Commands.{Called, ChangesVariables, WritesText, RunsTexts, Tests, Exits, BuiltIn, NoCommand, Device, called_by, sets_in, asks_device, exit_status}
 use Rattle.rehearse.specs.Execution.{Limits, End, CutDevices, CutSteps, Size, set_status, set_local, status_when, goes, holds, Request, no_effect, logged, set_environment}
 use Rattle.rehearse_machine.specs.Frames.{Frame, Lists, Linked, IfCondition, LoopCondition, LoopBody, ForBody, Next, Go, Ask, Stop, leave, boot_next, answered, begin_assign, begin_for, begin_arms, begun_text, begin_tree, begin_text, begin_names, begin_exit, fitting, ask, begin_called, begin_fields, counted, begin_command, move}
 use Rattle.rehearse_machine.specs.Places.{list_at, drop_lists, joined_at, drop_joined, second, command_in, command_at, drop_arms, place, from_command, condition_frame, phase, from_turn, script_frames, for_frame, run_frame, frames_by, frames_of, PlaceNext, GoOn, AskOn, StopOn, next_of, moved_to, behind, in_turn, text_frame, block_frame, is_run, to_run, left, place_exit, place_boot, place_answered, place_assign, place_tree, place_text, place_name, run_move, for_turn, for_move, for_begins, place_arms, condition_ends, phase_move, place_fitting, place_ask, place_called, place_fields, place_counted, place_command, place_joined, place_begins, place_turn, place_list, place_by, place_move}
@@ -230,17 +229,15 @@ module _ (limits : Limits) where
   ask-is r ps s = if_next (nat_lt (length s.log) limits.device_bound) (AskOn r ps s) (StopOn CutDevices s) (Ask r (frames_of ps) s) (Stop CutDevices s) refl refl
 
   builtin-is : (b : Called) (name : Text) (ws : List Text) (script : Script) (ps : List RunningFrame) (s : State) → next_of (place_called limits b name ws script ps s) ≡ begin_called limits b name ws (frames_of ps) s
-  builtin-is (BuiltIn SetEnv) name ws script ps s = refl
-  builtin-is (BuiltIn Run) name [] script ps s = refl
-  builtin-is (BuiltIn Run) name (w ∷ ws) script ps s = refl
-  builtin-is (BuiltIn Test) name ws script ps s =
+  builtin-is (BuiltIn (ChangesVariables change)) name ws script ps s = refl
+  builtin-is (BuiltIn RunsTexts) name [] script ps s = refl
+  builtin-is (BuiltIn RunsTexts) name (w ∷ ws) script ps s = refl
+  builtin-is (BuiltIn Tests) name ws script ps s =
       let r : Request = record { name = name; words = ws; effect = no_effect } in
       let t : State = set_status (status_when (verdict ws)) s in
       if_next (asks_device ws) (place_ask limits r ps s) (GoOn ps t) (ask limits r (frames_of ps) s) (Go (frames_of ps) t) (ask-is r ps s) refl
-  builtin-is (BuiltIn Echo) name ws script ps s = refl
-  builtin-is (BuiltIn True) name ws script ps s = refl
-  builtin-is (BuiltIn False) name ws script ps s = refl
-  builtin-is (BuiltIn Leave) name ws script ps s = exit-is (exit_status ws) ps s
+  builtin-is (BuiltIn (WritesText written)) name ws script ps s = refl
+  builtin-is (BuiltIn Exits) name ws script ps s = exit-is (exit_status ws) ps s
   builtin-is (Device effect) name ws script ps s = ask-is (record { name = name; words = ws; effect = effect }) ps s
   builtin-is NoCommand name ws script ps s = refl
 

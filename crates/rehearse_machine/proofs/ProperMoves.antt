@@ -6,8 +6,7 @@ use Rattle.hushlang.specs.Expansion.{fields, joined, size, most_bytes}
 use Rattle.rehearse.specs.Trees.{tree_of}
 use Rattle.rehearse.specs.Verdict.{verdict}
 use Rattle.rehearse.specs.State.{Text, get, State, parameters_in}
-use Rattle.rehearse.specs.Builtins.{SetEnv, Run, Test, Echo, True, False, Leave}
-use Rattle.rehearse.specs.Commands.{Called, BuiltIn, NoCommand, Device, called_by, asks_device, exit_status}
+use Rattle.rehearse.specs.Commands.{Called, ChangesVariables, WritesText, RunsTexts, Tests, Exits, BuiltIn, NoCommand, Device, called_by, asks_device, exit_status}
 use Rattle.hushlang.specs.Tree.{IsProper, IsProperCommand, AreProperArms, HoldsCommand}
 use Rattle.rehearse.specs.Execution.{Limits, CutDevices, CutSteps, Size, set_status, set_local, status_when, goes, holds, Request, no_effect}
 use Rattle.rehearse_machine.specs.Frames.{Frame, Lists, Linked, IfCondition, LoopCondition, LoopBody, ForBody, RunNames, RunText, Next, Go, Ask, Stop, leave, begin_assign, begin_for, begin_arms, begin_tree, begin_text, begin_names, begin_exit, fitting, ask, begin_called, begin_fields, begin_command, move}
@@ -51,14 +50,12 @@ module _ (limits : Limits) where
   exit-proper None fs s p = p
 
   builtin-proper : (b : Called) (name : Text) (ws : List Text) (fs : List Frame) (s : State) → AreProperFrames fs → IsProperNext (begin_called limits b name ws fs s)
-  builtin-proper (BuiltIn SetEnv) name ws fs s p = p
-  builtin-proper (BuiltIn Run) name [] fs s p = p
-  builtin-proper (BuiltIn Run) name (w ∷ ws) fs s p = (tt, p)
-  builtin-proper (BuiltIn Test) name ws fs s p = either (asks_device ws) (ask limits (record { name = name; words = ws; effect = no_effect }) fs s) (Go fs (set_status (status_when (verdict ws)) s)) (ask-proper (record { name = name; words = ws; effect = no_effect }) fs s p) p
-  builtin-proper (BuiltIn Echo) name ws fs s p = p
-  builtin-proper (BuiltIn True) name ws fs s p = p
-  builtin-proper (BuiltIn False) name ws fs s p = p
-  builtin-proper (BuiltIn Leave) name ws fs s p = exit-proper (exit_status ws) fs s p
+  builtin-proper (BuiltIn (ChangesVariables change)) name ws fs s p = p
+  builtin-proper (BuiltIn RunsTexts) name [] fs s p = p
+  builtin-proper (BuiltIn RunsTexts) name (w ∷ ws) fs s p = (tt, p)
+  builtin-proper (BuiltIn Tests) name ws fs s p = either (asks_device ws) (ask limits (record { name = name; words = ws; effect = no_effect }) fs s) (Go fs (set_status (status_when (verdict ws)) s)) (ask-proper (record { name = name; words = ws; effect = no_effect }) fs s p) p
+  builtin-proper (BuiltIn (WritesText written)) name ws fs s p = p
+  builtin-proper (BuiltIn Exits) name ws fs s p = exit-proper (exit_status ws) fs s p
   builtin-proper (Device effect) name ws fs s p = ask-proper (record { name = name; words = ws; effect = effect }) fs s p
   builtin-proper NoCommand name ws fs s p = tt
 

@@ -8,7 +8,7 @@ use Rattle.rehearse_machine.specs.declared.commands.Called.TheVariants as names
 
 -- a built-in command is called
 abbrev pub builtin_called : Builtin → says.Called
-builtin_called builtin = says.BuiltIn (builtin_shown builtin)
+builtin_called builtin = says.BuiltIn (says.deed_of (builtin_shown builtin))
 
 abbrev pub called_shown : Called → says.Called
 called_shown (names.BuiltIn builtin) = builtin_called builtin

@@ -12,8 +12,7 @@ use Rattle.rehearse.specs.Outcomes.{Outcome, Success, Failure}
 use Rattle.rehearse.specs.Trees.{tree_of}
 use Rattle.rehearse.specs.State.{Text, get, State, parameters_in}
 use Rattle.rehearse.specs.Verdict.{verdict}
-use Rattle.rehearse.specs.Builtins.{SetEnv, Run, Test, Echo, True, False, Leave}
-use Rattle.rehearse.specs.Commands.{Called, BuiltIn, NoCommand, Device, called_by, sets_in, asks_device, setenv, echo, exit_status}
+use Rattle.rehearse.specs.Commands.{Called, ChangesVariables, WritesText, RunsTexts, Tests, Exits, BuiltIn, NoCommand, Device, called_by, sets_in, asks_device, exit_status, variables_changed, text_written}
 use Rattle.rehearse.specs.Execution.{Limits, Ending, End, CutDevices, CutSteps, Unknown, Syntax, Size, Booted, remember, set_status, set_local, status_when, goes, holds, Request, no_effect, logged, set_environment}
 use Rattle.rehearse_machine.specs.Frames.{Frame, Lists, Linked, IfCondition, LoopCondition, LoopBody, ForBody, RunNames, RunText, Next, Go, Ask, Stop, begun_text}
 
@@ -261,18 +260,16 @@ module _ (limits : Limits) where
 
   -- the frames stand behind the command, which stands in a script
   abbrev pub place_called : Called → Text → List Text → Script → List RunningFrame → State → PlaceNext
-  place_called (BuiltIn SetEnv) name words script ps s = GoOn ps (remember (setenv words) s)
-  place_called (BuiltIn Run) name [] script ps s = GoOn ps (set_status 1 s)
-  place_called (BuiltIn Run) name (w ∷ ws) script ps s = GoOn (names_frame script (w ∷ ws) ∷ ps) s
-  place_called (BuiltIn Test) name words script ps s =
+  place_called (BuiltIn (ChangesVariables change)) name words script ps s = GoOn ps (remember (variables_changed change words) s)
+  place_called (BuiltIn RunsTexts) name [] script ps s = GoOn ps (set_status 1 s)
+  place_called (BuiltIn RunsTexts) name (w ∷ ws) script ps s = GoOn (names_frame script (w ∷ ws) ∷ ps) s
+  place_called (BuiltIn Tests) name words script ps s =
       elim (asks_device words) [
         | true ↦ place_ask (record { name = name; words = words; effect = no_effect }) ps s
         | false ↦ GoOn ps (set_status (status_when (verdict words)) s)
       ]
-  place_called (BuiltIn Echo) name words script ps s = GoOn ps (remember (echo words) s)
-  place_called (BuiltIn True) name words script ps s = GoOn ps (set_status 0 s)
-  place_called (BuiltIn False) name words script ps s = GoOn ps (set_status 1 s)
-  place_called (BuiltIn Leave) name words script ps s = place_exit (exit_status words) ps s
+  place_called (BuiltIn (WritesText written)) name words script ps s = GoOn ps (remember (text_written written words) s)
+  place_called (BuiltIn Exits) name words script ps s = place_exit (exit_status words) ps s
   place_called (Device effect) name words script ps s =
       place_ask (record { name = name; words = words; effect = effect }) ps s
   place_called NoCommand name words script ps s = StopOn (Unknown name) s

@@ -16,7 +16,7 @@ ghost use Rattle.rehearse_machine.specs.CalledShown.{called_shown};
 use crate::ask::{Ask, Step};
 use crate::halt::Halt;
 use bootstore::{Store, StoreError};
-use rehearse::{Builtin, Devices, Effect, RunBounds, builtin_of};
+use rehearse::{Builtin, Devices, Effect, RunBounds, builtin_of, is_bad_name};
 use std::alloc::{AllocError, Global};
 
 /// What the fields of a command call.
@@ -27,9 +27,9 @@ pub(crate) enum Called<'a> {
     NoCommand,
 }
 
-/// What a name and its words call: a built-in command, else a call of one of the device list.
-pub(crate) fn called_by<'a>(devices: &'a Devices, name: &[u8], words: &[Vec<u8>]) -> Called<'a>
-    ensures { called_shown result ≡ says.called_by devices.now name.now (bytes_of_words words.now) }
+/// What a name and its words call, where nothing is computed: a built-in command, else a call of one of the device list.
+pub(crate) fn called_by_name<'a>(devices: &'a Devices, name: &[u8], words: &[Vec<u8>]) -> Called<'a>
+    ensures { called_shown result ≡ says.called_by_name devices.now name.now (bytes_of_words words.now) }
 {
     if let Some(builtin) = builtin_of(name) {
         return Called::BuiltIn(builtin);
@@ -77,23 +77,13 @@ pub(crate) fn joined(alloc: Global, words: &[Vec<u8>]) -> Result<Vec<u8>, AllocE
     Ok(joined)
 }
 
-/// Whether no variable has this name: it is empty, holds `=`, or begins with `-`.
-pub(crate) fn is_bad_name(name: &[u8]) -> bool
-    ensures { result ≡ says.is_bad_name name.now }
-{
-    match name {
-        [] => true,
-        [first, behind @ ..] => *first == b'-' || *first == b'=' || behind.contains(&b'='),
-    }
-}
-
 /// `setenv`: a name alone is deleted, else it gets the words behind it.
 pub(crate) fn setenv<S: Store>(
     alloc: Global,
     store: &mut S,
     words: &[Vec<u8>],
 ) -> Result<(), StoreError>
-    ensures { Changed result (S.record_of store.old) (S.record_of store.new) (says.setenv (bytes_of_words words.now)) }
+    ensures { Changed result (S.record_of store.old) (S.record_of store.new) (says.variables_changed says.setenv (bytes_of_words words.now)) }
 {
     let [name, values @ ..] = words else {
         return store.set_status(1);
@@ -172,7 +162,7 @@ pub(crate) fn echo<S: Store>(
     store: &mut S,
     words: &[Vec<u8>],
 ) -> Result<(), StoreError>
-    ensures { Changed result (S.record_of store.old) (S.record_of store.new) (says.echo (bytes_of_words words.now)) }
+    ensures { Changed result (S.record_of store.old) (S.record_of store.new) (says.text_written says.echo (bytes_of_words words.now)) }
 {
     let mut shown = words;
     let mut ends_line = true;

@@ -7,6 +7,7 @@ mod asking;
 mod assigns;
 mod blocks;
 mod commands;
+mod computed;
 mod frames;
 mod halt;
 mod lists;

@@ -9,10 +9,9 @@ ghost use Rattle.rehearse_machine.specs.Places.{place_answered};
 ghost use Rattle.rehearse_machine.specs.MovesShown.{Changed, Comes, request_shown};
 
 use crate::ask::{Ask, Step};
-use crate::commands::is_bad_name;
 use crate::halt::Halt;
 use bootstore::{LogEntry, Store, StoreError};
-use rehearse::{Effect, LeftSide, Setting};
+use rehearse::{Effect, LeftSide, Setting, is_bad_name};
 
 /// A device command has its outcome: it stands in the log, and is the status. On success the command sets its
 /// variables, and may end the run.

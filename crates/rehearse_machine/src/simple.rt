@@ -5,7 +5,6 @@ ghost use Rattle.hushlang.specs.Tree as tree;
 ghost use Rattle.hushlang.specs.Expansion.{fields};
 ghost use Rattle.rehearse.specs.State.{Text, parameters_in};
 ghost use Rattle.rehearse.specs.Execution.{Limits, set_status};
-ghost use Rattle.rehearse.specs.Builtins as builtins;
 ghost use Rattle.rehearse.specs.Commands as says;
 ghost use Rattle.text.specs.TextsShown.{bytes_of_words};
 ghost use Rattle.rehearse.specs.DeviceList.{Devices as ListedDevices};
@@ -14,7 +13,8 @@ ghost use Rattle.rehearse_machine.specs.MovesShown.{Comes, IsTop, under, limits_
 ghost use Rattle.rehearse_machine.specs.CalledShown.{builtin_called, called_shown};
 
 use crate::ask::Step;
-use crate::commands::{Called, ask, asks_device, called_by, echo, exit_status, setenv};
+use crate::commands::{Called, ask, asks_device, called_by_name, echo, exit_status, setenv};
+use crate::computed::carry_out;
 use crate::frames::{behind, enter, finish, place};
 use crate::halt::Halt;
 use crate::steps::{count, expanded};
@@ -41,7 +41,7 @@ fn run_names<'d, S: Store>(
     names: Vec<Vec<u8>>,
 ) -> Result<Step<'d>, StoreError>
     ensures { (limits : Limits) (name : Text) → Comes result (S.record_of store.old) (S.record_of store.new)
-        (place_called limits (says.BuiltIn builtins.Run) name (bytes_of_words names.items) (view.script script.now.value) (S.record_of store.old).present.frames) }
+        (place_called limits (says.BuiltIn says.RunsTexts) name (bytes_of_words names.items) (view.script script.now.value) (S.record_of store.old).present.frames) }
 {
     if names.is_empty() {
         done(store, 1)
@@ -58,7 +58,7 @@ fn run_test<'d, S: Store>(
     words: Vec<Vec<u8>>,
 ) -> Result<Step<'d>, StoreError>
     ensures { (devices : ListedDevices) (script : tree.Script) → Comes result (S.record_of store.old) (S.record_of store.new)
-        (place_called (limits_of devices bounds) (says.BuiltIn builtins.Test) name.items (bytes_of_words words.items) script (S.record_of store.old).present.frames) }
+        (place_called (limits_of devices bounds) (says.BuiltIn says.Tests) name.items (bytes_of_words words.items) script (S.record_of store.old).present.frames) }
 {
     if asks_device(&words) {
         let effect = Effect {
@@ -155,7 +155,11 @@ pub(crate) fn run_fields<'d, S: Store>(
         return done(store, 0);
     }
     let name = fields.remove(0);
-    let called = called_by(devices, &name, &fields);
+    if let Some(computed) = devices.computed(&name, &fields) {
+        carry_out(alloc, store, computed)?;
+        return Ok(Step::Going);
+    }
+    let called = called_by_name(devices, &name, &fields);
     run_called(alloc, store, script, bounds, called, name, fields)
 }
 

@@ -1,6 +1,5 @@
 use Rattle.std.proofs.Common.{sym, ap, ◌∙◌, refl}
 use Rattle.text.specs.TextsShown.{bytes_of_words}
-use Rattle.rehearse.specs.Builtins as builtins
 use Rattle.rehearse.specs.Commands as says
 use Rattle.rehearse.specs.Commands.{asks_device}
 use Rattle.rehearse_machine.specs.MovesShown.{limits_of}
@@ -9,5 +8,5 @@ use Rattle.rehearse_machine.proofs.simple.run_test.Goals as goal
 
 pub returns-then-asks_device : goal.returns-then-asks_device
 returns-then-asks_device g c devices script =
-    test_does (limits_of devices c.args.bounds) (g.S.Store.record_of c.args.store.now) (g.S.Store.record_of c.args.store.now) c.args.name.items (bytes_of_words c.args.words.items) script c.ask.result (says.BuiltIn builtins.Test)
+    test_does (limits_of devices c.args.bounds) (g.S.Store.record_of c.args.store.now) (g.S.Store.record_of c.args.store.now) c.args.name.items (bytes_of_words c.args.words.items) script c.ask.result (says.BuiltIn says.Tests)
     refl (ap asks_device (ap bytes_of_words (sym c.deref.ensures.value)) ∙ sym c.if-asks_device.ensures) (λ w. c.ask.ensures devices w)

@@ -1,0 +1,41 @@
+-- Runs over a device list in the form before a command could be computed.
+use Rattle.std.proofs.Common.{◌≡◌, ℕ, List, Option, Some, None, Ok, refl}
+use Rattle.hushlang.specs.Tree.{Script}
+use Rattle.rehearse.specs.Outcomes.{OutcomeWord, runs_within, after}
+use Rattle.rehearse.specs.State.{Text, State}
+use Rattle.rehearse.specs.Commands.{Device, NoCommand}
+use Rattle.rehearse.specs.DeviceList.{Effect, effect_of}
+use Rattle.rehearse.specs.CallList.{call_listed}
+use Rattle.rehearse.specs.Execution.{Answer, Ended, Unknown, command, device}
+use Rattle.rehearse.specs.Runs.{Task, run_on, runs, rest, state_of, ending_of, kind_of}
+use Rattle.rehearse.specs.Listing.{record_text, record_of, listing}
+use Rattle.rehearse.specs.CallExecution.{call_others, call_run_on, call_runs, call_record, call_rest, CallRunsStand, CallListingsStand, CallRestsStand}
+use Rattle.rehearse.proofs.CallLists.{call_lists_ask}
+use Rattle.rehearse.proofs.GivenRuns.{Does, AreGiven, run-same}
+
+others-same : (task : Task) → AreGiven task.limits task.limits.devices (call_others task)
+others-same task f name words s = by (effect_of task.limits.devices name words)
+  where
+    by : (o : Option Effect) → ◌≡◌ {A = Answer} (command task.limits f (elim o [ Some effect ↦ Device effect | None ↦ NoCommand ]) name words s)
+        (elim o [ Some effect ↦ device task.limits (record { name = name; words = words; effect = effect }) s | None ↦ Ended (Unknown name) s ])
+    by None = refl
+    by (Some effect) = refl
+
+pub call_runs_stand : CallRunsStand
+call_runs_stand text task w e =
+    run-same task.limits task.limits.devices (call_lists_ask text task.limits.devices e) (call_others task) (others-same task) task.environment task.name task.text w
+
+-- runs and records by what the text comes to with each word
+abbrev runs_by : ℕ → (OutcomeWord → Answer) → List OutcomeWord
+runs_by bound run = runs_within (λ w. kind_of (run w)) bound
+
+abbrev record_by : List Text → (OutcomeWord → Answer) → OutcomeWord → Text
+record_by names run w = record_text w (state_of (run w)) (ending_of (run w)) names
+
+pub call_listings_stand : CallListingsStand
+call_listings_stand text task names limit e =
+    λ i. listing (record_by names (λ w. call_runs_stand text task w e i)) (runs_by task.limits.device_bound (λ w. call_runs_stand text task w e i)) limit
+
+pub call_rests_stand : CallRestsStand
+call_rests_stand text task names u limit e =
+    λ i. listing (record_by names (λ w. call_runs_stand text task w e i)) (after u (runs_by task.limits.device_bound (λ w. call_runs_stand text task w e i))) limit
