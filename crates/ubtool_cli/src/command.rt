@@ -73,8 +73,7 @@ run. Lines that begin with # are skipped.
 
 Examples:
   ubtool rehearse -d devices.txt
-  ubtool rehearse -d devices.txt -b altbootcmd bootargs fdtfile
-  ubtool rehearse -d devices.txt --failures 1
+  ubtool rehearse -d devices.txt -b altbootcmd --failures 1 bootargs fdtfile
   ubtool rehearse -d devices.txt --limit 20 --after 0110
   ubtool rehearse -d devices.txt --word 0110 bootargs
 ";
