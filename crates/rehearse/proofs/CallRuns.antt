@@ -1,7 +1,7 @@
 -- Runs over a device list in the form before a command could be computed.
 use Rattle.std.proofs.Common.{◌≡◌, ℕ, List, Option, Some, None, Ok, refl}
 use Rattle.hushlang.specs.Tree.{Script}
-use Rattle.rehearse.specs.Outcomes.{OutcomeWord, runs_within, after}
+use Rattle.rehearse.specs.Outcomes.{OutcomeWord, runs_within, few_of, after}
 use Rattle.rehearse.specs.State.{Text, State}
 use Rattle.rehearse.specs.Commands.{Device, NoCommand}
 use Rattle.rehearse.specs.DeviceList.{Effect, effect_of}
@@ -26,16 +26,16 @@ call_runs_stand text task w e =
     run-same task.limits task.limits.devices (call_lists_ask text task.limits.devices e) (call_others task) (others-same task) task.environment task.name task.text w
 
 -- runs and records by what the text comes to with each word
-abbrev runs_by : ℕ → (OutcomeWord → Answer) → List OutcomeWord
-runs_by bound run = runs_within (λ w. kind_of (run w)) bound
+abbrev runs_by : Task → (OutcomeWord → Answer) → List OutcomeWord
+runs_by task run = few_of task.failures (runs_within (λ w. kind_of (run w)) task.limits.device_bound)
 
 abbrev record_by : List Text → (OutcomeWord → Answer) → OutcomeWord → Text
 record_by names run w = record_text w (state_of (run w)) (ending_of (run w)) names
 
 pub call_listings_stand : CallListingsStand
 call_listings_stand text task names limit e =
-    λ i. listing (record_by names (λ w. call_runs_stand text task w e i)) (runs_by task.limits.device_bound (λ w. call_runs_stand text task w e i)) limit
+    λ i. listing (record_by names (λ w. call_runs_stand text task w e i)) (runs_by task (λ w. call_runs_stand text task w e i)) limit
 
 pub call_rests_stand : CallRestsStand
 call_rests_stand text task names u limit e =
-    λ i. listing (record_by names (λ w. call_runs_stand text task w e i)) (after u (runs_by task.limits.device_bound (λ w. call_runs_stand text task w e i))) limit
+    λ i. listing (record_by names (λ w. call_runs_stand text task w e i)) (after u (runs_by task (λ w. call_runs_stand text task w e i))) limit

@@ -1,7 +1,7 @@
 -- Execution as it was when no command was computed (CallList.antt): a command that is not built in goes by the device list
 -- alone. All that it does not define is that of Execution.antt, over the tree as in GivenExecution.antt. Ours.
 use Rattle.std.specs.Prelude.{◌≡◌, ℕ, List, Option, Some, None, Ok}
-use Rattle.rehearse.specs.Outcomes.{OutcomeWord, runs_within, after}
+use Rattle.rehearse.specs.Outcomes.{OutcomeWord, runs_within, few_of, after}
 use Rattle.rehearse.specs.State.{Text, State}
 use Rattle.rehearse.specs.DeviceList.{Devices, effect_of}
 use Rattle.rehearse.specs.CallList.{call_listed}
@@ -25,7 +25,7 @@ module _ (task : Task) where
   call_run_on = given_run_on task.limits call_others task.environment task.name task.text
 
   abbrev pub call_runs : List OutcomeWord
-  call_runs = runs_within (λ w. kind_of (call_run_on w)) task.limits.device_bound
+  call_runs = few_of task.failures (runs_within (λ w. kind_of (call_run_on w)) task.limits.device_bound)
 
   abbrev pub call_record : (names : List Text) → OutcomeWord → Text
   call_record names w = record_text w (state_of (call_run_on w)) (ending_of (call_run_on w)) names
