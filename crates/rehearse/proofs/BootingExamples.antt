@@ -36,7 +36,8 @@ sets_before_shell : listed (bootcmd (limits (only ((codes "load", sets_one (code
 unfolding listed_along ends_along
 sets_before_shell = along 1 _ _ _ _ refl refl
 
--- the device list `load a=1`, `final load`, `load a=2`: of two settings of a name the later one stands, and the run ends
+-- the device list `load a=1`, `final load`, `load a=2`: of two settings of one name the later one counts, and the run
+-- ends
 joined_lines : listed (bootcmd (limits (only ((codes "load", record { ends = true; sets = (Variable (codes "a"), codes "1") ∷ (Variable (codes "a"), codes "2") ∷ [] }) ∷ [])) 16 10000) (codes "load; echo no")) (codes "a" ∷ []) None ≡ codes "run 0\ndev 0 load\nvar a=2\nbooted load\nrun 1\ndev 1 load\ntext no\\n\nunset a\nend 0\ndone\n"
 unfolding listed_along ends_along
 joined_lines = along 1 _ _ _ _ refl refl
@@ -46,8 +47,8 @@ test_has_no_effect : listed (bootcmd (limits (only ((codes "test", final) ∷ []
 unfolding listed_along ends_along
 test_has_no_effect = along 1 _ _ _ _ refl refl
 
--- the device list `sub part list @last=1`, `part`: on success the call's last word is set; the line of the name is of
--- the other calls
+-- the device list `sub part list @last=1`, `part`: on success the last word of the call is set; the line of the name is
+-- for the other calls
 abbrev part_list : Devices
 part_list = record { commands = (codes "part", record { ends = false; sets = [] }) ∷ []; subs = (codes "part", (codes "list", record { ends = false; sets = (LastWord, codes "1") ∷ [] }) ∷ []) ∷ []; known = [] }
 

@@ -21,17 +21,17 @@ for_without_a_field_sets_nothing : told (codes "i=5; for i in $u; do true; done;
 unfolding told_of
 for_without_a_field_sets_nothing = refl
 
--- `$?` and values inside one assignment command are those before it
+-- `$?` and values inside one assignment command are the ones from before the command
 assignments_see_those_before_them : told (codes "false; x=$? y=$x$?; echo $y") ≡ (codes "11\n", End 0)
 unfolding told_of
 assignments_see_those_before_them = refl
 
--- the status stays what it was up to the end of the whole command
+-- the status stays as it was until the end of the whole command
 assignments_leave_the_status_to_the_end : told (codes "false; x=1 y=$?; echo $y$?") ≡ (codes "10\n", End 0)
 unfolding told_of
 assignments_leave_the_status_to_the_end = refl
 
--- a step past the bound is not begun, and what its words would expand to is not looked at
+-- a step after the bound is not begun, and its words are not expanded
 abbrev grown : Text
 grown = codes "x=0123456789abcdef; " ++ times 12 (codes "x=$x$x; ")
 

@@ -84,7 +84,7 @@ module _ (limits : Limits) where
       let value : Text = joined (parameters_in s.memory) pair.1 in
       Ends-if (nat_le (length value) most_bytes) (assign pairs (set_local pair.0 value s)) (Ended Size s) (λ e. Ends-assign pairs (set_local pair.0 value s) h) (λ e. (h, tt))
 
-  -- `run` of texts, each with at most n steps left behind the one that `run` began
+  -- `run` of texts, each with at most n steps left after the one that `run` began
   module _ (n : ℕ) (script : Script → State → Answer) (kept : (a : Script) → KeepsAll limits (script a)) (ends : (a : Script) → IsProper a → (t : State) → IsWithin t → limits.step_bound < n + t.steps → Ends (script a t)) where
     tree-ends : (found : Option Script) (name : Text) (t : State) → ((a : Script) → found ≡ Some a → IsProper a) → IsWithin t → limits.step_bound < n + t.steps → Ends (elim found [ None ↦ Ended (Syntax name) t | Some a ↦ script a (elim a [ tree.Empty ↦ set_status 0 t | tree.Runs l ls ↦ t ]) ])
     tree-ends None name t p h r = (h, tt)
@@ -122,7 +122,7 @@ module _ (limits : Limits) where
 
   -- over the tree, with n steps left
   module _ (n : ℕ) (text : Script → State → Answer) (kept : (a : Script) → KeepsAll limits (text a)) (ends : (a : Script) → IsProper a → (t : State) → IsWithin t → limits.step_bound < n + t.steps → Ends (text a t)) where
-    -- each turn begins a step, so that the turns last as long as the steps
+    -- each turn begins a step, so there are as many turns as steps
     turn-ends : (until : Bool) (b again : State → Answer) (last : ℕ) (s : State) (a : Answer) → KeepsAll limits b → EndsAll n b → Track limits.device_bound s a → Grew s.steps a → Ends a → limits.step_bound ≤ n + s.steps → ((u : State) → IsWithin u → s.steps < u.steps → Ends (again u)) → Ends (go_on a (λ t. elim (holds until t.memory.status) [ true ↦ go_on (b t) again | false ↦ Normal (set_status last t) ]))
     turn-ends until b again last s (Normal t) k e c g h r j =
         Ends-if (holds until t.memory.status) (go_on (b t) again) (Normal (set_status last t))

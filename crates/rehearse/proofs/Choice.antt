@@ -1,4 +1,4 @@
--- The laws of outcome words, from the one fact that the words are those of a tree of choices.
+-- The laws of outcome words, from the one fact that the words are the words of a tree of choices.
 use Rattle.std.proofs.Common.{ℕ, zero, suc, ◌+◌, ◌-◌, length, length-append, Bool, true, false, cond, ◌&&◌, List, [], ◌∷◌, ◌++◌, map, filter, Option, Some, None, option_map, refl, sym, ap, subst, ◌∙◌, ◌≡◌, inl, inr, append_assoc, append-nil, arith}
 use Rattle.std.specs.Prelude.{nat_le, nat_lt}
 use Rattle.std.proofs.Math.Dec.{leb-zero, leb-suc-zero, leb-suc-suc}
@@ -25,7 +25,7 @@ filter-none : (p : OutcomeWord → Bool) (xs : List OutcomeWord) → ((x : Outco
 filter-none p [] h = refl
 filter-none p (x ∷ xs) h = cond-none (p x) x (filter p xs) (h x) (filter-none p xs h)
 
--- the runs past a success, then those past a failure
+-- the runs after a success, then the runs after a failure
 both : Kinds → ℕ → List OutcomeWord
 both kind n = map (λ w. Success ∷ w) (runs_within (beyond Success kind) n) ++ map (λ w. Failure ∷ w) (runs_within (beyond Failure kind) n)
 
@@ -41,7 +41,7 @@ both_is kind n =
     let right = filter-map p (λ w. Failure ∷ w) (words n) in
     cc
 
--- where the run ends here, it is the one run
+-- if the run ends here, it is the only run
 none_beyond : (kind : Kinds) (n : ℕ) → ((d : Outcome) (w : OutcomeWord) → kind (d ∷ w) ≡ Long) → both kind n ≡ []
 unfolding both
 none_beyond kind n others =
@@ -58,7 +58,7 @@ first_here kind n here = rw (here, first_run) refl
 pub first_beyond : (kind : Kinds) (n : ℕ) → kind [] ≡ Short → first_run kind (suc n) ≡ Success ∷ first_run (beyond Success kind) n
 first_beyond kind n asked = rw (asked, first_run) refl
 
--- where a device command is asked here, the runs go on
+-- if a device command asks here, the runs go on
 runs_beyond : (kind : Kinds) (n : ℕ) → kind [] ≡ Short → runs_within kind (suc n) ≡ both kind n
 runs_beyond kind n asked = rw asked (both_is kind n)
 
@@ -138,7 +138,7 @@ few_beyond-length most kind n asked =
     ∙ ap (λ (k : ℕ). k + length (map (λ (w : OutcomeWord). Failure ∷ w) lost)) (length-map won (λ (w : OutcomeWord). Success ∷ w))
     ∙ ap (λ (k : ℕ). length won + k) (length-map lost (λ (w : OutcomeWord). Failure ∷ w))
 
--- the first run stands first
+-- the first run comes first
 pub begins_with_first : (most : Option ℕ) (kind : Kinds) (n : ℕ) → IsChoice n kind → (t : List OutcomeWord) × (few_within most kind n ≡ first_run kind n ∷ t)
 unfolding few_both
 begins_with_first most kind zero c = ([], few_here most kind zero c.0 c.1)
@@ -153,11 +153,11 @@ first_is_run kind zero c = c.0
 first_is_run kind (suc n) (inl c) = rw (first_here kind n c.0) c.0
 first_is_run kind (suc n) (inr c) = rw (first_beyond kind n c.0) (first_is_run (beyond Success kind) n (c.1 Success))
 
--- the run that follows, if one does
+-- the run that follows, if there is one
 abbrev pub next_run : Option ℕ → Kinds → ℕ → OutcomeWord → Option OutcomeWord
 next_run most kind n u = option_map (first_from kind n) (turned most u)
 
--- the list has u, and then what next says
+-- the list has u, and then what `next` says
 abbrev pub IsFollowed : OutcomeWord → Option OutcomeWord → List OutcomeWord → Type 0
 IsFollowed u None ws = (a : List OutcomeWord) × (ws ≡ a ++ u ∷ [])
 IsFollowed u (Some v) ws = (a : List OutcomeWord) × (b : List OutcomeWord) × (ws ≡ a ++ u ∷ v ∷ b)

@@ -30,7 +30,7 @@ no_line = refl
 name_twice : listed (codes "load\nload") ≡ Ok (only ((codes "load", quiet) ∷ []))
 name_twice = refl
 
--- spaces, tabs and carriage returns round a line are dropped, and a comment may follow them
+-- spaces, tabs and carriage returns around a line are dropped, and a comment may follow them
 blanks_round : listed (32 ∷ 9 ∷ 13 ∷ codes "load \r\n \t\r\n  # echo\n") ≡ Ok (only ((codes "load", quiet) ∷ []))
 blanks_round = refl
 
@@ -38,7 +38,7 @@ blanks_round = refl
 return_inside : listed (97 ∷ 13 ∷ 98 ∷ []) ≡ Ok (only ((97 ∷ 13 ∷ 98 ∷ [], quiet) ∷ []))
 return_inside = refl
 
--- a `#` behind the first word begins no comment
+-- a `#` after the first word starts no comment
 comment_behind : listed (codes "load #x") ≡ Err (BadLine 1)
 comment_behind = refl
 
@@ -81,7 +81,7 @@ plain_comment_alone = refl
 plain_return_inside : plain_names (97 ∷ 13 ∷ 98 ∷ []) ≡ Ok ((97 ∷ 13 ∷ 98 ∷ []) ∷ [])
 plain_return_inside = refl
 
--- what the whole form reads as a setting or a final command is a second word here
+-- what the whole form reads as a setting or as a final command is a second word here
 plain_second_word : plain_names (codes "load\nmmc a=1") ≡ Err (BadLine 2)
 plain_second_word = refl
 
@@ -114,7 +114,7 @@ x_is_final_and_sets = refl
 final_echo : listed (codes "final echo") ≡ Err (BuiltIn 1)
 final_echo = refl
 
--- a word with `=` is no name behind `final`, but a setting, which has a name
+-- after `final`, a word with `=` is a setting, not a name, and a setting needs a name
 final_without_name : listed (codes "final =x") ≡ Err (BadLine 1)
 final_without_name = refl
 
@@ -136,7 +136,7 @@ setting_without_name = refl
 setting_with_dash : listed (codes "load -x=1") ≡ Err (BadLine 1)
 setting_with_dash = refl
 
--- a name may hold a `-`, but not begin with one
+-- a name may hold a `-`, but not start with one
 name_with_dash : listed (codes "load fdt-file=1")
     ≡ Ok (only ((codes "load", record { ends = false; sets = (Variable (codes "fdt-file"), codes "1") ∷ [] }) ∷ []))
 name_with_dash = refl
@@ -153,7 +153,7 @@ name_with_equals = refl
 built_in_that_sets : listed (codes "echo a=b") ≡ Err (BuiltIn 1)
 built_in_that_sets = refl
 
--- a bad line counts before a built-in name, and the first faulty line before a later one
+-- a bad line is reported before a built-in name, and the first faulty line before a later one
 bad_before_built_in : listed (codes "echo x") ≡ Err (BadLine 1)
 bad_before_built_in = refl
 
@@ -175,7 +175,7 @@ final_sub_line = refl
 sets_by_words : listed (codes "sub part list @last=1 @4= a@1=2") ≡ Ok (sub_list (codes "part") (codes "list") (record { ends = false; sets = (LastWord, codes "1") ∷ (WordAt 3, []) ∷ (Variable (codes "a@1"), codes "2") ∷ [] }))
 sets_by_words = refl
 
--- `@` and no word of the call
+-- `@` that names no word of the call
 no_such_word : listed (codes "sub part list @0=1") ≡ Err (BadLine 1)
 no_such_word = refl
 
@@ -185,7 +185,7 @@ no_number = refl
 no_word : listed (codes "sub part list @=1") ≡ Err (BadLine 1)
 no_word = refl
 
--- a line that was accepted before there were `sub` lines says what it said
+-- a line that was accepted before there were `sub` lines says what it said then
 command_sub : listed (codes "sub") ≡ Ok (only ((codes "sub", quiet) ∷ []))
 command_sub = refl
 
@@ -198,7 +198,7 @@ command_sub_is_final = refl
 at_in_a_line_of_names : listed (codes "load @1=x") ≡ Ok (only ((codes "load", record { ends = false; sets = (Variable (codes "@1"), codes "x") ∷ [] }) ∷ []))
 at_in_a_line_of_names = refl
 
--- and one that was refused without being a `sub` line is refused
+-- and a line that was refused then and is not a `sub` line is refused
 sub_without_word : listed (codes "sub part") ≡ Err (BadLine 1)
 sub_without_word = refl
 
@@ -208,7 +208,7 @@ sub_word_with_equals = refl
 sub_built_in : listed (codes "sub echo x") ≡ Err (BuiltIn 1)
 sub_built_in = refl
 
--- lines of one call are joined, beside those of other calls and of the name
+-- lines of one call are joined, apart from the lines of other calls and of the name
 sub_lines_joined : listed (codes "sub part list a=1\npart\nfinal sub part list b=2\nsub part uuid")
     ≡ Ok (record {
       commands = (codes "part", quiet) ∷ [];
@@ -245,7 +245,7 @@ command_known = refl
 command_known_sets : listed (codes "known env=1") ≡ Ok (only ((codes "known", record { ends = false; sets = (Variable (codes "env"), codes "1") ∷ [] }) ∷ []))
 command_known_sets = refl
 
--- ---- which lines a call goes by
+-- ---- which lines decide for a call
 
 abbrev parts : Devices
 parts = record { commands = (codes "part", quiet) ∷ []; subs = (codes "part", (codes "list", final) ∷ []) ∷ (codes "mmc", (codes "dev", final) ∷ []) ∷ []; known = [] }
@@ -267,6 +267,6 @@ by_no_line = refl
 sets_the_last_word : sets_in (codes "list" ∷ codes "mmc" ∷ codes "v" ∷ []) ((LastWord, codes "1") ∷ (WordAt 0, codes "2") ∷ (Variable (codes "a"), []) ∷ []) ≡ (codes "v", codes "1") ∷ (codes "list", codes "2") ∷ (codes "a", []) ∷ []
 sets_the_last_word = refl
 
--- a word that the call does not have, or that is no name of a variable
+-- a word that the call does not have, or that is not the name of a variable
 sets_nothing : sets_in (codes "-v" ∷ codes "a=b" ∷ [] ∷ []) ((LastWord, codes "1") ∷ (WordAt 0, codes "2") ∷ (WordAt 1, codes "3") ∷ (WordAt 9, codes "4") ∷ []) ≡ []
 sets_nothing = refl

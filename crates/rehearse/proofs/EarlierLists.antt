@@ -67,7 +67,7 @@ settings-same (word ∷ words) =
 
 -- ---- a line
 
--- a setting by the place of its `=`, and the settings behind it
+-- a setting by the place of its `=`, and the settings after it
 abbrev setting_at : Text → Option ℕ → Option (Text × Text)
 setting_at word None = None
 setting_at word (Some at) = cond (is_variable (take at word)) (Some (take at word, drop (at + 1) word)) None
@@ -91,7 +91,7 @@ module _ (number : ℕ) (e : Text × EarlierEffect) where
           let same : (name, record { ends = ends; sets = sets }) ≡ e = accepted-same (sym g ∙ f) in
           rw is (ap (λ x. let r : Result DeviceLine DevicesError = Ok (now_line x) in r) same)
 
-  -- a word without `=` is no setting
+  -- a word without `=` is not a setting
   no_setting : (second : Text) (words : List Text) (ends : Bool) (name : Text) → list_any is_equals second ≡ false → earlier_with number ends name (earlier_settings (second ∷ words)) ≡ Ok e → ⊥
   no_setting second words ends name none h =
       let gone : position is_equals second ≡ None = not_found is_equals second none in

@@ -88,7 +88,7 @@ exit_of_odd_words : map told (codes "exit -5 6; echo $?" ∷ codes "exit +5; ech
 unfolding told_of
 exit_of_odd_words = refl
 
--- a first word that only begins with `-n` is written
+-- a first word that only starts with `-n` is written
 echo_of_a_word_behind_n : map told (codes "echo -nx" ∷ codes "echo -nx a" ∷ codes "echo -nn; echo $?" ∷ []) ≡ (codes "-nx\n", End 0) ∷ (codes "-nx a\n", End 0) ∷ (codes "-nn\n0\n", End 0) ∷ []
 unfolding told_of
 echo_of_a_word_behind_n = refl
@@ -101,7 +101,8 @@ syntax_of_a_name_with_a_space : listed (bootcmd_among (limits only_load 0 10000)
 unfolding listed
 syntax_of_a_name_with_a_space = refl
 
--- every name of a listing is written as a word: of a command, of a text, of a variable that is set and of one that is not
+-- every name in a listing is written as a word: of a command, of a text, of a variable that is set, and of one that is
+-- not
 abbrev odd : Text
 odd = codes "a b\\" ++ 10 ∷ 255 ∷ []
 
@@ -180,27 +181,27 @@ exit_of_a_text_in_loops : told_with ((codes "t", codes "for j in 1 2; do while t
 unfolding told_of
 exit_of_a_text_in_loops = refl
 
--- a final command behind a bound is cut, a final one in a `for` inside `run` ends all
+-- a final command after a bound is cut; a final command in a `for` inside `run` ends everything
 boot_in_a_for_in_a_text : listed (bootcmd_among (limits going 1 10000) ((codes "bootcmd", codes "run t t") ∷ (codes "t", codes "for i in 1 2; do go $i; done") ∷ []) (codes "run t t")) z None ≡ codes "run 0\ndev 0 go 1\nunset z\nbooted go\nrun 1\ndev 1 go 1\nunset z\ncut devices\ndone\n"
 unfolding listed
 boot_in_a_for_in_a_text = refl
 
--- setting values are not expanded, `$` stays; no step
+-- the values of settings are not expanded, so `$` stays; a setting is no step
 settings_are_not_expanded : listed (bootcmd (limits (loads_a (codes "$x;")) 1 2) (codes "load; echo $a")) (codes "a" ∷ []) None ≡ codes "run 0\ndev 0 load\ntext $x;\\n\nvar a=$x;\nend 0\nrun 1\ndev 1 load\ntext \\n\nunset a\nend 0\ndone\n"
 unfolding listed
 settings_are_not_expanded = refl
 
--- `elif` chains: status seen by else body; while in cond
+-- `elif` chains: the status that the `else` body sees; `while` in a condition
 statuses_of_conditions : map told (codes "if false; then true; else echo $?; fi" ∷ codes "if while false; do true; done; then echo $?; fi" ∷ codes "while if test $x; then true; fi; do echo l; exit 2; done" ∷ codes "for i in a; do false; done || echo or" ∷ codes "until true; do false; done && echo and" ∷ []) ≡ (codes "1\n", End 0) ∷ (codes "0\n", End 0) ∷ (codes "l\n", End 2) ∷ (codes "or\n", End 0) ∷ (codes "and\n", End 0) ∷ []
 unfolding told_of
 statuses_of_conditions = refl
 
--- `run` reads the environment alone; `run ''`; `run` with a name made by expansion
+-- `run` reads only the environment; `run ''`; `run` with a name made by expansion
 run_reads_the_environment_alone : map told (codes "t='echo x'; run t; echo $?" ∷ codes "run ''; echo $?" ∷ codes "setenv t echo x; n=t; run $n $n" ∷ codes "setenv t 'echo $?'; false; run t; true || run t" ∷ []) ≡ (codes "1\n", End 0) ∷ (codes "1\n", End 0) ∷ (codes "x\nx\n", End 0) ∷ (codes "1\n", End 0) ∷ []
 unfolding told_of
 run_reads_the_environment_alone = refl
 
--- setenv: names with unusual bytes, a dash inside, deletion inside loops over fields
+-- `setenv`: names with unusual bytes, a dash inside a name, deletion inside loops over fields
 setenv_of_odd_names : told (codes "setenv a-b 1; echo $?; setenv - 1; echo $?; setenv = ; echo $?; setenv 'x=' ; echo $?; setenv ''; echo $?") ≡ (codes "0\n1\n1\n1\n1\n", End 0)
 unfolding told_of
 setenv_of_odd_names = refl

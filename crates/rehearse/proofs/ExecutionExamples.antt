@@ -4,12 +4,12 @@ use Rattle.rehearse.specs.State.{Text, Variables}
 use Rattle.rehearse.specs.Execution.{End, CutSteps, Unknown, Syntax, Size}
 use Rattle.rehearse.proofs.Rehearsed.{only_load, limits, bootcmd, bootcmd_among, listed, Told, told_of, told, told_with, told_within, write, letters}
 
--- `&&` and `||` have one rank, and what is skipped leaves the status
+-- `&&` and `||` have the same rank, and a skipped command leaves the status as it is
 joined_commands : map told (codes "true || echo a && echo b" ∷ codes "false && echo a || echo b" ∷ codes "false && echo a; echo $?" ∷ codes "false || false || echo a" ∷ []) ≡ write (codes "b\n" ∷ codes "b\n" ∷ codes "1\n" ∷ codes "a\n" ∷ [])
 unfolding told_of
 joined_commands = refl
 
--- the first condition that holds decides; where no block is run, the status is 0
+-- the first condition that holds decides; if no block is run, the status is 0
 conditions : map told (codes "if false; then echo a; fi; echo $?" ∷ codes "if false; then echo a; elif false; then echo b; fi; echo $?" ∷ codes "if true; then echo a; elif true; then echo b; else echo c; fi" ∷ codes "if false; then echo a; else echo c; fi" ∷ codes "if true; then false; fi; echo $?" ∷ codes "if false; true; then echo a; fi" ∷ []) ≡ write (codes "0\n" ∷ codes "0\n" ∷ codes "a\n" ∷ codes "c\n" ∷ codes "1\n" ∷ codes "a\n" ∷ [])
 unfolding told_of
 conditions = refl
@@ -29,7 +29,7 @@ status_in_a_for : told (codes "false; for i in a; do echo $?; done") ≡ (codes 
 unfolding told_of
 status_in_a_for = refl
 
--- its variable is one of the shell, and so is that of an assignment: neither is listed
+-- its variable is a shell variable, and so is the one of an assignment: neither is listed
 shell_variables : listed (bootcmd (limits only_load 0 10000) (codes "for i in a; do echo $i; done; x=1")) (codes "i" ∷ codes "x" ∷ []) None ≡ codes "run .\ntext a\\n\nunset i\nunset x\nend 0\ndone\n"
 unfolding listed
 shell_variables = refl
@@ -59,12 +59,13 @@ setenv_names : map told (codes "setenv; echo $?" ∷ codes "setenv '' a; echo $?
 unfolding told_of
 setenv_names = refl
 
--- every variable is listed in byte order of the names, an empty one too and one set twice once, and a deleted one is not
+-- all variables are listed in byte order of the names, an empty one too; one set twice is listed once, and a deleted
+-- one is not
 variables_in_order : listed (bootcmd_among (limits only_load 0 10000) ((codes "b", codes "0") ∷ []) (codes "setenv c 1; setenv a 1; setenv B ''; setenv b; setenv aa 3; setenv a 2")) [] None ≡ codes "run .\nvar B=\nvar a=2\nvar aa=3\nvar c=1\nend 0\ndone\n"
 unfolding listed
 variables_in_order = refl
 
--- `run`: no name, one that is not set, texts that end with another status, and texts without a command
+-- `run`: no name, a name that is not set, texts that end with another status, and texts without a command
 abbrev texts : Variables
 texts = (codes "c", codes "# a comment") ∷ (codes "e", []) ∷ (codes "f", codes "echo f; false") ∷ (codes "s", codes "setenv s echo b; echo a; run s") ∷ (codes "t", codes "echo t") ∷ (codes "x", codes "exit; echo x") ∷ []
 
@@ -72,7 +73,7 @@ run_texts : map (told_with texts) (codes "run; echo $?" ∷ codes "run u t; echo
 unfolding told_of
 run_texts = refl
 
--- a text that is no script is read, and stops the run, only when its turn comes
+-- a text that is not a script is read, and stops the run, only when its turn comes
 stopped_in_run : map (told_with ((codes "a b", codes "fi") ∷ (codes "f", codes "false") ∷ (codes "t", codes "echo t") ∷ [])) (codes "run t 'a b' t" ∷ codes "run f 'a b'" ∷ []) ≡ (codes "t\n", Syntax (codes "a b")) ∷ ([], End 1) ∷ []
 unfolding told_of
 stopped_in_run = refl
@@ -82,7 +83,7 @@ echoes : map told (codes "echo" ∷ codes "echo -n" ∷ codes "echo -n a  b; ech
 unfolding told_of
 echoes = refl
 
--- without a newline too its status is 0
+-- without a newline its status is 0 too
 status_of_echo : told (codes "false; echo -n a; echo $?") ≡ (codes "a0\n", End 0)
 unfolding told_of
 status_of_echo = refl
@@ -92,23 +93,23 @@ exits : map told (codes "exit; echo a" ∷ codes "exit 7; echo a" ∷ codes "exi
 unfolding told_of
 exits = refl
 
--- `true` and `false` do not look at further words; `test -e` asks only with exactly four words
+-- `true` and `false` ignore further words; `test -e` asks only with exactly four words
 other_commands : map told (codes "true a; echo $?" ∷ codes "false a; echo $?" ∷ codes "test; echo $?" ∷ codes "test -e a; echo $?" ∷ codes "test -e a b c d; echo $?" ∷ codes "test a = b c; echo $?" ∷ []) ≡ write (codes "0\n" ∷ codes "1\n" ∷ codes "1\n" ∷ codes "1\n" ∷ codes "1\n" ∷ codes "1\n" ∷ [])
 unfolding told_of
 other_commands = refl
 
--- four words of which the first only begins like `-e` ask no device
+-- four words the first of which only starts like `-e` ask no device
 test_without_a_device : told (codes "test -eq a b c; echo $?") ≡ (codes "1\n", End 0)
 unfolding told_of
 test_without_a_device = refl
 
--- a name that is neither built in nor listed ends the run, whatever its words, before or behind other commands
+-- a name that is neither built in nor listed ends the run, whatever its words are, before or after other commands
 unknown_names : map told (codes "echo a; 'a b' c; echo d" ∷ codes "''" ∷ codes "loads" ∷ []) ≡ (codes "a\n", Unknown (codes "a b")) ∷ ([], Unknown []) ∷ ([], Unknown (codes "loads")) ∷ []
 unfolding told_of
 unknown_names = refl
 
--- 65,536 bytes of words are not too many, and one byte more is: of a command with its name, of a `for` the words behind
--- `in`, of an assignment the value
+-- 65,536 bytes of words are not too many, and one byte more is: for a command with its name, for a `for` the words
+-- after `in`, for an assignment the value
 abbrev with_letters : ℕ → Text → Told
 with_letters n text = told_with ((codes "l", letters n) ∷ []) text
 

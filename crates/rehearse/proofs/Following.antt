@@ -7,7 +7,7 @@ use Rattle.rehearse.specs.Outcomes.{OutcomeWord, Outcome, Success, Failure, Run,
 use Rattle.rehearse.proofs.OrderOfWords.{AreOrdered, Before, few_ordered}
 use Rattle.rehearse.proofs.Choice.{Kinds, few_within, next_run, IsFollowed, followed_by, begins_with_first}
 
--- u is none of the words
+-- u is not one of the words
 abbrev pub Absent : OutcomeWord → List OutcomeWord → Type 0
 Absent u [] = ⊤
 Absent u (v ∷ vs) = (word_eq u v ≡ false) × Absent u vs
@@ -40,7 +40,7 @@ AreOrdered-AreDistinct : (ws : List OutcomeWord) → AreOrdered ws → AreDistin
 AreOrdered-AreDistinct [] h = tt
 AreOrdered-AreDistinct (w ∷ ws) h = (Before-Absent w ws h.0, AreOrdered-AreDistinct ws h.1)
 
--- no run stands twice
+-- no run is in the list twice
 pub runs_distinct : (most : Option ℕ) (kind : Kinds) (n : ℕ) → AreDistinct (few_within most kind n)
 runs_distinct most kind n = AreOrdered-AreDistinct (few_within most kind n) (few_ordered most kind n)
 
@@ -52,7 +52,7 @@ pub after_at : (u : OutcomeWord) (a b : List OutcomeWord) → AreDistinct (a ++ 
 after_at u [] b h = let e = word_eq-same u in rw e refl
 after_at u (v ∷ a) b h = let e = Absent_at v u a b h.0 in rw e (after_at u a b h.1)
 
--- the same, where the list is known by an equation
+-- the same, if the list is known by an equation
 pub after_in : (u : OutcomeWord) (ws a b : List OutcomeWord) → ws ≡ a ++ u ∷ b → AreDistinct ws → after u ws ≡ b
 after_in u ws a b e h = subst (λ (vs : List OutcomeWord). after u vs ≡ b) (sym e) (after_at u a b (subst AreDistinct e h))
 
@@ -65,7 +65,7 @@ pub after_ends : (w : OutcomeWord) (ws : List OutcomeWord) → (front : List Out
 after_ends w [] = ([], refl)
 after_ends w (v ∷ vs) = after_front (word_eq v w) v vs (after w vs) (after_ends w vs)
 
--- the first run stands first
+-- the first run comes first
 pub runs_begin : (most : Option ℕ) (kind : Kinds) (n : ℕ) → IsChoice n kind → few_within most kind n ≡ first_run kind n ∷ after (first_run kind n) (few_within most kind n)
 runs_begin most kind n c =
     let t = begins_with_first most kind n c in
@@ -78,7 +78,7 @@ none_follows most kind n c u r few e =
     let f = subst (λ (t : Option OutcomeWord). IsFollowed u (option_map (first_from kind n) t) (few_within most kind n)) e (followed_by most kind n c u r few) in
     after_in u (few_within most kind n) f.0 [] f.1 (runs_distinct most kind n)
 
--- the run after u is the first that begins with u cut after its last success that may fail, which became a failure
+-- the run after u is the first run that starts with u cut after its last success that may fail, which became a failure
 pub follows : (most : Option ℕ) (kind : Kinds) (n : ℕ) → IsChoice n kind → (u p : OutcomeWord) → kind u ≡ Run → is_within most u ≡ true → turned most u ≡ Some p → after u (few_within most kind n) ≡ first_from kind n p ∷ after (first_from kind n p) (few_within most kind n)
 follows most kind n c u p r few e =
     let v = first_from kind n p in
@@ -144,11 +144,11 @@ stands_of : (u : OutcomeWord) (t : Option OutcomeWord) (ws : List OutcomeWord) �
 stands_of u None ws f d = (f.0, f.1 ∙ ap (λ (b : List OutcomeWord). f.0 ++ u ∷ b) (sym (after_in u ws f.0 [] f.1 d)))
 stands_of u (Some v) ws f d = (f.0, f.2 ∙ ap (λ (b : List OutcomeWord). f.0 ++ u ∷ b) (sym (after_in u ws f.0 (v ∷ f.1) f.2 d)))
 
--- each run stands in the list, before what follows it
+-- each run is in the list, before what follows it
 pub run_stands : (most : Option ℕ) (kind : Kinds) (n : ℕ) → IsChoice n kind → (u : OutcomeWord) → kind u ≡ Run → is_within most u ≡ true → (front : List OutcomeWord) × (few_within most kind n ≡ front ++ u ∷ after u (few_within most kind n))
 run_stands most kind n c u r few = stands_of u (next_run most kind n u) (few_within most kind n) (followed_by most kind n c u r few) (runs_distinct most kind n)
 
--- two runs part where an outcome is asked for
+-- two runs differ first at an outcome that is asked for
 pub part_where_asked : (kind : Kinds) (n : ℕ) → IsChoice n kind → (u v : OutcomeWord) → kind u ≡ Run → kind v ≡ Run → u ≢ v → kind (common_prefix u v) ≡ Short
 part_where_asked kind zero c [] [] r q ne = absurd (ne refl)
 part_where_asked kind zero c [] (d ∷ v) r q ne = absurd (let e = c.1 d v in cc)

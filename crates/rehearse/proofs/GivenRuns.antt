@@ -1,4 +1,4 @@
--- Runs where it is given what a command does that is not built in.
+-- Runs by a definition that is given what a command does that is not built in.
 use Rattle.std.proofs.Common.{◌≡◌, ℕ, zero, suc, nat_eq, true, false, cond, List, [], ◌∷◌, Option, Some, None, refl, ap, ◌∙◌}
 use Rattle.hushlang.specs.Tree as tree
 use Rattle.hushlang.specs.Tree.{Script, AndOr, Joined, Command, Arms}

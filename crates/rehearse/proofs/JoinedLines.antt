@@ -45,7 +45,7 @@ lookup-changed_other change (d ∷ es) key name e =
       | inr other ↦ rw other (ap (λ o. cond (bytes_eq name d.0) (Some d.1) o) (lookup-changed_other change es key name e))
     ]
 
--- ---- a list after one line more
+-- ---- a list after one more line
 
 sub-same : (o : Option Effects) (v u : Text) (more : Effect) → bytes_eq u v ≡ true → in_sub (Some (joined_behind v more o)) u ≡ Some (joint_behind more (in_sub o u))
 sub-same None v u more w = rw w refl
@@ -126,7 +126,7 @@ IsWhole-known : (devices : Devices) (before : List DeviceLine) (added : Text) �
 IsWhole-known devices before added h name None = h name None
 IsWhole-known devices before added h name (Some word) = h name (Some word)
 
--- one line more
+-- one more line
 IsWhole-words : (devices next : Devices) (before : List DeviceLine) (number : ℕ) (line : Text) (words : List Text) → after_words devices number line words ≡ Ok next
     → IsWhole devices before → IsWhole next (before ++ with_said (line_said number words) [])
 IsWhole-words devices next before number line [] e h = IsWhole-kept devices next before (ok-same e) h

@@ -12,11 +12,11 @@ use Rattle.rehearse.specs.Commands.{Called, ChangesVariables, WritesText, RunsTe
 use Rattle.rehearse.specs.Execution.{Limits, Answer, Normal, Exit, Ended, Dry, Ending, CutDevices, CutSteps, Unknown, Syntax, Size, go_on, remember, set_status, set_local, status_when, goes, holds, begin, take_outcome, device, Request, no_effect, logged, set_environment, boot, text_end, run_text, run_all, command, simple, sized, assign, turns, for_each, exec_script, exec_list, exec_joined, exec_command, exec_arms, exec, succeeds}
 use Rattle.rehearse.specs.Runs.{state_of}
 
--- the state with these outcomes behind its own
+-- the state with these outcomes after its own
 abbrev pub more : OutcomeWord → State → State
 more x s = record s { word = s.word ++ x }
 
--- the outcomes that stand in a log
+-- the outcomes in a log
 abbrev pub answers : List LoggedCommand → List Bool
 answers log = map (λ e. e.success) log
 
@@ -34,14 +34,14 @@ Track bound s (Exit t) = GoesTo s t
 Track bound s (Ended ending t) = GoesTo s t
 Track bound s (Dry t) = GoesTo s t × (t.word ≡ []) × (length t.log < bound)
 
--- what an answer becomes where x stands behind the word: no fewer steps are begun
+-- what an answer becomes if x is added after the word: no fewer steps are begun
 abbrev pub Extends : OutcomeWord → Answer → Answer → Type 0
 Extends x (Normal t) b = b ≡ Normal (more x t)
 Extends x (Exit t) b = b ≡ Exit (more x t)
 Extends x (Ended ending t) b = b ≡ Ended ending (more x t)
 Extends x (Dry t) b = (x ≢ [] → length (state_of b).word < length x) × (t.steps ≤ (state_of b).steps)
 
--- what holds of a part of a script at a state
+-- what holds for a part of a script at a state
 abbrev pub Keeps : ℕ → State → (State → Answer) → Type 0
 Keeps bound s f = Track bound s (f s) × ((x : OutcomeWord) → Extends x (f s) (f (more x s)))
 
@@ -69,7 +69,7 @@ Track-after bound s t (Exit u) g h = GoesTo-trans s t u g h
 Track-after bound s t (Ended ending u) g h = GoesTo-trans s t u g h
 Track-after bound s t (Dry u) g h = (GoesTo-trans s t u g h.0, h.1, h.2)
 
--- nothing gives outcomes back
+-- no outcome is given back
 pub no_more : (s t : State) → GoesTo s t → length t.word ≤ length s.word
 no_more s t g = let e = ap length g.word in let k = length-append g.taken t.word in omega arith
 
@@ -221,7 +221,7 @@ module _ (limits : Limits) where
       (Keeps-remember limits.device_bound s (λ m. (set_local pair.0 value (record s { memory = m })).memory) (assign pairs) (Keeps-assign pairs (set_local pair.0 value s)))
       (Keeps-ended limits.device_bound s Size)
 
-  -- a `run`, where each script keeps it
+  -- a `run`, if each script keeps it
   module _ (script : Script → State → Answer) (kept : (a : Script) → KeepsAll (script a)) where
     pub Keeps-tree : (found : Option Script) (name : Text) (s : State) → Keeps limits.device_bound s (λ t. elim found [ None ↦ Ended (Syntax name) t | Some a ↦ script a (elim a [ tree.Empty ↦ set_status 0 t | tree.Runs l ls ↦ t ]) ])
     Keeps-tree None name s = Keeps-ended limits.device_bound s (Syntax name)

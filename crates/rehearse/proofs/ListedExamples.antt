@@ -14,7 +14,7 @@ devices_in (Err fault) = only []
 abbrev with_list : Text → Limits
 with_list text = limits (devices_in (devices_listed text)) 16 10000
 
--- the environment variable is set on success alone, and a boot ends the run
+-- the environment variable is set only on success, and a boot ends the run
 sets_and_boots : listed (bootcmd (with_list (codes "load filesize=1000\nfinal bootm\n")) (codes "load && bootm; echo no")) (codes "filesize" ∷ []) None ≡ codes "run 00\ndev 0 load\ndev 0 bootm\nvar filesize=1000\nbooted bootm\nrun 01\ndev 0 load\ndev 1 bootm\ntext no\\n\nvar filesize=1000\nend 0\nrun 1\ndev 1 load\ntext no\\n\nunset filesize\nend 0\ndone\n"
 unfolding listed_along ends_along
 sets_and_boots = along 2 _ _ _ _ refl refl
@@ -29,12 +29,12 @@ sets_over_shell : listed (bootcmd (with_list (codes "load v=e")) (codes "v=s; lo
 unfolding listed_along ends_along
 sets_over_shell = along 1 _ _ _ _ refl refl
 
--- lines of one name are joined: final where one of them is, settings in their order
+-- lines of one name are joined: final if one of them is, settings in their order
 lines_joined : listed (bootcmd (with_list (codes "load a=1\nfinal load\nload a=2\n")) (codes "load; echo no")) (codes "a" ∷ []) None ≡ codes "run 0\ndev 0 load\nvar a=2\nbooted load\nrun 1\ndev 1 load\ntext no\\n\nunset a\nend 0\ndone\n"
 unfolding listed_along ends_along
 lines_joined = along 1 _ _ _ _ refl refl
 
--- a list of names alone
+-- a list that has only names
 names_alone : listed (bootcmd (with_list (codes "# d\nload\n\nmmc\n")) (codes "mmc || load")) z None ≡ codes "run 0\ndev 0 mmc\nunset z\nend 0\nrun 10\ndev 1 mmc\ndev 0 load\nunset z\nend 0\nrun 11\ndev 1 mmc\ndev 1 load\nunset z\nend 1\ndone\n"
 unfolding listed_along ends_along
 names_alone = along 2 _ _ _ _ refl refl

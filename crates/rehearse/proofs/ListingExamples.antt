@@ -10,7 +10,7 @@ use Rattle.rehearse.specs.Execution.{Limits}
 use Rattle.rehearse.specs.Runs.{Task, task_of, run_on, state_of, kind, runs, work}
 use Rattle.rehearse.proofs.Rehearsed.{only_load, limits, bootcmd, bootcmd_among, z, listed, listed_after, works, times, ends_along, ends_behind, listed_along, listed_behind, works_along, along, behind, working}
 
--- `load` alone is listed, and both bounds are the usual ones
+-- only `load` is listed, and both bounds are the usual ones
 abbrev usual : Limits
 usual = limits only_load 16 10000
 
@@ -32,12 +32,12 @@ two_attempts_listed : listed (two_attempts 16) [] None ≡ first_record ++ (seco
 unfolding listed_along ends_along
 two_attempts_listed = along 2 _ _ _ _ refl refl
 
--- the same with less room for device commands, where all words are tried
+-- the same with less room for device commands, so that all words can be tried
 two_attempts_of_five : listed (two_attempts 5) [] None ≡ first_record ++ (second_record ++ (third_record ++ codes "done\n"))
 unfolding listed
 two_attempts_of_five = refl
 
--- a word that is too short, a run, and one that is too long, where 16 device commands may be asked
+-- a word that is too short, a run, and one that is too long, when 16 device commands may be asked
 two_attempts_kinds : map (kind (two_attempts 16)) ((Failure ∷ []) ∷ (Failure ∷ Success ∷ []) ∷ (Failure ∷ Success ∷ Success ∷ []) ∷ []) ≡ Short ∷ Run ∷ Long ∷ []
 unfolding tree_of fields joined atoms digits
 two_attempts_kinds = refl
@@ -47,12 +47,12 @@ two_attempts_work : works (two_attempts 16) (0 ∷ 1 ∷ 2 ∷ 3 ∷ []) ≡ 0 �
 unfolding works_along ends_along
 two_attempts_work = working 2 _ _ _ refl refl
 
--- and of those behind the second
+-- and of the runs after the second
 two_attempts_work_after : work (two_attempts 16) ((Failure ∷ Success ∷ []) ∷ []) ∷ work (two_attempts 16) ((Failure ∷ Success ∷ []) ∷ (Failure ∷ Failure ∷ []) ∷ []) ∷ [] ≡ 3 ∷ 4 ∷ []
 unfolding tree_of fields joined atoms digits
 two_attempts_work_after = refl
 
--- the runs behind the second, and behind the last
+-- the runs after the second, and after the last
 behind_the_second : listed_after (two_attempts 16) (Failure ∷ Success ∷ []) [] None ≡ third_record ++ codes "done\n"
 unfolding listed_behind ends_behind
 behind_the_second = behind 1 _ _ _ _ _ refl refl
@@ -79,7 +79,7 @@ third_page : listed_after (two_attempts 16) (Failure ∷ Success ∷ []) [] (Som
 unfolding listed_behind ends_behind
 third_page = behind 1 _ _ _ _ _ refl refl
 
--- words that are no runs: too short, and the empty one
+-- words that are not runs: too short, and the empty one
 no_runs : map (kind (two_attempts 16)) ((Failure ∷ []) ∷ [] ∷ []) ≡ Short ∷ Short ∷ []
 unfolding tree_of fields joined atoms digits
 no_runs = refl
@@ -184,7 +184,7 @@ shell_variable : listed (bootcmd usual (codes "x=1; load && setenv a $x; echo \"
 unfolding listed_along ends_along
 shell_variable = along 1 _ _ _ _ refl refl
 
--- an `exit` ends the text of its variable alone
+-- an `exit` ends only the text of its variable
 abbrev run_with_exit : Task
 run_with_exit = bootcmd_among usual ((codes "bootcmd", codes "run t; echo $?") ∷ (codes "t", codes "load; exit 3; load") ∷ []) (codes "run t; echo $?")
 
@@ -253,12 +253,12 @@ no_script : listed (bootcmd usual (codes "if true; then")) z None ≡ codes "run
 unfolding listed_along ends_along
 no_script = along 0 _ _ _ _ refl refl
 
--- a value that is doubled until a command's words are too many bytes
+-- a value that is doubled until the words of a command have too many bytes
 doubled_until_too_large : listed (bootcmd usual (codes "setenv a 0123456789abcdef; while true; do setenv a $a$a; done")) z None ≡ codes "run .\nunset z\nstop size\ndone\n"
 unfolding listed_along ends_along
 doubled_until_too_large = along 0 (bootcmd usual (codes "setenv a 0123456789abcdef; while true; do setenv a $a$a; done")) z None _ refl refl
 
--- and how long it then is
+-- and its length then
 doubled_length : option_map length (get (state_of (run_on (bootcmd usual (codes "setenv a 0123456789abcdef; while true; do setenv a $a$a; done")) [])).memory.environment (codes "a")) ≡ Some 32768
 unfolding tree_of fields joined atoms digits
 doubled_length = refl
@@ -269,7 +269,7 @@ doubled_in_assignment = along 0 (bootcmd usual (codes "x=0123456789abcdef; while
 
 -- ---- many runs
 
--- what stands before the first device command is begun once, however many runs there are
+-- what comes before the first device command is begun once, however many runs there are
 abbrev seven_loads : Task
 seven_loads = bootcmd (limits only_load 7 10000) (times 10 (codes "true; ") ++ codes "load; load; load; load; load; load; load")
 

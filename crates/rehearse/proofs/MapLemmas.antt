@@ -48,7 +48,7 @@ module _ {V S : Type 0} (shown : V → S) where
   pub looked_up : (es : List (Bytes × V)) (name : Text) (found : Option V) → lookup (is_key name) es ≡ found → lookup (bytes_eq name) (table es) ≡ option_map shown found
   looked_up es name found e = lookup-table es name ∙ ap (option_map shown) e
 
-  -- a change at a name that is there
+  -- a change at a name that exists
   pub changed-present : (change : Option S → S) (es : List (Bytes × V)) (name : Text) (l w : V) → lookup (is_key name) es ≡ Some l → shown w ≡ change (Some (shown l))
       → table (set_value (is_key name) es w) ≡ changed_at change (table es) name
   changed-present change [] name l w there e = cc
@@ -60,7 +60,7 @@ module _ {V S : Type 0} (shown : V → S) where
       by true found rest = let same : d.1 ≡ l = cc in ap (λ f. (d.0.items, f) ∷ table es) (e ∙ ap (λ x. change (Some (shown x))) (sym same))
       by false found rest = ap (λ ds. (d.0.items, shown d.1) ∷ ds) (rest found e)
 
-  -- and at one that is new
+  -- and a change at a name that is new
   pub changed-absent : (change : Option S → S) (es : List (Bytes × V)) (k : Bytes) (w : V) → lookup (is_key k.items) es ≡ None → shown w ≡ change None
       → table (insert_entry same_key es k w) ≡ changed_at change (table es) k.items
   changed-absent change [] k w none e = ap (λ f. (k.items, f) ∷ []) e
@@ -78,7 +78,7 @@ module _ {V S : Type 0} (shown : V → S) where
       let absent : lookup (is_key k.items) es ≡ None = ap (λ n. lookup (is_key n) es) key ∙ sym none in
       ap table inserted ∙ (changed-absent change es k w absent e ∙ ap (changed_at change (table es)) key)
 
--- one line more for what is listed
+-- one more line for what is listed
 pub listed-joined : (l w more : Listed) → w.ends ≡ (l.ends || more.ends) → w.sets.items ≡ l.sets.items ++ more.sets.items → listed_shown w ≡ joint (listed_shown l) (listed_shown more)
 listed-joined l w more ends sets =
     let shown : map setting_shown w.sets.items ≡ map setting_shown l.sets.items ++ map setting_shown more.sets.items = ap (map setting_shown) sets ∙ map-append setting_shown l.sets.items more.sets.items in cc

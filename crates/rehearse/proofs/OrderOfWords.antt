@@ -1,4 +1,4 @@
--- The runs stand in dictionary order.
+-- The runs are in dictionary order.
 use Rattle.std.proofs.Common.{◌≡◌, ℕ, zero, suc, Bool, true, false, cond, List, [], ◌∷◌, ◌++◌, map, filter, Option, refl, sym, ◌∙◌, subst}
 use Rattle.rehearse.specs.Outcomes.{OutcomeWord, Outcome, Success, Failure, words, comes_before, is_run_kind, is_within, runs_within}
 use Rattle.rehearse.specs.Runs.{Task, kind, all_runs, runs}
@@ -9,7 +9,7 @@ abbrev pub Before : OutcomeWord → List OutcomeWord → Type 0
 Before u [] = Unit {0}
 Before u (v ∷ vs) = (comes_before u v ≡ true) × Before u vs
 
--- each comes before those behind it
+-- each word comes before the words after it
 abbrev pub AreOrdered : List OutcomeWord → Type 0
 AreOrdered [] = Unit {0}
 AreOrdered (w ∷ ws) = Before w ws × AreOrdered ws

@@ -10,7 +10,7 @@ use Rattle.rehearse.specs.Runs.{Task, kind, runs, rest}
 use Rattle.rehearse.proofs.Following.{AreDistinct, after_in, after_ends}
 use Rattle.rehearse.proofs.TaskChoices.{task_distinct}
 
--- the first k words, of which the last is known
+-- the first k words, the last of which is known
 taken_last : (k : ℕ) (w : OutcomeWord) (ws : List OutcomeWord) → 0 < k → k ≤ length ws → (c : List OutcomeWord) × (take k ws ≡ c ++ last_of w (take k ws) ∷ [])
 taken_last zero w ws h l = absurd (omega arith)
 taken_last (suc k) w [] h l = absurd (omega arith)
@@ -18,7 +18,7 @@ taken_last (suc zero) w (v ∷ ws) h l = ([], refl)
 taken_last (suc (suc k)) w (v ∷ []) h l = absurd (omega arith)
 taken_last (suc (suc k)) w (v ∷ x ∷ ws) h l = let ih = taken_last (suc k) v (x ∷ ws) (omega arith) (omega arith) in (v ∷ ih.0, ap (λ (us : List OutcomeWord). v ∷ us) ih.1)
 
--- what follows the last word of a page in all of them
+-- what follows the last word of a page in the whole list
 pub after_page : (all front ws : List OutcomeWord) (k : ℕ) → AreDistinct all → all ≡ front ++ ws → 0 < k → k ≤ length ws → after (last_of [] (take k ws)) all ≡ drop k ws
 after_page all front ws k d e h l =
     let t = taken_last k [] ws h l in
@@ -27,7 +27,7 @@ after_page all front ws k d e h l =
     let two : all ≡ (front ++ t.0) ++ w ∷ drop k ws = e ∙ ap (λ (us : List OutcomeWord). front ++ us) one ∙ simp append_assoc in
     after_in w all (front ++ t.0) (drop k ws) two d
 
--- a page that ends in `more`, less that line, and the listing of what follows its word, are the listing
+-- a page that ends with `more`, without that line, and the listing of what follows its word are together the listing
 pub pages_join : (written : OutcomeWord → Text) (all front ws : List OutcomeWord) (limit : ℕ) → AreDistinct all → all ≡ front ++ ws → 0 < limit → limit < length ws → flat_map written (take limit ws) ++ listing written (after (last_of [] (take limit ws)) all) None ≡ listing written ws None
 pages_join written all front ws limit d e h l =
     let a = after_page all front ws limit d e h (omega arith) in
@@ -76,7 +76,7 @@ space_in : (a y : Text) → NoSpace (a ++ 32 ∷ y) → ⊥
 space_in [] y h = h.0 refl
 space_in (b ∷ a) y h = space_in a y h.1
 
--- what stands before the last space, and after it
+-- what is before the last space, and what is after it
 split_space : (a b x y : Text) → NoSpace x → NoSpace y → a ++ 32 ∷ x ≡ b ++ 32 ∷ y → (a ≡ b) × (x ≡ y)
 split_space [] [] x y h k e = (refl, (let f = e in cc))
 split_space [] (c ∷ b) x y h k e = absurd (space_in b y (subst NoSpace (let f = e in cc) h))
@@ -108,7 +108,7 @@ spelled_same (Success ∷ u) [] e = absurd (apart 48 46 _ _ (λ k. omega arith) 
 spelled_same (Failure ∷ u) [] e = absurd (apart 49 46 _ _ (λ k. omega arith) e)
 spelled_same (c ∷ u) (d ∷ v) e = digits_same (c ∷ u) (d ∷ v) e
 
--- texts that end in a line end alike before its newline
+-- texts that end with a line end alike before its newline
 line_ends : (a b x y : Text) → a ++ line x ≡ b ++ line y → a ++ x ≡ b ++ y
 line_ends a b x y e = append_cancel_right (a ++ x) (b ++ y) (10 ∷ []) (append_assoc a x (10 ∷ []) ∙ e ∙ sym (append_assoc b y (10 ∷ [])))
 
@@ -132,7 +132,7 @@ same_more a b u w e =
     let parts = space_ends a b (codes "more") (spelled u) (spelled w) (spelled_space u) (spelled_space w) (line_ends a b (codes "more " ++ spelled u) (codes "more " ++ spelled w) e) in
     (parts.0, spelled_same u w parts.1)
 
--- the same, of a page that ends in `more` however it is cut
+-- the same for a page that ends with `more`, however it is cut
 pages_at : (b : Bool) (written : OutcomeWord → Text) (all front ws : List OutcomeWord) (limit : ℕ) (page : Text) (w : OutcomeWord) → nat_le (length ws) limit ≡ b → AreDistinct all → all ≡ front ++ ws → 0 < limit → flat_map written (take limit ws) ++ line (elim b [ true ↦ codes "done" | false ↦ codes "more " ++ spelled (last_of [] (take limit ws)) ]) ≡ page ++ line (codes "more " ++ spelled w) → page ++ listing written (after w all) None ≡ listing written ws None
 pages_at true written all front ws limit page w t d e h k = absurd (done_or_more (flat_map written (take limit ws)) page w k)
 pages_at false written all front ws limit page w t d e h k =
@@ -144,7 +144,7 @@ pages_at false written all front ws limit page w t d e h k =
 pub pages_text : (written : OutcomeWord → Text) (all front ws : List OutcomeWord) (limit : ℕ) (page : Text) (w : OutcomeWord) → AreDistinct all → all ≡ front ++ ws → 0 < limit → listing written ws (Some limit) ≡ page ++ line (codes "more " ++ spelled w) → page ++ listing written (after w all) None ≡ listing written ws None
 pages_text written all front ws limit page w d e h k = pages_at (nat_le (length ws) limit) written all front ws limit page w refl d e h k
 
--- a listing ends in `more` exactly where words are left out
+-- a listing ends with `more` exactly if words are left out
 more_left : (b : Bool) (written : OutcomeWord → Text) (ws : List OutcomeWord) (limit : ℕ) → nat_le (length ws) limit ≡ b → (page : Text) (w : OutcomeWord) → flat_map written (take limit ws) ++ line (elim b [ true ↦ codes "done" | false ↦ codes "more " ++ spelled (last_of [] (take limit ws)) ]) ≡ page ++ line (codes "more " ++ spelled w) → limit < length ws
 more_left true written ws limit t page w e = absurd (done_or_more (flat_map written (take limit ws)) page w e)
 more_left false written ws limit t page w e = leb-false (length ws) limit t

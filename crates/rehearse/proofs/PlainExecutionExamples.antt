@@ -49,12 +49,12 @@ from_a_list : plain_listed (with_names (names_in (plain_names (codes "# d\nload\
 unfolding plain_listed
 from_a_list = refl
 
--- it ends no run and sets no variable, whatever its name
+-- it neither ends a run nor sets a variable, whatever its name is
 goes_on : plain_listed (with_names (codes "bootm" ∷ []) (codes "bootm a=b; echo $?")) (codes "a" ∷ []) ≡ codes "run 0\ndev 0 bootm a=b\ntext 0\\n\nunset a\nend 0\nrun 1\ndev 1 bootm a=b\ntext 1\\n\nunset a\nend 0\ndone\n"
 unfolding plain_listed
 goes_on = refl
 
--- `test -e` asks by any list
+-- `test -e` asks with any list
 test_asks : plain_listed (with_names [] (codes "test -e mmc 0:1 /a; echo $?")) z ≡ codes "run 0\ndev 0 test -e mmc 0:1 /a\ntext 0\\n\nunset z\nend 0\nrun 1\ndev 1 test -e mmc 0:1 /a\ntext 1\\n\nunset z\nend 0\ndone\n"
 unfolding plain_listed
 test_asks = refl
@@ -90,7 +90,7 @@ assigned = refl
 
 -- ---- the tree
 
--- what is skipped leaves the status
+-- a skipped command leaves the status as it is
 skipped : plain_listed (with_load (codes "load && echo a || echo b; echo $?")) z ≡ codes "run 0\ndev 0 load\ntext a\\n0\\n\nunset z\nend 0\nrun 1\ndev 1 load\ntext b\\n0\\n\nunset z\nend 0\ndone\n"
 unfolding plain_listed
 skipped = refl

@@ -18,14 +18,14 @@ use Rattle.rehearse.specs.declared.devices_error.DevicesError.TheVariants.{BadLi
 use Rattle.rehearse.proofs.JoinedLines.{ok-same}
 use Rattle.rehearse.proofs.CallLists.{call_lists_stand}
 
--- the commands of a list that says nothing but names
+-- the commands of a list that has only names
 abbrev pub quiet_effects : List Text → Effects
 quiet_effects = map (λ name. (name, quiet))
 
 abbrev pub quiet_names : List Text → Devices
 quiet_names names = only (quiet_effects names)
 
--- ---- one name more
+-- ---- one more name
 
 joined-name : (names : List Text) (name : Text) → joined_in (quiet_effects names) name quiet ≡ quiet_effects (with_name names name)
 joined-name [] name = refl
@@ -40,7 +40,7 @@ joined-name (n ∷ names) name = by (bytes_eq name n) (list_any (bytes_eq name) 
 not_zero : (n : ℕ) → eqb (suc n) 0 ≡ false
 not_zero n = elim (eqb_tells (suc n) 0) [ inl h ↦ absurd (let e = h.1 in omega arith) | inr h ↦ h.0 ]
 
--- ---- NUL is no blank
+-- ---- a NUL is not a blank
 
 abbrev holds_nul : Text → Bool
 holds_nul = list_any (λ b. eqb b 0)
@@ -97,7 +97,7 @@ full-some b word words = let e = not_zero (length word) in rw e refl
 abbrev words_in : Text → List Text
 words_in word = full (slice_split is_space word)
 
--- ---- one line more
+-- ---- one more line
 
 abbrev accepted : List Text → Result Devices DevicesError
 accepted names = Ok (quiet_names names)

@@ -16,7 +16,7 @@ use Rattle.rehearse.proofs.JoinedLines.{ok-same}
 abbrev AllQuiet : Effects → Type 0
 AllQuiet = AllByRecursion (λ d. d.1 ≡ quiet)
 
--- no command does anything, and no line is of calls
+-- no command does anything, and there is no `sub` line
 abbrev AreQuiet : Devices → Type 0
 AreQuiet devices = AllQuiet devices.commands × (devices.subs ≡ [])
 
@@ -36,7 +36,7 @@ named-quiet (d ∷ effects) name effect all e = by (bytes_eq name d.0) e (named-
     by true f rest = let same : d.1 ≡ effect = cc in sym same ∙ all.0
     by false f rest = rest f
 
--- without lines of calls, a call goes by its name
+-- without `sub` lines, the name decides what a call does
 by_name : (devices : Devices) (name : Text) (words : List Text) → devices.subs ≡ [] → effect_of devices name words ≡ effect_in devices.commands name
 by_name devices name [] e = refl
 by_name devices name (word ∷ words) e = rw e refl

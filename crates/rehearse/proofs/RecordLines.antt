@@ -50,7 +50,7 @@ word-line : (bytes : Text) → IsOneLine (word_form bytes)
 word-line [] = (refl, (refl, tt))
 word-line (b ∷ bytes) = OneLine-flat word_escaped (λ c. space-line c (nat_eq c 32)) (b ∷ bytes)
 
--- lines that end stand as they were written, and the rest has none
+-- lines that end are found as they were written, and the rest has none
 pub lines-of-line : (part l : Text) (bytes : Text) → IsOneLine l → ended_lines part (l ++ 10 ∷ bytes) ≡ (part ++ l) ∷ ended_lines [] bytes
 lines-of-line part [] bytes h = ap (λ (x : Text). x ∷ ended_lines [] bytes) (sym (append-nil part))
 lines-of-line part (b ∷ l) bytes h = let e = h.0 in rw (e, ended_lines) (lines-of-line (part ++ b ∷ []) l bytes h.1 ∙ ap (λ (x : Text). x ∷ ended_lines [] bytes) (append_assoc part (b ∷ []) l))
@@ -162,7 +162,7 @@ past-inner (m ∷ ms) word point at ls h =
     let f : at + suc (length m) + bytes_of ms ≡ at + (suc (length m) + bytes_of ms) = omega arith in
     pick-inner m word point at (ms ++ ls) h.0 ∙ past-inner ms word point (at + suc (length m)) ls h.1 ∙ ap (λ (n : ℕ). point_in word point n ls) f
 
--- a whole record gives its word, and the place after it
+-- a whole record gives its word, and the place after the record
 pub past-record : (w : OutcomeWord) (s : State) (e : Ending) (names : List Text) (word : Option Text) (point : Option Point) (at : ℕ) (ls : List Text) → let n = at + suc (length (codes "run " ++ spelled w)) + bytes_of (inner_lines s names) + suc (length (last_line e)) in point_in word point at (record_lines w s e names ++ ls) ≡ point_in (Some (spelled w)) (Some (record { word = spelled w; length_before = n })) n ls
 past-record w s e names word point at ls =
     let start : Text = codes "run " ++ spelled w in
@@ -223,7 +223,7 @@ abbrev pub told_point : List Text → Option Point → ℕ → List Told → Opt
 told_point names point at [] = point
 told_point names point at (r ∷ rs) = told_point names (Some (record { word = spelled r.word; length_before = at + told_length names r })) (at + told_length names r) rs
 
--- lines of which none ends a record
+-- lines none of which ends a record
 abbrev pub AreOpen : List Text → Type 0
 AreOpen [] = ⊤
 AreOpen (l ∷ ls) = (is_last_line l ≡ false) × AreOpen ls
@@ -240,7 +240,7 @@ past-open : (ls : List Text) (word : Option Text) (point : Option Point) (at : �
 past-open [] word point at h = refl
 past-open (l ∷ ls) word point at h = let e = h.0 in rw (e, point_in) (either-same (is_first_line l) (point_in (Some (drop 4 l)) point (at + suc (length l)) ls) (point_in word point (at + suc (length l)) ls) point (past-open ls (Some (drop 4 l)) point (at + suc (length l)) h.1) (past-open ls word point (at + suc (length l)) h.1))
 
--- whole records, and then lines of which none ends a record
+-- whole records, and then lines none of which ends a record
 pub past-records : (names : List Text) (rs : List Told) (tail : List Text) (word : Option Text) (point : Option Point) (at : ℕ) → AreOpen tail → point_in word point at (flat_map (told_lines names) rs ++ tail) ≡ told_point names point at rs
 past-records names [] tail word point at h = past-open tail word point at h
 past-records names (r ∷ rs) tail word point at h =
@@ -251,7 +251,7 @@ past-records names (r ∷ rs) tail word point at h =
     let three = past-records names rs tail (Some (spelled r.word)) (Some (record { word = spelled r.word; length_before = n })) n h in
     one ∙ two ∙ three ∙ ap (λ (k : ℕ). told_point names (Some (record { word = spelled r.word; length_before = k })) k rs) m
 
--- a part of some lines has the first of them as its lines
+-- the lines of a prefix of some lines are the first of these lines
 pub part-lines : (part rest : Text) (ls : List Text) (q r : Text) → IsOneLine rest → AreLines ls → rest ++ 10 ∷ flat_map line ls ≡ q ++ r → (j : ℕ) × (ended_lines part q ≡ take j ((part ++ rest) ∷ ls)) × (r ≢ [] → j ≤ length ls)
 part-lines part rest ls [] r h k e = (0, refl, λ ne. omega arith)
 part-lines part [] [] (b ∷ []) r h k e =
@@ -289,7 +289,7 @@ pub told-lines : (names : List Text) (rs : List Told) → AreLines (flat_map (to
 told-lines names [] = tt
 told-lines names (r ∷ rs) = lines-append (told_lines names r) (flat_map (told_lines names) rs) (record-lines r.word r.state r.ending names) (told-lines names rs)
 
--- whole records and a part of the next: the point is that after the whole ones
+-- whole records and a part of the next one: the point is after the whole ones
 pub broken_off : (names : List Text) (rs : List Told) (next : Told) (q r : Text) → flat_map line (told_lines names next) ≡ q ++ r → r ≢ [] → resume_point_of (flat_map line (flat_map (told_lines names) rs) ++ q) ≡ told_point names None 0 rs
 broken_off names rs next q r e ne =
     let first : Text = codes "run " ++ spelled next.word in

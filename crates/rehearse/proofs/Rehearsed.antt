@@ -18,7 +18,7 @@ only_load = only ((codes "load", no_effect) ∷ [])
 abbrev pub limits : Devices → ℕ → ℕ → Limits
 limits devices device_bound step_bound = record { devices = devices; device_bound = device_bound; step_bound = step_bound }
 
--- the rehearsal of a text as `bootcmd`, among other variables, which stand in byte order before and behind it
+-- the rehearsal of a text as `bootcmd`, among other variables, which come before and after it in byte order
 abbrev pub bootcmd_among : Limits → Variables → Text → Task
 bootcmd_among s environment text = record { limits = s; environment = environment; name = codes "bootcmd"; text = text; failures = None }
 
@@ -34,17 +34,17 @@ unfoldable pub listed : Task → List Text → Option ℕ → Text
 unfolding tree_of fields joined atoms digits
 listed task names limit = listing (record_of task names) (runs task) limit
 
--- that of the runs behind a word
+-- the listing of the runs after a word
 unfoldable pub listed_after : Task → OutcomeWord → List Text → Option ℕ → Text
 unfolding tree_of fields joined atoms digits
 listed_after task w names limit = listing (record_of task names) (rest task w) limit
 
--- the work of the first so many runs
+-- the work of the first runs, for each of these numbers of runs
 unfoldable pub works : Task → List ℕ → List ℕ
 unfolding tree_of fields joined atoms digits
 works task counts = map (λ k. work task (take k (runs task))) counts
 
--- ---- what a text writes, and how its run ends, where it asks no device command
+-- ---- what a text writes, and how its run ends, if it asks no device command
 
 abbrev pub Told : Type 0
 Told = Text × Ending
@@ -76,7 +76,7 @@ abbrev pub letters : ℕ → Text
 letters zero = []
 letters (suc n) = 97 ∷ letters n
 
--- ---- without trying all words: the first run, and what follows each run, by the laws
+-- ---- without trying all words, by the laws: the first run, and what follows each run
 
 abbrev pub begins : Task → OutcomeWord
 begins task = first_run (kind task) task.limits.device_bound
@@ -85,7 +85,7 @@ begins task = first_run (kind task) task.limits.device_bound
 abbrev pub begun_by : Task → OutcomeWord → OutcomeWord
 begun_by task p = first_from (kind task) task.limits.device_bound p
 
--- the runs behind u, at most n of them
+-- the runs after u, at most n of them
 abbrev pub followers : ℕ → Task → OutcomeWord → List OutcomeWord
 followers zero task u = []
 followers (suc n) task u = elim (turned task.failures u) [ None ↦ [] | Some p ↦ begun_by task p ∷ followers n task (begun_by task p) ]
@@ -94,7 +94,7 @@ followers (suc n) task u = elim (turned task.failures u) [ None ↦ [] | Some p 
 abbrev pub is_listed : Task → OutcomeWord → Bool
 is_listed task u = is_run_kind (kind task u) && is_within task.failures u
 
--- whether u is listed, and has no more runs behind it
+-- whether u is listed, and at most n runs follow it
 abbrev pub are_all : ℕ → Task → OutcomeWord → Bool
 are_all zero task u = is_listed task u && elim (turned task.failures u) [ None ↦ true | Some p ↦ false ]
 are_all (suc n) task u = is_listed task u && elim (turned task.failures u) [ None ↦ true | Some p ↦ are_all n task (begun_by task p) ]
@@ -122,7 +122,7 @@ rest-followers (suc n) task u e = by (turned task.failures u) refl e (λ v. rest
         let h = is_run task u (kind task u) (is_within task.failures u) (are_all n task v) refl refl e in
         task_goes_on task u p h.0 is ∙ ap (λ (vs : List OutcomeWord). v ∷ vs) (later v h.1)
 
--- whether the first run and at most n behind it, or those behind u, are all
+-- whether these are all runs: the first and at most n after it, or the runs after u
 unfoldable pub ends_along : ℕ → Task → Bool
 unfolding tree_of fields joined atoms digits
 ends_along n task = are_all n task (begins task)
@@ -131,7 +131,7 @@ unfoldable pub ends_behind : ℕ → Task → OutcomeWord → Bool
 unfolding tree_of fields joined atoms digits
 ends_behind n task u = are_all n task u
 
--- their listings, and the work of the first so many
+-- their listings, and the work of the first runs
 unfoldable pub listed_along : ℕ → Task → List Text → Option ℕ → Text
 unfolding tree_of fields joined atoms digits
 listed_along n task names limit = listing (record_of task names) (begins task ∷ followers n task (begins task)) limit

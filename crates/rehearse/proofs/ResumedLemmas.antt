@@ -14,7 +14,7 @@ use Rattle.rehearse.proofs.Pages.{after_page, spelled_same}
 use Rattle.rehearse.proofs.Whole.{IsSplit, split_whole, resumes}
 use Rattle.rehearse.proofs.RecordLines.{IsOneLine, spelled-line, lines-of, bytes_of, Told, told_lines, told_length, told_point, told-lines, AreOpen, past-records, part-lines, broken_off}
 
--- no run stands twice
+-- no run is in the list twice
 twice : (w : OutcomeWord) (before between behind : List OutcomeWord) → AreDistinct (before ++ w ∷ between ++ w ∷ behind) → ⊥
 twice w [] between behind h = let a : word_eq w w ≡ false = Absent_at w w between behind h.0 in let b = word_eq-same w in (let c = sym b ∙ a in cc)
 twice w (v ∷ before) between behind h = twice w before between behind h.1
@@ -84,7 +84,7 @@ module _ (task : Task) (names : List Text) where
       let n : 0 + length (flat_map written (v ∷ vs)) ≡ length (flat_map written (v ∷ vs)) = omega arith in
       told-point v vs None 0 ∙ ap (λ (m : ℕ). Some (record { word = spelled (last_of v vs); length_before = m })) n
 
-  -- the closing line, and each front of it, gives no point
+  -- the closing line gives no point, and neither does any prefix of it
   closing_open : (l part missing : Text) → IsOneLine l → is_last_line l ≡ false → line l ≡ part ++ missing → AreOpen (ended_lines [] part)
   closing_open l part missing h k e = let p = part-lines [] l [] part missing h tt e in subst AreOpen (sym p.1) (open_first l p.0 k)
 
@@ -125,7 +125,7 @@ module _ (task : Task) (names : List Text) where
   some_taken (suc (suc k)) (w ∷ []) ne = (1, omega arith, omega arith, refl, refl)
   some_taken (suc (suc k)) (w ∷ v ∷ ws) ne = let ih = some_taken (suc k) (v ∷ ws) (λ x. cc) in (suc ih.0, omega arith, omega arith, ap (λ (us : List OutcomeWord). w ∷ us) ih.3, ih.4)
 
-  -- what stands before the point and what follows its word, where ws stand at the end of all runs
+  -- what is before the point and what follows its word, if ws are the last of all runs
   resumed_in : (front ws : List OutcomeWord) → runs task ≡ front ++ ws → (p q : Text) (point : Point) (w : OutcomeWord) → listing written ws None ≡ p ++ q → resume_point_of p ≡ Some point → point.word ≡ spelled w → take point.length_before p ++ listing written (rest task w) None ≡ listing written ws None
   resumed_in front ws all p q point w e f g =
       let k = whole (map written ws) p in

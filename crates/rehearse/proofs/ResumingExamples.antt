@@ -29,12 +29,12 @@ points : map broken_at (0 ∷ 71 ∷ 72 ∷ 157 ∷ 158 ∷ 243 ∷ 244 ∷ 249 
 unfolding listed
 points = refl
 
--- how many records stand whole there
+-- how many records are whole there
 whole_counts : map (λ n. whole (map (record_of two_attempts []) (runs two_attempts)) (take n (listed two_attempts [] None))) (0 ∷ 71 ∷ 72 ∷ 157 ∷ 158 ∷ 243 ∷ 244 ∷ 249 ∷ []) ≡ 0 ∷ 0 ∷ 1 ∷ 1 ∷ 2 ∷ 2 ∷ 3 ∷ 3 ∷ []
 unfolding listed tree_of fields joined atoms digits
 whole_counts = refl
 
--- the same place in a listing that ends in `more`
+-- the same place in a listing that ends with `more`
 broken_page : map (λ n. resume_point_of (take n (listed two_attempts [] (Some 1)))) (71 ∷ 72 ∷ 79 ∷ []) ≡ None ∷ point (codes "0") 72 ∷ point (codes "0") 72 ∷ []
 unfolding listed
 broken_page = refl
@@ -47,11 +47,11 @@ points_at_ends : map resume_point_of ends ≡ point (codes ".") 26 ∷ point (co
 unfolding listed
 points_at_ends = refl
 
--- lines alone that begin no record, and that end none
+-- single lines that start no record, and lines that end none
 stray_lines : map resume_point_of (codes "end 0\n" ∷ codes "run 0\nend 0" ∷ codes "run 0\nvar z=end 0\n" ∷ codes "run 0\nend 0\nrun 1\n" ∷ []) ≡ None ∷ None ∷ None ∷ point (codes "0") 12 ∷ []
 stray_lines = refl
 
--- lines that only begin like the first or the last one of a record
+-- lines that only start like the first or the last line of a record
 similar_lines : map resume_point_of (codes "run 0\nendx\n" ∷ codes "runx\nend 0\n" ∷ codes "run 0\ncutx\n"
     ∷ codes "run 0\nstopx\n" ∷ codes "run 0\nbootedx\n" ∷ []) ≡ None ∷ None ∷ None ∷ None ∷ None ∷ []
 similar_lines = refl

@@ -16,7 +16,7 @@ steps-extend x (Dry t) b h = h.1
 pub asked_in_front : (task : Task) (p x : OutcomeWord) → asked task p ≤ steps task (p ++ x)
 asked_in_front task p x = steps-extend x (run_on task p) (run_on task (p ++ x)) ((Keeps-run_on task (start task.environment p)).1 x)
 
--- what both words begin with begins the second
+-- what both words start with starts the second
 shared_in_front : (u v : OutcomeWord) → (x : OutcomeWord) × (v ≡ common_prefix u v ++ x)
 shared_in_front [] v = (v, refl)
 shared_in_front (c ∷ u) [] = ([], refl)

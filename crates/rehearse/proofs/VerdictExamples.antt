@@ -15,7 +15,7 @@ all_say truth (line ∷ lines) = truth ∷ all_say truth lines
 no_words : verdict [] ≡ false
 no_words = refl
 
--- ---- lists of words that are no test, and others that are
+-- ---- lists of words that are not a test, and others that are
 
 abbrev untrue : List Text
 untrue = codes "a" ∷ codes "-n" ∷ codes "a =" ∷ codes "a = a -a" ∷ codes "! a = a" ∷ codes "9 < 10" ∷ codes "10 -lt 9" ∷ codes "-e mmc 0:1 /a" ∷ []
@@ -29,7 +29,7 @@ true_lines = codes "! -z a" ∷ codes "! = !" ∷ codes "-n = -n" ∷ codes "! !
 true_ones : map says true_lines ≡ all_say true true_lines
 true_ones = refl
 
--- an empty word in quotes stays, an unset variable makes none
+-- an empty word in quotes stays, and an unset variable makes no word
 unset_variable : verdict (codes "-n" ∷ [] ∷ codes "-a" ∷ codes "=" ∷ codes "1" ∷ []) ≡ false
 unset_variable = refl
 
@@ -90,7 +90,7 @@ readings =
 each_is_read : map says readings ≡ all_say true readings
 each_is_read = refl
 
--- ---- terms combined: one rank, from the left, with no word left over
+-- ---- combined terms: the same rank, from the left, with no word left over
 
 abbrev combined_true : List Text
 combined_true = codes "a = b -a a = b -o a = a" ∷ codes "-n a -o -n " ∷ codes "-n a -a ! -z a" ∷ codes "0x10 -eq 16 -a 010 -eq 8 -a -3 -lt 2z" ∷ codes "-z a -o -a = -a" ∷ []

@@ -18,7 +18,7 @@ greatest m n e = omega (arith, e)
 
 -- ---- terms
 
--- the term behind some `!`
+-- the term after some `!`
 abbrev pub turned : Bool → Term → Term
 turned true t = opposite t
 turned false t = t
@@ -40,7 +40,7 @@ opposite_of first words none bang = by (compared (first ∷ words)) none (bytes_
     by None e false f = cc
     by (Some t) e b f = cc
 
--- one `!` more
+-- one more `!`
 pub term-turned : (whole : Term) (o : Bool) (rest : List Text) (first : Text) (words : List Text) → whole ≡ turned o (term rest) → rest ≡ first ∷ words → compared rest ≡ None → bytes_eq first (33 ∷ []) ≡ true → whole ≡ turned (not o) (term words)
 term-turned whole o rest first words so e none bang =
     let none_here : compared (first ∷ words) ≡ None = ap compared (sym e) ∙ none in
@@ -66,7 +66,7 @@ measured-shorter (a ∷ b ∷ words) t e = by (bytes_eq a (45 ∷ 110 ∷ [])) (
     by false true e = let behind : words ≡ t.1 = cc in omega (arith, ap length behind)
     by false false e = cc
 
--- a term takes no words that are not there
+-- a term takes only words that are there
 pub term-shorter : (words : List Text) (t : Bool × List Text) → term words ≡ Some t → length t.1 ≤ length words
 term-shorter [] t e = cc
 term-shorter (first ∷ words) t e = by (compared (first ∷ words)) refl (bytes_eq first (33 ∷ [])) (term words) refl e (λ u same. term-shorter words u same)
@@ -83,7 +83,7 @@ term-shorter (first ∷ words) t e = by (compared (first ∷ words)) refl (bytes
 pub verdict-begun : (words : List Text) (t : Bool × List Text) → term words ≡ Some t → verdict words ≡ chain (length words) t.0 t.1
 verdict-begun words t e = rw (e, verdict) refl
 
--- what is left of a chain behind one more term
+-- what is left of a chain after one more term
 pub record ChainLeft (whole : Bool) (truth : Bool) (words : List Text) : Type 0 where
   pub left : ℕ
   pub enough : length words ≤ left

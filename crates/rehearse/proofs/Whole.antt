@@ -8,7 +8,7 @@ use Rattle.rehearse.specs.State.{Text}
 use Rattle.rehearse.specs.Listing.{listing, line}
 use Rattle.rehearse.specs.Resuming.{whole, next_text}
 
--- a listing that was broken off goes on from its whole records
+-- a listing that broke off goes on from its whole records
 pub resumes : (written : OutcomeWord → Text) (ws : List OutcomeWord) (p : Text) → let k = whole (map written ws) p in flat_map written (take k ws) ++ listing written (drop k ws) None ≡ listing written ws None
 resumes written ws p =
     let k = whole (map written ws) p in
@@ -24,7 +24,7 @@ begins_same (b ∷ r) x = and_from (nat_eq b b) (starts_with nat_eq (r ++ x) r) 
 whole_one : (r : Text) (rs : List Text) (x : Text) → whole (r ∷ rs) (r ++ x) ≡ suc (whole rs x)
 whole_one r rs x = let e = begins_same r x in let d = drop_at r x (length r) refl in rw (whole, e, d) refl
 
--- whole records count, and the rest is what is left of them
+-- whole records are counted, and the rest is what is left after them
 pub whole-records : (rs more : List Text) (q : Text) → whole (rs ++ more) (flat_map (λ r. r) rs ++ q) ≡ length rs + whole more q
 whole-records [] more q = omega arith
 whole-records (r ∷ rs) more q =
@@ -33,7 +33,7 @@ whole-records (r ∷ rs) more q =
     let ih = whole-records rs more q in
     one ∙ two ∙ (omega arith)
 
--- a text does not begin with a longer one
+-- a text does not start with a longer one
 too_short : (p r : Text) → r ≢ [] → starts_with nat_eq p (p ++ r) ≡ false
 too_short [] [] ne = absurd (ne refl)
 too_short [] (b ∷ r) ne = refl
@@ -42,7 +42,7 @@ too_short (b ∷ p) r ne = and_right (nat_eq b b) (starts_with nat_eq p (p ++ r)
 whole_none : (p r : Text) (rs : List Text) → r ≢ [] → whole ((p ++ r) ∷ rs) p ≡ 0
 whole_none p r rs ne = let e = too_short p r ne in rw (whole, e) refl
 
--- where two cuts of a text stand to each other
+-- two cuts of the same text, by which of them comes first
 pub overlap : (a b p q : Text) → a ++ b ≡ p ++ q → ((part : Text) × (p ≡ a ++ part) × (b ≡ part ++ q)) ⊎ ((missing : Text) × (a ≡ p ++ missing) × (missing ≢ []))
 overlap [] b p q e = inl (p, refl, e)
 overlap (x ∷ a) b [] q e = inr (x ∷ a, refl, λ k. cc)
@@ -70,7 +70,7 @@ split_after written u us last p part e h =
     let text : p ≡ flat_map written (take (suc k) (u ∷ us)) ++ h.0 = e ∙ ap (λ (t : Text). written u ++ t) h.2 ∙ sym (append_assoc (written u) (flat_map written (take k us)) h.0) in
     subst (IsSplit written (u ∷ us) last p) (sym one) (h.0, h.1, text, h.3, h.4)
 
--- the front of a listing is its whole records and an open part
+-- a prefix of a listing is its whole records and an open part
 pub split_whole : (written : OutcomeWord → Text) (us : List OutcomeWord) (last p q : Text) → flat_map written us ++ last ≡ p ++ q → IsSplit written us last p (whole (map written us) p)
 split_whole written [] last p q e = (p, q, refl, e, λ some. absurd (some refl))
 split_whole written (u ∷ us) last p q e =
@@ -80,7 +80,7 @@ split_whole written (u ∷ us) last p q e =
       | inr h ↦ split_here written u us last p h.0 h.1 h.2
     ]
 
--- `whole` is the greatest number of records that stand at the front
+-- `whole` is the greatest number of records with which the text starts
 greater : (records : List Text) (p : Text) (k : ℕ) → k ≤ length records → (part : Text) × (p ≡ flat_map (λ r. r) (take k records) ++ part) → k ≤ whole records p
 greater records p zero l h = omega arith
 greater [] p (suc k) l h = absurd (omega arith)

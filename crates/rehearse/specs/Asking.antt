@@ -6,14 +6,14 @@ use Rattle.rehearse.specs.Outcomes.{OutcomeWord, Run}
 use Rattle.rehearse.specs.Runs.{Task, kind, runs, IsListed, rest}
 use Rattle.rehearse.specs.State.{Text}
 
--- a listing, of the runs or of those after the run of a word, and no more records than a limit; or the run of a word
--- alone. A word is given as a listing prints it, the empty one as a dot
+-- a listing, of the runs or of those after the run of a word, with at most as many records as a limit; or only the run
+-- of a word. A word is written as a listing prints it, the empty one as a dot
 pub data Wanted : Type 0 where
   Listed : (after : Option Text) (limit : Option ℕ) → Wanted
   Alone : (word : Text) → Wanted
 
 pub record Asking : Type 0 where
-  -- the variable that is rehearsed, `bootcmd` where the program is not told another
+  -- the variable that is rehearsed; `bootcmd` if the program is given no other
   pub variable : Text
   pub bounds : BoundsShown
   pub wanted : Wanted
@@ -25,7 +25,7 @@ abbrev pub limit_of : Wanted → Option ℕ
 limit_of (Listed after limit) = limit
 limit_of (Alone word) = None
 
--- the words whose records are wanted: the runs of the listing, in dictionary order; those that follow one of them; or
+-- the words whose records are wanted: the runs of the listing in dictionary order; the runs that follow one of them; or
 -- the run of a word, however many of its device commands fail
 abbrev pub AreToCome : Task → Wanted → List OutcomeWord → Type 0
 AreToCome task (Listed None limit) words = words ≡ runs task

@@ -12,7 +12,7 @@ pub record BoundsShown : Type 0 where
 abbrev pub most_devices : ℕ
 most_devices = 32
 
--- the same of a run, where runs are not listed, or few of its device commands may fail
+-- the same for a run if runs are not listed, or if few of its device commands may fail
 abbrev pub most_run_devices : ℕ
 most_run_devices = 1000
 

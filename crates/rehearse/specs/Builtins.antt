@@ -1,5 +1,5 @@
--- The commands that are built in, and those that a device list may have computed: the one list of their names. What each
--- of them does: `deed_of` in Commands.antt, and Computed.antt. After the U-Boot documentation, doc/usage/cmd.
+-- The built-in commands, and the commands that a device list may have computed: the one list of their names. `deed_of`
+-- in Commands.antt and Computed.antt say what each of them does. After the U-Boot documentation, doc/usage/cmd.
 use Rattle.std.specs.Prelude.{Bool, List, [], ◌∷◌, Option, codes, is_some}
 use Rattle.std.specs.Str.{bytes_eq}
 use Rattle.std.specs.Map.{lookup}
@@ -23,7 +23,7 @@ builtins =
 abbrev pub builtin_of : Text → Option Builtin
 builtin_of name = lookup (bytes_eq name) builtins
 
--- what a device list may not name
+-- what a device list must not name
 abbrev pub is_built_in : Text → Bool
 is_built_in name = is_some (builtin_of name)
 

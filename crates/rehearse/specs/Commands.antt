@@ -1,5 +1,5 @@
--- What a name calls, and what the built-in commands do that ask no device and run no text (U-Boot documentation,
--- doc/usage/cmd, on `echo`, `env`, `exit`, `true` and `false`); what the pages leave open is ours.
+-- What a name calls, and what those built-in commands do that ask no device and run no text (U-Boot documentation,
+-- doc/usage/cmd, on `echo`, `env`, `exit`, `true` and `false`). What the pages leave open is ours.
 use Rattle.std.specs.Prelude.{ℕ, ◌+◌, ◌-◌, ◌*◌, nat_le, nat_eq, Bool, true, false, not, cond, ◌&&◌, ◌||◌, List, [], ◌∷◌, ◌++◌, length, Option, Some, None, is_some, bytes_eq, slice_get, codes}
 use Rattle.std.specs.List.{join_with_byte, list_any, list_all}
 use Rattle.std.specs.Fmt.{digits}
@@ -33,18 +33,18 @@ pub data Called : Type 0 where
 abbrev pub asks_device : List Text → Bool
 asks_device words = nat_eq (length words) 4 && elim words [ [] ↦ false | w ∷ ws ↦ bytes_eq w (codes "-e") ]
 
--- the variable that a word of a call names, if it is the name of one
+-- the variable that a word of a call names, if the word is the name of one
 abbrev pub named_by : Option Text → Option Text
 named_by None = None
 named_by (Some word) = cond (is_bad_name word) None (Some word)
 
--- the variable that the left side of a setting stands for in a call with these words
+-- the variable that the left side of a setting means in a call with these words
 abbrev pub variable_of : LeftSide → List Text → Option Text
 variable_of (Variable name) words = Some name
 variable_of (WordAt place) words = named_by (slice_get words place)
 variable_of LastWord words = named_by (slice_get words (length words - 1))
 
--- what a call with these words sets: where a word names no variable, nothing
+-- what a call with these words sets; a word that names no variable sets nothing
 abbrev pub sets_in : List Text → List Setting → List (Text × Text)
 sets_in words [] = []
 sets_in words (set ∷ sets) =
@@ -53,14 +53,14 @@ sets_in words (set ∷ sets) =
       | Some name ↦ (name, set.1) ∷ sets_in words sets
     ]
 
--- `setenv` and its words: the name alone deletes the variable, words behind it are its value, joined by spaces
+-- `setenv` and its words: a name alone deletes the variable; the words after the name are its value, joined by spaces
 abbrev pub setenv : List Text → Variables → Variables × ℕ
 setenv [] variables = (variables, 1)
 setenv (name ∷ []) variables = cond (is_bad_name name) (variables, 1) (without variables name, 0)
 setenv (name ∷ w ∷ ws) variables =
     cond (is_bad_name name) (variables, 1) (with_value variables name (join_with_byte ascii.space (w ∷ ws)), 0)
 
--- `echo` and its words: they are written, joined by spaces, and a newline, which a first word `-n` leaves out
+-- `echo` and its words: they are written, joined by spaces, with a newline, which a first word `-n` leaves out
 abbrev pub echo : List Text → Text
 echo [] = ascii.newline ∷ []
 echo (w ∷ ws) =
@@ -70,12 +70,12 @@ echo (w ∷ ws) =
 abbrev pub is_digit : ℕ → Bool
 is_digit b = nat_le ascii.digit_zero b && nat_le b ascii.digit_nine
 
--- the number up to 255 that digits spell behind those of n
+-- the number up to 255 that digits spell after the digits of n
 abbrev pub decimal_from : ℕ → Text → Option ℕ
 decimal_from n [] = cond (nat_le n 255) (Some n) None
 decimal_from n (b ∷ bs) = cond (is_digit b) (decimal_from (n * 10 + (b - ascii.digit_zero)) bs) None
 
--- the status with which `exit` and its words end a text: 0 without a word and with a negative number, else that number
+-- the status with which `exit` and its words end a text: 0 without a word or with a negative number, else the number
 abbrev pub exit_status : List Text → Option ℕ
 exit_status [] = Some 0
 exit_status ([] ∷ []) = None
@@ -128,7 +128,7 @@ text_written written words m = record m { text = m.text ++ written words; status
 abbrev pub listed_by : Devices → (name : Text) → (words : List Text) → Called
 listed_by devices name words = elim (effect_of devices name words) [ Some effect ↦ Device effect | None ↦ NoCommand ]
 
--- a command that is built in, else a call of one of the device list
+-- a built-in command, or else a call of a command of the device list
 abbrev pub called_by_name : Devices → (name : Text) → (words : List Text) → Called
 called_by_name devices name words =
     elim (builtin_of name) [ Some builtin ↦ BuiltIn (deed_of builtin) | None ↦ listed_by devices name words ]

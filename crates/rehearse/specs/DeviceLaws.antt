@@ -32,7 +32,7 @@ same_word (Some v) (Some w) = bytes_eq v w
 abbrev pub lines_at : (name : Text) → (word : Option Text) → List DeviceLine → List DeviceLine
 lines_at name word = filter (λ one. same_word word one.word && bytes_eq name one.name)
 
--- some lines together: final where one of them is, with all settings in their order
+-- some lines together: final if one of them is, with all settings in their order
 abbrev pub whole_effect : List DeviceLine → Option Effect
 whole_effect [] = None
 whole_effect (one ∷ more) = Some (record {
@@ -40,12 +40,12 @@ whole_effect (one ∷ more) = Some (record {
   sets = flat_map (λ l. l.effect.sets) (one ∷ more);
 })
 
--- A name, or its calls with a first word, are listed where a line names them, and do what all those lines say.
+-- A name, or its calls with a first word, are listed if a line names them, and do what all those lines say.
 abbrev pub LinesAreJoined : Type 0
 LinesAreJoined = (text : Text) (devices : Devices) → listed text ≡ Ok devices → (name : Text) (word : Option Text)
     → effect_at devices name word ≡ whole_effect (lines_at name word (lines_said (numbered_lines text)))
 
--- ---- lists of names alone
+-- ---- lists that have only names
 
 -- a command that only succeeds or fails
 abbrev pub quiet : Effect
@@ -54,7 +54,7 @@ quiet = record { ends = false; sets = [] }
 abbrev pub is_name_alone : Text → Bool
 is_name_alone line = nat_le (length (device_words line)) 1
 
--- A list without a second word in any line says nothing but names.
+-- A list with no second word in any line says only names.
 abbrev pub NamesAreQuiet : Type 0
 NamesAreQuiet = (text : Text) (devices : Devices) → listed text ≡ Ok devices →
     list_all (λ l. is_name_alone l.1) (numbered_lines text) ≡ true

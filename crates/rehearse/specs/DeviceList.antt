@@ -13,7 +13,8 @@ use Rattle.rehearse.specs.Computed.{Computed, computes}
 use Rattle.rehearse.specs.declared.devices_error.DevicesError.{DevicesError}
 use Rattle.rehearse.specs.declared.devices_error.DevicesError.TheVariants.{BadLine, BuiltIn}
 
--- the left side of a setting: a variable, or the word of the call that names it, which is counted from 0 or is the last
+-- the left side of a setting: a variable, or the word of the call that names it; words are counted from 0, or it is the
+-- last
 pub data LeftSide : Type 0 where
   Variable : Text → LeftSide
   WordAt : ℕ → LeftSide
@@ -35,8 +36,8 @@ Effects = List (Text × Effect)
 abbrev pub effect_in : Effects → Text → Option Effect
 effect_in effects name = lookup (bytes_eq name) effects
 
--- what a list says of the commands by their names alone, what its `sub` lines say of the calls of a name, and which
--- commands are computed
+-- what a list says of commands by their names, what its `sub` lines say of the calls of a name, and which commands are
+-- computed
 pub record Devices : Type 0 where
   pub commands : Effects
   pub subs : List (Text × Effects)
@@ -52,7 +53,7 @@ abbrev pub sub_effect : Devices → (name : Text) → (words : List Text) → Op
 sub_effect devices name [] = None
 sub_effect devices name (word ∷ words) = effect_at devices name (Some word)
 
--- A call goes by the `sub` lines of its first word, else by the lines of its name; else it is not listed.
+-- The `sub` lines of its first word decide for a call, or else the lines of its name; otherwise it is not listed.
 abbrev pub effect_of : Devices → (name : Text) → (words : List Text) → Option Effect
 effect_of devices name words =
     elim (sub_effect devices name words) [ Some effect ↦ Some effect | None ↦ effect_at devices name None ]
@@ -69,19 +70,19 @@ is_listed devices name = is_some (effect_in devices.commands name) || is_some (l
 
 -- ---- the words of a line
 
--- Blanks round a line are dropped. Spaces and tabs separate words; a carriage return inside the line is a byte of
--- its word.
+-- Blanks around a line are dropped. Spaces and tabs separate words. A carriage return inside the line is a byte of its
+-- word.
 abbrev pub device_words : Text → List Text
 device_words line = filter (λ word. not (length word == 0)) (slice_split is_space (trimmed line))
 
 -- ---- what a line says
 
--- a variable's name is not empty and does not begin with `-`
+-- a variable's name is not empty and does not start with `-`
 abbrev pub is_variable : Text → Bool
 is_variable [] = false
 is_variable (b ∷ bytes) = not (b == ascii.minus)
 
--- the word of a number, where words are counted from 1; the greatest number of 64 bits is that of any greater one
+-- the word with this number, counted from 1; a number above the greatest of 64 bits counts as that one
 abbrev pub numbered : ℕ → Option LeftSide
 numbered number = if number == 0 then None else Some (WordAt (number - 1))
 
@@ -100,7 +101,7 @@ word_of_call which =
 abbrev pub variable : Text → Option LeftSide
 variable name = if is_variable name then Some (Variable name) else None
 
--- what an `@` begins is a word of the call, where the line speaks of calls
+-- in a `sub` line, an `@` starts a word of the call
 abbrev pub left_side : (of_calls : Bool) → Text → Option LeftSide
 left_side of_calls [] = None
 left_side of_calls (b ∷ bytes) =
@@ -114,7 +115,7 @@ setting of_calls word =
       | Some at ↦ option_map (λ left. (left, drop (at + 1) word)) (left_side of_calls (take at word))
     ]
 
--- the settings, where each of the words is one
+-- the settings, if each of the words is one
 abbrev pub settings : (of_calls : Bool) → List Text → Option (List Setting)
 settings of_calls [] = Some []
 settings of_calls (word ∷ words) =
@@ -123,7 +124,7 @@ settings of_calls (word ∷ words) =
       | Some first ↦ option_map (λ more. first ∷ more) (settings of_calls words)
     ]
 
--- the name of a command, for a `sub` line the first word of its calls, whether it is final, and the words behind that
+-- the name of a command; for a `sub` line the first word of its calls; whether it is final; and the words after that
 pub record Heading : Type 0 where
   pub name : Text
   pub word : Option Text
@@ -133,8 +134,8 @@ pub record Heading : Type 0 where
 abbrev pub named : (ends : Bool) → Text → List Text → Heading
 named ends name words = record { name = name; word = None; ends = ends; words = words }
 
--- The first word is the name, unless it is `sub` and two words without `=` follow, which are then the name and the first
--- word of its calls.
+-- The first word is the name, unless it is `sub` and two words without `=` follow. Then these are the name and the
+-- first word of its calls.
 abbrev pub call_of : (ends : Bool) → Text → List Text → Heading
 call_of ends first [] = named ends first []
 call_of ends first (second ∷ []) = named ends first (second ∷ [])
@@ -143,7 +144,7 @@ call_of ends first (second ∷ third ∷ words) =
     then record { name = second; word = Some third; ends = ends; words = words }
     else named ends first (second ∷ third ∷ words)
 
--- A first word `final` says that the rest of the line is of a final command, where a word without `=` follows.
+-- A first word `final` says that the rest of the line is a final command, if a word without `=` follows.
 abbrev pub heading_of : Text → List Text → Heading
 heading_of first [] = named false first []
 heading_of first (second ∷ words) =
@@ -161,7 +162,7 @@ line_with number h None = Err (BadLine number)
 line_with number h (Some sets) = if is_built_in h.name then Err (BuiltIn number)
     else Ok (record { name = h.name; word = h.word; effect = record { ends = h.ends; sets = sets } })
 
--- a line speaks of calls where it has their first word
+-- a line with the first word of its calls is a `sub` line
 abbrev pub line_of : ℕ → Heading → Result DeviceLine DevicesError
 line_of number h = line_with number h (settings (is_some h.word) h.words)
 
@@ -177,7 +178,7 @@ changed_at change [] name = (name, change None) ∷ []
 changed_at change (e ∷ table) name = if bytes_eq name e.0 then (e.0, change (Some e.1)) ∷ table
     else e ∷ changed_at change table name
 
--- one line more: final where one of them is, settings in their order
+-- one more line: final if one of the two is, settings in their order
 abbrev pub joint : Effect → Effect → Effect
 joint before more = record { ends = before.ends || more.ends; sets = before.sets ++ more.sets }
 
@@ -218,8 +219,8 @@ abbrev pub after_known : Devices → Option Text → Result DeviceLine DevicesEr
 after_known devices (Some name) line = Ok (with_known devices name)
 after_known devices None line = with_line devices line
 
--- The list after the words of one more line, or the line's fault. A line without a word, and one that begins with `#`,
--- says nothing.
+-- The list after the words of one more line, or the fault of that line. A line without a word, or one that starts with
+-- `#`, says nothing.
 abbrev pub after_words : Devices → ℕ → Text → List Text → Result Devices DevicesError
 after_words devices number line [] = Ok devices
 after_words devices number line (first ∷ words) =
@@ -239,7 +240,7 @@ listed_lines devices (l ∷ lines) =
       | Err fault ↦ Err fault
     ]
 
--- commands by their names alone
+-- only commands by their names
 abbrev pub only : Effects → Devices
 only commands = record { commands = commands; subs = []; known = [] }
 

@@ -12,7 +12,7 @@ AddsLine old number line new (Err (BadLine n)) = after_line old number line ≡ 
 AddsLine old number line new (Err (BuiltIn n)) = after_line old number line ≡ Err (BuiltIn n)
 AddsLine old number line new (Err Memory) = Unit {0}
 
--- The commands of the list, or its first fault; a growth may be refused before that is known.
+-- The commands of the list, or its first fault; memory may run out before that is known.
 abbrev pub IsListed : Text → Result Devices DevicesError → Type 0
 IsListed text (Ok devices) = listed text ≡ Ok devices
 IsListed text (Err (BadLine n)) = listed text ≡ Err (BadLine n)

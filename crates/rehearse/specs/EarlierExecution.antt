@@ -35,7 +35,7 @@ task_now devices task = record {
 abbrev pub bounds_of_task : EarlierTask → Limits
 bounds_of_task task = (task_now (only []) task).limits
 
--- the outcome and the call stand in the log, and the outcome is the status
+-- the outcome and the call are in the log, and the outcome is the status
 abbrev pub earlier_logged : Outcome → (call : List Text) → State → State
 earlier_logged outcome call s =
     set_status (status_when (succeeds outcome))
@@ -51,7 +51,7 @@ earlier_answer effect name words (Failure ∷ more) s =
     Normal (earlier_logged Failure (name ∷ words) (record s { word = more }))
 
 module _ (task : EarlierTask) where
-  -- it is asked where the bound allows one more
+  -- it is asked if the bound allows one more
   abbrev pub earlier_ask : EarlierEffect → (name : Text) → (words : List Text) → State → Answer
   earlier_ask effect name words s =
       elim (nat_lt (length s.log) task.device_bound) [
@@ -78,7 +78,7 @@ module _ (task : EarlierTask) where
   abbrev pub earlier_record : (names : List Text) → OutcomeWord → Text
   earlier_record names w = record_text w (state_of (earlier_run_on w)) (ending_of (earlier_run_on w)) names
 
-  -- those after u
+  -- the runs after u
   abbrev pub earlier_rest : OutcomeWord → List OutcomeWord
   earlier_rest u = after u earlier_runs
 

@@ -97,11 +97,11 @@ abbrev pub EarlierListsStand : Type 0
 EarlierListsStand = (text : Text) (devices : EarlierDevices) → earlier_listed text ≡ Ok devices →
     listed text ≡ Ok (only (now_effects devices))
 
--- Over such a list a call goes by its name, whatever its words are,
+-- Over such a list the name decides what a call does, whatever its words are,
 abbrev pub EarlierCallsStand : Type 0
 EarlierCallsStand = (devices : EarlierDevices) (name : Text) (words : List Text) →
     effect_of (only (now_effects devices)) name words ≡ effect_in (now_effects devices) name
 
--- and sets the variables that its lines name, whatever its words are.
+-- and the call sets the variables that the lines of its name set, whatever its words are.
 abbrev pub EarlierSettingsStand : Type 0
 EarlierSettingsStand = (effect : EarlierEffect) (words : List Text) → sets_in words (now_effect effect).sets ≡ effect.sets

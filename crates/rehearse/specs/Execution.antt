@@ -21,14 +21,14 @@ pub record Limits : Type 0 where
 
 -- how a run ends
 pub data Ending : Type 0 where
-  -- the text of its variable came to its end, or to an `exit`
+  -- the text of its variable ended, by itself or by an `exit`
   End : (status : ℕ) → Ending
   -- the bound forbids the next device command, or the next step
   CutDevices : Ending
   CutSteps : Ending
   -- a command is neither built in nor listed
   Unknown : (name : Text) → Ending
-  -- the text of a variable is no script
+  -- the text of a variable is not a script
   Syntax : (name : Text) → Ending
   -- words expand to too many bytes
   Size : Ending
@@ -46,7 +46,7 @@ pub data Answer : Type 0 where
   -- a device command found no outcome left
   Dry : State → Answer
 
--- first this, and then that where the first came to its end
+-- first this, and then that if the first has ended normally
 abbrev pub go_on : Answer → (State → Answer) → Answer
 go_on (Normal s) next = next s
 go_on (Exit s) next = Exit s
@@ -71,12 +71,12 @@ abbrev pub succeeds : Outcome → Bool
 succeeds Success = true
 succeeds Failure = false
 
--- `a && b` runs b where the status is 0, `a || b` where it is not
+-- `a && b` runs b if the status is 0, `a || b` if it is not
 abbrev pub goes : Op → ℕ → Bool
 goes And status = nat_eq status 0
 goes Or status = not (nat_eq status 0)
 
--- whether a loop runs its body where its condition ended with this status
+-- whether a loop runs its body after its condition has ended with this status
 abbrev pub holds : (until : Bool) → (status : ℕ) → Bool
 holds false status = nat_eq status 0
 holds true status = not (nat_eq status 0)
@@ -93,7 +93,7 @@ pub record Request : Type 0 where
 abbrev pub no_effect : Effect
 no_effect = record { ends = false; sets = [] }
 
--- the command and its outcome stand in the log, and the outcome is the status
+-- the command and its outcome are in the log, and the outcome is the status
 abbrev pub logged : Outcome → Request → State → State
 logged outcome request s =
     set_status (status_when (succeeds outcome))
@@ -120,9 +120,9 @@ take_outcome request (Success ∷ rest) s =
     (set_environment (sets_in request.words request.effect.sets) (logged Success request (record s { word = rest })))
 take_outcome request (Failure ∷ rest) s = Normal (logged Failure request (record s { word = rest }))
 
--- ---- parts of scripts, over what they are made of
+-- ---- parts of scripts, by the meaning of what they are made of
 
--- a text that `run` started has ended, by `exit` too: the next one follows where its status is 0
+-- a text that `run` started has ended, also by `exit`; the next one follows if its status is 0
 abbrev pub text_end : Answer → (State → Answer) → Answer
 text_end (Normal s) next = elim (nat_eq s.memory.status 0) [ true ↦ next s | false ↦ Normal s ]
 text_end (Exit s) next = elim (nat_eq s.memory.status 0) [ true ↦ next s | false ↦ Normal s ]
@@ -133,7 +133,7 @@ text_end (Dry s) next = Dry s
 abbrev pub sized : List Text → (List Text → State → Answer) → State → Answer
 sized fs next s = elim (nat_le (size fs) most_bytes) [ true ↦ next fs s | false ↦ Ended Size s ]
 
--- assignments, from the left; those before one that ends the run stand
+-- assignments, from the left; if one ends the run, the ones before it are kept
 abbrev pub assign : List (Text × tree.Word) → State → Answer
 assign [] s = Normal (set_status 0 s)
 assign (pair ∷ pairs) s =
@@ -142,8 +142,8 @@ assign (pair ∷ pairs) s =
       | false ↦ Ended Size s
     ]
 
--- the turns of a loop, where last is the status of the last body. Each condition holds a command and so begins a step:
--- where as many turns as steps were left are over, the next turn's step is cut
+-- the turns of a loop; `last` is the status of the last body. Each condition holds a command, so it begins a step.
+-- After as many turns as there were steps left, the step of the next turn is cut
 abbrev pub turns : (left : ℕ) → (until : Bool) → (cond body : State → Answer) → (last : ℕ) → State → Answer
 turns zero until cond body last s = Ended CutSteps s
 turns (suc left) until cond body last s = go_on (cond s) (λ t. elim (holds until t.memory.status) [
@@ -151,15 +151,15 @@ turns (suc left) until cond body last s = go_on (cond s) (λ t. elim (holds unti
   | false ↦ Normal (set_status last t)
 ])
 
--- the body once for each field, of which the variable is the value
+-- the body once for each field; the variable has the field as its value
 abbrev pub for_each : (name : Text) → (body : State → Answer) → (last : ℕ) → List Text → State → Answer
 for_each name body last [] s = Normal (set_status last s)
 for_each name body last (f ∷ fs) s = go_on (body (set_local name f s)) (λ t. for_each name body t.memory.status fs t)
 
--- ---- execution, where `script` is what the tree of a text does to a state
+-- ---- execution; `script` is what the tree of a text does to a state
 
 module _ (limits : Limits) where
-  -- a step is begun and counted where the bound allows one more
+  -- a step is begun and counted if the bound allows one more
   abbrev pub begin : (State → Answer) → State → Answer
   begin body s =
       elim (nat_lt s.steps limits.step_bound) [
@@ -167,7 +167,7 @@ module _ (limits : Limits) where
         | false ↦ Ended CutSteps s
       ]
 
-  -- a device command is asked where the bound allows one more
+  -- a device command is asked if the bound allows one more
   abbrev pub device : Request → State → Answer
   device request s =
       elim (nat_lt (length s.log) limits.device_bound) [
@@ -217,7 +217,7 @@ module _ (limits : Limits) where
   simple script [] s = Normal (set_status 0 s)
   simple script (name ∷ words) s = command script (called_by limits.devices name words) name words s
 
-  -- over the tree, with so many steps left, where `text` is what the texts do that `run` starts
+  -- over the tree, with this many steps left; `text` is what the texts do that `run` starts
   module _ (left : ℕ) (text : Script → State → Answer) where
     abbrev mutual
       pub exec_script : Script → State → Answer
@@ -227,7 +227,7 @@ module _ (limits : Limits) where
       pub exec_list : AndOr → State → Answer
       exec_list (tree.Starts first rest) s = go_on (exec_command first s) (exec_joined rest)
 
-      -- what is skipped leaves the status
+      -- a skipped command leaves the status as it is
       pub exec_joined : Joined → State → Answer
       exec_joined tree.Alone s = Normal s
       exec_joined (tree.Joins op next rest) s =
@@ -244,7 +244,7 @@ module _ (limits : Limits) where
       exec_command (tree.For name words body) s =
           begin (λ t. sized (fields (parameters_in t.memory) words) (for_each name (exec_script body) 0) t) s
 
-      -- the block behind the first condition that ends with status 0, else the `else` block; where none is run, status
+      -- the block after the first condition that ends with status 0, else the `else` block; if no block is run, status
       -- 0
       pub exec_arms : Arms → State → Answer
       exec_arms tree.NoElse s = Normal (set_status 0 s)
@@ -254,7 +254,7 @@ module _ (limits : Limits) where
         | false ↦ exec_arms more t
       ])
 
-  -- a script with so many steps left: the texts that `run` starts have one less, that of the `run`
+  -- a script with this many steps left; the texts that `run` starts have one less, which the `run` takes
   abbrev pub exec : (left : ℕ) → Script → State → Answer
   exec zero = exec_script zero (λ t s. Ended CutSteps s)
   exec (suc left) = exec_script (suc left) (exec left)

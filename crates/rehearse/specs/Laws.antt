@@ -17,17 +17,17 @@ use Rattle.rehearse.specs.Resuming.{whole, next_text, Point, resume_point_of, po
 abbrev pub TreesAreRead : Type 0
 TreesAreRead = (text : Text) (tree : Script) → (tree_of text ≡ Some tree) ↔ IsTreeOf text tree
 
--- and there is none where it gives none
+-- and a text has no tree if the language gives it none
 abbrev pub RefusedTexts : Type 0
 RefusedTexts = (text : Text) → (tree_of text ≡ None) ↔ HasNoTree text
 
--- its conditions and bodies hold commands, and its `if`s conditions
+-- its conditions and bodies hold commands, and its `if`s have conditions
 abbrev pub TreesAreProper : Type 0
 TreesAreProper = (text : Text) (tree : Script) → tree_of text ≡ Some tree → IsProper tree
 
 -- ---- words
 
--- no run stands twice in the runs
+-- no run is in the list twice
 abbrev pub NoRunTwice : Type 0
 NoRunTwice = (task : Task) (w : OutcomeWord) (before between behind : List OutcomeWord) →
     runs task ≢ before ++ w ∷ between ++ w ∷ behind
@@ -45,12 +45,12 @@ NoRunIsLonger = (task : Task) (u : OutcomeWord) → kind task u ≡ Run → leng
 abbrev pub RunsAreThere : Type 0
 RunsAreThere = (task : Task) → runs task ≢ []
 
--- a run is followed by another exactly where it holds a success that may fail
+-- a run is followed by another exactly if it has a success that may fail
 abbrev pub AnotherFollows : Type 0
 AnotherFollows =
     (task : Task) (u : OutcomeWord) → IsListed task u → (rest task u ≢ []) ↔ (has_success task.failures u ≡ true)
 
--- two runs part where a device command asks for an outcome
+-- two runs differ first at an outcome that a device command asks for
 abbrev pub RunsPartWhereAsked : Type 0
 RunsPartWhereAsked = (task : Task) (u v : OutcomeWord) → kind task u ≡ Run → kind task v ≡ Run → u ≢ v →
     kind task (common_prefix u v) ≡ Short
@@ -66,34 +66,34 @@ LogIsWord = (task : Task) (w : OutcomeWord) → kind task w ≡ Run →
 abbrev pub StepsAreBounded : Type 0
 StepsAreBounded = (task : Task) (w : OutcomeWord) → steps task w ≤ task.limits.step_bound
 
--- a run is cut for its steps only where the bound is reached
+-- a run is cut for its steps only if the bound is reached
 abbrev pub CutAtStepBound : Type 0
 CutAtStepBound = (task : Task) (w : OutcomeWord) (s : State) → run_on task w ≡ Ended CutSteps s →
     s.steps ≡ task.limits.step_bound
 
--- and for its device commands only where that bound is reached
+-- and for its device commands only if that bound is reached
 abbrev pub CutAtDeviceBound : Type 0
 CutAtDeviceBound = (task : Task) (w : OutcomeWord) (s : State) → run_on task w ≡ Ended CutDevices s →
     length s.log ≡ task.limits.device_bound
 
--- a word is too short only where a device command is asked below the bound, and all its outcomes are taken
+-- a word is too short only if a device command is asked below the bound and all its outcomes are taken
 abbrev pub AskedBelowBound : Type 0
 AskedBelowBound = (task : Task) (w : OutcomeWord) (s : State) → run_on task w ≡ Dry s →
     (length s.log < task.limits.device_bound) × (s.word ≡ [])
 
 -- ---- work
 
--- no more steps are begun where a device command asks than with a word that goes on there
+-- no more steps are begun up to a device command that asks than with a word that continues there
 abbrev pub AskedInFront : Type 0
 AskedInFront = (task : Task) (p x : OutcomeWord) → asked task p ≤ steps task (p ++ x)
 
--- so the steps that two words share are steps of the second, and work subtracts no more than is there
+-- so the steps that two words share are steps of the second, and work subtracts no more than there is
 abbrev pub SharedIsWithin : Type 0
 SharedIsWithin = (task : Task) (u v : OutcomeWord) → asked task (common_prefix u v) ≤ steps task v
 
 -- ---- what follows a run
 
--- the runs stand in dictionary order
+-- the runs are in dictionary order
 abbrev pub RunsAreOrdered : Type 0
 RunsAreOrdered = (task : Task) (u v : OutcomeWord) (before between behind : List OutcomeWord) →
     runs task ≡ before ++ u ∷ between ++ v ∷ behind → comes_before u v ≡ true
@@ -102,18 +102,18 @@ RunsAreOrdered = (task : Task) (u v : OutcomeWord) (before between behind : List
 abbrev pub RunsBegin : Type 0
 RunsBegin = (task : Task) → let w = first_run (kind task) task.limits.device_bound in runs task ≡ w ∷ rest task w
 
--- behind u comes the first run that begins with u cut behind its last success that may fail, which became a failure
+-- after u comes the first run that starts with u cut after its last success that may fail, which became a failure
 abbrev pub RunsFollow : Type 0
 RunsFollow = (task : Task) (u p : OutcomeWord) → IsListed task u → turned task.failures u ≡ Some p → let w =
     first_from (kind task) task.limits.device_bound p in rest task u ≡ w ∷ rest task w
 
--- what stands in the runs is a run, in which no more device commands fail than may
+-- each word in the list of runs is a run, in which no more device commands fail than may fail
 abbrev pub RunsAreRuns : Type 0
 RunsAreRuns =
     (task : Task) (w : OutcomeWord) (front behind : List OutcomeWord) → runs task ≡ front ++ w ∷ behind
     → IsListed task w
 
--- each such run stands in the runs, in front of what follows it
+-- each such run is in the list, before what follows it
 abbrev pub RunsStand : Type 0
 RunsStand =
     (task : Task) (u : OutcomeWord) → IsListed task u
@@ -150,22 +150,22 @@ NoneMayFail = (task : Task) → runs (failing task 0) ≡ first_run (kind task) 
 
 -- ---- pages
 
--- a listing with a limit ends in `more` exactly where words are left out
+-- a listing with a limit ends with `more` exactly if words are left out
 abbrev pub MoreIsLeft : Type 0
 MoreIsLeft = (task : Task) (names : List Text) (ws : List OutcomeWord) (limit : ℕ) →
     ((page : Text) × (w : OutcomeWord)
     × (listing (record_of task names) ws (Some limit) ≡ page ++ line (codes "more " ++ spelled w))) ↔
     (limit < length ws)
 
--- a listing of all runs that ends in `more`, less that line, and the listing of the runs behind its word, are the whole
--- listing
+-- a listing of all runs that ends with `more`, without that line, and the listing of the runs after its word are
+-- together the whole listing
 abbrev pub PagesOfRuns : Type 0
 PagesOfRuns = (task : Task) (names : List Text) (limit : ℕ) (page : Text) (w : OutcomeWord) → let written =
     record_of task names in 0 < limit →
     listing written (runs task) (Some limit) ≡ page ++ line (codes "more " ++ spelled w) →
     page ++ listing written (rest task w) None ≡ listing written (runs task) None
 
--- and so is one of the runs behind u
+-- and so it is for a listing of the runs after u
 abbrev pub PagesOfRest : Type 0
 PagesOfRest =
     (task : Task) (names : List Text) (u : OutcomeWord) (limit : ℕ) (page : Text) (w : OutcomeWord) → let written =
@@ -173,42 +173,42 @@ PagesOfRest =
     listing written (rest task u) (Some limit) ≡ page ++ line (codes "more " ++ spelled w) →
     page ++ listing written (rest task w) None ≡ listing written (rest task u) None
 
--- ---- a listing that was broken off: p is what stands written, and q what is missing
+-- ---- a listing that broke off: p is what was written, and q what is missing
 
--- `whole` is the greatest number of first records that together stand at the front of p
+-- `whole` is the greatest number of first records with which p starts
 abbrev pub WholeIsGreatest : Type 0
 WholeIsGreatest = (records : List Text) (p : Text) (k : ℕ) → k ≤ length records →
     ((part : Text) × (p ≡ flat_map (λ r. r) (take k records) ++ part)) ↔ (k ≤ whole records p)
 
--- p is its whole records and a part of what is written next; of a record less than all of it
+-- p is its whole records and a part of what comes next; if that is a record, the part is less than all of it
 abbrev pub WholeRecords : Type 0
 WholeRecords = (task : Task) (names : List Text) (ws : List OutcomeWord) (limit : Option ℕ) (p q : Text) → let written =
     record_of task names in let us = words_listed ws limit in let k = whole (map written us) p in
     listing written ws limit ≡ p ++ q → (part : Text) × (missing : Text) × (p ≡ flat_map written (take k us) ++ part)
     × (next_text written (drop k us) (line (closing ws limit)) ≡ part ++ missing) × (drop k us ≢ [] → missing ≢ [])
 
--- the whole records of p, and the listing of the words behind them, are the listing
+-- the whole records of p, and the listing of the words after them, are together the listing
 abbrev pub Resuming : Type 0
 Resuming =
     (task : Task) (names : List Text) (ws : List OutcomeWord) (p q : Text) → let written = record_of task names in
     let k = whole (map written ws) p in listing written ws None ≡ p ++ q →
     flat_map written (take k ws) ++ listing written (drop k ws) None ≡ listing written ws None
 
--- the point to resume at, of every front p of a listing, is that behind its whole records; there is none where none is
--- whole
+-- for every prefix p of a listing, the point to resume at is after its whole records; if no record is whole, there is
+-- no point
 abbrev pub ResumePoint : Type 0
 ResumePoint = (task : Task) (names : List Text) (ws : List OutcomeWord) (limit : Option ℕ) (p q : Text) → let written =
     record_of task names in let us = words_listed ws limit in listing written ws limit ≡ p ++ q →
     resume_point_of p ≡ point_after written (take (whole (map written us) p) us)
 
--- what stands before the point, and the listing of the runs behind its word, are the listing of all runs
+-- what is before the point, and the listing of the runs after its word, are together the listing of all runs
 abbrev pub ResumedAtPoint : Type 0
 ResumedAtPoint = (task : Task) (names : List Text) (p q : Text) (point : Point) (w : OutcomeWord) → let written =
     record_of task names in listing written (runs task) None ≡ p ++ q → resume_point_of p ≡ Some point →
     point.word ≡ spelled w →
     take point.length_before p ++ listing written (rest task w) None ≡ listing written (runs task) None
 
--- and so for a listing of the runs behind u
+-- and so it is for a listing of the runs after u
 abbrev pub ResumedRest : Type 0
 ResumedRest =
     (task : Task) (names : List Text) (u : OutcomeWord) (p q : Text) (point : Point) (w : OutcomeWord) → let written =

@@ -79,12 +79,12 @@ abbrev pub last_of : OutcomeWord → List OutcomeWord → OutcomeWord
 last_of w [] = w
 last_of w (v ∷ vs) = last_of v vs
 
--- the words whose records stand in a listing
+-- the words whose records a listing has
 abbrev pub words_listed : List OutcomeWord → (limit : Option ℕ) → List OutcomeWord
 words_listed ws None = ws
 words_listed ws (Some limit) = take limit ws
 
--- the line behind the records: `more` with the last one's word where words are left out, else `done`
+-- the line after the records: `more` with the word of the last one if words are left out, else `done`
 abbrev pub closing : List OutcomeWord → (limit : Option ℕ) → Text
 closing ws None = codes "done"
 closing ws (Some limit) =
@@ -93,6 +93,6 @@ closing ws (Some limit) =
       | false ↦ codes "more " ++ spelled (last_of [] (take limit ws))
     ]
 
--- the records of words, each written as it is told, and the closing line
+-- the records of words, each written by `written`, and the closing line
 abbrev pub listing : (written : OutcomeWord → Text) → List OutcomeWord → (limit : Option ℕ) → Text
 listing written ws limit = flat_map written (words_listed ws limit) ++ line (closing ws limit)

@@ -54,12 +54,12 @@ word_eq [] (d ∷ w) = false
 word_eq (c ∷ v) [] = false
 word_eq (c ∷ v) (d ∷ w) = outcome_eq c d && word_eq v w
 
--- what stands behind w in a list
+-- what is after w in a list
 abbrev pub after : OutcomeWord → List OutcomeWord → List OutcomeWord
 after w [] = []
 after w (v ∷ vs) = cond (word_eq v w) vs (after w vs)
 
--- what two words begin with alike
+-- the prefix that two words share
 abbrev pub common_prefix : OutcomeWord → OutcomeWord → OutcomeWord
 common_prefix [] w = []
 common_prefix (c ∷ v) [] = []
@@ -94,7 +94,7 @@ comes_before (Failure ∷ v) (Failure ∷ w) = comes_before v w
 
 -- ---- in which words the laws say what follows a run
 
--- the word cut behind its last success that may fail, which becomes a failure; none where none of them may
+-- the word cut after its last success that may fail, which becomes a failure; none if no success may fail
 abbrev pub turned : (most : Option ℕ) → OutcomeWord → Option OutcomeWord
 turned most [] = None
 turned most (Success ∷ w) =
@@ -104,7 +104,7 @@ turned most (Success ∷ w) =
     ]
 turned most (Failure ∷ w) = option_map (λ v. Failure ∷ v) (turned (one_less most) w)
 
--- the kinds of words, past one outcome
+-- the kinds of words, after one outcome
 abbrev pub beyond : Outcome → (OutcomeWord → WordKind) → OutcomeWord → WordKind
 beyond outcome kind w = kind (outcome ∷ w)
 
@@ -118,8 +118,8 @@ abbrev pub first_from : (OutcomeWord → WordKind) → ℕ → OutcomeWord → O
 first_from kind n [] = first_run kind n
 first_from kind n (d ∷ p) = d ∷ first_from (beyond d kind) (pred n) p
 
--- kinds of words that come from choices, at most n of them one behind another: here the run ends, or each outcome leads
--- on
+-- kinds of words that come from choices, at most n of them one after another: either the run ends here, or each outcome
+-- leads on
 abbrev pub IsChoice : ℕ → (OutcomeWord → WordKind) → Type 0
 IsChoice zero kind = (kind [] ≡ Run) × ((d : Outcome) (w : OutcomeWord) → kind (d ∷ w) ≡ Long)
 IsChoice (suc n) kind = ((kind [] ≡ Run) × ((d : Outcome) (w : OutcomeWord) → kind (d ∷ w) ≡ Long))

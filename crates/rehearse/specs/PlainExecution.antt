@@ -1,6 +1,5 @@
--- Execution as it was when a device list was names alone (PlainList.antt): a command of the list asks for an outcome
--- and changes nothing else. All that it does not define is that of Execution.antt, over the tree as in
--- GivenExecution.antt. Ours.
+-- Execution as it was when a device list had only names (PlainList.antt). A command of the list asks for an outcome and
+-- changes nothing else. Everything else is defined by Execution.antt, over the tree as in GivenExecution.antt. Ours.
 use Rattle.std.specs.Prelude.{◌≡◌, ℕ, nat_lt, true, false, List, [], ◌∷◌, ◌++◌, length, Option, None, Ok}
 use Rattle.std.specs.List.{list_any}
 use Rattle.std.specs.Str.{bytes_eq}
@@ -32,11 +31,11 @@ task_over devices task = record {
   failures = None;
 }
 
--- the bounds, with no listed command: what is shared with Execution.antt reads these
+-- the bounds, with no listed command; what is shared with Execution.antt reads these
 abbrev pub bounds_alone : PlainTask → Limits
 bounds_alone task = (task_over (only []) task).limits
 
--- a listed command, by its words, takes the next outcome: the log has it with them, and it is the status
+-- a listed command, by its words, takes the next outcome; the log has both, and the outcome is the status
 abbrev pub answer : (words : List Text) → OutcomeWord → State → Answer
 answer words [] s = Dry s
 answer words (outcome ∷ more) s =
@@ -46,7 +45,7 @@ answer words (outcome ∷ more) s =
     }))
 
 module _ (task : PlainTask) where
-  -- it is asked where the bound allows one more
+  -- it is asked if the bound allows one more
   abbrev pub ask : (words : List Text) → State → Answer
   ask words s =
       elim (nat_lt (length s.log) task.device_bound) [
@@ -74,7 +73,7 @@ module _ (task : PlainTask) where
   abbrev pub plain_record : (names : List Text) → OutcomeWord → Text
   plain_record names w = record_text w (state_of (plain_run_on w)) (ending_of (plain_run_on w)) names
 
-  -- those after u
+  -- the runs after u
   abbrev pub plain_rest : OutcomeWord → List OutcomeWord
   plain_rest u = after u plain_runs
 

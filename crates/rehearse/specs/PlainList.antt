@@ -12,12 +12,12 @@ use Rattle.rehearse.specs.DeviceLaws.{quiet}
 use Rattle.rehearse.specs.declared.devices_error.DevicesError.{DevicesError}
 use Rattle.rehearse.specs.declared.devices_error.DevicesError.TheVariants.{BadLine, BuiltIn}
 
--- a name twice is as once
+-- a name that is listed twice counts once
 abbrev pub with_name : List Text → Text → List Text
 with_name names name = if list_any (bytes_eq name) names then names else names ++ name ∷ []
 
--- The names after one more line without the blanks round it, or the line's fault: nothing is left of an empty line, `#`
--- begins a comment, and else it is one word without NUL that names no built-in command.
+-- The names after one more line, without the blanks around it, or the fault of the line. An empty line and a comment,
+-- which starts with `#`, say nothing. Any other line is one word without a NUL that names no built-in command.
 abbrev pub plain_line : List Text → ℕ → Text → Result (List Text) DevicesError
 plain_line names number [] = Ok names
 plain_line names number (b ∷ bytes) =

@@ -6,7 +6,7 @@ use Rattle.rehearse.specs.Outcomes.{OutcomeWord}
 use Rattle.rehearse.specs.State.{Text}
 use Rattle.rehearse.specs.Listing.{spelled, last_of}
 
--- how many of these records stand whole at the front of a text, in their order
+-- how many of these records, in their order, are whole at the start of a text
 abbrev pub whole : (records : List Text) → Text → ℕ
 whole [] p = 0
 whole (r ∷ rs) p = elim (starts_with nat_eq p r) [ true ↦ suc (whole rs (drop (length r) p)) | false ↦ 0 ]
@@ -23,7 +23,7 @@ pub record Point : Type 0 where
   pub word : Text
   pub length_before : ℕ
 
--- the lines that a newline ends, behind the part of a line that stands before
+-- the lines that a newline ends, the first of them after the part of a line that comes before
 abbrev pub ended_lines : (part : Text) → Text → List Text
 ended_lines part [] = []
 ended_lines part (b ∷ bytes) =
@@ -37,11 +37,11 @@ abbrev pub is_last_line : Text → Bool
 is_last_line l = starts_with nat_eq l (codes "end ") || starts_with nat_eq l (codes "cut ")
     || starts_with nat_eq l (codes "stop ") || starts_with nat_eq l (codes "booted ")
 
--- a line that begins a record
+-- a line that starts a record
 abbrev pub is_first_line : Text → Bool
 is_first_line l = starts_with nat_eq l (codes "run ")
 
--- over lines, where the last `run ` so far named this word, this is the point so far, and the next line stands here
+-- over lines: the last `run ` so far named this word, this is the point so far, and the next line starts at this place
 abbrev pub point_in : (word : Option Text) → (point : Option Point) → (at : ℕ) → List Text → Option Point
 point_in word point at [] = point
 point_in word point at (l ∷ ls) =
@@ -54,11 +54,11 @@ point_in word point at (l ∷ ls) =
       ]
     ]
 
--- behind the last line that ends a record, with the word of the record's first line; none where either is missing
+-- the place after the last line that ends a record, with the word of the record's first line; none if either is missing
 abbrev pub resume_point_of : (written : Text) → Option Point
 resume_point_of written = point_in None None 0 (ended_lines [] written)
 
--- the point behind these records
+-- the point after these records
 abbrev pub point_after : (written : OutcomeWord → Text) → List OutcomeWord → Option Point
 point_after written [] = None
 point_after written (v ∷ vs) =

@@ -13,7 +13,7 @@ pub record Task : Type 0 where
   -- how many device commands of a run may fail; none for any number
   pub failures : Option ℕ
 
--- the rehearsal of a variable, where it is set
+-- the rehearsal of a variable, if it is set
 abbrev pub task_of : Limits → (failures : Option ℕ) → Variables → Text → Option Task
 task_of limits failures environment name =
     option_map (λ text. record {
@@ -69,7 +69,7 @@ pub record IsListed (task : Task) (w : OutcomeWord) : Type 0 where
   pub run : kind task w ≡ Run
   pub few : is_within task.failures w ≡ true
 
--- those behind w
+-- the runs after w
 abbrev pub rest : Task → OutcomeWord → List OutcomeWord
 rest task w = after w (runs task)
 
@@ -79,16 +79,16 @@ rest task w = after w (runs task)
 abbrev pub steps : Task → OutcomeWord → ℕ
 steps task w = (state_of (run_on task w)).steps
 
--- the same of a word behind which a device command asks for one more outcome
+-- the same for a word after which a device command asks for one more outcome
 abbrev pub asked : Task → OutcomeWord → ℕ
 asked task p = steps task p
 
--- the steps begun for these words behind u, each from the last command that it shares with the word before it
+-- the steps begun for these words after u, each from the last command that it shares with the word before it
 abbrev pub work_from : Task → OutcomeWord → List OutcomeWord → ℕ
 work_from task u [] = 0
 work_from task u (v ∷ vs) = (steps task v - asked task (common_prefix u v)) + work_from task v vs
 
--- the steps begun for these words where each command of their tree of choices is begun once
+-- the steps begun for these words if each command of their tree of choices is begun once
 abbrev pub work : Task → List OutcomeWord → ℕ
 work task [] = 0
 work task (w ∷ ws) = steps task w + work_from task w ws

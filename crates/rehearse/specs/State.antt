@@ -57,7 +57,7 @@ start environment word =
       word = word;
     }
 
--- a variable's value: that of the environment, else of the shell variable
+-- a variable's value: the environment's, or else the shell variable's
 abbrev pub value_in : Memory → Text → Option Text
 value_in m name = elim (get m.environment name) [ Some value ↦ Some value | None ↦ get m.locals name ]
 

@@ -10,15 +10,15 @@ use Rattle.text.specs.Numbers.{digit_of, value_in}
 
 -- ---- numbers
 
--- the bytes in front that are digits of the base
+-- the bytes at the start that are digits of the base
 abbrev pub digits_in : ℕ → Text → Text
 digits_in base = take_while (λ b. nat_lt (digit_of b) base)
 
--- the number that the digits in front spell, and 0 where there is none
+-- the number that the digits at the start spell, or 0 if there is none
 abbrev pub read_in : ℕ → Text → ℕ
 read_in base word = value_in base (digits_in base word)
 
--- an x of either case and a hexadecimal digit behind it
+-- an x of either case, and a hexadecimal digit after it
 abbrev pub begins_hexadecimal : Text → Bool
 begins_hexadecimal (x ∷ d ∷ digits) = ((x == ascii.small_x) || (x == ascii.capital_x)) && nat_lt (digit_of d) 16
 begins_hexadecimal _ = false
@@ -27,7 +27,7 @@ abbrev pub behind_first : Text → Text
 behind_first [] = []
 behind_first (b ∷ bytes) = bytes
 
--- what follows a leading 0: hexadecimal digits behind an x, else octal ones
+-- what follows a leading 0: hexadecimal digits after an x, else octal ones
 abbrev pub read_after_zero : Text → ℕ
 read_after_zero word = if begins_hexadecimal word then read_in 16 (behind_first word) else read_in 8 word
 
@@ -94,7 +94,7 @@ comparison operator left right =
 
 -- ---- terms
 
--- a truth, and the words behind its term
+-- a truth, and the words after its term
 abbrev pub Term : Type 0
 Term = Option (Bool × List Text)
 
@@ -124,7 +124,7 @@ term (first ∷ words) =
 
 -- ---- the whole
 
--- both operators have one rank
+-- both operators have the same rank
 abbrev pub combined : Text → Bool → Bool → Option Bool
 combined operator left right =
     if bytes_eq operator (codes "-a") then Some (left && right)

@@ -50,8 +50,8 @@ impl Bounds {
     ghost use Rattle.std.specs.Prelude.{true, None, Some};
     ghost use Rattle.rehearse.specs.Bounds.{bounds_of, are_bounds};
 
-    /// These bounds, where any device command may fail; none where there are more than 32 device commands or 1,000,000
-    /// steps. It takes no memory.
+    /// These bounds, with which any device command may fail, or `None` if they have more than 32
+    /// device commands or 1,000,000 steps. Takes no memory.
     pub fn new(devices: u32, steps: u32) -> Option<Self>
         ensures { result ≡ bounds_of devices steps None }
     {
@@ -98,7 +98,7 @@ impl Bounds {
         self.failures
     }
 
-    /// The same, as bounds of a run.
+    /// The same, as the bounds of a run.
     pub fn of_run(self) -> RunBounds
         ensures { result ≡ self }
     {

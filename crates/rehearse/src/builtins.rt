@@ -1,10 +1,10 @@
-//! The commands that are built in, and those that a device list may have computed: the one list of their
-//! names.
+//! The built-in commands, and the commands that a device list may have computed: the one list of
+//! their names.
 ghost use Rattle.std.specs.Prelude.{◌≡◌, option_map};
 ghost use Rattle.rehearse.specs.Builtins as says;
 ghost use Rattle.rehearse.specs.BuiltinsShown.{builtin_shown, known_shown};
 
-/// A command that is built in.
+/// A built-in command.
 #[derive(Clone, Copy, Debug)]
 pub enum Builtin {
     SetEnv,
@@ -40,7 +40,7 @@ pub fn builtin_of(name: &[u8]) -> Option<Builtin>
     }
 }
 
-/// Whether a name is that of a built-in command, which a device list may not name.
+/// Whether a name is a built-in command's, which a device list must not name.
 pub(crate) fn is_built_in(name: &[u8]) -> bool
     ensures { result ≡ says.is_built_in name.now }
 {

@@ -113,7 +113,7 @@ pub fn call_listings_stand()
     ensures { CallListingsStand }
 {}
 
-/// The listing of the runs that follow a word has, over such a list, the same bytes too.
+/// The listing of the runs that follow a word has the same bytes over such a list, too.
 #[tactic(auto, using(crate::proofs::CallRuns::call_rests_stand))]
 pub fn call_rests_stand()
     ensures { CallRestsStand }

@@ -9,8 +9,8 @@ use crate::builtins::known_of;
 use std::alloc::{AllocError, Global};
 use text::{is_space, trimmed};
 
-/// The name of a command, for a `sub` line the first word of its calls, whether it is final, and the
-/// words behind that.
+/// The name of a command; for a `sub` line the first word of its calls; whether it is final; and
+/// the words after that.
 #[derive(Clone, Copy)]
 pub(crate) struct Heading<'a> {
     pub(crate) name: &'a [u8],
@@ -29,7 +29,7 @@ pub(crate) fn device_words(alloc: Global, line: &[u8]) -> Result<Vec<&[u8]>, All
         .collect(alloc)
 }
 
-/// Whether a word begins a comment.
+/// Whether a word starts a comment.
 pub(crate) fn begins_comment(word: &[u8]) -> bool
     ensures { result ≡ begins_comment word.now }
 {
@@ -39,7 +39,7 @@ pub(crate) fn begins_comment(word: &[u8]) -> bool
     }
 }
 
-/// Whether a line holds NUL.
+/// Whether a line holds a NUL.
 pub(crate) fn has_nul(line: &[u8]) -> bool
     ensures { result ≡ list_any (λ b. b == 0) line.now }
 {
@@ -53,7 +53,7 @@ fn has_equals(word: &[u8]) -> bool
     word.iter().any(|byte| *byte == b'=')
 }
 
-/// A heading of a name alone.
+/// A heading that has only a name.
 fn named<'a>(ends: bool, name: &'a [u8], words: &'a [&'a [u8]]) -> Heading<'a>
     ensures { heading_shown result ≡ named ends name.now (map (λ w. w.now) words.now) }
 {
@@ -65,8 +65,8 @@ fn named<'a>(ends: bool, name: &'a [u8], words: &'a [&'a [u8]]) -> Heading<'a>
     }
 }
 
-/// The first word is the name, unless it is `sub` and two words without `=` follow, which are then the
-/// name and the first word of its calls.
+/// The first word is the name, unless it is `sub` and two words without `=` follow. Then these are
+/// the name and the first word of its calls.
 fn call_of<'a>(ends: bool, first: &'a [u8], behind: &'a [&'a [u8]]) -> Heading<'a>
     ensures { heading_shown result ≡ call_of ends first.now (map (λ w. w.now) behind.now) }
 {
@@ -84,8 +84,8 @@ fn call_of<'a>(ends: bool, first: &'a [u8], behind: &'a [&'a [u8]]) -> Heading<'
     }
 }
 
-/// What a line speaks of. A first word `final` says that the rest of the line is of a final command,
-/// where a word without `=` follows.
+/// What a line is about. A first word `final` says that the rest of the line is a final command, if
+/// a word without `=` follows.
 pub(crate) fn heading_of<'a>(first: &'a [u8], behind: &'a [&'a [u8]]) -> Heading<'a>
     ensures { heading_shown result ≡ heading_of first.now (map (λ w. w.now) behind.now) }
 {

@@ -32,10 +32,11 @@ struct Listed {
     sets: Vec<Setting>,
 }
 
-/// What is listed of each name.
+/// What the list says of each name.
 type Table = IndexMap<Vec<u8>, Listed>;
 
-/// Joins one more `sub` line to those before it that have its name and its first word.
+/// Joins one more `sub` line to the earlier ones with its name and its first word. Errors: memory
+/// ran out.
 fn join_sub(
     alloc: Global,
     subs: &mut IndexMap<Vec<u8>, Table>,
@@ -82,7 +83,7 @@ pub struct Devices {
     known: Vec<Vec<u8>>,
 }
 
-/// Joins one more line to those before it that have its name.
+/// Joins one more line to the earlier ones with its name. Errors: memory ran out.
 fn join(alloc: Global, table: &mut Table, name: &[u8], mut more: Listed) -> Result<(), AllocError>
     ensures { OnOk result (commands_shown table.new.entries ≡ joined_in (commands_shown table.old.entries) name.now (listed_shown more)) }
 {
@@ -118,7 +119,7 @@ impl Devices {
     ghost use Rattle.rehearse.specs.ComputedShown.{call_shown};
     ghost use Rattle.rehearse.specs.DeviceListAnswers.{AddsLine, IsListed};
 
-    /// A list of no command. It takes no memory.
+    /// A list of no command. Takes no memory.
     fn new(alloc: Global) -> Self
         ensures { result ≡ only [] }
     {
@@ -154,15 +155,15 @@ impl Devices {
         Ok(devices)
     }
 
-    /// Whether a line names a command. It takes no memory.
+    /// Whether a line names a command. Takes no memory.
     pub fn has(&self, name: &[u8]) -> bool
         ensures { result ≡ is_listed self.now name.now }
     {
         self.commands.contains_key(name) || self.subs.contains_key(name)
     }
 
-    /// What a call of a command does on success, if it is listed: what the `sub` lines of its first word
-    /// say, else what the lines of its name say. It takes no memory.
+    /// What a call of a command does on success, if it is listed: what the `sub` lines of its first
+    /// word say, or else what the lines of its name say. Takes no memory.
     pub fn effect(&self, name: &[u8], words: &[Vec<u8>]) -> Option<Effect<'_>>
         ensures { option_map lent_effect result ≡ effect_of self.now name.now (texts words.now) }
     {
@@ -210,7 +211,7 @@ impl Devices {
         table.get(word)
     }
 
-    /// Reads one more line.
+    /// Reads one more line. Errors: `BadLine`, `BuiltIn`, `Memory`.
     fn add_line(&mut self, number: usize, line: &[u8]) -> Result<(), DevicesError>
         ensures { AddsLine self.old number line.now self.new result }
     {
@@ -249,7 +250,8 @@ impl Devices {
         Ok(())
     }
 
-    /// Joins one more line, for a `sub` line with its first word, to those before it.
+    /// Joins one more line to the earlier ones; for a `sub` line with its first word. Errors:
+    /// `Memory`.
     fn add(&mut self, name: &[u8], word: Option<&[u8]>, more: Listed) -> Result<(), AllocError>
         ensures { OnOk result (self.new ≡ joined_by self.old name.now (option_map (λ w. w.now) word.entry) (listed_shown more)) }
     {

@@ -18,8 +18,8 @@ pub fn trees_are_read()
     ensures proper { TreesAreProper }
 {}
 
-/// There is a run; none stands twice, none begins another, and none is longer than the device bound. Another
-/// follows exactly where a success stands that may fail.
+/// There is a run. None is in the list twice, none is a prefix of another, and none is longer than
+/// the device bound. Another run follows exactly if a run has a success that may fail.
 pub fn words_of_runs()
     ensures distinct { NoRunTwice }
     ensures no_prefix { NoRunBeginsAnother }
@@ -28,7 +28,8 @@ pub fn words_of_runs()
     ensures another { AnotherFollows }
 {}
 
-/// The outcomes in a run's log are its word, and two runs part where a device command asks for an outcome.
+/// The outcomes in a run's log are its word, and two runs differ first at an outcome that a device
+/// command asks for.
 pub fn outcomes_of_runs()
     ensures logged { LogIsWord }
     ensures parted { RunsPartWhereAsked }
@@ -42,15 +43,16 @@ pub fn bounds_of_runs()
     ensures asked { AskedBelowBound }
 {}
 
-/// Where a word begins another, the steps begun before the command that asks for the next outcome are steps
-/// of the longer one too: work, which counts shared steps once, never subtracts more than there is.
+/// If a word is a prefix of another, the steps begun before the command that asks for the next
+/// outcome are steps of the longer word too. So work, which counts shared steps once, never
+/// subtracts more than there is.
 pub fn work_of_runs()
     ensures front { AskedInFront }
     ensures shared { SharedIsWithin }
 {}
 
-/// The runs are exactly the words that are runs and have no more failures than may be, in dictionary order; and which
-/// comes first, and which behind another.
+/// The runs are exactly the words that are runs and have no more failures than allowed, in
+/// dictionary order. The laws say which run comes first, and which comes after another.
 pub fn order_of_runs()
     ensures begin { RunsBegin }
     ensures follow { RunsFollow }
@@ -70,22 +72,22 @@ pub fn few_failures()
     ensures none { NoneMayFail }
 {}
 
-/// Pages made by a limit, less their lines `more`, are the listing without limit. A page ends in `more` exactly
-/// where words are left out.
+/// Pages made by a limit, without their lines `more`, are together the listing without a limit. A
+/// page ends with `more` exactly if words are left out.
 pub fn pages()
     ensures more { MoreIsLeft }
     ensures of_runs { PagesOfRuns }
     ensures of_rest { PagesOfRest }
 {}
 
-/// A listing that was broken off goes on from its whole records.
+/// A listing that broke off goes on from its whole records.
 pub fn whole_records()
     ensures greatest { WholeIsGreatest }
     ensures split { WholeRecords }
     ensures resumed { Resuming }
 {}
 
-/// The point to resume at is found in what stands written, for every front of a listing.
+/// The point to resume at is found in what was written, for every prefix of a listing.
 pub fn resume_point()
     ensures point { ResumePoint }
     ensures all { ResumedAtPoint }

@@ -7,7 +7,7 @@ ghost use Rattle.rehearse.specs.Verdict.{digits_in, read_in, begins_hexadecimal,
 
 use text::{digit_of, value_in};
 
-/// How many bytes in front are digits of a base.
+/// How many bytes at the start are digits of a base.
 fn digits_len(base: u64, word: &[u8]) -> usize
     ensures value { result ≡ prefix_len (λ b. nat_lt (digit_of b) base) word.now }
     ensures within { result ≤ length word.now }
@@ -17,14 +17,14 @@ fn digits_len(base: u64, word: &[u8]) -> usize
         .count()
 }
 
-/// The bytes in front that are digits of a base.
+/// The bytes at the start that are digits of a base.
 fn digits_in(base: u64, word: &[u8]) -> &[u8]
     ensures { result.now ≡ digits_in base word.now }
 {
     &word[..digits_len(base, word)]
 }
 
-/// The number that the digits in front spell, and 0 where there is none.
+/// The number that the digits at the start spell, or 0 if there is none.
 fn read_in(base: u64, word: &[u8]) -> u64
     requires { 1 ≤ base }
     ensures { result ≡ min (read_in base word.now) (2 ^ 64 - 1) }
@@ -32,7 +32,7 @@ fn read_in(base: u64, word: &[u8]) -> u64
     value_in(base, digits_in(base, word))
 }
 
-/// Whether an x of either case stands here, and a hexadecimal digit behind it.
+/// Whether a word starts with an x of either case and a hexadecimal digit.
 fn begins_hexadecimal(word: &[u8]) -> bool
     ensures { result ≡ begins_hexadecimal word.now }
 {
@@ -42,8 +42,8 @@ fn begins_hexadecimal(word: &[u8]) -> bool
     }
 }
 
-/// A number without a sign: hexadecimal behind `0x`, octal behind a leading 0, else decimal. The
-/// reading ends at the first byte that does not fit.
+/// A number without a sign: hexadecimal after `0x`, octal after a leading 0, else decimal. Reading
+/// ends at the first byte that does not fit.
 fn magnitude(word: &[u8]) -> u64
     ensures { result ≡ min (magnitude word.now) (2 ^ 64 - 1) }
 {
@@ -60,7 +60,7 @@ fn magnitude(word: &[u8]) -> u64
     }
 }
 
-/// The number itself, or the greatest of 64 bits.
+/// The number itself, or the greatest of 64 bits if that is smaller.
 fn positive(magnitude: u64) -> i64
     ensures { result ≡ pos (min magnitude 9223372036854775807) }
 {
@@ -71,7 +71,7 @@ fn positive(magnitude: u64) -> i64
     }
 }
 
-/// The number below 0, or the least of 64 bits.
+/// The number with a minus sign, or the least of 64 bits if that is greater.
 fn negative(magnitude: u64) -> i64
     ensures { result ≡ negated (min magnitude 9223372036854775808) }
 {
@@ -92,8 +92,8 @@ fn behind_minus(word: &[u8]) -> Option<&[u8]>
     }
 }
 
-/// The number that a word spells, behind an optional `-`; one that 64 bits cannot hold is the least or
-/// the greatest that they can.
+/// The number that a word spells, after an optional `-`. If 64 bits cannot hold it, it is the least
+/// or the greatest number that they can hold.
 #[tactic(auto, using(crate::proofs::VerdictLemmas::cut_numbers))]
 pub(crate) fn number(word: &[u8]) -> i64
     ensures { result ≡ number word.now }

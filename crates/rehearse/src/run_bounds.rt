@@ -4,7 +4,8 @@ ghost use Rattle.std.specs.Prelude.{◌≡◌};
 use crate::bounds::STEPS_MAX;
 use std::marker::Model;
 
-/// The greatest device bound of a run, where runs are not listed, or few of its device commands may fail.
+/// The greatest device bound of a run if runs are not listed, or if few of its device commands may
+/// fail.
 pub const RUN_DEVICES_MAX: u32 = 1_000;
 
 /// How many device commands a run may ask, and how many steps it may begin. The `Bounds` of a listing are narrower; how
@@ -33,8 +34,8 @@ impl RunBounds {
     ghost use Rattle.std.specs.Prelude.{true};
     ghost use Rattle.rehearse.specs.Bounds.{run_bounds_of, are_run_bounds};
 
-    /// These bounds; none where there are more than 1,000 device commands or 1,000,000 steps. It takes
-    /// no memory.
+    /// These bounds, or `None` if they have more than 1,000 device commands or 1,000,000 steps.
+    /// Takes no memory.
     pub fn new(devices: u32, steps: u32) -> Option<Self>
         ensures { result ≡ run_bounds_of devices steps }
     {
@@ -49,7 +50,7 @@ impl RunBounds {
         }
     }
 
-    /// These bounds, which are within the greatest.
+    /// These bounds, which are not above the greatest ones.
     pub(crate) fn of(devices: u32, steps: u32, failures: Option<u32>) -> Self
         requires { are_run_bounds devices steps ≡ true }
         ensures { result ≡ record { devices = devices; steps = steps; failures = failures } }

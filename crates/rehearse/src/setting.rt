@@ -35,7 +35,7 @@ fn equals_at(word: &[u8]) -> Option<usize>
     word.iter().position(|byte| *byte == b'=')
 }
 
-/// Whether a variable may have this name: it is not empty and does not begin with `-`.
+/// Whether a variable may have this name: it is not empty and does not start with `-`.
 fn is_variable(name: &[u8]) -> bool
     ensures { result ≡ is_variable name.now }
 {
@@ -76,7 +76,7 @@ fn word_of_call(which: &[u8]) -> Option<LeftSide>
     Some(LeftSide::WordAt(number - 1))
 }
 
-/// The left side of a setting. In a line that speaks of calls, an `@` begins a word of the call.
+/// The left side of a setting, if it is one. In a `sub` line, an `@` starts a word of the call.
 fn left_side(alloc: Global, name: &[u8], of_calls: bool) -> Result<Option<LeftSide>, AllocError>
     ensures { IfOk result (λ left. option_map left_shown left ≡ left_side of_calls name.now) }
 {
@@ -107,7 +107,7 @@ fn read_setting(alloc: Global, word: &[u8], of_calls: bool) -> Result<Option<Set
     Ok(Some(Setting { left, value }))
 }
 
-/// The settings, where each of the words is one.
+/// The settings, if each of the words is one.
 pub(crate) fn settings(
     alloc: Global,
     words: &[&[u8]],

@@ -5,7 +5,7 @@ ghost use Rattle.rehearse.specs.TextsShown.{texts, term_shown};
 
 use crate::number::number;
 
-/// The answer of a comparison of texts, byte by byte, where the operator is one.
+/// The answer of a comparison of texts, byte by byte, if the operator is one.
 fn compare_texts(operator: &[u8], left: &[u8], right: &[u8]) -> Option<bool>
     ensures { result ≡ answer_in text_comparisons operator.now left.now right.now }
 {
@@ -22,7 +22,7 @@ fn compare_texts(operator: &[u8], left: &[u8], right: &[u8]) -> Option<bool>
     }
 }
 
-/// The answer of a comparison of numbers, where the operator is one.
+/// The answer of a comparison of numbers, if the operator is one.
 fn compare_numbers(operator: &[u8], left: &[u8], right: &[u8]) -> Option<bool>
     ensures { result ≡ answer_in number_comparisons operator.now left.now right.now }
 {
@@ -43,7 +43,7 @@ fn compare_numbers(operator: &[u8], left: &[u8], right: &[u8]) -> Option<bool>
     }
 }
 
-/// The answer of the comparison that the operator names.
+/// The answer of the comparison that the operator names, if it names one.
 fn compare(operator: &[u8], left: &[u8], right: &[u8]) -> Option<bool>
     ensures { result ≡ comparison operator.now left.now right.now }
 {
@@ -53,7 +53,7 @@ fn compare(operator: &[u8], left: &[u8], right: &[u8]) -> Option<bool>
     }
 }
 
-/// A comparison of three words, and the words behind it.
+/// The truth of a comparison of three words, and the words after it.
 #[tactic(auto, using(crate::proofs::VerdictLemmas::terms))]
 fn compared(words: &[Vec<u8>]) -> Option<(bool, &[Vec<u8>])>
     ensures { term_shown result ≡ compared (texts words.now) }
@@ -67,7 +67,7 @@ fn compared(words: &[Vec<u8>]) -> Option<(bool, &[Vec<u8>])>
     }
 }
 
-/// A test of whether one word is empty, and the words behind it.
+/// The truth of a test whether one word is empty, and the words after it.
 fn measured(words: &[Vec<u8>]) -> Option<(bool, &[Vec<u8>])>
     ensures { term_shown result ≡ measured (texts words.now) }
 {
@@ -83,7 +83,7 @@ fn measured(words: &[Vec<u8>]) -> Option<(bool, &[Vec<u8>])>
     }
 }
 
-/// The truth of the term that the words begin with, and the words behind it.
+/// The truth of the term with which the words start, and the words after it.
 #[tactic(auto, using(crate::proofs::VerdictLemmas::terms))]
 fn term(words: &[Vec<u8>]) -> Option<(bool, &[Vec<u8>])>
     ensures { term_shown result ≡ term (texts words.now) }
@@ -104,7 +104,7 @@ fn term(words: &[Vec<u8>]) -> Option<(bool, &[Vec<u8>])>
     None
 }
 
-/// Two truths as an operator combines them.
+/// Two truths, combined by an operator.
 fn combined(operator: &[u8], left: bool, right: bool) -> Option<bool>
     ensures { result ≡ combined operator.now left right }
 {
@@ -117,10 +117,10 @@ fn combined(operator: &[u8], left: bool, right: bool) -> Option<bool>
     }
 }
 
-/// The truth of the words after `test`: terms, combined by `-a` and `-o` from the left, both of one
-/// rank. A term is a comparison of three words (`= != < >` compare bytes, `-eq -ne -lt -le -gt -ge`
-/// numbers), or `!` and a term, or `-n` or `-z` and a word. Any other list of words is false as a
-/// whole. It takes no memory.
+/// The truth of the words after `test`: terms, combined by `-a` and `-o` from the left, both of the
+/// same rank. A term is a comparison of three words (`= != < >` compare bytes, `-eq -ne -lt -le -gt
+/// -ge` compare numbers), or `!` and a term, or `-n` or `-z` and a word. Any other list of words is
+/// false as a whole. Takes no memory.
 pub fn verdict(words: &[Vec<u8>]) -> bool
     ensures { result ≡ verdict (texts words.now) }
 {

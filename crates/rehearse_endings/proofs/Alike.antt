@@ -15,7 +15,7 @@ use Rattle.rehearse.specs.Runs.{state_of}
 use Rattle.rehearse.proofs.Keeping.{Track-of, KeepsAll, Keeps-script, Keeps-joined, Keeps-arms, Keeps-exec, Keeps-run, Keeps-turns, Keeps-for, Keeps-if, Keeps-stays, after_condition, Keeps-after_condition, Keeps-ended, Keeps-simple, Keeps-sized, Keeps-assign}
 use Rattle.rehearse_endings.specs.Elsewhere.{elsewhere, devices_of, HaveFurther, AreApart, IsBeyond, IsAlike, same, cut_here, beyond, Alike}
 
--- a change of memory that leaves all but the text alone elsewhere
+-- a change of memory in which the text before affects only the text after
 abbrev pub Reaches : (Memory → Memory) → Memory → Type 0
 Reaches change m = (text : Text) → (other : Text) × (change (record m { text = text }) ≡ record (change m) { text = other })
 
@@ -26,7 +26,7 @@ log_within (Exit s) = omega arith
 log_within (Ended ending s) = omega arith
 log_within (Dry s) = omega arith
 
--- logs that go on alike are apart by as much as those that they began with
+-- logs that go on alike differ by as much as the logs with which they started
 pub further_apart : (k l here there : List LoggedCommand) → HaveFurther k l here there → length k + length there ≡ length l + length here
 further_apart k l here there h =
     let a = ap length h.goes_on_here in
@@ -35,7 +35,7 @@ further_apart k l here there h =
     let d = length-append l h.further in
     omega arith
 
--- one entry more
+-- one more entry
 pub further_on : (k l here there : List LoggedCommand) (entry : LoggedCommand) → HaveFurther k l here there → HaveFurther k l (here ++ entry ∷ []) (there ++ entry ∷ [])
 further_on k l here there entry h = record {
   further = h.further ++ entry ∷ [];
@@ -53,7 +53,7 @@ module _ (limits : Limits) (i j : ℕ) (k l : List LoggedCommand) where
   abbrev pub AlwaysDoes : (State → Answer) → Type 0
   AlwaysDoes f = (s : State) → Does s f
 
-  -- what went beyond stays beyond
+  -- what was beyond a bound stays beyond it
   beyond_later : (a b : Answer) → (state_of a).steps ≤ (state_of b).steps → devices_of a ≤ length (state_of b).log → IsBeyond limits i j k l a → IsBeyond limits i j k l b
   beyond_later a b e f (inl h) = let g = h.1 in inl (h.0, omega arith)
   beyond_later a b e f (inr h) = let g = h.1 in inr (h.0, let w = log_within b in omega arith)
@@ -112,7 +112,7 @@ module _ (limits : Limits) (i j : ℕ) (k l : List LoggedCommand) where
   pub Alike-exit : (s : State) (change : Memory → Memory) → Reaches change s.memory → Does s (λ t. Exit (remember change t))
   Alike-exit s change r = Alike-remember s change Exit r (λ text log n e. same (record { text = text; log = log; steps = n; is = refl; apart = e }))
 
-  -- a change that reads nothing but its own memory
+  -- a change that reads only its own memory
   reaches_status : (n : ℕ) (m : Memory) → Reaches (λ m'. record m' { status = n }) m
   reaches_status n m = λ text. (text, refl)
 
@@ -219,7 +219,7 @@ module _ (limits : Limits) (i j : ℕ) (k l : List LoggedCommand) where
       (Alike-remember s (λ m. record m { locals = with_value m.locals pair.0 value }) (assign pairs) (λ text. (text, refl)) (Alike-assign pairs (set_local pair.0 value s)))
       (Alike-ended s Size)
 
-  -- a `run`, where each script is alike
+  -- a `run`, if each script is alike
   module _ (script : Script → State → Answer) (kept : (a : Script) → KeepsAll limits (script a)) (does : (a : Script) → AlwaysDoes (script a)) where
     Alike-tree : (found : Option Script) (name : Text) (s : State) → Does s (λ t. elim found [ None ↦ Ended (Syntax name) t | Some a ↦ script a (elim a [ tree.Empty ↦ set_status 0 t | tree.Runs l ls ↦ t ]) ])
     Alike-tree None name s = Alike-ended s (Syntax name)

@@ -88,7 +88,7 @@ logs_itself limits i k c (futures.beyond (inr h)) = absurd (omega (arith, h.0))
 abbrev pub entry_of : Request → Outcome → LoggedCommand
 entry_of request d = record { success = succeeds d; words = request.name ∷ request.words }
 
--- a device command that answered goes on behind its entry
+-- a device command that answered goes on after its entry
 took : (limits : Limits) (request : Request) (d : Outcome) (w : OutcomeWord) (s : State) → IsAlike limits s.steps s.steps (s.log ++ entry_of request d ∷ []) (s.log ++ entry_of request d ∷ []) (take_outcome request (d ∷ w) s) (take_outcome request (d ∷ w) s)
 took limits request Success w s =
     let u : State = set_environment (sets_in request.words request.effect.sets) (logged Success request (record s { word = w })) in

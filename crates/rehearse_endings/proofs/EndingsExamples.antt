@@ -22,17 +22,17 @@ lines t states = endings_text (endings t) (length (all_runs t)) states
 
 -- ---- scripts
 
--- two runs end alike, and one ends otherwise
+-- two runs end alike, and one ends differently
 two_attempts : lines (task 3 (codes "load a || load b")) 2 ≡ codes "ends 2 first 0 fewest 0 0 end 0\nends 1 first 11 fewest 2 11 end 1\nall 3 states 2\n"
 unfolding tree_of fields joined atoms digits
 two_attempts = refl
 
--- the first run that ends so has more failures than another one
+-- the first run with this ending has more failures than a later one
 later_has_fewer : lines (task 3 (codes "if load a; then load b || load c || exit 3; else exit 3; fi")) 3 ≡ codes "ends 2 first 00 fewest 0 00 end 0\nends 2 first 011 fewest 1 1 end 3\nall 4 states 3\n"
 unfolding tree_of fields joined atoms digits
 later_has_fewer = refl
 
--- of two runs with as many failures, the first is the one with the fewest
+-- of two runs with equally many failures, the first has the fewest
 first_of_as_many : lines (task 3 (codes "if load a; then load b || exit 3; else exit 3; fi")) 2 ≡ codes "ends 1 first 00 fewest 0 00 end 0\nends 2 first 01 fewest 1 01 end 3\nall 3 states 2\n"
 unfolding tree_of fields joined atoms digits
 first_of_as_many = refl
@@ -42,7 +42,7 @@ no_device : lines (task 3 (codes "exit 4")) 0 ≡ codes "ends 1 first . fewest 0
 unfolding tree_of fields joined atoms digits
 no_device = refl
 
--- an ending whose first run comes after the first run of another, though more runs end so
+-- an ending whose first run comes after the first run of another ending, though more runs have it
 in_order_of_first : lines (task 2 (codes "load a && true; load b")) 3 ≡ codes "ends 2 first 00 fewest 0 00 end 0\nends 2 first 01 fewest 1 01 end 1\nall 4 states 3\n"
 unfolding tree_of fields joined atoms digits
 in_order_of_first = refl
@@ -68,11 +68,11 @@ kinds =
     End 0 ∷ End 1 ∷ CutDevices ∷ CutSteps ∷ Unknown (codes "a") ∷ Unknown (codes "b") ∷ Syntax (codes "a") ∷ Syntax (codes "b") ∷ Size
     ∷ Booted (codes "a") ∷ Booted (codes "b") ∷ []
 
--- to which of them an ending is equal
+-- to which of the kinds an ending is equal
 abbrev equals : Ending → List Bool
 equals e = map (ending_eq e) kinds
 
--- the truth at one place of eleven
+-- true at one place of eleven
 abbrev only_at : ℕ → List Bool
 only_at n = map (nat_eq n) (0 ∷ 1 ∷ 2 ∷ 3 ∷ 4 ∷ 5 ∷ 6 ∷ 7 ∷ 8 ∷ 9 ∷ 10 ∷ [])
 
@@ -84,7 +84,7 @@ each_equals_itself = refl
 failures_counted : map failures ([] ∷ (Success ∷ []) ∷ (Failure ∷ []) ∷ (Failure ∷ Success ∷ Failure ∷ []) ∷ []) ≡ 0 ∷ 0 ∷ 1 ∷ 2 ∷ []
 failures_counted = refl
 
--- the second has fewer failures, the first does, both have as many
+-- the second has fewer failures; the first has fewer; both have equally many
 fewer_second : fewer (Failure ∷ Failure ∷ []) (Failure ∷ []) ≡ Failure ∷ []
 fewer_second = refl
 
@@ -99,15 +99,15 @@ fewer_of_as_many = refl
 abbrev row : Ending → ℕ → OutcomeWord → OutcomeWord → Row
 row ending count word fewest = record { ending = ending; count = count; word = word; fewest = fewest }
 
--- both counts are counted, the first word stays, the fewer failures are taken
+-- the counts are added, the first word stays, and the word with fewer failures is taken
 joined_row : with_further (row (End 3) 2 (Failure ∷ Failure ∷ []) (Success ∷ Failure ∷ [])) (row (End 3) 5 (Failure ∷ []) []) ≡ row (End 3) 7 (Failure ∷ Failure ∷ []) []
 joined_row = refl
 
--- another ending comes after those that are there
+-- another ending comes after the ones that are there
 row_behind : with_row (row (End 0) 2 [] [] ∷ row Size 3 [] [] ∷ []) (row CutSteps 4 [] []) ≡ row (End 0) 2 [] [] ∷ row Size 3 [] [] ∷ row CutSteps 4 [] [] ∷ []
 row_behind = refl
 
--- a row that is there stays at its place
+-- a row that is there keeps its place
 row_at_its_place : with_row (row (End 0) 2 [] [] ∷ row Size 3 [] [] ∷ []) (row (End 0) 4 [] []) ≡ row (End 0) 6 [] [] ∷ row Size 3 [] [] ∷ []
 row_at_its_place = refl
 
@@ -115,12 +115,12 @@ row_at_its_place = refl
 gathered : gather ((End 1, Success ∷ []) ∷ (End 0, Failure ∷ Success ∷ []) ∷ (End 1, Failure ∷ Failure ∷ Success ∷ []) ∷ (End 0, Failure ∷ Failure ∷ Failure ∷ []) ∷ []) ≡ row (End 1) 2 (Success ∷ []) (Success ∷ []) ∷ row (End 0) 2 (Failure ∷ Success ∷ []) (Failure ∷ Success ∷ []) ∷ []
 gathered = refl
 
--- both sides of a device command: the counts of both are summed; the first word is that of the success, and the one with
--- the fewest failures that of the failure, which counts as one
+-- both sides of a device command: the counts of both are added; the first word is from the success; the word with the
+-- fewest failures is from the failure, which counts as one
 both_sides : of_both (row (End 3) 2 (Failure ∷ Failure ∷ []) (Failure ∷ Failure ∷ []) ∷ []) (row (End 0) 1 (Success ∷ []) (Success ∷ []) ∷ row (End 3) 5 (Failure ∷ []) [] ∷ []) ≡ row (End 3) 7 (Success ∷ Failure ∷ Failure ∷ []) (Failure ∷ []) ∷ row (End 0) 1 (Failure ∷ Success ∷ []) (Failure ∷ Success ∷ []) ∷ []
 both_sides = refl
 
--- ---- counts that are too great
+-- ---- counts that are too large
 
 greatest_count : most_runs + 1 ≡ 2 ^ 128
 greatest_count = refl
@@ -132,7 +132,7 @@ counts_told = refl
 saturated_rows : map saturated (row Size 7 [] [] ∷ row Size most_runs [] [] ∷ row Size (most_runs + 9) [] [] ∷ []) ≡ row Size 7 [] [] ∷ row Size most_runs [] [] ∷ row Size most_runs [] [] ∷ []
 saturated_rows = refl
 
--- two counts that each fit, and their sum does not
+-- two counts that each fit, but whose sum does not
 too_great_together : with_row_up (row Size (most_runs - 1) [] [] ∷ []) (row Size 2 [] []) ≡ row Size most_runs [] [] ∷ []
 too_great_together = refl
 

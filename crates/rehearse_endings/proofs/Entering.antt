@@ -58,7 +58,7 @@ won_or_lost p w h k =
     let f : Success ≡ Failure = same_next p h.0 k.0 Success Failure e in
     cc
 
--- ---- where the search has come to
+-- ---- how far the search is
 
 is_longer : (p : OutcomeWord) (d : Outcome) → length (p ++ d ∷ []) ≡ length p + 1
 is_longer p d = let a = length-append p (d ∷ []) in omega arith
@@ -120,11 +120,11 @@ module _ (task : Task) (p : OutcomeWord) (m : Moment) (kept pending : List Asked
     unlike = no_two_alike;
   }
 
--- the answer that the table is full is handed on
+-- the answer that the table is full is passed on
 pub refused_as : {A : Type 0} (task : Task) (count : ℕ) (r : Result A SumError) (e : SumError) → r ≡ Err e → (e ≡ States → HasStates task count) → IfErr r (λ (x : SumError). x ≡ States → HasStates task count)
 refused_as {A} task count r e is h = subst (λ (x : Result A SumError). IfErr x (λ (y : SumError). y ≡ States → HasStates task count)) (sym is) h
 
--- ---- a state that is gone through
+-- ---- a state that was searched
 
 regrouped : (kept won lost pending : List Asked) (t : Asked) → ((kept ++ won) ++ lost) ++ t ∷ pending ≡ (kept ++ ((won ++ lost) ++ t ∷ [])) ++ pending
 regrouped kept won lost pending t =

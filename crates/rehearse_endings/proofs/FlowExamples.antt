@@ -22,7 +22,7 @@ attempts_lines : flow_text attempts ≡ codes "1 ask load a success 4 failure 2\
 unfolding digits
 attempts_lines = refl
 
--- a word with a blank is told in word form, and so is a name that is not known
+-- a word with a blank is written in word form, and so is a name that is not known
 named_lines : flow_text (Asks (codes "load" ∷ codes "a b" ∷ []) 2 2 ∷ Ends (Unknown (codes "b c")) ∷ []) ≡ codes "1 ask load a\\x20b success 2 failure 2\n2 ends stop unknown b\\x20c\n"
 unfolding digits
 named_lines = refl
@@ -38,7 +38,7 @@ no_outcome : walked [] ≡ seen_of (run_on task [])
 unfolding tree_of fields joined atoms
 no_outcome = refl
 
--- its success ends the run, its failure leads on
+-- its success ends the run, and its failure leads on
 one_success : walked (Success ∷ []) ≡ seen_of (run_on task (Success ∷ []))
 unfolding tree_of fields joined atoms
 one_success = refl
@@ -60,14 +60,14 @@ too_long : walked (Success ∷ Success ∷ Failure ∷ []) ≡ seen_of (run_on t
 unfolding tree_of fields joined atoms
 too_long = refl
 
--- there is no line 0 and none after the last
+-- there is no line 0 and no line after the last
 no_line : walk (numbered attempts) [] 0 ≡ record { kind = Short; ending = None; log = [] }
 no_line = refl
 
 behind_the_last : walk (numbered attempts) (Success ∷ []) 5 ≡ record { kind = Short; ending = None; log = [] }
 behind_the_last = refl
 
--- cut where the device bound is met
+-- cut at the device bound
 abbrev cut : List Node
 cut = Asks (codes "load" ∷ []) 2 2 ∷ Ends CutDevices ∷ []
 

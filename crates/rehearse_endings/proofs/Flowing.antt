@@ -42,7 +42,7 @@ asking_drawn limits m won_stop lost_stop won_at lost_at before nodes won_place l
     (future_is limits lost_stop (λ w. asked_at limits m (Failure ∷ w)) lost_at lost) lost_log lost_draws
     words (are ∙ words_logged limits m asking won_at.log Success [] (stopped_log limits won_stop (λ w. asked_at limits m (Success ∷ w)) won_at won))
 
--- the place of the device command that asks, from those of its two sides
+-- the place of the device command that asks, from the places of its two sides
 pub state_drawn : (task : Task) (depth : ℕ) (m : Moment) (won_stop lost_stop : Stop) (won_at lost_at : Moment) (before nodes new : List Node) (won_place lost_place place : ℕ) (words : List Text) → IsReached task depth stops.Asks m
     → Stops task.limits won_stop (λ w. asked_at task.limits m (Success ∷ w)) won_at → Stops task.limits lost_stop (λ w. asked_at task.limits m (Failure ∷ w)) lost_at
     → words ≡ words_in (slice_get won_at.log depth) → Draws before won_place (seen_from task.limits won_stop won_at) → HasMore before nodes → Draws nodes lost_place (seen_from task.limits lost_stop lost_at)
@@ -56,7 +56,7 @@ state_drawn task depth m won_stop lost_stop won_at lost_at before nodes new won_
     (asking_drawn task.limits m won_stop lost_stop won_at lost_at before nodes won_place lost_place words (reached_asks task depth m reached) (reached_wants task depth m reached) won lost (omega arith) (omega arith)
     (are ∙ ap (λ (n : ℕ). words_in (slice_get won_at.log n)) (sym log)) won_draws more lost_draws))
 
--- it is kept
+-- the state is kept
 pub kept_drawn : (limits : Limits) (m : Moment) (nodes new : List Node) (place kept : ℕ) → new ≡ nodes → kept ≡ place → Draws nodes place (seen_at limits m) → Draws new kept (seen_at limits m)
 kept_drawn limits m nodes new place kept e at h =
     subst (λ (x : List Node). Draws x kept (seen_at limits m)) (sym e) (subst (λ (n : ℕ). Draws nodes n (seen_at limits m)) (sym at) h)
@@ -67,7 +67,7 @@ ended_drawn limits nodes place kept halt stop m is at e =
     subst (λ (x : Stop). Draws nodes kept (seen_from limits x m)) (sym is)
     (subst (λ (n : ℕ). Draws nodes n (seen_from limits (stops.Ends halt) m)) (sym at) (end_drawn limits nodes place (halt_shown halt) m e))
 
--- nodes behind those behind others
+-- nodes after nodes that are after others
 pub more_on : (a b c : List Node) → HasMore a b → HasMore b c → HasMore a c
 more_on a b c h k = (h.0 ++ k.0, k.1 ∙ ap (λ (x : List Node). x ++ k.0) h.1 ∙ append_assoc a h.0 k.0)
 

@@ -73,11 +73,11 @@ ending_itself (Booted a) = (bytes_eq-Decides a a).1 refl
 
 -- ---- rows
 
--- what with_row does to the first row
+-- what `with_row` does to the first row
 abbrev pub row_if : Bool → Row → List Row → Row → List Row
 row_if b r rs row = elim b [ true ↦ joined r row ∷ rs | false ↦ r ∷ with_row rs row ]
 
--- an ending stands in rows
+-- rows have this ending
 abbrev pub Stands : Ending → List Row → Type 0
 Stands e rows = list_any (λ r. ending_eq r.ending e) rows ≡ true
 
@@ -86,7 +86,7 @@ stands_if true c e r rs row k ih h = ap (λ (x : Bool). x || list_any (λ q. end
 stands_if false true e r rs row k ih h = ap (λ (x : Bool). x || list_any (λ q. ending_eq q.ending e) (with_row rs row)) k
 stands_if false false e r rs row k ih h = ap (λ (x : Bool). x || list_any (λ q. ending_eq q.ending e) (with_row rs row)) k ∙ ih h
 
--- what stands goes on standing
+-- an ending that rows have stays in them
 pub stands_on : (e : Ending) (rs : List Row) (row : Row) → Stands e rs → Stands e (with_row rs row)
 stands_on e [] row h = absurd (let f = h in cc)
 stands_on e (r ∷ rs) row h = stands_if (ending_eq r.ending row.ending) (ending_eq r.ending e) e r rs row refl (λ k. stands_on e rs row k) h
@@ -99,18 +99,18 @@ stands_new_if : (b : Bool) (e : Ending) (r : Row) (rs : List Row) (row : Row) �
 stands_new_if true e r rs row k same h = ap (λ (x : Bool). x || list_any (λ q. ending_eq q.ending e) rs) (sym (ap (λ (x : Ending). ending_eq r.ending x) same) ∙ k)
 stands_new_if false e r rs row k same h = or_true (ending_eq r.ending e) (list_any (λ q. ending_eq q.ending e) (with_row rs row)) h
 
--- what was put stands
+-- the ending of a row that was put is in the rows
 pub stands_new : (e : Ending) (rs : List Row) (row : Row) → row.ending ≡ e → Stands e (with_row rs row)
 stands_new e [] row same = ap (λ (x : Bool). x || false) (ap (λ (x : Ending). ending_eq x e) same ∙ ending_itself e)
 stands_new e (r ∷ rs) row same = stands_new_if (ending_eq r.ending row.ending) e r rs row refl same (stands_new e rs row same)
 
--- ---- rows that end otherwise
+-- ---- rows with other endings
 
--- an ending does not stand in rows
+-- rows do not have this ending
 abbrev pub Misses : Ending → List Row → Type 0
 Misses e rows = list_any (λ r. ending_eq r.ending e) rows ≡ false
 
--- no ending stands twice
+-- no two rows have the same ending
 abbrev pub AreApart : List Row → Type 0
 AreApart [] = Unit {0}
 AreApart (r ∷ rs) = Misses r.ending rs × AreApart rs
@@ -146,7 +146,7 @@ apart_if : (b : Bool) (r : Row) (rs : List Row) (u : Row) → ending_eq r.ending
 apart_if true r rs u k h l = h
 apart_if false r rs u k h l = (misses_on r.ending rs u (other_way r.ending u.ending k) h.0, l)
 
--- rows stay apart
+-- no two rows get the same ending
 pub apart_on : (rs : List Row) (u : Row) → AreApart rs → AreApart (with_row rs u)
 apart_on [] u h = (refl, tt)
 apart_on (r ∷ rs) u h = apart_if (ending_eq r.ending u.ending) r rs u refl h (apart_on rs u h.1)
@@ -209,7 +209,7 @@ swap : (rs : List Row) (v u : Row) → ending_eq v.ending u.ending ≡ false →
 swap [] v u d h = absurd (let f = h in cc)
 swap (r ∷ rs) v u d h = swap_if (ending_eq r.ending v.ending) (ending_eq r.ending u.ending) r rs v u d refl refl (λ k. swap rs v u d (later_stands (ending_eq r.ending u.ending) (list_any (λ q. ending_eq q.ending u.ending) rs) k h))
 
--- a row whose ending stands may be put in front of those that end otherwise
+-- a row whose ending is there may be put before the rows with other endings
 put_first : (qs ts : List Row) (u : Row) → Misses u.ending ts → Stands u.ending qs → with_row (merge qs ts) u ≡ merge (with_row qs u) ts
 put_first qs [] u d h = refl
 put_first qs (v ∷ vs) u d h =
@@ -255,7 +255,7 @@ gather_append xs ys =
     ∙ merge_append [] (map one_run xs) (map one_run ys)
     ∙ sym (merge_assoc (gather xs) [] (map one_run ys) tt)
 
--- ---- runs behind one outcome
+-- ---- runs after one outcome
 
 put_behind_if : (b : Bool) (d : Outcome) (r : Row) (rs : List Row) (row : Row) → map (in_front d) (with_row rs row) ≡ with_row (map (in_front d) rs) (in_front d row) → map (in_front d) (row_if b r rs row) ≡ row_if b (in_front d r) (map (in_front d) rs) (in_front d row)
 put_behind_if true d r rs row h =

@@ -6,7 +6,7 @@ use Rattle.rehearse.specs.Runs.{Task, all_runs}
 use Rattle.rehearse_endings.specs.Endings.{Row, ending_eq, with_row, merge, one_run, ending, endings}
 use Rattle.rehearse_endings.proofs.Gathering.{AreApart, Misses, apart_on, either_left, either_right, ending_itself}
 
--- ---- no ending stands twice
+-- ---- no two rows have the same ending
 
 apart_merge : (rs ts : List Row) → AreApart rs → AreApart (merge rs ts)
 apart_merge rs [] h = h

@@ -1,4 +1,4 @@
--- The lines of endings: counts that are too great, and the number of all runs.
+-- The lines of endings: counts that are too large, and the number of all runs.
 use Rattle.std.proofs.Common.{ℕ, ◌+◌, ◌<◌, min, Bool, true, false, List, [], ◌∷◌, ◌++◌, map, flat_map, length, reverse, refl, sym, ap, ◌∙◌, ◌≡◌, nat_lt, codes, decimal, if◌then◌else◌, arith}
 use Rattle.std.proofs.lemmas.Bool.{ltb-true, ltb-false}
 use Rattle.std.proofs.lemmas.List.{length-map, length-reverse, map-append, reverse-append}
@@ -12,7 +12,7 @@ use Rattle.rehearse_endings.specs.Endings.{Row, ending_eq, joined, with_row, mer
 use Rattle.rehearse_endings.specs.RowsShown.{most_runs, saturated}
 use Rattle.rehearse_endings.specs.Lines.{count_text, row_text, all_text, endings_text, counted}
 
--- ---- counts that are too great
+-- ---- counts that are too large
 
 count_if : (b : Bool) (n : ℕ) → nat_lt n most_runs ≡ b → count_text (min n most_runs) ≡ count_text n
 count_if true n h = let l = ltb-true n most_runs h in ap count_text (let e : min n most_runs ≡ n = omega arith in e)
@@ -77,7 +77,7 @@ counted_all task =
     let l = length-map (all_runs task) pair in
     omega (arith, h, k, l)
 
--- what is told of the rows with counts up to the greatest
+-- what is written of rows with counts up to the greatest
 pub text_told : (task : Task) (rows : List Row) (text : Text) (states : ℕ) → rows ≡ map saturated (endings task) → text ≡ endings_text rows (counted rows) states → text ≡ endings_text (endings task) (length (all_runs task)) states
 text_told task rows text states e h =
     h ∙ ap (λ (x : List Row). endings_text x (counted x) states) e
@@ -112,7 +112,7 @@ spelled_shown word l =
     ∙ reverse_shown outcome_digit (map outcome_when word)
     ∙ ap reverse (digits_shown word)
 
--- ---- one row more
+-- ---- one more row
 
 counted_append : (rs ts : List Row) → counted (rs ++ ts) ≡ counted rs + counted ts
 counted_append [] ts = omega arith

@@ -21,7 +21,7 @@ use Rattle.rehearse_endings.specs.Futures.{HaveSameCore, CameAlike}
 use Rattle.rehearse_endings.proofs.Alike.{take_alike}
 use Rattle.rehearse_endings.proofs.Frames.{continue_alike}
 
--- where both ask, they ask the same
+-- if both ask, they ask the same
 abbrev AsksFor : Request → PlaceNext → Type 0
 AsksFor r (GoOn ps s) = Unit {0}
 AsksFor r (AskOn r' ps s) = r ≡ r'
@@ -83,7 +83,7 @@ module _ (limits : Limits) (text : Text) (log : List LoggedCommand) (n : ℕ) wh
   request_same : (ps qs qs' : List RunningFrame) (s t t' : State) (r r' : Request) → found_again limits ps s ≡ AskOn r qs t → found_again limits ps (there s) ≡ AskOn r' qs' t' → r ≡ r'
   request_same ps qs qs' s t t' r r' e e' = subst (λ (b : PlaceNext). AskSame (AskOn r qs t) b) e' (subst (λ (a : PlaceNext). AskSame a (found_again limits ps (there s))) e (found_same ps s))
 
--- the state of a moment of the same core is that of the other, elsewhere
+-- the state of a moment is the state of another moment with the same core, elsewhere
 abbrev made : Variables → Variables → ℕ → Moment → OutcomeWord → State
 made environment locals status t w = record { memory = record { environment = environment; locals = locals; status = status; text = t.text }; log = t.log; steps = t.steps; word = w }
 

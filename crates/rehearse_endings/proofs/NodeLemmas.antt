@@ -25,7 +25,7 @@ end_found nodes slice i node other halt same within at is equal =
     ∙ ap (λ (n : rt.Node). Some (node_shown n)) is
     ∙ ap (λ e. Some (Ends e)) (ending_same (halt_shown other) (halt_shown halt) (sym equal))
 
--- one line more
+-- one more line
 pub flow_more : (number : ℕ) (nodes : List Node) (node : Node) → flow_from number (nodes ++ node ∷ []) ≡ flow_from number nodes ++ line (decimal (number + length nodes) ++ codes " " ++ node_text node)
 flow_more number [] node = append-nil (line (decimal number ++ codes " " ++ node_text node)) ∙ ap (λ (n : ℕ). line (decimal n ++ codes " " ++ node_text node)) (let e : number ≡ number + 0 = omega arith in e)
 flow_more number (x ∷ nodes) node =
@@ -42,7 +42,7 @@ four_pieces old number blank node end =
     ap (λ (t : Text). t ++ end) (ap (λ (t : Text). t ++ node) (append_assoc old number blank) ∙ append_assoc old (number ++ blank) node)
     ∙ append_assoc old ((number ++ blank) ++ node) end
 
--- the lines of one node more
+-- the lines with one more node
 pub lines_on : (items : List rt.Node) (i : ℕ) (node : rt.Node) (number : ℕ) (old : Text) → i < length items → node ≡ get_or items i node → number ≡ suc i → old ≡ flow_text (map node_shown (take i items))
     → old ++ line (decimal number ++ codes " " ++ node_text (node_shown node)) ≡ flow_text (map node_shown (take (i + 1) items))
 lines_on items i node number old within is at so_far =

@@ -38,7 +38,7 @@ use Rattle.rehearse_endings.proofs.Summing.{rows_as, sums_same, came_same, sums_
 use Rattle.rehearse_endings.proofs.Gathering.{are_rows}
 use Rattle.rehearse_endings.proofs.Saturating.{both_up}
 
--- ---- where a text has stopped
+-- ---- a text that has stopped
 
 state_settled : (a : Answer) → came_state (settled a) ≡ state_of a
 state_settled (Normal s) = refl
@@ -130,7 +130,7 @@ same_core m t e = record {
   frames = sym (ap (λ (c : CoreShown). c.frames) e);
 }
 
--- where an entry stands there is one
+-- if an entry is found, the table has it
 pub some_there : (es slice : List Entry) (i : ℕ) → slice ≡ es → true ≡ nat_lt i (length slice) → (o : Option kept.Summary) → MatchOption o ⊤ (λ s. es ≢ [])
 some_there es slice i same within None = tt
 some_there es slice i same within (Some s) = λ none. let l = ltb-true i (length slice) (sym within) in let a : length slice ≡ 0 = ap length (same ∙ none) in absurd (omega arith)
@@ -170,7 +170,7 @@ module _ (limits : Limits) (nodes : List Node) (e : Entry) (t : Moment) (depth :
       subst (λ (p : ℕ). Draws nodes p (seen_at limits t)) (sym is)
       (draws_there limits h.moment t nodes e.summary.place (came_same limits h.moment t h.summary h.sums h.reach_steps h.reach_devices fits_there h.asks asks) h.draws)
 
-  -- what a look into the table finds
+  -- what a look-up in the table finds
   pub look_there : (o : Option kept.Summary) (steps_now : ℕ) → steps_now ≡ t.steps → MatchOption o ⊤ (λ s. summary_shown s ≡ moved_by e.steps steps_now e.devices depth (summary_shown e.summary)) → MatchOption o ⊤ (λ s. Summed (asked_at limits t) (summary_shown s))
   look_there None steps_now at is = is
   look_there (Some s) steps_now at is = summed_there (summary_shown s) (is ∙ ap (λ (n : ℕ). moved_by e.steps n e.devices depth (summary_shown e.summary)) at)
@@ -219,7 +219,7 @@ module _ (limits : Limits) (nodes : List Node) where
   pub all_wider : (new : List Node) (es : List Entry) → HasMore nodes new → AreEntries limits nodes es → AreEntries limits new es
   all_wider new es h k = λ n d l. wider new (get_or es n d) h (k n d l)
 
--- one entry more
+-- one more entry
 pub entries_more : (task : Task) (nodes : List Node) (depth : ℕ) (m : Moment) (old new : List Entry) (core : CoreShown) (steps place : ℕ) (s : Summary) → IsReached task depth Asks m → AreEntries task.limits nodes old → core ≡ core_of m → steps ≡ m.steps → Summed (asked_at task.limits m) s → Draws nodes place (seen_at task.limits m) → IsKept old new core steps depth place s → AreEntries task.limits nodes new
 entries_more task nodes depth m old new core steps place s reached all same at summed draws kept =
     let log = reached_log task depth Asks m reached in
@@ -254,13 +254,13 @@ back_there r₀ r r₁ r₂ back e a b k =
 pub lost_on : (task : Task) (m : Moment) (back r₁ : Record) (stop : Stop) → back.present ≡ m → Stops task.limits stop (λ w. asked_at task.limits back.present (outcome_when false ∷ w)) r₁.present → Stops task.limits stop (λ w. asked_at task.limits m (Failure ∷ w)) r₁.present
 lost_on task m back r₁ stop e h = subst (λ (x : Moment). Stops task.limits stop (λ w. asked_at task.limits x (Failure ∷ w)) r₁.present) e h
 
--- where both outcomes lead that a device command asks for
+-- where the two outcomes lead for which a device command asks
 pub record Sides (task : Task) (depth : ℕ) (m : Moment) (won_stop lost_stop : Stop) (won_at lost_at : Moment) : Type 0 where
   pub reached : IsReached task depth Asks m
   pub won : Stops task.limits won_stop (λ w. asked_at task.limits m (Success ∷ w)) won_at
   pub lost : Stops task.limits lost_stop (λ w. asked_at task.limits m (Failure ∷ w)) lost_at
 
--- of the records here, at the mark, with the success, behind it, back at the mark, and with the failure
+-- the records: now, at the mark, with the success, after it, back at the mark, and with the failure
 pub sides_of : (task : Task) (depth : ℕ) (stop won_stop lost_stop : Stop) (here marked won behind back lost : Record) → stop ≡ Asks → IsReached task depth stop here.present
     → marked ≡ with_mark here → Stops task.limits won_stop (λ w. asked_at task.limits marked.present (outcome_when true ∷ w)) won.present → won.marked ≡ marked.marked → behind.marked ≡ won.marked
     → back ≡ gone_back behind → Stops task.limits lost_stop (λ w. asked_at task.limits back.present (outcome_when false ∷ w)) lost.present
@@ -276,7 +276,7 @@ sides_of task depth stop won_stop lost_stop here marked won behind back lost ask
 abbrev pub Room : (begun visited : ℕ) → Type 0
 Room begun visited = begun ≤ (2 * visited + 1) * most_steps
 
--- the steps of so many states more
+-- the steps of this many more states
 abbrev pub Grows : (old new old_visited new_visited : ℕ) → Type 0
 Grows old new old_visited new_visited = new + 2 * old_visited * most_steps ≤ old + 2 * new_visited * most_steps
 

@@ -36,7 +36,7 @@ failures_reverse (d ∷ w) =
     let h = failures_reverse w in
     omega (arith, a, b, c, h)
 
--- one device command more
+-- one more device command
 pub failures_more : (before after : OutcomeWord) (x : Bool) (n m : ℕ) → after ≡ before ++ outcome_when x ∷ [] → n ≡ failures (reverse before) → m ≡ failures (outcome_when x ∷ []) → n + m ≡ failures (reverse after)
 failures_more before after x n m e h k =
     let a = failures_reverse before in

@@ -32,7 +32,7 @@ pub same_end : {X Y : Type 0} (f : X → Y) (all items others : List X) (i : ℕ
 same_end f all items others i le inv none =
     sym (inv ∙ ap (λ l. map f (take i items) ++ map f l) none ∙ append-nil (map f (take i items)) ∙ ap (map f) (take_all i items le))
 
--- ---- the same, where the lists are known to be the same
+-- ---- the same, if the lists are known to be the same
 
 same_rest : {X Y : Type 0} (f : X → Y) (all items others : List X) (i : ℕ) → map f all ≡ map f (take i items) ++ map f others → map f items ≡ map f all → map f (drop i items) ≡ map f others
 same_rest f all items others i inv h =
@@ -131,7 +131,7 @@ same_joins a b xs ys is js k h =
     list_of a.first a.rest ∙ ap (λ (x : tree.Command). tree.Starts x (view.joins (map view.joined a.rest.items))) k
     ∙ ap (λ (x : List (Op × tree.Command)). tree.Starts (view.command b.first) (view.joins x)) (sym (ap (map view.joined) is) ∙ h ∙ ap (map view.joined) js) ∙ sym (list_of b.first b.rest)
 
--- ---- pairs that are gone through beside an iterator
+-- ---- pairs that are read beside an iterator
 
 abbrev pub same_made : List ℕ → List ℕ → List ℕ × List ℕ
 same_made x y = (x, y)

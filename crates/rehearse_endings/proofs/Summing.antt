@@ -26,7 +26,7 @@ rows_as f kinds endings rows k e h =
     subst (λ (x : OutcomeWord → Ending). HasRows kinds x rows) (same_function (λ w. came_ending (f w)) endings e)
     (subst (λ (x : OutcomeWord → WordKind). HasRows x (λ w. came_ending (f w)) rows) (same_function (λ w. came_kind (f w)) kinds k) h)
 
--- what comes to the same has the same summary
+-- two things that come to the same have the same summary
 pub sums_same : (f g : OutcomeWord → Came) (s : Summary) → ((w : OutcomeWord) → f w ≡ g w) → Sums f s → Sums g s
 sums_same f g s e h = subst (λ (x : OutcomeWord → Came). Sums x s) (same_function f g e) h
 

@@ -55,7 +55,7 @@ module _ (IsSo : OutcomeWord → Type 0) (seen : List OutcomeWord) (x : OutcomeW
   fewest_both w true e so h = fewest_on w (λ s. leb-true (failures w) (failures x) e) h
   fewest_both w false e so h = fewest_new so (all_more w (leb-false (failures w) (failures x) e) h)
 
--- ---- what rows tell of the runs that were seen
+-- ---- what rows say of the runs that were seen
 
 module _ (ends : OutcomeWord → Ending) where
   abbrev single : OutcomeWord → Row
@@ -98,7 +98,7 @@ module _ (ends : OutcomeWord → Ending) where
         (joined_told r same h.0, others_told rs (subst (λ (z : Ending). Misses z rs) same d.0) h.1)
     step_if false r rs e d h k = (other_told r e h.0, k refl)
 
-    -- one run more
+    -- one more run
     step : (rows : List Row) → AreApart rows → AreTold seen rows → (Misses (ends x) rows → NoneEnds (ends x) seen) → AreTold (seen ++ x ∷ []) (with_row rows (single x))
     step [] d h none =
         ((first_new (EndsSo (ends x)) seen x refl (none refl), fewest_new (EndsSo (ends x)) seen x refl (each_weaker (λ v. EndsSo (ends x) v → ⊥) (λ v. EndsSo (ends x) v → failures x < failures v) seen (λ v k s. absurd (k s)) (none refl))), tt)
@@ -109,7 +109,7 @@ module _ (ends : OutcomeWord → Ending) where
     before_if true e rs k m = absurd (let s = stands_on e rs (single x) k in cc)
     before_if false e rs k m = k
 
-    -- an ending that does not stand then, stands not now, and no run ends so
+    -- an ending that is in no row after this run was in none before, and this run has another
     missing_on : (rows : List Row) → ((e : Ending) → Misses e rows → NoneEnds e seen) → (e : Ending) → Misses e (with_row rows (single x)) → NoneEnds e (seen ++ x ∷ [])
     missing_on rows h e m =
         each_append (λ w. EndsSo e w → ⊥) seen (x ∷ []) (h e (before_if (list_any (λ q. ending_eq q.ending e) rows) e rows refl m)) ((λ s. absurd (let k = stands_new e rows (single x) s in cc)), tt)

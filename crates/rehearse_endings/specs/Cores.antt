@@ -6,7 +6,7 @@ use Rattle.bootstore.specs.Moment.{Moment, RunningFrame}
 use Rattle.rehearse.specs.State.{Variables}
 use Rattle.rehearse_endings.specs.declared.cores.Core.{Core}
 
--- what the runs still to come of a state depend on, but for the room that the bounds leave
+-- what the runs still to come of a state depend on, except the room that the bounds leave
 pub record CoreShown : Type 0 where
   pub environment : Variables
   pub locals : Variables

@@ -23,13 +23,13 @@ node_shown (made.Ends halt) = Ends (halt_shown halt)
 abbrev pub nodes_shown : Vec rt.Node Global → List Node
 nodes_shown nodes = map node_shown nodes.items
 
--- what stands behind the first commands of a log
+-- the commands of a log after the first n
 abbrev pub further : ℕ → List LoggedCommand → List LoggedCommand
 further zero log = log
 further (suc n) [] = []
 further (suc n) (command ∷ log) = further n log
 
--- what is seen of what a run comes to, behind so many device commands
+-- what is seen of what a run comes to, after this many device commands
 abbrev pub seen_behind : (devices : ℕ) → Came → Seen
 seen_behind devices came = record {
   kind = came_kind came;
@@ -45,7 +45,7 @@ Draws nodes place sees = (more : List Node) (w : OutcomeWord) → walk (slice_ge
 abbrev pub seen_at : Limits → Moment → OutcomeWord → Seen
 seen_at limits m w = seen_behind (length m.log) (asked_at limits m w)
 
--- nodes behind those that are there
+-- the old nodes, and more nodes after them
 abbrev pub HasMore : (old new : List Node) → Type 0
 HasMore old new = (more : List Node) × (new ≡ old ++ more)
 
@@ -54,7 +54,7 @@ abbrev pub words_in : Option LoggedCommand → List Text
 words_in (Some command) = command.words
 words_in None = []
 
--- ---- the order of the lines: the node that was made last is the first
+-- ---- the order of the lines: the last node made is the first
 
 abbrev pub renumbered : ℕ → Node → Node
 renumbered count (Asks words success failure) = Asks words (count - success) (count - failure)

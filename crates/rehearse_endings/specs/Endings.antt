@@ -15,11 +15,11 @@ ending_eq Size Size = true
 ending_eq (Booted a) (Booted b) = bytes_eq a b
 ending_eq _ _ = false
 
--- the word with fewer failures, and of as many the first
+-- the word with fewer failures; if they have equally many, the first
 abbrev pub fewer : OutcomeWord → OutcomeWord → OutcomeWord
 fewer v w = cond (nat_le (failures v) (failures w)) v w
 
--- a way to end, how many runs end so, the word of the first of them, and of the first with the fewest failures
+-- an ending, how many runs have it, the word of the first of these runs, and of the first with the fewest failures
 pub record Row : Type 0 where
   pub ending : Ending
   pub count : ℕ
@@ -30,7 +30,7 @@ pub record Row : Type 0 where
 abbrev pub joined : Row → Row → Row
 joined r row = record r { count = r.count + row.count; fewest = fewer r.fewest row.fewest }
 
--- runs that end as others do raise their count; another ending comes behind those that are there
+-- runs with an ending that is there raise its count; another ending comes after the ones that are there
 abbrev pub with_row : List Row → Row → List Row
 with_row [] row = row ∷ []
 with_row (r ∷ rs) row =
@@ -67,11 +67,11 @@ endings task = gather (map (λ w. (ending task w, w)) (all_runs task))
 abbrev pub in_front : Outcome → Row → Row
 in_front outcome r = record r { word = outcome ∷ r.word; fewest = outcome ∷ r.fewest }
 
--- the runs past a success, then those past a failure
+-- the runs after a success, then the runs after a failure
 abbrev pub of_both : (won lost : List Row) → List Row
 of_both won lost = merge (map (in_front Success) won) (map (in_front Failure) lost)
 
--- rows that are made from the ends: here the run ends, or each outcome leads on
+-- rows that are built from the ends: either the run ends here, or each outcome leads on
 pub data HasRows : (OutcomeWord → WordKind) → (OutcomeWord → Ending) → List Row → Type 0 where
   ends : {kind : OutcomeWord → WordKind} {ending : OutcomeWord → Ending} → kind [] ≡ Run →
       ((d : Outcome) (w : OutcomeWord) → kind (d ∷ w) ≡ Long) →

@@ -9,7 +9,7 @@ use Rattle.rehearse.specs.Execution.{Answer, Normal, Exit, Ended, Dry, Ending, E
 use Rattle.rehearse.specs.Runs.{Task, run_on, state_of, kind_of}
 use Rattle.rehearse.specs.Listing.{line, last_line}
 
--- a device command asks with these words, and its outcome leads to one of two nodes; or the run ends
+-- a device command asks with these words, and each outcome leads to a node; or the run ends
 pub data Node : Type 0 where
   Asks : (words : List Text) → (success failure : ℕ) → Node
   Ends : Ending → Node
@@ -25,7 +25,7 @@ abbrev pub next : Outcome → (success failure : ℕ) → ℕ
 next Success success failure = success
 next Failure success failure = failure
 
--- a device command with its outcome, and what is seen behind it
+-- a device command with its outcome, and what is seen after it
 abbrev pub behind : Outcome → (words : List Text) → Seen → Seen
 behind outcome words seen = record seen {
   log = (record { success = succeeds outcome; words = words }) ∷ seen.log;

@@ -31,7 +31,7 @@ came_state (Wants s) = s
 abbrev pub came_log : Came → List LoggedCommand
 came_log c = (came_state c).log
 
--- how many steps were begun, and for how many device commands room was needed, with the one that asks
+-- how many steps were begun, and for how many device commands room was needed, including the one that asks
 abbrev pub came_steps : Came → ℕ
 came_steps c = (came_state c).steps
 
@@ -39,7 +39,7 @@ abbrev pub came_devices : Came → ℕ
 came_devices (Over ending s) = length s.log
 came_devices (Wants s) = suc (length s.log)
 
--- the two moments differ in their texts, their logs and their steps alone
+-- the two moments differ only in their texts, their logs and their steps
 pub record HaveSameCore (m n : Moment) : Type 0 where
   pub environment : entries n.environment ≡ entries m.environment
   pub locals : entries n.locals ≡ entries m.locals
@@ -47,7 +47,7 @@ pub record HaveSameCore (m n : Moment) : Type 0 where
   pub frames : n.frames ≡ m.frames
 
 module _ (limits : Limits) (steps_here steps_there : ℕ) (log_here log_there : List LoggedCommand) where
-  -- the same, but for the text, the log and the steps
+  -- the same, except for the text, the log and the steps
   pub record IsSameCame (c d : Came) : Type 0 where
     pub kind : came_kind d ≡ came_kind c
     pub ending : came_ending d ≡ came_ending c
@@ -65,7 +65,7 @@ module _ (limits : Limits) (steps_here steps_there : ℕ) (log_here log_there : 
       ⊎ ((length log_here < length log_there)
       × (length log_here + limits.device_bound < length log_there + came_devices c))
 
-  -- the same, or a bound was in the way
+  -- the same, or a bound prevented it
   pub data CameAlike : Came → Came → Type 0 where
     same : {c d : Came} → IsSameCame c d → CameAlike c d
     cut_here : {c d : Came} → CameCut c → CameAlike c d

@@ -5,21 +5,21 @@ use Rattle.rehearse.specs.Runs.{Task, all_runs}
 use Rattle.rehearse_endings.specs.Endings.{Row, ending, endings}
 use Rattle.rehearse_endings.specs.Lines.{counted}
 
--- each run is counted, and once
+-- each run is counted, and only once
 abbrev pub RunsAreCounted : Type 0
 RunsAreCounted = (task : Task) → counted (endings task) ≡ length (all_runs task)
 
--- no ending stands twice
+-- no two rows have the same ending
 abbrev pub NoEndingTwice : Type 0
 NoEndingTwice = (task : Task) (r s : Row) (before between behind : List Row) →
     endings task ≡ before ++ r ∷ between ++ s ∷ behind → r.ending ≢ s.ending
 
--- it holds of each of these words
+-- each of these words has this property
 abbrev pub Each : (OutcomeWord → Type 0) → List OutcomeWord → Type 0
 Each IsSo [] = Unit {0}
 Each IsSo (w ∷ ws) = IsSo w × Each IsSo ws
 
--- the word is the first of those of which it holds
+-- the word is the first with this property
 pub record IsFirst (IsSo : OutcomeWord → Type 0) (w : OutcomeWord) (words : List OutcomeWord) : Type 0 where
   pub front : List OutcomeWord
   pub rest : List OutcomeWord
@@ -27,7 +27,7 @@ pub record IsFirst (IsSo : OutcomeWord → Type 0) (w : OutcomeWord) (words : Li
   pub so : IsSo w
   pub none : Each (λ v. IsSo v → ⊥) front
 
--- of those of which it holds, the word is the first with the fewest failures
+-- of the words with this property, the word is the first with the fewest failures
 pub record IsFewest (IsSo : OutcomeWord → Type 0) (w : OutcomeWord) (words : List OutcomeWord) : Type 0 where
   pub front : List OutcomeWord
   pub rest : List OutcomeWord
@@ -36,7 +36,7 @@ pub record IsFewest (IsSo : OutcomeWord → Type 0) (w : OutcomeWord) (words : L
   pub more : Each (λ v. IsSo v → failures w < failures v) front
   pub no_fewer : Each (λ v. IsSo v → failures w ≤ failures v) rest
 
--- a row's words are the first run that ends so, and the first with the fewest failures
+-- a row's words are the first run with its ending, and the first of these runs with the fewest failures
 abbrev pub RowsTellOfRuns : Type 0
 RowsTellOfRuns = (task : Task) (r : Row) (before behind : List Row) → endings task ≡ before ++ r ∷ behind →
     IsFirst (λ w. ending task w ≡ r.ending) r.word (all_runs task)

@@ -6,12 +6,12 @@ use Rattle.rehearse.specs.Outcomes.{failures}
 use Rattle.rehearse_endings.specs.Endings.{Row}
 use Rattle.rehearse_endings.specs.RowsShown.{most_runs}
 
--- a number of runs; one that is too great is told as the greatest
+-- a number of runs; one that is too large is written as the greatest
 abbrev pub count_text : ℕ → Text
 count_text n = if nat_lt n most_runs then decimal n else codes "at least " ++ decimal most_runs
 
--- how many runs end so, the first of them, the first of those with the fewest failures, and the last line of their
--- records
+-- how many runs have this ending, the first of them, the first of them with the fewest failures, and the last line of
+-- their records
 abbrev pub row_text : Row → Text
 row_text r =
     codes "ends " ++ count_text r.count ++ codes " first " ++ spelled r.word ++ codes " fewest "
@@ -24,7 +24,7 @@ all_text runs states = codes "all " ++ count_text runs ++ codes " states " ++ de
 abbrev pub endings_text : List Row → (runs states : ℕ) → Text
 endings_text rows runs states = flat_map (λ r. line (row_text r)) rows ++ line (all_text runs states)
 
--- how many runs the rows tell of
+-- how many runs the rows count
 abbrev pub counted : List Row → ℕ
 counted [] = 0
 counted (r ∷ rs) = r.count + counted rs

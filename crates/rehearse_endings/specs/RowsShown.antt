@@ -10,14 +10,14 @@ use Rattle.rehearse_endings.specs.Summaries.{Summary, Sums}
 use Rattle.rehearse_endings.specs.declared.rows.Row as rt
 use Rattle.rehearse_endings.specs.declared.summary.Summary as kept
 
--- the greatest count: a greater one is told as this
+-- the greatest count; a greater one is written as this
 abbrev pub most_runs : ℕ
 most_runs = 340282366920938463463374607431768211455
 
 abbrev pub saturated : Row → Row
 saturated r = record r { count = min r.count most_runs }
 
--- `joined`, `with_row` and what is made of them, with counts up to the greatest
+-- `joined`, `with_row` and what is built from them, with counts up to the greatest
 abbrev pub joined_up : Row → Row → Row
 joined_up r row = record r { count = min (r.count + row.count) most_runs; fewest = fewer r.fewest row.fewest }
 
@@ -36,7 +36,7 @@ merge_up rows (r ∷ rs) = merge_up (with_row_up rows r) rs
 abbrev pub of_both_up : (won lost : List Row) → List Row
 of_both_up won lost = merge_up (map (in_front Success) won) (map (in_front Failure) lost)
 
--- the outcomes of a word, of which the code holds the last one first
+-- the outcomes of a word, which the code holds with the last one first
 abbrev pub word_shown : Vec Bool Global → OutcomeWord
 word_shown v = reverse (map outcome_when v.items)
 
@@ -63,6 +63,6 @@ summary_shown s = record {
 abbrev pub saturated_summary : Summary → Summary
 saturated_summary s = record s { rows = map saturated s.rows }
 
--- the summary is that of what f comes to, but for counts that are too great
+-- the summary of what f comes to, except for counts that are too large
 abbrev pub Summed : (OutcomeWord → Came) → Summary → Type 0
 Summed f shown = (s : Summary) × Sums f s × (shown ≡ saturated_summary s)

@@ -27,7 +27,7 @@ future limits (Ends halt) m w = Over (halt_shown halt) (state_at m w)
 abbrev pub seen_from : Limits → Stop → Moment → OutcomeWord → Seen
 seen_from limits stop m w = seen_behind (length m.log) (future limits stop m w)
 
--- the text has stopped behind so many device commands
+-- the text has stopped after this many device commands
 abbrev pub IsReached : Task → (depth : ℕ) → Stop → Moment → Type 0
 IsReached task depth stop m = (p : OutcomeWord) × (length p ≡ depth) × StoppedAt task p stop m
 
@@ -48,7 +48,7 @@ pub record IsEntry (limits : Limits) (nodes : List Node) (e : Entry) : Type 0 wh
 abbrev pub AreEntries : Limits → List Node → List Entry → Type 0
 AreEntries limits nodes entries = All (IsEntry limits nodes) entries
 
--- one entry more
+-- one more entry
 abbrev pub IsKept : (old new : List Entry) → CoreShown → (steps devices place : ℕ) → Summary → Type 0
 IsKept old new core steps devices place shown = (e : Entry) × (new ≡ old ++ e ∷ []) × (core_shown e.core ≡ core)
     × (e.steps ≡ steps) × (e.devices ≡ devices) × (summary_shown e.summary ≡ shown) × (e.summary.place ≡ place)

@@ -7,7 +7,7 @@ use Rattle.rehearse_machine.specs.Came.{Came}
 use Rattle.rehearse_endings.specs.Futures.{came_kind, came_ending, came_steps, came_devices, HaveSameCore}
 use Rattle.rehearse_endings.specs.Endings.{Row, HasRows, one_run, of_both}
 
--- the rows of what is to come; up to how many steps and device commands runs come; whether one is cut
+-- the rows of what is to come; the most steps and device commands that its runs reach; whether a run is cut
 pub record Summary : Type 0 where
   pub rows : List Row
   pub steps : ℕ
@@ -15,7 +15,7 @@ pub record Summary : Type 0 where
   pub cut_steps : Bool
   pub cut_devices : Bool
 
--- the summary is that of what f comes to, for every word
+-- the summary of what f comes to, for every word
 pub record Sums (f : OutcomeWord → Came) (s : Summary) : Type 0 where
   pub has_rows : HasRows (λ w. came_kind (f w)) (λ w. came_ending (f w)) s.rows
   pub steps : (w : OutcomeWord) → came_steps (f w) ≤ s.steps
@@ -23,18 +23,18 @@ pub record Sums (f : OutcomeWord → Came) (s : Summary) : Type 0 where
   pub uncut_steps : s.cut_steps ≡ false → (w : OutcomeWord) → came_ending (f w) ≡ CutSteps → ⊥
   pub uncut_devices : s.cut_devices ≡ false → (w : OutcomeWord) → came_ending (f w) ≡ CutDevices → ⊥
 
--- where a run was cut the room is the same, else there is room enough
+-- if a run was cut, the room is the same; else there is room enough
 abbrev pub FitsIf : (cut : Bool) → (here there reach bound : ℕ) → Type 0
 FitsIf true here there reach bound = there ≡ here
 FitsIf false here there reach bound = there + reach ≤ here + bound
 
--- the summary of m, as of a moment with these steps and device commands
+-- the summary of m is valid for a moment with these steps and device commands
 pub record Fits (limits : Limits) (s : Summary) (m t : Moment) : Type 0 where
   pub core : HaveSameCore m t
   pub steps : FitsIf s.cut_steps m.steps t.steps s.steps limits.step_bound
   pub devices : FitsIf s.cut_devices (length m.log) (length t.log) s.devices limits.device_bound
 
--- a summary, where so many steps and device commands came before
+-- a summary, moved to where this many steps and device commands came before
 abbrev pub moved_by : (here there devices_here devices_there : ℕ) → Summary → Summary
 moved_by here there devices_here devices_there s = record {
   rows = s.rows;
@@ -56,7 +56,7 @@ abbrev pub is_cut_devices : Ending → Bool
 is_cut_devices CutDevices = true
 is_cut_devices _ = false
 
--- a run that is over behind so many steps and device commands
+-- a run that is over after this many steps and device commands
 abbrev pub summary_at_end : Ending → (steps devices : ℕ) → Summary
 summary_at_end ending steps devices = record {
   rows = one_run (ending, []) ∷ [];

@@ -13,28 +13,28 @@ use Rattle.rehearse_endings.specs.declared.telling.EndingsAsk.{EndingsAsk}
 use Rattle.rehearse_endings.specs.declared.telling.EndingsError.{EndingsError}
 use Rattle.rehearse_endings.specs.declared.telling.EndingsError.TheVariants.{DeviceList, NoSuchVariable, States, Write, Memory}
 
--- the device list is one, and this holds of the task, if the variable is set
+-- the device list is valid, and the task has this property, if the variable is set
 pub record HasDevices (environment : List (Text × Text)) (devices_text : Text) (ask : EndingsAsk)
     (IsSo : Option Task → Type 0) : Type 0 where
   pub devices : Devices
   pub listed_as : listed devices_text ≡ Ok devices
   pub so : IsSo (task_set environment devices ask.name.now ask.bounds)
 
--- the flow of the task, or how its runs end, which come to so many states
+-- the flow of the task, or how its runs end; its runs come to this many states
 abbrev pub Tells : (flow : Bool) → Task → (states : ℕ) → Text → Type 0
 Tells true task states text = (nodes : List Node) × IsFlow task nodes × (text ≡ flow_text nodes)
 Tells false task states text = text ≡ endings_text (endings task) (length (all_runs task)) states
 
--- the lines of the task, whose runs come to so many states, no two alike, and no more than this
+-- the lines of the task; its runs come to this many states, no two alike, and to no more than allowed
 abbrev pub AreLines : (flow : Bool) → (most : ℕ) → Option Task → Text → Type 0
 AreLines flow most found text = (task : Task) × (states : ℕ) × (found ≡ Some task) × (states ≤ most)
     × HasStates task states × Tells flow task states text
 
--- the runs of the task come to more states than this, no two of them alike
+-- the runs of the task come to more states than allowed, no two of them alike
 abbrev pub HasMoreStates : (most : ℕ) → Option Task → Type 0
 HasMoreStates most found = (task : Task) × (found ≡ Some task) × HasStates task (most + 1)
 
--- why there are none
+-- why there are no lines
 abbrev pub IsUntold : (most : ℕ) → Option Task → EndingsError → Type 0
 IsUntold most found (DeviceList fault) = ⊥
 IsUntold most found NoSuchVariable = found ≡ None

@@ -8,8 +8,8 @@ use bootstore::{Frame, Store, StoreError, Variables};
 use std::alloc::Global;
 use std::rc::Rc;
 
-/// The variables, the status and the frames of a state, the innermost frame last. States share their environments;
-/// the rest is copied.
+/// The variables, the status and the frames of a state, the innermost frame last. States share
+/// their environments, and own the rest.
 #[derive(Drop)]
 pub struct Core {
     pub environment: Rc<Vec<(Vec<u8>, Vec<u8>)>>,
@@ -18,7 +18,7 @@ pub struct Core {
     pub frames: Vec<Frame>,
 }
 
-/// A copy of variables.
+/// A copy of variables. Errors: `Memory`.
 pub(crate) fn copy_pairs(
     alloc: Global,
     variables: Variables<'_>,
@@ -34,7 +34,7 @@ pub(crate) fn copy_pairs(
     Ok(pairs)
 }
 
-/// A copy of frames.
+/// A copy of frames. Errors: `Memory`.
 fn copy_frames(alloc: Global, frames: &[Frame]) -> Result<Vec<Frame>, StoreError>
     ensures { IfOk result (λ copies. copies.items ≡ frames.now) }
 {
@@ -45,7 +45,8 @@ fn copy_frames(alloc: Global, frames: &[Frame]) -> Result<Vec<Frame>, StoreError
     Ok(copies)
 }
 
-/// The core of the present state of a store. Its environment is shared with states that have the same.
+/// The core of the present state of a store. States with the same environment share it. Errors:
+/// `Memory`.
 pub(crate) fn take_core<S: Store>(
     alloc: Global,
     environments: &mut Environments,
@@ -64,7 +65,7 @@ pub(crate) fn take_core<S: Store>(
     })
 }
 
-/// Whether variables are these.
+/// Whether the variables are these pairs.
 pub(crate) fn same_pairs(variables: Variables<'_>, pairs: &[(Vec<u8>, Vec<u8>)]) -> bool
     ensures same { IsTrue result → pairs_shown pairs.now ≡ variables.entry }
     ensures told { pairs_shown pairs.now ≡ variables.entry → IsTrue result }

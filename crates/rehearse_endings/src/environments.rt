@@ -17,14 +17,15 @@ pub(crate) struct Environments {
 }
 
 impl Environments {
-    /// No environments. It takes no memory.
+    /// No environments. Takes no memory.
     pub(crate) fn new(alloc: Global) -> Environments {
         Environments {
             kept: HashMap::new(alloc),
         }
     }
 
-    /// The environment of the present state of a store. Copies it if it was not met before.
+    /// The environment of the present state of a store. Copies it if it was not met before. Errors:
+    /// `Memory`.
     pub(crate) fn share<S: Store>(
         &mut self,
         alloc: Global,
@@ -43,7 +44,7 @@ impl Environments {
         Ok(shared)
     }
 
-    /// The environment of the present state, if it is kept under a number.
+    /// The environment of the present state, if one is kept under this number.
     fn find<S: Store>(
         &self,
         store: &S,

@@ -1,4 +1,4 @@
-//! The flow: a node where a device command asks, and one for each way to end.
+//! The flow: a node for each state in which a device command asks, and one for each way to end.
 ghost use Rattle.std.specs.Prelude.{◌≡◌, ◌+◌, ◌∷◌, ◌++◌, [], Some, length, map, reverse, IfOk, MatchOption, OnOk, ⊤};
 ghost use Rattle.std.specs.List.{slice_get};
 ghost use Rattle.text.specs.TextsShown.{bytes_of_words};
@@ -27,16 +27,17 @@ pub enum Node {
     Ends(Halt),
 }
 
-/// The nodes that were made. Those to which a node leads stand before it, and places count from 0.
+/// The nodes that were made. A node comes after the nodes to which it leads, and places count from
+/// 0.
 #[derive(Drop)]
 pub(crate) struct Flow {
     pub(crate) nodes: Vec<Node>,
-    /// Where the ways to end stand.
+    /// The places of the ways to end.
     pub(crate) ends: Vec<usize>,
 }
 
 impl Flow {
-    /// No nodes. It takes no memory.
+    /// No nodes. Takes no memory.
     pub(crate) fn new(alloc: Global) -> Flow
         ensures { result.nodes.items ≡ [] }
     {
@@ -46,7 +47,7 @@ impl Flow {
         }
     }
 
-    /// Where this way to end stands, if it does.
+    /// The place of this way to end, if it has one.
     fn find(&self, halt: &Halt) -> Option<usize>
         ensures { MatchOption result ⊤ (λ place. slice_get (nodes_shown self.now.nodes) place ≡ Some (Ends (halt_shown halt.now))) }
     {
@@ -60,7 +61,7 @@ impl Flow {
         None
     }
 
-    /// The place of a way to end. A new one gets its node.
+    /// The place of a way to end. Makes a node if it is new. Errors: `Memory`.
     pub(crate) fn end(&mut self, halt: &Halt) -> Result<usize, StoreError>
         ensures place { IfOk result (λ place. slice_get (nodes_shown self.new.nodes) place ≡ Some (Ends (halt_shown halt.now))) }
         ensures grows { OnOk result (HasMore (nodes_shown self.old.nodes) (nodes_shown self.new.nodes)) }
@@ -76,7 +77,8 @@ impl Flow {
         Ok(place)
     }
 
-    /// The place of a new node, where a device command asks.
+    /// Makes a node for a state in which a device command asks, and returns its place. Errors:
+    /// `Memory`.
     pub(crate) fn ask(
         &mut self,
         words: Vec<Vec<u8>>,
@@ -95,7 +97,8 @@ impl Flow {
         Ok(place)
     }
 
-    /// The nodes in the order of their lines: the one that was made last is the first, and numbers count from 1.
+    /// The nodes in the order of their lines: the last node made is the first, and numbers count
+    /// from 1.
     pub(crate) fn into_lines(self, alloc: Global) -> Result<Vec<Node>, StoreError>
         ensures { IfOk result (λ lines. nodes_shown lines ≡ reverse (map (renumbered (length self.nodes.items)) (nodes_shown self.nodes))) }
     {
@@ -109,7 +112,7 @@ impl Flow {
     }
 }
 
-/// The node as it is told, where there are so many.
+/// The node with the numbers of lines in place of places, if there are this many nodes.
 fn renumber(node: Node, count: usize) -> Node
     ensures { node_shown result ≡ renumbered count (node_shown node) }
 {

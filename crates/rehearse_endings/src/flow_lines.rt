@@ -13,7 +13,7 @@ use crate::lines::{put, put_ending, put_number, put_word};
 use bootstore::StoreError;
 use std::alloc::Global;
 
-/// Words in word form, a blank before each.
+/// Adds words in word form, with a blank before each.
 fn put_spaced(text: &mut Vec<u8>, words: &[Vec<u8>]) -> Result<(), StoreError>
     ensures { OnOk result (text.new.items ≡ text.old.items ++ flat_map spaced words.now) }
 {
@@ -24,7 +24,7 @@ fn put_spaced(text: &mut Vec<u8>, words: &[Vec<u8>]) -> Result<(), StoreError>
     Ok(())
 }
 
-/// Words in word form, with a blank between them.
+/// Adds words in word form, with a blank between them.
 fn put_words(text: &mut Vec<u8>, words: &[Vec<u8>]) -> Result<(), StoreError>
     ensures { OnOk result (text.new.items ≡ text.old.items ++ join_with_byte ascii.space (map word_form (bytes_of_words words.now))) }
 {
@@ -38,7 +38,7 @@ fn put_words(text: &mut Vec<u8>, words: &[Vec<u8>]) -> Result<(), StoreError>
     }
 }
 
-/// A node, without its number.
+/// Adds the line of a node, without its number.
 fn put_node(text: &mut Vec<u8>, node: &Node) -> Result<(), StoreError>
     ensures { OnOk result (text.new.items ≡ text.old.items ++ node_text (node_shown node.now)) }
 {

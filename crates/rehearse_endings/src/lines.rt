@@ -15,7 +15,7 @@ use rehearse_machine::Halt;
 use std::alloc::Global;
 use text::Escaped;
 
-/// Bytes more behind a text.
+/// Adds bytes at the end of a text.
 pub(crate) fn put(text: &mut Vec<u8>, bytes: &[u8]) -> Result<(), StoreError>
     ensures { OnOk result (text.new.items ≡ text.old.items ++ bytes.now) }
 {
@@ -23,7 +23,7 @@ pub(crate) fn put(text: &mut Vec<u8>, bytes: &[u8]) -> Result<(), StoreError>
     Ok(())
 }
 
-/// A number more behind it.
+/// Adds a number at the end of a text.
 pub(crate) fn put_number(text: &mut Vec<u8>, number: u128) -> Result<(), StoreError>
     ensures { OnOk result (text.new.items ≡ text.old.items ++ decimal number) }
 {
@@ -31,7 +31,7 @@ pub(crate) fn put_number(text: &mut Vec<u8>, number: u128) -> Result<(), StoreEr
     put(text, digits.format(number).as_bytes())
 }
 
-/// A number of runs.
+/// Adds a number of runs.
 fn put_count(text: &mut Vec<u8>, count: u128) -> Result<(), StoreError>
     ensures { OnOk result (text.new.items ≡ text.old.items ++ count_text count) }
 {
@@ -41,7 +41,7 @@ fn put_count(text: &mut Vec<u8>, count: u128) -> Result<(), StoreError>
     put_number(text, count)
 }
 
-/// The digits of a word, whose last outcome is the first here.
+/// The digits of a word, whose last outcome comes first in `word`.
 fn digits_of(alloc: Global, word: &[bool]) -> Result<Vec<u8>, StoreError>
     ensures { IfOk result (λ digits. digits.items ≡ reverse (map digit_when word.now)) }
 {
@@ -53,7 +53,7 @@ fn digits_of(alloc: Global, word: &[bool]) -> Result<Vec<u8>, StoreError>
     Ok(digits)
 }
 
-/// The digits of a word; the empty one is a dot.
+/// Adds the digits of a word, or a dot for the empty word.
 fn put_digits(alloc: Global, text: &mut Vec<u8>, word: &[bool]) -> Result<(), StoreError>
     ensures { OnOk result (text.new.items ≡ text.old.items ++ spelled (reverse (map outcome_when word.now))) }
 {
@@ -65,7 +65,7 @@ fn put_digits(alloc: Global, text: &mut Vec<u8>, word: &[bool]) -> Result<(), St
     Ok(())
 }
 
-/// Bytes in word form.
+/// Adds bytes in word form.
 pub(crate) fn put_word(text: &mut Vec<u8>, word: &[u8]) -> Result<(), StoreError>
     ensures { OnOk result (text.new.items ≡ text.old.items ++ word_form word.now) }
 {
@@ -78,7 +78,7 @@ pub(crate) fn put_word(text: &mut Vec<u8>, word: &[u8]) -> Result<(), StoreError
     Ok(())
 }
 
-/// The last line of the record of a run that ends so.
+/// Adds the last line of the record of a run with this ending.
 pub(crate) fn put_ending(text: &mut Vec<u8>, halt: &Halt) -> Result<(), StoreError>
     ensures { OnOk result (text.new.items ≡ text.old.items ++ last_line (halt_shown halt.now)) }
 {
@@ -105,7 +105,7 @@ pub(crate) fn put_ending(text: &mut Vec<u8>, halt: &Halt) -> Result<(), StoreErr
     }
 }
 
-/// The line of an ending.
+/// Adds the line of an ending.
 fn put_row(alloc: Global, text: &mut Vec<u8>, row: &Row) -> Result<(), StoreError>
     ensures { OnOk result (text.new.items ≡ text.old.items ++ line (row_text (row_shown row.now))) }
 {
@@ -122,7 +122,7 @@ fn put_row(alloc: Global, text: &mut Vec<u8>, row: &Row) -> Result<(), StoreErro
     put(text, b"\n")
 }
 
-/// How many runs there are in all, or the greatest number where they are more.
+/// How many runs there are in all, or the greatest number if that is smaller.
 fn total(rows: &Vec<Row>) -> u128
     ensures { result ≡ min (counted (rows_shown rows.now)) most_runs }
 {

@@ -10,16 +10,17 @@ use bootstore::StoreError;
 use rehearse_machine::Halt;
 use std::alloc::Global;
 
-/// How runs end, and which do. A word holds whether each of its device commands succeeded, the last one first.
+/// An ending, and the runs that have it. A word holds whether each of its device commands
+/// succeeded, the last one first.
 #[derive(Drop)]
 pub struct Row {
-    /// How they end.
+    /// How these runs end.
     pub halt: Halt,
-    /// How many they are, or 2^128 - 1 where they are more.
+    /// How many runs there are, or 2^128 - 1 if there are more.
     pub count: u128,
-    /// The word of the first of them.
+    /// The word of the first of these runs.
     pub word: Vec<bool>,
-    /// The word of the first of those with the fewest failures.
+    /// The word of the first of these runs with the fewest failures.
     pub fewest: Vec<bool>,
 }
 
@@ -86,7 +87,7 @@ pub(crate) fn copy_rows(alloc: Global, rows: &Vec<Row>) -> Result<Vec<Row>, Stor
     Ok(copies)
 }
 
-/// The rows with an outcome in front of the word of each.
+/// Puts an outcome before each word of the rows.
 pub(crate) fn put_in_front(
     alloc: Global,
     rows: Vec<Row>,
@@ -110,7 +111,7 @@ pub(crate) fn put_in_front(
     Ok(made)
 }
 
-/// How many device commands failed where one did or did not.
+/// 1 if a device command failed, else 0.
 fn failed(success: bool) -> usize
     ensures count { result ≡ failures (outcome_when success ∷ []) }
     ensures within { result ≤ 1 }
@@ -129,7 +130,7 @@ pub(crate) fn failures(word: &[bool]) -> usize
     count
 }
 
-/// The word with fewer failures, and of as many the first.
+/// The word with fewer failures; if they have equally many, the first.
 fn fewer(alloc: Global, first: Vec<bool>, second: &Vec<bool>) -> Result<Vec<bool>, StoreError>
     ensures { IfOk result (λ word. word_shown word ≡ fewer (word_shown first) (word_shown second.now)) }
 {
@@ -140,7 +141,7 @@ fn fewer(alloc: Global, first: Vec<bool>, second: &Vec<bool>) -> Result<Vec<bool
     Ok(copy)
 }
 
-/// The row of the runs of both, which end alike.
+/// The row of the runs of both rows, which end alike.
 fn join(alloc: Global, row: Row, further: &Row) -> Result<Row, StoreError>
     ensures { IfOk result (λ made. row_shown made ≡ joined_up (row_shown row) (row_shown further.now)) }
 {
@@ -153,7 +154,7 @@ fn join(alloc: Global, row: Row, further: &Row) -> Result<Row, StoreError>
     })
 }
 
-/// The rows, where that of the runs that end alike has these too, or they stand behind the others.
+/// Adds a row to rows: its runs join the row that ends alike, or the row comes after the others.
 fn put_row(alloc: Global, rows: Vec<Row>, row: Row) -> Result<Vec<Row>, StoreError>
     ensures { IfOk result (λ made. rows_shown made ≡ with_row_up (rows_shown rows) (row_shown row)) }
 {
@@ -174,7 +175,7 @@ fn put_row(alloc: Global, rows: Vec<Row>, row: Row) -> Result<Vec<Row>, StoreErr
     Ok(made)
 }
 
-/// The rows, into which others are put, one after another.
+/// Adds rows to rows, one after another.
 pub(crate) fn merge_rows(
     alloc: Global,
     rows: Vec<Row>,

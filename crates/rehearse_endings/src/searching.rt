@@ -24,15 +24,17 @@ use rehearse_machine::{Rehearsal, Stop, begin, resume};
 /// How the runs of a script end.
 #[derive(Drop)]
 pub struct Endings {
-    /// For each ending, in the order of the first run that ends so, which runs do.
+    /// For each ending, in the order of the first runs, which runs have it.
     pub rows: Vec<Row>,
-    /// How many states were gone through in which a device command asks.
+    /// How many states were searched in which a device command asks.
     pub states: u32,
-    /// All runs as a graph: a node for each of these states, and one for each way to end. A run begins at the first.
+    /// All runs as a graph: a node for each of these states, and one for each way to end. A run
+    /// starts at the first node.
     pub nodes: Vec<Node>,
 }
 
-/// The summary of what is to come of a text that has stopped. States that stand in the table are not gone through again.
+/// The summary of what is to come of a text that has stopped. States that are in the table are not
+/// searched again. Errors: `Memory`, `States`.
 fn summed<S: Store>(
     rehearsal: &Rehearsal<'_>,
     store: &mut S,
@@ -93,10 +95,11 @@ fn summed<S: Store>(
     }
 }
 
-/// How all runs of the text of the variable end: for each ending how many runs do, or 2^128 - 1 where they
-/// are more, the first of them, and the first of those with the fewest failures, in the order of the first runs. Enters
-/// no more states than allowed, and goes through each once, so no more than two stretches of steps begin at it.
-/// Refuses with `States` if the runs come to more states than allowed, no two of them alike.
+/// Counts how all runs of the text of the variable end. For each ending it gives how many runs have
+/// it, or 2^128 - 1 if there are more; the first of them; and the first of them with the fewest
+/// failures. The endings are in the order of their first runs. Enters no more states than allowed,
+/// and searches each once, so at most two stretches of steps start at a state. Returns `States` if
+/// the runs come to more states than allowed, no two of them alike. Errors: `Memory`, `States`.
 pub fn sum_endings<S: Store>(
     rehearsal: &Rehearsal<'_>,
     store: &mut S,

@@ -9,7 +9,8 @@ use bootstore::StoreError;
 use rehearse_machine::Halt;
 use std::alloc::Global;
 
-/// The rows of what is to come; up to how many steps and device commands runs come; whether one is cut.
+/// The rows of what is to come; the most steps and device commands that its runs reach; whether a
+/// run is cut.
 #[derive(Drop)]
 pub struct Summary {
     pub rows: Vec<Row>,

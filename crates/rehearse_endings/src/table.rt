@@ -19,7 +19,7 @@ use rehearse::{Devices, RunBounds};
 use std::alloc::Global;
 use std::collections::HashMap;
 
-/// A state in which a device command asked, and the summary of what is to come of it.
+/// A state in which a device command asked, and the summary of what is to come after it.
 #[derive(Drop)]
 pub struct Entry {
     pub core: Core,
@@ -28,12 +28,12 @@ pub struct Entry {
     pub summary: Summary,
 }
 
-/// The states that were gone through, and how many more may be.
+/// The states that were searched, and how many more may be entered.
 #[derive(Drop)]
 pub(crate) struct Table {
-    /// Those whose runs are all summed up.
+    /// The states whose runs are all counted.
     pub(crate) entries: Vec<Entry>,
-    /// Where the entries of each number stand.
+    /// The places of the entries of each number.
     pub(crate) places: HashMap<u64, Vec<usize>>,
     /// The environments of the states.
     pub(crate) environments: Environments,
@@ -41,7 +41,7 @@ pub(crate) struct Table {
     pub(crate) flow: Flow,
     /// How many states were entered.
     pub(crate) visited: u32,
-    /// How many may be.
+    /// How many states may be entered.
     pub(crate) most: u32,
 }
 
@@ -49,7 +49,7 @@ impl Table {
     ghost use Rattle.std.specs.Prelude.{IfErr, ◌+◌};
     ghost use Rattle.rehearse_endings.specs.declared.sum_error.SumError.TheVariants.{Memory, States};
 
-    /// A table without entries. It takes no memory.
+    /// A table without entries. Takes no memory.
     pub(crate) fn new(alloc: Global, most: u32) -> Table
         ensures entries { result.entries.items ≡ [] }
         ensures flow { result.flow.nodes.items ≡ [] }
@@ -66,7 +66,8 @@ impl Table {
         }
     }
 
-    /// Enters the present state of a store, unless as many were entered as may be, and gives its core.
+    /// Enters the present state of a store, and returns its core. Errors: `States` if as many
+    /// states were entered as allowed, `Memory`.
     pub(crate) fn enter<S: Store>(&mut self, alloc: Global, store: &S) -> Result<Core, SumError>
         ensures core { IfOk result (λ core. core_shown core ≡ core_of (S.record_of store.now).present) }
         ensures entries { self.new.entries.items ≡ self.old.entries.items }
@@ -84,7 +85,7 @@ impl Table {
         Ok(core)
     }
 
-    /// The summary of the present state, where an entry under this number fits.
+    /// The summary of the present state, if an entry under this number fits. Errors: `Memory`.
     pub(crate) fn find<S: Store>(
         &self,
         alloc: Global,
@@ -116,7 +117,8 @@ impl Table {
         Ok(None)
     }
 
-    /// Keeps the summary of a state in which a device command asked, under a number.
+    /// Keeps the summary of a state in which a device command asked, under a number. Errors:
+    /// `Memory`.
     pub(crate) fn keep(
         &mut self,
         alloc: Global,
@@ -144,7 +146,7 @@ impl Table {
         Ok(())
     }
 
-    /// Notes that an entry of a number stands at a place.
+    /// Notes that an entry of a number is at this place. Errors: `Memory`.
     fn note(&mut self, alloc: Global, hash: u64, place: usize) -> Result<(), SumError>
         ensures err { IfErr result (λ e. e ≡ Memory) }
         ensures entries { self.new.entries.items ≡ self.old.entries.items }
@@ -179,7 +181,7 @@ fn copy_summary(alloc: Global, summary: &Summary) -> Result<Summary, StoreError>
     })
 }
 
-/// Whether there is as much room here as there.
+/// Whether there is room: the same as there if a run was cut, else enough.
 fn has_room(cut: bool, here: u32, there: u32, reach: u64, bound: u32) -> bool
     ensures { IsTrue result → FitsIf cut here there reach bound }
 {
@@ -193,7 +195,8 @@ fn has_room(cut: bool, here: u32, there: u32, reach: u64, bound: u32) -> bool
     }
 }
 
-/// Whether an entry is of the present state, but for the text, the log and the steps, for which there is room.
+/// Whether an entry is of the present state, apart from text, log and steps, and its runs have room
+/// here.
 fn fits<S: Store>(store: &S, bounds: RunBounds, entry: &Entry, depth: u32) -> bool
     ensures core { IsTrue result → core_shown entry.now.core ≡ core_of (S.record_of store.now).present }
     ensures steps { IsTrue result → FitsIf entry.now.summary.cut_steps entry.now.steps (S.record_of store.now).present.steps entry.now.summary.steps bounds.steps }

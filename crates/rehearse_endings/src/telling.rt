@@ -23,13 +23,13 @@ pub struct EndingsAsk<'a> {
     pub name: &'a [u8],
     /// The bounds of its runs.
     pub bounds: RunBounds,
-    /// How many states may be gone through.
+    /// How many states may be searched.
     pub states: u32,
-    /// Whether the flow is told.
+    /// Whether the flow is written, not the endings.
     pub flow: bool,
 }
 
-/// Why the endings of a script are not told.
+/// Why the endings of a script are not written.
 #[derive(Clone, Copy, Debug, Drop, PartialEq, Eq)]
 pub enum EndingsError {
     /// The device list.
@@ -40,11 +40,11 @@ pub enum EndingsError {
     States,
     /// The output failed.
     Write,
-    /// There is no memory for it.
+    /// Memory ran out.
     Memory,
 }
 
-/// The lines that tell how all runs of a rehearsal end, or their flow.
+/// The lines that say how all runs of a rehearsal end, or the lines of their flow.
 fn lines_of<S: Store>(
     rehearsal: &Rehearsal<'_>,
     most_states: u32,
@@ -91,9 +91,10 @@ fn lines_in<S: Store>(
     }
 }
 
-/// Writes how all runs of a variable end: a line for each ending, and one for all. Or it writes their flow: a line for
-/// each state in which a device command asks, and for each way to end. Refusals in order: the device list,
-/// the variable, `States` and `Memory`, and nothing is written then; `Write` as the lines go.
+/// Writes how all runs of a variable end: a line for each ending, and one for all runs. Or it
+/// writes their flow: a line for each state in which a device command asks, and for each way to
+/// end. Refusals in order: the device list, the variable, `States` and `Memory`, with nothing
+/// written; then `Write`, with a prefix of the lines written.
 pub fn endings_env<S: Store, O: Out>(
     alloc: Global,
     env: &Env,

@@ -50,7 +50,7 @@ module _ (list : List Arm) (o : Option Script) (a : ℕ) (f : RunningFrame) (fs 
       ap (λ (x : At). GoOn (moved_to x f ∷ fs) (set_status 0 s)) k
       ∙ sym (ap (λ (x : Arms). place_arms x a f fs s) (no_arm list o a (slice_get_past list a l) ∙ ap (view.arms []) p))
 
-  -- where the condition of an arm has ended
+  -- after the condition of an arm has ended
   condition_true : (b : Bool) (c d : Script) (more : Arms) → b ≡ true → GoOn (block_frame d ∷ behind f ∷ fs) s ≡ elim b [ true ↦ GoOn (block_frame d ∷ behind f ∷ fs) s | false ↦ place_arms more (suc a) f fs s ]
   condition_true true c d more e = refl
   condition_true false c d more e = absurd (let g = e in cc)

@@ -195,7 +195,7 @@ module _ (limits : Limits) where
     by_again kinds.For s = never_again (place_by limits kinds.For f fs s) (values_never (command_at (list_at f.script f.place.list) f.place.command) f fs s)
     by_again kinds.Run s = never_again (run_move f fs s) (run_never f fs s)
 
-  -- a move to a command that asks leaves the frames where it is found again
+  -- a move to a command that asks leaves the frames in which it is found again
   pub asks_again : (ps : List RunningFrame) (s : State) → AsksAgain limits (place_move limits ps s)
   asks_again [] s = tt
   asks_again (f ∷ fs) s = by_again f fs f.kind s

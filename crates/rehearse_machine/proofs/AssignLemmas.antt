@@ -74,7 +74,7 @@ module _ (values : List Value) (i : ℕ) (ps : List RunningFrame) (old now : Rec
     before.kept,
   )
 
--- a move from where others have come to, which is the same as one from the start
+-- a move from where earlier moves have led, which is the same as one from the start
 comes_before : (r : Result Step StoreError) (old mid new : Record) (f g : State → PlaceNext) → ((w : OutcomeWord) → f (state_at mid.present w) ≡ g (state_at old.present w)) → Keeps old mid → Comes r mid new f → Comes r old new g
 comes_before (Ok step) old mid new f g e k h = (λ w. h.0 w ∙ e w, keeps_both old mid new k h.1)
 comes_before (Err x) old mid new f g e k h = tt

@@ -61,7 +61,7 @@ module _ (limits : Limits) (old mid : Record) (words : List tree.Word) (n : List
     stepped_keeps old mid begun,
   )
 
-  -- what follows with the fields that were found
+  -- what follows, with the fields that were found
   pub goes_with : (found : List Text) → found ≡ fields (parameters_at mid.present) words → nat_le (size (fields (parameters_at mid.present) words)) most_bytes ≡ true → (w : OutcomeWord) → n found (counted_state (state_at old.present w)) ≡ whole (state_at old.present w)
   goes_with found e h w =
       ap (λ (fs : List Text). n fs (counted_state (state_at old.present w))) (e ∙ same_fields w)

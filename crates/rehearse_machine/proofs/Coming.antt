@@ -19,12 +19,12 @@ keeps_change change old e = record { marked = refl; begun = omega arith }
 pub keeps_both : (old mid new : Record) → Keeps old mid → Keeps mid new → Keeps old new
 keeps_both old mid new h k = record { marked = k.marked ∙ h.marked; begun = let a = h.begun in let b = k.begun in omega arith }
 
--- the same move, said otherwise
+-- the same move, in other words
 pub comes_as : (r : Result Step StoreError) (old new : Record) (f g : State → PlaceNext) → ((s : State) → f s ≡ g s) → Comes r old new f → Comes r old new g
 comes_as (Ok step) old new f g e h = (λ w. h.0 w ∙ e (state_at old.present w), h.1)
 comes_as (Err x) old new f g e h = tt
 
--- a move behind a change of the state
+-- a move after a change of the state
 pub comes_after : (r : Result Step StoreError) (old mid new : Record) (change : State → State) (f : State → PlaceNext) → ((w : OutcomeWord) → state_at mid.present w ≡ change (state_at old.present w)) → Keeps old mid → Comes r mid new f → Comes r old new (λ s. f (change s))
 comes_after (Ok step) old mid new change f e k h = (λ w. h.0 w ∙ ap f (e w), keeps_both old mid new k h.1)
 comes_after (Err x) old mid new change f e k h = tt
@@ -52,7 +52,7 @@ finished_does old mid new f at status t e d =
     subst (λ (x : Record). Does steps.Going old x (λ s. GoOn (moved_to at f ∷ under old.present) (set_status status s))) (sym (d ∙ ap (changed (with_status status)) e))
     (λ w. ap (λ (x : List RunningFrame). GoOn x (set_status status (state_at old.present w))) (top_moved old.present.frames (under old.present) f at t), record { marked = refl; begun = omega arith })
 
--- the same move, said otherwise at this state
+-- the same move, in other words at this state
 pub comes_at : (r : Result Step StoreError) (old new : Record) (f g : State → PlaceNext) → ((w : OutcomeWord) → f (state_at old.present w) ≡ g (state_at old.present w)) → Comes r old new f → Comes r old new g
 comes_at (Ok step) old new f g e h = (λ w. h.0 w ∙ e w, h.1)
 comes_at (Err x) old new f g e h = tt

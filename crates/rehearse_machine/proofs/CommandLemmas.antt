@@ -34,7 +34,7 @@ says_assign c values e = ap view.command e ∙ command_assign values
 abbrev pub says_for : (c : CommandCode) (name : Vec ℕ Global) (words : Vec Word Global) (body : Rc Code Global) → c ≡ For name words body → view.command c ≡ tree.For name.items (map view.word words.items) (view.script body.value)
 says_for c name words body e = ap view.command e ∙ command_for name words body
 
--- which command it is, with what it says
+-- which kind of command it is, with what it says
 pub data Kind (c : CommandCode) : Type 0 where
   AsSimple : (words : Vec Word Global) → c ≡ Simple words → Kind c
   AsAssign : (values : Vec (Vec ℕ Global × Word) Global) → c ≡ Assign values → Kind c

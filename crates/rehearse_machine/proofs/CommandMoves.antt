@@ -147,6 +147,6 @@ pub some_length : (n : ℕ) → false ≡ eqb n 0 → 0 < n
 some_length zero e = absurd (let f = e in cc)
 some_length (suc n) e = omega arith
 
--- what the command does that a name is the name of, that name does
+-- what the built-in command of a name does, the name does
 pub named_comes : (limits : Limits) (name : Text) (words : List Text) (script : Script) (frames : List RunningFrame) (r : Result Step StoreError) (old new : Record) (b k : Called) → b ≡ k → Comes r old new (place_called limits k name words script frames) → Comes r old new (place_called limits b name words script frames)
 named_comes limits name words script frames r old new b k e h = subst (λ (x : Called). Comes r old new (place_called limits x name words script frames)) (sym e) h

@@ -20,7 +20,7 @@ module _ (limits : Limits) where
   IsQuiet t (Ask r fs u) = u.steps ≡ t.steps
   IsQuiet t (Stop ending u) = u.steps ≡ t.steps
 
-  -- where the environment is still that of s, it takes less than n
+  -- no step was begun, the environment is still the one of s, and less than n is left; or the end is reached
   abbrev pub IsCloser : State → ℕ → Next → Type 0
   IsCloser s n (Go fs t) = (t.steps ≡ s.steps) × (t.memory.environment ≡ s.memory.environment) × (weight s.memory.environment fs < n)
   IsCloser s n (Ask r fs t) = ⊥
@@ -89,7 +89,7 @@ module _ (limits : Limits) where
   for-quiet name [] body fs s = refl
   for-quiet name (f ∷ values) body fs s = refl
 
-  -- what a step that was begun leads to
+  -- the result of a step that was begun
   counted_further : (s : State) (next : Next) → s.steps < limits.step_bound → IsQuiet (record s { steps = suc s.steps }) next → IsFurther s next
   counted_further s (Go fs u) l q = (omega arith, omega arith)
   counted_further s (Ask r fs u) l q = (omega arith, omega arith)
@@ -103,7 +103,7 @@ module _ (limits : Limits) where
   abbrev pub Progress : State → ℕ → Next → Type 0
   Progress s n next = IsFurther s next ⊎ IsCloser s n next
 
-  -- less than n is less than m
+  -- what is closer than n is closer than m
   closer_more : (s : State) (n m : ℕ) (next : Next) → n ≤ m → IsCloser s n next → IsCloser s m next
   closer_more s n m (Go fs t) l h = let k = h.2 in (h.0, h.1, omega arith)
   closer_more s n m (Ask r fs t) l h = h
@@ -157,7 +157,7 @@ module _ (limits : Limits) where
   looped tree.Empty until b fs s p = absurd p
   looped (tree.Runs l ls) until b fs s p = inr (refl, refl, omega arith)
 
-  -- THE MEASURE: each move begins a step, or leaves less to a step
+  -- THE MEASURE: each move begins a step, or leaves fewer moves to the next step
   pub move_progress : (fs : List Frame) (s : State) → AreProperFrames fs → Progress s (weight s.memory.environment fs) (move limits fs s)
   move_progress [] s p = inl (omega arith, λ h. h)
   move_progress (Lists tree.Empty ∷ fs) s p = inr (refl, refl, omega arith)

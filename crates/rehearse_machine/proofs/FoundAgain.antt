@@ -28,7 +28,7 @@ use Rattle.rehearse_machine.proofs.Settings.{same_parameters}
 use Rattle.rehearse_machine.proofs.ListLemmas.{back}
 use Rattle.rehearse_machine.proofs.Beginnings.{chosen, passed}
 
--- ---- the command in front of a place
+-- ---- the command before a place
 
 module _ (at : At) (f : RunningFrame) (here : at ≡ f.place) where
   pub none_in_front : at.command ≡ 0 → None ≡ words_in_front f

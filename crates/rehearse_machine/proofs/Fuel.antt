@@ -132,7 +132,7 @@ module _ (limits : Limits) where
   same_exec (suc n) zero le a p s h = absurd (omega arith)
   same_exec (suc n) (suc m) le a p s h = same_script (suc n) (suc m) le (exec limits n) (exec limits m) (Keeps-exec limits n) (λ tree q t r. same_exec n m (omega arith) tree q t (omega arith)) a p s h
 
-  -- so a text that is run means what the script means
+  -- so a text that is run means what its script means
   pub closed_exec : (n : ℕ) (a : Script) → IsProper a → (s : State) → limits.step_bound ≤ n + s.steps → exec limits n a s ≡ exec_script limits n (exec limits n) a s
   closed_exec zero tree.Empty p s h = refl
   closed_exec zero (tree.Runs l ls) p s h = Cut-block limits zero (λ b t. Ended CutSteps t) (tree.Runs l ls) p s (omega arith) ∙ sym (Cut-block limits zero (exec limits zero) (tree.Runs l ls) p s (omega arith))

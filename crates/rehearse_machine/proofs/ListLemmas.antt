@@ -44,7 +44,7 @@ module _ (limits : Limits) (l : ListCode) (n : ℕ) (f : RunningFrame) (fs : Lis
   later : (m j : ℕ) → m ≡ suc j → place_begins limits (view.list l) m f fs s ≡ place_joined limits (joined_at (view.joins (map view.joined l.rest.items)) j) f fs s
   later m j e = ap (λ (k : ℕ). place_begins limits (view.list l) k f fs s) e ∙ ap (λ (x : AndOr). place_begins limits x (suc j) f fs s) says
 
-  -- what is joined, where the items are known by another name
+  -- what is joined, if the items are known by another name
   module _ (items : List Join) (same : items ≡ l.rest.items) (h : n ≡ 0 → ⊥) where
     joined_on : (o : Option (Op × Command)) → joined_at (view.joins (map view.joined items)) (n - 1) ≡ o → place_joined limits o f fs s ≡ place_begins limits (view.list l) n f fs s
     joined_on o e =

@@ -78,7 +78,7 @@ sets_none words set old e = (
   record { marked = refl; begun = refl },
 )
 
--- and one of a variable
+-- and a setting of a variable
 pub sets_one : (words : List Text) (set : says.Setting) (old new : Record) (name : Text) → variable_of set.0 words ≡ Some name → new ≡ changed (with_environment name (Some set.1)) old
     → Changes old new (λ m. record m { environment = with_all (sets_in words (set ∷ [])) m.environment })
 sets_one words set old new name e made = (
@@ -137,7 +137,7 @@ module _ (outcome : Outcome) (request : Request) (old set late : Record) (sets :
     keeps_both old set late changes.2 keeps,
   )
 
-  -- and what a failure does, which sets nothing
+  -- and what a failure does: it sets nothing
   pub failure_does : sets ≡ [] → succeeds outcome ≡ false → Does steps.Going old late (place_answered outcome request old.present.frames)
   failure_does s e = (
     λ w. ap (λ (x : List RunningFrame). GoOn x (state_at late.present w)) (frames ∙ changes.1)

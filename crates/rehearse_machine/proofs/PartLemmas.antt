@@ -109,6 +109,6 @@ module _ (o : Option Command) (c : CommandCode) (f : RunningFrame) (fs : List Ru
   no_for-at (AsLoop until cond body e) other = no_for_loop until cond body e
   no_for-at (AsFor name words body e) other = absurd (other name words body e)
 
-  -- what is no `for` is left
+  -- a command that is not a `for` is left
   pub no_for : ((name : Vec ℕ Global) (words : Vec Word Global) (body : Rc Code Global) → c ≡ For name words body → ⊥) → GoOn fs s ≡ for_move o f fs s
   no_for = no_for-at (kind_of c)

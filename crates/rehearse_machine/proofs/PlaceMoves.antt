@@ -80,7 +80,7 @@ blocked c fs = ap (λ (x : List Frame). x ++ frames_of fs) (start-is c)
 texted : (c : Script) (fs : List RunningFrame) → frames_of (text_frame c ∷ fs) ≡ Lists c ∷ frames_of fs
 texted c fs = ap (λ (x : List Frame). x ++ frames_of fs) (text-start-is c)
 
--- a list from its first command, where the script goes on with `rest`
+-- a list from its first command, if the script goes on with `rest`
 from_start : (o : Option AndOr) (script : Script) (i : ℕ) → list_at script i ≡ o → script_frames o (place i 0 0 0) (drop_lists (suc i) script) ≡ Lists (drop_lists i script) ∷ []
 from_start None script i e = ap (λ (x : Script). Lists x ∷ []) (sym (drop_none script i e))
 from_start (Some l) script i e = ap (λ (x : Script). Lists x ∷ []) (sym (drop_some script i l e))
@@ -195,7 +195,7 @@ module _ (f : RunningFrame) (fs : List RunningFrame) (s : State) (k : f.kind ≡
   for-is limits (Some (tree.Loop until c b)) e = refl
   for-is limits (Some (tree.For name words body)) e = for-turn-is limits name words body (slice_get f.words f.place.turn) e refl
 
--- ---- commands, where the frame of their script stands for `below` behind them
+-- ---- commands; `below` is what the frame of their script describes after them
 
 assign-is : (pairs : List (Text × tree.Word)) (ps : List RunningFrame) (s : State) → next_of (place_assign pairs ps s) ≡ begin_assign pairs (frames_of ps) s
 assign-is [] ps s = refl
@@ -206,7 +206,7 @@ assign-is (pair ∷ pairs) ps s =
 fitting-is : (ws : List Text) (n : List Text → State → PlaceNext) (m : List Text → State → Next) (s : State) → next_of (n ws s) ≡ m ws s → next_of (place_fitting ws n s) ≡ fitting ws m s
 fitting-is ws n m s e = if_next (nat_le (size ws) most_bytes) (n ws s) (StopOn Size s) (m ws s) (Stop Size s) e refl
 
--- behind the last command there is nothing more
+-- after the last command there is nothing more
 past_joined : (joins : Joined) (j : ℕ) → joined_at joins j ≡ None → drop_joined j joins ≡ drop_joined (suc j) joins
 past_joined tree.Alone zero e = refl
 past_joined tree.Alone (suc j) e = refl
@@ -359,11 +359,11 @@ pub place_answered-is : (outcome : Outcome) (r : Request) (ps : List RunningFram
 place_answered-is Success r ps s = boots-is r.effect.ends r.name ps (set_environment (sets_in r.words r.effect.sets) (logged Success r s))
 place_answered-is Failure r ps s = refl
 
--- where the text of a variable begins
+-- the start of the text of a variable
 pub text_begins : (script : Script) → frames_of (text_frame script ∷ []) ≡ Lists script ∷ []
 text_begins script = texted script []
 
--- ---- what `exit` takes off
+-- ---- what `exit` removes
 
 abbrev at_top : List RunningFrame → List RunningFrame → Type 0
 at_top frames all = to_run frames ≡ to_run all

@@ -31,7 +31,7 @@ front_value (e ∷ es) variables name =
     ∙ ap (cond (eq_by_cmp (slice_cmp nat_cmp) name e.0) (Some e.1)) (front_value es variables name)
     ∙ over_cond (eq_by_cmp (slice_cmp nat_cmp) name e.0) e.1 (find (slice_cmp nat_cmp) name es) (finite.get variables name)
 
--- the value of a variable: that of the environment, else of the shell variable
+-- the value of a variable: the environment's, or else the shell variable's
 pub value_of_all : (m : Moment) (name : Bytes) → finite.get (all_variables m) name ≡ over (finite.get m.environment name) (finite.get m.locals name)
 value_of_all m name = front_value (entries m.environment) m.locals name ∙ ap (λ (o : Option Bytes). over o (finite.get m.locals name)) (sym (get-entries m.environment name))
 

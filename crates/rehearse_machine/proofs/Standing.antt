@@ -26,7 +26,7 @@ module _ (task : Task) where
   pub moves : (p : OutcomeWord) (fs : List Frame) (s : State) → AreProperFrames fs → StandsAt task p fs s → AfterMove task p (move task.limits fs s)
   moves p fs s proper h = after-is p (move task.limits fs s) (λ w. h w ∙ sym (move-is task.limits w fs proper s))
 
-  -- where a run begins
+  -- where a run starts
   abbrev pub begun : Option Script → Next
   begun None = Stop (Syntax task.name) (start task.environment [])
   begun (Some t) = Go (Lists t ∷ []) (begun_text t (start task.environment []))

@@ -1,4 +1,4 @@
--- Where a text stops, and how an outcome takes it on.
+-- Where a text stops, and how an outcome continues it.
 use Rattle.std.proofs.Common.{ℕ, ◌+◌, Bool, true, false, List, [], ◌∷◌, Result, Ok, Err, refl, sym, ap, subst, ◌∙◌, ◌≡◌, ◌≤◌, None, arith}
 use Rattle.std.specs.Prelude.{IfOk, OnOk}
 use Rattle.bootstore.specs.declared.store.StoreError.{StoreError}
@@ -48,7 +48,7 @@ module _ (limits : Limits) (old new : Record) where
   stops_within (steps.Asks ask) other drives = drives.within
   stops_within (steps.Ends halt) other drives = drives.within
 
--- what comes to the same stops there too
+-- two things that come to the same stop at the same place
 pub stops_as : (limits : Limits) (stop : Stop) (f g : OutcomeWord → Came) (m : Moment) → ((w : OutcomeWord) → g w ≡ f w) → Stops limits stop f m → Stops limits stop g m
 stops_as limits Asks f g m e h = (h.0, λ w. e w ∙ h.1 w, e [] ∙ h.2)
 stops_as limits (Ends halt) f g m e h = λ w. e w ∙ h w

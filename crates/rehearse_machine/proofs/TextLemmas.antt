@@ -57,7 +57,7 @@ module _ (old mid new : Record) (variables : stored.Variables) (child : stored.R
       ∙ ap (λ (x : State). continue limits (frames_of (text_frame (view.script code) ∷ [])) (Normal x)) (stored_starts variables w)
       ∙ text_runs (record { limits = limits; environment = entries variables; name = name; text = text; failures = None }) (view.script code) w read
 
--- a text that is no script
+-- a text that is not a script
 pub refused_runs : (task : Task) (w : OutcomeWord) → tree_of task.text ≡ None → settled (run_on task w) ≡ Over (Syntax task.name) (start task.environment w)
 refused_runs task w e = begins task None e w
 

@@ -41,7 +41,7 @@ further_on limits s n (Go fs t) e h = let a = h.0 in (omega arith, h.1)
 further_on limits s n (Ask r fs t) e h = let a = h.0 in (omega arith, h.1)
 further_on limits s n (Stop ending t) e h = let a = h.0 in (omega arith, λ l. h.1 (omega arith))
 
--- where a move ends a turn
+-- a move that ends a turn
 ends_turn : (limits : Limits) (step : Step) (m : Moment) (s : State) (n left : ℕ) → s.steps ≡ n → Progress limits s left (next_of (next_shown step m [])) → (step ≡ steps.Going → m.steps ≡ n → ⊥) → IsFurtherOn limits.step_bound n (next_of (next_shown step m []))
 ends_turn limits step m s n left e (inl h) other = further_on limits s n (next_of (next_shown step m [])) e h
 ends_turn limits steps.Going m s n left e (inr h) other = let a = h.0 in absurd (other refl (a ∙ e))

@@ -8,7 +8,7 @@ use Rattle.rehearse.specs.State.{State, parameters_in}
 use Rattle.rehearse.specs.Execution.{Limits, End}
 use Rattle.rehearse_machine.specs.Places.{PlaceNext, GoOn, AskOn, StopOn, list_at, command_at, place_fitting, place_fields}
 
--- the command in front of the place of a frame
+-- the command before the place of a frame
 abbrev pub command_in_front : ℕ → RunningFrame → Option Command
 command_in_front zero f = None
 command_in_front (suc command) f = command_at (list_at f.script f.place.list) command
@@ -31,12 +31,12 @@ fields_again limits None f fs s = StopOn (End s.memory.status) s
 fields_again limits (Some words) f fs s =
     place_fitting (fields (parameters_in s.memory) words) (λ found. place_fields limits found f.script (f ∷ fs)) s
 
--- the command that the innermost frame stands behind, found again: a device command that asks, if it is one
+-- the command before the place of the innermost frame, found again: a device command that asks, if it is one
 abbrev pub found_again : Limits → List RunningFrame → State → PlaceNext
 found_again limits [] s = StopOn (End s.memory.status) s
 found_again limits (f ∷ fs) s = fields_again limits (words_in_front f) f fs s
 
--- where a command asks, it is found again
+-- if a command asks, it is found again
 abbrev pub AsksAgain : Limits → PlaceNext → Type 0
 AsksAgain limits (GoOn fs s) = Unit {0}
 AsksAgain limits (AskOn request fs s) = found_again limits fs s ≡ AskOn request fs s

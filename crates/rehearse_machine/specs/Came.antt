@@ -7,7 +7,7 @@ pub data Came : Type 0 where
   Over : (ending : Ending) → State → Came
   Wants : State → Came
 
--- a text that comes to its end, or to an `exit`, ends the run with its status
+-- a text that ends, by itself or by an `exit`, ends the run with its status
 abbrev pub settled : Answer → Came
 settled (Normal s) = Over (End s.memory.status) s
 settled (Exit s) = Over (End s.memory.status) s

@@ -17,7 +17,7 @@ use Rattle.rehearse_machine.specs.declared.rehearsal.Stop.TheVariants.{Asks, End
 unfoldable pub asked_at : Limits → Moment → OutcomeWord → Came
 asked_at limits m w = comes_to limits w (next_of (found_again limits m.frames (state_at m w)))
 
--- the device command that asks stands in the frames of the moment
+-- the frames of the moment lead to the device command that asks
 pub record Asking (limits : Limits) (m : Moment) : Type 0 where
   pub request : Request
   pub again : (w : OutcomeWord) → found_again limits m.frames (state_at m w) ≡ AskOn request m.frames (state_at m w)
@@ -32,7 +32,8 @@ abbrev pub outcome_when : (success : Bool) → Outcome
 outcome_when true = Success
 outcome_when false = Failure
 
--- a text that comes to f stopped at a moment: a device command asks, or the run has ended, whatever outcomes are left
+-- a text that comes to f stopped at this moment: a device command asks, or the run has ended, whatever outcomes are
+-- left
 abbrev pub Stops : Limits → Stop → (f : OutcomeWord → Came) → Moment → Type 0
 Stops limits Asks f m =
     IsAsking limits m × ((w : OutcomeWord) → f w ≡ asked_at limits m w) × (f [] ≡ Wants (state_at m []))

@@ -13,7 +13,7 @@ use Rattle.rehearse_machine.specs.Frames.{Frame, Lists, Linked, IfCondition, Loo
 abbrev pub with : OutcomeWord → State → State
 with w s = record s { word = w }
 
--- a text that `run` started has ended, or is the first: the next one follows where its status is 0, or it is the first
+-- a text that `run` started has ended, or none was started yet; if the run has not ended, the next text follows
 abbrev pub first_or_next : Answer → (State → Answer) → Answer
 first_or_next (Normal s) next = next s
 first_or_next (Exit s) next = next s
@@ -40,7 +40,7 @@ module _ (limits : Limits) where
   abbrev pub again : Bool → Script → Script → State → Answer
   again until c b u = turns limits.step_bound until (script c) (script b) u.memory.status u
 
-  -- what a frame makes of the answer of those above it
+  -- what a frame makes of the answer of the frames above it
   abbrev pub resume : Frame → Answer → Answer
   resume (Lists lists) a = go_on a (script lists)
   resume (Linked links) a = go_on a (joined_of links)
@@ -57,12 +57,12 @@ module _ (limits : Limits) where
   resume (RunNames names) a = first_or_next a (run_all limits full names)
   resume (RunText names) a = text_end a (run_all limits full names)
 
-  -- what all the frames make of it
+  -- what all the frames make of an answer
   abbrev pub continue : List Frame → Answer → Came
   continue [] a = settled a
   continue (f ∷ fs) a = continue fs (resume f a)
 
-  -- what a move comes to, with this word left
+  -- the result of a move, with this word left
   abbrev pub comes_to : OutcomeWord → Next → Came
   comes_to w (Go fs s) = continue fs (Normal (with w s))
   comes_to w (Ask request fs s) = continue fs (take_outcome request w (with w s))
@@ -89,16 +89,16 @@ IsProperNext (Ask request fs s) = AreProperFrames fs
 IsProperNext (Stop ending s) = Unit {0}
 
 module _ (task : Task) where
-  -- the machine stands where a run of the task stands that has taken p
+  -- the machine is as far as a run of the task that has taken p
   abbrev pub StandsAt : OutcomeWord → List Frame → State → Type 0
   StandsAt p fs s = (w : OutcomeWord) → settled (run_on task (p ++ w)) ≡ continue task.limits fs (Normal (with w s))
 
-  -- a command stands asked: whatever follows p, it takes the next outcome
+  -- a command has asked: whatever follows p, it takes the next outcome
   abbrev pub AsksAt : OutcomeWord → Request → List Frame → State → Type 0
   AsksAt p request fs s =
       (w : OutcomeWord) → settled (run_on task (p ++ w)) ≡ continue task.limits fs (take_outcome request w (with w s))
 
-  -- the run is over: whatever follows p is left over
+  -- the run is over: whatever follows p is not used
   abbrev pub EndsAt : OutcomeWord → Ending → State → Type 0
   EndsAt p ending s = (w : OutcomeWord) → settled (run_on task (p ++ w)) ≡ Over ending (with w s)
 

@@ -6,7 +6,7 @@ use Rattle.rehearse.specs.Trees.{tree_of}
 use Rattle.rehearse.specs.State.{Text, Variables, get}
 use Rattle.rehearse_machine.specs.Frames.{Frame, Lists, Linked, IfCondition, LoopCondition, LoopBody, ForBody, RunNames, RunText}
 
--- how many moves it takes from a command to the first step in it
+-- how many moves lead from a command to the first step in it
 abbrev mutual
   pub command_depth : Command → ℕ
   command_depth (tree.Simple words) = 0
@@ -27,7 +27,7 @@ abbrev mutual
   pub list_depth : AndOr → ℕ
   list_depth (tree.Starts c links) = command_depth c
 
--- how many moves at most it takes to a step or to the end, where it takes m below
+-- an upper bound of the moves to a step or to the end, if m is one for what is below
 abbrev pub block_weight : Script → ℕ → ℕ
 block_weight tree.Empty m = suc m
 block_weight (tree.Runs l ls) m = suc (list_depth l)

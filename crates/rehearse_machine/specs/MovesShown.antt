@@ -23,7 +23,7 @@ abbrev pub request_shown : Ask → Request
 request_shown ask =
     record { name = ask.name.items; words = bytes_of_words ask.words.items; effect = lent_effect ask.effect }
 
--- a move that has come to a moment
+-- the result of a move that has led to a moment
 abbrev pub next_shown : Step → Moment → OutcomeWord → PlaceNext
 next_shown steps.Going m w = GoOn m.frames (state_at m w)
 next_shown (steps.Asks ask) m w = AskOn (request_shown ask) m.frames (state_at m w)
@@ -32,7 +32,7 @@ next_shown (steps.Ends halt) m w = StopOn (halt_shown halt) (state_at m w)
 abbrev pub limits_of : Devices → BoundsShown → Limits
 limits_of devices bounds = record { devices = devices; device_bound = bounds.devices; step_bound = bounds.steps }
 
--- the frames under the innermost
+-- the frames below the innermost
 abbrev pub under : Moment → List RunningFrame
 under m = without_first m.frames
 
@@ -50,7 +50,7 @@ abbrev pub Does : Step → Record → Record → (State → PlaceNext) → Type 
 Does step old new next =
     ((w : OutcomeWord) → next_shown step new.present w ≡ next (state_at old.present w)) × Keeps old new
 
--- where there was memory
+-- the same, if memory did not run out
 abbrev pub Comes : Result Step StoreError → Record → Record → (State → PlaceNext) → Type 0
 Comes (Ok step) old new next = Does step old new next
 Comes (Err e) old new next = Unit {0}
@@ -65,7 +65,7 @@ abbrev pub Changed : Result (Unit {0}) StoreError → Record → Record → (Mem
 Changed (Ok done) old new change = Changes old new change
 Changed (Err e) old new change = Unit {0}
 
--- fields, where they hold no more bytes than may be
+-- fields, if they hold no more bytes than allowed
 abbrev pub IsExpanded : Option (Vec (Vec ℕ Global) Global) → List Text → Type 0
 IsExpanded (Some found) fields = (bytes_of_words found.items ≡ fields) × (nat_le (size fields) most_bytes ≡ true)
 IsExpanded None fields = nat_le (size fields) most_bytes ≡ false

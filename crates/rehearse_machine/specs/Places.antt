@@ -50,14 +50,14 @@ abbrev pub command_at : Option AndOr → ℕ → Option Command
 command_at None j = None
 command_at (Some list) j = command_in list j
 
--- the arms from one on; behind them all the `else` block
+-- the arms from one on; the `else` block is after all of them
 abbrev pub drop_arms : ℕ → Arms → Arms
 drop_arms zero arms = arms
 drop_arms (suc a) (tree.Arm c b arms) = drop_arms a arms
 drop_arms (suc a) (tree.Else b) = tree.Else b
 drop_arms (suc a) tree.NoElse = tree.NoElse
 
--- ---- the frames that places stand for
+-- ---- the frames that places describe
 
 abbrev pub place : ℕ → ℕ → ℕ → ℕ → At
 place list command turn last = record { list = list; command = command; turn = turn; last = last }
@@ -101,7 +101,7 @@ frames_by kinds.Block f = script_frames (list_at f.script f.place.list) f.place 
 frames_by kinds.For f = for_frame (command_at (list_at f.script f.place.list) f.place.command) f.place.turn f.words ∷ []
 frames_by kinds.Run f = run_frame f.place.turn f.words ∷ []
 
--- the frames that the frames of a store stand for
+-- the frames that the frames of a store describe
 abbrev pub frames_of : List RunningFrame → List Frame
 frames_of [] = []
 frames_of (f ∷ fs) = frames_by f.kind f ++ frames_of fs
@@ -121,11 +121,11 @@ next_of (StopOn ending s) = Stop ending s
 abbrev pub moved_to : At → RunningFrame → RunningFrame
 moved_to at f = record f { place = at }
 
--- behind its command
+-- the place after its command
 abbrev pub behind : RunningFrame → RunningFrame
 behind f = moved_to (place f.place.list (suc f.place.command) 0 0) f
 
--- in a turn of its command
+-- the place in a turn of its command
 abbrev pub in_turn : ℕ → ℕ → RunningFrame → RunningFrame
 in_turn turn last f = moved_to (place f.place.list f.place.command turn last) f
 
@@ -135,11 +135,11 @@ text_frame script = record { kind = kinds.Text; script = script; words = []; pla
 abbrev pub block_frame : Script → RunningFrame
 block_frame script = record { kind = kinds.Block; script = script; words = []; place = place 0 0 0 0 }
 
--- the names of a `run` that stands in a script
+-- the names of a `run` in a script
 abbrev pub names_frame : Script → List Text → RunningFrame
 names_frame script names = record { kind = kinds.Run; script = script; words = names; place = place 0 0 0 0 }
 
--- the `for` that a frame has come to, and its fields
+-- the `for` at the place of a frame, and its fields
 abbrev pub values_frame : RunningFrame → List Text → RunningFrame
 values_frame f values =
     record { kind = kinds.For; script = f.script; words = values; place = place f.place.list f.place.command 0 0 }
@@ -150,7 +150,7 @@ is_run kinds.Block = false
 is_run kinds.For = false
 is_run kinds.Run = true
 
--- the frames from the innermost `run` on
+-- the frames from the innermost `run` outwards
 abbrev pub to_run : List RunningFrame → List RunningFrame
 to_run [] = []
 to_run (f ∷ fs) = elim (is_run f.kind) [ true ↦ f ∷ fs | false ↦ to_run fs ]
@@ -258,7 +258,7 @@ module _ (limits : Limits) where
   place_ask request ps s =
       elim (nat_lt (length s.log) limits.device_bound) [ true ↦ AskOn request ps s | false ↦ StopOn CutDevices s ]
 
-  -- the frames stand behind the command, which stands in a script
+  -- what a name calls, in a script; the frames go on after the command
   abbrev pub place_called : Called → Text → List Text → Script → List RunningFrame → State → PlaceNext
   place_called (BuiltIn (ChangesVariables change)) name words script ps s = GoOn ps (remember (variables_changed change words) s)
   place_called (BuiltIn RunsTexts) name [] script ps s = GoOn ps (set_status 1 s)
@@ -296,7 +296,7 @@ module _ (limits : Limits) where
   place_command (tree.For name words body) f fs s =
       place_counted (λ t. place_fitting (fields (parameters_in t.memory) words) (λ found. for_begins found f fs) t) s
 
-  -- a command behind `&&` or `||`, or the end of the list
+  -- a command after `&&` or `||`, or the end of the list
   abbrev pub place_joined : Option (Op × Command) → RunningFrame → List RunningFrame → State → PlaceNext
   place_joined None f fs s = GoOn (moved_to (place (suc f.place.list) 0 0 0) f ∷ fs) s
   place_joined (Some pair) f fs s =

@@ -20,7 +20,7 @@ task_shown env devices name bounds =
       failures = bounds.failures;
     }
 
--- the same, where the variable is set
+-- the same, if the variable is set
 abbrev pub task_set : List (Text × Text) → Devices → Text → BoundsShown → Option Task
 task_set env devices name bounds =
     task_of (record { devices = devices; device_bound = bounds.devices; step_bound = bounds.steps }) bounds.failures

@@ -20,7 +20,7 @@ use Rattle.rehearse_machine.specs.MovesShown.{next_shown, Keeps}
 abbrev pub to_come : Limits → Moment → OutcomeWord → Came
 to_come limits m w = continue limits (frames_of m.frames) (Normal (state_at m w))
 
--- what a move that has come to a moment comes to
+-- what a move that has led to a moment comes to
 abbrev pub step_comes : Limits → Step → Moment → OutcomeWord → Came
 step_comes limits step m w = comes_to limits w (next_of (next_shown step m w))
 
@@ -31,7 +31,7 @@ IsSound m = AreProperFrames (frames_of m.frames)
 abbrev pub IsSoundStep : Step → Moment → Type 0
 IsSoundStep step m = IsProperNext (next_of (next_shown step m []))
 
--- more steps were begun where the run is not over, and no more than the bound
+-- more steps were begun, unless the run is over, and no more than the bound
 abbrev pub IsFurtherOn : (bound steps : ℕ) → Next → Type 0
 IsFurtherOn bound steps (Go fs t) = (steps < t.steps) × (t.steps ≤ bound)
 IsFurtherOn bound steps (Ask r fs t) = (steps < t.steps) × (t.steps ≤ bound)
@@ -43,11 +43,11 @@ IsWithin bound (Go fs t) = t.steps ≤ bound
 IsWithin bound (Ask r fs t) = t.steps ≤ bound
 IsWithin bound (Stop ending t) = t.steps ≤ bound
 
--- how many moves it takes at most to the next step
+-- an upper bound of the moves to the next step
 abbrev pub moves_left : Moment → ℕ
 moves_left m = weight (entries m.environment) (frames_of m.frames)
 
--- a turn: what is to come stays, and a step is begun or the run is over
+-- a turn: what is to come stays the same, and a step is begun or the run is over
 pub record Turns (limits : Limits) (step : Step) (old new : Record) : Type 0 where
   pub means : (w : OutcomeWord) → step_comes limits step new.present w ≡ to_come limits old.present w
   pub sound : IsSoundStep step new.present
@@ -62,7 +62,7 @@ pub record Waits (limits : Limits) (old new : Record) : Type 0 where
   pub kept : Keeps old new
   pub steps : new.present.steps ≡ old.present.steps
 
--- turns up to an outcome that is asked for, or to the end
+-- turns until an outcome is asked for, or until the end
 pub record Drives (limits : Limits) (step : Step) (old new : Record) : Type 0 where
   pub means : (w : OutcomeWord) → step_comes limits step new.present w ≡ to_come limits old.present w
   pub sound : IsSoundStep step new.present

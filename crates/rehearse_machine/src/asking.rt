@@ -14,7 +14,7 @@ use hushlang::tree::{Command, Word};
 use rehearse::{Devices, RunBounds};
 use std::alloc::Global;
 
-/// The words of the simple command that a frame stands behind.
+/// The words of the simple command before the place of a frame.
 fn words_in_front(frame: &Frame) -> Option<&[Word]>
     ensures { option_map (λ words. map view.word words.now) result ≡ asking.words_in_front frame.now }
 {
@@ -35,7 +35,7 @@ fn words_in_front(frame: &Frame) -> Option<&[Word]>
     Some(words)
 }
 
-/// The device command that a frame stands behind, the innermost one.
+/// Finds the device command before the place of the innermost frame.
 fn find_behind<'d, S: Store>(
     alloc: Global,
     store: &mut S,
@@ -56,8 +56,8 @@ fn find_behind<'d, S: Store>(
     run_fields(alloc, store, frame.script(), devices, bounds, fields)
 }
 
-/// The device command that has begun and asks: the one that the innermost frame stands behind. Its words are expanded
-/// again, in the state that it was begun in.
+/// Finds the device command again that has begun and asks. It is before the place of the innermost
+/// frame. Expands its words again, in the state in which it was begun. Errors: `Memory`.
 pub(crate) fn find_again<'d, S: Store>(
     alloc: Global,
     store: &mut S,

@@ -15,7 +15,7 @@ use hushlang::tree::Word;
 use rehearse::RunBounds;
 use std::alloc::Global;
 
-/// Assignments begin a step.
+/// Begins a step for assignments, and assigns.
 pub(crate) fn begin_assign<'d, S: Store>(
     alloc: Global,
     store: &mut S,
@@ -36,7 +36,8 @@ pub(crate) fn begin_assign<'d, S: Store>(
     assign(alloc, store, frame, values)
 }
 
-/// Assigns the values in turn, each by what those before it left. Then the status is 0.
+/// Assigns the values in turn, each by the variables that the ones before it left. Then the status
+/// is 0.
 fn assign<'d, S: Store>(
     alloc: Global,
     store: &mut S,

@@ -10,7 +10,8 @@ use bootstore::{Frame, Store, StoreError};
 use hushlang::tree::Script;
 use std::rc::Rc;
 
-/// The arms of an `if` from one on: the condition of that one, else the `else` block, else status 0.
+/// Begins the arms of an `if` from this one on: its condition, or the `else` block if there is no
+/// such arm, or status 0 if there is no `else`.
 pub(crate) fn begin_arms<'d, S: Store>(
     store: &mut S,
     frame: &Frame,
@@ -33,7 +34,8 @@ pub(crate) fn begin_arms<'d, S: Store>(
     }
 }
 
-/// The condition of an arm has ended: its block where the status is 0, else the arms behind it.
+/// Goes on after the condition of an arm: with its block if the status is 0, else with the arms
+/// after it.
 pub(crate) fn end_condition<'d, S: Store>(
     store: &mut S,
     frame: &Frame,
@@ -55,7 +57,7 @@ pub(crate) fn end_condition<'d, S: Store>(
     }
 }
 
-/// The condition of a loop, where the last body came to a status.
+/// Begins the condition of a loop whose last body ended with this status.
 pub(crate) fn begin_loop<'d, S: Store>(
     store: &mut S,
     frame: &Frame,
@@ -74,7 +76,8 @@ pub(crate) fn begin_loop<'d, S: Store>(
     )
 }
 
-/// The condition of a loop has ended: its body where the loop goes on, else the status of the last body.
+/// Goes on after the condition of a loop: with its body if the loop goes on, else after the loop,
+/// with the status of the last body.
 pub(crate) fn end_loop_condition<'d, S: Store>(
     store: &mut S,
     frame: &Frame,

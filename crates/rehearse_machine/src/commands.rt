@@ -40,7 +40,7 @@ pub(crate) fn called_by_name<'a>(devices: &'a Devices, name: &[u8], words: &[Vec
     }
 }
 
-/// Asks for the outcome of a device command, where the bound allows one more.
+/// Asks for the outcome of a device command, if the bound allows one more.
 pub(crate) fn ask<'d, S: Store>(
     store: &S,
     bounds: RunBounds,
@@ -63,7 +63,7 @@ pub(crate) fn ask<'d, S: Store>(
     }
 }
 
-/// Words, with a space between two.
+/// The words, joined by single spaces. Errors: memory ran out.
 pub(crate) fn joined(alloc: Global, words: &[Vec<u8>]) -> Result<Vec<u8>, AllocError>
     ensures { IfOk result (λ v. v.items ≡ join_with_byte ascii.space (bytes_of_words words.now)) }
 {
@@ -77,7 +77,8 @@ pub(crate) fn joined(alloc: Global, words: &[Vec<u8>]) -> Result<Vec<u8>, AllocE
     Ok(joined)
 }
 
-/// `setenv`: a name alone is deleted, else it gets the words behind it.
+/// `setenv`: deletes the variable if only a name is given, else sets it to the words after the
+/// name. Errors: `Memory`.
 pub(crate) fn setenv<S: Store>(
     alloc: Global,
     store: &mut S,
@@ -156,7 +157,7 @@ fn are_digits(bytes: &[u8]) -> bool
     bytes.iter().all(|byte| b'0' <= *byte && *byte <= b'9')
 }
 
-/// `echo`: the words and a newline, which a first word `-n` leaves out.
+/// `echo`: writes the words and a newline, which a first word `-n` leaves out. Errors: `Memory`.
 pub(crate) fn echo<S: Store>(
     alloc: Global,
     store: &mut S,

@@ -22,7 +22,7 @@ pub(crate) fn place(list: usize, command: usize) -> At
     }
 }
 
-/// Behind the command of a place.
+/// The place after the command of a place.
 pub(crate) fn behind(at: At) -> At
     requires { at.command + 1 < 2 ^ 64 }
     ensures { result ≡ place at.list (suc at.command) 0 0 }
@@ -30,7 +30,7 @@ pub(crate) fn behind(at: At) -> At
     place(at.list, at.command + 1)
 }
 
-/// The same command, in the turn behind this one.
+/// The same command, in the turn after this one.
 pub(crate) fn in_turn(at: At, turn: usize, last: u8) -> At
     requires { turn + 1 < 2 ^ 64 }
     ensures { result ≡ place at.list at.command (suc turn) last }
@@ -57,7 +57,7 @@ pub(crate) fn text(script: Rc<Script>) -> Frame
     Frame::new(FrameKind::Text, script, place(0, 0))
 }
 
-/// The innermost frame goes on from a place, behind a frame of its own.
+/// Moves the innermost frame to a place, and pushes a frame on it.
 pub(crate) fn enter<'d, S: Store>(
     store: &mut S,
     frame: &Frame,
@@ -72,7 +72,7 @@ pub(crate) fn enter<'d, S: Store>(
     Ok(Step::Going)
 }
 
-/// The innermost frame goes on from a place.
+/// Moves the innermost frame to a place.
 pub(crate) fn go_on<'d, S: Store>(
     store: &mut S,
     frame: &Frame,
@@ -85,7 +85,7 @@ pub(crate) fn go_on<'d, S: Store>(
     Ok(Step::Going)
 }
 
-/// The innermost frame goes on from a place, with a status.
+/// Moves the innermost frame to a place, and sets the status.
 pub(crate) fn finish<'d, S: Store>(
     store: &mut S,
     frame: &Frame,
@@ -100,7 +100,7 @@ pub(crate) fn finish<'d, S: Store>(
     Ok(Step::Going)
 }
 
-/// The innermost frame is done.
+/// Removes the innermost frame, which is done.
 pub(crate) fn leave<'d, S: Store>(store: &mut S) -> Result<Step<'d>, StoreError>
     ensures { Comes result (S.record_of store.old) (S.record_of store.new) (GoOn (under (S.record_of store.old).present)) }
 {

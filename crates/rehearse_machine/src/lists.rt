@@ -13,7 +13,7 @@ use hushlang::tree::{AndOr, Op};
 use rehearse::{Devices, RunBounds};
 use std::alloc::Global;
 
-/// Whether what is joined by an operator runs where the status is this one.
+/// Whether the command after an operator runs with this status.
 fn goes(op: Op, status: u8) -> bool
     ensures { result ≡ goes op status }
 {
@@ -23,7 +23,7 @@ fn goes(op: Op, status: u8) -> bool
     }
 }
 
-/// The command of a list that its place names begins, or the list has ended.
+/// Begins the command that the place names in a list, or goes on after the list if it has ended.
 pub fn begin_in_list<'d, S: Store>(
     alloc: Global,
     store: &mut S,

@@ -11,7 +11,7 @@ use bootstore::{FrameKind, Store, StoreError};
 use rehearse::{Devices, RunBounds};
 use std::alloc::Global;
 
-/// One move.
+/// Makes one move.
 pub(crate) fn step<'d, S: Store>(
     alloc: Global,
     store: &mut S,
@@ -33,7 +33,7 @@ pub(crate) fn step<'d, S: Store>(
     }
 }
 
-/// Moves until a step is begun, an outcome is asked for, or the run is over.
+/// Makes moves until a step is begun, an outcome is asked for, or the run is over.
 pub(crate) fn turn<'d, S: Store>(
     alloc: Global,
     store: &mut S,
@@ -58,7 +58,7 @@ pub(crate) fn turn<'d, S: Store>(
     }
 }
 
-/// Moves until an outcome is asked for, or the run is over.
+/// Makes moves until an outcome is asked for, or the run is over.
 pub(crate) fn drive<'d, S: Store>(
     alloc: Global,
     store: &mut S,

@@ -3,7 +3,7 @@
 use bootstore::Store;
 use hushlang::expand::Vars;
 
-/// What a store has.
+/// The variables and the status that a store has.
 #[derive(Drop)]
 pub(crate) struct Memory<'a, S> {
     /// The store.

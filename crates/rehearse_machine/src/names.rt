@@ -10,7 +10,8 @@ use bootstore::{Frame, Store, StoreError};
 use hushlang::tree::Script;
 use std::rc::Rc;
 
-/// The next turn of a `for`, whose variable is the name: its body with the next field, or its end.
+/// Goes on with a `for` whose variable has this name: with its body and the next field, or after it
+/// if no field is left.
 pub fn next_turn<'d, S: Store>(
     store: &mut S,
     frame: &Frame,

@@ -13,8 +13,8 @@ use crate::halt::Halt;
 use bootstore::{LogEntry, Store, StoreError};
 use rehearse::{Effect, LeftSide, Setting, is_bad_name};
 
-/// A device command has its outcome: it stands in the log, and is the status. On success the command sets its
-/// variables, and may end the run.
+/// Gives a device command its outcome, which goes into the log and is the status. On success the
+/// command sets its variables, and may end the run.
 pub(crate) fn answer<'d, S: Store>(
     store: &mut S,
     ask: Ask<'d>,
@@ -42,14 +42,14 @@ pub(crate) fn answer<'d, S: Store>(
     Ok(Step::Going)
 }
 
-/// What an outcome sets: on failure, nothing.
+/// What an outcome sets: nothing on failure.
 fn sets_on(success: bool, effect: Effect<'_>) -> &[Setting]
     ensures { result.now ≡ (if success then effect.entry.sets.now else []) }
 {
     if success { effect.sets } else { &[] }
 }
 
-/// Sets what a call with these words sets, one after another.
+/// Sets what a call with these words sets, one setting after another.
 fn set_all<S: Store>(store: &mut S, words: &[Vec<u8>], sets: &[Setting]) -> Result<(), StoreError>
     ensures { Changed result (S.record_of store.old) (S.record_of store.new) (λ m. record m { environment = with_all (sets_in (bytes_of_words words.now) (map setting_shown sets.now)) m.environment }) }
 {
@@ -59,7 +59,7 @@ fn set_all<S: Store>(store: &mut S, words: &[Vec<u8>], sets: &[Setting]) -> Resu
     Ok(())
 }
 
-/// Sets what a setting sets in a call with these words.
+/// Makes one setting in a call with these words.
 fn set_one<S: Store>(store: &mut S, words: &[Vec<u8>], set: &Setting) -> Result<(), StoreError>
     ensures { Changed result (S.record_of store.old) (S.record_of store.new) (λ m. record m { environment = with_all (sets_in (bytes_of_words words.now) (setting_shown set.now ∷ [])) m.environment }) }
 {
@@ -70,7 +70,7 @@ fn set_one<S: Store>(store: &mut S, words: &[Vec<u8>], set: &Setting) -> Result<
     Ok(())
 }
 
-/// The variable that the left side of a setting stands for in a call with these words.
+/// The variable that the left side of a setting means in a call with these words.
 fn variable_of<'a>(left: &'a LeftSide, words: &'a [Vec<u8>]) -> Option<&'a [u8]>
     ensures { option_map (λ n. n.now) result ≡ variable_of (left_shown left.now) (bytes_of_words words.now) }
 {

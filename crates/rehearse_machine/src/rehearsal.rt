@@ -31,7 +31,7 @@ pub enum Stop {
     Ends(Halt),
 }
 
-/// What a rehearsal is lent.
+/// What a rehearsal borrows.
 #[derive(Clone, Copy)]
 pub struct Rehearsal<'a> {
     /// The allocator.
@@ -63,7 +63,7 @@ fn go_on<S: Store>(rehearsal: &Rehearsal<'_>, store: &mut S) -> Result<Stop, Sto
     }
 }
 
-/// The text of an environment variable; that of one that is not set is empty.
+/// The text of an environment variable, or the empty text if it is not set.
 fn text_of<'s, S: Store>(store: &'s S, name: &[u8]) -> &'s [u8]
     ensures { result.now ≡ unwrap_or (get (S.record_of store.now).present.environment name.now) [] }
 {
@@ -73,8 +73,8 @@ fn text_of<'s, S: Store>(store: &'s S, name: &[u8]) -> &'s [u8]
     }
 }
 
-/// Begins the text of the variable, and goes on until a device command asks, or the run ends. A variable that is not
-/// set is run as the empty text.
+/// Starts the text of the variable, and goes on until a device command asks, or the run ends. A
+/// variable that is not set is run as the empty text. Errors: `Memory`.
 pub fn begin<S: Store>(rehearsal: &Rehearsal<'_>, store: &mut S) -> Result<Stop, StoreError>
     requires { (S.record_of store.old).begun + most_steps + 1 < 2 ^ 64 }
     ensures stops { IfOk result (λ stop. Stops (task_in rehearsal.now).limits stop (λ w. settled (run_on (task_in rehearsal.now) w)) (S.record_of store.new).present) }
@@ -93,7 +93,8 @@ pub fn begin<S: Store>(rehearsal: &Rehearsal<'_>, store: &mut S) -> Result<Stop,
     go_on(rehearsal, store)
 }
 
-/// Gives the device command that asks an outcome, and goes on until the next one asks, or the run ends.
+/// Gives the device command that asks an outcome, and goes on until the next one asks, or the run
+/// ends. Errors: `Memory`.
 pub fn resume<S: Store>(
     rehearsal: &Rehearsal<'_>,
     store: &mut S,

@@ -19,7 +19,7 @@ use rehearse::{Devices, RunBounds};
 use std::alloc::Global;
 use std::rc::Rc;
 
-/// A frame that runs a script: its list goes on, or the script has ended.
+/// Advances a frame that runs a script: its list goes on, or the script has ended.
 pub(crate) fn move_in_script<'d, S: Store>(
     alloc: Global,
     store: &mut S,
@@ -46,7 +46,7 @@ pub(crate) fn move_in_script<'d, S: Store>(
     }
 }
 
-/// A frame of a `for`: its next turn.
+/// Advances a `for` frame: its next turn.
 pub(crate) fn move_for<'d, S: Store>(store: &mut S, frame: &Frame) -> Result<Step<'d>, StoreError>
     requires { IsTop frame.now (S.record_of store.old).present }
     ensures { Comes result (S.record_of store.old) (S.record_of store.new)
@@ -71,7 +71,8 @@ pub(crate) fn move_for<'d, S: Store>(store: &mut S, frame: &Frame) -> Result<Ste
     next_turn(store, frame, name, body)
 }
 
-/// A frame of a `run`: the text of its next name, where it is the first or the last text came to status 0.
+/// Advances a `run` frame: starts the next name if it is the first, or if the previous text ended
+/// with status 0. Else the `run` has ended.
 pub(crate) fn move_run<'d, S: Store>(
     alloc: Global,
     store: &mut S,
@@ -89,7 +90,8 @@ pub(crate) fn move_run<'d, S: Store>(
     leave(store)
 }
 
-/// The text of the name that a `run` has come to, or its end.
+/// Starts the text of the next name of a `run`, or ends the `run` if no name is left. A name that
+/// is not set ends it with status 1. A text that is not a script ends the whole run.
 fn next_name<'d, S: Store>(
     alloc: Global,
     store: &mut S,
@@ -114,7 +116,7 @@ fn next_name<'d, S: Store>(
     begin_text(alloc, store, frame, script)
 }
 
-/// The text of a name begins. One without a command gives the status 0.
+/// Starts the text of a name. A text without a command gives the status 0.
 fn begin_text<'d, S: Store>(
     alloc: Global,
     store: &mut S,

@@ -14,7 +14,7 @@ use hushlang::tree::Command;
 use rehearse::{Devices, RunBounds};
 use std::alloc::Global;
 
-/// A block of a command has ended, which stood in a turn of it.
+/// Goes on after a block of a command, which was in this turn of the command.
 pub(crate) fn end_block<'d, S: Store>(
     store: &mut S,
     frame: &Frame,
@@ -41,7 +41,7 @@ pub(crate) fn end_block<'d, S: Store>(
     }
 }
 
-/// A command begins.
+/// Begins a command.
 pub fn begin_command<'d, S: Store>(
     alloc: Global,
     store: &mut S,

@@ -25,7 +25,7 @@ use rehearse::{Builtin, Devices, Effect, RunBounds, verdict};
 use std::alloc::Global;
 use std::rc::Rc;
 
-/// Goes on with a status.
+/// Sets the status, and goes on.
 fn done<'d, S: Store>(store: &mut S, status: u8) -> Result<Step<'d>, StoreError>
     ensures { Comes result (S.record_of store.old) (S.record_of store.new) (λ s. GoOn (S.record_of store.old).present.frames (set_status status s)) }
 {
@@ -33,7 +33,7 @@ fn done<'d, S: Store>(store: &mut S, status: u8) -> Result<Step<'d>, StoreError>
     Ok(Step::Going)
 }
 
-/// `run`: the texts of these variables in turn. Without a name the status is 1.
+/// `run`: runs the texts of these variables in turn. Without a name the status is 1.
 fn run_names<'d, S: Store>(
     alloc: Global,
     store: &mut S,
@@ -50,7 +50,8 @@ fn run_names<'d, S: Store>(
     }
 }
 
-/// `test`: whether its words hold; or a device command, where they are `-e` and three more.
+/// `test`: the status says whether its words hold. If they are `-e` and three more, it is a device
+/// command.
 fn run_test<'d, S: Store>(
     store: &mut S,
     bounds: RunBounds,
@@ -73,7 +74,8 @@ fn run_test<'d, S: Store>(
     }
 }
 
-/// `exit`: the text that is running ends with the status that the words name; other words give the status 1.
+/// `exit`: ends the text that is running with the status that the words name. Other words give the
+/// status 1.
 fn run_exit<'d, S: Store>(store: &mut S, words: &[Vec<u8>]) -> Result<Step<'d>, StoreError>
     ensures { Comes result (S.record_of store.old) (S.record_of store.new)
         (place_exit (says.exit_status (bytes_of_words words.now)) (S.record_of store.old).present.frames) }
@@ -87,7 +89,7 @@ fn run_exit<'d, S: Store>(store: &mut S, words: &[Vec<u8>]) -> Result<Step<'d>, 
     }
 }
 
-/// A command that is built in.
+/// Runs a built-in command.
 fn run_builtin<'d, S: Store>(
     alloc: Global,
     store: &mut S,
@@ -117,7 +119,7 @@ fn run_builtin<'d, S: Store>(
     }
 }
 
-/// What a name calls: a built-in command, a device command, or nothing.
+/// Runs what a name calls: a built-in command or a device command. An unknown name ends the run.
 fn run_called<'d, S: Store>(
     alloc: Global,
     store: &mut S,
@@ -139,7 +141,7 @@ fn run_called<'d, S: Store>(
     }
 }
 
-/// The command that fields name.
+/// Runs the command that fields name.
 pub(crate) fn run_fields<'d, S: Store>(
     alloc: Global,
     store: &mut S,
@@ -163,7 +165,8 @@ pub(crate) fn run_fields<'d, S: Store>(
     run_called(alloc, store, script, bounds, called, name, fields)
 }
 
-/// Simple commands begin a step, expand their words, and run the command that the fields name.
+/// Begins a step for a simple command, expands its words, and runs the command that the fields
+/// name.
 pub(crate) fn begin_simple<'d, S: Store>(
     alloc: Global,
     store: &mut S,
@@ -189,7 +192,7 @@ pub(crate) fn begin_simple<'d, S: Store>(
     run_fields(alloc, store, frame.script(), devices, bounds, fields)
 }
 
-/// A `for` begins a step and expands its words. Without a field its status is 0.
+/// Begins a step for a `for`, and expands its words. Without a field the status is 0.
 pub(crate) fn begin_for<'d, S: Store>(
     alloc: Global,
     store: &mut S,
@@ -213,7 +216,7 @@ pub(crate) fn begin_for<'d, S: Store>(
     begin_turns(alloc, store, frame, fields)
 }
 
-/// The turns of a `for` with these fields.
+/// Starts the turns of a `for` with these fields.
 fn begin_turns<'d, S: Store>(
     alloc: Global,
     store: &mut S,

@@ -12,7 +12,7 @@ use hushlang::tree::Word;
 use rehearse::RunBounds;
 use std::alloc::Global;
 
-/// Begins a step where the bound allows one more; else the answer is false.
+/// Begins a step if the bound allows one more. Returns whether it did.
 pub(crate) fn count<S: Store>(store: &mut S, bounds: RunBounds) -> Result<bool, StoreError>
     requires { (S.record_of store.old).begun + 1 < 2 ^ 64 }
     ensures { IfOk result (λ counted. IsCounted bounds counted (S.record_of store.old) (S.record_of store.new)) }
@@ -24,7 +24,7 @@ pub(crate) fn count<S: Store>(store: &mut S, bounds: RunBounds) -> Result<bool, 
     Ok(true)
 }
 
-/// The fields of words, unless they hold too many bytes.
+/// Expands words to their fields. Gives `None` if they hold too many bytes.
 pub(crate) fn expanded<S: Store>(
     alloc: Global,
     store: &S,
@@ -39,7 +39,7 @@ pub(crate) fn expanded<S: Store>(
     }
 }
 
-/// The bytes of a word, unless there are too many.
+/// Expands a word to its bytes. Gives `None` if there are too many.
 pub(crate) fn expanded_one<S: Store>(
     alloc: Global,
     store: &S,

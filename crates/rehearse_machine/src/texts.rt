@@ -13,7 +13,8 @@ use hushlang::tree::Script;
 use std::alloc::Global;
 use std::rc::Rc;
 
-/// Leaves the text that is running: the frames above the innermost `run` are taken off.
+/// Leaves the text that is running: removes the frames above the innermost `run`. Without a `run`
+/// the whole run ends.
 pub(crate) fn leave_text<'d, S: Store>(store: &mut S) -> Result<Step<'d>, StoreError>
     ensures { Comes result (S.record_of store.old) (S.record_of store.new) (left (to_run (S.record_of store.old).present.frames)) }
 {
@@ -26,7 +27,7 @@ pub(crate) fn leave_text<'d, S: Store>(store: &mut S) -> Result<Step<'d>, StoreE
     Ok(Step::Ends(Halt::End(store.get_status())))
 }
 
-/// The names of a `run`, in front of the frames.
+/// Pushes a frame for the names of a `run`.
 pub(crate) fn begin_run<'d, S: Store>(
     alloc: Global,
     store: &mut S,

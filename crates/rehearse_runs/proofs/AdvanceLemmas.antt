@@ -106,7 +106,7 @@ few_if task (inr r) = few_failing task task.failures refl r.0 r.1
 pub few_runs : (task : Task) → AreBounds task → length (runs task) ≤ 8589934591
 few_runs task h = few_if task (fit task.limits.device_bound task.limits.step_bound task.failures h)
 
--- where no run was found yet
+-- no run was found yet
 pub stands_fresh : (task : Task) (digits : Text) (r : Record) → digits ≡ [] → r ≡ fresh → AreBounds task
     → AreDigits digits × Unit {0} × ((false ≡ false) × HasBudget r.begun (runs task)) × HasBegun task None None (runs task) r.begun × (task.limits.device_bound ≤ most_run_devices)
 stands_fresh task digits r d e h =

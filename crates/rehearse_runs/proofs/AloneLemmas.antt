@@ -25,7 +25,7 @@ use Rattle.rehearse_runs.specs.declared.walking.Walked.TheVariants as walked
 use Rattle.rehearse_runs.proofs.HeadlineLemmas.{digits-spelled}
 use Rattle.rehearse_runs.proofs.ListingLemmas.{record_is}
 
--- a text was written, and another printed behind it
+-- a text was written, and another printed after it
 pub Prints-behind : {T E : Type 0} (result : Result T E) {a b : Sink} (c : Sink) {xs : List ℕ} (ys : List ℕ) → Wrote a b xs → Prints result b c ys → Prints result a c (xs ++ ys)
 Prints-behind (Ok x) c ys w p = Wrote-append w p
 Prints-behind (Err e) c ys w p = BrokeOff-after w p

@@ -1,4 +1,4 @@
--- The runs behind a word, and the kinds of texts.
+-- The runs after a word, and the kinds of texts.
 use Rattle.std.proofs.Common.{◌≡◌, ℕ, ◌+◌, ◌≤◌, true, false, List, [], ◌∷◌, length, map, refl, sym, ap, subst, ◌∙◌, length-append, zero-add, Some, arith}
 use Rattle.bootstore.specs.Record.{Record, fresh}
 use Rattle.rehearse.specs.Bounds.{most_run_devices}
@@ -47,11 +47,11 @@ fails_too_often task text h w e is =
     let f : false ≡ true = h ∙ ap (is_within task.failures) same ∙ is.few in
     cc
 
--- of where it comes to
+-- what it says of the place where it ends
 pub walked_at : (task : Task) (text all : Text) (w : OutcomeWord) (reached : Walked) (at : Walked) (old new : Record) → reached ≡ at → WalksTo task text all w reached old new → WalksTo task text all w at old new
 walked_at task text all w reached at old new e h = subst (λ (x : Walked). WalksTo task text all w x old new) e h
 
--- ---- the runs behind it
+-- ---- the runs after it
 
 rest_less : (task : Task) (w : OutcomeWord) → IsListed task w → AreBounds task → length (rest task w) ≤ 8589934590
 rest_less task w r b =
@@ -77,7 +77,7 @@ stands_behind task text all halt old new e b few h =
     let l = rest_less task (outcomes all) is b in
     (sym h.0 ∙ sym h.1, is, (refl, record { moment = f.moment; ending = f.ending; marks = f.marks; budget = omega arith }), begun_behind task (outcomes all) new.begun (n ∙ ap (λ (k : ℕ). k + new.present.steps) z ∙ zero-add new.present.steps ∙ ap (λ (s : State). s.steps) f.moment), are_within task b)
 
--- the same, where the start word is kept as a copy of its digits
+-- the same, if the start word is kept as a copy of its digits
 pub stands_from : (task : Task) (text all copy : Text) (halt : Halt) (old new : Record) → copy ≡ all → old ≡ fresh → AreBounds task → true ≡ is_within task.failures (outcomes text) → WalksTo task text all (outcomes all) (walked.Ends halt) old new
     → AreDigits all × IsListed task (outcomes all) × ((true ≡ true) × StandsOn task (outcomes all) halt new) × HasBegun task (Some (outcomes copy)) (Some (outcomes all)) (rest task (outcomes all)) new.begun × (task.limits.device_bound ≤ most_run_devices)
 stands_from task text all copy halt old new c e b few h =

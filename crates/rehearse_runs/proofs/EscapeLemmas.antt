@@ -32,7 +32,7 @@ module _ (f : ℕ → List ℕ) (is_other : ℕ → Bool) (same : (b : ℕ) → 
         | inr other ↦ let t : list_any is_other bytes ≡ false = rw other at h in rw (same b other, all_same bytes t) refl
       ]
 
-  -- the bytes in front of the first other one are put as they are
+  -- the bytes before the first other byte are put as they are
   first_other : (bytes : List ℕ) (at : ℕ) → at < length bytes → ((k : ℕ) → k < at → is_other (get_or bytes k 0) ≡ false)
       → flat_map f bytes ≡ take at bytes ++ (f (get_or bytes at 0) ++ flat_map f (drop (suc at) bytes))
   first_other [] at lt none = absurd (omega arith)
@@ -78,7 +78,7 @@ module _ (f : ℕ → List ℕ) (is_other : ℕ → Bool) (same : (b : ℕ) → 
       let same_rest : flat_map f rest ≡ rest = all_same rest (position-none is_other rest is) in
       Puts-as a c p r (far.front ++ rest) (flat_map f bytes) result (ap (λ t. far.front ++ t) (sym same_rest) ∙ far.joined) (Puts-after c r rest result far.put puts)
 
--- a byte that stands as it is
+-- a byte that is printed as it is
 pub as_it_is : (form : Form) (b : ℕ) → not (stands form b) ≡ false → form_of form b ≡ b ∷ []
 as_it_is AsText b h = grind (arith, nat_tests)
 as_it_is AsWord b h = grind (arith, nat_tests)

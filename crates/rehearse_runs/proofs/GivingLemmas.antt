@@ -1,4 +1,4 @@
--- A run that is given, and what a rehearsal keeps then.
+-- A run that is given, and what the rehearsal then keeps.
 use Rattle.std.proofs.Common.{◌≡◌, ℕ, ◌+◌, ◌≤◌, Bool, true, false, [], ◌∷◌, length, Option, Some, refl, sym, ap, subst, ◌∙◌, arith}
 use Rattle.bootstore.specs.Record.{Record}
 use Rattle.rehearse.specs.Bounds.{most_run_devices}

@@ -54,7 +54,7 @@ digits-spelled (b ∷ []) w e = one_byte b (b == 46) w refl e
 digits-spelled (b ∷ c ∷ more) [] e = cc
 digits-spelled (b ∷ c ∷ more) (d ∷ w) e = e
 
--- digits that are no run's are those of a word that spells none
+-- digits that belong to no run are the digits of a word that spells none
 pub spells_no_run : (task : Task) (printed digits : Text) → digits ≡ digits_in printed → IsNoRun task digits → SpellsNoRun task printed
 spells_no_run task printed digits is h = λ w e. h w (is ∙ ap digits_in e ∙ spelled-digits w)
 

@@ -40,7 +40,7 @@ record_is task w digits s ending names d m e =
     ∙ ap (λ (x : Ending). recorded (map outcome_digit w) (record (state_of (run_on task w)) { word = [] }) x names) e
     ∙ recorded_spelled w (state_of (run_on task w)) (ending_of (run_on task w)) names
 
--- and of one that is shown
+-- and so it is for a run that is shown
 pub record_shown : {S : Type 0} (g : Ghosts S) (task : Task) (w : OutcomeWord) (v : RunView S) (names : List Text) → ShowsRun g task w v → recorded (shown_word v) (state_at (shown_moment g v) []) (shown_ending v) names ≡ record_of task names w
 record_shown g task w v names h = record_is task w (shown_word v) (state_at (shown_moment g v) []) (shown_ending v) names h.word h.moment h.ending
 
@@ -97,7 +97,7 @@ recorded_more {start} {now} {old} {mid} {names} {limit} {left} {ws} end new r n 
       still = m.still;
     }
 
--- the same, where the rehearsal changed in what does not count here
+-- the same, if only parts of the rehearsal changed that do not matter here
 recorded_same : {start now : Sink} {old mid new : RunsShown} {names : List Text} {limit left : Option ℕ} {ws : List OutcomeWord}
     → Recorded start now old mid names limit left ws → new ≡ record mid { shows = false } → Recorded start now old new names limit left ws
 recorded_same {start} {now} {old} {mid} {new} {names} {limit} {left} {ws} r e =
@@ -202,7 +202,7 @@ Wrote-as a b xs ys e h = subst (λ (t : Text). Wrote a b t) e h
 pub BrokeOff-as : (a b : Sink) (xs ys : Text) → xs ≡ ys → BrokeOff a b xs → BrokeOff a b ys
 BrokeOff-as a b xs ys e h = subst (λ (t : Text). BrokeOff a b t) e h
 
--- ---- the line behind the records
+-- ---- the line after the records
 
 abbrev closing_by : Bool → Text → Text
 closing_by b u = elim b [ true ↦ codes "done" | false ↦ codes "more " ++ u ]
@@ -210,7 +210,7 @@ closing_by b u = elim b [ true ↦ codes "done" | false ↦ codes "more " ++ u ]
 abbrev finish_by : Bool → Finish
 finish_by b = elim b [ true ↦ Done | false ↦ More ]
 
--- how a listing ends behind the records of ws, where rest is left
+-- how a listing ends after the records of ws, if rest is left
 record EndsBehind (all : List OutcomeWord) (limit : Option ℕ) (ws rest : List OutcomeWord) (last : Text) (finish : Finish) : Type 0 where
   pub shown_is : words_listed all limit ≡ ws
   pub closing_is : closing all limit ≡ last
@@ -268,7 +268,7 @@ at_end (Some l) (Some k) ws rest c e =
 ends_as : (f : OutcomeWord → Text) (all : List OutcomeWord) (limit : Option ℕ) (ws rest : List OutcomeWord) (last : Text) (finish : Finish) → EndsBehind all limit ws rest last finish → flat_map f ws ++ line last ≡ listing f all limit
 ends_as f all limit ws rest last finish e = ap (λ (vs : List OutcomeWord). flat_map f vs ++ line last) (sym e.shown_is) ∙ ap (λ (t : Text). flat_map f (words_listed all limit) ++ line t) (sym e.closing_is)
 
--- the words that were taken are those that are wanted
+-- the words that were taken are the wanted ones
 takes_wanted : {old new : RunsShown} {ws : List OutcomeWord} (limit : Option ℕ) → words_listed (ws ++ new.to_come) limit ≡ ws → Takes old new ws → Takes old new (words_listed old.to_come limit)
 takes_wanted {old} {new} {ws} limit e t =
     let whole : words_listed old.to_come limit ≡ ws = ap (λ (vs : List OutcomeWord). words_listed vs limit) t.words ∙ e in
@@ -287,7 +287,7 @@ listed {start} {now} {old} {new} {names} {limit} {left} {ws} end last finish r e
       still = r.still;
     }
 
--- and broke off
+-- and it broke off
 unlisted : {start now : Sink} {old new : RunsShown} {names : List Text} {limit left : Option ℕ} {ws : List OutcomeWord} (end : Sink) (last : Text) (finish : Finish)
     → Recorded start now old new names limit left ws → EndsBehind (ws ++ new.to_come) limit ws new.to_come last finish → BrokeOff now end (line last) → BreaksOff start end old new names limit
 unlisted {start} {now} {old} {new} {names} {limit} {left} {ws} end last finish r e q =
@@ -329,7 +329,7 @@ last_some_of : (before : Option OutcomeWord) (ws : List OutcomeWord) → ws ≢ 
 last_some_of before [] n = absurd (n refl)
 last_some_of before (w ∷ ws) n = last_some w ws
 
--- the digits of the last word, where words are left out
+-- the digits of the last word, if words are left out
 last_line_is : {start now : Sink} {old new : RunsShown} {names : List Text} {limit : Option ℕ} (digits : Text) (r : WroteRecords start now old new names limit) → limit ≢ Some 0 → has_words new.to_come ≡ true → digits ≡ map outcome_digit (last_given new) → line (codes "more " ++ printed digits) ≡ line (codes "more " ++ spelled (last_of [] r.ws))
 last_line_is {old = old} {new = new} {limit = limit} digits r n h d =
     let some = some_left limit r.left r.ws new.to_come n r.recorded.count r.over h in

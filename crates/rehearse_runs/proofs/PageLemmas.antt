@@ -9,7 +9,7 @@ use Rattle.rehearse_runs.specs.Paging.{Put, Puts}
 pub Put-none : (s : Sink) (p : List ℕ) → Put s s p p []
 Put-none s p = record { front = []; whole = append-nil p; wrote = Wrote-none s }
 
--- one text behind another
+-- one text after another
 pub Put-append : {a b c : Sink} {p q r xs ys : List ℕ} → Put a b p q xs → Put b c q r ys → Put a c p r (xs ++ ys)
 Put-append {a} {b} {c} {p} {q} {r} {xs} {ys} m n = record {
   front = m.front ++ n.front;
@@ -23,19 +23,19 @@ Breaks-after {a} {b} {c} {p} {q} {xs} ys m n =
     let P : List ℕ → Type 0 = λ t. BrokeOff a c t in
     subst P (sym (append_assoc m.front q ys) ∙ (ap (λ h. h ++ ys) (sym m.whole) ∙ append_assoc p xs ys)) (BrokeOff-after m.wrote n)
 
--- a text that broke off, and what was to follow
+-- a text that broke off, and what would have followed it
 pub Breaks-before : {a b : Sink} (p xs ys : List ℕ) → BrokeOff a b (p ++ xs) → BrokeOff a b (p ++ (xs ++ ys))
 Breaks-before {a} {b} p xs ys m =
     let P : List ℕ → Type 0 = λ t. BrokeOff a b t in
     subst P (append_assoc p xs ys) (BrokeOff-before ys m)
 
--- all that was put stood on the page, and was then written
+-- all that was put was on the page, and was then written
 pub Put-written : {a b c : Sink} {p q xs : List ℕ} → Put a b p q xs → Wrote b c q → Wrote a c (p ++ xs)
 Put-written {a} {b} {c} {p} {q} {xs} m n =
     let P : List ℕ → Type 0 = λ t. Wrote a c t in
     subst P (sym m.whole) (Wrote-append m.wrote n)
 
--- and broke off
+-- and that broke off
 pub Put-broken : {a b c : Sink} {p q xs : List ℕ} → Put a b p q xs → BrokeOff b c q → BrokeOff a c (p ++ xs)
 Put-broken {a} {b} {c} {p} {q} {xs} m n =
     let P : List ℕ → Type 0 = λ t. BrokeOff a c t in
@@ -46,7 +46,7 @@ pub Puts-written : {T E : Type 0} {a b : Sink} {p : List ℕ} (c : Sink) (xs : L
 Puts-written {p = p} c xs (Ok v) m n = record { front = p ++ xs; whole = sym (append-nil (p ++ xs)); wrote = Wrote-append m n }
 Puts-written c xs (Err e) m n = BrokeOff-after m n
 
--- one text behind another, by the last call
+-- one text after another, by the last call
 pub Puts-after : {T E : Type 0} {a b : Sink} {p q xs : List ℕ} (c : Sink) (r ys : List ℕ) (result : Result T E) → Put a b p q xs → Puts result b c q r ys → Puts result a c p r (xs ++ ys)
 Puts-after c r ys (Ok v) m n = Put-append m n
 Puts-after c r ys (Err e) m n = Breaks-after ys m n
@@ -86,7 +86,7 @@ module _ {X : Type 0} (f : X → List ℕ) where
       let rest = flat_map f (drop (suc i) xs) in
       subst P (sym (flat_map-at f xs i d h)) (Breaks-after (f (get_or xs i d) ++ rest) m (Breaks-before q (f (get_or xs i d)) rest n))
 
-  -- the same, where the item is known by another name
+  -- the same, if the item is known by another name
   pub Put-found : {a b : Sink} {p q : List ℕ} (c : Sink) (r : List ℕ) (xs : List X) (i : ℕ) (x : X) → x ≡ get_or xs i x → i < length xs → Put a b p q (flat_map f (take i xs)) → Put b c q r (f x) → Put a c p r (flat_map f (take (i + 1) xs))
   Put-found {a} {b} {p} {q} c r xs i x e h m n =
       let P : X → Type 0 = λ y. Put b c q r (f y) in

@@ -17,7 +17,7 @@ module _ {X : Type 0} (g : X → Text) where
   lines_of-map [] = refl
   lines_of-map (x ∷ xs) = ap (λ t. line (g x) ++ t) (lines_of-map xs)
 
--- words behind spaces
+-- words, each after a space
 pub joined_words : (w : Vec ℕ Global) (ws : List (Vec ℕ Global)) → word_form w.items ++ flat_map spaced ws ≡ join_with_byte 32 (map word_form (bytes_of_words (w ∷ ws)))
 joined_words w [] = append-nil (word_form w.items)
 joined_words w (v ∷ ws) = ap (λ t. word_form w.items ++ (32 ∷ t)) (joined_words v ws)

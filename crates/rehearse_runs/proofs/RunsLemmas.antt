@@ -22,7 +22,7 @@ use Rattle.rehearse_runs.specs.declared.runs.Phase.TheVariants.{At}
 use Rattle.rehearse_runs.specs.declared.view.RunView.{RunView}
 use Rattle.rehearse.proofs.TaskChoices.{another_follows, runs_are_there}
 
--- the run that stands in a store is the one that is shown
+-- the run in a store is the one that is shown
 pub stood : {S : Type 0} (g : Ghosts S) (task : Task) (digits : Text) (has : Bool) (r : Record) (phase : Phase) (halt : Halt) (v : RunView S)
     → phase ≡ At halt → AreDigits digits → StandsAt task has (outcomes digits) r phase → shown_word v ≡ digits → shown_ending v ≡ halt_shown halt → shown_moment g v ≡ r.present → shown_marks g v ≡ r.marked → IsRunIf has task (outcomes digits) → task.limits.device_bound ≤ most_run_devices
     → (shows_run phase ≡ true) × ShowsRun g task (unwrap_or (given_if has (outcomes digits)) []) v
@@ -46,7 +46,7 @@ pick [] false i = refl
 pick (w ∷ ws) true i = refl
 pick (w ∷ ws) false i = i.0 (λ e. cc)
 
--- a word is followed exactly where a success stands in it that may fail
+-- a word is followed exactly if it has a success that may fail
 pub more_behind : (task : Task) (has : Bool) (w : OutcomeWord) → has ≡ true → IsRunIf has task w → has_success task.failures w ≡ has_words (to_come_after has task w)
 more_behind task true w e r = pick (rest task w) (has_success task.failures w) (another_follows task w r)
 more_behind task false w e r = absurd cc

@@ -55,7 +55,7 @@ turned_by_failure most (Failure ∷ p) = ap (option_map (λ v. Failure ∷ v)) (
 abbrev first_pick : WordKind → OutcomeWord → OutcomeWord
 first_pick k w = elim k [ Run ↦ [] | Long ↦ [] | Short ↦ w ]
 
--- a device command asks behind p
+-- a device command asks after p
 pub first_from_asked : (kinds : OutcomeWord → WordKind) (n : ℕ) (p : OutcomeWord) → length p < n → kinds p ≡ Short → first_from kinds n p ≡ first_from kinds n (p ++ Success ∷ [])
 first_from_asked kinds zero p h k = absurd (omega arith)
 first_from_asked kinds (suc n) [] h k = ap (λ (t : WordKind). first_pick t (Success ∷ first_run (beyond Success kinds) n)) k
@@ -84,14 +84,14 @@ map_digits (d ∷ v) w = ap (λ (t : Text). outcome_digit d ∷ t) (map_digits v
 pub digits_success : (digits : Text) → AreDigits digits → AreDigits (digits ++ 48 ∷ [])
 digits_success digits h = ap (map outcome_digit) (outcomes_success digits) ∙ map_digits (outcomes digits) (Success ∷ []) ∙ ap (λ (t : Text). t ++ 48 ∷ []) h
 
--- a run that wants an outcome
+-- a run that needs an outcome
 wants : (a : Answer) (s : State) → settled a ≡ Wants s → a ≡ Dry s
 wants (Normal t) s e = absurd (let f = e in cc)
 wants (Exit t) s e = absurd (let f = e in cc)
 wants (Ended ending t) s e = absurd (let f = e in cc)
 wants (Dry t) s e = let f = e in cc
 
--- an answer that ends the run so, in this state
+-- an answer that ends the run with this ending, in this state
 record IsAnswer (ending : Ending) (s : State) (a : Answer) : Type 0 where
   state_is : state_of a ≡ s
   ending_is : ending_of a ≡ ending
@@ -112,11 +112,11 @@ is_over (Exit t) ending s e = let f : t ≡ s = ap (λ c. over_state c s) e in r
 is_over (Ended other t) ending s e = let f : t ≡ s = ap (λ c. over_state c s) e in record { state_is = f; ending_is = ap (λ c. over_ending c ending) e; kind_is = ap taken_kind f }
 is_over (Dry t) ending s e = absurd (let f = e in cc)
 
--- a run that stopped where a device command asks found no outcome left
+-- a run that stopped at a device command that asks found no outcome left
 dry_there : (task : Task) (p : OutcomeWord) (m : Moment) → StoppedAt task p Asks m → run_on task p ≡ Dry (state_at m [])
 dry_there task p m h = wants (run_on task p) (state_at m []) (ap (λ (v : OutcomeWord). settled (run_on task v)) (sym (append-nil p)) ∙ h.2)
 
--- a device command that asks stands below the device bound
+-- a device command that asks is below the device bound
 pub asked_within : (task : Task) (p : OutcomeWord) (m : Moment) → StoppedAt task p Asks m → length p < task.limits.device_bound
 asked_within task p m h = dry_within task p (state_at m []) (dry_there task p m h)
 
@@ -128,7 +128,7 @@ marked_same : (task : Task) (u p : OutcomeWord) (ms : List Moment) → turned ta
 marked_same task u p [] e h = e ∙ h
 marked_same task u p (m ∷ ms) e h = (h.0, e ∙ h.1, h.2, h.3)
 
--- the marks behind a success
+-- the marks after a success
 marked_success : (may : Bool) (task : Task) (p : OutcomeWord) (old new : Record) → may ≡ may_fail task p → MarksIf may old new → StoppedAt task p Asks old.present → AreMarks task p old.marked → AreMarks task (p ++ Success ∷ []) new.marked
 marked_success true task p old new e m h k = subst (λ (x : Record). AreMarks task (p ++ Success ∷ []) x.marked) (sym m) (p, turned_by_success task.failures p (sym e), h, k)
 marked_success false task p old new e m h k =
@@ -139,7 +139,7 @@ pub marks_keep : (may : Bool) (old new : Record) → MarksIf may old new → (ne
 marks_keep true old new m = (ap (λ (x : Record). x.present) m, ap (λ (x : Record). x.begun) m)
 marks_keep false old new m = (ap (λ (x : Record). x.present) m, ap (λ (x : Record). x.begun) m)
 
--- where the command that asks takes an outcome, the text means what follows it
+-- if the command that asks takes an outcome, the text means what follows it
 pub stopped_on : (task : Task) (p : OutcomeWord) (m n : Moment) (d : Outcome) (stop : Stop) → StoppedAt task p Asks m → Stops task.limits stop (λ w. asked_at task.limits m (d ∷ w)) n → StoppedAt task (p ++ d ∷ []) stop n
 stopped_on task p m n d Asks h k = (k.0, λ w. ap (λ (v : OutcomeWord). settled (run_on task v)) (append_assoc p (d ∷ []) w) ∙ h.1 (d ∷ w) ∙ k.1 w, ap (λ (v : OutcomeWord). settled (run_on task v)) (append_assoc p (d ∷ []) []) ∙ h.1 (d ∷ []) ∙ k.2)
 stopped_on task p m n d (Ends halt) h k = λ w. ap (λ (v : OutcomeWord). settled (run_on task v)) (append_assoc p (d ∷ []) w) ∙ h.1 (d ∷ w) ∙ k w
@@ -174,7 +174,7 @@ pub all_more : (result : Result Halt StoreError) (task : Task) (p q w : OutcomeW
 all_more (Ok halt) task p q w r₀ r₁ r₂ e b l f = found_more task p q w halt r₀ r₁ r₂ f e b l
 all_more (Err x) task p q w r₀ r₁ r₂ e b l f = f
 
--- what is known where a device command asks
+-- what is known when a device command asks
 pub record Asked (task : Task) (digits : Text) (stop : Stop) (m : Moment) : Type 0 where
   pub asks : StoppedAt task (outcomes digits) Asks m
   pub room : length digits < task.limits.device_bound
@@ -315,7 +315,7 @@ goes_behind task q stop r back r₁ a k = subst (λ (p : OutcomeWord). StoppedAt
 pub marks_behind : (task : Task) (q : OutcomeWord) (r back r₁ : Record) → BackAt task q r back → r₁.marked ≡ back.marked → AreMarks task q r₁.marked
 marks_behind task q r back r₁ a m = subst (λ (p : OutcomeWord). AreMarks task p r₁.marked) (sym a.word) (subst (λ (ms : List Moment). AreMarks task (a.parted ++ Failure ∷ []) ms) (sym m) (marked_failure task a.parted back.marked a.marks))
 
--- ---- where two runs part
+-- ---- where two runs differ first
 
 none_empty : (p : OutcomeWord) → [] ≡ p ++ Failure ∷ [] → ⊥
 none_empty [] e = cc
@@ -351,7 +351,7 @@ cut_failure (Some v) u [] some e next = absurd (some v refl cc)
 cut_failure (Some v) u (Success ∷ p) some e next = absurd cc
 cut_failure (Some v) u (Failure ∷ p) some e next = let f : v ≡ p ++ Failure ∷ [] = cc in let n = next p (ap Some f) in (n.0, ap (λ (w : OutcomeWord). Failure ∷ w) n.1)
 
--- a word that is cut goes on with a success there
+-- a word that is cut goes on there with a success
 pub cut_of : (most : Option ℕ) (u p : OutcomeWord) → turned most u ≡ Some (p ++ Failure ∷ []) → (x : OutcomeWord) × (u ≡ p ++ Success ∷ x)
 cut_of most [] p e = absurd cc
 cut_of most (Success ∷ u) p e = cut_success (allows most 0) (turned most u) u p e (λ q h. cut_of most u q h)

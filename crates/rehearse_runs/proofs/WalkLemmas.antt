@@ -62,7 +62,7 @@ pub asks_here : (task : Task) (digits text : Text) (stop : Stop) (r : Record) �
 asks_here task digits text stop r s h e =
     ([], e, ap (kind task) (append-nil (outcomes digits)) ∙ asked_kind task (outcomes digits) r.present (subst (λ (x : Stop). StoppedAt task (outcomes digits) x r.present) s h))
 
--- a byte is no digit
+-- a byte is not a digit
 pub no_digit_here : (task : Task) (p : OutcomeWord) (text : Text) → (text ≡ [] → ⊥) → ((d : Outcome) (w : OutcomeWord) → text ≢ outcome_digit d ∷ map outcome_digit w) → IsLongBehind task p text
 no_digit_here task p text ne n [] e = absurd (ne e)
 no_digit_here task p text ne n (d ∷ w) e = absurd (n d w e)
@@ -108,7 +108,7 @@ walked_on (Ok walked.Long) task digits digits' text behind all d r₀ r₁ r₂ 
     subst (IsLongBehind task (outcomes digits)) (sym t) (long_on task (outcomes digits) d behind (subst (λ (p : OutcomeWord). IsLongBehind task p behind) (outcomes_on digits digits' d e) h))
 walked_on (Err x) task digits digits' text behind all d r₀ r₁ r₂ e t b h = h
 
--- from the beginning
+-- from the start
 pub walked_first : (result : Result Walked StoreError) (task : Task) (digits text all : Text) (r₀ r₁ r₂ : Record) → digits ≡ [] → r₁.begun ≡ r₀.begun + r₁.present.steps
     → IfOk result (λ found. Walks task (outcomes digits) digits text all (outcomes all) found r₁ r₂) → IfOk result (λ found. WalksTo task text all (outcomes all) found r₀ r₂)
 walked_first (Ok (walked.Ends halt)) task digits text all r₀ r₁ r₂ e b h =

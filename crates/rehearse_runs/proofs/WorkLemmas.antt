@@ -11,7 +11,7 @@ use Rattle.rehearse_runs.specs.Searching.{AreMarks}
 use Rattle.rehearse_runs.proofs.SearchLemmas.{cut_of}
 use Rattle.rehearse.proofs.TaskChoices.{no_run_is_longer}
 
--- ---- the words in front of those to come
+-- ---- the words before the ones to come
 
 take_front : (front left : List OutcomeWord) → take (length front) (front ++ left) ≡ front
 take_front [] left = refl
@@ -26,7 +26,7 @@ front_is all front left e =
 pub none_in_front : (ws : List OutcomeWord) → in_front_of ws ws ≡ []
 none_in_front ws = front_is ws [] ws refl
 
--- ---- one word more
+-- ---- one more word
 
 pub last_some : (u : OutcomeWord) (ws : List OutcomeWord) → last_answer (Some u) ws ≡ Some (last_of u ws)
 last_some u [] = refl

@@ -28,12 +28,12 @@ asking_by variable wanted names = record {
 abbrev pub asking_of : Ask → Asking
 asking_of ask = asking_by ask.name.now ask.wanted (map (λ n. n.now) ask.names.now)
 
--- what is asked where the run of one word is wanted
+-- what is asked if the run of one word is wanted
 abbrev pub asking_alone : (variable : Text) → BoundsShown → (word : Text) → (names : List Text) → Asking
 asking_alone variable bounds word names =
     record { variable = variable; bounds = bounds; wanted = Alone word; names = names }
 
--- and where those of a listing are
+-- and if the runs of a listing are wanted
 abbrev pub asking_listed : (variable : Text) → BoundsShown → (after : Option Text) → (limit : Option ℕ) →
     (names : List Text) → Asking
 asking_listed variable bounds after limit names =

@@ -11,7 +11,7 @@ use Rattle.rehearse_runs.specs.declared.run_error.RunError.TheVariants.{NoSuchVa
 use Rattle.rehearse_runs.specs.declared.trying.WordKind.{WordKind}
 use Rattle.rehearse_runs.specs.declared.trying.WordKind.TheVariants.{Run, Short, Long}
 
--- where the runs behind w are to come: its steps are begun
+-- the rehearsal when the runs after w are to come: the steps of w are begun
 abbrev pub runs_behind : Task → OutcomeWord → RunsShown
 runs_behind task w = record {
   task = task;
@@ -24,7 +24,7 @@ runs_behind task w = record {
   work = steps task w;
 }
 
--- the text is the digits of one of the runs, and those behind it are to come
+-- the text is the digits of one of the runs, and the runs after it are to come
 pub record GoesOnBehind (task : Task) (text : Text) (runs : RunsShown) : Type 0 where
   pub word : OutcomeWord
   pub digits : text ≡ map outcome_digit word
@@ -39,7 +39,7 @@ IsNoRun task text = (w : OutcomeWord) → text ≡ map outcome_digit w → kind 
 abbrev pub IsNotListed : Task → Text → Type 0
 IsNotListed task text = (w : OutcomeWord) → text ≡ map outcome_digit w → IsListed task w → ⊥
 
--- why there are no runs behind a text, where the variable has this value
+-- why there are no runs after a text, if the variable has this value
 abbrev pub RefusesWord : Task → (value : Option Text) → Text → RunError → Type 0
 RefusesWord task value text NoSuchVariable = value ≡ None
 RefusesWord task value text Memory = IsSome value
@@ -51,7 +51,7 @@ kind_shown Run = outcomes.Run
 kind_shown Short = outcomes.Short
 kind_shown Long = outcomes.Long
 
--- the kind of the word that a text is the digits of; a text with a byte that is no digit is too long
+-- the kind of the word whose digits a text is; a text with a byte that is not a digit is too long
 pub record HasKind (task : Task) (text : Text) (k : outcomes.WordKind) : Type 0 where
   pub digits : (w : OutcomeWord) → text ≡ map outcome_digit w → kind task w ≡ k
   pub others : k ≢ outcomes.Long → (w : OutcomeWord) × (text ≡ map outcome_digit w)

@@ -16,7 +16,7 @@ use Rattle.rehearse_runs.specs.declared.run_error.RunError.{RunError}
 use Rattle.rehearse_runs.specs.declared.run_error.RunError.TheVariants.{NoSuchVariable, Memory, NotARun, Failed}
 use Rattle.rehearse_runs.specs.contracts.runs.Runs.{the_row}
 
--- the next word was given, and the words behind it are still to come
+-- the next word was given, and the words after it are still to come
 pub record GivesWord (old new : RunsShown) : Type 0 where
   pub sound : old.failed ≡ false
   pub first : old.to_come ≡ last_given new ∷ new.to_come
@@ -25,21 +25,21 @@ pub record GivesWord (old new : RunsShown) : Type 0 where
   pub task : new.task ≡ old.task
   pub start : new.start ≡ old.start
   pub answers : new.answers ≡ old.answers ++ last_given new ∷ []
-  -- the steps begun are those behind the last command that the word shares with the one before it
+  -- the steps begun are those after the last command that the word shares with the word before it
   pub work : new.work + steps_shared old.task old.given (last_given new) ≡ old.work + steps old.task (last_given new)
 
--- there is no word any more
+-- no word is left
 pub record GivesNone (old new : RunsShown) : Type 0 where
   pub sound : old.failed ≡ false
   pub none : old.to_come ≡ []
   pub same : new ≡ record old { shows = false }
 
--- want of memory: nothing is given, and all later calls fail
+-- memory ran out: nothing is given, and all later calls fail
 pub record LacksMemory (old new : RunsShown) : Type 0 where
   pub sound : old.failed ≡ false
   pub failed : new ≡ record old { failed = true; shows = false; work = new.work }
 
--- want of memory had come before
+-- memory ran out in an earlier call
 pub record HasFailed (old new : RunsShown) : Type 0 where
   pub failed : old.failed ≡ true
   pub same : new ≡ old

@@ -24,23 +24,23 @@ abbrev pub reached : Option ℕ → Bool
 reached None = false
 reached (Some n) = nat_eq n 0
 
--- a record less is wanted
+-- one record less is wanted
 abbrev pub lowered : Option ℕ → Option ℕ
 lowered None = None
 lowered (Some n) = Some (n - 1)
 
--- how many records are wanted, where so many words were taken and this is left
+-- how many records are still wanted: after this many words were taken, this is left
 abbrev pub IsLeft : (limit left : Option ℕ) → ℕ → Type 0
 IsLeft None None n = Unit {0}
 IsLeft None (Some k) n = ⊥
 IsLeft (Some l) None n = ⊥
 IsLeft (Some l) (Some k) n = l ≡ n + k
 
--- the runs took the first of the words to come, and nothing else changed but what tells of them
+-- the runs took the first of the words to come, and only what depends on them changed
 pub record Takes (old new : RunsShown) (ws : List OutcomeWord) : Type 0 where
   pub words : old.to_come ≡ ws ++ new.to_come
   pub answers : new.answers ≡ old.answers ++ ws
-  -- the last of them, or the one before where none was taken
+  -- the last of them, or the one before if none was taken
   pub given : new.given ≡ last_answer old.given ws
   pub task : new.task ≡ old.task
   pub start : new.start ≡ old.start
@@ -66,7 +66,7 @@ abbrev pub left_out : List OutcomeWord → Option ℕ → List OutcomeWord
 left_out ws None = []
 left_out ws (Some limit) = drop limit ws
 
--- how a listing finishes: as its last line says
+-- how a listing finishes, as its last line says
 abbrev pub finish_of : List OutcomeWord → Option ℕ → Finish
 finish_of ws None = Done
 finish_of ws (Some limit) = elim (nat_le (length ws) limit) [ true ↦ Done | false ↦ More ]

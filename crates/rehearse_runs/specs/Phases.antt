@@ -27,11 +27,11 @@ shows_run (At halt) = true
 shows_run Over = false
 shows_run Failed = false
 
--- each word to come begins at most so many steps, and there are fewer than 2 ^ 33
+-- each word to come begins at most this many steps, and there are fewer than 2 ^ 33 words
 abbrev pub HasBudget : ℕ → List OutcomeWord → Type 0
 HasBudget begun ws = begun + most_steps * length ws ≤ most_steps * 2 ^ 33
 
--- the run on a word stands in the store
+-- the store holds the run on a word
 pub record StandsOn (task : Task) (w : OutcomeWord) (halt : Halt) (r : Record) : Type 0 where
   pub moment : state_at r.present [] ≡ state_of (run_on task w)
   pub ending : halt_shown halt ≡ ending_of (run_on task w)
@@ -45,7 +45,7 @@ StandsAt task given w r (At halt) = (given ≡ true) × StandsOn task w halt r
 StandsAt task given w r Over = (given ≡ true) × (rest task w ≡ [])
 StandsAt task given w r Failed = ⊤
 
--- the word of the digits that were handed over, if any were
+-- the word of the digits that were given to `after`, if any were
 abbrev pub start_of : Option Held → Option OutcomeWord
 start_of None = None
 start_of (Some digits) = Some (outcomes digits.items)
@@ -58,14 +58,14 @@ pub record HasBegun (task : Task) (start given : Option OutcomeWord) (to_come : 
   pub last : given ≡ last_answer start answers
   pub work : begun ≡ work_of task start answers
 
--- want of memory leaves the steps begun open
+-- if memory ran out, nothing is said of the steps begun
 abbrev pub HasBegunIf : Phase → Task → (start given : Option OutcomeWord) → (to_come : List OutcomeWord) → ℕ → Type 0
 HasBegunIf Fresh task start given to_come begun = HasBegun task start given to_come begun
 HasBegunIf (At halt) task start given to_come begun = HasBegun task start given to_come begun
 HasBegunIf Over task start given to_come begun = HasBegun task start given to_come begun
 HasBegunIf Failed task start given to_come begun = ⊤
 
--- what is shown of it
+-- what is shown of a rehearsal
 abbrev pub shown_at : Task → (start : Option OutcomeWord) → (has_given : Bool) → OutcomeWord → ℕ → Phase → RunsShown
 shown_at task start given w begun phase = record {
   task = task;

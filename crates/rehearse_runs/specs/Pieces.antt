@@ -19,7 +19,7 @@ abbrev pub form_of : Form → ℕ → Text
 form_of AsText = escaped
 form_of AsWord = word_escaped
 
--- a byte that stands as it is: in a text a space, in a word the byte behind it is the least
+-- bytes below this one are not printed as they are: in a text that is a space, in a word the byte after it
 abbrev pub least_of : Form → ℕ
 least_of AsText = ascii.space
 least_of AsWord = ascii.exclamation_mark

@@ -17,6 +17,6 @@ abbrev pub name_if : Option (Bor (List ℕ)) → Option Text
 name_if None = None
 name_if (Some b) = Some b.now
 
--- the word of a line that begins a record
+-- the word of a line that starts a record
 abbrev pub first_word : Text → Option Text
 first_word l = elim (is_first_line l) [ true ↦ Some (drop 4 l) | false ↦ None ]

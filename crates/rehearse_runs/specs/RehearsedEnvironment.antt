@@ -41,7 +41,7 @@ pub record Rehearses (environment : List (Text × Text)) (devices : Devices) (as
   pub wrote : Wrote old new (text_asked asking task words)
   pub finish_is : finish ≡ finish_of words (limit_of asking.wanted)
 
--- the word that is given is none of the listing's, or no run has it
+-- the word that was given is not in the listing, or no run has it
 pub record LacksRun (environment : List (Text × Text)) (devices : Devices) (asking : Asking) : Type 0 where
   pub task : Task
   pub task_is : task_asked environment devices asking ≡ Some task
@@ -55,7 +55,7 @@ pub record BreaksOff (environment : List (Text × Text)) (devices : Devices) (as
   pub rehearsed : Rehearsed environment devices asking task words
   pub broke : BrokeOff old new (text_asked asking task words)
 
--- want of memory inside the listing: whole records stand written
+-- memory ran out inside the listing: whole records are written
 pub record LacksMemory (environment : List (Text × Text)) (devices : Devices) (asking : Asking) (old new : Sink) :
     Type 0 where
   pub task : Task
@@ -92,14 +92,14 @@ RefusesAsk environment devices_text asking old new Write =
 RefusesAsk environment devices_text asking old new Memory =
     (new ≡ old) ⊎ WithDevices devices_text (λ devices. LacksMemory environment devices asking old new)
 
--- where the runs of a listing begin
+-- where the runs of a listing start
 pub record Begins (environment : List (Text × Text)) (devices : Devices) (name : Text) (bounds : BoundsShown)
     (after : Option Text) (r : RunsShown) : Type 0 where
   pub task_is : task_set environment devices name bounds ≡ Some r.task
   pub to_come : AreToCome r.task (Listed after None) r.to_come
   pub sound : r.failed ≡ false
 
--- why a listing does not begin
+-- why a listing does not start
 pub record LacksStart (environment : List (Text × Text)) (devices : Devices) (name : Text) (bounds : BoundsShown)
     (after : Option Text) : Type 0 where
   pub task : Task

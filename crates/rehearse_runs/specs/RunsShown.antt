@@ -5,8 +5,8 @@ use Rattle.rehearse.specs.Outcomes.{OutcomeWord, Outcome, Success, Failure, comm
 use Rattle.rehearse.specs.State.{Text}
 use Rattle.rehearse.specs.Runs.{Task, runs, rest, steps, asked, work, work_from}
 
--- the rehearsal, the word handed to `after`, the words given since, those still to come, the last word that was given
--- or handed over, whether want of memory ended it, whether a run is shown, and the steps begun
+-- the rehearsal, the word given to `after`, the words that `next` gave since, the words still to come, the last word
+-- that was given either way, whether it failed as memory ran out, whether a run is shown, and the steps begun
 pub record RunsShown : Type 0 where
   pub task : Task
   pub start : Option OutcomeWord
@@ -24,7 +24,7 @@ outcome_of digit = elim (nat_eq digit ascii.digit_zero) [ true ↦ Success | fal
 abbrev pub outcomes : Text → OutcomeWord
 outcomes digits = map outcome_of digits
 
--- how many successes it has
+-- how many successes a word has
 abbrev pub successes : OutcomeWord → ℕ
 successes [] = 0
 successes (Success ∷ w) = suc (successes w)
@@ -38,7 +38,7 @@ abbrev pub given_if : (has_given : Bool) → OutcomeWord → Option OutcomeWord
 given_if true w = Some w
 given_if false w = None
 
--- the words of a rehearsal: all runs, or those behind a word, as the start word
+-- the words of a rehearsal: all runs, or the runs after the start word
 abbrev pub words_made : Task → (start : Option OutcomeWord) → List OutcomeWord
 words_made task None = runs task
 words_made task (Some w) = rest task w
@@ -48,11 +48,11 @@ abbrev pub last_answer : (before : Option OutcomeWord) → List OutcomeWord → 
 last_answer before [] = before
 last_answer before (w ∷ ws) = last_answer (Some w) ws
 
--- those in front of the words that are left
+-- the words before the ones that are left
 abbrev pub in_front_of : (all left : List OutcomeWord) → List OutcomeWord
 in_front_of all left = take (length all - length left) all
 
--- the steps begun for these words, each command of their tree of choices once; behind a start word its steps come first
+-- the steps begun for these words, each command of their tree of choices once; after a start word its steps come first
 abbrev pub work_of : Task → (start : Option OutcomeWord) → List OutcomeWord → ℕ
 work_of task None ws = work task ws
 work_of task (Some w) ws = steps task w + work_from task w ws
@@ -61,7 +61,7 @@ work_of task (Some w) ws = steps task w + work_from task w ws
 abbrev pub last_given : RunsShown → OutcomeWord
 last_given shown = unwrap_or shown.given []
 
--- the steps that were begun before the last word and the next one part
+-- the steps begun before the last word and the next one differ
 abbrev pub steps_shared : Task → Option OutcomeWord → OutcomeWord → ℕ
 steps_shared task None w = 0
 steps_shared task (Some u) w = asked task (common_prefix u w)
@@ -70,7 +70,7 @@ abbrev pub has_words : List OutcomeWord → Bool
 has_words [] = false
 has_words (w ∷ ws) = true
 
--- where no word was given yet
+-- the runs when no word was given yet
 abbrev pub new_runs : Task → RunsShown
 new_runs task = record {
   task = task;

@@ -21,7 +21,7 @@ StoppedAt task p stop m = Stops task.limits stop (λ w. settled (run_on task (p 
 abbrev pub may_fail : Task → OutcomeWord → Bool
 may_fail task w = allows task.failures (failures w)
 
--- the marked moments are those at which the successes of a word that may fail were asked, the last first
+-- the marked moments are those at which device commands asked for the successes of a word that may fail, the last first
 abbrev pub AreMarks : Task → OutcomeWord → List Moment → Type 0
 AreMarks task w [] = turned task.failures w ≡ None
 AreMarks task w (m ∷ ms) = (p : OutcomeWord) × (turned task.failures w ≡ Some (p ++ Failure ∷ []))
@@ -32,7 +32,7 @@ abbrev pub MarksIf : Bool → (old new : Record) → Type 0
 MarksIf true old new = new ≡ with_mark old
 MarksIf false old new = new ≡ old
 
--- the first run that begins with p stands in the store
+-- the store holds the first run that starts with p
 pub record Found (task : Task) (p w : OutcomeWord) (halt : Halt) (old new : Record) : Type 0 where
   pub run : kind task w ≡ Run
   pub moment : state_at new.present [] ≡ state_of (run_on task w)
@@ -43,7 +43,7 @@ pub record Found (task : Task) (p w : OutcomeWord) (halt : Halt) (old new : Reco
   pub within : new.present.steps ≤ most_steps
   pub grows : old.present.steps ≤ new.present.steps
 
--- the first run stands in the store
+-- the store holds the first run
 pub record FoundFirst (task : Task) (w : OutcomeWord) (halt : Halt) (old new : Record) : Type 0 where
   pub run : kind task w ≡ Run
   pub moment : state_at new.present [] ≡ state_of (run_on task w)
@@ -53,12 +53,12 @@ pub record FoundFirst (task : Task) (w : OutcomeWord) (halt : Halt) (old new : R
   pub begun : new.begun ≡ old.begun + new.present.steps
   pub within : new.present.steps ≤ most_steps
 
--- the word was cut behind its last success that may fail, which became a failure; or there is no such success
+-- the word was cut after its last success that may fail, which became a failure; or it has no such success
 abbrev pub Turns : (most : Option ℕ) → Bool → (old new : OutcomeWord) → Type 0
 Turns most true old new = turned most old ≡ Some new
 Turns most false old new = turned most old ≡ None
 
--- the run that follows that on u stands in the store: of its steps, those were begun before that the two runs share
+-- the store holds the run that follows the run on u; the steps that both runs share were begun before
 pub record FoundBehind (task : Task) (u w : OutcomeWord) (halt : Halt) (old new : Record) : Type 0 where
   pub run : kind task w ≡ Run
   pub moment : state_at new.present [] ≡ state_of (run_on task w)

@@ -3,8 +3,8 @@ use Rattle.std.specs.Prelude.{◌==◌, [], ◌∷◌, codes, if◌then◌else�
 use Rattle.text.specs.Bytes as ascii
 use Rattle.rehearse.specs.State.{Text}
 
--- The digits of a printed word: of a dot none, else the text itself. The empty text spells no word, and gives what is
--- no word's digits.
+-- The digits of a printed word: a dot has none, and any other text is its own digits. The empty text spells no word, so
+-- it gives digits that no word has.
 abbrev pub digits_in : Text → Text
 digits_in [] = codes "."
 digits_in (b ∷ []) = if b == ascii.dot then [] else b ∷ []

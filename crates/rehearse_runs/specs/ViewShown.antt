@@ -18,6 +18,6 @@ shown_ending v = ending_shown v.ending
 abbrev pub shown_moment : {S : Type 0} → Ghosts S → RunView S → Moment
 shown_moment g v = (g.record_of v.store.now).present
 
--- the marked moments that are gone back to
+-- the marked moments to which the run can go back
 abbrev pub shown_marks : {S : Type 0} → Ghosts S → RunView S → List Moment
 shown_marks g v = (g.record_of v.store.now).marked

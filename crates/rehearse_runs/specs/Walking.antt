@@ -15,12 +15,12 @@ use Rattle.rehearse_machine.specs.declared.halt.Halt.{Halt}
 use Rattle.rehearse_runs.specs.declared.walking.Walked.{Walked}
 use Rattle.rehearse_runs.specs.declared.walking.Walked.TheVariants as walked
 
--- a text begins with the digit of an outcome, and goes on so; or it begins with none
+-- a text starts with the digit of an outcome, and this is the rest; or it does not start with a digit
 abbrev pub BeginsWithDigit : Text → Option (Bool × Bor Text) → Type 0
 BeginsWithDigit text (Some next) = text ≡ outcome_digit (outcome_when next.0) ∷ next.1.now
 BeginsWithDigit text None = (d : Outcome) (w : OutcomeWord) → text ≢ outcome_digit d ∷ map outcome_digit w
 
--- the run on a word stands in the store
+-- the store holds the run on a word
 pub record Reached (task : Task) (w : OutcomeWord) (halt : Halt) (old new : Record) : Type 0 where
   pub run : kind task w ≡ Run
   pub moment : state_at new.present [] ≡ state_of (run_on task w)
@@ -29,11 +29,11 @@ pub record Reached (task : Task) (w : OutcomeWord) (halt : Halt) (old new : Reco
   pub begun : new.begun + old.present.steps ≡ old.begun + new.present.steps
   pub within : new.present.steps ≤ most_steps
 
--- behind the outcomes p, a text is not the digits of a run, and not too short for one
+-- after the outcomes p, a text is not the digits of a run, and not too short for one
 abbrev pub IsLongBehind : Task → (p : OutcomeWord) → Text → Type 0
 IsLongBehind task p text = (v : OutcomeWord) → text ≡ map outcome_digit v → kind task (p ++ v) ≡ Long
 
--- it is digits, behind which a device command asks
+-- the text is digits, and a device command asks after them
 abbrev pub IsShortBehind : Task → (p : OutcomeWord) → Text → Type 0
 IsShortBehind task p text = (v : OutcomeWord) × (text ≡ map outcome_digit v) × (kind task (p ++ v) ≡ Short)
 
@@ -42,14 +42,14 @@ abbrev pub IsWordBehind : (p : OutcomeWord) → (front text all : Text) → (w :
 IsWordBehind p front text all w =
     (v : OutcomeWord) × (text ≡ map outcome_digit v) × (w ≡ p ++ v) × (all ≡ front ++ text)
 
--- the walk along a text behind the digits `front`
+-- the walk along a text that follows the digits `front`
 abbrev pub Walks : Task → (p : OutcomeWord) → (front text all : Text) → (w : OutcomeWord) → Walked
     → (old new : Record) → Type 0
 Walks task p front text all w (walked.Ends halt) old new = IsWordBehind p front text all w × Reached task w halt old new
 Walks task p front text all w walked.Short old new = IsShortBehind task p text
 Walks task p front text all w walked.Long old new = IsLongBehind task p text
 
--- the run on a word stands in the store, from its beginning
+-- the store holds the run on a word, walked from its start
 pub record ReachedFirst (task : Task) (w : OutcomeWord) (halt : Halt) (old new : Record) : Type 0 where
   pub run : kind task w ≡ Run
   pub moment : state_at new.present [] ≡ state_of (run_on task w)

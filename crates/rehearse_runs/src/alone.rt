@@ -34,7 +34,8 @@ fn write_one<S: Store, O: Out>(
     }
 }
 
-/// Runs a word, which is given as a listing prints it, and writes the record of its run, and `done`.
+/// Runs a word, which is written as a listing prints it, and writes the record of its run, and
+/// `done`. Errors: `Memory`, `NotARun`, `Write`.
 pub(crate) fn write_run<S: Store, O: Out>(
     rehearsal: &Rehearsal<'_>,
     word: &[u8],

@@ -47,14 +47,14 @@ impl<const N: usize> Bytes<N> {
         &self.bytes[..self.len]
     }
 
-    /// Lets all go.
+    /// Removes all of them.
     pub(crate) fn clear(&mut self)
         ensures { self.new.items ≡ [] }
     {
         self.len = 0;
     }
 
-    /// Puts a byte behind the others.
+    /// Adds a byte at the end.
     pub(crate) fn push(&mut self, byte: u8)
         requires { length self.old.items < N }
         ensures { self.new.items ≡ self.old.items ++ byte ∷ [] }
@@ -63,7 +63,7 @@ impl<const N: usize> Bytes<N> {
         self.len += 1;
     }
 
-    /// Takes the last byte off.
+    /// Removes the last byte, and returns it.
     pub(crate) fn pop(&mut self) -> Option<u8>
         ensures items { self.old.items ≡ self.new.items ++ option_to_list result }
         ensures variant { IsSome result ↔ (0 < length self.old.items) }
@@ -76,7 +76,8 @@ impl<const N: usize> Bytes<N> {
         Some(self.bytes[self.len])
     }
 
-    /// Puts bytes behind the others, where there is room for them; else the answer is false, and nothing changes.
+    /// Adds bytes at the end, if there is room for them. Returns whether there was; if not, nothing
+    /// changes.
     pub(crate) fn extend(&mut self, bytes: &[u8]) -> bool
         ensures room { IsTrue result ↔ (length self.old.items + length bytes.now ≤ N) }
         ensures items { MatchBool result (self.new.items ≡ self.old.items ++ bytes.now) (self.new.items ≡ self.old.items) }

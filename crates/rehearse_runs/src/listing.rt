@@ -21,16 +21,16 @@ pub enum Finish {
     More,
 }
 
-/// Why a listing was broken off.
+/// Why a listing broke off.
 #[derive(Clone, Copy, Debug, PartialEq, Eq, Error)]
 pub enum ListError {
-    /// There is no memory for it.
+    /// Memory ran out.
     #[error("out of memory")]
     Memory,
     /// The output failed.
     #[error("output failed")]
     Write,
-    /// An earlier call had no memory.
+    /// An earlier call ran out of memory.
     #[error("the rehearsal has failed")]
     Failed,
 }
@@ -66,7 +66,7 @@ fn is_reached(left: Option<u32>) -> bool
     }
 }
 
-/// A record less is wanted.
+/// One record less is wanted.
 fn lower(left: Option<u32>) -> Option<u32>
     ensures { result ≡ lowered left }
 {
@@ -76,7 +76,7 @@ fn lower(left: Option<u32>) -> Option<u32>
     }
 }
 
-/// Writes the records of the next runs, up to the limit.
+/// Writes the records of the next runs, up to the limit. Errors: `Memory`, `Write`, `Failed`.
 fn write_records<S: Store, O: Out>(
     runs: &mut Runs<'_, S>,
     names: &[&[u8]],
@@ -98,7 +98,8 @@ fn write_records<S: Store, O: Out>(
     Ok(())
 }
 
-/// Writes the line behind the records of a listing that leaves runs out, with the digits of the last word.
+/// Writes the line after the records of a listing that leaves runs out, with the digits of the last
+/// word.
 fn write_more<O: Out>(out: &mut O, digits: &[u8]) -> Result<(), OutFault>
     ensures { Prints result (O.sink out.old) (O.sink out.new) (line (codes "more " ++ printed digits.now)) }
 {
@@ -109,8 +110,10 @@ fn write_more<O: Out>(out: &mut O, digits: &[u8]) -> Result<(), OutFault>
     }
 }
 
-/// Writes the listing of the words still to come: their records, and `done`; or with a limit, where more words are to
-/// come, so many records, and `more` with the last word. It takes memory for the runs alone.
+/// Writes the listing of the words still to come: their records, and `done`. If more words are to
+/// come than the limit allows, writes that many records, and `more` with the last word. Only the
+/// runs take memory. Errors: `Memory`, with whole records written; `Write`, with a prefix of the
+/// listing written; `Failed` if an earlier call ran out of memory.
 pub fn write_listing<S: Store, O: Out>(
     runs: &mut Runs<'_, S>,
     names: &[&[u8]],

@@ -20,7 +20,7 @@ pub(crate) fn flush<O: Out>(out: &mut O, page: &mut Page) -> Result<(), OutFault
     Ok(())
 }
 
-/// Puts bytes behind those of the page, which are all written first.
+/// Writes all bytes of the page, and puts bytes on it.
 fn put_anew<O: Out>(out: &mut O, page: &mut Page, bytes: &[u8]) -> Result<(), OutFault>
     ensures { Puts result (O.sink out.old) (O.sink out.new) page.old.items page.new.items bytes.now }
 {
@@ -32,7 +32,7 @@ fn put_anew<O: Out>(out: &mut O, page: &mut Page, bytes: &[u8]) -> Result<(), Ou
     }
 }
 
-/// Puts bytes behind those of the page. Where there is no room, all are written.
+/// Puts bytes after the bytes of the page. If they do not fit, all bytes are written.
 pub(crate) fn put<O: Out>(out: &mut O, page: &mut Page, bytes: &[u8]) -> Result<(), OutFault>
     ensures { Puts result (O.sink out.old) (O.sink out.new) page.old.items page.new.items bytes.now }
 {

@@ -37,7 +37,7 @@ fn escape(form: Form, byte: u8) -> Escaped
     }
 }
 
-/// The least byte that stands as it is.
+/// The least byte that is printed as it is.
 fn least_of(form: Form) -> u8
     ensures { result ≡ least_of form }
 {
@@ -47,7 +47,7 @@ fn least_of(form: Form) -> u8
     }
 }
 
-/// The first byte that does not stand as it is.
+/// The place of the first byte that is not printed as it is.
 fn first_escaped(form: Form, bytes: &[u8]) -> Option<usize>
     ensures first { result ≡ position (λ b. not (stands form b)) bytes.now }
     ensures within { IfSome result (λ at. at < length bytes.now) }
@@ -63,7 +63,7 @@ fn put_byte<O: Out>(out: &mut O, page: &mut Page, form: Form, byte: u8) -> Resul
     put(out, page, escape(form, byte).as_slice())
 }
 
-/// Puts bytes as they are printed. Those that stand as they are go on the page together.
+/// Puts bytes as they are printed. Bytes that are printed as they are go on the page together.
 fn put_bytes<O: Out>(out: &mut O, page: &mut Page, form: Form, bytes: &[u8]) -> Result<(), OutFault>
     ensures { Puts result (O.sink out.old) (O.sink out.new) page.old.items page.new.items (flat_map (form_of form) bytes.now) }
 {
@@ -98,7 +98,7 @@ fn put_piece<O: Out>(out: &mut O, page: &mut Page, piece: Piece<'_>) -> Result<(
     }
 }
 
-/// Puts pieces one behind another.
+/// Puts pieces, one after another.
 pub(crate) fn put_pieces<O: Out>(
     out: &mut O,
     page: &mut Page,

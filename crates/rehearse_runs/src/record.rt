@@ -61,7 +61,7 @@ fn put_words<O: Out>(out: &mut O, page: &mut Page, words: &[Vec<u8>]) -> Result<
     }
 }
 
-/// The digit of a device command that succeeded, or failed.
+/// The digit of a device command: `0` if it succeeded, `1` if it failed.
 fn outcome_digit(success: bool) -> u8
     ensures { result ≡ digit_when success }
 {
@@ -187,7 +187,7 @@ fn put_named<S: Store, O: Out>(
     Ok(())
 }
 
-/// Puts the lines of all variables, or of those that are asked for.
+/// Puts the lines of all variables, or of the variables that are asked for.
 fn put_variables<S: Store, O: Out>(
     out: &mut O,
     page: &mut Page,
@@ -292,7 +292,8 @@ fn put_record<S: Store, O: Out>(
     put_ending_of(out, page, view)
 }
 
-/// Writes the record of a run. It takes no memory.
+/// Writes the record of a run. Takes no memory. Errors: `Failed`, with a prefix of the record
+/// written.
 pub fn write_record<S: Store, O: Out>(
     view: &RunView<'_, S>,
     names: &[&[u8]],

@@ -24,15 +24,15 @@ pub enum RehearseError {
     DeviceList(DevicesError),
     /// The variable is not set.
     NoSuchVariable,
-    /// The word that was given is no run's.
+    /// The word that was given spells no run.
     NotARun,
     /// The output failed.
     Write,
-    /// There is no memory for it.
+    /// Memory ran out.
     Memory,
 }
 
-/// The runs of a listing.
+/// The runs of a listing. Errors: `NoSuchVariable`, `NotARun`, `Memory`.
 fn begin_runs<'a, S: Store>(
     alloc: Global,
     env: &'a Env,
@@ -80,7 +80,7 @@ fn list_runs<'x, S: Store, O: Out>(
     }
 }
 
-/// Writes the run of a word.
+/// Writes the run of a word, and `done`.
 #[tactic(auto, using(crate::proofs::TaskSet::task_is_set, crate::proofs::TaskSet::task_is_unset))]
 fn list_one<S: Store, O: Out>(
     alloc: Global,
@@ -111,9 +111,9 @@ fn list_one<S: Store, O: Out>(
     }
 }
 
-/// Writes the listing of the runs that are asked for, or the record of the one that is, and `done`. Refusals in order:
-/// the device list, the variable, the word, and nothing is written then; `Write` as the listing goes, and `Memory`
-/// wherever a growth is made.
+/// Writes the listing of the runs that are asked for, or the record of the one run, and `done`.
+/// Refusals in order: the device list, the variable, the word, with nothing written; then `Write`
+/// during the listing, and `Memory` wherever a growth is made.
 pub fn rehearse_env<'x, S: Store, O: Out>(
     alloc: Global,
     env: &'x Env,

@@ -1,7 +1,7 @@
 //! Where a listing that broke off goes on.
 ghost use Rattle.std.specs.Prelude.{◌≡◌, ◌+◌, ◌∷◌, [], length, suc, MatchOption};
 
-/// A place in what stands written at which a listing goes on.
+/// A place in a listing at which another listing goes on.
 #[derive(Clone, Copy, Debug)]
 pub struct Point<'a> {
     /// The printed word of the last whole record.
@@ -13,7 +13,7 @@ pub struct Point<'a> {
 ghost use Rattle.rehearse.specs.Resuming.{ended_lines, is_last_line, resume_point_of};
 ghost use Rattle.rehearse_runs.specs.PointShown.{point_if, name_if, first_word};
 
-/// The first line that a newline ends, and what stands behind the newline.
+/// The first line that a newline ends, and what is after the newline.
 fn first_ended(text: &[u8]) -> Option<(&[u8], &[u8])>
     ensures { MatchOption result (ended_lines [] text.now ≡ [])
         (λ parts. (ended_lines [] text.now ≡ parts.0.now ∷ ended_lines [] parts.1.now)
@@ -37,15 +37,15 @@ fn ends_record(line: &[u8]) -> bool
         || line.starts_with(b"booted ")
 }
 
-/// The word of a line that begins a record.
+/// The word of a line that starts a record.
 fn begun_word(line: &[u8]) -> Option<&[u8]>
     ensures { name_if result ≡ first_word line.now }
 {
     line.strip_prefix(b"run ")
 }
 
-/// Where to go on, found in what stands written: behind the last line that ends a record, with the word of that
-/// record. It takes no memory.
+/// Finds where to go on in a listing that broke off: after the last line that ends a record, with
+/// the word of that record. Gives `None` if no record is whole. Takes no memory.
 pub fn resume_point(written: &[u8]) -> Option<Point<'_>>
     ensures { point_if result ≡ resume_point_of written.now }
 {

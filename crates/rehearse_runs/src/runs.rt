@@ -19,16 +19,16 @@ use rehearse_machine::{Halt, Rehearsal};
 use std::alloc::Global;
 use std::marker::Model;
 
-/// Where a rehearsal stands.
+/// How far a rehearsal is.
 #[derive(Drop)]
 enum Phase {
     /// No run was found yet.
     Fresh,
-    /// A run stands in the store.
+    /// The store holds a run.
     At(Halt),
     /// There is no further run.
     Over,
-    /// There was no memory.
+    /// Memory ran out.
     Failed,
 }
 
@@ -95,7 +95,7 @@ impl<'a, S: Store> Runs<'a, S> {
     ghost use Rattle.rehearse_runs.specs.Giving.{Advances, IsView, Lent};
     ghost use Rattle.rehearse_runs.specs.Behind.{GoesOnBehind, RefusesWord};
 
-    /// The runs of the text of a variable. It takes no memory.
+    /// The runs of the text of a variable. Takes no memory. Errors: `NoSuchVariable`.
     #[tactic(auto, using(crate::proofs::TaskSet::task_is_set, crate::proofs::TaskSet::task_is_unset))]
     pub fn new(
         alloc: Global,
@@ -130,7 +130,8 @@ impl<'a, S: Store> Runs<'a, S> {
         })
     }
 
-    /// The runs behind the run on a word, whose digits are handed over: it is run first.
+    /// Runs that follow the run with this outcome word. Runs that word first. Errors:
+    /// `NoSuchVariable`, `NotARun` if the word is no run, `Memory`.
     #[tactic(auto, using(crate::proofs::TaskSet::task_is_set, crate::proofs::TaskSet::task_is_unset))]
     pub fn after(
         alloc: Global,
@@ -179,7 +180,8 @@ impl<'a, S: Store> Runs<'a, S> {
         }
     }
 
-    /// Moves to the next run, if there is one.
+    /// Moves to the next run. Returns false if there is none. Errors: `Memory`, and `Failed` if
+    /// memory ran out before.
     fn advance(&mut self) -> Result<bool, RunError>
         ensures { Advances self.old result self.new }
     {
@@ -214,7 +216,7 @@ impl<'a, S: Store> Runs<'a, S> {
         }
     }
 
-    /// The run that stands in the store.
+    /// The run that the store holds, if there is one.
     fn get(&self) -> Option<RunView<'_, S>>
         ensures { IsView S.Store self.now result }
     {
@@ -224,7 +226,8 @@ impl<'a, S: Store> Runs<'a, S> {
         }
     }
 
-    /// The next run; none at the end, and ever after. After want of memory each later call answers `Failed`.
+    /// Gives the next run, or `None` at the end and in every later call. Errors: `Memory`; each
+    /// later call then returns `Failed`.
     pub fn next(&mut self) -> Result<Option<RunView<'_, S>>, RunError>
         ensures* { sem 𝓛 (Lent S.row S.Store self.entry result) }
     {
@@ -232,7 +235,7 @@ impl<'a, S: Store> Runs<'a, S> {
         Ok(self.get())
     }
 
-    /// Whether want of memory has ended the rehearsal.
+    /// Whether memory ran out, which ends the rehearsal.
     pub(crate) fn has_failed(&self) -> bool
         ensures { result ≡ self.now.failed }
     {
@@ -250,8 +253,8 @@ impl<'a, S: Store> Runs<'a, S> {
         }
     }
 
-    /// The digits of the last word that was given, or handed to `after`. The words to come are those after it, or all if
-    /// there is none.
+    /// The digits of the last word that was given, or that `after` was given. The words to come are
+    /// those after it, or all words if there is none.
     pub fn given(&self) -> Option<&[u8]>
         ensures digits { option_bytes result ≡ option_map (map outcome_digit) self.now.given }
         ensures behind { self.now.to_come ≡ words_made self.now.task self.now.given }
@@ -263,7 +266,7 @@ impl<'a, S: Store> Runs<'a, S> {
         }
     }
 
-    /// The digits of that word; none where there is none.
+    /// The digits of that word, or no digits if there is none.
     pub(crate) fn last_digits(&self) -> &[u8]
         ensures { result.now ≡ map outcome_digit (last_given self.now) }
     {
@@ -274,8 +277,9 @@ impl<'a, S: Store> Runs<'a, S> {
         }
     }
 
-    /// How many steps were begun in all: those of the start word, if any, and then, of each run that was given, those
-    /// behind the last command that it shares with the run before it.
+    /// How many steps were begun in all: the steps of the start word, if there is one; then, for
+    /// each run that was given, the steps after the last command that it shares with the run before
+    /// it.
     pub fn work(&self) -> u64
         ensures work { result ≡ self.now.work }
         ensures whole { self.now.failed ≡ false → result ≡ work_of self.now.task self.now.start self.now.answers }

@@ -54,7 +54,7 @@ pub(crate) fn search<S: Store>(
     }
 }
 
-/// Finds the first run.
+/// Finds the first run. Errors: `Memory`.
 pub(crate) fn first_run<S: Store>(
     rehearsal: &Rehearsal<'_>,
     store: &mut S,
@@ -71,7 +71,8 @@ pub(crate) fn first_run<S: Store>(
     search(rehearsal, store, digits, stop, may)
 }
 
-/// Cuts a word behind its last success that may fail, which becomes a failure. The answer is false where there is none.
+/// Cuts a word after its last success that may fail, which becomes a failure. Returns false if it
+/// has no such success.
 fn turn(digits: &mut Digits, most: Option<u32>) -> bool
     requires { AreDigits digits.old.items }
     ensures turns { Turns most result (outcomes digits.old.items) (outcomes digits.new.items) }
@@ -89,8 +90,8 @@ fn turn(digits: &mut Digits, most: Option<u32>) -> bool
     false
 }
 
-/// Finds the run behind the one that stands in the store, if there is one: it goes back to the last mark, where the
-/// command fails.
+/// Finds the run after the one that the store holds: goes back to the last mark, where the command
+/// now fails. Gives `None` if there is no further run. Errors: `Memory`.
 pub(crate) fn next_run<S: Store>(
     rehearsal: &Rehearsal<'_>,
     store: &mut S,

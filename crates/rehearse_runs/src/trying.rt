@@ -17,15 +17,15 @@ use std::alloc::Global;
 /// What kind of word a text is.
 #[derive(Clone, Copy, Debug, PartialEq, Eq)]
 pub enum WordKind {
-    /// A run takes its digits exactly.
+    /// A run takes all of its digits.
     Run,
     /// A device command finds no digit left.
     Short,
-    /// Digits are left over, or a byte is no digit.
+    /// Digits are left over, or a byte is not a digit.
     Long,
 }
 
-/// What kind of word a text is for the text of a variable.
+/// Tells what kind of word a text is for the text of a variable.
 #[tactic(auto, using(crate::proofs::TaskSet::task_is_set, crate::proofs::TaskSet::task_is_unset))]
 pub fn try_word<S: Store>(
     alloc: Global,

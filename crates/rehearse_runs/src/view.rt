@@ -19,7 +19,7 @@ impl<'v, S: Store> RunView<'v, S> {
     ghost use Rattle.rehearse_runs.specs.ViewShown.{shown_word, shown_moment, shown_ending, shown_marks};
     ghost use Rattle.rehearse_machine.specs.EndingsShown.{ending_shown};
 
-    /// The run that stands in a store.
+    /// The run in a store.
     pub(crate) fn new(word: &'v [u8], ending: Ending<'v>, store: &'v S) -> Self
         ensures word { shown_word result ≡ word.now }
         ensures ending { shown_ending result ≡ ending_shown ending.entry }

@@ -15,18 +15,18 @@ use crate::searching::mark_if;
 use bootstore::{Store, StoreError};
 use rehearse_machine::{Halt, Rehearsal, Stop, begin, resume};
 
-/// Where a walk comes to.
+/// Where a walk ends.
 #[derive(Drop)]
 pub(crate) enum Walked {
-    /// The text is the digits of a run, which stands in the store.
+    /// The text is the digits of a run, which the store holds.
     Ends(Halt),
     /// A device command asks, and no digit is left.
     Short,
-    /// The run ends before the text, or a byte is no digit.
+    /// The run ends before the text, or a byte is not a digit.
     Long,
 }
 
-/// Gives the device command that asks an outcome; a success is marked if it may fail.
+/// Gives the device command that asks an outcome, and marks a success if it may fail.
 fn choose<S: Store, const N: usize>(
     rehearsal: &Rehearsal<'_>,
     store: &mut S,
@@ -56,7 +56,7 @@ fn choose<S: Store, const N: usize>(
     }
 }
 
-/// The outcome that a text begins with, and the digits behind it.
+/// The outcome that a text starts with, and the digits after it.
 fn next_outcome(text: &[u8]) -> Option<(bool, &[u8])>
     ensures { BeginsWithDigit text.now result }
 {
@@ -103,7 +103,8 @@ fn walk<S: Store, const N: usize>(
     }
 }
 
-/// Goes along the digits of a text from the beginning, and says whether they are those of a run.
+/// Walks along the digits of a text, from the start of a run, and says whether they are the digits
+/// of a run. Errors: `Memory`.
 pub(crate) fn walk_to<S: Store, const N: usize>(
     rehearsal: &Rehearsal<'_>,
     store: &mut S,

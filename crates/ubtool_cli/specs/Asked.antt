@@ -186,7 +186,7 @@ rehearsal_with (Some device_list) (Some limit) None rows = None
 abbrev pub rehearse_asked : List Row → Option Asked
 rehearse_asked rows =
     rehearsal_with (first_of (codes "device-list") rows) (number_within 1 most_records (codes "limit") rows)
-        (number_within 0 most_failures (codes "failures") rows) rows
+    (number_within 0 most_failures (codes "failures") rows) rows
 
 -- the states if none are given
 abbrev pub usual_states : ℕ

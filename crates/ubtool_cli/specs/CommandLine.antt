@@ -1,6 +1,6 @@
--- The command line that `clap` is given: four subcommands with their options and names. It is ours;
--- `-c`, `-l`, `-n` and `-s` and their long forms are those of fw_printenv and fw_setenv (U-Boot, tools/env
--- README), and `--no-header` is libubootenv's.
+-- The command line that `clap` is given: four subcommands with their options and names. It is ours, but `-c`, `-l`,
+-- `-n` and `-s` and their long forms are those of fw_printenv and fw_setenv (U-Boot, tools/env README), and
+-- `--no-header` is libubootenv's.
 use Rattle.std.specs.Prelude.{ℕ, [], ◌∷◌, Some, true, codes, pos}
 use Rattle.clap.specs.Words.{App, Rule, Shape, Text, new_app, new_rule, with_rule, with_subcommand}
 use Rattle.clap.specs.Simple.{on_top}
@@ -13,7 +13,7 @@ abbrev letter : Text → ℕ
 letter [] = 0
 letter (b ∷ text) = b
 
--- the most records that a listing is limited to
+-- the greatest limit of the records of a listing
 abbrev pub most_records : ℕ
 most_records = 4294967295
 
@@ -89,7 +89,7 @@ values = many (codes "values")
 abbrev pub setenv : App
 setenv = with_rule (with_rule (with_rule (with_rule (subcommand (codes "setenv")) lock) script) name) values
 
--- `-d FILE`, which no call leaves out
+-- `-d FILE`, which each call needs
 abbrev pub device_list : Rule
 device_list = record (lettered_option (codes "device-list") (letter (codes "d"))) { required = true }
 
@@ -107,8 +107,8 @@ abbrev pub rehearse_options : App
 rehearse_options =
     with_rule (with_rule (with_rule (with_rule (subcommand (codes "rehearse")) device_list) variable) devices) steps
 
--- the one run that is written, or how many device commands of a listed run may fail, where the listing begins and how
--- many records it has
+-- the one run that is written; or how many device commands of a listed run may fail, the run after which the listing
+-- starts, and how many records it has
 abbrev pub word : Rule
 word = long_option (codes "word")
 
@@ -124,8 +124,8 @@ limit = number_option (codes "limit") 1 most_records
 abbrev pub rehearse : App
 rehearse = with_rule (with_rule (with_rule (with_rule (with_rule rehearse_options word) failures) after) limit) names
 
--- `-d FILE`, `-b NAME`, the two bounds, how many states may be gone through, and whether the flow is told;
--- the most states that can be allowed
+-- `-d FILE`, `-b NAME`, the two bounds, how many states may be searched, and whether the flow is written; the greatest
+-- number of states that can be allowed
 abbrev pub most_states : ℕ
 most_states = 4294967295
 
@@ -135,7 +135,7 @@ states = number_option (codes "states") 0 most_states
 abbrev pub endings_options : App
 endings_options = with_rule (with_rule (with_rule (subcommand (codes "endings")) device_list) variable) devices
 
--- to tell the flow
+-- to write the flow
 abbrev pub flow : Rule
 flow = long_flag (codes "flow")
 

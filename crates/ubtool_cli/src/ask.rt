@@ -11,28 +11,29 @@ use thiserror::Error;
 /// The version of the program, and of the package that has it.
 pub const VERSION: &str = "0.1.0";
 
-/// The configuration that is read where a call names none.
+/// The configuration that is read if a call names none.
 pub const DEFAULT_CONFIG: &str = "/etc/fw_env.config";
 
-/// The variable that is rehearsed where a call names none.
+/// The variable that is rehearsed if a call names none.
 pub const DEFAULT_VARIABLE: &str = "bootcmd";
 
-/// The device commands that a run may have where a call sets no bound.
+/// The device commands that a run may have if a call sets no bound.
 pub const DEFAULT_DEVICES: u32 = 16;
 
-/// The steps that a run may begin where a call sets no bound.
+/// The steps that a run may begin if a call sets no bound.
 pub const DEFAULT_STEPS: u32 = 10_000;
 
 /// The most device commands that may fail in a run that is listed.
 pub const FAILURES_MAX: u32 = 32;
 
-/// The device commands that a run may have where the endings are asked for and a call sets no bound.
+/// The device commands that a run which is not listed may have if a call sets no bound: for
+/// `endings`, and for `rehearse --word`.
 pub const DEFAULT_RUN_DEVICES: u32 = 1_000;
 
-/// The steps that a run may begin where the endings are asked for and a call sets no bound.
+/// The steps that a run which is not listed may begin if a call sets no bound.
 pub const DEFAULT_RUN_STEPS: u32 = 1_000_000;
 
-/// The states that the endings may go through where a call sets no bound.
+/// The states that `endings` may search if a call sets no bound.
 pub const DEFAULT_STATES: u32 = 1_000_000;
 
 /// What the words of a call ask for.
@@ -67,13 +68,13 @@ pub enum Ask {
         /// How the image's CRC is stored.
         order: ByteOrder,
     },
-    /// To tell how all runs of a boot script end.
+    /// To count how all runs of a boot script end.
     Endings {
         /// The path of the configuration.
         config: String,
         /// The path of the device list.
         devices_file: String,
-        /// What to tell.
+        /// What to write.
         what: EndingsAsk,
         /// How the image's CRC is stored.
         order: ByteOrder,
@@ -98,25 +99,26 @@ pub struct PrintAsk {
 pub enum Change {
     /// The variable `name` becomes the words joined by one space; no word deletes it.
     One { name: String, words: Vec<String> },
-    /// The changes stand in the script at this path.
+    /// The changes are in the script at this path.
     Script(String),
     /// The changes are in the script on standard input.
     Input,
 }
 
-/// Which runs `rehearse` is to list. A word is given as a listing prints it: `.` is the empty one.
+/// Which runs `rehearse` is to list. A word is written as a listing prints it: `.` is the empty
+/// one.
 #[derive(Debug, Drop)]
 pub enum Wanted {
-    /// Those of a listing.
+    /// The runs of a listing.
     Listing {
         /// How far each run may go.
         bounds: Bounds,
-        /// The listing begins after the run of this word.
+        /// The listing starts after the run of this word.
         after: Option<String>,
         /// The most records to list.
         limit: Option<u32>,
     },
-    /// The run of a word alone.
+    /// Only the run of a word.
     Word {
         /// How far it may go.
         bounds: RunBounds,
@@ -137,16 +139,16 @@ pub struct RehearseAsk {
     pub ghost limit_above_zero: { ForSome (limit_of (wanted_of wanted)) (λ n. 0 < n) },
 }
 
-/// What `endings` is to tell.
+/// What `endings` is to write.
 #[derive(Debug, Drop)]
 pub struct EndingsAsk {
     /// The variable whose text is run.
     pub name: String,
     /// How far each run may go.
     pub bounds: RunBounds,
-    /// The most states to go through.
+    /// The most states to search.
     pub states: u32,
-    /// Whether to tell the flow, not the endings.
+    /// Whether to write the flow, not the endings.
     pub flow: bool,
 }
 
@@ -171,7 +173,7 @@ pub enum UseError {
     /// `rehearse` is given a device bound of a run for a listing in which many device commands may fail.
     #[error("--devices above 32 needs --word, or --failures of at most 3")]
     TooManyDevices,
-    /// A growth was refused.
+    /// Memory ran out.
     #[error("out of memory")]
     Memory,
 }

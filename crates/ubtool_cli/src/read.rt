@@ -1,4 +1,4 @@
-//! Reading the words.
+//! Reads the words of a call.
 ghost use Rattle.std.specs.Prelude.{◌≡◌, ◌<◌, ◌≤◌, Some, None, codes, IfOk, IfSome, map, option_map, option_and_then, string_bytes};
 ghost use Rattle.std.specs.Option.{ForSome};
 ghost use Rattle.rehearse.specs.Asking.{limit_of};
@@ -71,14 +71,14 @@ fn is_set(matches: &ArgMatches<'_>, flag: &str) -> bool
     }
 }
 
-/// The number given, if any is; nothing where its text writes none.
+/// The number given, if there is one; `None` if its text is not a number.
 fn number_given(matches: &ArgMatches<'_>, id: &str) -> Option<Option<u32>>
     ensures { result ≡ number_given id.now (rows_of (found_of matches.now)) }
 {
     matches.try_get_one::<u32>(id).ok()
 }
 
-/// The number given, if any is; nothing where it is none from `least` to `most`.
+/// The number given, if there is one; `None` if it is not a number from `least` to `most`.
 fn number_within(matches: &ArgMatches<'_>, id: &str, least: u32, most: u32) -> Option<Option<u32>>
     ensures value { result ≡ number_within least most id.now (rows_of (found_of matches.now)) }
     ensures within { IfSome result (λ given. IfSome given (λ n. (least ≤ n) × (n ≤ most))) }
@@ -131,7 +131,8 @@ fn print_ask(alloc: Global, matches: &ArgMatches<'_>) -> Result<Ask, UseError>
     })
 }
 
-/// The change by the script at a path. Called as one of U-Boot's tools, the path `-` is standard input.
+/// The change by the script at a path. If the program was called as one of U-Boot's tools, the path
+/// `-` is standard input.
 fn script_change(called: CalledAs, path: String) -> Change
     ensures { (config : Text) → (order : Order) →
         change_of config result order ≡ script_asked called config (string_bytes path) order }
@@ -164,8 +165,8 @@ fn set_ask(alloc: Global, called: CalledAs, matches: &ArgMatches<'_>) -> Result<
     })
 }
 
-/// What `clap` lets through nowhere: an argument is missing that the command line requires, or a
-/// value is out of its range.
+/// The refusal of what `clap` never accepts: an argument that the command line requires is missing,
+/// or a value is out of its range.
 fn unread(alloc: Global) -> UseError
     ensures { IsUnread result }
 {
@@ -184,7 +185,7 @@ fn variable_of(alloc: Global, matches: &ArgMatches<'_>) -> Result<String, AllocE
     }
 }
 
-/// The two bounds, or these where nothing is said; nothing where one is out of its range.
+/// The two bounds, or these defaults if none are given; `None` if one is out of its range.
 fn bounds_or(matches: &ArgMatches<'_>, devices: u32, steps: u32) -> Option<RunBounds>
     ensures { result ≡ bounds_or devices steps (rows_of (found_of matches.now)) }
 {
@@ -244,7 +245,8 @@ fn word(
     }
 }
 
-/// The runs that are to be listed.
+/// The runs that are to be listed. Errors: `WordAlone`, `TooManyDevices`, the refusal of `unread`,
+/// and `Memory`.
 fn wanted(
     alloc: Global,
     matches: &ArgMatches<'_>,
@@ -323,7 +325,7 @@ fn ask_of(alloc: Global, called: CalledAs, matches: &ArgMatches<'_>) -> Result<A
     }
 }
 
-/// The answer where `clap` refuses the words, or shows its help or the version.
+/// The answer if `clap` refuses the words, or shows its help or the version.
 fn report(alloc: Global, error: &clap::Error) -> Result<Ask, UseError>
     ensures { Reports (kind_of error.now) result }
 {
@@ -346,8 +348,8 @@ fn lock_of(alloc: Global, matches: &ArgMatches<'_>) -> Result<Option<String>, Al
     }
 }
 
-/// The folder of the lock that the words after the program's name ask for, if they name one. Words that
-/// `clap` refuses name none.
+/// The folder of the lock that the words after the program's name ask for, if they name one. Words
+/// that `clap` refuses name none. Errors: memory ran out.
 pub fn read_lock<S: AsStr>(alloc: Global, words: &[S]) -> Result<Option<String>, AllocError>
     ensures { IfOk result (λ folder. NamesLock (map S.text words.now) (option_map string_bytes folder)) }
 {
@@ -360,12 +362,14 @@ pub fn read_lock<S: AsStr>(alloc: Global, words: &[S]) -> Result<Option<String>,
     }
 }
 
-/// Reads the words after the program's name. Called as one of U-Boot's tools, the script of `-s -` is the
-/// one on standard input.
+/// Reads the words after the program's name. If the program was called as one of U-Boot's tools,
+/// the script of `-s -` is the one on standard input.
 ///
-/// Refusals of `clap`, each a `Line`, come first. Then `setenv` refuses to have no name (`NeedName`) or
-/// a script and a name (`ScriptAndName`), and `printenv -n` any number of names but one
-/// (`HeaderNeedsOne`).
+/// Refusals of `clap`, each a `Line`, come first. Then `setenv` refuses to have no name
+/// (`NeedName`) or a script and a name (`ScriptAndName`), and `printenv -n` refuses any number of
+/// names but one (`HeaderNeedsOne`). `rehearse` refuses a word beside `--after` or `--limit`
+/// (`WordAlone`), and a listing with too great a device bound (`TooManyDevices`). `Memory` is
+/// returned if a growth is refused.
 pub fn read_command<S: AsStr>(alloc: Global, called: CalledAs, words: &[S]) -> Result<Ask, UseError>
     ensures { Answers called (map S.text words.now) result }
 {

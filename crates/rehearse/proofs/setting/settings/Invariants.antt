@@ -4,7 +4,7 @@ use Rattle.rehearse.specs.DeviceList.{settings}
 use Rattle.rehearse.specs.DevicesShown.{settings_shown}
 use Rattle.rehearse.proofs.setting.settings.Given as goal
 
--- the settings so far stand before those of the words left
+-- the settings so far come before the settings of the words left
 abbrev pub invariant-loop-word : goal.invariant-loop-word
 invariant-loop-word l = settings l.of_calls (map (λ w. w.now) l.words)
     ≡ option_map (λ more. settings_shown l.list ++ more) (settings l.of_calls (map (λ w. w.now) (drop l.word-index l.words)))

@@ -4,7 +4,7 @@ use Rattle.rehearse.specs.TextsShown.{texts}
 use Rattle.rehearse.proofs.VerdictLemmas.{ChainLeft}
 use Rattle.rehearse.proofs.truth.verdict.Given as goal
 
--- the words left are a chain behind the truth so far
+-- the words left are a chain after the truth so far
 abbrev pub invariant-loop-operator : goal.invariant-loop-operator
 invariant-loop-operator l = ChainLeft (verdict (texts l.words)) l.truth (texts l.rest)
 

@@ -2,6 +2,6 @@ use Rattle.std.proofs.Common.{◌≡◌, ◌++◌, flat_map, take}
 use Rattle.rehearse_runs.specs.Recording.{spaced}
 use Rattle.rehearse_endings.proofs.flow_lines.put_spaced.Given as goal
 
--- those so far
+-- the words so far
 abbrev pub invariant-loop-word : goal.invariant-loop-word
 invariant-loop-word l = l.text.items ≡ l.initial.text.items ++ flat_map spaced (take l.word-index l.words)

@@ -4,6 +4,6 @@ use Rattle.rehearse_endings.specs.RowsShown.{row_shown}
 use Rattle.rehearse_endings.specs.Lines.{row_text}
 use Rattle.rehearse_endings.proofs.lines.text_of.Given as goal
 
--- those so far
+-- the lines of the rows so far
 abbrev pub invariant-loop-row : goal.invariant-loop-row
 invariant-loop-row l = l.text.items ≡ flat_map (λ r. line (row_text r)) (map row_shown (take l.row-index l.row-items))

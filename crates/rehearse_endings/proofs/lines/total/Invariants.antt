@@ -3,6 +3,6 @@ use Rattle.rehearse_endings.specs.RowsShown.{most_runs, row_shown}
 use Rattle.rehearse_endings.specs.Lines.{counted}
 use Rattle.rehearse_endings.proofs.lines.total.Given as goal
 
--- those so far
+-- the runs of the rows so far
 abbrev pub invariant-loop-row : goal.invariant-loop-row
 invariant-loop-row l = l.count ≡ min (counted (map row_shown (take l.row-index l.row-items))) most_runs

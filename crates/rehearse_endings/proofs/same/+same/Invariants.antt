@@ -2,7 +2,7 @@ use Rattle.std.proofs.Common.{◌≡◌, map, take, ◌++◌}
 use Rattle.hushlang.specs.TreesShown as view
 use Rattle.rehearse_endings.proofs.same.+same.Given as goal
 
--- those so far say the same
+-- the lists so far say the same
 abbrev pub invariant-same_script-loop-list : goal.invariant-same_script-loop-list
 invariant-same_script-loop-list l = map view.list l.initial.others ≡ map view.list (take l.list-index l.list-items) ++ map view.list l.others
 

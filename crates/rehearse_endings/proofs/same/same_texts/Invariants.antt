@@ -1,6 +1,6 @@
 use Rattle.std.proofs.Common.{◌≡◌, map, take, ◌++◌}
 use Rattle.rehearse_endings.proofs.same.same_texts.Given as goal
 
--- those so far are the same
+-- the texts so far are the same
 abbrev pub invariant-loop-text : goal.invariant-loop-text
 invariant-loop-text l = map (λ w. w.items) l.initial.others ≡ map (λ w. w.items) (take l.text-index l.a) ++ map (λ w. w.items) l.others
