@@ -95,11 +95,11 @@ within-failure : (most : Option ℕ) (w : OutcomeWord) → is_within most (Failu
 within-failure None w = refl
 within-failure (Some most) w = one_more most (failures w)
 
--- where the run ends here, it is the one run
+-- if the run ends here, it is the only run
 pub few_here : (most : Option ℕ) (kind : Kinds) (n : ℕ) → kind [] ≡ Run → ((d : Outcome) (w : OutcomeWord) → kind (d ∷ w) ≡ Long) → few_within most kind n ≡ [] ∷ []
 few_here most kind n here others = ap (filter (is_within most)) (runs_here kind n here others) ∙ ap (λ (b : Bool). cond b ([] ∷ []) []) (within_empty most)
 
--- behind a failure there are runs if it may be
+-- after a failure there are runs if it may be
 behind_failure : Option ℕ → Kinds → ℕ → List OutcomeWord
 behind_failure most kind n = cond (allows most 0) (few_within (one_less most) (beyond Failure kind) n) []
 
@@ -165,7 +165,7 @@ IsFollowed u (Some v) ws = (a : List OutcomeWord) × (b : List OutcomeWord) × (
 abbrev success_turned : Bool → Option OutcomeWord → Option OutcomeWord
 success_turned may t = elim t [ Some v ↦ Some (Success ∷ v) | None ↦ cond may (Some (Failure ∷ [])) None ]
 
--- the runs past a success, where this stands behind them
+-- the runs past a success, with these after them
 abbrev behind_won : List OutcomeWord → List OutcomeWord → List OutcomeWord
 behind_won won lost = map (λ w. Success ∷ w) won ++ map (λ w. Failure ∷ w) lost
 

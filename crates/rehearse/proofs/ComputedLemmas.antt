@@ -17,7 +17,7 @@ pub any_text : (name : Text) (names : List (Vec ℕ Global)) → list_any (λ on
 any_text name [] = refl
 any_text name (one ∷ names) = ap (λ b. bytes_eq name one.items || b) (any_text name names)
 
--- behind one option more
+-- after one more option
 pub option_passed : (rest : List Text) (first : Text) (more : List Text) → rest ≡ first ∷ more → is_option first ≡ true → forces first ≡ true → behind_options rest ≡ behind_options more
 option_passed rest first more e is force = ap behind_options e ∙ rw (is, force) refl
 

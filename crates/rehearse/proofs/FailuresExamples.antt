@@ -45,7 +45,7 @@ last_page : listed_after (two_attempts 1) (Success ∷ []) z (Some 1) ≡ first_
 unfolding listed_behind ends_behind
 last_page = behind 1 (two_attempts 1) (Success ∷ []) z (Some 1) _ refl refl
 
--- which words are listed where one fails: a run in which two fail is none of them
+-- which words are listed if one may fail: a run in which two fail is none of them
 one_fails_words : map (is_listed (two_attempts 1)) ((Success ∷ []) ∷ (Failure ∷ Success ∷ []) ∷ (Failure ∷ Failure ∷ []) ∷ (Failure ∷ []) ∷ []) ≡ true ∷ true ∷ false ∷ false ∷ []
 unfolding tree_of fields joined atoms digits
 one_fails_words = refl

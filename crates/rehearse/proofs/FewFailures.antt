@@ -10,7 +10,7 @@ use Rattle.rehearse.proofs.Choice.{Kinds, few_within, few_here, few_beyond-lengt
 use Rattle.rehearse.proofs.Following.{no_longer, turned_none}
 use Rattle.rehearse.proofs.TaskChoices.{AllPass, passes_run, task_begins, task_chooses, task_ends, runs_are_runs}
 
--- ---- where as many may fail as a run may ask
+-- ---- if as many may fail as a run may ask
 
 failures_within : (w : OutcomeWord) → failures w ≤ length w
 failures_within [] = omega arith
@@ -35,7 +35,7 @@ runs_pass kinds n c (w ∷ ws) = by (is_run_kind (kinds w)) refl (runs_pass kind
 pub all_may_fail : (task : Task) → runs (failing task task.limits.device_bound) ≡ all_runs task
 all_may_fail task = passes_all (is_within (Some task.limits.device_bound)) (all_runs task) (runs_pass (kind task) task.limits.device_bound (task_chooses task) (words task.limits.device_bound))
 
--- ---- where one more may fail
+-- ---- if one more may fail
 
 within_more : (most : ℕ) (w : OutcomeWord) → is_within (Some most) w ≡ true → is_within (Some (most + 1)) w ≡ true
 within_more most w h = let l = leb-true (failures w) most h in le-leb (failures w) (most + 1) (omega (arith, l))
@@ -56,7 +56,7 @@ fewer_among_more task most = filter-twice (is_within (Some most)) (is_within (So
 pub fewer_are_more : (task : Task) (most : ℕ) (w : OutcomeWord) → IsListed (failing task most) w → IsListed (failing task (most + 1)) w
 fewer_are_more task most w h = record { run = h.run; few = within_more most w h.few }
 
--- ---- where none may
+-- ---- if none may
 
 pub none_may_fail : (task : Task) → runs (failing task 0) ≡ first_run (kind task) task.limits.device_bound ∷ []
 none_may_fail task =
@@ -78,7 +78,7 @@ power-le a b h (suc n) =
 one_power : (k n : ℕ) → 1 ≤ (k + 1) ^ n
 one_power k n = one-le-pow n (k + 1) (omega arith)
 
--- behind a success there are so many, and behind a failure so many with one failure less
+-- after a success there are so many, and after a failure so many with one failure less
 powers : (k n : ℕ) → (k + 1) ^ suc n + (k + 1) ^ n ≤ (suc k + 1) ^ suc n
 powers k n =
     let x = (k + 1) ^ n in

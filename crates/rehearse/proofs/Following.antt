@@ -56,7 +56,7 @@ after_at u (v ∷ a) b h = let e = Absent_at v u a b h.0 in rw e (after_at u a b
 pub after_in : (u : OutcomeWord) (ws a b : List OutcomeWord) → ws ≡ a ++ u ∷ b → AreDistinct ws → after u ws ≡ b
 after_in u ws a b e h = subst (λ (vs : List OutcomeWord). after u vs ≡ b) (sym e) (after_at u a b (subst AreDistinct e h))
 
--- what stands after a word stands at the end
+-- what comes after a word is at the end
 after_front : (b : Bool) (v : OutcomeWord) (vs rest : List OutcomeWord) → (front : List OutcomeWord) × (vs ≡ front ++ rest) → (front : List OutcomeWord) × (v ∷ vs ≡ front ++ cond b vs rest)
 after_front true v vs rest h = (v ∷ [], refl)
 after_front false v vs rest h = (v ∷ h.0, ap (λ (us : List OutcomeWord). v ∷ us) h.1)
@@ -87,9 +87,9 @@ follows most kind n c u p r few e =
     let two = after_in v (few_within most kind n) (f.0 ++ u ∷ []) f.1 (f.2 ∙ sym (append_assoc f.0 (u ∷ []) (v ∷ f.1))) (runs_distinct most kind n) in
     one ∙ ap (λ (ws : List OutcomeWord). v ∷ ws) (sym two)
 
--- ---- a run is followed by another exactly where one of its successes may fail
+-- ---- a run is followed by another exactly if one of its successes may fail
 
--- where no failure may be, none may behind
+-- if no failure is allowed here, none is allowed later
 none_allowed : (most : Option ℕ) → allows most 0 ≡ false → one_less most ≡ most
 none_allowed None h = absurd (let e = h in cc)
 none_allowed (Some zero) h = refl

@@ -40,7 +40,7 @@ abbrev pub AreGiven : Limits → Devices → Others → Type 0
 AreGiven bounds devices others = (f : Script → Does) (name : Text) (words : List Text) (s : State)
     → command (limits bounds devices) f (listed_by devices name words) name words s ≡ others name words s
 
--- where no command is computed, a call goes by its name
+-- if no command is computed, a call goes by its name
 uncomputed : (devices : Devices) (name : Text) (words : List Text) → devices.known ≡ [] → called_by devices name words ≡ called_by_name devices name words
 uncomputed devices name words none =
     ap (λ (names : List Text). let o : Option Computed = cond (list_any (bytes_eq name) names) (elim (known_of name) [ Some known ↦ computes known words | None ↦ None ]) None in

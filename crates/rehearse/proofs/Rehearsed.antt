@@ -81,7 +81,7 @@ letters (suc n) = 97 ∷ letters n
 abbrev pub begins : Task → OutcomeWord
 begins task = first_run (kind task) task.limits.device_bound
 
--- the run that follows where u is turned into p
+-- the run that follows if u is turned into p
 abbrev pub begun_by : Task → OutcomeWord → OutcomeWord
 begun_by task p = first_from (kind task) task.limits.device_bound p
 

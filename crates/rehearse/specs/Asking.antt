@@ -38,7 +38,7 @@ AreToCome task (Alone text) words =
 abbrev pub SpellsNoRun : Task → (given : Text) → Type 0
 SpellsNoRun task text = (w : OutcomeWord) → text ≡ spelled w → kind task w ≢ Run
 
--- the word that is given is none of the listing's; where one run is wanted, none has it
+-- the word that is given is no word of the listing; if one run is wanted, no run has the word
 abbrev pub GivesNoRun : Task → Wanted → Type 0
 GivesNoRun task (Listed None limit) = ⊥
 GivesNoRun task (Listed (Some text) limit) = (w : OutcomeWord) → text ≡ spelled w → IsListed task w → ⊥

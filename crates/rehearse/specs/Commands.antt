@@ -85,7 +85,7 @@ exit_status (w ∷ v ∷ ws) = None
 
 -- ---- computed commands
 
--- the variables without these names; the status is 1 where one of them is not set, else the one before
+-- the variables without these names; the status is 1 if one of them is not set, else the one before
 abbrev pub deletions : (status : ℕ) → (names : List Text) → Variables → Variables × ℕ
 deletions status [] variables = (variables, status)
 deletions status (name ∷ names) variables =

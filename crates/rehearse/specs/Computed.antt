@@ -36,7 +36,7 @@ abbrev pub forces : Text → Bool
 forces [] = true
 forces (b ∷ letters) = list_all (λ c. c == ascii.small_f) letters
 
--- the words behind the options, where each option is `-f`
+-- the words after the options, if each option is `-f`
 abbrev pub behind_options : List Text → Option (List Text)
 behind_options [] = Some []
 behind_options (word ∷ words) =
@@ -162,7 +162,7 @@ setexpr (name ∷ a ∷ operator ∷ b ∷ c ∷ words) = None
 
 -- ---- the rows
 
--- what the words of a command come to, where they can be computed
+-- what the words of a command come to, if they can be computed
 abbrev pub computes : Known → List Text → Option Computed
 computes Env words = env words
 computes Itest words = itest words

@@ -58,7 +58,7 @@ abbrev pub effect_of : Devices → (name : Text) → (words : List Text) → Opt
 effect_of devices name words =
     elim (sub_effect devices name words) [ Some effect ↦ Some effect | None ↦ effect_at devices name None ]
 
--- what a call comes to, where the list has its command computed, and its words can be
+-- what a call comes to, if the list has its command computed and its words can be
 abbrev pub computed_by : Devices → (name : Text) → (words : List Text) → Option Computed
 computed_by devices name words =
     if list_any (bytes_eq name) devices.known
@@ -205,7 +205,7 @@ abbrev pub with_line : Devices → Result DeviceLine DevicesError → Result Dev
 with_line devices (Ok more) = Ok (joined devices more)
 with_line devices (Err fault) = Err fault
 
--- a line `known NAME`, where NAME may be computed
+-- a line `known NAME`, if NAME may be computed
 abbrev pub known_named : Text → List Text → Option Text
 known_named first [] = None
 known_named first (name ∷ []) =

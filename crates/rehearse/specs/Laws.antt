@@ -125,7 +125,7 @@ RunsStand =
 abbrev pub failing : Task → ℕ → Task
 failing task most = record task { failures = Some most }
 
--- where as many may fail as a run may ask, the runs are all runs
+-- if as many may fail as a run may ask, the runs are all runs
 abbrev pub AllMayFail : Type 0
 AllMayFail = (task : Task) → runs (failing task task.limits.device_bound) ≡ all_runs task
 
@@ -144,7 +144,7 @@ FewerAreMore = (task : Task) (most : ℕ) (w : OutcomeWord) → IsListed (failin
 abbrev pub FewRuns : Type 0
 FewRuns = (task : Task) (most : ℕ) → length (runs (failing task most)) ≤ (task.limits.device_bound + 1) ^ most
 
--- where none may fail, the first run is the only one
+-- if none may fail, the first run is the only one
 abbrev pub NoneMayFail : Type 0
 NoneMayFail = (task : Task) → runs (failing task 0) ≡ first_run (kind task) task.limits.device_bound ∷ []
 

@@ -32,7 +32,7 @@ failures [] = 0
 failures (Success ∷ w) = failures w
 failures (Failure ∷ w) = suc (failures w)
 
--- whether at most so many failed; where no number is given, any may
+-- whether at most so many failed; without a number, any may
 abbrev pub is_within : (most : Option ℕ) → OutcomeWord → Bool
 is_within None w = true
 is_within (Some most) w = nat_le (failures w) most
@@ -65,18 +65,18 @@ common_prefix [] w = []
 common_prefix (c ∷ v) [] = []
 common_prefix (c ∷ v) (d ∷ w) = cond (outcome_eq c d) (c ∷ common_prefix v w) []
 
--- whether one more may fail where so many did
+-- whether one more may fail if so many did
 abbrev pub allows : (most : Option ℕ) → (failed : ℕ) → Bool
 allows None failed = true
 allows (Some most) failed = nat_lt failed most
 
--- how many more may fail behind a failure
+-- how many more may fail after a failure
 abbrev pub one_less : Option ℕ → Option ℕ
 one_less None = None
 one_less (Some most) = Some (most - 1)
 
--- whether one of its successes may fail, where those in front of it stay: its first one, as no other has fewer failures
--- in front
+-- whether one of its successes may fail while what comes before it stays: the first one, since no other has fewer
+-- failures before it
 abbrev pub has_success : (most : Option ℕ) → OutcomeWord → Bool
 has_success most [] = false
 has_success most (Success ∷ w) = allows most 0

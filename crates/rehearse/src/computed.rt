@@ -54,7 +54,7 @@ fn forces(option: &[u8]) -> bool
     }
 }
 
-/// The words behind the options, if each option is `-f`.
+/// The words after the options, if each option is `-f`.
 fn behind_options(words: &[Vec<u8>]) -> Option<&[Vec<u8>]>
     ensures { option_map (λ rest. texts rest.now) result ≡ says.behind_options (texts words.now) }
 {

@@ -61,7 +61,7 @@ pub fn order_of_runs()
     ensures ordered { RunsAreOrdered }
 {}
 
-/// Where as many device commands may fail as a run may ask, the runs are all runs. Where fewer may, they are some of
+/// If as many device commands may fail as a run may ask, the runs are all runs. If fewer may, they are some of
 /// the runs in which one more may, and no more than a power of what a run may ask; and where none may, the first run is
 /// the only one.
 pub fn few_failures()

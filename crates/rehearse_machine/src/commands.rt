@@ -27,7 +27,7 @@ pub(crate) enum Called<'a> {
     NoCommand,
 }
 
-/// What a name and its words call, where nothing is computed: a built-in command, else a call of one of the device list.
+/// What a name and its words call if nothing is computed: a built-in command, else a call of one of the device list.
 pub(crate) fn called_by_name<'a>(devices: &'a Devices, name: &[u8], words: &[Vec<u8>]) -> Called<'a>
     ensures { called_shown result ≡ says.called_by_name devices.now name.now (bytes_of_words words.now) }
 {

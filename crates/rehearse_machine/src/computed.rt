@@ -24,7 +24,7 @@ fn is_set<S: Store>(store: &S, name: &[u8]) -> bool
     }
 }
 
-/// The status of a call that a variable was looked up for: 1 where it is not set, else the one before.
+/// The status of a call that looked a variable up: 1 if it is not set, else the one before.
 fn status_after(is_set: bool, status: u8) -> u8
     ensures { result ≡ cond is_set status 1 }
 {

@@ -37,7 +37,7 @@ kind_run task text all halt old new h = record { digits = λ w e. ap (kind task)
 pub short_no_run : (task : Task) (text : Text) → IsShortBehind task [] text → IsNoRun task text
 short_no_run task text h w e r = let k = (kind_short task text h).digits w e in cc
 
--- nor is a text the digits of a listed run where it is those of none, or too many fail
+-- nor is a text the digits of a listed run if it is those of no run, or if too many fail
 pub run_not_listed : (task : Task) (text : Text) → IsNoRun task text → IsNotListed task text
 run_not_listed task text h w e is = h w e is.run
 
@@ -60,7 +60,7 @@ rest_less task w r b =
     let f = few_runs task b in
     omega arith
 
--- a run that the walk comes to is listed where few fail
+-- a run that the walk comes to is listed if few fail
 listed_at : (task : Task) (text all : Text) (halt : Halt) (old new : Record) → true ≡ is_within task.failures (outcomes text) → WalksTo task text all (outcomes all) (walked.Ends halt) old new → IsListed task (outcomes all)
 listed_at task text all halt old new few h =
     let same : outcomes text ≡ outcomes all = ap outcomes h.0 ∙ read_word (outcomes all) in

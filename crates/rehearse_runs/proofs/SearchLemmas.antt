@@ -27,7 +27,7 @@ use Rattle.rehearse_machine.specs.declared.rehearsal.Stop.{Stop}
 use Rattle.rehearse_machine.specs.declared.rehearsal.Stop.TheVariants.{Asks, Ends}
 use Rattle.rehearse.proofs.TaskChoices.{dry_within, no_run_is_longer, task_begins, task_goes_on}
 
--- behind a failure one less may fail
+-- after a failure one less may fail
 lt_less : (k most : ℕ) → nat_lt (suc k) most ≡ nat_lt k (most - 1)
 lt_less k zero = leb-suc-zero (suc k) ∙ sym (leb-suc-zero k)
 lt_less k (suc most) = let e : suc most - 1 ≡ most = omega arith in leb-suc-suc (suc k) most ∙ ap (nat_lt k) (sym e)

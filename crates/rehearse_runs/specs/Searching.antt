@@ -17,7 +17,7 @@ use Rattle.rehearse_machine.specs.declared.rehearsal.Stop.TheVariants.{Asks}
 abbrev pub StoppedAt : Task → OutcomeWord → Stop → Moment → Type 0
 StoppedAt task p stop m = Stops task.limits stop (λ w. settled (run_on task (p ++ w))) m
 
--- whether one more device command may fail behind a word
+-- whether one more device command may fail after a word
 abbrev pub may_fail : Task → OutcomeWord → Bool
 may_fail task w = allows task.failures (failures w)
 

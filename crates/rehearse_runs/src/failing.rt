@@ -21,7 +21,7 @@ pub(crate) fn failures(digits: &[u8]) -> usize
     count
 }
 
-/// Whether one more may fail where so many did.
+/// Whether one more may fail if so many did.
 pub(crate) fn allows(most: Option<u32>, failed: usize) -> bool
     ensures { result ≡ allows most failed }
 {
@@ -31,7 +31,7 @@ pub(crate) fn allows(most: Option<u32>, failed: usize) -> bool
     }
 }
 
-/// Whether one more may fail behind a word.
+/// Whether one more may fail after a word.
 pub(crate) fn may_fail(rehearsal: &Rehearsal<'_>, digits: &[u8]) -> bool
     ensures { result ≡ may_fail (task_in rehearsal.now) (outcomes digits.now) }
 {

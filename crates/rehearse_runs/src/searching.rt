@@ -15,7 +15,7 @@ use rehearse_machine::{Halt, Rehearsal, Stop, begin, resume};
 /// The digits of a word.
 pub(crate) type Digits = Bytes<1000>;
 
-/// Marks where a device command asks, if it may fail.
+/// Marks the state in which a device command asks, if the command may fail.
 pub(crate) fn mark_if<S: Store>(store: &mut S, may: bool) -> Result<(), StoreError>
     ensures { OnOk result (MarksIf may (S.record_of store.old) (S.record_of store.new)) }
 {

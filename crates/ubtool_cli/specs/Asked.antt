@@ -139,7 +139,7 @@ run_bounds_asked rows = bounds_or most_run_devices most_steps rows
 abbrev pub WantedAsked : Type 0
 WantedAsked = Result (BoundsShown × Wanted) Asked
 
--- of a listing: at most 32 device commands, or 1,000 where few of them may fail
+-- of a listing: at most 32 device commands, or 1,000 if few of them may fail
 abbrev pub listing_asked : (after : Option Text) → (limit failures : Option ℕ) → BoundsShown → WantedAsked
 listing_asked after limit failures bounds =
     elim (bounds_of bounds.devices bounds.steps failures) [
