@@ -1,12 +1,17 @@
+<<<<<<< ours
 -- Listings in pages, and listings that broke off.
 use Rattle.std.proofs.Common.{ℕ, zero, suc, Bool, true, false, List, [], ◌∷◌, ◌++◌, map, length, take, drop, Some, None, refl, sym, ap, subst, ◌∙◌, ◌≡◌, ◌<◌, ◌≤◌, append_assoc, arith, flat_map, take-append-drop, nat_le, codes, leb-false, leb-true, ◌↔◌, ◌≢◌, cond}
+=======
+-- Listings in pages, and listings that were broken off.
+use Rattle.std.proofs.Common.{ℕ, zero, suc, Bool, true, false, List, [], ◌∷◌, ◌++◌, map, length, take, drop, Some, None, refl, sym, ap, subst, ◌∙◌, ◌≡◌, ◌<◌, ◌≤◌, append_assoc, arith, flat_map, take-append-drop, nat_le, codes, leb-false, leb-true, ◌↔◌, ◌≢◌}
+>>>>>>> theirs
 use Rattle.std.specs.Prelude.{⊤}
 use Rattle.std.proofs.lemmas.List.{append_cancel_right}
 use Rattle.std.proofs.lemmas.List.Concat.{flat_map-append}
-use Rattle.rehearse.specs.Outcomes.{OutcomeWord, Success, Failure, after, word_eq}
+use Rattle.rehearse.specs.Outcomes.{OutcomeWord, Success, Failure, after}
 use Rattle.rehearse.specs.State.{Text}
 use Rattle.rehearse.specs.Listing.{listing, record_of, line, last_of, spelled, outcome_digit}
-use Rattle.rehearse.specs.Runs.{Task, kind, runs, rest}
+use Rattle.rehearse.specs.Runs.{Task, runs, rest}
 use Rattle.rehearse.proofs.Following.{AreDistinct, after_in, after_ends}
 use Rattle.rehearse.proofs.TaskChoices.{task_distinct}
 

@@ -5,7 +5,7 @@ use Rattle.std.proofs.Math.Seq.{take-append_seam}
 use Rattle.rehearse.specs.Outcomes.{OutcomeWord, word_eq}
 use Rattle.rehearse.specs.State.{Text, State}
 use Rattle.rehearse.specs.Execution.{Ending}
-use Rattle.rehearse.specs.Runs.{Task, run_on, state_of, ending_of, kind, runs, rest}
+use Rattle.rehearse.specs.Runs.{Task, run_on, state_of, ending_of, runs, rest}
 use Rattle.rehearse.specs.Listing.{listing, line, last_of, spelled, words_listed, closing, record_of, record_lines, inner_lines, last_line}
 use Rattle.rehearse.specs.Resuming.{whole, next_text, ended_lines, is_last_line, Point, point_in, resume_point_of, point_after}
 use Rattle.rehearse.proofs.Following.{AreDistinct, Absent_at, word_eq-same, after_ends}

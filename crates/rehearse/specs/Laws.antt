@@ -2,7 +2,7 @@
 use Rattle.std.specs.Prelude.{ℕ, ◌+◌, ◌^◌, true, filter, List, [], ◌∷◌, ◌++◌, length, map, flat_map, take, drop, Option, Some, None, ◌≡◌, ◌≢◌, ◌↔◌, ◌≤◌, ◌<◌, codes}
 use Rattle.hushlang.specs.Tree.{Script}
 use Rattle.hushlang.specs.Texts.{IsTreeOf, HasNoTree}
-use Rattle.rehearse.specs.Outcomes.{OutcomeWord, Outcome, Run, Short, common_prefix, comes_before, has_success, turned, is_within, failures, first_run, first_from}
+use Rattle.rehearse.specs.Outcomes.{OutcomeWord, Outcome, Run, Short, common_prefix, comes_before, has_success, turned, is_within, first_run, first_from}
 use Rattle.rehearse.specs.Trees.{tree_of}
 use Rattle.rehearse.specs.State.{Text, State}
 use Rattle.hushlang.specs.Tree.{IsProper}

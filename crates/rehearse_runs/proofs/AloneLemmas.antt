@@ -1,16 +1,15 @@
 -- The run of one word.
-use Rattle.std.proofs.Common.{ℕ, ◌≡◌, ◌≢◌, ◌∙◌, List, [], ◌∷◌, ◌++◌, map, Some, Result, Ok, Err, refl, sym, ap, subst}
+use Rattle.std.proofs.Common.{ℕ, ◌≡◌, ◌∙◌, List, [], ◌++◌, Result, Ok, Err, sym, ap, subst}
 use Rattle.std.specs.Prelude.{codes}
 use Rattle.output.specs.Sink.{Sink, Wrote, BrokeOff, Prints}
 use Rattle.output.proofs.SinkLemmas.{Wrote-append, BrokeOff-after}
 use Rattle.bootstore.specs.Moment.{Moment}
 use Rattle.bootstore.specs.Record.{Record}
 use Rattle.bootstore.specs.declared.store.Store.{Ghosts}
-use Rattle.rehearse.specs.Asking.{SpellsNoRun}
-use Rattle.rehearse.specs.Listing.{line, record_of}
+use Rattle.rehearse.specs.Listing.{line}
 use Rattle.rehearse.specs.State.{Text}
 use Rattle.bootstore.specs.StoredState.{state_at}
-use Rattle.rehearse.specs.Runs.{Task, kind}
+use Rattle.rehearse.specs.Runs.{Task}
 use Rattle.rehearse_machine.specs.EndingsShown.{halt_shown}
 use Rattle.rehearse_machine.specs.declared.halt.Halt.{Halt}
 use Rattle.rehearse_runs.specs.Behind.{IsNoRun}

@@ -1,5 +1,5 @@
 -- How many device commands of a word failed, and how many more may.
-use Rattle.std.proofs.Common.{◌≡◌, ℕ, zero, suc, ◌+◌, ◌-◌, ◌<◌, Bool, List, [], ◌∷◌, ◌++◌, take, drop, length, get_or, Option, Some, None, refl, sym, ap, ◌∙◌, drop-cons, arith}
+use Rattle.std.proofs.Common.{◌≡◌, ℕ, zero, suc, ◌+◌, ◌-◌, ◌<◌, ◌∷◌, take, drop, length, get_or, Option, Some, None, refl, sym, ap, ◌∙◌, drop-cons, arith}
 use Rattle.std.specs.Prelude.{nat_lt}
 use Rattle.std.proofs.Math.Dec.{leb-suc-zero, leb-suc-suc}
 use Rattle.std.proofs.lemmas.List.{take_more}

@@ -5,7 +5,7 @@ use Rattle.std.specs.List.{flat_map}
 use Rattle.std.proofs.lemmas.Bool.{eqb-true}
 use Rattle.output.specs.Sink.{Sink, Wrote, BrokeOff}
 use Rattle.envtools.specs.Environment.{value_of}
-use Rattle.rehearse.specs.Asking.{Asking, AreToCome, GivesNoRun, Listed, SpellsNoRun}
+use Rattle.rehearse.specs.Asking.{Asking, GivesNoRun, Listed, SpellsNoRun}
 use Rattle.rehearse.specs.Listing.{outcome_digit, spelled, record_of, line}
 use Rattle.rehearse.specs.Outcomes.{Outcome, OutcomeWord, Success, Failure}
 use Rattle.rehearse.specs.State.{Text}
@@ -14,9 +14,9 @@ use Rattle.rehearse.specs.Runs.{Task}
 use Rattle.rehearse_machine.specs.Tasks.{task_shown, task_set}
 use Rattle.rehearse.specs.Bounds.{BoundsShown}
 use Rattle.rehearse_runs.specs.AskShown.{asking_alone, asking_by, asking_of}
-use Rattle.rehearse_runs.specs.Behind.{GoesOnBehind, IsNoRun, IsNotListed, RefusesWord, runs_behind}
-use Rattle.rehearse_runs.specs.RehearsedEnvironment.{Begins, BreaksOff, Refuses, RefusesAsk, RefusesRuns, Rehearses, WithDevices, task_asked}
-use Rattle.rehearse_runs.specs.RunAlone.{BreaksAlone, WritesAlone, alone_text}
+use Rattle.rehearse_runs.specs.Behind.{GoesOnBehind, IsNoRun, IsNotListed, RefusesWord}
+use Rattle.rehearse_runs.specs.RehearsedEnvironment.{Begins, Refuses, RefusesAsk, RefusesRuns, Rehearses, WithDevices}
+use Rattle.rehearse_runs.specs.RunAlone.{BreaksAlone, WritesAlone}
 use Rattle.rehearse_runs.specs.RunsShown.{RunsShown}
 use Rattle.rehearse_runs.specs.StartWord.{digits_in}
 use Rattle.rehearse_runs.specs.declared.ask.Ask.{Ask}

@@ -18,7 +18,7 @@ use Rattle.rehearse_machine.specs.Machine.{Stops, asked_at}
 use Rattle.std.proofs.Common.{Result, Ok, Err}
 use Rattle.std.specs.Prelude.{IfOk, nat_lt}
 use Rattle.std.proofs.lemmas.Option.{same_Some}
-use Rattle.bootstore.specs.Record.{Record, with_mark, gone_back, returned}
+use Rattle.bootstore.specs.Record.{Record, gone_back, returned}
 use Rattle.bootstore.specs.declared.store.StoreError.{StoreError}
 use Rattle.rehearse_machine.specs.declared.halt.Halt.{Halt}
 use Rattle.rehearse_machine.specs.Machine.{outcome_when}

@@ -5,7 +5,7 @@ use Rattle.std.specs.Bool.{◌==◌}
 use Rattle.bootstore.specs.Moment.{Moment}
 use Rattle.bootstore.specs.Record.{Record}
 use Rattle.bootstore.specs.declared.store.StoreError.{StoreError}
-use Rattle.rehearse.specs.Bounds.{most_steps, most_devices}
+use Rattle.rehearse.specs.Bounds.{most_steps}
 use Rattle.rehearse.specs.Outcomes.{OutcomeWord, Outcome, Success, Failure, Run}
 use Rattle.rehearse.specs.State.{Text}
 use Rattle.rehearse.specs.Runs.{Task, kind}

@@ -1,5 +1,5 @@
 -- The headline: what a rehearsal of an environment writes. Ours.
-use Rattle.std.specs.Prelude.{◌≡◌, ◌⊎◌, ◌++◌, false, List, Option, Some, None, Ok, Err, ℕ}
+use Rattle.std.specs.Prelude.{◌≡◌, ◌⊎◌, ◌++◌, false, List, Option, Some, None, Ok, Err}
 use Rattle.std.specs.List.{flat_map}
 use Rattle.output.specs.Sink.{Sink, Wrote, BrokeOff}
 use Rattle.rehearse.specs.Asking.{Asking, AreToCome, GivesNoRun, Listed, limit_of}

@@ -1,4 +1,3 @@
-use Rattle.std.proofs.Common.{rules}
 use Rattle.rehearse_runs.specs.declared.ask.Wanted.TheVariants.{Listing, Word}
 use Rattle.rehearse_runs.proofs.HeadlineLemmas.{refused_with, rehearses_with}
 use Rattle.rehearse_runs.proofs.rehearsing.rehearse_env.Goals as goal

@@ -1,5 +1,5 @@
 use Rattle.std.proofs.Common.{sym, ◌∙◌}
-use Rattle.rehearse_runs.proofs.FailingLemmas.{failure_at, success_at}
+use Rattle.rehearse_runs.proofs.FailingLemmas.{failure_at}
 use Rattle.rehearse_runs.proofs.runs.has_success.Goals as goal
 
 pub loop-failed-preserved : goal.loop-failed-preserved

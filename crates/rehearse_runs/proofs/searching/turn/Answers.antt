@@ -1,4 +1,4 @@
-use Rattle.std.proofs.Common.{◌≡◌, ◌∙◌, sym, ap, ℕ, false, true, arith}
+use Rattle.std.proofs.Common.{◌≡◌, ◌∙◌, sym, ap, false, true, arith}
 use Rattle.std.proofs.lemmas.Bool.{false≢true}
 use Rattle.rehearse.specs.Outcomes.{allows, failures}
 use Rattle.rehearse_runs.specs.RunsShown.{outcomes}
