@@ -1,10 +1,5 @@
-<<<<<<< ours
 -- Listings in pages, and listings that broke off.
-use Rattle.std.proofs.Common.{ℕ, zero, suc, Bool, true, false, List, [], ◌∷◌, ◌++◌, map, length, take, drop, Some, None, refl, sym, ap, subst, ◌∙◌, ◌≡◌, ◌<◌, ◌≤◌, append_assoc, arith, flat_map, take-append-drop, nat_le, codes, leb-false, leb-true, ◌↔◌, ◌≢◌, cond}
-=======
--- Listings in pages, and listings that were broken off.
 use Rattle.std.proofs.Common.{ℕ, zero, suc, Bool, true, false, List, [], ◌∷◌, ◌++◌, map, length, take, drop, Some, None, refl, sym, ap, subst, ◌∙◌, ◌≡◌, ◌<◌, ◌≤◌, append_assoc, arith, flat_map, take-append-drop, nat_le, codes, leb-false, leb-true, ◌↔◌, ◌≢◌}
->>>>>>> theirs
 use Rattle.std.specs.Prelude.{⊤}
 use Rattle.std.proofs.lemmas.List.{append_cancel_right}
 use Rattle.std.proofs.lemmas.List.Concat.{flat_map-append}
