@@ -1,17 +1,15 @@
 -- Runs over a device list in the form before a command could be computed.
-use Rattle.std.proofs.Common.{◌≡◌, ℕ, List, Option, Some, None, Ok, refl}
-use Rattle.hushlang.specs.Tree.{Script}
+use Rattle.std.proofs.Common.{◌≡◌, ℕ, List, Option, Some, None, refl}
 use Rattle.rehearse.specs.Outcomes.{OutcomeWord, runs_within, few_of, after}
-use Rattle.rehearse.specs.State.{Text, State}
+use Rattle.rehearse.specs.State.{Text}
 use Rattle.rehearse.specs.Commands.{Device, NoCommand}
 use Rattle.rehearse.specs.DeviceList.{Effect, effect_of}
-use Rattle.rehearse.specs.CallList.{call_listed}
 use Rattle.rehearse.specs.Execution.{Answer, Ended, Unknown, command, device}
-use Rattle.rehearse.specs.Runs.{Task, run_on, runs, rest, state_of, ending_of, kind_of}
-use Rattle.rehearse.specs.Listing.{record_text, record_of, listing}
-use Rattle.rehearse.specs.CallExecution.{call_others, call_run_on, call_runs, call_record, call_rest, CallRunsStand, CallListingsStand, CallRestsStand}
+use Rattle.rehearse.specs.Runs.{Task, state_of, ending_of, kind_of}
+use Rattle.rehearse.specs.Listing.{record_text, listing}
+use Rattle.rehearse.specs.CallExecution.{call_others, CallRunsStand, CallListingsStand, CallRestsStand}
 use Rattle.rehearse.proofs.CallLists.{call_lists_ask}
-use Rattle.rehearse.proofs.GivenRuns.{Does, AreGiven, run-same}
+use Rattle.rehearse.proofs.GivenRuns.{AreGiven, run-same}
 
 others-same : (task : Task) → AreGiven task.limits task.limits.devices (call_others task)
 others-same task f name words s = by (effect_of task.limits.devices name words)

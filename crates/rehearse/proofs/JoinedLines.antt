@@ -13,7 +13,7 @@ use Rattle.std.specs.Str.{bytes_eq}
 use Rattle.text.specs.Lines.{numbered_lines}
 use Rattle.std.proofs.Math.Bool.{or-false}
 use Rattle.rehearse.specs.Verdict.{Text}
-use Rattle.rehearse.specs.DeviceList.{Effect, Effects, Devices, DeviceLine, effect_at, changed_at, joint_behind, joined_behind, joined_by, joined, only, device_words, begins_comment, heading_of, line_of, with_line, known_named, with_known, after_known, after_words, after_line, listed_lines}
+use Rattle.rehearse.specs.DeviceList.{Effect, Effects, Devices, DeviceLine, effect_at, changed_at, joint_behind, joined_behind, joined_by, joined, only, device_words, begins_comment, heading_of, line_of, known_named, with_known, after_known, after_words, after_line, listed_lines}
 use Rattle.rehearse.proofs.CallLists.{known_was_bad}
 use Rattle.rehearse.specs.DeviceLaws.{line_said, with_said, lines_said, lines_at, same_word, whole_effect, LinesAreJoined}
 use Rattle.rehearse.specs.declared.devices_error.DevicesError.{DevicesError}

@@ -3,7 +3,7 @@
 use Rattle.std.specs.Prelude.{◌≡◌, ℕ, List, Option, Some, None, Ok}
 use Rattle.rehearse.specs.Outcomes.{OutcomeWord, runs_within, few_of, after}
 use Rattle.rehearse.specs.State.{Text, State}
-use Rattle.rehearse.specs.DeviceList.{Devices, effect_of}
+use Rattle.rehearse.specs.DeviceList.{effect_of}
 use Rattle.rehearse.specs.CallList.{call_listed}
 use Rattle.rehearse.specs.Execution.{Answer, Ended, Unknown, device}
 use Rattle.rehearse.specs.GivenExecution.{given_run_on}

@@ -1,6 +1,6 @@
 -- Numbers as U-Boot's commands read them (lib/strto.c, `hextoul`): hexadecimal, with or without `0x`, up to the first byte
 -- that is no digit. U-Boot computes in its machine's words; here they are of 64 bits (ours).
-use Rattle.std.specs.Prelude.{ℕ, ◌+◌, ◌*◌, ◌%◌, ◌^◌, ◌==◌, nat_lt, ◌&&◌, ◌||◌, List, [], ◌∷◌, if◌then◌else◌}
+use Rattle.std.specs.Prelude.{ℕ, ◌+◌, ◌*◌, ◌%◌, ◌^◌, ◌==◌, nat_lt, ◌&&◌, ◌||◌, [], ◌∷◌, if◌then◌else◌}
 use Rattle.text.specs.Bytes as ascii
 use Rattle.text.specs.Numbers.{digit_of}
 use Rattle.rehearse.specs.Verdict.{Text}

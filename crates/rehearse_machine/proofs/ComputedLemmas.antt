@@ -1,5 +1,5 @@
 -- What computed calls do to a store.
-use Rattle.std.proofs.Common.{ℕ, Bool, cond, List, [], ◌∷◌, ◌+◌, drop, length, get_or, Some, None, Result, Ok, Err, refl, sym, ap, subst, ◌∙◌, ◌≡◌, ◌<◌, ◌≤◌, arith}
+use Rattle.std.proofs.Common.{ℕ, Bool, cond, List, [], ◌+◌, drop, length, get_or, Some, None, Result, Ok, Err, refl, sym, ap, subst, ◌∙◌, ◌≡◌, ◌<◌, ◌≤◌}
 use Rattle.std.specs.Prelude.{Vec, OnOk}
 use Rattle.std.specs.Option.{is_some}
 use Rattle.std.specs.FinMap.{entries}
@@ -12,7 +12,7 @@ use Rattle.bootstore.specs.StoredState.{state_at}
 use Rattle.bootstore.proofs.StateLemmas.{stored_changes, stored_deletions}
 use Rattle.text.specs.TextsShown.{bytes_of_words}
 use Rattle.rehearse.specs.Outcomes.{OutcomeWord}
-use Rattle.rehearse.specs.State.{Text, Variables, Memory, State, get, with_value, without}
+use Rattle.rehearse.specs.State.{Text, Variables, Memory, get, with_value, without}
 use Rattle.rehearse.specs.Commands.{changed_by, deletions}
 use Rattle.rehearse.specs.Execution.{remember}
 use Rattle.rehearse_machine.specs.MovesShown.{Keeps, Changes, Changed}

@@ -1,4 +1,4 @@
-use Rattle.std.proofs.Common.{◌≡◌, Option, Some, None, ap, sym, refl, ◌∙◌, List, ℕ, length, ◌<◌, Ok}
+use Rattle.std.proofs.Common.{◌≡◌, Some, None, ap, sym, refl, ◌∙◌, List, ℕ, length, ◌<◌, Ok}
 use Rattle.std.specs.Prelude.{Vec}
 use Rattle.std.proofs.Math.Dec.{eqb}
 use Rattle.std.specs.declared.alloc.Global.{Global}
