@@ -132,8 +132,14 @@ less = refl
 less_by_sign : compare (codes "2") (codes "<") (codes "2") ≡ Some (Gives 1)
 less_by_sign = refl
 
+less_by_sign_here : compare (codes "1") (codes "<") (codes "2") ≡ Some (Gives 0)
+less_by_sign_here = refl
+
 at_most : compare (codes "2") (codes "<=") (codes "2") ≡ Some (Gives 0)
 at_most = refl
+
+at_most_by_letters_here : compare (codes "1") (codes "-le") (codes "2") ≡ Some (Gives 0)
+at_most_by_letters_here = refl
 
 at_most_by_letters : compare (codes "3") (codes "-le") (codes "2") ≡ Some (Gives 1)
 at_most_by_letters = refl
@@ -144,11 +150,17 @@ greater = refl
 greater_by_letters : compare (codes "9") (codes "-gt") (codes "9") ≡ Some (Gives 1)
 greater_by_letters = refl
 
+greater_by_letters_here : compare (codes "2") (codes "-gt") (codes "1") ≡ Some (Gives 0)
+greater_by_letters_here = refl
+
 at_least : compare (codes "9") (codes ">=") (codes "9") ≡ Some (Gives 0)
 at_least = refl
 
 at_least_by_letters : compare (codes "8") (codes "-ge") (codes "9") ≡ Some (Gives 1)
 at_least_by_letters = refl
+
+at_least_by_letters_here : compare (codes "9") (codes "-ge") (codes "8") ≡ Some (Gives 0)
+at_least_by_letters_here = refl
 
 -- 32 bits, without a sign
 lowest_32_bits : compare (codes "100000001") (codes "==") (codes "1") ≡ Some (Gives 0)
@@ -231,6 +243,9 @@ memory_alone = refl
 
 text_replaced : calculate (codes "sub") (codes "a") (codes "b") ≡ None
 text_replaced = refl
+
+text_replaced_everywhere : calculate (codes "gsub") (codes "a") (codes "b") ≡ None
+text_replaced_everywhere = refl
 
 text_formatted : computes SetExpr (codes "x" ∷ word (codes "fmt")) ≡ None
 text_formatted = refl

@@ -47,4 +47,4 @@ named_final = along 1 _ _ _ _ refl refl
 -- what is computed is not asked; a shell variable is no variable of the environment, which is set where its line says so
 computed : listed (bootcmd (with_list (codes "known env\nknown itest\nknown setexpr\nload filesize=1f")) (codes "v=1; env exists v || echo no; load; env exists filesize && setexpr n 0x$filesize + 1 && itest $n == 20 && echo yes; env delete n")) (codes "filesize" ∷ []) None ≡ codes "run 0\ndev 0 load\ntext no\\nyes\\n\nvar filesize=1f\nend 0\nrun 1\ndev 1 load\ntext no\\n\nunset filesize\nend 1\ndone\n"
 unfolding listed_along ends_along
-computed = along 1 _ _ _ _ refl refl
+computed = along 1 (bootcmd (with_list (codes "known env\nknown itest\nknown setexpr\nload filesize=1f")) (codes "v=1; env exists v || echo no; load; env exists filesize && setexpr n 0x$filesize + 1 && itest $n == 20 && echo yes; env delete n")) (codes "filesize" ∷ []) None _ refl refl

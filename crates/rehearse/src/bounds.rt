@@ -25,7 +25,7 @@ fn are_few(failures: Option<u32>) -> bool
 }
 
 /// How many device commands each run of a listing may ask, how many steps it may begin, and how many of its device
-/// commands may fail; where there is no such number, any may.
+/// commands may fail; without such a number, any number may.
 #[derive(Clone, Copy, Debug)]
 pub struct Bounds {
     devices: u32,
@@ -50,16 +50,16 @@ impl Bounds {
     ghost use Rattle.std.specs.Prelude.{true, None, Some};
     ghost use Rattle.rehearse.specs.Bounds.{bounds_of, are_bounds};
 
-    /// These bounds, with which any device command may fail, or `None` if they have more than 32
-    /// device commands or 1,000,000 steps. Takes no memory.
+    /// These bounds, with which any number of device commands may fail. None if there are more than 32 device
+    /// commands or 1,000,000 steps. It takes no memory.
     pub fn new(devices: u32, steps: u32) -> Option<Self>
         ensures { result ≡ bounds_of devices steps None }
     {
         Bounds::with_failures(devices, steps, None)
     }
 
-    /// These bounds; none where there are more than 1,000,000 steps or 32 device commands. Where at most 3 of them may
-    /// fail, there may be 1,000. It takes no memory.
+    /// These bounds. None if there are more than 1,000,000 steps, or more than 32 device commands: 1,000 if at most 3
+    /// of them may fail. It takes no memory.
     pub fn with_failures(devices: u32, steps: u32, failures: Option<u32>) -> Option<Self>
         ensures { result ≡ bounds_of devices steps failures }
     {

@@ -179,10 +179,10 @@ impl Devices {
     pub fn computed<'w>(&self, name: &[u8], words: &'w [Vec<u8>]) -> Option<Computed<'w>>
         ensures { call_shown result ≡ computed_by self.now name.now (texts words.now) }
     {
+        let known = known_of(name)?;
         if !self.is_known(name) {
             return None;
         }
-        let known = known_of(name)?;
         computes(known, words)
     }
 

@@ -4,12 +4,11 @@ ghost use Rattle.std.specs.Prelude.{◌≡◌};
 use crate::bounds::STEPS_MAX;
 use std::marker::Model;
 
-/// The greatest device bound of a run if runs are not listed, or if few of its device commands may
-/// fail.
+/// The greatest device bound of a run, if runs are not listed, or if few device commands may fail.
 pub const RUN_DEVICES_MAX: u32 = 1_000;
 
-/// How many device commands a run may ask, and how many steps it may begin. The `Bounds` of a listing are narrower; how
-/// many device commands may fail in a run that is listed is kept of them, and changes nothing of a run.
+/// How many device commands a run may ask, and how many steps it may begin. The `Bounds` of a listing are narrower. How
+/// many device commands may fail is kept of them for the listing, and changes nothing of a run.
 #[derive(Clone, Copy, Debug)]
 pub struct RunBounds {
     devices: u32,

@@ -54,8 +54,8 @@ fn has_success(digits: &[u8], most: Option<u32>) -> bool
     false
 }
 
-/// The runs of the text of a variable in which no more device commands fail than may, in dictionary order of their
-/// words, success before failure.
+/// The runs of the text of a variable in which no more device commands fail than the bounds allow, in dictionary order
+/// of their words, success before failure.
 #[derive(Drop)]
 pub struct Runs<'a, S: Store> {
     rehearsal: Rehearsal<'a>,
@@ -130,8 +130,8 @@ impl<'a, S: Store> Runs<'a, S> {
         })
     }
 
-    /// Runs that follow the run with this outcome word. Runs that word first. Errors:
-    /// `NoSuchVariable`, `NotARun` if the word is no run, `Memory`.
+    /// The runs that follow the run of a word, whose digits are handed over. It is run first. Errors: `NoSuchVariable`;
+    /// `NotARun` if the word is no run, or if more device commands fail in it than the bounds allow; `Memory`.
     #[tactic(auto, using(crate::proofs::TaskSet::task_is_set, crate::proofs::TaskSet::task_is_unset))]
     pub fn after(
         alloc: Global,
