@@ -1,11 +1,11 @@
 //! Texts: their tokens, their trees and what their words expand to.
 
-use crate::callers::is_script;
 use crate::calls::{fields_of, joined, next_token, script_of};
 use crate::case::Case;
 use crate::variables::With;
 use crate::verdicts::test;
 use bootstore::StoreError;
+use callers::scripts::is_script;
 use hushlang::expand::{ExpandError, OneVariable, Vars};
 use hushlang::lexer::Lexer;
 use hushlang::token::{SyntaxError, Token};
