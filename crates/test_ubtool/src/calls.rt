@@ -1,16 +1,19 @@
-//! Calls of the product. None of these functions promises anything, so that the proof of a test has little to look at.
-ghost use Rattle.rehearse.specs.Asking.{limit_of};
-ghost use Rattle.rehearse_runs.specs.AskShown.{wanted_of};
-ghost use Rattle.std.specs.Prelude.{◌≢◌, Some};
+//! Calls of the product. None of these functions promises anything, so that the proof of a caller has little to look
+//! at.
 
-use crate::writers::Memory;
-use envimage::{ByteOrder, ConfigError, DataError, Place, Which, check_data, crc32, parse_config};
+use crate::case::Case;
+use crate::readers::Source;
+use crate::writers::Tested;
+use envimage::{
+    ByteOrder, ConfigError, DataError, Place, Which, check_data, crc32, encode, parse_config,
+};
 use envtools::{Env, EnvError, ScriptError, apply_script};
-use output::Out;
 use std::alloc::Global;
-use std::io::Read;
 use ubtool_cli::CalledAs;
-use ubtool_core::{Edit, Finish, RehearseAsk, ToolError, rehearse_bytes, run_input, set_bytes};
+use ubtool_core::{
+    Bounds, Edit, Finish, PrintAsk, RehearseAsk, ToolError, Wanted, print_bytes, rehearse_bytes,
+    run_input, set_bytes,
+};
 use ubtool_files::MemoryFiles;
 use ubtool_run::{Build, run_tool};
 
@@ -38,81 +41,104 @@ pub(crate) fn set(env: &mut Env, name: &[u8], value: &[u8]) -> Result<(), EnvErr
     env.set(name, value)
 }
 
+/// Whether a variable is there and is taken away.
+pub(crate) fn remove(env: &mut Env, name: &[u8]) -> bool {
+    env.remove(name)
+}
+
 pub(crate) fn copy_of(env: &Env) -> Result<Env, EnvError> {
     env.copy()
 }
 
-/// The copy that is written of a little-endian image or pair.
+/// The image of an environment.
+pub(crate) fn image_of(
+    alloc: Global,
+    env: &Env,
+    size: usize,
+    flag: Option<u8>,
+    order: ByteOrder,
+) -> anyhow::Result<Vec<u8>> {
+    let pairs = env.pairs()?;
+    Ok(encode(alloc, &pairs, size, flag, order)?)
+}
+
+/// The copy that is written of an image or a pair.
 pub(crate) fn changed(
     alloc: Global,
     first: &[u8],
     second: Option<&[u8]>,
+    order: ByteOrder,
     edit: Edit<'_>,
 ) -> Result<(Which, Vec<u8>), ToolError> {
-    set_bytes(alloc, first, second, ByteOrder::Little, edit)
+    set_bytes(alloc, first, second, order, edit)
 }
 
-/// Rehearses a single little-endian image, where `load` is listed.
-pub(crate) fn rehearse<O: Out>(
-    alloc: Global,
-    image: &[u8],
-    ask: &RehearseAsk<'_>,
-    out: &mut O,
-) -> Result<Finish, ToolError>
-    requires { limit_of (wanted_of ask.now.wanted) ≢ Some 0 }
-{
-    rehearse_bytes(alloc, image, None, ByteOrder::Little, b"load", ask, out)
+/// Prints the image of a case: variables, or the value of one name alone.
+pub(crate) fn print<'a>(
+    case: &Case<'_>,
+    names: &'a [&'a [u8]],
+    is_value: bool,
+    out: &mut Tested,
+    err: &mut Tested,
+) -> Result<bool, ToolError> {
+    let ask = PrintAsk {
+        names,
+        header: !is_value || names.len() != 1,
+    };
+    let second = case.second.as_ref().map(|bytes| bytes.as_slice());
+    print_bytes(case.alloc, &case.first, second, case.order, &ask, out, err)
+}
+
+/// Rehearses a variable of the image of a case, where `load` is listed and `z` is asked for.
+pub(crate) fn rehearse(
+    case: &Case<'_>,
+    name: &[u8],
+    steps: u32,
+    out: &mut Tested,
+) -> anyhow::Result<Result<Finish, ToolError>> {
+    let Some(bounds) = Bounds::new(16, steps) else {
+        anyhow::bail!("no bounds");
+    };
+    let ask = RehearseAsk {
+        name,
+        wanted: Wanted::Listing {
+            bounds,
+            after: None,
+            limit: None,
+        },
+        names: &[b"z"],
+    };
+    let second = case.second.as_ref().map(|bytes| bytes.as_slice());
+    Ok(rehearse_bytes(
+        case.alloc,
+        &case.first,
+        second,
+        case.order,
+        b"load",
+        &ask,
+        out,
+    ))
 }
 
 /// The status of the program without words.
-pub(crate) fn print_input<R: Read, O: Out>(
+pub(crate) fn print_input(
     alloc: Global,
-    input: &mut R,
-    out: &mut O,
-    err: &mut Memory,
+    input: &mut Source<'_>,
+    out: &mut Tested,
+    err: &mut Tested,
 ) -> u8 {
     run_input(alloc, input, out, err)
 }
 
-/// The status of the program, over files in memory and without input.
-pub(crate) fn run_words<O: Out, E: Out>(
-    alloc: Global,
-    words: &[&str],
-    files: &mut MemoryFiles,
-    out: &mut O,
-    err: &mut E,
-) -> u8 {
-    let mut input: &[u8] = b"";
-    run_tool(
-        alloc,
-        Build::X86_64,
-        CalledAs::Ubtool,
-        words,
-        &mut input,
-        files,
-        out,
-        err,
-    )
-}
-
-/// The status of `setenv -s -` over files in memory, by what the program was called as, with an input.
-pub(crate) fn run_script_on_input<R: Read>(
+/// The status of the program, over files in memory.
+pub(crate) fn run_words(
     alloc: Global,
     called: CalledAs,
-    input: &mut R,
+    words: &[&str],
+    input: &mut Source<'_>,
     files: &mut MemoryFiles,
-    err: &mut Memory,
+    out: &mut Tested,
+    err: &mut Tested,
 ) -> u8 {
-    let mut out = Memory::new(alloc);
-    let words = ["setenv", "-s", "-"];
-    run_tool(
-        alloc,
-        Build::X86_64,
-        called,
-        &words,
-        input,
-        files,
-        &mut out,
-        err,
-    )
+    run_tool(alloc, Build::X86_64, called, words, input, files, out, err)
 }

@@ -1,142 +1,126 @@
-//! Images that are loaded or refused.
-use crate::calls::{crc, fault_of_data};
-use envimage::{ByteOrder, DataError, ImageError, Which, load};
+//! Images: their data, copies, configurations, and changes.
 
-/// The image of `a=1`, nine bytes.
-const ONE: [u8; 9] = [0x3B, 0x06, 0x98, 0x45, 0x61, 0x3D, 0x31, 0x00, 0x00];
+use crate::calls;
+use crate::case::{Case, text};
+use callers::images::order_of;
+use envimage::load;
+use std::alloc::Global;
+use test_rows::{number, shown, slices, unescaped, words_of};
+use ubtool_core::Edit;
 
-/// The same with its checksum big-endian.
-const ONE_BIG: [u8; 9] = [0x45, 0x98, 0x06, 0x3B, 0x61, 0x3D, 0x31, 0x00, 0x00];
-
-/// A copy of `a=1` with a flag.
-fn copy_one(flag: u8) -> [u8; 10] {
-    [0x3B, 0x06, 0x98, 0x45, flag, 0x61, 0x3D, 0x31, 0x00, 0x00]
+/// The places of a configuration, a line each.
+fn places(alloc: Global, says: &str) -> anyhow::Result<String> {
+    let places = calls::places_of(alloc, &unescaped(alloc, says)?)?;
+    let mut lines = String::new(alloc);
+    for place in &places {
+        let (device, offset, size) = (place.device.as_str(), place.offset, place.size);
+        let line = format!(in alloc; "{device}, offset {offset}, size {size}\n")?;
+        lines.push_str(line.as_str())?;
+    }
+    Ok(lines)
 }
 
-/// A copy of `a=2` with a flag.
-fn copy_two(flag: u8) -> [u8; 10] {
-    [0x62, 0xB8, 0xDE, 0x47, flag, 0x61, 0x3D, 0x32, 0x00, 0x00]
-}
-
-/// The same two with their checksums big-endian.
-fn copy_one_big(flag: u8) -> [u8; 10] {
-    [0x45, 0x98, 0x06, 0x3B, flag, 0x61, 0x3D, 0x31, 0x00, 0x00]
-}
-
-fn copy_two_big(flag: u8) -> [u8; 10] {
-    [0x47, 0xDE, 0xB8, 0x62, flag, 0x61, 0x3D, 0x32, 0x00, 0x00]
-}
-
-fn which(first: &[u8], second: &[u8], order: ByteOrder) -> Result<Which, ImageError> {
-    Ok(load(first, Some(second), order)?.which)
-}
-
-fn refusal(first: &[u8], order: ByteOrder) -> Option<ImageError> {
-    load(first, None, order).err()
-}
-
-#[test]
-fn checksums_are_those_of_zlib(rt: HostRuntime) {
-    assert_eq!(rt; crc(b""), 0);
-    assert_eq!(rt; crc(b"123456789"), 0xcbf4_3926);
-    assert_eq!(rt; crc(&[0x61, 0x3D, 0x31, 0x00, 0x00]), 0x4598_063b);
-}
-
-#[test]
-fn the_first_fault_of_data_is_found(rt: HostRuntime) {
-    let rows: [(&[u8], Option<DataError>); 5] = [
-        (&[0x61, 0x00, 0x00], Some(DataError::NoEquals(0))),
-        (&[0x3D, 0x61, 0x00, 0x00], Some(DataError::EmptyName(0))),
-        (
-            &[0x61, 0x3D, 0x00, 0x3D, 0x00, 0x00],
-            Some(DataError::EmptyName(3)),
-        ),
-        (&[], Some(DataError::NotTerminated)),
-        (&[0x61, 0x3D, 0x31, 0x00, 0x00], None),
-    ];
-    for (data, fault) in rows {
-        assert_eq!(rt; fault_of_data(data), fault);
+/// The checksum of bytes, the fault of data, or the places of a configuration.
+fn read(case: &Case<'_>, word: &str, says: &str) -> anyhow::Result<String> {
+    let alloc = case.alloc;
+    match word {
+        "config" => places(alloc, says),
+        "crc" => {
+            let crc = calls::crc(&unescaped(alloc, says)?);
+            Ok(format!(in alloc; "{crc:08x}")?)
+        }
+        _ => {
+            let fault = calls::fault_of_data(&unescaped(alloc, says)?);
+            Ok(format!(in alloc; "{fault:?}")?)
+        }
     }
 }
 
-#[test]
-fn single_images_are_refused_in_order(rt: HostRuntime) {
-    let little = ByteOrder::Little;
-    let cut: [u8; 9] = [0xEC, 0x07, 0x84, 0x2B, 0x61, 0x3D, 0x31, 0x01, 0x01];
-    let wrong: [u8; 9] = [0x3B, 0x06, 0x98, 0x45, 0x61, 0x3D, 0x31, 0x00, 0x01];
-    assert_eq!(rt; refusal(&ONE, little), None);
-    assert_eq!(rt; refusal(&wrong, little), Some(ImageError::BadCrc));
-    assert_eq!(rt;
-        refusal(&cut, little),
-        Some(ImageError::Content(DataError::NotTerminated))
-    );
-    for end in 0..9usize {
-        let want = if end < 5 {
-            ImageError::WrongSize
-        } else {
-            ImageError::BadCrc
-        };
-        assert_eq!(rt; refusal(&ONE[..end], little), Some(want), "cut to {end}");
+/// Which copy is current, or the byte order in which the image is sound.
+fn loaded(case: &Case<'_>, word: &str) -> anyhow::Result<String> {
+    if word == "order" {
+        let order = order_of(&case.first);
+        return Ok(format!(in case.alloc; "{order:?}")?);
+    }
+    let second = case.second.as_ref().map(|bytes| bytes.as_slice());
+    let which = load(&case.first, second, case.order)?.which;
+    Ok(format!(in case.alloc; "{which:?}")?)
+}
+
+/// Why each front of the image is refused.
+fn fronts(case: &Case<'_>) -> anyhow::Result<String> {
+    let mut lines = String::new(case.alloc);
+    for end in 0..case.first.len() {
+        let fault = load(&case.first[..end], None, case.order).err();
+        lines.push_str(format!(in case.alloc; "{end}: {fault:?}\n")?.as_str())?;
+    }
+    Ok(lines)
+}
+
+/// Makes the image of the environment, of a size and with a flag if one is said, and puts it behind the image.
+fn encoded(case: &mut Case<'_>, says: &str) -> anyhow::Result<String> {
+    let (size, flag) = says.split_once(' ').unwrap_or((says, ""));
+    let flag = match flag {
+        "" => None,
+        flag => Some(u8::try_from(number(flag)?)?),
+    };
+    let image = calls::image_of(
+        case.alloc,
+        &case.env,
+        number(size)? as usize,
+        flag,
+        case.order,
+    )?;
+    case.first.extend_from_slice(&image)?;
+    Ok(shown(case.alloc, &image)?)
+}
+
+/// Adds the image as a file.
+fn into_file(case: &mut Case<'_>, says: &str) -> anyhow::Result<String> {
+    let bytes = case.first.clone()?;
+    case.given.push((text(case.alloc, says)?, bytes))?;
+    Ok(String::new(case.alloc))
+}
+
+/// The copy that is written by an edit.
+fn written(case: &Case<'_>, edit: Edit<'_>) -> anyhow::Result<String> {
+    let second = case.second.as_ref().map(|bytes| bytes.as_slice());
+    let (which, image) = calls::changed(case.alloc, &case.first, second, case.order, edit)?;
+    let image = shown(case.alloc, &image)?;
+    Ok(format!(in case.alloc; "{which:?}: {image}")?)
+}
+
+/// The copy that is written where a variable becomes some words, or by a script.
+fn changed(case: &Case<'_>, word: &str, says: &str) -> anyhow::Result<String> {
+    if word == "script" {
+        let script = unescaped(case.alloc, says)?;
+        return written(case, Edit::Script(&script));
+    }
+    let (name, words) = says.split_once(' ').unwrap_or((says, ""));
+    let (name, words) = (unescaped(case.alloc, name)?, words_of(case.alloc, words)?);
+    let words = slices(case.alloc, &words)?;
+    let edit = Edit::One {
+        name: &name,
+        words: &words,
+    };
+    written(case, edit)
+}
+
+/// Makes an image, and tells it or adds it as a file.
+fn made(case: &mut Case<'_>, word: &str, says: &str) -> anyhow::Result<String> {
+    match word {
+        "encode" => encoded(case, says),
+        _ => into_file(case, says),
     }
 }
 
-#[test]
-fn an_image_is_right_in_its_own_byte_order_alone(rt: HostRuntime) {
-    assert_eq!(rt; refusal(&ONE_BIG, ByteOrder::Big), None);
-    assert_eq!(rt;
-        refusal(&ONE_BIG, ByteOrder::Little),
-        Some(ImageError::BadCrc)
-    );
-    assert_eq!(rt; refusal(&ONE, ByteOrder::Big), Some(ImageError::BadCrc));
-}
-
-#[test]
-fn the_flags_choose_the_current_copy(rt: HostRuntime) {
-    for (one, two) in [(0u8, 255u8), (1, 0), (7, 7), (255, 254)] {
-        assert_eq!(rt;
-            which(&copy_one(one), &copy_two(two), ByteOrder::Little),
-            Ok(Which::First),
-            "{one} {two}"
-        );
-        assert_eq!(rt;
-            which(&copy_one_big(one), &copy_two_big(two), ByteOrder::Big),
-            Ok(Which::First),
-            "{one} {two}"
-        );
+/// The answer to a row of images.
+pub(crate) fn told(case: &mut Case<'_>, word: &str, says: &str) -> anyhow::Result<String> {
+    match word {
+        "load" | "order" => loaded(case, word),
+        "fronts" => fronts(case),
+        "encode" | "copy-of-file" => made(case, word, says),
+        "change" | "script" => changed(case, word, says),
+        _ => read(case, word, says),
     }
-    for (one, two) in [(255u8, 0u8), (0, 1), (254, 255), (1, 255)] {
-        assert_eq!(rt;
-            which(&copy_one(one), &copy_two(two), ByteOrder::Little),
-            Ok(Which::Second),
-            "{one} {two}"
-        );
-        assert_eq!(rt;
-            which(&copy_one_big(one), &copy_two_big(two), ByteOrder::Big),
-            Ok(Which::Second),
-            "{one} {two}"
-        );
-    }
-}
-
-#[test]
-fn pairs_are_refused_and_chosen(rt: HostRuntime) {
-    let little = ByteOrder::Little;
-    let mut broken = copy_one(9);
-    broken[9] = 1;
-    assert_eq!(rt; which(&broken, &copy_two(0), little), Ok(Which::Second));
-    let faulty: [u8; 10] = [0xEC, 0x07, 0x84, 0x2B, 0x01, 0x61, 0x3D, 0x31, 0x01, 0x01];
-    assert_eq!(rt;
-        which(&copy_one(0), &faulty, little),
-        Err(ImageError::Content(DataError::NotTerminated))
-    );
-    let empty: [u8; 6] = [0x8D, 0xEF, 0x02, 0xD2, 0x00, 0x00];
-    assert_eq!(rt; which(&empty, &empty, little), Ok(Which::First));
-    assert_eq!(rt;
-        which(&empty[..5], &empty[..5], little),
-        Err(ImageError::WrongSize)
-    );
-    assert_eq!(rt;
-        which(&copy_one(0), &ONE, little),
-        Err(ImageError::WrongSize)
-    );
 }

@@ -1,151 +1,115 @@
-//! Outputs for tests: into memory, one byte at a time, full, and failing at a byte or once.
-ghost use Rattle.std.specs.Prelude.{◌≡◌, [], Some};
+//! Outputs of tests, into memory: one that takes all, one byte at a time, or some bytes in all, and one of which a write
+//! fails.
+ghost use Rattle.std.specs.Prelude.{Some};
 
 use output::{Out, OutFault};
-use std::alloc::Global;
+use std::alloc::{AllocError, Global};
+use test_rows::{number, shown};
+
+/// What an output takes.
+#[derive(Clone, Copy)]
+pub(crate) enum Mode {
+    /// All bytes.
+    All,
+    /// One byte a write.
+    Slow,
+    /// So many bytes, and then it fails.
+    Limited(usize),
+    /// So many bytes, and then none, without a fault.
+    Full(usize),
+    /// All bytes, but the write of this number fails, counted from 0.
+    FailsOnce(usize),
+}
+
+impl Mode {
+    /// The mode of a row: `slow`, `limited N`, `full N` or `once N`.
+    pub(crate) fn new(says: &str) -> anyhow::Result<Mode> {
+        let (kind, count) = says.split_once(' ').unwrap_or((says, "0"));
+        Mode::of(kind, number(count)? as usize)
+    }
+
+    /// The mode of a kind with a number.
+    pub(crate) fn of(kind: &str, count: usize) -> anyhow::Result<Mode> {
+        Ok(match kind {
+            "slow" => Mode::Slow,
+            "limited" => Mode::Limited(count),
+            "full" => Mode::Full(count),
+            "once" => Mode::FailsOnce(count),
+            _ => anyhow::bail!("no output is called so"),
+        })
+    }
+}
 
 /// An output into memory. A growth that is refused is a failure.
 #[derive(Drop)]
-pub struct Memory {
+pub(crate) struct Tested {
     /// What was taken.
-    pub bytes: Vec<u8>,
+    pub(crate) bytes: Vec<u8>,
     /// How often it failed.
-    pub failures: u64,
+    pub(crate) failures: u64,
+    /// How many writes there were.
+    pub(crate) writes: usize,
+    mode: Mode,
 }
 
-impl Memory {
+impl Tested {
     /// An empty one.
-    pub fn new(alloc: Global) -> Self
-        ensures empty { result.bytes.items ≡ [] }
-        ensures sound { result.failures ≡ 0 }
-    {
-        Memory {
+    pub(crate) fn new(alloc: Global, mode: Mode) -> Self {
+        Tested {
             bytes: Vec::new(alloc),
             failures: 0,
+            writes: 0,
+            mode,
         }
+    }
+
+    /// How many of so many bytes the next write takes, if it does not fail.
+    fn room(&self, len: usize) -> Option<usize> {
+        let taken = self.bytes.len();
+        match self.mode {
+            Mode::All => Some(len),
+            Mode::Slow => Some(1),
+            Mode::Limited(room) if taken >= room && len > 0 => None,
+            Mode::Limited(room) | Mode::Full(room) => Some(room.saturating_sub(taken)),
+            Mode::FailsOnce(failing) if failing == self.writes => None,
+            Mode::FailsOnce(_) => Some(len),
+        }
+    }
+
+    /// Its name, its bytes and, where it failed, how often.
+    pub(crate) fn line(&self, alloc: Global, name: &str) -> Result<String, AllocError> {
+        let bytes = shown(alloc, &self.bytes)?;
+        let (failures, writes) = (self.failures, self.writes);
+        if failures == 0 {
+            return format!(in alloc; "{name}: {bytes}|\n");
+        }
+        format!(in alloc; "{name}: {bytes}| {failures} of {writes} writes failed\n")
     }
 }
 
-impl Out for Memory {
+impl Out for Tested {
+    ghost use Rattle.std.specs.Prelude.{Some};
+
     ghost sink = { λ o. record { taken = Some o.bytes.items; failures = o.failures } };
 
     fn write(&mut self, bytes: &[u8]) -> Result<usize, OutFault> {
-        if self.bytes.extend_from_slice(bytes).is_err() {
+        let room = self.room(bytes.len());
+        self.writes = self.writes.saturating_add(1);
+        let Some(room) = room else {
             self.failures = self.failures.saturating_add(1);
             return Err(OutFault::Failed);
-        }
-        Ok(bytes.len())
-    }
-}
-
-/// An output into memory that takes one byte a write.
-#[derive(Drop)]
-pub struct Slow {
-    /// Where the bytes go.
-    pub memory: Memory,
-}
-
-impl Out for Slow {
-    ghost use Rattle.std.specs.Prelude.{Some};
-
-    ghost sink = { λ o. record { taken = Some o.memory.bytes.items; failures = o.memory.failures } };
-
-    fn write(&mut self, bytes: &[u8]) -> Result<usize, OutFault> {
-        let some = bytes.len().min(1);
-        self.memory.write(&bytes[..some])
-    }
-}
-
-/// An output into memory that takes `room` bytes more and then fails.
-#[derive(Drop)]
-pub struct Limited {
-    /// Where the bytes go.
-    pub memory: Memory,
-    /// How many bytes it still takes.
-    pub room: usize,
-}
-
-impl Out for Limited {
-    ghost use Rattle.std.specs.Prelude.{Some};
-
-    ghost sink = { λ o. record { taken = Some o.memory.bytes.items; failures = o.memory.failures } };
-
-    fn write(&mut self, bytes: &[u8]) -> Result<usize, OutFault> {
-        let taken = bytes.len().min(self.room);
-        if taken == 0 && !bytes.is_empty() {
-            self.memory.failures = self.memory.failures.saturating_add(1);
-            return Err(OutFault::Failed);
-        }
-        let taken = self.memory.write(&bytes[..taken])?;
-        self.room -= taken;
-        Ok(taken)
-    }
-}
-
-/// An output into memory that takes `room` bytes more, and then none, without a fault.
-#[derive(Drop)]
-pub struct Full {
-    /// Where the bytes go.
-    pub memory: Memory,
-    /// How many bytes it still takes.
-    pub room: usize,
-}
-
-impl Out for Full {
-    ghost use Rattle.std.specs.Prelude.{Some};
-
-    ghost sink = { λ o. record { taken = Some o.memory.bytes.items; failures = o.memory.failures } };
-
-    fn write(&mut self, bytes: &[u8]) -> Result<usize, OutFault> {
-        let taken = bytes.len().min(self.room);
+        };
+        let taken = bytes.len().min(room);
         if taken == 0 {
             if !bytes.is_empty() {
-                let counted = self.memory.failures.saturating_add(1);
-                self.memory.failures = counted;
+                self.failures = self.failures.saturating_add(1);
             }
             return Ok(0);
         }
-        let taken = self.memory.write(&bytes[..taken])?;
-        self.room -= taken;
-        Ok(taken)
-    }
-}
-
-/// An output into memory of which one write fails. It would take all that comes behind.
-#[derive(Drop)]
-pub struct FailsOnce {
-    /// Where the bytes go.
-    pub memory: Memory,
-    /// Which write fails, counted from 0.
-    pub failing: usize,
-    /// How many writes there were.
-    pub writes: usize,
-}
-
-impl FailsOnce {
-    /// An empty one.
-    pub fn new(alloc: Global, failing: usize) -> Self {
-        FailsOnce {
-            memory: Memory::new(alloc),
-            failing,
-            writes: 0,
-        }
-    }
-}
-
-impl Out for FailsOnce {
-    ghost use Rattle.std.specs.Prelude.{Some};
-
-    ghost sink = { λ o. record { taken = Some o.memory.bytes.items; failures = o.memory.failures } };
-
-    fn write(&mut self, bytes: &[u8]) -> Result<usize, OutFault> {
-        let at = self.writes;
-        self.writes = self.writes.saturating_add(1);
-        if at == self.failing {
-            let before = self.memory.failures;
-            self.memory.failures = before.saturating_add(1);
+        if self.bytes.extend_from_slice(&bytes[..taken]).is_err() {
+            self.failures = self.failures.saturating_add(1);
             return Err(OutFault::Failed);
         }
-        self.memory.write(bytes)
+        Ok(taken)
     }
 }

@@ -1,0 +1,253 @@
+//! What the rows of a paragraph have set.
+
+use crate::readers::Source;
+use crate::writers::Mode;
+use crate::{checking, commands, environments, faults, files, images, outputs, performing};
+use envimage::ByteOrder;
+use envtools::Env;
+use std::alloc::{AllocError, Global};
+use test_rows::{Rows, number, text_of, unescaped};
+use ubtool_cli::CalledAs;
+use ubtool_files::MemoryFiles;
+
+/// A case: what is set, by which the next rows are answered.
+#[derive(Drop)]
+pub(crate) struct Case<'a> {
+    pub(crate) rt: &'a HostRuntime,
+    pub(crate) alloc: Global,
+    /// The image, or the first copy of a pair.
+    pub(crate) first: Vec<u8>,
+    /// The second copy of a pair.
+    pub(crate) second: Option<Vec<u8>>,
+    pub(crate) order: ByteOrder,
+    pub(crate) env: Env,
+    /// The files that a call begins with.
+    pub(crate) given: Vec<(String, Vec<u8>)>,
+    /// The number of the call of files that fails.
+    pub(crate) failing: Option<usize>,
+    /// The files, as the last call left them.
+    pub(crate) files: MemoryFiles,
+    /// Whether rows of files are answered by those of the machine.
+    pub(crate) is_machine: bool,
+    /// What the input gives, how many bytes a read, and the number of the read that fails.
+    pub(crate) input: Vec<u8>,
+    pub(crate) step: u32,
+    pub(crate) failing_read: u32,
+    /// How often the last call read its input.
+    pub(crate) reads: u32,
+    pub(crate) called: CalledAs,
+    pub(crate) out: Mode,
+    pub(crate) err: Mode,
+    /// The last help.
+    pub(crate) help: String,
+}
+
+impl<'a> Case<'a> {
+    /// A case in which nothing is set.
+    pub(crate) fn new(rt: &'a HostRuntime) -> Case<'a> {
+        let alloc = rt.alloc();
+        Case {
+            rt,
+            alloc,
+            first: Vec::new(alloc),
+            second: None,
+            order: ByteOrder::Little,
+            env: Env::new(alloc),
+            given: Vec::new(alloc),
+            failing: None,
+            files: MemoryFiles::new(alloc, None),
+            is_machine: false,
+            input: Vec::new(alloc),
+            step: 3,
+            failing_read: u32::MAX,
+            reads: 0,
+            called: CalledAs::Ubtool,
+            out: Mode::All,
+            err: Mode::All,
+            help: String::new(alloc),
+        }
+    }
+
+    /// The input, of which nothing is read.
+    pub(crate) fn source(&self) -> Source<'_> {
+        Source {
+            bytes: &self.input,
+            step: self.step,
+            failing: self.failing_read,
+            reads: 0,
+            has_ended: false,
+        }
+    }
+
+    /// The files that a call begins with.
+    pub(crate) fn fresh(&self) -> Result<MemoryFiles, AllocError> {
+        let mut files = MemoryFiles::new(self.alloc, self.failing);
+        for (path, bytes) in &self.given {
+            files.add(path.as_str(), bytes)?;
+        }
+        Ok(files)
+    }
+
+    /// Adds a file.
+    fn add(&mut self, says: &str) -> anyhow::Result<()> {
+        let (path, bytes) = says.split_once(' ').unwrap_or((says, ""));
+        let path = String::from_str(self.alloc, path)?;
+        Ok(self.given.push((path, unescaped(self.alloc, bytes)?))?)
+    }
+
+    /// Sets the image, the input or a file.
+    fn put_bytes(&mut self, word: &str, says: &str) -> anyhow::Result<()> {
+        let bytes = unescaped(self.alloc, says)?;
+        match word {
+            "first" => self.first = bytes,
+            "second" => self.second = Some(bytes),
+            _ => self.input = bytes,
+        }
+        Ok(())
+    }
+
+    /// Sets a number.
+    fn put_number(&mut self, word: &str, says: &str) -> anyhow::Result<()> {
+        let number = number(says)?;
+        match word {
+            "failing" => self.failing = Some(number as usize),
+            "step" => self.step = number,
+            _ => self.failing_read = number,
+        }
+        Ok(())
+    }
+
+    /// Sets what an output takes.
+    fn put_mode(&mut self, word: &str, says: &str) -> anyhow::Result<()> {
+        let mode = Mode::new(says)?;
+        match word {
+            "out" => self.out = mode,
+            _ => self.err = mode,
+        }
+        Ok(())
+    }
+
+    /// Sets what is one of two.
+    fn choose(&mut self, word: &str) -> anyhow::Result<()> {
+        match word {
+            "big-endian" => self.order = ByteOrder::Big,
+            "machine" => self.is_machine = true,
+            "fw-tool" => self.called = CalledAs::FwTool,
+            _ => anyhow::bail!("no row begins so"),
+        }
+        Ok(())
+    }
+
+    /// Sets what a row says.
+    fn put(&mut self, word: &str, says: &str) -> anyhow::Result<String> {
+        match word {
+            "first" | "second" | "input" => self.put_bytes(word, says)?,
+            "failing" | "step" | "failing-read" => self.put_number(word, says)?,
+            "out" | "err" => self.put_mode(word, says)?,
+            "file" => self.add(says)?,
+            _ => self.choose(word)?,
+        }
+        Ok(String::new(self.alloc))
+    }
+}
+
+/// What a row speaks of.
+#[derive(Clone, Copy)]
+enum Subject {
+    Setting,
+    Image,
+    Environment,
+    Call,
+    Sweep,
+    File,
+    Output,
+    Command,
+    Fault,
+    Check,
+}
+
+/// The first words of rows. All others set something.
+const SUBJECTS: [(&str, Subject); 45] = [
+    ("crc", Subject::Image),
+    ("data", Subject::Image),
+    ("config", Subject::Image),
+    ("load", Subject::Image),
+    ("order", Subject::Image),
+    ("fronts", Subject::Image),
+    ("encode", Subject::Image),
+    ("copy-of-file", Subject::Image),
+    ("change", Subject::Image),
+    ("script", Subject::Image),
+    ("env", Subject::Environment),
+    ("print", Subject::Call),
+    ("value", Subject::Call),
+    ("standard", Subject::Call),
+    ("rehearse", Subject::Call),
+    ("run", Subject::Call),
+    ("each-out", Subject::Sweep),
+    ("each-err", Subject::Sweep),
+    ("reads", Subject::File),
+    ("open", Subject::File),
+    ("calls", Subject::File),
+    ("bytes", Subject::File),
+    ("read", Subject::File),
+    ("part", Subject::File),
+    ("write", Subject::File),
+    ("make", Subject::File),
+    ("remove", Subject::File),
+    ("up-to", Subject::File),
+    ("parts", Subject::Output),
+    ("pass", Subject::Output),
+    ("over", Subject::Output),
+    ("buffer", Subject::Output),
+    ("flush", Subject::Output),
+    ("words", Subject::Command),
+    ("called", Subject::Command),
+    ("lock", Subject::Command),
+    ("command", Subject::Command),
+    ("help", Subject::Command),
+    ("has", Subject::Command),
+    ("clap", Subject::Command),
+    ("faults", Subject::Fault),
+    ("fault", Subject::Fault),
+    ("fault-in", Subject::Fault),
+    ("place", Subject::Check),
+    ("check", Subject::Check),
+];
+
+/// What a row speaks of that begins with a word.
+fn subject_of(word: &str) -> Subject {
+    for (name, subject) in SUBJECTS {
+        if name == word {
+            return subject;
+        }
+    }
+    Subject::Setting
+}
+
+impl Rows for Case<'_> {
+    fn forget(&mut self) -> anyhow::Result<()> {
+        *self = Case::new(self.rt);
+        Ok(())
+    }
+
+    fn answer(&mut self, word: &str, says: &str) -> anyhow::Result<String> {
+        match subject_of(word) {
+            Subject::Setting => self.put(word, says),
+            Subject::Image => images::told(self, word, says),
+            Subject::Environment => environments::changed(self, says),
+            Subject::Call => performing::told(self, word, says),
+            Subject::Sweep => performing::swept(self, word, says),
+            Subject::File => files::told(self, word, says),
+            Subject::Output => outputs::told(self, word, says),
+            Subject::Command => commands::told(self, word, says),
+            Subject::Fault => faults::told(self, word, says),
+            Subject::Check => checking::told(self, word, says),
+        }
+    }
+}
+
+/// Bytes of a row as a text.
+pub(crate) fn text(alloc: Global, says: &str) -> Result<String, AllocError> {
+    text_of(alloc, &unescaped(alloc, says)?)
+}
