@@ -10,7 +10,7 @@ mod store;
 
 use std::io;
 
-/// The words of the parts, in their order. Stores are the first, since their memory is told too.
+/// The words of the parts, in their order. Stores are the first, since their memory is reported too.
 const PARTS: [&str; 4] = ["store", "image", "hush", "rehearse"];
 
 /// Times the part of a word.
@@ -24,7 +24,7 @@ fn time_part(rt: &HostRuntime, part: &str) -> io::Result<()> {
     }
 }
 
-/// Times all parts, each behind its word.
+/// Times all parts, each after its word.
 fn time_all(rt: &HostRuntime) -> io::Result<()> {
     for part in PARTS {
         println!(rt; "{part}")?;

@@ -28,7 +28,7 @@ fn run_part(rt: &HostRuntime, part: &str) -> io::Result<()> {
     }
 }
 
-/// Runs all parts, each behind its word.
+/// Runs all parts, each after its word.
 fn run_all(rt: &HostRuntime) -> io::Result<()> {
     for part in PARTS {
         println!(rt; "{part}")?;

@@ -14,7 +14,7 @@ mod set_image;
 use std::process::ExitCode;
 use std::{env, io};
 
-/// The words behind the program's name.
+/// The words after the program's name.
 fn words_of(rt: &HostRuntime) -> Option<Vec<String>> {
     let words = env::args(rt).ok()?;
     words.skip(1).collect(rt.alloc()).ok()

@@ -1,7 +1,7 @@
 //! Changes one variable of an image in a file, or of a pair in two files, as `set_bytes` does, for the comparisons with
 //! other tools.
 //!
-//! Its words are `little|big FIRST SECOND NAME WORD..`, where SECOND is `-` for a single image.
+//! Its words are `little|big FIRST SECOND NAME WORD..`. SECOND is `-` for a single image.
 
 use envimage::{ByteOrder, SIZE_MAX, Which};
 use std::alloc::AllocError;

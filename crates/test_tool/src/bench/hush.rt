@@ -36,7 +36,7 @@ fn count_lists(alloc: Global, text: &[u8]) -> Result<usize, SyntaxError> {
     Ok(parse(alloc, text)?.lists.len())
 }
 
-/// How many fields words have where one variable is set.
+/// How many fields words have if one variable is set.
 fn count_fields(
     alloc: Global,
     words: &[Word],
@@ -97,7 +97,7 @@ fn time_parser(rt: &HostRuntime, shape: Shape<'_>, size: usize) -> io::Result<()
     time(rt, shape.name, size, || count_lists(rt.alloc(), &text))
 }
 
-/// Times a command's words where `x` alone has a value.
+/// Times a command's words if `x` alone has a value.
 fn time_expansion(
     rt: &HostRuntime,
     name: &str,
@@ -165,7 +165,7 @@ fn time_blanks(rt: &HostRuntime, name: &str, behind: &[u8], size: usize) -> io::
     time_expansion(rt, name, &uses, &value, size)
 }
 
-/// Times a word over and over, where `x` is empty.
+/// Times a word over and over, with an empty `x`.
 fn time_words(rt: &HostRuntime, name: &str, word: &[u8], size: usize) -> io::Result<()> {
     let text = Shape::echo("", word).text(rt.alloc(), size)?;
     time_expansion(rt, name, &text, b"", size)

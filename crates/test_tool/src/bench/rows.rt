@@ -1,4 +1,4 @@
-//! Rows of changes behind marks, of growing size.
+//! Rows of changes after marks, of growing size.
 
 use bootstore::{At, Frame, FrameKind, Store, StoreError};
 use hushlang::tree::Script;
@@ -10,10 +10,10 @@ use std::rc::Rc;
 pub(crate) enum Row {
     /// Each turn marks, sets a new name and goes back.
     NewNames,
-    /// Each turn is that of an endless loop, all behind one mark: a block is pushed, moved and popped, the frame below
+    /// Each turn is that of an endless loop, all after one mark: a block is pushed, moved and popped, the frame below
     /// is moved, the status is set and a step counted.
     Turns,
-    /// Each turn sets the same two variables again, all behind one mark.
+    /// Each turn sets the same two variables again, all after one mark.
     SameNames,
 }
 

@@ -1,4 +1,4 @@
-//! Prints on the error output how long rows of changes behind marks take, at three sizes each, and how much memory,
+//! Prints on the error output how long rows of changes after marks take, at three sizes each, and how much memory,
 //! for each store; and the same of 32 marks over an environment of 1,000 variables. The small ones come first, since
 //! memory that was given back serves what comes after and is not seen. The output is the same each time.
 
@@ -34,7 +34,7 @@ fn mark_often<S: Store>(store: &mut S) -> Result<(), StoreError> {
     Ok(())
 }
 
-/// How many pages of memory the process holds, as the system tells; 0 where it tells nothing.
+/// How many pages of memory the process holds, as the system says; 0 if it says nothing.
 fn held_pages(rt: &HostRuntime) -> io::Result<u64> {
     let text = fs::read_to_string(rt, "/proc/self/statm")?;
     let second = text.as_str().split_whitespace().nth(1);

@@ -10,7 +10,7 @@ pub(crate) fn print_bytes(rt: &impl Print, bytes: &[u8]) -> io::Result<()> {
     Ok(())
 }
 
-/// Prints a variable behind a space.
+/// Prints a space and a variable.
 pub(crate) fn print_pair(rt: &impl Print, name: &[u8], value: &[u8]) -> io::Result<()> {
     print!(rt; " ")?;
     print_bytes(rt, name)?;

@@ -118,7 +118,7 @@ pub(crate) fn run(rt: &HostRuntime) -> io::Result<()> {
     Ok(())
 }
 
-/// Makes a call, and where memory is refused prints what is left, and makes it again.
+/// Makes a call. If memory ran out, prints what is left, and makes it again.
 fn make_told(rt: &HostRuntime, env: &mut Env, call: Call) -> io::Result<Result<bool, Trouble>> {
     let made = make(rt.alloc(), env, call);
     if made != Err(Trouble::Memory) {

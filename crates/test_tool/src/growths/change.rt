@@ -104,7 +104,7 @@ impl Parts {
     }
 }
 
-/// Makes a change. A step is counted only where it may be.
+/// Makes a change. A step is counted only if it may be.
 pub(crate) fn make<S: Store>(
     parts: &Parts,
     store: &mut S,

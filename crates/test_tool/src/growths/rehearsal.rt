@@ -1,5 +1,5 @@
 //! Writes the listing of a small rehearsal over a store of each kind. Where memory is refused it writes the line
-//! `refused`, and goes on behind the last run that it was given: so without these lines the output is always the same.
+//! `refused`, and goes on after the last run that it was given: so without these lines the output is always the same.
 //! Of a longer script it says how many runs there are, and how many steps were begun for them.
 
 use bootstore::{Plain, Store, Trail};
@@ -77,7 +77,7 @@ impl Last {
     }
 }
 
-/// The runs, or those behind a word.
+/// The runs, or those after a word.
 fn runs_of<'a, S: Store>(
     alloc: Global,
     script: &'a Script,
@@ -128,7 +128,7 @@ fn write_runs<S: Store, O: Out>(
     Some(false)
 }
 
-/// Writes the listing behind the last run that was given, and tells whether it is whole.
+/// Writes the listing after the last run that was given, and says whether it is whole.
 fn list_once<S: Store, O: Out>(
     alloc: Global,
     script: &Script,
@@ -145,7 +145,7 @@ fn list_once<S: Store, O: Out>(
     }
 }
 
-/// Writes the listing, and after want of memory the rest of it.
+/// Writes the listing. If memory ran out, writes the rest of it.
 fn list<S: Store, O: Out>(alloc: Global, script: &Script, out: &mut O) -> Option<()> {
     let mut last = Last {
         room: [0; 32],
