@@ -76,7 +76,7 @@ pub(crate) fn given_of(case: &Case) -> anyhow::Result<Given<'_>> {
 }
 
 impl Given<'_> {
-    /// All runs, or those behind a word.
+    /// All runs, or those after a word.
     pub(crate) fn runs<S: Store>(&self, after: Option<&[u8]>) -> Result<Runs<'_, S>, RunError> {
         let (alloc, env, devices) = (self.alloc, &self.env, &self.devices);
         match after {
@@ -119,7 +119,7 @@ pub(crate) fn list<S: Store, O: Out>(
     write_listing(runs, names, limit, out)
 }
 
-/// The word behind which a listing goes on that was broken off, and how many bytes of it stand. Before the end of the
+/// The word after which a listing goes on that was broken off, and how many bytes of it stand. Before the end of the
 /// first record they are `none` and 0.
 pub(crate) fn resumed_at(written: &[u8]) -> (&[u8], usize) {
     match resume_point(written) {

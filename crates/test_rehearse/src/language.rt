@@ -126,7 +126,7 @@ fn fields_of_command<V: Vars>(
     Ok(fields)
 }
 
-/// Fields, or how long they are, a bar behind each.
+/// Fields, or how long they are, a bar after each.
 pub(crate) fn row_of(
     alloc: Global,
     fields: &[Vec<u8>],
@@ -182,7 +182,7 @@ fn expanded(case: &Case, word: &str, says: &str) -> anyhow::Result<String> {
     over(case.alloc, word, says, &three)
 }
 
-/// What each refusal for want of memory is printed as.
+/// What each refusal is printed as that says that memory ran out.
 fn memory(case: &Case) -> anyhow::Result<String> {
     let (text, words) = (SyntaxError::Memory, ExpandError::Memory);
     let (list, store) = (DevicesError::Memory, StoreError::Memory);

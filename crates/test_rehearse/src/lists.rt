@@ -6,7 +6,7 @@ use rehearse::{Devices, Effect, LeftSide, Setting};
 use std::alloc::{AllocError, Global};
 use test_rows::{shown, unescaped, words_of};
 
-/// A setting as a device list writes it, behind a space.
+/// A setting as a device list writes it, after a space.
 fn setting_of(alloc: Global, setting: &Setting) -> Result<String, AllocError> {
     let value = shown(alloc, &setting.value)?;
     match &setting.left {

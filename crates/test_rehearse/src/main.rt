@@ -12,7 +12,7 @@
 //!
 //! - `tokens TEXT`, the tokens, and three times how they end, `tree TEXT`, the tree, `cuts TEXT`, what each front of
 //!   it is, `commands TEXT`, what the commands are and how many parts each has, and `script TEXT`, whether it is one;
-//! - `fields TEXT`, what the words expand to, a bar behind each field, and `sizes TEXT`, how long they are: by one
+//! - `fields TEXT`, what the words expand to, a bar after each field, and `sizes TEXT`, how long they are: by one
 //!   variable or by three;
 //! - `test WORD..`, the truth of the words of `test`;
 //! - `list LIST`, whether it is a device list, `has NAME` and `effect NAME WORD..`, what the device list says of it.
@@ -20,10 +20,10 @@
 //! Rows of a rehearsal, the same over both stores:
 //!
 //! - `listing [limit LIMIT] [after WORD]`, a page and how it finishes;
-//! - `told limit LIMIT` and `broken ROOM`, what is told behind a listing, whole or broken off behind so many bytes;
-//!   `resumed`, where the listing goes on behind each of its fronts;
+//! - `told limit LIMIT` and `broken ROOM`, what is told after a listing, whole or broken off after so many bytes;
+//!   `resumed`, where the listing goes on after each of its fronts;
 //! - `work [after WORD]`, the runs with the steps that were begun, `grow`, how many runs there are and whether their
-//!   words grow, and `onward`, all words, and whether the runs go on behind each;
+//!   words grow, and `onward`, all words, and whether the runs go on after each;
 //! - `end`, how the first run ends, `try WORD..`, what kind of word each is;
 //! - `endings DEVICES STATES` and `flow DEVICES STATES`, the endings of all runs.
 //!

@@ -9,7 +9,7 @@ use rehearse_runs::{Ending, Runs};
 use std::alloc::Global;
 use test_rows::{number, shown, slices, text_of, unescaped};
 
-/// Which page is asked for: behind a word, and up to a limit, which is none where it is 0.
+/// Which page is asked for: after a word, and up to a limit, which is none where it is 0.
 #[derive(Drop)]
 struct Page {
     after: Option<Vec<u8>>,
@@ -24,7 +24,7 @@ enum Key {
     Other,
 }
 
-/// What stands behind a word.
+/// What stands after a word.
 fn key_of(word: &str) -> Key {
     match word {
         "after" => Key::After,
@@ -82,7 +82,7 @@ fn told_behind<S: Store>(alloc: Global, runs: &mut Runs<'_, S>) -> anyhow::Resul
     Ok(format!(in alloc; "given {given}, next {next}, work {work}")?)
 }
 
-/// How a page finishes, the work behind it, and what is told then.
+/// How a page finishes, the work after it, and what is told then.
 fn told_behind_page<S: Store>(given: &Given<'_>, page: &Page) -> anyhow::Result<String> {
     let mut runs = page.runs::<S>(given)?;
     let mut out = Over::new(Vec::new(given.alloc));
@@ -106,7 +106,7 @@ fn broken<S: Store>(given: &Given<'_>, says: &str) -> anyhow::Result<String> {
     Ok(format!(in alloc; "{answer:?}\n{bytes}\n{told}")?)
 }
 
-/// The work behind a start word, the words with the work after each, and that of all.
+/// The work after a start word, the words with the work after each, and that of all.
 fn works<S: Store>(given: &Given<'_>, page: &Page) -> anyhow::Result<String> {
     let alloc = given.alloc;
     let mut runs = page.runs::<S>(given)?;
@@ -123,7 +123,7 @@ fn works<S: Store>(given: &Given<'_>, page: &Page) -> anyhow::Result<String> {
     Ok(format!(in alloc; "begun {begun}, {words}, work {work}")?)
 }
 
-/// The words of the runs, or of those behind a word, and how many steps were begun.
+/// The words of the runs, or of those after a word, and how many steps were begun.
 fn words<S: Store>(given: &Given<'_>, after: Option<&[u8]>) -> anyhow::Result<(Vec<Vec<u8>>, u64)> {
     let mut runs = given.runs::<S>(after)?;
     let mut words = Vec::new(given.alloc);
@@ -150,7 +150,7 @@ fn grown<S: Store>(given: &Given<'_>) -> anyhow::Result<String> {
     Ok(format!(in given.alloc; "{runs} runs, their words grow: {do_grow}, {work} steps")?)
 }
 
-/// The words of the runs, and whether behind each the runs go on with those that stand behind it.
+/// The words of the runs, and whether after each the runs go on with those that stand after it.
 fn onward<S: Store>(given: &Given<'_>) -> anyhow::Result<String> {
     let alloc = given.alloc;
     let (all, _) = words::<S>(given, None)?;

@@ -7,11 +7,11 @@ pub trait Rows {
     /// Forgets all that rows have set.
     fn forget(&mut self) -> anyhow::Result<()>;
 
-    /// The answer to a row, by its first word and what it says behind that. A row that only sets something has none.
+    /// The answer to a row, by its first word and what it says after that. A row that only sets something has none.
     fn answer(&mut self, word: &str, says: &str) -> anyhow::Result<String>;
 }
 
-/// Puts the lines of an answer behind a transcript, each behind four spaces.
+/// Puts the lines of an answer after a transcript, each after four spaces.
 pub fn push_lines(transcript: &mut String, answer: &str) -> Result<(), AllocError> {
     for line in answer.lines() {
         transcript.push_str("    ")?;
@@ -30,7 +30,7 @@ fn answered<R: Rows>(alloc: Global, rows: &mut R, row: &str) -> Result<String, A
     }
 }
 
-/// A text of rows, each with the lines of its answer behind it. A line that begins with `#` is a heading, and at an
+/// A text of rows, each with the lines of its answer after it. A line that begins with `#` is a heading, and at an
 /// empty line what the rows have set is forgotten.
 pub fn transcript<R: Rows>(alloc: Global, text: &str, rows: &mut R) -> anyhow::Result<String> {
     let mut transcript = String::new(alloc);

@@ -8,13 +8,13 @@ use std::alloc::{AllocError, Global};
 enum Next {
     /// Itself, or the begin of an escape.
     Plain,
-    /// What stands behind a backslash.
+    /// What stands after a backslash.
     Escape,
     /// The first digit of a byte.
     High,
-    /// The second digit, behind this one.
+    /// The second digit, after this one.
     Low(u8),
-    /// A digit of how often a text is repeated, or the space behind it.
+    /// A digit of how often a text is repeated, or the space after it.
     Count(u32),
 }
 
@@ -51,9 +51,13 @@ impl Reading {
         Ok(self.bytes.push(byte)?)
     }
 
-    /// Puts the text behind a count there as often as it says.
+    /// Puts the text after a count there as often as it says.
     fn repeat(&mut self) -> Result<(), AllocError> {
-        let text = self.bytes.get(self.from..).unwrap_or(b"").to_vec(self.alloc)?;
+        let text = self
+            .bytes
+            .get(self.from..)
+            .unwrap_or(b"")
+            .to_vec(self.alloc)?;
         self.bytes.truncate(self.from);
         for _ in 0..self.turns {
             self.bytes.extend_from_slice(&text)?;
@@ -61,7 +65,7 @@ impl Reading {
         Ok(())
     }
 
-    /// Reads the byte behind a backslash.
+    /// Reads the byte after a backslash.
     fn escape(&mut self, byte: u8) -> Result<(), AllocError> {
         self.next = Next::Plain;
         match byte {
@@ -77,7 +81,7 @@ impl Reading {
         Ok(())
     }
 
-    /// Reads a digit of a count, or the space behind it.
+    /// Reads a digit of a count, or the space after it.
     fn count(&mut self, turns: u32, byte: u8) {
         if byte.is_ascii_digit() {
             let digit = u32::from(digit_of(byte));

@@ -16,7 +16,7 @@ fn calls_of(alloc: Global, files: &MemoryFiles) -> Result<String, AllocError> {
     Ok(lines)
 }
 
-/// The bytes of a file behind the last call.
+/// The bytes of a file after the last call.
 fn bytes_of(case: &Case<'_>, says: &str) -> anyhow::Result<String> {
     let path = text(case.alloc, says)?;
     let bytes = case.files.bytes(path.as_str()).unwrap_or(b"no file");

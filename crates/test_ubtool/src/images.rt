@@ -57,7 +57,7 @@ fn fronts(case: &Case<'_>) -> anyhow::Result<String> {
     Ok(lines)
 }
 
-/// Makes the image of the environment, of a size and with a flag if one is said, and puts it behind the image.
+/// Makes the image of the environment, of a size and with a flag if one is said, and puts it after the image.
 fn encoded(case: &mut Case<'_>, says: &str) -> anyhow::Result<String> {
     let (size, flag) = says.split_once(' ').unwrap_or((says, ""));
     let flag = match flag {

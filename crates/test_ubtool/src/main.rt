@@ -5,7 +5,7 @@
 //! Rows that set something:
 //!
 //! - `first BYTES` and `second BYTES`, the image or the copies of a pair, `big-endian`, its byte order, and
-//!   `encode SIZE [FLAG]`, which puts the image of the environment behind the first;
+//!   `encode SIZE [FLAG]`, which puts the image of the environment after the first;
 //! - `env CHANGE`, which changes the environment: `set`, `change`, `remove`, `script` and `data`; `env show` and
 //!   `env copy` tell it;
 //! - `file PATH BYTES`, `copy-of-file PATH`, a file with the image, and `failing N`, the call of files that fails;
@@ -23,7 +23,7 @@
 //!
 //! - `print NAME..`, `value NAME`, `standard`, which prints the image on the input, `rehearse NAME STEPS` and
 //!   `run WORD..`, the whole program; `reads`, how often its input was read, `calls`, the calls of files, and
-//!   `bytes PATH`, a file behind it;
+//!   `bytes PATH`, a file after it;
 //! - `each-out KIND CALL` and `each-err KIND CALL`, such a call with an output that fails further and further on;
 //! - `parts WORD..`, `pass TEXT`, `over N`, `buffer` and `flush`, outputs alone; `up-to LIMIT..`, bounded reads.
 //!

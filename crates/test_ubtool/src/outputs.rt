@@ -32,7 +32,7 @@ impl Write for Writer<'_> {
     }
 }
 
-/// Writes words as parts, and a line end behind them, on the output of a case.
+/// Writes words as parts, and a line end after them, on the output of a case.
 fn parts(case: &Case<'_>, says: &str) -> anyhow::Result<String> {
     let words = words_of(case.alloc, says)?;
     let mut out = Tested::new(case.alloc, case.out);

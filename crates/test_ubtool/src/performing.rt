@@ -98,7 +98,7 @@ pub(crate) fn told(case: &mut Case<'_>, word: &str, says: &str) -> anyhow::Resul
 }
 
 /// Whether a call was cut off by one failure, with a front of the whole, and in the last write: of an output of which one
-/// write fails, that one, and of another the one behind so many bytes.
+/// write fails, that one, and of another the one after so many bytes.
 fn is_cut(cut: &Tested, whole: &Tested, is_once: bool, count: usize) -> bool {
     let is_last = if is_once {
         cut.writes == count.saturating_add(1)
@@ -135,7 +135,7 @@ fn answer_of(alloc: Global, of_err: bool, done: &Performed) -> Result<String, Al
 struct Sweep {
     /// Whether the error output fails.
     of_err: bool,
-    /// Whether one write fails, and not all behind so many bytes.
+    /// Whether one write fails, and not all after so many bytes.
     is_once: bool,
     /// The call where nothing fails.
     whole: Performed,

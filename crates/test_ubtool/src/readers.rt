@@ -2,7 +2,7 @@
 
 use std::io::{self, ErrorKind, Read};
 
-/// An input that gives some bytes a read, of which one read fails, and which fails if it is read again behind its end.
+/// An input that gives some bytes a read, of which one read fails, and which fails if it is read again after its end.
 #[derive(Drop)]
 pub(crate) struct Source<'a> {
     /// What is still to be read.
