@@ -20,7 +20,7 @@
 //! Rows of a rehearsal, the same over both stores:
 //!
 //! - `listing [limit LIMIT] [after WORD]`, a page and how it finishes;
-//! - `told limit LIMIT` and `broken ROOM`, what is told after a listing, whole or broken off after so many bytes;
+//! - `told limit LIMIT` and `broken ROOM`, the answers after a listing, whole or broken off after so many bytes;
 //!   `resumed`, where the listing goes on after each of its fronts;
 //! - `work [after WORD]`, the runs with the steps that were begun, `grow`, how many runs there are and whether their
 //!   words grow, and `onward`, all words, and whether the runs go on after each;

@@ -82,7 +82,7 @@ fn told_behind<S: Store>(alloc: Global, runs: &mut Runs<'_, S>) -> anyhow::Resul
     Ok(format!(in alloc; "given {given}, next {next}, work {work}")?)
 }
 
-/// How a page finishes, the work after it, and what is told then.
+/// How a page finishes, the work after it, and the answers then.
 fn told_behind_page<S: Store>(given: &Given<'_>, page: &Page) -> anyhow::Result<String> {
     let mut runs = page.runs::<S>(given)?;
     let mut out = Over::new(Vec::new(given.alloc));
@@ -92,7 +92,7 @@ fn told_behind_page<S: Store>(given: &Given<'_>, page: &Page) -> anyhow::Result<
     Ok(format!(in given.alloc; "{finish:?}, work {work}, {told}")?)
 }
 
-/// What a listing answers that has room for so many bytes, the bytes, and what is told then.
+/// What a listing answers that has room for so many bytes, the bytes, and the answers then.
 fn broken<S: Store>(given: &Given<'_>, says: &str) -> anyhow::Result<String> {
     let alloc = given.alloc;
     let size = number(says)?;

@@ -68,7 +68,7 @@ impl<'a> Case<'a> {
         }
     }
 
-    /// The input, of which nothing is read.
+    /// The input, which is not read.
     pub(crate) fn source(&self) -> Source<'_> {
         Source {
             bytes: &self.input,

@@ -8,7 +8,7 @@ use std::io::{self, BufWriter, ErrorKind, Write};
 use test_rows::{number, shown, slices, unescaped, words_of};
 use ubtool_files::UntilFailed;
 
-/// A writer of std of which one write fails, and which counts its writes and its flushes.
+/// A writer of std with one write that fails. It counts its writes and its flushes.
 #[derive(Drop)]
 struct Writer<'a> {
     failing: u32,

@@ -9,7 +9,7 @@ pub(crate) enum Trouble {
     Other,
 }
 
-/// The answer of a call, of which `memory` says that memory ran out.
+/// The answer of a call; `memory` says that memory ran out.
 pub(crate) fn told_apart<T, E: PartialEq + Drop>(
     answer: Result<T, E>,
     memory: E,
