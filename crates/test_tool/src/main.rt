@@ -1,13 +1,13 @@
 //! What the tools and the suites run of the libraries beside the programs. Not installed.
 //!
-//! - `test_tool bench [PART]` times what a part names.
+//! - `test_tool checksum` times the checksum of 1 MiB.
 //! - `test_tool growths [PART]` makes calls again and again, for refused growths of memory.
 //! - `test_tool set_image ORDER FIRST SECOND NAME WORD..` changes an image in a file.
 //!
-//! Without a word it runs what prints the same each time: all growths, and the timings of scripts.
+//! Without a word it makes all growths, and the checksum.
 #![tactic(auto)]
 
-mod bench;
+mod checksum;
 mod growths;
 mod set_image;
 
@@ -32,11 +32,11 @@ fn first(words: &[String]) -> Option<&str> {
 fn run(rt: &HostRuntime, words: &[String]) -> io::Result<bool> {
     let [what, rest @ ..] = words else {
         growths::run(rt, None)?;
-        bench::run(rt, Some("hush"))?;
+        checksum::run(rt)?;
         return Ok(true);
     };
     match what.as_str() {
-        "bench" => bench::run(rt, first(rest))?,
+        "checksum" => checksum::run(rt)?,
         "growths" => growths::run(rt, first(rest))?,
         "set_image" => return Ok(set_image::run(rt, rest).is_some()),
         _ => return Ok(false),

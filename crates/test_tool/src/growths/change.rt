@@ -90,6 +90,8 @@ impl Parts {
         Ok(LogEntry {
             success: true,
             words,
+            stays: false,
+            again: false,
         })
     }
 

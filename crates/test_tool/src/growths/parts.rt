@@ -9,7 +9,7 @@ use hushlang::parse::parse;
 use hushlang::token::SyntaxError;
 use hushlang::tree::{Command, Script, Word};
 use rehearse::{Bounds, Devices, DevicesError};
-use rehearse_runs::{RunError, WordKind, try_word};
+use rehearse_runs::{RehearseError, WordKind, try_word};
 use std::alloc::{AllocError, Global};
 use ubtool_files::{FileFault, Files, MemoryFiles};
 
@@ -114,5 +114,5 @@ fn is_word<S: Store>(
         return Ok(false);
     };
     let kind = try_word::<S>(alloc, env, devices, b"bootcmd", bounds, word);
-    Ok(told_apart(kind, RunError::Memory)? == wanted)
+    Ok(told_apart(kind, RehearseError::Memory)? == wanted)
 }

@@ -6,7 +6,7 @@ use bootstore::{Plain, Store, Trail};
 use envtools::Env;
 use output::{Out, Over, write_all};
 use rehearse::{Bounds, Devices};
-use rehearse_runs::{ListError, RunError, Runs, write_listing};
+use rehearse_runs::{RehearseError, Runs, write_listing};
 use std::alloc::{AllocError, Global};
 use std::io;
 
@@ -82,7 +82,7 @@ fn runs_of<'a, S: Store>(
     alloc: Global,
     script: &'a Script,
     after: Option<&[u8]>,
-) -> Result<Runs<'a, S>, RunError> {
+) -> Result<Runs<'a, S>, RehearseError> {
     match after {
         None => Runs::new(
             alloc,
@@ -104,7 +104,7 @@ fn runs_of<'a, S: Store>(
 
 /// Whether a further run is refused since there was no memory before.
 fn has_failed<S: Store>(runs: &mut Runs<'_, S>) -> bool {
-    matches!(runs.next(), Err(RunError::Failed))
+    matches!(runs.next(), Err(RehearseError::Failed))
 }
 
 /// Writes the listing of some runs, and answers whether it is whole. If memory ran out, it keeps the word of the last
@@ -116,7 +116,7 @@ fn write_runs<S: Store, O: Out>(
 ) -> Option<bool> {
     match write_listing(runs, &[], None, out) {
         Ok(_) => return Some(true),
-        Err(ListError::Memory) => write_all(out, b"refused\n").ok()?,
+        Err(RehearseError::Memory) => write_all(out, b"refused\n").ok()?,
         Err(_) => return None,
     }
     if !has_failed(runs) {
@@ -137,7 +137,7 @@ fn list_once<S: Store, O: Out>(
 ) -> Option<bool> {
     match runs_of::<S>(alloc, script, last.word()) {
         Ok(mut runs) => write_runs(&mut runs, last, out),
-        Err(RunError::Memory) => {
+        Err(RehearseError::Memory) => {
             write_all(out, b"refused\n").ok()?;
             Some(false)
         }
