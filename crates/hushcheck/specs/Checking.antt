@@ -1,5 +1,5 @@
 -- What checking the texts of an image does, from files whose contents are known. Ours.
-use Rattle.std.specs.Prelude.{◌≡◌, Bool, List, Result, Ok, Err}
+use Rattle.std.specs.Prelude.{◌≡◌, Bool, List, None, Result, Ok, Err}
 use Rattle.envimage.specs.Data.{Pair}
 use Rattle.output.specs.Sink.{BrokeOff, Sink, Wrote}
 use Rattle.envimage.specs.declared.image.ByteOrder.{ByteOrder}
@@ -28,7 +28,7 @@ pub record TellsAll (answer : Result (List Pair) ImageError) (names : List Text)
   pub env : List Pair
   pub there : answer ≡ Ok env
   pub told : Text
-  pub checks : Checks env names told sound
+  pub checks : Checks None env names told sound
   pub wrote : Wrote old new told
 
 -- The environment was found, and the output failed inside what is reported of it.
@@ -37,7 +37,7 @@ pub record BreaksOff (answer : Result (List Pair) ImageError) (names : List Text
   pub there : answer ≡ Ok env
   pub told : Text
   pub sound : Bool
-  pub checks : Checks env names told sound
+  pub checks : Checks None env names told sound
   pub broken : BrokeOff old new told
 
 -- each answer to checking an environment, and what is written then

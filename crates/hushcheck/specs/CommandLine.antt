@@ -2,7 +2,7 @@
 use Rattle.std.specs.Prelude.{true, codes}
 use Rattle.clap.specs.Words.{App, Shape, new_app, with_rule}
 use Rattle.clap.specs.Simple.{on_top}
-use Rattle.ubtool_cli.specs.CommandLine.{big_endian, config, names}
+use Rattle.command_line.specs.CommandLine.{big_endian, config, names}
 
 -- the program, which has a version and no words of its own
 abbrev pub base : App

@@ -1,11 +1,11 @@
 //! The command line that `clap` is given.
 ghost use Rattle.std.specs.Prelude.{IfOk};
 ghost use Rattle.hushcheck.specs.CommandLine.{base, hushcheck, options};
-ghost use Rattle.ubtool_cli.specs.Made.{IsMade};
+ghost use Rattle.command_line.specs.Made.{IsMade};
 
 use clap::Command;
+use command_line::{VERSION, big_endian_flag, config_option, names};
 use std::alloc::{AllocError, Global};
-use ubtool_cli::{VERSION, big_endian_flag, config_option, names};
 
 const NOTES: &str = "\
 The texts of the variables are read as boot scripts, and then those of the

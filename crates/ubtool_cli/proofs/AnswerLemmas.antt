@@ -17,7 +17,7 @@ use Rattle.ubtool_cli.specs.declared.called.CalledAs.{CalledAs}
 use Rattle.ubtool_cli.specs.declared.ask.UseError.TheVariants.{Line, NeedName, ScriptAndName, HeaderNeedsOne, WordAlone, TooManyDevices, Memory}
 use Rattle.ubtool_cli.specs.Asked.{Asked, asked_of, lock_of}
 use Rattle.ubtool_cli.specs.CommandAnswers.{Answers, IsAccepted, NamesLock, Reports, Says, asked}
-use Rattle.ubtool_cli.specs.CommandLine.{ubtool}
+use Rattle.command_line.specs.CommandLine.{ubtool}
 
 pub ubtool_simple : is_simple ubtool ≡ true
 unfolding clap_on_literals ubtool

@@ -9,7 +9,7 @@ use Rattle.ubtool_cli.specs.declared.called.CalledAs.{CalledAs}
 use Rattle.ubtool_cli.specs.declared.called.CalledAs.TheVariants.{FwTool, Ubtool}
 use Rattle.ubtool_cli.specs.Asked.{Asked, ending, header_needs_one, input_scripted, lock_of, needs_name, printing, rehearsing, script_and_name, scripted, setting, too_many_devices, word_alone}
 use Rattle.rehearse.specs.Asking.{Alone, Listed}
-use Rattle.ubtool_cli.specs.CommandLine.{ubtool}
+use Rattle.command_line.specs.CommandLine.{ubtool}
 
 -- the words are accepted and ask for this
 abbrev AsksForAs : CalledAs → List Text → Asked → Type 0

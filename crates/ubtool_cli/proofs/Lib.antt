@@ -1,4 +1,3 @@
-pub mod MadeLemmas
 pub mod EntryLemmas
 pub mod AnswerLemmas
 mod CommandLineExamples

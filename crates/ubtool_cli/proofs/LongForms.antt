@@ -6,7 +6,7 @@ use Rattle.clap.proofs.OnLiterals.{clap_on_literals}
 use Rattle.envimage.specs.declared.image.ByteOrder.TheVariants.{Little}
 use Rattle.ubtool_cli.specs.Asked.{printing, rehearsing, scripted}
 use Rattle.rehearse.specs.Asking.{Listed}
-use Rattle.ubtool_cli.specs.CommandLine.{ubtool}
+use Rattle.command_line.specs.CommandLine.{ubtool}
 use Rattle.ubtool_cli.proofs.CommandLineExamples.{AsksFor}
 
 -- the words ask for the version alone

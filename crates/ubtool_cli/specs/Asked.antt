@@ -15,7 +15,7 @@ use Rattle.ubtool_cli.specs.declared.called.CalledAs.{CalledAs}
 use Rattle.ubtool_cli.specs.declared.called.CalledAs.TheVariants.{FwTool, Ubtool}
 use Rattle.rehearse.specs.Asking.{Asking, Wanted, Listed, Alone}
 use Rattle.rehearse.specs.Bounds.{BoundsShown, bounds_of, run_bounds_of, most_run_devices, most_steps}
-use Rattle.ubtool_cli.specs.CommandLine.{most_failures, most_records, most_states}
+use Rattle.command_line.specs.CommandLine.{most_failures, most_records, most_states}
 
 -- what `endings` is asked for
 pub record Endings : Type 0 where

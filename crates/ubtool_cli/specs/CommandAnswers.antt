@@ -21,7 +21,7 @@ use Rattle.ubtool_cli.specs.Asked as what
 use Rattle.ubtool_cli.specs.Asked.{Asked, WantedAsked, asked_of, ending, input_scripted, lock_of, printing, setting}
 use Rattle.ubtool_cli.specs.Asked.{scripted, rehearsing, needs_name, script_and_name}
 use Rattle.ubtool_cli.specs.Asked.{header_needs_one, too_many_devices, word_alone}
-use Rattle.ubtool_cli.specs.CommandLine.{ubtool}
+use Rattle.command_line.specs.CommandLine.{ubtool}
 use Rattle.ubtool_cli.specs.WantedShown.{bounds_of, wanted_of}
 use Rattle.rehearse.specs.Asking.{Asking}
 

@@ -8,9 +8,6 @@ use envimage::ByteOrder;
 use rehearse::{Bounds, RunBounds};
 use thiserror::Error;
 
-/// The version of the program, and of the package that has it.
-pub const VERSION: &str = "0.1.0";
-
 /// The configuration that is read if a call names none.
 pub const DEFAULT_CONFIG: &str = "/etc/fw_env.config";
 
@@ -22,9 +19,6 @@ pub const DEFAULT_DEVICES: u32 = 16;
 
 /// The steps that a run may begin if a call sets no bound.
 pub const DEFAULT_STEPS: u32 = 10_000;
-
-/// The most device commands that may fail in a run that is listed.
-pub const FAILURES_MAX: u32 = 32;
 
 /// The device commands that a run which is not listed may have if a call sets no bound: for
 /// `endings`, and for `rehearse --word`.

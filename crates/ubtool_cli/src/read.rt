@@ -11,13 +11,13 @@ ghost use Rattle.ubtool_cli.specs.CommandAnswers.{Answers, IsUnread, NamesLock, 
 
 use crate::ask::{
     Ask, Change, DEFAULT_CONFIG, DEFAULT_DEVICES, DEFAULT_RUN_DEVICES, DEFAULT_RUN_STEPS,
-    DEFAULT_STATES, DEFAULT_STEPS, DEFAULT_VARIABLE, EndingsAsk, FAILURES_MAX, PrintAsk,
-    RehearseAsk, UseError, Wanted,
+    DEFAULT_STATES, DEFAULT_STEPS, DEFAULT_VARIABLE, EndingsAsk, PrintAsk, RehearseAsk, UseError,
+    Wanted,
 };
 use crate::called::CalledAs;
-use crate::command::ubtool;
 use clap::ArgMatches;
 use clap::error::ErrorKind;
+use command_line::{FAILURES_MAX, ubtool};
 use envimage::ByteOrder;
 use rehearse::{Bounds, RUN_DEVICES_MAX, RunBounds, STEPS_MAX};
 use std::alloc::{AllocError, Global};

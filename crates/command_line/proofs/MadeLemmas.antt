@@ -3,7 +3,7 @@ use Rattle.std.proofs.Common.{◌≡◌, ◌∙◌, ap, ap₂, false, ◌||◌}
 use Rattle.clap.specs.Words.{AddsArg, AddsSubcommand, App, Rule, rule_of, with_rule, with_subcommand}
 use Rattle.clap.specs.declared.builder.arg.Arg.{Arg}
 use Rattle.clap.specs.declared.builder.command.Command.{Command}
-use Rattle.ubtool_cli.specs.Made.{IsMade}
+use Rattle.command_line.specs.Made.{IsMade}
 
 -- with one more argument
 pub made_with : (app : App) (old : Command) (a : Arg) (new : Command) (r : Rule) → IsMade app old → rule_of a ≡ r → a.global ≡ false → AddsArg old a new

@@ -1,6 +1,6 @@
 use Rattle.std.proofs.lemmas.Result.{IfOk-weaker}
-use Rattle.ubtool_cli.proofs.MadeLemmas.{made_with}
-use Rattle.ubtool_cli.proofs.command.endings.Goals as goal
+use Rattle.command_line.proofs.MadeLemmas.{made_with}
+use Rattle.command_line.proofs.command.endings.Goals as goal
 
 pub returns : goal.returns
 returns c =

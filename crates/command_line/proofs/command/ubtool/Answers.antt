@@ -1,7 +1,7 @@
 use Rattle.std.proofs.lemmas.Result.{IfOk-weaker}
-use Rattle.ubtool_cli.specs.CommandLine.{ubtool}
-use Rattle.ubtool_cli.proofs.MadeLemmas.{made_above}
-use Rattle.ubtool_cli.proofs.command.ubtool.Goals as goal
+use Rattle.command_line.specs.CommandLine.{ubtool}
+use Rattle.command_line.proofs.MadeLemmas.{made_above}
+use Rattle.command_line.proofs.command.ubtool.Goals as goal
 
 pub returns : goal.returns
 unfolding ubtool

@@ -1,0 +1,97 @@
+//! The notes that follow the options in the help of each command.
+
+pub(crate) const UBTOOL_NOTES: &str = "\
+Without words, one image is read from standard input, and all its variables
+are printed. Words that begin with - come after --, as in 'printenv -- -x'.
+
+The status is 0 when all is done, 1 when something is refused or a variable is
+missing, and 2 when the words are wrong.
+
+Examples:
+  ubtool printenv bootcmd
+  ubtool setenv bootdelay 3
+  ubtool rehearse -d devices.txt
+  ubtool endings -d devices.txt
+  ubtool < env.img
+
+'ubtool printenv --help' and its like tell more.
+";
+
+pub(crate) const PRINTENV_NOTES: &str = "\
+Each variable is printed as NAME=VALUE, on a line of its own. A missing one is
+reported on standard error, and the status is then 1.
+
+A line of the configuration is 'device offset size': one line for a single
+image, two for the copies of a redundant pair. Offset and size are bytes. The
+offset is decimal, hexadecimal after 0x or octal after 0; the size is
+hexadecimal, at most 100000 (1048576 bytes).
+
+Examples:
+  ubtool printenv
+  ubtool printenv bootcmd bootdelay
+  ubtool printenv -n serverip
+  ubtool printenv -c fw_env.config --big-endian
+";
+
+pub(crate) const SETENV_NOTES: &str = "\
+The VALUEs are joined by one space. A single image is written in place. Of a
+redundant pair the copy that is not current is written, and becomes current.
+
+A line of a script is 'NAME VALUE', or 'NAME' alone to delete the variable.
+Lines that begin with # are skipped. A script has at most 1048576 bytes.
+Called as fw_setenv, the script of '-s -' is read from standard input.
+
+Examples:
+  ubtool setenv bootdelay 3
+  ubtool setenv bootargs console=ttyS0,115200 root=/dev/mmcblk0p2
+  ubtool setenv -c fw_env.config bootdelay
+  ubtool setenv -s changes.txt
+";
+
+pub(crate) const REHEARSE_NOTES: &str = "\
+Each way that the device commands can succeed or fail is a run, and each run is
+listed once, success before failure. A run's word has a digit for each device
+command: 0 where it succeeds, 1 where it fails. A run that meets a bound is
+listed as cut. With --failures 1 the runs are those in which any one device
+command fails, or none; with 2, any two. With --word the run of one word is
+written alone, also of a word that endings names. The image is read and never
+written.
+
+A line of the device list is 'NAME', 'NAME VAR=VALUE' for a command that sets
+variables when it succeeds, or 'final NAME' for one that boots and so ends the
+run. Lines that begin with # are skipped.
+
+Examples:
+  ubtool rehearse -d devices.txt
+  ubtool rehearse -d devices.txt -b altbootcmd --failures 1 bootargs fdtfile
+  ubtool rehearse -d devices.txt --limit 20 --after 0110
+  ubtool rehearse -d devices.txt --word 0110 bootargs
+";
+
+pub(crate) const ENDINGS_NOTES: &str = "\
+All runs are counted by how they end, also where they are too many to be listed.
+A line for each ending, in the order of the first run that ends so, and one for
+all runs are written:
+
+  ends COUNT first WORD fewest FAILURES WORD ENDING
+  all COUNT states STATES
+
+COUNT runs end so. The first WORD is that of the first of them, the second that
+of the first of those in which the fewest device commands fail. ENDING is the
+last line of their records, as rehearse lists them. A state is what variables,
+status and script are when a device command asks; each is gone through once.
+
+With --flow a line for each state and for each way to end is written instead.
+Numbers count from 1, where a run begins, and a word leads from line to line:
+
+  NUMBER ask WORDS success NUMBER failure NUMBER
+  NUMBER ends ENDING
+
+The image is read and never written.
+
+Examples:
+  ubtool endings -d devices.txt
+  ubtool endings -d devices.txt -b altbootcmd --devices 32
+  ubtool endings -c fw_env.config -d devices.txt --states 5000000
+  ubtool endings -d devices.txt --flow
+";
