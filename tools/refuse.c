@@ -1,12 +1,15 @@
 /* Put before libc by LD_PRELOAD, this refuses one growth of memory: the call of malloc, calloc or realloc that has
  * the number in REFUSE, counted from 1. Without REFUSE none is refused. At the end of the process a line on the file
- * that REFUSE_MET names says whether the number was met. */
+ * that REFUSE_MET names says whether the number was met, and one on the file that GROWTHS names how many growths were
+ * asked for. */
 #define _GNU_SOURCE
 #include <dlfcn.h>
 #include <errno.h>
 #include <fcntl.h>
 #include <stddef.h>
+#include <stdio.h>
 #include <stdlib.h>
+#include <string.h>
 #include <unistd.h>
 
 static unsigned long count;
@@ -34,18 +37,23 @@ __attribute__((constructor)) static void prepare(void) {
     ready = 1;
 }
 
-__attribute__((destructor)) static void tell(void) {
-    const char *path = getenv("REFUSE_MET");
-    int file;
-    if (path == NULL) {
-        return;
-    }
-    file = open(path, O_WRONLY | O_CREAT | O_TRUNC, 0644);
+/* Writes a line to the file that a variable names, if it is set. */
+static void tell_in(const char *variable, const char *line) {
+    const char *path = getenv(variable);
+    int file = path == NULL ? -1 : open(path, O_WRONLY | O_CREAT | O_TRUNC, 0644);
     if (file >= 0) {
-        ssize_t done = count >= refused ? write(file, "met\n", 4) : write(file, "not met\n", 8);
+        ssize_t done = write(file, line, strlen(line));
         (void)done;
         close(file);
     }
+}
+
+__attribute__((destructor)) static void tell(void) {
+    const char *met = count >= refused ? "met\n" : "not met\n";
+    char line[32];
+    snprintf(line, sizeof line, "%lu\n", count);
+    tell_in("REFUSE_MET", met);
+    tell_in("GROWTHS", line);
 }
 
 static int is_refused(void) {

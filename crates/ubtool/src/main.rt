@@ -2,15 +2,16 @@
 //! its boot script.
 #![tactic(auto)]
 
-mod locked;
+mod folder_lock;
 
-use locked::{LockError, Locked, lock_in};
+use folder_lock::{LockError, lock_in};
 use output::{Out, Over, write_all};
 use std::fs::File;
 use std::io;
 use std::process::ExitCode;
 use ubtool_cli::{called_as, read_lock, words_called};
 use ubtool_core::write_fault_of;
+use ubtool_files::Machine;
 use ubtool_run::{
     Build, PROGRAM, StartError, Telling, buffered, end, finish, run_tool, words_of_call,
 };
@@ -46,8 +47,10 @@ fn run<E: Out>(rt: &HostRuntime, err: &mut Telling<E>) -> Result<u8, StartError>
         }
     };
     let mut out = buffered(rt.alloc(), io::writer(rt))?;
-    let changes = matches!(words.first(), Some(word) if word.as_str() == "setenv");
-    let mut files = Locked::new(rt, changes, lock);
+    let mut files = match lock {
+        Some(lock) => Machine::under(rt, lock),
+        None => Machine::new(rt),
+    };
     let mut input = rt.reader();
     let status = run_tool(
         rt.alloc(),

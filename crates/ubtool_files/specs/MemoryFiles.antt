@@ -30,6 +30,10 @@ failing_of m = m.failing
 abbrev pub faults_of : MemoryFiles → ℕ
 faults_of m = m.faults
 
+-- the lock was taken
+abbrev pub is_locked : MemoryFiles → Bool
+is_locked m = m.locked
+
 -- one file more
 abbrev pub with_file : List ℕ → List ℕ → Told → Told
 with_file path bytes told =

@@ -1,5 +1,5 @@
 //! Files by their paths.
-ghost use Rattle.std.specs.Prelude.{◌≡◌, ◌≢◌, ◌≤◌, ℕ, Option, IfOk, vec_len};
+ghost use Rattle.std.specs.Prelude.{◌≡◌, ◌≢◌, ◌≤◌, ℕ, Bool, Option, IfOk, IsTrue, vec_len};
 ghost use Rattle.ubtool_files.specs.declared.files.FileFault.TheVariants.{Memory};
 
 use std::alloc::{AllocError, AllocFailed, Global};
@@ -52,7 +52,8 @@ pub enum Action {
     WriteAt { offset: u64, size: usize },
 }
 
-/// Files by their paths: the machine's files, or files in memory. No failed call is repeated.
+/// Files by their paths: the machine's files, or files in memory. No failed call is repeated. A file
+/// is written only after the lock was taken.
 pub trait Files {
     ghost use Rattle.ubtool_files.specs.FailureCounts.{CountsFault};
     ghost use Rattle.ubtool_files.specs.Told.{IfTold, ReadsAll, ReadsAt, Told, WritesAt, read_limit};
@@ -64,6 +65,16 @@ pub trait Files {
     /// The files and the calls so far, if they are known.
     ghost told: { Self → Option Told };
 
+    /// Whether the lock was taken.
+    ghost locked: { Self → Bool };
+
+    /// Takes the lock, unless it was taken already. Waits while another call holds it. If it cannot
+    /// be had, the files are used without it.
+    fn lock(&mut self)
+        ensures taken { IsTrue (locked self.new) }
+        ensures count { faults self.new ≡ faults self.old }
+        ensures told { told self.new ≡ told self.old };
+
     /// Reads the whole file, of at most `LIMIT` bytes.
     ///
     /// Refusals: `Failed`, `TooLong`, `Memory`.
@@ -71,6 +82,7 @@ pub trait Files {
         ensures count { CountsFault (faults self.old) (faults self.new) result }
         ensures bound { IfOk result (λ bytes. vec_len bytes ≤ read_limit) }
         ensures never_short { result ≢ Err Short }
+        ensures lock { locked self.new ≡ locked self.old }
         ensures told { IfTold (told self.old) (told self.new)
             (λ old new. ReadsAll path.now old new result) };
 
@@ -87,17 +99,20 @@ pub trait Files {
         ensures count { CountsFault (faults self.old) (faults self.new) result }
         ensures size { IfOk result (λ bytes. vec_len bytes ≡ size) }
         ensures never_long { result ≢ Err TooLong }
+        ensures lock { locked self.new ≡ locked self.old }
         ensures told { IfTold (told self.old) (told self.new)
             (λ old new. ReadsAt path.now offset size old new result) };
 
-    /// Writes the bytes in place, from byte `offset` on. No file is made or shortened. If the
-    /// device fails, a prefix of the bytes may be written.
+    /// Writes the bytes in place, from byte `offset` on, under the lock. No file is made or
+    /// shortened. If the device fails, a prefix of the bytes may be written.
     ///
     /// Refusals: `Failed`, `Memory`.
     fn write_at(&mut self, path: &str, offset: u64, bytes: &[u8]) -> Result<(), FileFault>
+        requires { IsTrue (locked self.old) }
         ensures count { CountsFault (faults self.old) (faults self.new) result }
         ensures never_short { result ≢ Err Short }
         ensures never_long { result ≢ Err TooLong }
+        ensures lock { locked self.new ≡ locked self.old }
         ensures told { IfTold (told self.old) (told self.new)
             (λ old new. WritesAt path.now offset bytes.now old new result) };
 }

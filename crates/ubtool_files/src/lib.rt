@@ -4,12 +4,14 @@
 
 mod files;
 mod input;
+mod lock;
 mod machine;
 mod memory_files;
 mod until_failed;
 
 pub use files::{Action, FileFault, Files, LIMIT};
 pub use input::{ReadFault, read_up_to};
+pub use lock::lock_file;
 pub use machine::Machine;
 pub use memory_files::{Call, MemoryFiles};
 pub use until_failed::UntilFailed;

@@ -1,37 +1,57 @@
 //! The machine's own files.
-ghost use Rattle.std.specs.Prelude.{◌≡◌, ◌≤◌, ◌⊎◌, IfOk, IfErr, None, vec_len};
+ghost use Rattle.std.specs.Prelude.{◌≡◌, ◌≤◌, ◌⊎◌, IfOk, IfErr, None, false, true, vec_len};
 ghost use Rattle.ubtool_files.specs.FailedReads.{file_fault_of};
 ghost use Rattle.ubtool_files.specs.declared.files.FileFault.TheVariants.{Failed, Memory};
 
 use crate::files::{FileFault, Files, LIMIT};
 use crate::input::{ReadFault, read_up_to};
+use crate::lock::{Lock, usual_lock};
 use std::alloc::Global;
-use std::fs::{OpenFile, OpenOptions};
+use std::fs::{File, OpenFile, OpenOptions};
 use std::io::{ErrorKind, Read, Seek, SeekFrom, Write};
 use std::rt;
 
-/// The files of the machine, which the runtime reaches.
+/// The files of the machine, which the runtime reaches. A lock is held as long as these files last.
 #[derive(Drop)]
 pub struct Machine<'a, R> {
     rt: &'a R,
     faults: u64,
+    lock: Lock,
 }
 
 impl<'a, R: rt::Files> Machine<'a, R> {
     ghost use Rattle.ubtool_files.specs.FailureCounts.{CountsFault};
-    ghost use Rattle.ubtool_files.specs.MachineShown.{faults_of};
+    ghost use Rattle.ubtool_files.specs.MachineShown.{faults_of, is_locked};
 
-    /// The files that `rt` reaches; no failure is counted yet.
+    /// The files that `rt` reaches; no failure is counted yet, and no lock is taken.
     pub fn new(rt: &'a R) -> Machine<'a, R>
-        ensures { faults_of result ≡ 0 }
+        ensures sound { faults_of result ≡ 0 }
+        ensures unlocked { is_locked result ≡ false }
     {
-        Machine { rt, faults: 0 }
+        Machine {
+            rt,
+            faults: 0,
+            lock: Lock::NotTaken,
+        }
+    }
+
+    /// The same files under a lock that is held already.
+    pub fn under(rt: &'a R, lock: File) -> Machine<'a, R>
+        ensures sound { faults_of result ≡ 0 }
+        ensures locked { is_locked result ≡ true }
+    {
+        Machine {
+            rt,
+            faults: 0,
+            lock: Lock::Held(lock),
+        }
     }
 
     /// Counts a failure of the device, if the answer is one.
     fn counted<T: Drop>(&mut self, answer: Result<T, FileFault>) -> Result<T, FileFault>
         ensures answer { result ≡ answer }
         ensures count { CountsFault (faults_of self.old) (faults_of self.new) answer }
+        ensures lock { is_locked self.new ≡ is_locked self.old }
     {
         if let Err(FileFault::Failed) = answer {
             self.faults = self.faults.saturating_add(1);
@@ -120,12 +140,21 @@ fn write_to<R: rt::Files>(rt: &R, path: &str, offset: u64, bytes: &[u8]) -> Resu
     }
 }
 
-impl<R: rt::Files> Files for Machine<'_, R> {
-    ghost use Rattle.ubtool_files.specs.MachineShown.{faults_of};
+impl<R: rt::Files<File = File>> Files for Machine<'_, R> {
+    ghost use Rattle.ubtool_files.specs.MachineShown.{faults_of, is_locked};
 
     ghost faults = { faults_of };
 
     ghost told = { λ _. None };
+
+    ghost locked = { is_locked };
+
+    /// Takes the lock of U-Boot's tools. If its file cannot be opened or locked, there is no lock.
+    fn lock(&mut self) {
+        if let Lock::NotTaken = self.lock {
+            self.lock = usual_lock(self.rt);
+        }
+    }
 
     fn read_all(&mut self, alloc: Global, path: &str) -> Result<Vec<u8>, FileFault> {
         let read = read_from(self.rt, alloc, path, 0, LIMIT + 1);

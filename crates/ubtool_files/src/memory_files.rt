@@ -1,10 +1,10 @@
 //! Files in memory, for tests.
-ghost use Rattle.std.specs.Prelude.{◌≡◌, ◌≢◌, ◌≤◌, ◌+◌, [], if◌then◌else◌, nat_le, Some, None, Ok, Err, IfOk, OnOk, OnErr, length, map, string_bytes, vec_len};
+ghost use Rattle.std.specs.Prelude.{◌≡◌, ◌≢◌, ◌≤◌, ◌+◌, [], false, if◌then◌else◌, nat_le, Some, None, Ok, Err, IfOk, OnOk, OnErr, length, map, string_bytes, vec_len};
 ghost use Rattle.std.specs.List.{position};
 ghost use Rattle.std.specs.Option.{option_copied};
 ghost use Rattle.std.specs.Str.{bytes_eq};
 ghost use Rattle.ubtool_files.specs.FailureCounts.{CountsFault};
-ghost use Rattle.ubtool_files.specs.MemoryFiles.{Gives, IsUnlessMemory, call_of, failing_of, faults_of, file_of, is_due, part_answer, put, reaches, memory_files_shown, taken, whole_answer, with_file, write_answer};
+ghost use Rattle.ubtool_files.specs.MemoryFiles.{Gives, IsUnlessMemory, call_of, failing_of, faults_of, file_of, is_due, is_locked, part_answer, put, reaches, memory_files_shown, taken, whole_answer, with_file, write_answer};
 ghost use Rattle.ubtool_files.specs.Told.{ReadsAll, ReadsAt, WritesAt, calls_after, file_at, overwritten, read_limit};
 ghost use Rattle.ubtool_files.specs.declared.files.FileFault.TheVariants.{Memory, Short, TooLong};
 
@@ -33,6 +33,7 @@ pub struct MemoryFiles {
     calls: Vec<Call>,
     failing: Option<usize>,
     faults: u64,
+    locked: bool,
 }
 
 /// The place of the first file of this path.
@@ -86,12 +87,14 @@ impl MemoryFiles {
         ensures empty { memory_files_shown result ≡ record { stored = []; calls = [] } }
         ensures failing { failing_of result ≡ failing }
         ensures sound { faults_of result ≡ 0 }
+        ensures unlocked { is_locked result ≡ false }
     {
         MemoryFiles {
             files: Vec::new(alloc),
             calls: Vec::new(alloc),
             failing,
             faults: 0,
+            locked: false,
         }
     }
 
@@ -102,6 +105,7 @@ impl MemoryFiles {
         ensures err { OnErr result (memory_files_shown self.new ≡ memory_files_shown self.old) }
         ensures failing { failing_of self.new ≡ failing_of self.old }
         ensures sound { faults_of self.new ≡ faults_of self.old }
+        ensures lock { is_locked self.new ≡ is_locked self.old }
     {
         let alloc = *self.files.allocator();
         let file = MemoryFile {
@@ -125,6 +129,13 @@ impl MemoryFiles {
         ensures { map call_of result.now ≡ (memory_files_shown self.now).calls }
     {
         &self.calls
+    }
+
+    /// Whether the lock was taken.
+    pub fn is_locked(&self) -> bool
+        ensures { result ≡ is_locked self.now }
+    {
+        self.locked
     }
 
     /// Whether the next call is the one that is to fail.
@@ -188,6 +199,7 @@ impl MemoryFiles {
         ensures calls { (memory_files_shown self.new).calls
             ≡ calls_after (memory_files_shown self.old).calls path.now action result }
         ensures stored { (memory_files_shown self.new).stored ≡ (memory_files_shown self.old).stored }
+        ensures lock { is_locked self.new ≡ is_locked self.old }
     {
         if let Err(FileFault::Memory) = answer {
             return answer;
@@ -208,10 +220,17 @@ impl Files for MemoryFiles {
 
     ghost told = { λ m. Some (memory_files_shown m) };
 
+    ghost locked = { is_locked };
+
+    fn lock(&mut self) {
+        self.locked = true;
+    }
+
     fn read_all(&mut self, alloc: Global, path: &str) -> Result<Vec<u8>, FileFault>
         ensures count { CountsFault (faults_of self.old) (faults_of self.new) result }
         ensures bound { IfOk result (λ bytes. vec_len bytes ≤ read_limit) }
         ensures never_short { result ≢ Err Short }
+        ensures lock { is_locked self.new ≡ is_locked self.old }
         ensures told { ReadsAll path.now (memory_files_shown self.old) (memory_files_shown self.new) result }
         ensures exact { Gives (whole_answer (is_due self.old) (file_at path.now (memory_files_shown self.old).stored)) result }
     {
@@ -229,6 +248,7 @@ impl Files for MemoryFiles {
         ensures count { CountsFault (faults_of self.old) (faults_of self.new) result }
         ensures size { IfOk result (λ bytes. vec_len bytes ≡ size) }
         ensures never_long { result ≢ Err TooLong }
+        ensures lock { is_locked self.new ≡ is_locked self.old }
         ensures told { ReadsAt path.now offset size (memory_files_shown self.old) (memory_files_shown self.new) result }
         ensures exact { Gives (part_answer (is_due self.old) (file_at path.now (memory_files_shown self.old).stored) offset size) result }
     {
@@ -241,6 +261,7 @@ impl Files for MemoryFiles {
         ensures count { CountsFault (faults_of self.old) (faults_of self.new) result }
         ensures never_short { result ≢ Err Short }
         ensures never_long { result ≢ Err TooLong }
+        ensures lock { is_locked self.new ≡ is_locked self.old }
         ensures told { WritesAt path.now offset bytes.now (memory_files_shown self.old) (memory_files_shown self.new) result }
         ensures exact { IsUnlessMemory (write_answer (is_due self.old) (file_at path.now (memory_files_shown self.old).stored) offset bytes.now) result }
         ensures kept { result ≢ Err Memory → (memory_files_shown self.new).stored

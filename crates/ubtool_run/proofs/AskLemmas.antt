@@ -10,7 +10,7 @@ use Rattle.rehearse.specs.Asking.{Listed}
 use Rattle.rehearse.specs.Bounds.{BoundsShown, bounds_of}
 use Rattle.ubtool_cli.specs.CommandAnswers.{Answers, asked, meaning_of}
 use Rattle.ubtool_cli.specs.Asked.{Asked, asked_of, bounds_asked, endings_asked, endings_with, run_bounds_asked, change_asked, config_of, header_needs_one, input_scripted, is_set, listing_asked, number_within, order_of, print_asked, printing, rehearsal_of, rehearsal_with, rehearse_asked, scripted, set_asked, too_many_devices, values_of, wanted_by, word_asked}
-use Rattle.ubtool_cli.specs.CommandLine.{most_failures, most_records, most_states, ubtool}
+use Rattle.command_line.specs.CommandLine.{most_failures, most_records, most_states, ubtool}
 use Rattle.ubtool_cli.specs.declared.called.CalledAs.{CalledAs}
 use Rattle.ubtool_cli.specs.declared.called.CalledAs.TheVariants.{FwTool, Ubtool}
 use Rattle.ubtool_cli.specs.declared.ask.Ask.{Ask}

@@ -8,6 +8,7 @@ use Rattle.ubtool_cli.specs.declared.ask.EndingsAsk.{EndingsAsk}
 use Rattle.ubtool_core.specs.EndingsOfImages.{RefusesEndings, TellsEndings}
 use Rattle.ubtool_core.specs.Given.{Given, given_all}
 use Rattle.ubtool_core.specs.declared.error.ToolError.{ToolError}
+use Rattle.rehearse_runs.specs.declared.rehearse_error.RehearseError.TheVariants as rehearsal
 use Rattle.ubtool_core.specs.declared.error.ToolError.TheVariants as tool
 use Rattle.ubtool_core.specs.declared.fault.Fault.{Fault}
 use Rattle.ubtool_core.specs.declared.fault.Fault.TheVariants as fault
@@ -77,10 +78,13 @@ pub tells-refused : (order : ByteOrder) (config list : List ℕ) (what : Endings
 tells-refused order config list what out out' found text x y z (tool.Image error) read listed h = from-files order config list what found text x y z (λ g. RefusesEndings g what.flow what.states out out' (tool.Image error)) read listed h
 tells-refused order config list what out out' found text x y z (tool.Env error) read listed h = absurd h
 tells-refused order config list what out out' found text x y z (tool.Script error) read listed h = absurd h
-tells-refused order config list what out out' found text x y z (tool.Devices error) read listed h = from-files order config list what found text x y z (λ g. RefusesEndings g what.flow what.states out out' (tool.Devices error)) read listed h
-tells-refused order config list what out out' found text x y z tool.NoSuchVariable read listed h = (refl, from-files order config list what found text x y z (λ g. RefusesEndings g what.flow what.states out out' tool.NoSuchVariable) read listed h)
-tells-refused order config list what out out' found text x y z tool.NotARun read listed h = absurd h
-tells-refused order config list what out out' found text x y z tool.States read listed h = from-files order config list what found text x y z (λ g. RefusesEndings g what.flow what.states out out' tool.States) read listed h
+tells-refused order config list what out out' found text x y z (tool.Rehearsal (rehearsal.DeviceList error)) read listed h = from-files order config list what found text x y z (λ g. RefusesEndings g what.flow what.states out out' (tool.Rehearsal (rehearsal.DeviceList error))) read listed h
+tells-refused order config list what out out' found text x y z (tool.Rehearsal rehearsal.NoSuchVariable) read listed h = (refl, from-files order config list what found text x y z (λ g. RefusesEndings g what.flow what.states out out' (tool.Rehearsal rehearsal.NoSuchVariable)) read listed h)
+tells-refused order config list what out out' found text x y z (tool.Rehearsal rehearsal.NotARun) read listed h = absurd h
+tells-refused order config list what out out' found text x y z (tool.Rehearsal rehearsal.Write) read listed h = absurd h
+tells-refused order config list what out out' found text x y z (tool.Rehearsal rehearsal.Memory) read listed h = absurd h
+tells-refused order config list what out out' found text x y z (tool.Rehearsal rehearsal.Failed) read listed h = absurd h
+tells-refused order config list what out out' found text x y z (tool.Rehearsal rehearsal.States) read listed h = from-files order config list what found text x y z (λ g. RefusesEndings g what.flow what.states out out' (tool.Rehearsal rehearsal.States)) read listed h
 tells-refused order config list what out out' found text x y z tool.Write read listed h = from-files order config list what found text x y z (λ g. RefusesEndings g what.flow what.states out out' tool.Write) read listed h
 tells-refused order config list what out out' found text x y z tool.Memory read listed h = (only-read config list found text x y z read listed, h.1)
 
@@ -108,9 +112,12 @@ pub leaves-untold : (g : Given) (what : EndingsAsk) (out out' : Sink) (error : T
 leaves-untold g what out out' (tool.Image error) h = h.1
 leaves-untold g what out out' (tool.Env error) h = absurd h
 leaves-untold g what out out' (tool.Script error) h = absurd h
-leaves-untold g what out out' (tool.Devices error) h = h.2
-leaves-untold g what out out' tool.NoSuchVariable h = h.1
-leaves-untold g what out out' tool.NotARun h = absurd h
-leaves-untold g what out out' tool.States h = h.1
+leaves-untold g what out out' (tool.Rehearsal (rehearsal.DeviceList error)) h = h.2
+leaves-untold g what out out' (tool.Rehearsal rehearsal.NoSuchVariable) h = h.1
+leaves-untold g what out out' (tool.Rehearsal rehearsal.NotARun) h = absurd h
+leaves-untold g what out out' (tool.Rehearsal rehearsal.Write) h = absurd h
+leaves-untold g what out out' (tool.Rehearsal rehearsal.Memory) h = absurd h
+leaves-untold g what out out' (tool.Rehearsal rehearsal.Failed) h = absurd h
+leaves-untold g what out out' (tool.Rehearsal rehearsal.States) h = h.1
 leaves-untold g what out out' tool.Write h = h.so.2.failed
 leaves-untold g what out out' tool.Memory h = ap (λ (s : Sink). s.failures) h.1

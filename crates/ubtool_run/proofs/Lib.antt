@@ -7,3 +7,4 @@ pub mod AskLemmas
 pub mod RunLemmas
 pub mod RehearseLemmas
 pub mod EndingsLemmas
+mod LockExamples

@@ -7,7 +7,7 @@ use Rattle.ubtool_core.specs.PrintingImages.{Prints}
 use Rattle.output.specs.Outputs.{Outputs}
 use Rattle.ubtool_files.specs.Told.{Told}
 use Rattle.ubtool_core.specs.declared.error.ToolError.{ToolError}
-use Rattle.ubtool_core.specs.declared.error.ToolError.TheVariants.{Image, Env, Script, Devices, NoSuchVariable, NotARun, States, Write, Memory}
+use Rattle.ubtool_core.specs.declared.error.ToolError.TheVariants.{Image, Env, Script, Rehearsal, Write, Memory}
 use Rattle.ubtool_core.specs.declared.fault.Fault.{Fault}
 use Rattle.ubtool_core.specs.declared.fault.Fault.TheVariants as fault
 use Rattle.ubtool_run.proofs.ReadingLemmas.{found-reads}
@@ -24,10 +24,7 @@ copies-refused order found names header outputs Write h = h
 copies-refused order found names header outputs Memory h = h.1
 copies-refused order found names header outputs (Env error) h = absurd h
 copies-refused order found names header outputs (Script error) h = absurd h
-copies-refused order found names header outputs (Devices error) h = absurd h
-copies-refused order found names header outputs NoSuchVariable h = absurd h
-copies-refused order found names header outputs NotARun h = absurd h
-copies-refused order found names header outputs States h = absurd h
+copies-refused order found names header outputs (Rehearsal error) h = absurd h
 
 -- images that were refused
 pub prints-unread : (order : ByteOrder) (config : List ℕ) (names : List (List ℕ)) (header : Bool) (outputs : Outputs) (old new : Told) (f : Fault) → ReadsImages config old new (Err f)
@@ -53,10 +50,7 @@ prints-read order config names header outputs old new found (Err (fault.Tool Wri
 prints-read order config names header outputs old new found (Err (fault.Tool Memory)) read h = absurd h
 prints-read order config names header outputs old new found (Err (fault.Tool (Env error))) read h = absurd h
 prints-read order config names header outputs old new found (Err (fault.Tool (Script error))) read h = absurd h
-prints-read order config names header outputs old new found (Err (fault.Tool (Devices error))) read h = absurd h
-prints-read order config names header outputs old new found (Err (fault.Tool NoSuchVariable)) read h = absurd h
-prints-read order config names header outputs old new found (Err (fault.Tool NotARun)) read h = absurd h
-prints-read order config names header outputs old new found (Err (fault.Tool States)) read h = absurd h
+prints-read order config names header outputs old new found (Err (fault.Tool (Rehearsal error))) read h = absurd h
 prints-read order config names header outputs old new found (Err (fault.Config error)) read h = absurd h
 prints-read order config names header outputs old new found (Err (fault.CannotRead path)) read h = absurd h
 prints-read order config names header outputs old new found (Err (fault.CannotWrite path)) read h = absurd h

@@ -17,6 +17,7 @@ use Rattle.ubtool_files.specs.CallOrder.{OnlyReads}
 use Rattle.ubtool_core.specs.Refusing.{Refuses}
 use Rattle.ubtool_files.specs.Told.{Stored, Told, file_at}
 use Rattle.ubtool_core.specs.declared.error.ToolError.{ToolError}
+use Rattle.rehearse_runs.specs.declared.rehearse_error.RehearseError.TheVariants as rehearsal
 use Rattle.ubtool_core.specs.declared.error.ToolError.TheVariants as tool
 use Rattle.ubtool_core.specs.declared.fault.Fault.{Fault}
 use Rattle.ubtool_core.specs.declared.fault.Fault.TheVariants as fault
@@ -83,7 +84,7 @@ pub rehearses-found : (order : ByteOrder) (config list : List ℕ) (what : Rehea
 rehearses-found order config list what out out' found text x y z finish read listed h = (refl, from-files order config list what found text x y z (λ g. (f : Finish) × Rehearses g out out' f) read listed (finish, h))
 
 no-run : (order : ByteOrder) (config list : List ℕ) (what : RehearseAsk) (out out' : Sink) (x z : Told) (given : Option (String Global)) → word_of what.wanted ≡ given
-    → FromFiles order config list what x z (λ g. Refuses g out out' tool.NotARun) → RehearsesFrom order config list what out out' x z (Err (no_run_of given))
+    → FromFiles order config list what x z (λ g. Refuses g out out' (tool.Rehearsal rehearsal.NotARun)) → RehearsesFrom order config list what out out' x z (Err (no_run_of given))
 no-run order config list what out out' x z None is h = h
 no-run order config list what out out' x z (Some word) is h = (ap (option_map path_form) (sym is), h)
 
@@ -92,11 +93,14 @@ pub rehearses-refused : (order : ByteOrder) (config list : List ℕ) (what : Reh
 rehearses-refused order config list what out out' found text x y z (tool.Image error) read listed h = from-files order config list what found text x y z (λ g. Refuses g out out' (tool.Image error)) read listed h
 rehearses-refused order config list what out out' found text x y z (tool.Env error) read listed h = absurd h
 rehearses-refused order config list what out out' found text x y z (tool.Script error) read listed h = absurd h
-rehearses-refused order config list what out out' found text x y z (tool.Devices error) read listed h = from-files order config list what found text x y z (λ g. Refuses g out out' (tool.Devices error)) read listed h
-rehearses-refused order config list what out out' found text x y z tool.NoSuchVariable read listed h = (refl, from-files order config list what found text x y z (λ g. Refuses g out out' tool.NoSuchVariable) read listed h)
-rehearses-refused order config list what out out' found text x y z tool.States read listed h = absurd h
-rehearses-refused order config list what out out' found text x y z tool.NotARun read listed h =
-    no-run order config list what out out' x z (word_of what.wanted) refl (from-files order config list what found text x y z (λ g. Refuses g out out' tool.NotARun) read listed h)
+rehearses-refused order config list what out out' found text x y z (tool.Rehearsal (rehearsal.DeviceList error)) read listed h = from-files order config list what found text x y z (λ g. Refuses g out out' (tool.Rehearsal (rehearsal.DeviceList error))) read listed h
+rehearses-refused order config list what out out' found text x y z (tool.Rehearsal rehearsal.NoSuchVariable) read listed h = (refl, from-files order config list what found text x y z (λ g. Refuses g out out' (tool.Rehearsal rehearsal.NoSuchVariable)) read listed h)
+rehearses-refused order config list what out out' found text x y z (tool.Rehearsal rehearsal.States) read listed h = absurd h
+rehearses-refused order config list what out out' found text x y z (tool.Rehearsal rehearsal.Write) read listed h = absurd h
+rehearses-refused order config list what out out' found text x y z (tool.Rehearsal rehearsal.Memory) read listed h = absurd h
+rehearses-refused order config list what out out' found text x y z (tool.Rehearsal rehearsal.Failed) read listed h = absurd h
+rehearses-refused order config list what out out' found text x y z (tool.Rehearsal rehearsal.NotARun) read listed h =
+    no-run order config list what out out' x z (word_of what.wanted) refl (from-files order config list what found text x y z (λ g. Refuses g out out' (tool.Rehearsal rehearsal.NotARun)) read listed h)
 rehearses-refused order config list what out out' found text x y z tool.Write read listed h = from-files order config list what found text x y z (λ g. Refuses g out out' tool.Write) read listed h
 rehearses-refused order config list what out out' found text x y z tool.Memory read listed h = inr (from-files order config list what found text x y z (λ g. RunsOut g out out') read listed h)
 
@@ -126,10 +130,7 @@ copies-rehearsed g out out' (Ok finish) ok err = ok
 copies-rehearsed g out out' (Err (tool.Image error)) ok err = err
 copies-rehearsed g out out' (Err (tool.Env error)) ok err = err
 copies-rehearsed g out out' (Err (tool.Script error)) ok err = err
-copies-rehearsed g out out' (Err (tool.Devices error)) ok err = err
-copies-rehearsed g out out' (Err tool.NoSuchVariable) ok err = err
-copies-rehearsed g out out' (Err tool.States) ok err = err
-copies-rehearsed g out out' (Err tool.NotARun) ok err = err
+copies-rehearsed g out out' (Err (tool.Rehearsal error)) ok err = err
 copies-rehearsed g out out' (Err tool.Write) ok err = err
 copies-rehearsed g out out' (Err tool.Memory) ok (inl same) = inl same.1
 copies-rehearsed g out out' (Err tool.Memory) ok (inr h) = inr h
@@ -137,7 +138,7 @@ copies-rehearsed g out out' (Err tool.Memory) ok (inr h) = inr h
 -- ---- the output, over any files
 
 pub leaves-found : (g : Given) (out out' : Sink) (finish : Finish) → RehearsesCopies g out out' (Ok finish) → LeavesOutput (Ok true) out out'
-leaves-found g out out' finish h = h.wrote.sound
+leaves-found g out out' finish h = h.so.wrote.sound
 
 leaves-no-run : (out out' : Sink) (after : Option (String Global)) → out' ≡ out → LeavesOutput (Err (no_run_of after)) out out'
 leaves-no-run out out' None same = same
@@ -147,10 +148,13 @@ pub leaves-refused : (g : Given) (what : RehearseAsk) (out out' : Sink) (error :
 leaves-refused g what out out' (tool.Image error) h = h.1
 leaves-refused g what out out' (tool.Env error) h = absurd h
 leaves-refused g what out out' (tool.Script error) h = absurd h
-leaves-refused g what out out' (tool.Devices error) h = h.2
-leaves-refused g what out out' tool.NoSuchVariable h = h.1
-leaves-refused g what out out' tool.States h = absurd h
-leaves-refused g what out out' tool.NotARun h = leaves-no-run out out' (word_of what.wanted) h.1
-leaves-refused g what out out' tool.Write h = h.broke.failed
+leaves-refused g what out out' (tool.Rehearsal (rehearsal.DeviceList error)) h = h.2
+leaves-refused g what out out' (tool.Rehearsal rehearsal.NoSuchVariable) h = h.1
+leaves-refused g what out out' (tool.Rehearsal rehearsal.States) h = absurd h
+leaves-refused g what out out' (tool.Rehearsal rehearsal.Write) h = absurd h
+leaves-refused g what out out' (tool.Rehearsal rehearsal.Memory) h = absurd h
+leaves-refused g what out out' (tool.Rehearsal rehearsal.Failed) h = absurd h
+leaves-refused g what out out' (tool.Rehearsal rehearsal.NotARun) h = leaves-no-run out out' (word_of what.wanted) h.1
+leaves-refused g what out out' tool.Write h = h.so.broke.failed
 leaves-refused g what out out' tool.Memory (inl same) = ap (λ (s : Sink). s.failures) same
-leaves-refused g what out out' tool.Memory (inr h) = h.wrote.sound
+leaves-refused g what out out' tool.Memory (inr h) = h.so.wrote.sound

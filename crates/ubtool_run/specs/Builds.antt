@@ -1,6 +1,6 @@
 -- What the version says of the build of a program. The processor is named as by uname, and the rest is ours.
 use Rattle.std.specs.Prelude.{◌++◌, ℕ, List, codes}
-use Rattle.ubtool_cli.specs.declared.ask.TheConstants.{VERSION}
+use Rattle.command_line.specs.declared.version.TheConstants.{VERSION}
 use Rattle.ubtool_run.specs.declared.build.Build.{Build}
 use Rattle.ubtool_run.specs.declared.build.Build.TheVariants.{Arm64, Arm64Static, X86_64}
 

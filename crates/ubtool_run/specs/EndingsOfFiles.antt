@@ -9,6 +9,7 @@ use Rattle.ubtool_core.specs.Errors.{tool_fault}
 use Rattle.ubtool_core.specs.FileFaults.{path_form}
 use Rattle.ubtool_core.specs.Given.{Given, given_all}
 use Rattle.ubtool_core.specs.declared.error.ToolError.{ToolError}
+use Rattle.rehearse_runs.specs.declared.rehearse_error.RehearseError.TheVariants as rehearsal
 use Rattle.ubtool_core.specs.declared.error.ToolError.TheVariants as tool
 use Rattle.ubtool_core.specs.declared.fault.Fault.{Fault}
 use Rattle.ubtool_core.specs.declared.fault.Fault.TheVariants.{Memory, NoSuchVariable, Tool}
@@ -25,7 +26,7 @@ endings_of order found device_list what =
 
 -- how a refusal is reported: a variable that is not set, by its name
 abbrev pub endings_refusal : EndingsAsk → ToolError → Fault
-endings_refusal what tool.NoSuchVariable = NoSuchVariable (path_form what.name)
+endings_refusal what (tool.Rehearsal rehearsal.NoSuchVariable) = NoSuchVariable (path_form what.name)
 endings_refusal what error = tool_fault error
 
 -- each answer to the endings of copies
@@ -51,6 +52,6 @@ TellsFrom order config device_list what out out' old new (Err (Tool error)) =
     FromFiles order config device_list what old new (λ g. RefusesEndings g what.flow what.states out out' error)
 TellsFrom order config device_list what out out' old new (Err (NoSuchVariable name)) =
     (name ≡ path_form what.name) × FromFiles order config device_list what old new (λ g.
-    RefusesEndings g what.flow what.states out out' tool.NoSuchVariable)
+    RefusesEndings g what.flow what.states out out' (tool.Rehearsal rehearsal.NoSuchVariable))
 TellsFrom order config device_list what out out' old new (Err fault) =
     OnlyReads old new × (IsImagesFault config old.stored fault ⊎ IsUnlisted config device_list old fault)

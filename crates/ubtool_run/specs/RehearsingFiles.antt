@@ -16,6 +16,7 @@ use Rattle.ubtool_files.specs.CallOrder.{OnlyReads}
 use Rattle.ubtool_core.specs.Refusing.{Refuses}
 use Rattle.ubtool_files.specs.Told.{Told, file_at}
 use Rattle.ubtool_core.specs.declared.error.ToolError.{ToolError}
+use Rattle.rehearse_runs.specs.declared.rehearse_error.RehearseError.TheVariants as rehearsal
 use Rattle.ubtool_core.specs.declared.error.ToolError.TheVariants as tool
 use Rattle.ubtool_core.specs.declared.fault.Fault.{Fault}
 use Rattle.ubtool_core.specs.declared.fault.Fault.TheVariants.{Memory, NoSuchVariable, NotARun, Tool}
@@ -36,12 +37,12 @@ word_of (Word bounds word) = Some word
 
 -- how a refusal is reported: a variable that is not set by its name, and a word that spells no run as it was given
 abbrev pub no_run_of : Option (String Global) → Fault
-no_run_of None = Tool tool.NotARun
+no_run_of None = Tool (tool.Rehearsal rehearsal.NotARun)
 no_run_of (Some word) = NotARun (path_form word)
 
 abbrev pub refusal_of : RehearseAsk → ToolError → Fault
-refusal_of what tool.NoSuchVariable = NoSuchVariable (path_form what.name)
-refusal_of what tool.NotARun = no_run_of (word_of what.wanted)
+refusal_of what (tool.Rehearsal rehearsal.NoSuchVariable) = NoSuchVariable (path_form what.name)
+refusal_of what (tool.Rehearsal rehearsal.NotARun) = no_run_of (word_of what.wanted)
 refusal_of what error = tool_fault error
 
 -- running out of memory leaves the output as it was, or whole records of the listing
@@ -92,10 +93,10 @@ RehearsesFrom order config device_list what out out' old new (Err (Tool error)) 
     FromFiles order config device_list what old new (λ g. Refuses g out out' error)
 RehearsesFrom order config device_list what out out' old new (Err (NoSuchVariable name)) =
     (name ≡ path_form what.name)
-    × FromFiles order config device_list what old new (λ g. Refuses g out out' tool.NoSuchVariable)
+    × FromFiles order config device_list what old new (λ g. Refuses g out out' (tool.Rehearsal rehearsal.NoSuchVariable))
 RehearsesFrom order config device_list what out out' old new (Err (NotARun word)) =
     (Some word ≡ option_map path_form (word_of what.wanted))
-    × FromFiles order config device_list what old new (λ g. Refuses g out out' tool.NotARun)
+    × FromFiles order config device_list what old new (λ g. Refuses g out out' (tool.Rehearsal rehearsal.NotARun))
 RehearsesFrom order config device_list what out out' old new (Err fault) =
     OnlyReads old new × (IsImagesFault config old.stored fault ⊎ IsUnlisted config device_list old fault)
 

@@ -12,14 +12,16 @@ use Rattle.ubtool_core.specs.declared.fault.Fault.{Fault}
 use Rattle.ubtool_run.specs.Faults.{CountsTold}
 use Rattle.ubtool_run.specs.declared.starting.StartError.{StartError}
 
--- What the files show at a moment: how often the device has failed, and what is in the files, if that is known.
+-- What the files show at a moment: how often the device has failed, what is in the files, if that is known, and whether
+-- the lock was taken.
 pub record FilesShown : Type 0 where
   pub faults : ℕ
   pub told : Option Told
+  pub locked : Bool
 
 -- what some files show
 abbrev pub files_shown : {F : Type 0} → Ghosts F → F → FilesShown
-files_shown g files = record { faults = g.faults files; told = g.told files }
+files_shown g files = record { faults = g.faults files; told = g.told files; locked = g.locked files }
 
 -- Status 0: the words ask for something, and it was done; no call on files failed.
 pub record HasDone {Ask : Type 0} (Answers : List Text → Result Ask UseError → Type 0)
@@ -55,13 +57,14 @@ abbrev pub Tells : UseError → Sink → Sink → Type 0
 Tells (Line text) old new = Wrote old new (string_bytes text) ⊎ BrokeOff old new (string_bytes text)
 Tells error old new = Unit {0}
 
--- Status 2: the words were refused. No file was touched, and nothing was printed.
+-- Status 2: the words were refused. No file was touched, no lock was taken, and nothing was printed.
 pub record IsMisused {Ask : Type 0} (Answers : List Text → Result Ask UseError → Type 0)
     (words : List Text) (before after : FilesShown) (outputs : Outputs) : Type 0 where
   pub error : UseError
   pub refused : Answers words (Err error)
   pub sound : after.faults ≡ before.faults
   pub files : after.told ≡ before.told
+  pub lock : after.locked ≡ before.locked
   pub output : outputs.out' ≡ outputs.out
   pub tells : Tells error outputs.err outputs.err'
 

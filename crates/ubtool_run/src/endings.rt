@@ -12,7 +12,7 @@ use envimage::ByteOrder;
 use output::Out;
 use std::alloc::Global;
 use ubtool_cli::EndingsAsk;
-use ubtool_core::{Fault, ToolError, WordForm, endings_bytes};
+use ubtool_core::{Fault, RehearseError, ToolError, WordForm, endings_bytes};
 use ubtool_files::Files;
 
 /// How a refusal of the endings is reported.
@@ -20,7 +20,9 @@ fn refusal_of(error: ToolError, what: EndingsAsk) -> Fault
     ensures { result ≡ endings_refusal what error }
 {
     match error {
-        ToolError::NoSuchVariable => Fault::NoSuchVariable(WordForm(what.name)),
+        ToolError::Rehearsal(RehearseError::NoSuchVariable) => {
+            Fault::NoSuchVariable(WordForm(what.name))
+        }
         error => error.into(),
     }
 }
@@ -66,6 +68,7 @@ pub fn endings<F: Files, O: Out>(
     out: &mut O,
 ) -> Result<bool, Fault>
     ensures count { CountsTold (F.faults files.old) (F.faults files.new) result }
+    ensures lock { F.locked files.new ≡ F.locked files.old }
     ensures told { IfTold (F.told files.old) (F.told files.new) (λ old new.
         TellsFrom order (string_bytes config) (string_bytes device_list) what (O.sink out.old) (O.sink out.new) old new result) }
     ensures output { LeavesOutput result (O.sink out.old) (O.sink out.new) }

@@ -1,5 +1,5 @@
 //! The images that a configuration names.
-ghost use Rattle.std.specs.Prelude.{IfErr, string_bytes};
+ghost use Rattle.std.specs.Prelude.{◌≡◌, IfErr, string_bytes};
 ghost use Rattle.envimage.specs.Config.{places};
 ghost use Rattle.ubtool_files.specs.Told.{IfTold};
 ghost use Rattle.ubtool_run.specs.Faults.{CountsTold, IsReadFault};
@@ -57,6 +57,7 @@ fn read_second<F: Files>(
     place: Option<Place>,
 ) -> Result<Option<StoredCopy>, Fault>
     ensures count { CountsTold (F.faults files.old) (F.faults files.new) result }
+    ensures lock { F.locked files.new ≡ F.locked files.old }
     ensures fault { IfErr result IsReadFault }
     ensures told { IfTold (F.told files.old) (F.told files.new)
         (λ old new. ReadsSecond place old new result) }
@@ -74,6 +75,7 @@ fn read_second<F: Files>(
 /// second.
 pub fn read_images<F: Files>(alloc: Global, files: &mut F, config: String) -> Result<Images, Fault>
     ensures count { CountsTold (F.faults files.old) (F.faults files.new) result }
+    ensures lock { F.locked files.new ≡ F.locked files.old }
     ensures fault { IfErr result IsReadFault }
     ensures told { IfTold (F.told files.old) (F.told files.new)
         (λ old new. ReadsImages (string_bytes config) old new result) }

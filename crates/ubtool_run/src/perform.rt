@@ -2,6 +2,7 @@
 ghost use Rattle.output.specs.Outputs.{outputs};
 ghost use Rattle.ubtool_run.specs.Performing.{Does, IsComplete};
 ghost use Rattle.ubtool_run.specs.Faults.{CountsTold};
+ghost use Rattle.ubtool_run.specs.Locking.{LocksFor};
 
 use crate::build::Build;
 use crate::endings::endings;
@@ -17,8 +18,9 @@ use ubtool_cli::Ask;
 use ubtool_core::Fault;
 use ubtool_files::Files;
 
-/// Does what is asked for. A script of changes may be on `input`, and the version names `build`.
-/// Returns false if a variable that was to be printed is missing.
+/// Does what is asked for. Takes the lock for a change, before its first read, and for nothing else.
+/// A script of changes may be on `input`, and the version names `build`. Returns false if a variable
+/// that was to be printed is missing.
 pub fn perform<R: Read, F: Files, O: Out, E: Out>(
     alloc: Global,
     build: Build,
@@ -30,6 +32,7 @@ pub fn perform<R: Read, F: Files, O: Out, E: Out>(
 ) -> Result<bool, Fault>
     requires { IsComplete ask }
     ensures count { CountsTold (F.faults files.old) (F.faults files.new) result }
+    ensures lock { LocksFor ask (F.locked files.old) (F.locked files.new) }
     ensures does { Does build (R.remaining input.old) ask (F.told files.old) (F.told files.new)
         (outputs (O.sink out.old) (O.sink out.new) (E.sink err.old) (E.sink err.new)) result }
 {
@@ -43,10 +46,13 @@ pub fn perform<R: Read, F: Files, O: Out, E: Out>(
             config,
             change,
             order,
-        } => match set(alloc, input, files, config, change, order) {
-            Ok(()) => Ok(true),
-            Err(fault) => Err(fault),
-        },
+        } => {
+            files.lock();
+            match set(alloc, input, files, config, change, order) {
+                Ok(()) => Ok(true),
+                Err(fault) => Err(fault),
+            }
+        }
         Ask::Rehearse {
             config,
             devices_file,

@@ -62,6 +62,7 @@ pub fn print<F: Files, O: Out, E: Out>(
 ) -> Result<bool, Fault>
     requires { what.now.header ≡ false → length what.now.names.items ≡ 1 }
     ensures count { CountsTold (F.faults files.old) (F.faults files.new) result }
+    ensures lock { F.locked files.new ≡ F.locked files.old }
     ensures told { IfTold (F.told files.old) (F.told files.new) (λ old new.
         PrintsFrom order (string_bytes config) (map string_bytes what.now.names.items) what.now.header
         (outputs (O.sink out.old) (O.sink out.new) (E.sink err.old) (E.sink err.new)) old new result) }

@@ -23,6 +23,7 @@ pub struct StoredCopy {
 /// Reads the whole file at the path.
 pub fn read_text<F: Files>(alloc: Global, files: &mut F, path: String) -> Result<Vec<u8>, Fault>
     ensures count { CountsTold (F.faults files.old) (F.faults files.new) result }
+    ensures lock { F.locked files.new ≡ F.locked files.old }
     ensures fault { IfErr result IsReadFault }
     ensures told { IfTold (F.told files.old) (F.told files.new)
         (λ old new. ReadsText (string_bytes path) old new result) }
@@ -51,6 +52,7 @@ pub fn read_input<R: Read>(alloc: Global, input: &mut R) -> Result<Vec<u8>, Faul
 /// Reads the copy at a place.
 pub fn read_copy<F: Files>(alloc: Global, files: &mut F, place: Place) -> Result<StoredCopy, Fault>
     ensures count { CountsTold (F.faults files.old) (F.faults files.new) result }
+    ensures lock { F.locked files.new ≡ F.locked files.old }
     ensures place { IfOk result (λ copy. copy.place ≡ place) }
     ensures fault { IfErr result IsReadFault }
     ensures told { IfTold (F.told files.old) (F.told files.new)

@@ -15,7 +15,7 @@ use envimage::ByteOrder;
 use output::Out;
 use std::alloc::Global;
 use ubtool_cli::{RehearseAsk, Wanted};
-use ubtool_core::{Fault, Finish, ToolError, WordForm, rehearse_bytes};
+use ubtool_core::{Fault, Finish, RehearseError, ToolError, WordForm, rehearse_bytes};
 use ubtool_files::Files;
 
 /// The word of the one run that is asked for, if there is one.
@@ -33,8 +33,12 @@ fn refusal_of(error: ToolError, what: RehearseAsk) -> Fault
     ensures { result ≡ refusal_of what error }
 {
     match (error, word_of(what.wanted)) {
-        (ToolError::NoSuchVariable, _) => Fault::NoSuchVariable(WordForm(what.name)),
-        (ToolError::NotARun, Some(word)) => Fault::NotARun(WordForm(word)),
+        (ToolError::Rehearsal(RehearseError::NoSuchVariable), _) => {
+            Fault::NoSuchVariable(WordForm(what.name))
+        }
+        (ToolError::Rehearsal(RehearseError::NotARun), Some(word)) => {
+            Fault::NotARun(WordForm(word))
+        }
         (error, _) => error.into(),
     }
 }
@@ -114,6 +118,7 @@ pub fn rehearse<F: Files, O: Out>(
     out: &mut O,
 ) -> Result<bool, Fault>
     ensures count { CountsTold (F.faults files.old) (F.faults files.new) result }
+    ensures lock { F.locked files.new ≡ F.locked files.old }
     ensures told { IfTold (F.told files.old) (F.told files.new) (λ old new.
         RehearsesFrom order (string_bytes config) (string_bytes device_list) what (O.sink out.old) (O.sink out.new) old new result) }
     ensures output { LeavesOutput result (O.sink out.old) (O.sink out.new) }

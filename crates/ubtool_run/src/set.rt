@@ -1,5 +1,5 @@
 //! `setenv`, from files to one write.
-ghost use Rattle.std.specs.Prelude.{string_bytes};
+ghost use Rattle.std.specs.Prelude.{◌≡◌, IsTrue, string_bytes};
 ghost use Rattle.envimage.specs.Place.{place_shown};
 ghost use Rattle.ubtool_files.specs.Told.{IfTold};
 ghost use Rattle.ubtool_run.specs.Faults.{CountsTold};
@@ -40,6 +40,7 @@ fn changed_copy<R: Read, F: Files>(
     change: Change,
 ) -> Result<(Which, Vec<u8>), Fault>
     ensures count { CountsTold (F.faults files.old) (F.faults files.new) result }
+    ensures lock { F.locked files.new ≡ F.locked files.old }
     ensures told { IfTold (F.told files.old) (F.told files.new)
         (λ old new. Edits (R.remaining input.old) order change (copies images.now) old new result) }
 {
@@ -74,14 +75,16 @@ fn place_of(images: Images, which: Which) -> Place
     }
 }
 
-/// Writes the bytes of a copy at its place, in one call.
+/// Writes the bytes of a copy at its place, in one call, under the lock.
 fn write_copy<F: Files>(
     files: &mut F,
     images: Images,
     which: Which,
     bytes: &[u8],
 ) -> Result<(), Fault>
+    requires { IsTrue (F.locked files.old) }
     ensures count { CountsTold (F.faults files.old) (F.faults files.new) result }
+    ensures lock { F.locked files.new ≡ F.locked files.old }
     ensures told { IfTold (F.told files.old) (F.told files.new)
         (λ old new. WritesCopy which (copies images) bytes.now old new result) }
 {
@@ -92,9 +95,9 @@ fn write_copy<F: Files>(
     }
 }
 
-/// Changes the environment in the images that a configuration names. Reads the images, then the
-/// script, if there is one, from its file or from the input. At the end writes one copy; of a pair
-/// it is not the current one.
+/// Changes the environment in the images that a configuration names, all of it under the lock. Reads
+/// the images, then the script, if there is one, from its file or from the input. At the end writes
+/// one copy; of a pair it is not the current one.
 pub fn set<R: Read, F: Files>(
     alloc: Global,
     input: &mut R,
@@ -103,7 +106,9 @@ pub fn set<R: Read, F: Files>(
     change: Change,
     order: ByteOrder,
 ) -> Result<(), Fault>
+    requires { IsTrue (F.locked files.old) }
     ensures count { CountsTold (F.faults files.old) (F.faults files.new) result }
+    ensures lock { F.locked files.new ≡ F.locked files.old }
     ensures told { IfTold (F.told files.old) (F.told files.new)
         (λ old new. Sets (R.remaining input.old) order (string_bytes config) change old new result) }
 {

@@ -3,8 +3,8 @@ ghost use Rattle.ubtool_run.specs.Performing.{Helps};
 ghost use Rattle.ubtool_run.specs.Builds.{line_of, version_line};
 
 use crate::build::Build;
+use command_line::VERSION;
 use output::{Out, write_all, write_parts};
-use ubtool_cli::VERSION;
 use ubtool_core::{Fault, ToolError};
 
 /// Writes a help text.

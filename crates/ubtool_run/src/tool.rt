@@ -1,11 +1,8 @@
 //! The whole program.
-ghost use Rattle.std.specs.Prelude.{◌≡◌, ◌<◌, ◌≤◌, [], length, map};
-ghost use Rattle.output.specs.Sink.{Wrote};
-ghost use Rattle.ubtool_core.specs.Input.{PrintsInput, RefusesInput};
+ghost use Rattle.std.specs.Prelude.{◌≡◌, ◌<◌, length, map};
 ghost use Rattle.output.specs.Outputs.{outputs};
-ghost use Rattle.ubtool_cli.specs.CommandAnswers.{Answers};
-ghost use Rattle.ubtool_run.specs.Performing.{Does};
-ghost use Rattle.ubtool_run.specs.Running.{HasDone, HasRefused, IsMisused, files_shown};
+ghost use Rattle.ubtool_run.specs.Running.{files_shown};
+ghost use Rattle.ubtool_run.specs.WholeProgram.{HasEnded, HasPrinted};
 
 use crate::build::Build;
 use crate::ending::{refuse, status_of};
@@ -32,13 +29,9 @@ fn run_words<S: AsStr, R: Read, F: Files, O: Out, E: Out>(
     out: &mut O,
     err: &mut E,
 ) -> u8
-    ensures status { result ≤ 2 }
-    ensures done { result ≡ 0 → HasDone (Answers called) (Does build (R.remaining input.old)) (map S.text words.now) (files_shown F.Files files.old) (files_shown F.Files files.new)
-        (outputs (O.sink out.old) (O.sink out.new) (E.sink err.old) (E.sink err.new)) }
-    ensures refused { result ≡ 1 → HasRefused (Answers called) (Does build (R.remaining input.old)) (map S.text words.now) (files_shown F.Files files.old) (files_shown F.Files files.new)
-        (outputs (O.sink out.old) (O.sink out.new) (E.sink err.old) (E.sink err.new)) }
-    ensures misused { result ≡ 2 → IsMisused (Answers called) (map S.text words.now) (files_shown F.Files files.old) (files_shown F.Files files.new)
-        (outputs (O.sink out.old) (O.sink out.new) (E.sink err.old) (E.sink err.new)) }
+    ensures { HasEnded called build (R.remaining input.old)
+        (map S.text words.now) (files_shown F.Files files.old) (files_shown F.Files files.new)
+        (outputs (O.sink out.old) (O.sink out.new) (E.sink err.old) (E.sink err.new)) result }
 {
     match read_command(alloc, called, words) {
         Ok(ask) => {
@@ -57,7 +50,8 @@ fn run_words<S: AsStr, R: Read, F: Files, O: Out, E: Out>(
 /// as one of U-Boot's tools, the script of `-s -` is read from `input`. The version names `build`.
 /// The status is 0 if all was done, 1 if something was refused or a variable to be printed is
 /// missing, and 2 if the words were not understood. A fault is reported on `err` in one line. If
-/// `err` fails, nothing more is written there.
+/// `err` fails, nothing more is written there. A change is made under the lock, and nothing else
+/// takes it.
 pub fn run_tool<S: AsStr, R: Read, F: Files, O: Out, E: Out>(
     alloc: Global,
     build: Build,
@@ -68,17 +62,12 @@ pub fn run_tool<S: AsStr, R: Read, F: Files, O: Out, E: Out>(
     out: &mut O,
     err: &mut E,
 ) -> u8
-    ensures status { result ≤ 2 }
-    ensures printed { length words.now ≡ 0 → result ≡ 0 → PrintsInput (R.remaining input.old) (O.sink out.old) (O.sink out.new) }
-    ensures quiet { length words.now ≡ 0 → result ≡ 0 → Wrote (E.sink err.old) (E.sink err.new) [] }
-    ensures refused_input { length words.now ≡ 0 → result ≡ 1 → RefusesInput (R.remaining input.old) (O.sink out.old) (O.sink out.new) }
-    ensures untouched { length words.now ≡ 0 → (F.told files.new ≡ F.told files.old) × (F.faults files.new ≡ F.faults files.old) }
-    ensures done { 0 < length words.now → result ≡ 0 → HasDone (Answers called) (Does build (R.remaining input.old)) (map S.text words.now) (files_shown F.Files files.old) (files_shown F.Files files.new)
-        (outputs (O.sink out.old) (O.sink out.new) (E.sink err.old) (E.sink err.new)) }
-    ensures refused { 0 < length words.now → result ≡ 1 → HasRefused (Answers called) (Does build (R.remaining input.old)) (map S.text words.now) (files_shown F.Files files.old) (files_shown F.Files files.new)
-        (outputs (O.sink out.old) (O.sink out.new) (E.sink err.old) (E.sink err.new)) }
-    ensures misused { result ≡ 2 → IsMisused (Answers called) (map S.text words.now) (files_shown F.Files files.old) (files_shown F.Files files.new)
-        (outputs (O.sink out.old) (O.sink out.new) (E.sink err.old) (E.sink err.new)) }
+    ensures input { length words.now ≡ 0 → HasPrinted (R.remaining input.old)
+        (files_shown F.Files files.old) (files_shown F.Files files.new)
+        (outputs (O.sink out.old) (O.sink out.new) (E.sink err.old) (E.sink err.new)) result }
+    ensures words { 0 < length words.now → HasEnded called build (R.remaining input.old)
+        (map S.text words.now) (files_shown F.Files files.old) (files_shown F.Files files.new)
+        (outputs (O.sink out.old) (O.sink out.new) (E.sink err.old) (E.sink err.new)) result }
 {
     if words.is_empty() {
         run_input(alloc, input, out, err)

@@ -1,0 +1,48 @@
+//! The lock in a folder that the words name.
+ghost use Rattle.std.specs.Prelude.{◌≡◌};
+ghost use Rattle.ubtool.specs.declared.folder_lock.LockError.TheVariants.{Memory};
+
+use std::alloc::{AllocError, Global};
+use std::fs::File;
+use std::rt;
+use thiserror::Error;
+use ubtool_core::WordForm;
+use ubtool_files::lock_file;
+
+/// Why the lock in a folder is not taken. The texts are those of U-Boot's tools.
+#[derive(Debug, Drop, Error)]
+pub enum LockError {
+    /// The lock file can neither be made nor opened, or is not a plain file.
+    #[error("Error opening lock file {0}")]
+    NoFile(WordForm),
+    /// The lock file cannot be locked.
+    #[error("Error locking file {0}")]
+    NoLock(WordForm),
+    /// Memory ran out.
+    #[error("out of memory")]
+    Memory,
+}
+
+impl From<AllocError> for LockError {
+    ghost from_gives = { λ _ e. e ≡ Memory };
+
+    fn from(_error: AllocError) -> LockError {
+        LockError::Memory
+    }
+}
+
+/// Takes the lock in a folder, once no other call holds it. Errors: `NoFile`, `NoLock`, `Memory`.
+pub fn lock_in<R: rt::Files<File = File>>(
+    rt: &R,
+    alloc: Global,
+    folder: &str,
+) -> Result<File, LockError> {
+    let path = format!(in alloc; "{folder}/fw_printenv.lock")?;
+    let Some(file) = lock_file(rt, &path) else {
+        return Err(LockError::NoFile(WordForm(path)));
+    };
+    match file.lock() {
+        Ok(()) => Ok(file),
+        Err(_) => Err(LockError::NoLock(WordForm(path))),
+    }
+}
