@@ -43,7 +43,7 @@ fn check_bytes<O: Out>(
     ensures { ChecksText (environment_in order first.now (option_copied second.entry)) (map (λ n. n.now) names.now) (O.sink out.old) (O.sink out.new) result }
 {
     let env = environment(alloc, first, second, order)?;
-    let Ok(report) = check(alloc, &env, names) else {
+    let Ok(report) = check(alloc, None, &env, names) else {
         return Err(ToolError::Memory);
     };
     match write_all(out, &report.text) {

@@ -1,5 +1,5 @@
 -- One turn of a check: the names so far, what was reported of them, and how much is left.
-use Rattle.std.proofs.Common.{◌≡◌, ℕ, zero, suc, ◌+◌, ◌-◌, ◌<◌, ◌≤◌, ◌⊎◌, inl, inr, Bool, true, false, ◌&&◌, ◌||◌, List, [], ◌∷◌, ◌++◌, length, take, get_or, Contains, Some, refl, sym, ap, subst, ◌∙◌, append_assoc, arith}
+use Rattle.std.proofs.Common.{◌≡◌, ℕ, zero, suc, ◌+◌, ◌-◌, ◌<◌, ◌≤◌, ◌⊎◌, inl, inr, Bool, true, false, ◌&&◌, ◌||◌, List, [], ◌∷◌, ◌++◌, length, take, get_or, Contains, Option, Some, refl, sym, ap, subst, ◌∙◌, append_assoc, arith}
 use Rattle.std.specs.Cmp.Lexicographic.{bytes_decides, nat_list_eq_equiv}
 use Rattle.std.proofs.Math.Bool.{and_assoc}
 use Rattle.std.proofs.lemmas.Bool.{cases_Bool, cases_lt}
@@ -11,9 +11,10 @@ use Rattle.std.specs.List.{flat_map, list_all, list_any}
 use Rattle.envimage.specs.Data.{Pair}
 use Rattle.envtools.specs.Environment.{same}
 use Rattle.envtools.specs.Printing.{all_found}
+use Rattle.rehearse.specs.DeviceList.{Devices}
 use Rattle.hushcheck_core.specs.Names.{Text, run_by_name, run_by_value}
 use Rattle.hushcheck_core.specs.Order.{IsReached, is_asked, is_run, once, with_name, with_names}
-use Rattle.hushcheck_core.specs.Report.{Checks, is_sound, is_well_formed, lines_of}
+use Rattle.hushcheck_core.specs.Report.{Checks, is_fine, is_sound, lines_of}
 use Rattle.hushcheck_core.proofs.OrderLemmas.{with_names-append}
 
 -- ---- names that are added after others
@@ -159,18 +160,18 @@ left-turn (p ∷ env) done n new =
 
 -- ---- one turn
 
-module _ (env : List Pair) (asked : List Text) (names : List Text) (at : ℕ) where
+module _ (devices : Option Devices) (env : List Pair) (asked : List Text) (names : List Text) (at : ℕ) where
   -- the names so far are in order, and so is what was reported of the names before a place
   pub record Standing (told : Text) (sound : Bool) : Type 0 where
     pub within : at ≤ length names
     pub in_turn : names ≡ once (asked ++ flat_map (run_by_name env) (take at names))
     pub reached : (m : Text) → Contains names m → IsReached env asked m
-    pub told_is : told ≡ flat_map (lines_of env) (take at names)
-    pub sound_is : sound ≡ is_sound env asked (take at names)
+    pub told_is : told ≡ flat_map (lines_of devices env) (take at names)
+    pub sound_is : sound ≡ is_sound devices env asked (take at names)
 
 -- before the first turn
-pub standing_first : (env : List Pair) (asked names : List Text) (told : Text) (sound : Bool) → names ≡ once asked → told ≡ [] → sound ≡ all_found env asked → Standing env asked names 0 told sound
-standing_first env asked names told sound e t s = record {
+pub standing_first : (devices : Option Devices) (env : List Pair) (asked names : List Text) (told : Text) (sound : Bool) → names ≡ once asked → told ≡ [] → sound ≡ all_found env asked → Standing devices env asked names 0 told sound
+standing_first devices env asked names told sound e t s = record {
   within = omega arith;
   in_turn = e ∙ ap once (sym (append-nil asked));
   reached = subst (λ ns. (m : Text) → Contains ns m → IsReached env asked m) (sym e) (good-with_names (IsReached env asked) [] asked (λ m c. absurd (let h = c.1 in omega (arith, h))) (λ m c. is_asked m c));
@@ -202,12 +203,12 @@ one_more : {X : Type 0} (f : Text → List X) (xs : List Text) (x : Text) → fl
 one_more f xs x = flat_map-append f xs (x ∷ []) ∙ ap (λ ys. flat_map f xs ++ ys) (append-nil (f x))
 
 -- after one more turn
-pub standing_next : (env : List Pair) (asked names names' : List Text) (at : ℕ) (told told' : Text) (sound sound' : Bool) → at < length names → Standing env asked names at told sound
+pub standing_next : (devices : Option Devices) (env : List Pair) (asked names names' : List Text) (at : ℕ) (told told' : Text) (sound sound' : Bool) → at < length names → Standing devices env asked names at told sound
     → names' ≡ with_names names (run_by_name env (get_or names at []))
-    → told' ≡ told ++ lines_of env (get_or names at [])
-    → sound' ≡ (sound && is_well_formed env (get_or names at []))
-    → Standing env asked names' (at + 1) told' sound'
-standing_next env asked names names' at told told' sound sound' within s e t w =
+    → told' ≡ told ++ lines_of devices env (get_or names at [])
+    → sound' ≡ (sound && is_fine devices env (get_or names at []))
+    → Standing devices env asked names' (at + 1) told' sound'
+standing_next devices env asked names names' at told told' sound sound' within s e t w =
     let n = get_or names at [] in
     let more = run_by_name env n in
     let front : take (at + 1) names' ≡ take at names ++ n ∷ [] = ap (take (at + 1)) e ∙ take_turn names more at within in
@@ -221,10 +222,10 @@ standing_next env asked names names' at told told' sound sound' within s e t w =
           ∙ ap once (append_assoc asked before more ∙ ap (λ ns. asked ++ ns) (sym (ap (flat_map (run_by_name env)) front ∙ one_more (run_by_name env) (take at names) n)));
       reached = subst (λ ns. (m : Text) → Contains ns m → IsReached env asked m) (sym e)
           (good-with_names (IsReached env asked) names more s.reached (λ m c. is_run n m (s.reached n (at, within, refl_at names at within)) c));
-      told_is = t ∙ ap (λ ts. ts ++ lines_of env n) s.told_is ∙ sym (ap (flat_map (lines_of env)) front ∙ one_more (lines_of env) (take at names) n);
+      told_is = t ∙ ap (λ ts. ts ++ lines_of devices env n) s.told_is ∙ sym (ap (flat_map (lines_of devices env)) front ∙ one_more (lines_of devices env) (take at names) n);
       sound_is =
-          w ∙ ap (λ b. b && is_well_formed env n) s.sound_is ∙ and_assoc (all_found env asked) (list_all (is_well_formed env) (take at names)) (is_well_formed env n)
-          ∙ ap (λ b. all_found env asked && b) (sym (ap (list_all (is_well_formed env)) front ∙ list_all-append (is_well_formed env) (take at names) (n ∷ []) ∙ and_end (list_all (is_well_formed env) (take at names)) (is_well_formed env n)));
+          w ∙ ap (λ b. b && is_fine devices env n) s.sound_is ∙ and_assoc (all_found env asked) (list_all (is_fine devices env) (take at names)) (is_fine devices env n)
+          ∙ ap (λ b. all_found env asked && b) (sym (ap (list_all (is_fine devices env)) front ∙ list_all-append (is_fine devices env) (take at names) (n ∷ []) ∙ and_end (list_all (is_fine devices env) (take at names)) (is_fine devices env n)));
     }
   where
     refl_at : (xs : List Text) (k : ℕ) → k < length xs → get_or xs k (get_or xs k []) ≡ get_or xs k []
@@ -233,10 +234,10 @@ standing_next env asked names names' at told told' sound sound' within s e t w =
     refl_at (y ∷ ys) (suc k) h = refl_at ys k (omega (arith, h))
 
 -- fewer names are left
-pub left_less : (env : List Pair) (asked names names' : List Text) (at : ℕ) (told : Text) (sound : Bool) → at < length names → Standing env asked names at told sound
+pub left_less : (devices : Option Devices) (env : List Pair) (asked names names' : List Text) (at : ℕ) (told : Text) (sound : Bool) → at < length names → Standing devices env asked names at told sound
     → names' ≡ with_names names (run_by_name env (get_or names at []))
     → left env (take (at + 1) names') + (length names' - (at + 1)) < left env (take at names) + (length names - at)
-left_less env asked names names' at told sound within s e =
+left_less devices env asked names names' at told sound within s e =
     let n = get_or names at [] in
     let more = run_by_name env n in
     let front : take (at + 1) names' ≡ take at names ++ n ∷ [] = ap (take (at + 1)) e ∙ take_turn names more at within in
@@ -246,8 +247,8 @@ left_less env asked names names' at told sound within s e =
     omega (arith, fewer, long, within)
 
 -- after the last turn
-pub standing_last : (env : List Pair) (asked names : List Text) (at : ℕ) (told : Text) (sound : Bool) → length names ≤ at → Standing env asked names at told sound → Checks env asked told sound
-standing_last env asked names at told sound past s =
+pub standing_last : (devices : Option Devices) (env : List Pair) (asked names : List Text) (at : ℕ) (told : Text) (sound : Bool) → length names ≤ at → Standing devices env asked names at told sound → Checks devices env asked told sound
+standing_last devices env asked names at told sound past s =
     let all : take at names ≡ names = take_all at names past in
     record {
       order = names;
@@ -255,6 +256,6 @@ standing_last env asked names at told sound past s =
         in_turn = s.in_turn ∙ ap (λ ns. once (asked ++ flat_map (run_by_name env) ns)) all;
         reached = s.reached;
       };
-      told_is = s.told_is ∙ ap (flat_map (lines_of env)) all;
-      sound_is = s.sound_is ∙ ap (is_sound env asked) all;
+      told_is = s.told_is ∙ ap (flat_map (lines_of devices env)) all;
+      sound_is = s.sound_is ∙ ap (is_sound devices env asked) all;
     }

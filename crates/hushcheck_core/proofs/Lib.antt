@@ -5,3 +5,6 @@ pub mod WalkLemmas
 pub mod CheckLemmas
 pub mod LinesLemmas
 pub mod CheckExamples
+pub mod CallsLemmas
+pub mod AskedLemmas
+pub mod CallsExamples

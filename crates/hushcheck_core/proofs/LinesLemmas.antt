@@ -2,7 +2,7 @@
 use Rattle.std.proofs.Common.{◌≡◌, ℕ, List, ◌++◌, ap, ◌∙◌, append_assoc}
 use Rattle.std.specs.Prelude.{codes}
 use Rattle.hushcheck_core.specs.Place.{line_front, line_text, place_in}
-use Rattle.hushcheck_core.specs.Report.{lines_at, marked, place_form}
+use Rattle.hushcheck_core.specs.Places.{lines_at, marked, place_form}
 use Rattle.hushcheck_core.specs.declared.place.Place.{Place}
 
 four : (old p w n m : List ℕ) → old ++ p ++ w ++ n ++ m ≡ old ++ (p ++ w ++ n ++ m)

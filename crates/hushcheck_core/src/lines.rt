@@ -1,5 +1,6 @@
 //! The lines that are reported of a text.
 ghost use Rattle.std.specs.Prelude.{◌≡◌, ◌++◌, codes, decimal, OnOk};
+ghost use Rattle.hushcheck_core.specs.Places as places;
 ghost use Rattle.hushcheck_core.specs.Report as spec;
 ghost use Rattle.text.specs.Escapes.{word_form};
 
@@ -29,7 +30,7 @@ pub(crate) fn push_named(told: &mut Vec<u8>, name: &[u8], rest: &[u8]) -> Result
 
 /// Adds `NAME:LINE:COLUMN: ` at the end of `told`.
 fn push_place(told: &mut Vec<u8>, name: &[u8], place: Place) -> Result<(), AllocError>
-    ensures { OnOk result (told.new.items ≡ told.old.items ++ spec.place_form name.now place) }
+    ensures { OnOk result (told.new.items ≡ told.old.items ++ places.place_form name.now place) }
 {
     push_named(told, name, b":")?;
     push_number(told, place.line)?;
@@ -40,7 +41,7 @@ fn push_place(told: &mut Vec<u8>, name: &[u8], place: Place) -> Result<(), Alloc
 
 /// Adds the line of a byte, and the line of a mark under it, at the end of `told`.
 fn push_marked(told: &mut Vec<u8>, line: &[u8], front: &[u8]) -> Result<(), AllocError>
-    ensures { OnOk result (told.new.items ≡ told.old.items ++ spec.marked line.now front.now) }
+    ensures { OnOk result (told.new.items ≡ told.old.items ++ places.marked line.now front.now) }
 {
     push_line(told, line)?;
     told.extend_from_slice(b"\n")?;
@@ -49,14 +50,14 @@ fn push_marked(told: &mut Vec<u8>, line: &[u8], front: &[u8]) -> Result<(), Allo
 }
 
 /// Adds what is reported of a place of a text, its line and a mark at the end of `told`.
-fn push_at(
+pub(crate) fn push_at(
     told: &mut Vec<u8>,
     name: &[u8],
     text: &[u8],
     at: usize,
     what: &[u8],
 ) -> Result<(), AllocError>
-    ensures { OnOk result (told.new.items ≡ told.old.items ++ spec.lines_at name.now text.now at what.now) }
+    ensures { OnOk result (told.new.items ≡ told.old.items ++ places.lines_at name.now text.now at what.now) }
 {
     push_place(told, name, place_of(text, at))?;
     told.extend_from_slice(what)?;

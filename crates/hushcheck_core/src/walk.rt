@@ -11,7 +11,7 @@ use std::alloc::{AllocError, Global};
 use std::rc::Rc;
 
 /// The bytes of a word that holds no variable and no status, with what its quotes hold.
-fn written_out(alloc: Global, word: &Word) -> Result<Option<Vec<u8>>, AllocError>
+pub(crate) fn written_out(alloc: Global, word: &Word) -> Result<Option<Vec<u8>>, AllocError>
     ensures { IfOk result (λ bytes. option_map (λ v. v.items) bytes ≡ spec.written_out (view.word word.now)) }
 {
     let mut bytes = Vec::new(alloc);
@@ -26,7 +26,7 @@ fn written_out(alloc: Global, word: &Word) -> Result<Option<Vec<u8>>, AllocError
 }
 
 /// Whether a word is written out as `run`.
-fn is_run(alloc: Global, word: &Word) -> Result<bool, AllocError>
+pub(crate) fn is_run(alloc: Global, word: &Word) -> Result<bool, AllocError>
     ensures { IfOk result (λ is_run. is_run ≡ spec.is_run (spec.written_out (view.word word.now))) }
 {
     match written_out(alloc, word)? {

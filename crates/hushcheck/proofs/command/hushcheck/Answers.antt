@@ -1,5 +1,5 @@
 use Rattle.std.proofs.lemmas.Result.{IfOk-weaker}
-use Rattle.ubtool_cli.proofs.MadeLemmas.{made_with}
+use Rattle.command_line.proofs.MadeLemmas.{made_with}
 use Rattle.hushcheck.specs.CommandLine.{hushcheck}
 use Rattle.hushcheck.proofs.command.hushcheck.Goals as goal
 

@@ -1,5 +1,5 @@
 use Rattle.std.proofs.lemmas.Result.{IfOk-weaker}
-use Rattle.ubtool_cli.proofs.MadeLemmas.{made_with}
+use Rattle.command_line.proofs.MadeLemmas.{made_with}
 use Rattle.hushcheck.proofs.command.options.Goals as goal
 
 pub returns : goal.returns

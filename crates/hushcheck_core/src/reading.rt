@@ -1,0 +1,131 @@
+//! How far a text is read, and what is reported of its words.
+ghost use Rattle.std.specs.Prelude.{◌≡◌, [], false, Some, option_map, IfOk, OnOk};
+ghost use Rattle.hushlang.specs.CursorShown.{input_in};
+ghost use Rattle.hushcheck_core.specs.Calls as spec;
+
+use crate::lines::push_at;
+use crate::shown::push_name;
+use hushlang::lexer::Lexer;
+use hushlang::token::Kind;
+use rehearse::{Devices, builtin_of};
+use std::alloc::{AllocError, Global};
+use std::marker::Model;
+
+/// The place of each word of a text. Errors: memory ran out.
+pub(crate) fn word_places(alloc: Global, text: &[u8]) -> Result<Vec<usize>, AllocError>
+    ensures { IfOk result (λ places. places.items
+        ≡ spec.word_places (input_in text.now).tokens) }
+{
+    let mut lexer = Lexer::new(text);
+    let mut places = Vec::new(alloc);
+    'tokens: while let Ok(Some(token)) = lexer.next() {
+        if let Kind::Word = token.kind {
+            places.push(token.start)?;
+        }
+    }
+    Ok(places)
+}
+
+/// Whether a device list lacks a command. Takes no memory.
+fn is_lacking(devices: Option<&Devices>, name: &[u8]) -> bool
+    ensures { result
+        ≡ spec.is_lacking (option_map (λ d. d.now) devices.entry) name.now }
+{
+    match devices {
+        Some(devices) => {
+            !(builtin_of(name).is_some() || devices.has(name) || devices.is_known(name))
+        }
+        None => false,
+    }
+}
+
+/// How far a text is read, and what was reported of it.
+#[derive(Drop)]
+pub(crate) struct Reading<'a> {
+    /// The variable.
+    name: &'a [u8],
+    /// Its text.
+    text: &'a [u8],
+    /// The device list, if there is one.
+    devices: Option<&'a Devices>,
+    /// The places of the words that are left.
+    left: &'a [usize],
+    /// What was reported.
+    pub(crate) told: Vec<u8>,
+    /// Whether the device list lacks a command.
+    pub(crate) lacks: bool,
+}
+
+impl<'a> Model for Reading<'a> {
+    ghost use Rattle.hushcheck_core.specs.Calls as spec;
+    ghost use Rattle.std.specs.Prelude.{option_map};
+
+    ghost Value = { spec.Reading };
+
+    ghost view = { λ r. record { name = r.name.now; text = r.text.now; devices = option_map (λ d. d.now) r.devices; left = r.left.now; told = r.told.items; lacks = r.lacks } };
+}
+
+impl<'a> Reading<'a> {
+    /// The start of a text, with the places of its words.
+    pub(crate) fn new(
+        alloc: Global,
+        devices: Option<&'a Devices>,
+        name: &'a [u8],
+        text: &'a [u8],
+        left: &'a [usize],
+    ) -> Reading<'a>
+        ensures { result ≡ record {
+          name = name.now;
+          text = text.now;
+          devices = option_map (λ d. d.now) devices.entry;
+          left = left.now;
+          told = [];
+          lacks = false;
+        } }
+    {
+        Reading {
+            name,
+            text,
+            devices,
+            left,
+            told: Vec::new(alloc),
+            lacks: false,
+        }
+    }
+
+    /// Passes over words.
+    pub(crate) fn skip(&mut self, count: usize)
+        ensures { self.new ≡ spec.skip count self.old }
+    {
+        if count < self.left.len() {
+            self.left = &self.left[count..];
+        } else {
+            self.left = &[];
+        }
+    }
+
+    /// Reports something of the next word. Errors: memory ran out.
+    pub(crate) fn tell(&mut self, what: &[u8]) -> Result<(), AllocError>
+        ensures { OnOk result (self.new ≡ spec.tell what.now self.old) }
+    {
+        let at = match self.left {
+            [place, ..] => *place,
+            [] => 0,
+        };
+        push_at(&mut self.told, self.name, self.text, at, what)
+    }
+
+    /// Reports that the device list lacks a command, if it does. Errors: memory ran out.
+    pub(crate) fn tell_if_lacking(&mut self, alloc: Global, name: &[u8]) -> Result<(), AllocError>
+        ensures { OnOk result (self.new ≡ spec.after_name self.old (Some name.now)) }
+    {
+        if !is_lacking(self.devices, name) {
+            return Ok(());
+        }
+        let mut what = Vec::from_slice(alloc, b"the device list lacks ")?;
+        push_name(&mut what, name)?;
+        self.tell(&what)?;
+        self.lacks = true;
+        Ok(())
+    }
+}
