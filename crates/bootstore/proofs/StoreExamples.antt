@@ -1,5 +1,5 @@
 -- Worked examples of a store's changes, computed.
-use Rattle.std.proofs.Common.{◌≡◌, [], ◌∷◌, Some, None, codes, refl, true}
+use Rattle.std.proofs.Common.{◌≡◌, [], ◌∷◌, Some, None, codes, refl, true, false}
 use Rattle.std.specs.FinMap.{empty, insert, get, get-insert, get-remove, get-empty}
 use Rattle.std.specs.Ordering.{nat_cmp}
 use Rattle.std.specs.Cmp.Lexicographic.{slice_cmp}
@@ -8,7 +8,7 @@ use Rattle.hushlang.specs.Tree.{Empty}
 use Rattle.bootstore.specs.declared.frame.At.{At}
 use Rattle.bootstore.specs.declared.frame.FrameKind.TheVariants.{Text}
 use Rattle.bootstore.specs.Moment.{RunningFrame}
-use Rattle.rehearse.specs.State.{LoggedCommand}
+use Rattle.rehearse.specs.State.{LoggedCommand, answer_in}
 use Rattle.bootstore.specs.Record.{Record, fresh, started, stepped, changed, with_environment, with_status, with_echo, with_device, with_frame, with_place, without_frame, with_mark, gone_back}
 
 abbrev start_place : At
@@ -21,7 +21,7 @@ abbrev frame : RunningFrame
 frame = record { kind = Text; script = Empty; words = []; place = start_place }
 
 abbrev entry : LoggedCommand
-entry = record { success = true; words = codes "load" ∷ [] }
+entry = record { success = true; words = codes "load" ∷ []; stays = true; again = false }
 
 -- a run starts in an empty environment
 abbrev begun : Record
@@ -85,3 +85,16 @@ text_in_order = refl
 
 entry_logged : (changed (with_device entry) begun).present.log ≡ entry ∷ []
 entry_logged = refl
+
+-- an answer that stays is there until the run goes back to before it
+abbrev steady_once : Record
+steady_once = changed (with_device entry) (with_mark begun)
+
+answer_stays : answer_in steady_once.present.log (codes "load" ∷ []) ≡ Some true
+answer_stays = refl
+
+answer_of_other_words : answer_in steady_once.present.log (codes "load" ∷ codes "x" ∷ []) ≡ None
+answer_of_other_words = refl
+
+answer_is_gone : answer_in (gone_back steady_once).present.log (codes "load" ∷ []) ≡ None
+answer_is_gone = refl

@@ -25,13 +25,16 @@ use Rattle.bootstore.specs.declared.table.Place.{Place}
 use Rattle.bootstore.specs.Slots.{Slot, live, live_before}
 use Rattle.bootstore.specs.Table.{slot_variables, is_name, place_value, kept_of}
 
-abbrev by_bytes : Bytes → Bytes → Ordering
+abbrev pub by_bytes : Bytes → Bytes → Ordering
 by_bytes = slice_cmp nat_cmp
 
 exact : IsAntisymmetric by_bytes
 exact = slice_cmp-IsAntisymmetric nat_cmp-IsAntisymmetric
 
 -- names that compare as equal are the same
+pub same_key : (p q : Bytes) → by_bytes p q ≡ Equal → p ≡ q
+same_key = exact
+
 pub same_name : (p q : Bytes) → eq_by_cmp by_bytes p q ≡ true → p ≡ q
 same_name p q e = exact p q ((Equal-is _).0 e)
 

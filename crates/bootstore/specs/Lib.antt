@@ -3,6 +3,7 @@ pub mod Moment
 pub mod Record
 pub mod Slots
 pub mod Table
+pub mod Scripts
 pub mod Present
 pub mod Plain
 pub mod Inverse

@@ -11,6 +11,10 @@ pub struct LogEntry {
     pub success: bool,
     /// All its fields, its name first.
     pub words: Vec<Vec<u8>>,
+    /// Whether the list says that its answer stays for the rest of the run.
+    pub stays: bool,
+    /// Whether it was asked before, and was told that answer again.
+    pub again: bool,
 }
 
 impl Model for LogEntry {
@@ -19,10 +23,24 @@ impl Model for LogEntry {
 
     ghost Value = { LoggedCommand };
 
-    ghost view = { λ entry. record { success = entry.success; words = bytes_of_words entry.words.items } };
+    ghost view = { λ entry. record {
+      success = entry.success;
+      words = bytes_of_words entry.words.items;
+      stays = entry.stays;
+      again = entry.again;
+    } };
 }
 
 impl LogEntry {
+    ghost use Rattle.std.specs.Prelude.{not, ◌&&◌};
+
+    /// Whether it has an answer that stays, and was not told it again.
+    pub fn has_answer(&self) -> bool
+        ensures { result ≡ (not self.now.again && self.now.stays) }
+    {
+        !self.again && self.stays
+    }
+
     /// A copy that owns its words. Errors: memory ran out.
     pub fn copy(&self) -> Result<LogEntry, AllocError>
         ensures { IfOk result (λ entry. entry ≡ self.now) }
@@ -30,6 +48,8 @@ impl LogEntry {
         Ok(LogEntry {
             success: self.success,
             words: self.words.clone()?,
+            stays: self.stays,
+            again: self.again,
         })
     }
 }

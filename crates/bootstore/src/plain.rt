@@ -2,6 +2,7 @@
 use crate::frame::{At, Frame};
 use crate::log::LogEntry;
 use crate::present::Present;
+use crate::scripts::{Scripts, TextFound};
 use crate::store::{Store, StoreError};
 use envtools::Env;
 use std::alloc::Global;
@@ -13,6 +14,7 @@ pub struct Plain {
     present: Present,
     marked: Vec<Present>,
     begun: u64,
+    scripts: Scripts,
 }
 
 impl Store for Plain {
@@ -26,6 +28,7 @@ impl Store for Plain {
             present: Present::new(alloc),
             marked: Vec::new(alloc),
             begun: 0,
+            scripts: Scripts::new(alloc),
         }
     }
 
@@ -91,6 +94,10 @@ impl Store for Plain {
         if let Some(present) = self.marked.pop() {
             self.present = present;
         }
+    }
+
+    fn text_of(&mut self, name: &[u8]) -> Result<TextFound, StoreError> {
+        self.scripts.text_of(&self.present.environment, name)
     }
 
     fn present(&self) -> &Present {

@@ -1,15 +1,18 @@
 //! What a store of states can do.
-ghost use Rattle.std.specs.Prelude.{◌≡◌, ◌+◌, ◌<◌, ◌^◌, OnOk, OnErr, option_map, reverse, slice_get};
+ghost use Rattle.std.specs.Prelude.{◌≡◌, ◌+◌, ◌<◌, ◌^◌, IfOk, OnOk, OnErr, option_map, reverse, slice_get};
 ghost use Rattle.std.specs.FinMap.{get, entries};
 ghost use Rattle.bootstore.specs.Moment.{environment_of};
 ghost use Rattle.text.specs.TextsShown.{option_bytes};
 ghost use Rattle.bootstore.specs.Present.{moment_of};
 ghost use Rattle.bootstore.specs.Record.{Record, fresh, started, stepped, with_mark, gone_back, changed, with_environment, with_local, with_echo, with_device, with_status, with_frame, with_place, without_frame};
+ghost use Rattle.bootstore.specs.Scripts.{text_found};
 ghost use Rattle.rehearse.specs.Bounds.{most_steps};
+ghost use Rattle.rehearse.specs.Trees.{tree_of};
 
 use crate::frame::{At, Frame};
 use crate::log::LogEntry;
 use crate::present::Present;
+use crate::scripts::TextFound;
 use crate::table::Variables;
 use envtools::Env;
 use std::alloc::{AllocError, AllocFailed, Global};
@@ -106,6 +109,13 @@ pub trait Store: Drop {
     /// memory. Without a mark nothing changes.
     fn back(&mut self)
         ensures { record_of self.new ≡ gone_back (record_of self.old) };
+
+    /// What the text of an environment variable is. Its script is shared, and kept for the next call with the same
+    /// text.
+    fn text_of(&mut self, name: &[u8]) -> Result<TextFound, StoreError>
+        ensures found { IfOk result (λ found. text_found found
+            ≡ option_map tree_of (get (record_of self.old).present.environment name.now)) }
+        ensures same { record_of self.new ≡ record_of self.old };
 
     /// The present state, from which the readers below read.
     fn present(&self) -> &Present

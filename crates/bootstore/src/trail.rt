@@ -6,6 +6,7 @@ use crate::frame::{At, Frame};
 use crate::inverse::{Inverse, Kept, Marked, Since, undo_to_mark};
 use crate::log::LogEntry;
 use crate::present::Present;
+use crate::scripts::{Scripts, TextFound};
 use crate::store::{Store, StoreError};
 use envtools::Env;
 use std::alloc::Global;
@@ -19,6 +20,7 @@ pub struct Trail {
     kept: Vec<Kept>,
     since: Since,
     begun: u64,
+    scripts: Scripts,
     ghost can: { CanGoBack present since.untouched (reverse kept.items) },
     ghost once: { KeepsOnce present since.kept (reverse kept.items) },
 }
@@ -61,6 +63,7 @@ impl Store for Trail {
                 kept: 0,
             },
             begun: 0,
+            scripts: Scripts::new(alloc),
         }
     }
 
@@ -183,6 +186,10 @@ impl Store for Trail {
 
     fn back(&mut self) {
         self.since = undo_to_mark(&mut self.present, &mut self.kept);
+    }
+
+    fn text_of(&mut self, name: &[u8]) -> Result<TextFound, StoreError> {
+        self.scripts.text_of(&self.present.environment, name)
     }
 
     fn present(&self) -> &Present {

@@ -7,7 +7,7 @@ ghost use Rattle.rehearse_machine.specs.Tasks.{task_shown};
 use bootstore::Trail;
 use envtools::Env;
 use rehearse::{Bounds, Devices};
-use rehearse_runs::{RunError, WordKind, try_word};
+use rehearse_runs::{RehearseError, WordKind, try_word};
 use std::alloc::Global;
 
 /// Whether the script of a variable ends and no device command is asked: the empty word is then its only run.
@@ -17,7 +17,7 @@ pub fn asks_nothing(
     devices: &Devices,
     name: &[u8],
     bounds: Bounds,
-) -> Result<bool, RunError>
+) -> Result<bool, RehearseError>
     ensures { IfOk result (λ asks. asks ≡ true → kind (task_shown env.now devices.now name.now bounds) [] ≡ Run) }
 {
     let found = try_word::<Trail>(alloc, env, devices, name, bounds, b"")?;

@@ -9,7 +9,7 @@ use Rattle.rehearse.specs.State.{Text, get, State, start, parameters_in}
 use Rattle.rehearse.specs.Verdict.{verdict}
 use Rattle.rehearse.specs.Commands.{Called, ChangesVariables, WritesText, RunsTexts, Tests, Exits, BuiltIn, Device, NoCommand, called_by, sets_in, asks_device, exit_status}
 use Rattle.hushlang.specs.Tree.{IsProper, IsProperList, IsProperJoined, IsProperCommand, HasArm, AreProperArms, HoldsCommand}
-use Rattle.rehearse.specs.Execution.{Limits, Answer, Normal, Exit, Ended, Dry, Ending, CutDevices, CutSteps, Syntax, Size, go_on, set_status, set_local, status_when, goes, holds, begin, take_outcome, device, Request, no_effect, logged, set_environment, boot, text_end, run_text, run_all, command, simple, sized, assign, turns, for_each, exec_script, exec_list, exec_joined, exec_command, exec_arms, exec}
+use Rattle.rehearse.specs.Execution.{Limits, Answer, Normal, Exit, Ended, Dry, Ending, CutDevices, CutSteps, Syntax, Size, go_on, set_status, set_local, status_when, goes, holds, begin, take_outcome, with_outcome, outcome_when, told, told_again, tell_or_take, device, Request, test_effect, logged, set_environment, boot, text_end, run_text, run_all, command, simple, sized, assign, turns, for_each, exec_script, exec_list, exec_joined, exec_command, exec_arms, exec}
 use Rattle.rehearse.specs.Runs.{Task, run_on, state_of, steps}
 use Rattle.rehearse.proofs.ProperLemmas.{trees_are_proper}
 use Rattle.rehearse.proofs.Growing.{Grew, Grew-block}
@@ -67,13 +67,20 @@ module _ (limits : Limits) where
   one_more : (s : State) (d : Outcome) (r : Request) (rest : OutcomeWord) → length s.log < limits.device_bound → IsWithin s → IsWithin (logged d r (record s { word = rest }))
   one_more s d r rest room h = let e = length-append s.log ((logged d r (record s { log = []; word = rest })).log) in (h.0, omega arith)
 
+  with-ends : (s : State) (r : Request) (d : Outcome) → IsWithin (logged d r s) → Ends (with_outcome d r s)
+  with-ends s r Success h = boot-ends r.effect.ends r.name (set_environment (sets_in r.words r.effect.sets) (logged Success r s)) h
+  with-ends s r Failure h = h
+
   taken-ends : (s : State) (r : Request) (w : OutcomeWord) → length s.log < limits.device_bound → IsWithin s → Ends (take_outcome r w s)
   taken-ends s r [] room h = h
-  taken-ends s r (Success ∷ rest) room h = boot-ends r.effect.ends r.name (set_environment (sets_in r.words r.effect.sets) (logged Success r (record s { word = rest }))) (one_more s Success r rest room h)
-  taken-ends s r (Failure ∷ rest) room h = one_more s Failure r rest room h
+  taken-ends s r (d ∷ rest) room h = with-ends (record s { word = rest }) r d (one_more s d r rest room h)
+
+  told-ends : (s : State) (r : Request) (o : Option Bool) → length s.log < limits.device_bound → IsWithin s → Ends (tell_or_take o r s)
+  told-ends s r None room h = taken-ends s r s.word room h
+  told-ends s r (Some success) room h = with-ends s (told_again r) (outcome_when success) (one_more s (outcome_when success) (told_again r) s.word room h)
 
   device-ends : (s : State) (r : Request) → IsWithin s → Ends (device limits r s)
-  device-ends s r h = Ends-if (nat_lt (length s.log) limits.device_bound) (take_outcome r s.word s) (Ended CutDevices s) (λ e. taken-ends s r s.word (ltb-true (length s.log) limits.device_bound e) h) (λ e. let l = ltb-false (length s.log) limits.device_bound e in let a = h.1 in (h, omega arith))
+  device-ends s r h = Ends-if (nat_lt (length s.log) limits.device_bound) (tell_or_take (told r s.log) r s) (Ended CutDevices s) (λ e. told-ends s r (told r s.log) (ltb-true (length s.log) limits.device_bound e) h) (λ e. let l = ltb-false (length s.log) limits.device_bound e in let a = h.1 in (h, omega arith))
 
   Ends-sized : (fs : List Text) (f : List Text → State → Answer) (s : State) → IsWithin s → Ends (f fs s) → Ends (sized fs f s)
   Ends-sized fs f s h k = Ends-if (nat_le (size fs) most_bytes) (f fs s) (Ended Size s) (λ e. k) (λ e. (h, tt))
@@ -110,10 +117,10 @@ module _ (limits : Limits) where
     command-ends (BuiltIn (ChangesVariables change)) name ws t h r = h
     command-ends (BuiltIn RunsTexts) name [] t h r = h
     command-ends (BuiltIn RunsTexts) name (w ∷ ws) t h r = run-ends (w ∷ ws) t h r
-    command-ends (BuiltIn Tests) name ws t h r = Ends-if (asks_device ws) (device limits (record { name = name; words = ws; effect = no_effect }) t) (Normal (set_status (status_when (verdict ws)) t)) (λ e. device-ends t (record { name = name; words = ws; effect = no_effect }) h) (λ e. h)
+    command-ends (BuiltIn Tests) name ws t h r = Ends-if (asks_device ws) (device limits (record { name = name; words = ws; effect = test_effect limits.devices; again = false }) t) (Normal (set_status (status_when (verdict ws)) t)) (λ e. device-ends t (record { name = name; words = ws; effect = test_effect limits.devices; again = false }) h) (λ e. h)
     command-ends (BuiltIn (WritesText written)) name ws t h r = h
     command-ends (BuiltIn Exits) name ws t h r = leave-ends (exit_status ws) t h
-    command-ends (Device effect) name ws t h r = device-ends t (record { name = name; words = ws; effect = effect }) h
+    command-ends (Device effect) name ws t h r = device-ends t (record { name = name; words = ws; effect = effect; again = false }) h
     command-ends NoCommand name ws t h r = (h, tt)
 
     simple-ends : (fs : List Text) (t : State) → IsWithin t → limits.step_bound < n + t.steps → Ends (simple limits script fs t)
@@ -192,6 +199,16 @@ steps_within limits (Dry t) h = h.0
 
 pub steps_are_bounded : (task : Task) (w : OutcomeWord) → steps task w ≤ task.limits.step_bound
 steps_are_bounded task w = steps_within task.limits (run_on task w) (task-ends task w)
+
+devices_within : (limits : Limits) (a : Answer) → Ends limits a → length (state_of a).log ≤ limits.device_bound
+devices_within limits (Normal t) h = h.1
+devices_within limits (Exit t) h = h.1
+devices_within limits (Ended ending t) h = h.0.1
+devices_within limits (Dry t) h = h.1
+
+-- no more device commands are in the log than the bound
+pub devices_are_bounded : (task : Task) (w : OutcomeWord) → length (state_of (run_on task w)).log ≤ task.limits.device_bound
+devices_are_bounded task w = devices_within task.limits (run_on task w) (task-ends task w)
 
 pub cut_at_step_bound : (task : Task) (w : OutcomeWord) (s : State) → run_on task w ≡ Ended CutSteps s → s.steps ≡ task.limits.step_bound
 cut_at_step_bound task w s e = (subst (Ends task.limits) e (task-ends task w)).1

@@ -1,27 +1,33 @@
 -- Runs over a device list in the form before a command could be computed.
-use Rattle.std.proofs.Common.{◌≡◌, ℕ, List, Option, Some, None, refl}
+use Rattle.std.proofs.Common.{◌≡◌, ℕ, false, List, Option, Some, None, refl}
 use Rattle.rehearse.specs.Outcomes.{OutcomeWord, runs_within, few_of, after}
 use Rattle.rehearse.specs.State.{Text}
 use Rattle.rehearse.specs.Commands.{Device, NoCommand}
 use Rattle.rehearse.specs.DeviceList.{Effect, effect_of}
-use Rattle.rehearse.specs.Execution.{Answer, Ended, Unknown, command, device}
+use Rattle.rehearse.specs.Execution.{Answer, Ended, Unknown, command}
+use Rattle.rehearse.specs.GivenExecution.{asked_anew}
+use Rattle.rehearse.specs.KnownList.{AskEachTime}
+use Rattle.rehearse.proofs.KnownLists.{known_lists_ask}
 use Rattle.rehearse.specs.Runs.{Task, state_of, ending_of, kind_of}
 use Rattle.rehearse.specs.Listing.{record_text, listing}
 use Rattle.rehearse.specs.CallExecution.{call_others, CallRunsStand, CallListingsStand, CallRestsStand}
-use Rattle.rehearse.proofs.CallLists.{call_lists_ask}
-use Rattle.rehearse.proofs.GivenRuns.{AreGiven, run-same}
+use Rattle.rehearse.proofs.CallLists.{call_lists_ask, call_lists_are_known}
+use Rattle.rehearse.proofs.GivenRuns.{AreGivenByList, given_by_list, asks_anew, run-same}
 
-others-same : (task : Task) → AreGiven task.limits task.limits.devices (call_others task)
-others-same task f name words s = by (effect_of task.limits.devices name words)
+-- a call of a list on which no answer stays
+pub listed-same : (task : Task) → AskEachTime task.limits.devices → AreGivenByList task.limits task.limits.devices (call_others task)
+listed-same task each f name words s = by (effect_of task.limits.devices name words) refl
   where
-    by : (o : Option Effect) → ◌≡◌ {A = Answer} (command task.limits f (elim o [ Some effect ↦ Device effect | None ↦ NoCommand ]) name words s)
-        (elim o [ Some effect ↦ device task.limits (record { name = name; words = words; effect = effect }) s | None ↦ Ended (Unknown name) s ])
-    by None = refl
-    by (Some effect) = refl
+    by : (o : Option Effect) → effect_of task.limits.devices name words ≡ o → ◌≡◌ {A = Answer} (command task.limits f (elim o [ Some effect ↦ Device effect | None ↦ NoCommand ]) name words s)
+        (elim o [ Some effect ↦ asked_anew task.limits (record { name = name; words = words; effect = effect; again = false }) s | None ↦ Ended (Unknown name) s ])
+    by None is = refl
+    by (Some effect) is = asks_anew task.limits (record { name = name; words = words; effect = effect; again = false }) s (each.calls name words effect is)
 
 pub call_runs_stand : CallRunsStand
 call_runs_stand text task w e =
-    run-same task.limits task.limits.devices (call_lists_ask text task.limits.devices e) (call_others task) (others-same task) task.environment task.name task.text w
+    let each : AskEachTime task.limits.devices = known_lists_ask text task.limits.devices (call_lists_are_known text task.limits.devices e) in
+    run-same task.limits task.limits.devices each.test (call_others task)
+    (given_by_list task.limits task.limits.devices (call_others task) (call_lists_ask text task.limits.devices e) (listed-same task each)) task.environment task.name task.text w
 
 -- runs and records by what the text comes to with each word
 abbrev runs_by : Task → (OutcomeWord → Answer) → List OutcomeWord

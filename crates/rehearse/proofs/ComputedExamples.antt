@@ -1,5 +1,5 @@
 -- Worked examples, computed: what the words of computed calls come to, and what that does.
-use Rattle.std.proofs.Common.{◌≡◌, ℕ, List, [], ◌∷◌, Option, Some, None, codes, refl}
+use Rattle.std.proofs.Common.{◌≡◌, ℕ, List, [], ◌∷◌, Option, Some, None, codes, refl, false}
 use Rattle.std.specs.Fmt.{digits}
 use Rattle.rehearse.specs.State.{Text, Variables}
 use Rattle.rehearse.specs.Builtins.{Env, Itest, SetExpr}
@@ -274,7 +274,7 @@ sets_0 = refl
 -- ---- which calls are computed
 
 abbrev with_env : Devices
-with_env = record { commands = (codes "env", quiet) ∷ (codes "itest", quiet) ∷ []; subs = []; known = codes "env" ∷ [] }
+with_env = record { commands = (codes "env", quiet) ∷ (codes "itest", quiet) ∷ []; subs = []; known = codes "env" ∷ []; test_stays = false }
 
 -- a call whose words cannot be computed goes by the lines of its name, as does a command that is not computed
 by_the_line : called_by with_env (codes "env") (codes "default" ∷ word (codes "-a")) ≡ Device quiet

@@ -12,9 +12,11 @@ use Rattle.text.specs.Words.{is_equals}
 use Rattle.rehearse.specs.Verdict.{Text}
 use Rattle.rehearse.specs.Builtins.{is_built_in}
 use Rattle.rehearse.specs.Commands.{sets_in}
-use Rattle.rehearse.specs.DeviceList.{Setting, Effect, Devices, DeviceLine, is_variable, variable, left_side, setting, settings, named, call_of, heading_of, line_of, line_with, begins_comment, device_words, joint, joint_behind, joined_in, changed_at, only, with_line}
+use Rattle.rehearse.specs.DeviceList.{Setting, Effect, Devices, DeviceLine, is_variable, variable, left_side, setting, settings, named, call_of, line_of, line_with, begins_comment, device_words, joint, joint_behind, joined_in, changed_at, only, with_line}
+use Rattle.rehearse.specs.KnownList.{known_heading}
 use Rattle.rehearse.specs.CallList.{call_words, call_line, call_lines}
 use Rattle.rehearse.specs.EarlierList.{EarlierEffect, EarlierDevices, earlier_setting, earlier_settings, earlier_with, earlier_line, earlier_joint, earlier_more, earlier_words, earlier_lines, of_variable, now_effect, now_effects, EarlierListsStand, EarlierCallsStand, EarlierSettingsStand}
+use Rattle.rehearse.proofs.KnownLists.{not_found}
 use Rattle.rehearse.proofs.CallLists.{call_lists_stand}
 use Rattle.rehearse.specs.declared.devices_error.DevicesError.{DevicesError}
 use Rattle.rehearse.specs.declared.devices_error.DevicesError.TheVariants.{BadLine, BuiltIn}
@@ -22,16 +24,6 @@ use Rattle.rehearse.specs.declared.devices_error.DevicesError.TheVariants.{BadLi
 -- what is accepted is one value
 accepted-same : {T : Type 0} {x y : T} → (let r : Result T DevicesError = Ok x in r) ≡ Ok y → x ≡ y
 accepted-same e = cc
-
-not_found : (test : ℕ → Bool) (bytes : Text) → list_any test bytes ≡ false → position test bytes ≡ None
-not_found test bytes none = by (position test bytes) refl
-  where
-    by : (o : Option ℕ) → position test bytes ≡ o → o ≡ None
-    by None is = refl
-    by (Some at) is =
-        let found = position-Some test bytes at 0 is in
-        let some : list_any test bytes ≡ true = list_any_at test bytes at 0 found.0 found.1 in
-        absurd (let f = sym some ∙ none in cc)
 
 -- ---- settings
 
@@ -80,10 +72,10 @@ abbrev now_line : Text × EarlierEffect → DeviceLine
 now_line e = record { name = e.0; word = None; effect = now_effect e.1 }
 
 module _ (number : ℕ) (e : Text × EarlierEffect) where
-  named-same : (ends : Bool) (name : Text) (words : List Text) → earlier_with number ends name (earlier_settings words) ≡ Ok e → line_of number (named ends name words) ≡ Ok (now_line e)
-  named-same ends name words h = ap (line_with number (named ends name words)) (settings-same words) ∙ by (earlier_settings words) (is_built_in name) refl h
+  named-same : (ends : Bool) (name : Text) (words : List Text) → earlier_with number ends name (earlier_settings words) ≡ Ok e → line_of number (named ends false name words) ≡ Ok (now_line e)
+  named-same ends name words h = ap (line_with number (named ends false name words)) (settings-same words) ∙ by (earlier_settings words) (is_built_in name) refl h
     where
-      by : (o : Option (List (Text × Text))) (b : Bool) → is_built_in name ≡ b → earlier_with number ends name o ≡ Ok e → line_with number (named ends name words) (option_map (map of_variable) o) ≡ Ok (now_line e)
+      by : (o : Option (List (Text × Text))) (b : Bool) → is_built_in name ≡ b → earlier_with number ends name o ≡ Ok e → line_with number (named ends false name words) (option_map (map of_variable) o) ≡ Ok (now_line e)
       by None b is f = cc
       by (Some sets) true is f = let g : earlier_with number ends name (Some sets) ≡ Err (BuiltIn number) = rw is refl in cc
       by (Some sets) false is f =
@@ -98,7 +90,7 @@ module _ (number : ℕ) (e : Text × EarlierEffect) where
       let f : earlier_settings (second ∷ words) ≡ None = ap (with_settings words) (ap (setting_at second) gone) in
       let g : earlier_with number ends name None ≡ Ok e = ap (earlier_with number ends name) (sym f) ∙ h in cc
 
-  call-same : (ends : Bool) (first : Text) (words : List Text) → earlier_with number ends first (earlier_settings words) ≡ Ok e → line_of number (call_of ends first words) ≡ Ok (now_line e)
+  call-same : (ends : Bool) (first : Text) (words : List Text) → earlier_with number ends first (earlier_settings words) ≡ Ok e → line_of number (call_of ends false first words) ≡ Ok (now_line e)
   call-same ends first [] h = named-same ends first [] h
   call-same ends first (second ∷ []) h = named-same ends first (second ∷ []) h
   call-same ends first (second ∷ third ∷ words) h =
@@ -114,7 +106,7 @@ module _ (number : ℕ) (e : Text × EarlierEffect) where
       is_false true f = absurd (let g = f in cc)
       is_false false f = refl
 
-  line-same : (first : Text) (words : List Text) → earlier_line number first words ≡ Ok e → line_of number (heading_of first words) ≡ Ok (now_line e)
+  line-same : (first : Text) (words : List Text) → earlier_line number first words ≡ Ok e → line_of number (known_heading first words) ≡ Ok (now_line e)
   line-same first [] h = named-same false first [] h
   line-same first (second ∷ words) h =
       elim (cases_Bool (bytes_eq first (codes "final") && not (list_any is_equals second))) [
@@ -131,7 +123,7 @@ module _ (number : ℕ) (e : Text × EarlierEffect) where
 joint-same : (more : EarlierEffect) (before : Option EarlierEffect) → joint_behind (now_effect more) (option_map now_effect before) ≡ now_effect (earlier_joint more before)
 joint-same more None = refl
 joint-same more (Some before) =
-    ap (λ s. let e : Effect = record { ends = before.ends || more.ends; sets = s } in e) (sym (map-append of_variable before.sets more.sets))
+    ap (λ s. let e : Effect = record { ends = before.ends || more.ends; stays = false; sets = s } in e) (sym (map-append of_variable before.sets more.sets))
 
 joined-same : (devices : EarlierDevices) (name : Text) (more : EarlierEffect) → joined_in (now_effects devices) name (now_effect more) ≡ now_effects (changed_at (earlier_joint more) devices name)
 joined-same [] name more = refl
@@ -150,7 +142,7 @@ words-same devices next number line (first ∷ words) e =
     by (begins_comment first) (list_any (λ b. eqb b 0) line) (earlier_line number first words) refl e
   where
     by : (comment nul : Bool) (r : Result (Text × EarlierEffect) DevicesError) → earlier_line number first words ≡ r → cond comment (Ok devices) (cond nul (Err (BadLine number)) (earlier_more devices r)) ≡ Ok next
-        → cond comment (Ok (only (now_effects devices))) (cond nul (Err (BadLine number)) (with_line (only (now_effects devices)) (line_of number (heading_of first words)))) ≡ Ok (only (now_effects next))
+        → cond comment (Ok (only (now_effects devices))) (cond nul (Err (BadLine number)) (with_line (only (now_effects devices)) (line_of number (known_heading first words)))) ≡ Ok (only (now_effects next))
     by true nul r is f = ap (λ ds. let r : Result Devices DevicesError = Ok (only (now_effects ds)) in r) (accepted-same f)
     by false true r is f = cc
     by false false (Err fault) is f = cc

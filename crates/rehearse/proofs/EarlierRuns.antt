@@ -15,7 +15,7 @@ use Rattle.rehearse.specs.Listing.{record_text, listing}
 use Rattle.rehearse.specs.EarlierExecution.{EarlierTask, task_now, bounds_of_task, earlier_logged, earlier_answer, earlier_ask, earlier_others, earlier_run_on, EarlierRunsStand, EarlierListingsStand, EarlierRestsStand}
 use Rattle.rehearse.proofs.JoinedLines.{ok-same}
 use Rattle.rehearse.proofs.EarlierLists.{earlier_lists_stand, earlier_calls_stand, earlier_settings_stand}
-use Rattle.rehearse.proofs.GivenRuns.{Does, AreGiven, run-same}
+use Rattle.rehearse.proofs.GivenRuns.{Does, AreGivenByList, given_by_list, run-same}
 
 effect-earlier : (devices : EarlierDevices) (name : Text) → effect_in (now_effects devices) name ≡ option_map now_effect (lookup (bytes_eq name) devices)
 effect-earlier [] name = refl
@@ -27,7 +27,7 @@ effect-earlier (d ∷ devices) name = by (bytes_eq name d.0) (effect-earlier dev
     by false rest = rest
 
 take-earlier : (effect : EarlierEffect) (name : Text) (words : List Text) (w : OutcomeWord) (s : State)
-    → take_outcome (record { name = name; words = words; effect = now_effect effect }) w s ≡ earlier_answer effect name words w s
+    → take_outcome (record { name = name; words = words; effect = now_effect effect; again = false }) w s ≡ earlier_answer effect name words w s
 take-earlier effect name words [] s = refl
 take-earlier effect name words (Success ∷ more) s =
     ap (λ (sets : List (Text × Text)). boot effect.ends name (set_environment sets (earlier_logged Success (name ∷ words) (record s { word = more })))) (earlier_settings_stand effect words)
@@ -48,14 +48,15 @@ module _ (task : EarlierTask) where
     | false ↦ Ended CutDevices s
   ]
 
-  others-same : AreGiven (bounds_of_task task) (only (now_effects task.devices)) (earlier_others task)
+  others-same : AreGivenByList (bounds_of_task task) (only (now_effects task.devices)) (earlier_others task)
   others-same f name words s =
       ap (λ (e : Option Effect). command limits f (elim e [ Some effect ↦ Device effect | None ↦ NoCommand ]) name words s)
       (earlier_calls_stand task.devices name words ∙ effect-earlier task.devices name)
       ∙ other-same f (lookup (bytes_eq name) task.devices) name words s
 
   run-earlier : (w : OutcomeWord) → run_on (task_now (only (now_effects task.devices)) task) w ≡ earlier_run_on task w
-  run-earlier w = run-same (bounds_of_task task) (only (now_effects task.devices)) refl (earlier_others task) others-same task.environment task.name task.text w
+  run-earlier w = run-same (bounds_of_task task) (only (now_effects task.devices)) refl (earlier_others task)
+      (given_by_list (bounds_of_task task) (only (now_effects task.devices)) (earlier_others task) refl others-same) task.environment task.name task.text w
 
 pub earlier_runs_stand : EarlierRunsStand
 earlier_runs_stand text devices task w earlier now =

@@ -1,18 +1,20 @@
 -- Runs by a definition that is given what a command does that is not built in.
-use Rattle.std.proofs.Common.{◌≡◌, ℕ, zero, suc, nat_eq, true, false, cond, List, [], ◌∷◌, Option, Some, None, refl, ap, ◌∙◌}
+use Rattle.std.proofs.Common.{◌≡◌, ℕ, zero, suc, nat_lt, nat_eq, Bool, true, false, cond, List, [], ◌∷◌, length, Option, Some, None, codes, refl, sym, ap, ◌∙◌}
+use Rattle.std.specs.Cmp.Lexicographic.{bytes_decides}
 use Rattle.hushlang.specs.Tree as tree
 use Rattle.hushlang.specs.Tree.{Script, AndOr, Joined, Command, Arms}
 use Rattle.hushlang.specs.Expansion.{fields}
 use Rattle.rehearse.specs.Outcomes.{OutcomeWord}
-use Rattle.rehearse.specs.State.{Text, Variables, State, get, start, parameters_in}
+use Rattle.rehearse.specs.State.{Text, Variables, State, get, start, answer_in, parameters_in}
 use Rattle.std.specs.List.{list_any}
 use Rattle.std.specs.Str.{bytes_eq}
-use Rattle.rehearse.specs.Builtins.{Builtin, known_of, builtin_of}
+use Rattle.rehearse.specs.Builtins.{Builtin, Known, known_of, builtin_of}
 use Rattle.rehearse.specs.Computed.{Computed, computes}
-use Rattle.rehearse.specs.Commands.{Deed, ChangesVariables, WritesText, RunsTexts, Tests, Exits, Called, BuiltIn, deed_of, carried, listed_by, called_by_name, called_by}
-use Rattle.rehearse.specs.DeviceList.{Devices}
-use Rattle.rehearse.specs.Execution.{Limits, Answer, Normal, Ended, CutSteps, go_on, set_status, goes, begin, command, simple, sized, turns, for_each, text_end, run_text, run_all, exec_script, exec_list, exec_joined, exec_command, exec_arms, exec}
-use Rattle.rehearse.specs.GivenExecution.{Others, given_simple, given_script, given_list, given_joined, given_command, given_arms, given_exec, given_run_on}
+use Rattle.rehearse.specs.Commands.{Deed, ChangesVariables, WritesText, RunsTexts, Tests, Exits, Called, BuiltIn, deed_of, carried, listed_by, asks_device, called_by}
+use Rattle.rehearse.specs.Verdict.{verdict}
+use Rattle.rehearse.specs.DeviceList.{Devices, computed_by}
+use Rattle.rehearse.specs.Execution.{Limits, Answer, Normal, Ended, CutDevices, CutSteps, Request, tell_or_take, device, go_on, set_status, status_when, goes, begin, command, simple, sized, turns, for_each, text_end, run_text, run_all, exec_script, exec_list, exec_joined, exec_command, exec_arms, exec}
+use Rattle.rehearse.specs.GivenExecution.{Others, asked_anew, given_builtin, given_simple, given_script, given_list, given_joined, given_command, given_arms, given_exec, given_run_on}
 
 -- what a part of a script does to states
 abbrev pub Does : Type 0
@@ -35,33 +37,93 @@ module _ (here there : Limits) (f g : Script → Does) (same : f ≡ g) where
 abbrev limits : Limits → Devices → Limits
 limits bounds devices = record bounds { devices = devices }
 
+-- what a command is that is not built in: its call is computed, or it goes by the list
+abbrev pub other_called : Devices → (name : Text) → (words : List Text) → Called
+other_called devices name words = elim (computed_by devices name words) [
+  | Some computed ↦ BuiltIn (ChangesVariables (λ ws. carried computed))
+  | None ↦ listed_by devices name words
+]
+
 -- in each script, a command that is not built in does what is given
 abbrev pub AreGiven : Limits → Devices → Others → Type 0
 AreGiven bounds devices others = (f : Script → Does) (name : Text) (words : List Text) (s : State)
+    → command (limits bounds devices) f (other_called devices name words) name words s ≡ others name words s
+
+-- the same if no command is computed
+abbrev pub AreGivenByList : Limits → Devices → Others → Type 0
+AreGivenByList bounds devices others = (f : Script → Does) (name : Text) (words : List Text) (s : State)
     → command (limits bounds devices) f (listed_by devices name words) name words s ≡ others name words s
 
--- if no command is computed, a call goes by its name
-uncomputed : (devices : Devices) (name : Text) (words : List Text) → devices.known ≡ [] → called_by devices name words ≡ called_by_name devices name words
-uncomputed devices name words none =
+pub given_by_list : (bounds : Limits) (devices : Devices) (others : Others) → devices.known ≡ [] → AreGivenByList bounds devices others → AreGiven bounds devices others
+given_by_list bounds devices others none given f name words s =
     ap (λ (names : List Text). let o : Option Computed = cond (list_any (bytes_eq name) names) (elim (known_of name) [ Some known ↦ computes known words | None ↦ None ]) None in
-    let c : Called = elim o [ Some computed ↦ BuiltIn (ChangesVariables (λ ws. carried computed)) | None ↦ called_by_name devices name words ] in c) none
+    let c : Called = elim o [ Some computed ↦ BuiltIn (ChangesVariables (λ ws. carried computed)) | None ↦ listed_by devices name words ] in command (limits bounds devices) f c name words s) none
+    ∙ given f name words s
 
-module _ (bounds : Limits) (devices : Devices) (none : devices.known ≡ []) (others : Others) (given : AreGiven bounds devices others) where
+-- a built-in command is not computed
+not_known : (name : Text) (builtin : Builtin) → builtin_of name ≡ Some builtin → known_of name ≡ None
+not_known name builtin e = by (bytes_eq name (codes "env")) (bytes_eq name (codes "itest")) (bytes_eq name (codes "setexpr")) refl refl refl
+  where
+    one : (known : Text) → builtin_of known ≡ None → name ≡ known → known_of name ≡ None
+    one known other is = absurd (let f : builtin_of name ≡ None = ap builtin_of is ∙ other in let g = sym f ∙ e in cc)
+
+    by : (a b c : Bool) → bytes_eq name (codes "env") ≡ a → bytes_eq name (codes "itest") ≡ b → bytes_eq name (codes "setexpr") ≡ c → known_of name ≡ None
+    by true b c p q r = one (codes "env") refl ((bytes_decides name (codes "env")).0 p)
+    by false true c p q r = one (codes "itest") refl ((bytes_decides name (codes "itest")).0 q)
+    by false false true p q r = one (codes "setexpr") refl ((bytes_decides name (codes "setexpr")).0 r)
+    by false false false p q r = rw (p, q, r) refl
+
+abbrev chosen : Devices → (name : Text) → (words : List Text) → Option Computed → Option Builtin → Called
+chosen devices name words o b = elim o [
+  | Some computed ↦ BuiltIn (ChangesVariables (λ ws. carried computed))
+  | None ↦ elim b [ Some builtin ↦ BuiltIn (deed_of builtin) | None ↦ listed_by devices name words ]
+]
+
+called_apart : (devices : Devices) (name : Text) (words : List Text)
+    → called_by devices name words ≡ elim (builtin_of name) [ Some builtin ↦ BuiltIn (deed_of builtin) | None ↦ other_called devices name words ]
+called_apart devices name words = by (builtin_of name) refl
+  where
+    none_if : (b : Bool) → ◌≡◌ {A = Option Computed} (cond b None None) None
+    none_if true = refl
+    none_if false = refl
+
+    by : (b : Option Builtin) → builtin_of name ≡ b → called_by devices name words ≡ elim b [ Some builtin ↦ BuiltIn (deed_of builtin) | None ↦ other_called devices name words ]
+    by None e = ap (chosen devices name words (computed_by devices name words)) e
+    by (Some builtin) e =
+        let none : computed_by devices name words ≡ None =
+        ap (λ (k : Option Known). let o : Option Computed = cond (list_any (bytes_eq name) devices.known) (elim k [ Some known ↦ computes known words | None ↦ None ]) None in o) (not_known name builtin e)
+        ∙ none_if (list_any (bytes_eq name) devices.known) in
+        (λ i. chosen devices name words (none i) (e i))
+
+-- a device command whose answers do not stay asks each time
+pub asks_anew : (bounds : Limits) (request : Request) (s : State) → request.effect.stays ≡ false → device bounds request s ≡ asked_anew bounds request s
+asks_anew bounds request s e = ap (λ (b : Bool). let a : Answer = elim (nat_lt (length s.log) bounds.device_bound) [
+  | true ↦ tell_or_take (cond b (answer_in s.log (request.name ∷ request.words)) None) request s
+  | false ↦ Ended CutDevices s
+] in a) e
+
+module _ (bounds : Limits) (devices : Devices) (test : devices.test_stays ≡ false) (others : Others) (given : AreGiven bounds devices others) where
   module _ (f g : Script → Does) (same : f ≡ g) where
-    builtin-same : (d : Deed) (name : Text) (words : List Text) (s : State) → command (limits bounds devices) f (BuiltIn d) name words s ≡ command bounds g (BuiltIn d) name words s
+    test-same : (name : Text) (words : List Text) (s : State) → command (limits bounds devices) f (BuiltIn Tests) name words s ≡ given_builtin bounds g Tests name words s
+    test-same name words s = ap (λ (b : Bool). let a : Answer = elim (asks_device words) [
+      | true ↦ device (limits bounds devices) (record { name = name; words = words; effect = record { ends = false; stays = b; sets = [] }; again = false }) s
+      | false ↦ Normal (set_status (status_when (verdict words)) s)
+    ] in a) test
+
+    builtin-same : (d : Deed) (name : Text) (words : List Text) (s : State) → command (limits bounds devices) f (BuiltIn d) name words s ≡ given_builtin bounds g d name words s
     builtin-same (ChangesVariables change) name words s = refl
     builtin-same (WritesText written) name words s = refl
     builtin-same RunsTexts name [] s = refl
     builtin-same RunsTexts name (w ∷ ws) s = λ i. run_all-same (limits bounds devices) bounds f g same (w ∷ ws) i s
-    builtin-same Tests name words s = refl
+    builtin-same Tests name words s = test-same name words s
     builtin-same Exits name words s = refl
 
     simple-same : (fs : List Text) (s : State) → simple (limits bounds devices) f fs s ≡ given_simple bounds others g fs s
     simple-same [] s = refl
-    simple-same (name ∷ words) s = ap (λ (c : Called). command (limits bounds devices) f c name words s) (uncomputed devices name words none) ∙ by (builtin_of name)
+    simple-same (name ∷ words) s = ap (λ (c : Called). command (limits bounds devices) f c name words s) (called_apart devices name words) ∙ by (builtin_of name)
       where
-        by : (b : Option Builtin) → ◌≡◌ {A = Answer} (command (limits bounds devices) f (elim b [ Some builtin ↦ BuiltIn (deed_of builtin) | None ↦ listed_by devices name words ]) name words s)
-            (elim b [ Some builtin ↦ command bounds g (BuiltIn (deed_of builtin)) name words s | None ↦ others name words s ])
+        by : (b : Option Builtin) → ◌≡◌ {A = Answer} (command (limits bounds devices) f (elim b [ Some builtin ↦ BuiltIn (deed_of builtin) | None ↦ other_called devices name words ]) name words s)
+            (elim b [ Some builtin ↦ given_builtin bounds g (deed_of builtin) name words s | None ↦ others name words s ])
         by (Some builtin) = builtin-same (deed_of builtin) name words s
         by None = given f name words s
 

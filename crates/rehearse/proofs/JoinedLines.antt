@@ -13,8 +13,8 @@ use Rattle.std.specs.Str.{bytes_eq}
 use Rattle.text.specs.Lines.{numbered_lines}
 use Rattle.std.proofs.Math.Bool.{or-false}
 use Rattle.rehearse.specs.Verdict.{Text}
-use Rattle.rehearse.specs.DeviceList.{Effect, Effects, Devices, DeviceLine, effect_at, changed_at, joint_behind, joined_behind, joined_by, joined, only, device_words, begins_comment, heading_of, line_of, known_named, with_known, after_known, after_words, after_line, listed_lines}
-use Rattle.rehearse.proofs.CallLists.{known_was_bad}
+use Rattle.rehearse.specs.DeviceList.{Effect, Effects, Devices, DeviceLine, effect_at, changed_at, joint_behind, joined_behind, joined_by, joined, only, device_words, begins_comment, heading_of, line_of, known_named, with_known, is_steady_test, after_known, after_words, after_line, listed_lines}
+use Rattle.rehearse.proofs.KnownLists.{known_was_bad, test_is_built_in}
 use Rattle.rehearse.specs.DeviceLaws.{line_said, with_said, lines_said, lines_at, same_word, whole_effect, LinesAreJoined}
 use Rattle.rehearse.specs.declared.devices_error.DevicesError.{DevicesError}
 use Rattle.rehearse.specs.declared.devices_error.DevicesError.TheVariants.{BadLine}
@@ -82,11 +82,14 @@ effect_at-joined_other devices name (Some u) key (Some v) more e =
 
 whole_effect-more : (before : List DeviceLine) (one : DeviceLine) → whole_effect (before ++ one ∷ []) ≡ Some (joint_behind one.effect (whole_effect before))
 whole_effect-more [] one =
-    ap (λ b. let e : Effect = record { ends = b; sets = one.effect.sets ++ [] } in Some e) (or-false one.effect.ends)
-    ∙ ap (λ s. let e : Effect = record { ends = one.effect.ends; sets = s } in Some e) (append-nil one.effect.sets)
+    ap (λ b. let e : Effect = record { ends = b; stays = one.effect.stays || false; sets = one.effect.sets ++ [] } in Some e) (or-false one.effect.ends)
+    ∙ ap (λ b. let e : Effect = record { ends = one.effect.ends; stays = b; sets = one.effect.sets ++ [] } in Some e) (or-false one.effect.stays)
+    ∙ ap (λ s. let e : Effect = record { ends = one.effect.ends; stays = one.effect.stays; sets = s } in Some e) (append-nil one.effect.sets)
 whole_effect-more (l ∷ before) one =
     let ends : list_any (λ l. l.effect.ends) ((l ∷ before) ++ one ∷ []) ≡ (list_any (λ l. l.effect.ends) (l ∷ before) || one.effect.ends) =
     list_any-append (λ l. l.effect.ends) (l ∷ before) (one ∷ []) ∙ ap (λ b. list_any (λ l. l.effect.ends) (l ∷ before) || b) (or-false one.effect.ends) in
+    let stays : list_any (λ l. l.effect.stays) ((l ∷ before) ++ one ∷ []) ≡ (list_any (λ l. l.effect.stays) (l ∷ before) || one.effect.stays) =
+    list_any-append (λ l. l.effect.stays) (l ∷ before) (one ∷ []) ∙ ap (λ b. list_any (λ l. l.effect.stays) (l ∷ before) || b) (or-false one.effect.stays) in
     let sets : flat_map (λ l. l.effect.sets) ((l ∷ before) ++ one ∷ []) ≡ flat_map (λ l. l.effect.sets) (l ∷ before) ++ one.effect.sets =
     flat_map-append (λ l. l.effect.sets) (l ∷ before) (one ∷ []) ∙ ap (λ s. flat_map (λ l. l.effect.sets) (l ∷ before) ++ s) (append-nil one.effect.sets) in
     cc
@@ -123,25 +126,36 @@ IsWhole-next devices next before one e h name word = ap (λ d. effect_at d name 
 
 -- a command that is computed has the lines that it had
 IsWhole-known : (devices : Devices) (before : List DeviceLine) (added : Text) → IsWhole devices before → IsWhole (with_known devices added) before
-IsWhole-known devices before added h name None = h name None
-IsWhole-known devices before added h name (Some word) = h name (Some word)
+IsWhole-known devices before added h = by (list_any (bytes_eq added) devices.known)
+  where
+    by : (b : Bool) → IsWhole (cond b devices (record devices { known = devices.known ++ added ∷ [] })) before
+    by true name word = h name word
+    by false name None = h name None
+    by false name (Some word) = h name (Some word)
+
+-- and so it is if the answers of `test -e` stay
+IsWhole-test : (devices : Devices) (before : List DeviceLine) → IsWhole devices before → IsWhole (record devices { test_stays = true }) before
+IsWhole-test devices before h name None = h name None
+IsWhole-test devices before h name (Some word) = h name (Some word)
 
 -- one more line
 IsWhole-words : (devices next : Devices) (before : List DeviceLine) (number : ℕ) (line : Text) (words : List Text) → after_words devices number line words ≡ Ok next
     → IsWhole devices before → IsWhole next (before ++ with_said (line_said number words) [])
 IsWhole-words devices next before number line [] e h = IsWhole-kept devices next before (ok-same e) h
 IsWhole-words devices next before number line (first ∷ words) e h =
-    by (known_named first words) refl (begins_comment first) (list_any (λ b. eqb b 0) line) (line_of number (heading_of first words)) refl e
+    by (known_named first words) refl (is_steady_test first words) refl (begins_comment first) (list_any (λ b. eqb b 0) line) (line_of number (heading_of first words)) refl e
   where
-    by : (o : Option Text) → known_named first words ≡ o → (comment nul : Bool) (r : Result DeviceLine DevicesError) → line_of number (heading_of first words) ≡ r
-        → cond comment (Ok devices) (cond nul (Err (BadLine number)) (after_known devices o r)) ≡ Ok next
+    by : (o : Option Text) → known_named first words ≡ o → (test : Bool) → is_steady_test first words ≡ test → (comment nul : Bool) (r : Result DeviceLine DevicesError) → line_of number (heading_of first words) ≡ r
+        → cond comment (Ok devices) (cond nul (Err (BadLine number)) (after_known devices o test r)) ≡ Ok next
         → IsWhole next (before ++ with_said (cond comment None (result_ok r)) [])
-    by o is true nul r line_is e = IsWhole-kept devices next before (ok-same e) h
-    by o is false true r line_is e = cc
-    by None is false false (Err fault) line_is e = cc
-    by None is false false (Ok one) line_is e = IsWhole-next devices next before one (ok-same e) h
-    by (Some name) is false false (Err fault) line_is e = IsWhole-kept (with_known devices name) next before (ok-same e) (IsWhole-known devices before name h)
-    by (Some name) is false false (Ok one) line_is e = absurd (let bad = sym (known_was_bad number first words name is) ∙ line_is in cc)
+    by o is test at true nul r line_is e = IsWhole-kept devices next before (ok-same e) h
+    by o is test at false true r line_is e = cc
+    by None is false at false false (Err fault) line_is e = cc
+    by None is false at false false (Ok one) line_is e = IsWhole-next devices next before one (ok-same e) h
+    by None is true at false false (Err fault) line_is e = IsWhole-kept (record devices { test_stays = true }) next before (ok-same e) (IsWhole-test devices before h)
+    by None is true at false false (Ok one) line_is e = absurd (let bad = sym (test_is_built_in number first words at) ∙ line_is in cc)
+    by (Some name) is test at false false (Err fault) line_is e = IsWhole-kept (with_known devices name) next before (ok-same e) (IsWhole-known devices before name h)
+    by (Some name) is test at false false (Ok one) line_is e = absurd (let bad = sym (known_was_bad number first words name is) ∙ line_is in cc)
 
 with_said-append : (o : Option DeviceLine) (more : List DeviceLine) → with_said o [] ++ more ≡ with_said o more
 with_said-append None more = refl

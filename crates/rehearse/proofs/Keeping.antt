@@ -1,15 +1,16 @@
 -- A script reads its word only by the outcomes that it takes.
-use Rattle.std.proofs.Common.{ℕ, zero, suc, Bool, true, false, List, [], ◌∷◌, ◌++◌, length, Option, Some, None, refl, sym, ap, ◌∙◌, ◌≡◌, ◌≢◌, ◌<◌, ◌≤◌, map, append_assoc, append-nil, length-append, arith, ◌+◌, nat_lt, nat_le, nat_eq, ltb-true}
+use Rattle.std.proofs.Common.{ℕ, zero, suc, Bool, true, false, not, cond, List, [], ◌∷◌, ◌++◌, length, Option, Some, None, refl, sym, ap, ◌∙◌, ◌≡◌, ◌≢◌, ◌<◌, ◌≤◌, map, append_assoc, append-nil, length-append, arith, ◌+◌, nat_lt, nat_le, nat_eq, ltb-true}
 use Rattle.std.proofs.lemmas.List.{map-append}
+use Rattle.std.proofs.lemmas.List.Elements.{filter-append}
 use Rattle.rehearse.specs.Outcomes.{OutcomeWord, Outcome, Success, Failure}
 use Rattle.hushlang.specs.Tree as tree
 use Rattle.hushlang.specs.Tree.{Script, AndOr, Joined, Command, Arms}
-use Rattle.rehearse.specs.State.{Text, get, Memory, State, parameters_in, LoggedCommand}
+use Rattle.rehearse.specs.State.{Text, get, Memory, State, parameters_in, LoggedCommand, asked_of}
 use Rattle.hushlang.specs.Expansion.{fields, joined, size, most_bytes}
 use Rattle.rehearse.specs.Trees.{tree_of}
 use Rattle.rehearse.specs.Verdict.{verdict}
 use Rattle.rehearse.specs.Commands.{Called, ChangesVariables, WritesText, RunsTexts, Tests, Exits, BuiltIn, Device, NoCommand, called_by, sets_in, asks_device, exit_status, variables_changed, text_written}
-use Rattle.rehearse.specs.Execution.{Limits, Answer, Normal, Exit, Ended, Dry, Ending, CutDevices, CutSteps, Unknown, Syntax, Size, go_on, remember, set_status, set_local, status_when, goes, holds, begin, take_outcome, device, Request, no_effect, logged, set_environment, boot, text_end, run_text, run_all, command, simple, sized, assign, turns, for_each, exec_script, exec_list, exec_joined, exec_command, exec_arms, exec, succeeds}
+use Rattle.rehearse.specs.Execution.{Limits, Answer, Normal, Exit, Ended, Dry, Ending, CutDevices, CutSteps, Unknown, Syntax, Size, go_on, remember, set_status, set_local, status_when, goes, holds, begin, take_outcome, with_outcome, outcome_when, told, told_again, tell_or_take, device, Request, test_effect, logged, set_environment, boot, text_end, run_text, run_all, command, simple, sized, assign, turns, for_each, exec_script, exec_list, exec_joined, exec_command, exec_arms, exec, succeeds}
 use Rattle.rehearse.specs.Runs.{state_of}
 
 -- the state with these outcomes after its own
@@ -18,13 +19,26 @@ more x s = record s { word = s.word ++ x }
 
 -- the outcomes in a log
 abbrev pub answers : List LoggedCommand → List Bool
-answers log = map (λ e. e.success) log
+answers log = map (λ e. e.success) (asked_of log)
+
+-- one more command took an outcome
+answers-asked : (log : List LoggedCommand) (e : LoggedCommand) → e.again ≡ false → answers (log ++ e ∷ []) ≡ answers log ++ e.success ∷ []
+answers-asked log e is =
+    let one : asked_of (e ∷ []) ≡ e ∷ [] = ap (λ (b : Bool). cond (not b) (e ∷ []) []) is in
+    ap (map (λ e. e.success)) (filter-append (λ e. not e.again) log (e ∷ []) ∙ ap (λ (es : List LoggedCommand). asked_of log ++ es) one)
+    ∙ map-append (λ e. e.success) (asked_of log) (e ∷ [])
+
+-- or was told an answer again
+answers-again : (log : List LoggedCommand) (e : LoggedCommand) → e.again ≡ true → answers (log ++ e ∷ []) ≡ answers log
+answers-again log e is =
+    let none : asked_of (e ∷ []) ≡ [] = ap (λ (b : Bool). cond (not b) (e ∷ []) []) is in
+    ap (map (λ e. e.success)) (filter-append (λ e. not e.again) log (e ∷ []) ∙ ap (λ (es : List LoggedCommand). asked_of log ++ es) none ∙ append-nil (asked_of log))
 
 -- s went on to t
 pub record GoesTo (s t : State) : Type 0 where
   pub taken : OutcomeWord
   pub word : s.word ≡ taken ++ t.word
-  pub log : length t.log ≡ length s.log + length taken
+  pub log : length s.log + length taken ≤ length t.log
   pub outcomes : answers t.log ≡ answers s.log ++ map succeeds taken
   pub steps : s.steps ≤ t.steps
 
@@ -180,16 +194,31 @@ module _ (limits : Limits) where
   boot-steps true name t = refl
   boot-steps false name t = refl
 
-  took : (s : State) (r : Request) (d : Outcome) (rest : OutcomeWord) → s.word ≡ d ∷ rest → GoesTo s (logged d r (record s { word = rest }))
-  took s r d rest e = record { taken = d ∷ []; word = e; log = length-append s.log (record { success = succeeds d; words = r.name ∷ r.words } ∷ []); outcomes = map-append (λ e. e.success) s.log (record { success = succeeds d; words = r.name ∷ r.words } ∷ []); steps = omega arith }
+  -- its entry in the log
+  abbrev entry : Outcome → Request → LoggedCommand
+  entry d r = record { success = succeeds d; words = r.name ∷ r.words; stays = r.effect.stays; again = r.again }
 
-  asked : (s : State) (r : Request) (rest : OutcomeWord) → length s.log < limits.device_bound → s.word ≡ rest → Track limits.device_bound s (take_outcome r rest s)
-  asked s r [] room e = (stays s, e, room)
-  asked s r (Success ∷ rest) room e =
-      let t : State = logged Success r (record s { word = rest }) in
-      let u : State = set_environment (sets_in r.words r.effect.sets) t in
-      boot-track r.effect.ends r.name s u (GoesTo-trans s t u (took s r Success rest e) (remembers t (λ m. (set_environment (sets_in r.words r.effect.sets) (record t { memory = m })).memory)))
-  asked s r (Failure ∷ rest) room e = took s r Failure rest e
+  took : (s : State) (r : Request) (d : Outcome) (rest : OutcomeWord) → r.again ≡ false → s.word ≡ d ∷ rest → GoesTo s (logged d r (record s { word = rest }))
+  took s r d rest fresh e = record { taken = d ∷ []; word = e; log = (let l = length-append s.log (entry d r ∷ []) in omega arith); outcomes = answers-asked s.log (entry d r) fresh; steps = omega arith }
+
+  was_told : (s : State) (r : Request) (d : Outcome) → GoesTo s (logged d (told_again r) s)
+  was_told s r d = record { taken = []; word = refl; log = (let l = length-append s.log (entry d (told_again r) ∷ []) in omega arith); outcomes = answers-again s.log (entry d (told_again r)) refl ∙ sym (append-nil (answers s.log)); steps = omega arith }
+
+  -- a device command with its outcome
+  with-track : (s t : State) (r : Request) (d : Outcome) → GoesTo s (logged d r t) → Track limits.device_bound s (with_outcome d r t)
+  with-track s t r Success g =
+      let l : State = logged Success r t in
+      let u : State = set_environment (sets_in r.words r.effect.sets) l in
+      boot-track r.effect.ends r.name s u (GoesTo-trans s l u g (remembers l (λ m. (set_environment (sets_in r.words r.effect.sets) (record l { memory = m })).memory)))
+  with-track s t r Failure g = g
+
+  with-extends : (t : State) (r : Request) (d : Outcome) (x : OutcomeWord) → Extends x (with_outcome d r t) (with_outcome d r (more x t))
+  with-extends t r Success x = boot-extends x r.effect.ends r.name (set_environment (sets_in r.words r.effect.sets) (logged Success r t))
+  with-extends t r Failure x = refl
+
+  asked : (s : State) (r : Request) (rest : OutcomeWord) → r.again ≡ false → length s.log < limits.device_bound → s.word ≡ rest → Track limits.device_bound s (take_outcome r rest s)
+  asked s r [] fresh room e = (stays s, e, room)
+  asked s r (d ∷ rest) fresh room e = with-track s (record s { word = rest }) r d (took s r d rest fresh e)
 
   asked-extends : (s : State) (r : Request) (rest x : OutcomeWord) → Extends x (take_outcome r rest s) (take_outcome r (rest ++ x) (more x s))
   asked-extends s r [] [] = (λ ne. absurd (ne refl), omega arith)
@@ -197,18 +226,23 @@ module _ (limits : Limits) where
       let t : State = set_environment (sets_in r.words r.effect.sets) (logged Success r (record s { word = x })) in
       (λ ne. boot-less r.effect.ends r.name x t refl, let e = boot-steps r.effect.ends r.name t in omega arith)
   asked-extends s r [] (Failure ∷ x) = (λ ne. omega arith, omega arith)
-  asked-extends s r (Success ∷ rest) x = boot-extends x r.effect.ends r.name (set_environment (sets_in r.words r.effect.sets) (logged Success r (record s { word = rest })))
-  asked-extends s r (Failure ∷ rest) x = refl
+  asked-extends s r (d ∷ rest) x = with-extends (record s { word = rest }) r d x
 
-  pub Keeps-take : (s : State) (r : Request) → length s.log < limits.device_bound → Keeps limits.device_bound s (λ t. take_outcome r t.word t)
-  Keeps-take s r room = (asked s r s.word room refl, λ x. asked-extends s r s.word x)
+  pub Keeps-take : (s : State) (r : Request) → r.again ≡ false → length s.log < limits.device_bound → Keeps limits.device_bound s (λ t. take_outcome r t.word t)
+  Keeps-take s r fresh room = (asked s r s.word fresh room refl, λ x. asked-extends s r s.word x)
 
-  pub Keeps-device-if : (s : State) (r : Request) (b : Bool) → (b ≡ true → length s.log < limits.device_bound) → Keeps limits.device_bound s (λ t. elim b [ true ↦ take_outcome r t.word t | false ↦ Ended CutDevices t ])
-  Keeps-device-if s r true room = Keeps-take s r (room refl)
-  Keeps-device-if s r false room = Keeps-ended limits.device_bound s CutDevices
+  Keeps-tell : (s : State) (r : Request) (o : Option Bool) → r.again ≡ false → length s.log < limits.device_bound → Keeps limits.device_bound s (λ t. tell_or_take o r t)
+  Keeps-tell s r None fresh room = Keeps-take s r fresh room
+  Keeps-tell s r (Some success) fresh room =
+      let d : Outcome = outcome_when success in
+      (with-track s s (told_again r) d (was_told s r d), λ x. with-extends s (told_again r) d x)
 
-  pub Keeps-device : (r : Request) → KeepsAll (device limits r)
-  Keeps-device r s = Keeps-device-if s r (nat_lt (length s.log) limits.device_bound) (λ e. ltb-true (length s.log) limits.device_bound e)
+  pub Keeps-device-if : (s : State) (r : Request) (b : Bool) (o : Option Bool) → r.again ≡ false → (b ≡ true → length s.log < limits.device_bound) → Keeps limits.device_bound s (λ t. elim b [ true ↦ tell_or_take o r t | false ↦ Ended CutDevices t ])
+  Keeps-device-if s r true o fresh room = Keeps-tell s r o fresh (room refl)
+  Keeps-device-if s r false o fresh room = Keeps-ended limits.device_bound s CutDevices
+
+  pub Keeps-device : (r : Request) → r.again ≡ false → KeepsAll (device limits r)
+  Keeps-device r fresh s = Keeps-device-if s r (nat_lt (length s.log) limits.device_bound) (told r s.log) fresh (λ e. ltb-true (length s.log) limits.device_bound e)
 
   pub Keeps-sized : (fs : List Text) (f : List Text → State → Answer) → ((gs : List Text) → KeepsAll (f gs)) → KeepsAll (sized fs f)
   Keeps-sized fs f h s = Keeps-if limits.device_bound s (nat_le (size fs) most_bytes) (f fs) (Ended Size) (h fs s) (Keeps-ended limits.device_bound s Size)
@@ -247,10 +281,10 @@ module _ (limits : Limits) where
     Keeps-command (BuiltIn (ChangesVariables change)) name ws s = Keeps-normal limits.device_bound s (variables_changed change ws)
     Keeps-command (BuiltIn RunsTexts) name [] s = Keeps-normal limits.device_bound s (λ m. record m { status = 1 })
     Keeps-command (BuiltIn RunsTexts) name (w ∷ ws) s = Keeps-run (w ∷ ws) s
-    Keeps-command (BuiltIn Tests) name ws s = Keeps-if limits.device_bound s (asks_device ws) (device limits (record { name = name; words = ws; effect = no_effect })) (λ t. Normal (set_status (status_when (verdict ws)) t)) (Keeps-device (record { name = name; words = ws; effect = no_effect }) s) (Keeps-normal limits.device_bound s (λ m. record m { status = status_when (verdict ws) }))
+    Keeps-command (BuiltIn Tests) name ws s = Keeps-if limits.device_bound s (asks_device ws) (device limits (record { name = name; words = ws; effect = test_effect limits.devices; again = false })) (λ t. Normal (set_status (status_when (verdict ws)) t)) (Keeps-device (record { name = name; words = ws; effect = test_effect limits.devices; again = false }) refl s) (Keeps-normal limits.device_bound s (λ m. record m { status = status_when (verdict ws) }))
     Keeps-command (BuiltIn (WritesText written)) name ws s = Keeps-normal limits.device_bound s (text_written written ws)
     Keeps-command (BuiltIn Exits) name ws s = Keeps-leave (exit_status ws) s
-    Keeps-command (Device effect) name ws s = Keeps-device (record { name = name; words = ws; effect = effect }) s
+    Keeps-command (Device effect) name ws s = Keeps-device (record { name = name; words = ws; effect = effect; again = false }) refl s
     Keeps-command NoCommand name ws s = Keeps-ended limits.device_bound s (Unknown name)
 
     pub Keeps-simple : (fs : List Text) → KeepsAll (simple limits script fs)

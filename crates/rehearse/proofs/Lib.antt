@@ -17,10 +17,12 @@ pub mod Rehearsed
 mod ListingExamples
 mod ExecutionExamples
 mod BootingExamples
+mod SteadyExamples
 mod ResumingExamples
 pub mod DeviceLemmas
 pub mod ComputedLemmas
 mod DeviceListExamples
+pub mod KnownLists
 pub mod CallLists
 pub mod JoinedLines
 pub mod MapLemmas
@@ -31,6 +33,7 @@ pub mod GivenRuns
 pub mod PlainRuns
 pub mod EarlierRuns
 pub mod CallRuns
+pub mod KnownRuns
 mod PlainExecutionExamples
 pub mod VerdictLemmas
 mod VerdictExamples

@@ -14,7 +14,7 @@ use Rattle.rehearse.specs.Runs.{run_on, runs, rest, state_of, ending_of, kind_of
 use Rattle.rehearse.specs.Listing.{record_text, record_of, listing}
 use Rattle.rehearse.specs.PlainExecution.{PlainTask, task_over, bounds_alone, answer, ask, plain_others, plain_run_on, plain_runs, plain_rest, plain_record, PlainRunsStand, PlainListingsStand, PlainRestsStand}
 use Rattle.rehearse.proofs.JoinedLines.{ok-same}
-use Rattle.rehearse.proofs.GivenRuns.{Does, AreGiven, run-same}
+use Rattle.rehearse.proofs.GivenRuns.{Does, AreGivenByList, given_by_list, run-same}
 use Rattle.rehearse.proofs.PlainLists.{quiet_effects, quiet_names, plain_lists_stand}
 
 -- ---- what a name calls
@@ -34,7 +34,7 @@ effect-quiet names name (word ∷ words) = named-quiet names name
 
 -- ---- an outcome without an effect
 
-take-quiet : (name : Text) (words : List Text) (w : OutcomeWord) (s : State) → take_outcome (record { name = name; words = words; effect = quiet }) w s ≡ answer (name ∷ words) w s
+take-quiet : (name : Text) (words : List Text) (w : OutcomeWord) (s : State) → take_outcome (record { name = name; words = words; effect = quiet; again = false }) w s ≡ answer (name ∷ words) w s
 take-quiet name words [] s = refl
 take-quiet name words (Success ∷ rest) s = refl
 take-quiet name words (Failure ∷ rest) s = refl
@@ -56,13 +56,13 @@ module _ (task : PlainTask) where
     | false ↦ Ended CutDevices s
   ]
 
-  others-same : AreGiven (bounds_alone task) (quiet_names task.names) (plain_others task)
+  others-same : AreGivenByList (bounds_alone task) (quiet_names task.names) (plain_others task)
   others-same f name words s =
       ap (λ (e : Option Effect). command limits f (elim e [ Some effect ↦ Device effect | None ↦ NoCommand ]) name words s) (effect-quiet task.names name words)
       ∙ other-same f (list_any (bytes_eq name) task.names) name words s
 
   run-plain : (w : OutcomeWord) → run_on (task_over (quiet_names task.names) task) w ≡ plain_run_on task w
-  run-plain w = run-same (bounds_alone task) (quiet_names task.names) refl (plain_others task) others-same task.environment task.name task.text w
+  run-plain w = run-same (bounds_alone task) (quiet_names task.names) refl (plain_others task) (given_by_list (bounds_alone task) (quiet_names task.names) (plain_others task) refl others-same) task.environment task.name task.text w
 
 -- the commands of a list in the plain form
 devices-quiet : (text : Text) (devices : Devices) (names : List Text) → plain_names text ≡ Ok names → listed text ≡ Ok devices → quiet_names names ≡ devices

@@ -6,14 +6,15 @@ use Rattle.rehearse.specs.Outcomes.{OutcomeWord, WordKind, Run, Short, Long, is_
 use Rattle.rehearse.specs.Trees.{tree_of}
 use Rattle.rehearse.specs.State.{Text, Variables}
 use Rattle.rehearse.specs.DeviceList.{Devices, only}
-use Rattle.rehearse.specs.Execution.{Limits, Ending, End, no_effect}
+use Rattle.rehearse.specs.Execution.{Limits, Ending, End}
+use Rattle.rehearse.specs.DeviceLaws.{quiet}
 use Rattle.rehearse.specs.Runs.{Task, run_on, state_of, ending_of, kind, runs, IsListed, rest, work}
 use Rattle.rehearse.specs.Listing.{listing, record_of}
 use Rattle.rehearse.proofs.TaskChoices.{task_begins, task_ends, task_goes_on}
 
 -- the device list of most examples
 abbrev pub only_load : Devices
-only_load = only ((codes "load", no_effect) ∷ [])
+only_load = only ((codes "load", quiet) ∷ [])
 
 abbrev pub limits : Devices → ℕ → ℕ → Limits
 limits devices device_bound step_bound = record { devices = devices; device_bound = device_bound; step_bound = step_bound }

@@ -1,12 +1,12 @@
 -- Execution as it was when no command was computed (CallList.antt): a command that is not built in goes by the device list
 -- alone. All that it does not define is that of Execution.antt, over the tree as in GivenExecution.antt. Ours.
-use Rattle.std.specs.Prelude.{◌≡◌, ℕ, List, Option, Some, None, Ok}
+use Rattle.std.specs.Prelude.{◌≡◌, ℕ, false, List, Option, Some, None, Ok}
 use Rattle.rehearse.specs.Outcomes.{OutcomeWord, runs_within, few_of, after}
 use Rattle.rehearse.specs.State.{Text, State}
 use Rattle.rehearse.specs.DeviceList.{effect_of}
 use Rattle.rehearse.specs.CallList.{call_listed}
-use Rattle.rehearse.specs.Execution.{Answer, Ended, Unknown, device}
-use Rattle.rehearse.specs.GivenExecution.{given_run_on}
+use Rattle.rehearse.specs.Execution.{Answer, Ended, Unknown}
+use Rattle.rehearse.specs.GivenExecution.{asked_anew, given_run_on}
 use Rattle.rehearse.specs.Runs.{Task, run_on, state_of, ending_of, kind_of, runs, rest}
 use Rattle.rehearse.specs.Listing.{record_text, record_of, listing}
 
@@ -15,7 +15,7 @@ module _ (task : Task) where
   abbrev pub call_others : (name : Text) → (words : List Text) → State → Answer
   call_others name words s =
       elim (effect_of task.limits.devices name words) [
-        | Some effect ↦ device task.limits (record { name = name; words = words; effect = effect }) s
+        | Some effect ↦ asked_anew task.limits (record { name = name; words = words; effect = effect; again = false }) s
         | None ↦ Ended (Unknown name) s
       ]
 

@@ -4,7 +4,8 @@ use Rattle.std.specs.List.{list_any}
 use Rattle.text.specs.Bytes as ascii
 use Rattle.text.specs.Lines.{numbered_lines}
 use Rattle.rehearse.specs.Verdict.{Text}
-use Rattle.rehearse.specs.DeviceList.{Devices, device_words, begins_comment, heading_of, line_of, with_line, only, listed}
+use Rattle.rehearse.specs.DeviceList.{Devices, device_words, begins_comment, line_of, with_line, only, listed}
+use Rattle.rehearse.specs.KnownList.{known_heading}
 use Rattle.rehearse.specs.declared.devices_error.DevicesError.{DevicesError}
 use Rattle.rehearse.specs.declared.devices_error.DevicesError.TheVariants.{BadLine}
 
@@ -14,7 +15,7 @@ call_words devices number line [] = Ok devices
 call_words devices number line (first ∷ words) =
     if begins_comment first then Ok devices
     else (if list_any (λ b. b == ascii.nul) line then Err (BadLine number)
-    else with_line devices (line_of number (heading_of first words)))
+    else with_line devices (line_of number (known_heading first words)))
 
 abbrev pub call_line : Devices → ℕ → Text → Result Devices DevicesError
 call_line devices number line = call_words devices number line (device_words line)

@@ -9,13 +9,13 @@ use Rattle.rehearse.specs.declared.devices.Effect.{Effect as LentEffect}
 use Rattle.rehearse.specs.declared.devices.Listed.{Listed}
 
 abbrev pub listed_shown : Listed → Effect
-listed_shown l = record { ends = l.ends; sets = settings_shown l.sets }
+listed_shown l = record { ends = l.ends; stays = l.stays; sets = settings_shown l.sets }
 
 abbrev pub found_shown : Bor Listed → Effect
 found_shown l = listed_shown l.now
 
 abbrev pub lent_effect : LentEffect → Effect
-lent_effect e = record { ends = e.ends; sets = map setting_shown e.sets.now }
+lent_effect e = record { ends = e.ends; stays = e.stays; sets = map setting_shown e.sets.now }
 
 abbrev pub commands_shown : List (Bytes × Listed) → Effects
 commands_shown = map (λ c. (c.0.items, listed_shown c.1))

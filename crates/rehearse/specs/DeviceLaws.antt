@@ -32,11 +32,12 @@ same_word (Some v) (Some w) = bytes_eq v w
 abbrev pub lines_at : (name : Text) → (word : Option Text) → List DeviceLine → List DeviceLine
 lines_at name word = filter (λ one. same_word word one.word && bytes_eq name one.name)
 
--- some lines together: final if one of them is, with all settings in their order
+-- some lines together: final if one of them is, and steady if one of them is, with all settings in their order
 abbrev pub whole_effect : List DeviceLine → Option Effect
 whole_effect [] = None
 whole_effect (one ∷ more) = Some (record {
   ends = list_any (λ l. l.effect.ends) (one ∷ more);
+  stays = list_any (λ l. l.effect.stays) (one ∷ more);
   sets = flat_map (λ l. l.effect.sets) (one ∷ more);
 })
 
@@ -49,7 +50,7 @@ LinesAreJoined = (text : Text) (devices : Devices) → listed text ≡ Ok device
 
 -- a command that only succeeds or fails
 abbrev pub quiet : Effect
-quiet = record { ends = false; sets = [] }
+quiet = record { ends = false; stays = false; sets = [] }
 
 abbrev pub is_name_alone : Text → Bool
 is_name_alone line = nat_le (length (device_words line)) 1

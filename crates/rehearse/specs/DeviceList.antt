@@ -24,9 +24,11 @@ pub data LeftSide : Type 0 where
 abbrev pub Setting : Type 0
 Setting = LeftSide × Text
 
--- what a device command does on success: what it sets in the environment, in order, and whether the run ends
+-- what a device command does on success: what it sets in the environment, in order, and whether the run ends; and
+-- whether its answers stay: asked again with the same words in one run, it answers as before
 pub record Effect : Type 0 where
   pub ends : Bool
+  pub stays : Bool
   pub sets : List Setting
 
 -- effects by names of commands, or by the first words of the calls of one command
@@ -36,12 +38,13 @@ Effects = List (Text × Effect)
 abbrev pub effect_in : Effects → Text → Option Effect
 effect_in effects name = lookup (bytes_eq name) effects
 
--- what a list says of commands by their names, what its `sub` lines say of the calls of a name, and which commands are
--- computed
+-- what a list says of commands by their names, what its `sub` lines say of the calls of a name, which commands are
+-- computed, each once, and whether the answers of `test -e` stay
 pub record Devices : Type 0 where
   pub commands : Effects
   pub subs : List (Text × Effects)
   pub known : List Text
+  pub test_stays : Bool
 
 -- what the lines of a name say, or its `sub` lines of a first word
 abbrev pub effect_at : Devices → (name : Text) → (word : Option Text) → Option Effect
@@ -124,32 +127,42 @@ settings of_calls (word ∷ words) =
       | Some first ↦ option_map (λ more. first ∷ more) (settings of_calls words)
     ]
 
--- the name of a command; for a `sub` line the first word of its calls; whether it is final; and the words after that
+-- the name of a command; for a `sub` line the first word of its calls; whether it is final, and whether it is steady;
+-- and the words after that
 pub record Heading : Type 0 where
   pub name : Text
   pub word : Option Text
   pub ends : Bool
+  pub stays : Bool
   pub words : List Text
 
-abbrev pub named : (ends : Bool) → Text → List Text → Heading
-named ends name words = record { name = name; word = None; ends = ends; words = words }
+abbrev pub named : (ends stays : Bool) → Text → List Text → Heading
+named ends stays name words = record { name = name; word = None; ends = ends; stays = stays; words = words }
 
 -- The first word is the name, unless it is `sub` and two words without `=` follow. Then these are the name and the
 -- first word of its calls.
-abbrev pub call_of : (ends : Bool) → Text → List Text → Heading
-call_of ends first [] = named ends first []
-call_of ends first (second ∷ []) = named ends first (second ∷ [])
-call_of ends first (second ∷ third ∷ words) =
+abbrev pub call_of : (ends stays : Bool) → Text → List Text → Heading
+call_of ends stays first [] = named ends stays first []
+call_of ends stays first (second ∷ []) = named ends stays first (second ∷ [])
+call_of ends stays first (second ∷ third ∷ words) =
     if bytes_eq first (codes "sub") && not (list_any is_equals second) && not (list_any is_equals third)
-    then record { name = second; word = Some third; ends = ends; words = words }
-    else named ends first (second ∷ third ∷ words)
+    then record { name = second; word = Some third; ends = ends; stays = stays; words = words }
+    else named ends stays first (second ∷ third ∷ words)
 
--- A first word `final` says that the rest of the line is a final command, if a word without `=` follows.
+-- A first word `steady` says that the rest is a steady command, if a word without `=` follows.
+abbrev pub steady_of : (ends : Bool) → Text → List Text → Heading
+steady_of ends first [] = named ends false first []
+steady_of ends first (second ∷ words) =
+    if bytes_eq first (codes "steady") && not (list_any is_equals second) then call_of ends true second words
+    else call_of ends false first (second ∷ words)
+
+-- A first word `final` says that the rest of the line is a final command, if a word without `=` follows. A steady
+-- command that is final has `final` first.
 abbrev pub heading_of : Text → List Text → Heading
-heading_of first [] = named false first []
+heading_of first [] = named false false first []
 heading_of first (second ∷ words) =
-    if bytes_eq first (codes "final") && not (list_any is_equals second) then call_of true second words
-    else call_of false first (second ∷ words)
+    if bytes_eq first (codes "final") && not (list_any is_equals second) then steady_of true second words
+    else steady_of false first (second ∷ words)
 
 -- one line of a command
 pub record DeviceLine : Type 0 where
@@ -160,7 +173,7 @@ pub record DeviceLine : Type 0 where
 abbrev pub line_with : ℕ → Heading → Option (List Setting) → Result DeviceLine DevicesError
 line_with number h None = Err (BadLine number)
 line_with number h (Some sets) = if is_built_in h.name then Err (BuiltIn number)
-    else Ok (record { name = h.name; word = h.word; effect = record { ends = h.ends; sets = sets } })
+    else Ok (record { name = h.name; word = h.word; effect = record { ends = h.ends; stays = h.stays; sets = sets } })
 
 -- a line with the first word of its calls is a `sub` line
 abbrev pub line_of : ℕ → Heading → Result DeviceLine DevicesError
@@ -178,9 +191,13 @@ changed_at change [] name = (name, change None) ∷ []
 changed_at change (e ∷ table) name = if bytes_eq name e.0 then (e.0, change (Some e.1)) ∷ table
     else e ∷ changed_at change table name
 
--- one more line: final if one of the two is, settings in their order
+-- one more line: final if one of the two is, steady if one of the two is, settings in their order
 abbrev pub joint : Effect → Effect → Effect
-joint before more = record { ends = before.ends || more.ends; sets = before.sets ++ more.sets }
+joint before more = record {
+  ends = before.ends || more.ends;
+  stays = before.stays || more.stays;
+  sets = before.sets ++ more.sets;
+}
 
 abbrev pub joint_behind : Effect → Option Effect → Effect
 joint_behind more None = more
@@ -212,12 +229,23 @@ known_named first (name ∷ []) =
     if bytes_eq first (codes "known") && is_some (known_of name) then Some name else None
 known_named first (second ∷ third ∷ words) = None
 
+-- a name is kept once
 abbrev pub with_known : Devices → (name : Text) → Devices
-with_known devices name = record devices { known = devices.known ++ name ∷ [] }
+with_known devices name =
+    if list_any (bytes_eq name) devices.known then devices else record devices { known = devices.known ++ name ∷ [] }
 
-abbrev pub after_known : Devices → Option Text → Result DeviceLine DevicesError → Result Devices DevicesError
-after_known devices (Some name) line = Ok (with_known devices name)
-after_known devices None line = with_line devices line
+-- a line that has a command computed, or the answers of `test -e` stay, or a line of a command
+abbrev pub after_known : Devices → (known : Option Text) → (test : Bool) → Result DeviceLine DevicesError →
+    Result Devices DevicesError
+after_known devices (Some name) test line = Ok (with_known devices name)
+after_known devices None true line = Ok (record devices { test_stays = true })
+after_known devices None false line = with_line devices line
+
+-- a line `steady test`
+abbrev pub is_steady_test : Text → List Text → Bool
+is_steady_test first [] = false
+is_steady_test first (second ∷ []) = bytes_eq first (codes "steady") && bytes_eq second (codes "test")
+is_steady_test first (second ∷ third ∷ words) = false
 
 -- The list after the words of one more line, or the fault of that line. A line without a word, or one that starts with
 -- `#`, says nothing.
@@ -226,7 +254,8 @@ after_words devices number line [] = Ok devices
 after_words devices number line (first ∷ words) =
     if begins_comment first then Ok devices
     else (if list_any (λ b. b == ascii.nul) line then Err (BadLine number)
-    else after_known devices (known_named first words) (line_of number (heading_of first words)))
+    else after_known devices (known_named first words) (is_steady_test first words)
+    (line_of number (heading_of first words)))
 
 abbrev pub after_line : Devices → ℕ → Text → Result Devices DevicesError
 after_line devices number line = after_words devices number line (device_words line)
@@ -242,7 +271,7 @@ listed_lines devices (l ∷ lines) =
 
 -- only commands by their names
 abbrev pub only : Effects → Devices
-only commands = record { commands = commands; subs = []; known = [] }
+only commands = record { commands = commands; subs = []; known = []; test_stays = false }
 
 -- the commands that a device list names, or its first fault
 abbrev pub listed : Text → Result Devices DevicesError

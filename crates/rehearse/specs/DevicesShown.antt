@@ -26,5 +26,6 @@ heading_shown h = record {
   name = h.name.now;
   word = option_map (λ w. w.now) h.word;
   ends = h.ends;
+  stays = h.stays;
   words = map (λ w. w.now) h.words.now;
 }

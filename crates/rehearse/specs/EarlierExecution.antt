@@ -39,7 +39,9 @@ bounds_of_task task = (task_now (only []) task).limits
 abbrev pub earlier_logged : Outcome → (call : List Text) → State → State
 earlier_logged outcome call s =
     set_status (status_when (succeeds outcome))
-    (record s { log = s.log ++ record { success = succeeds outcome; words = call } ∷ [] })
+    (record s {
+      log = s.log ++ record { success = succeeds outcome; words = call; stays = false; again = false } ∷ [];
+    })
 
 -- a listed command takes the next outcome: on success it sets its variables, and then it may end the run
 abbrev pub earlier_answer : EarlierEffect → (name : Text) → (words : List Text) → OutcomeWord → State → Answer

@@ -87,7 +87,7 @@ abbrev pub of_variable : Text × Text → Setting
 of_variable s = (Variable s.0, s.1)
 
 abbrev pub now_effect : EarlierEffect → Effect
-now_effect e = record { ends = e.ends; sets = map of_variable e.sets }
+now_effect e = record { ends = e.ends; stays = false; sets = map of_variable e.sets }
 
 abbrev pub now_effects : EarlierDevices → Effects
 now_effects = map (λ d. (d.0, now_effect d.1))

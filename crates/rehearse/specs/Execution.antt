@@ -1,6 +1,6 @@
 -- What a script does to a state, for the outcomes that its word still holds (U-Boot documentation, doc/usage/cmdline
 -- and doc/usage/cmd). The bounds are ours, and so is how a run ends that meets one.
-use Rattle.std.specs.Prelude.{ℕ, zero, suc, nat_lt, nat_le, nat_eq, Bool, true, false, not, List, [], ◌∷◌, ◌++◌, length, Some, None}
+use Rattle.std.specs.Prelude.{ℕ, zero, suc, nat_lt, nat_le, nat_eq, Bool, true, false, not, List, [], ◌∷◌, ◌++◌, length, Option, Some, None, if◌then◌else◌}
 use Rattle.hushlang.specs.Tree as tree
 use Rattle.hushlang.specs.Tree.{Script, AndOr, Joined, Command, Arms}
 use Rattle.hushlang.specs.Expansion.{fields, joined, size, most_bytes}
@@ -8,7 +8,7 @@ use Rattle.hushlang.specs.declared.tree.Op.{Op}
 use Rattle.hushlang.specs.declared.tree.Op.TheVariants.{And, Or}
 use Rattle.rehearse.specs.Outcomes.{Outcome, Success, Failure, OutcomeWord}
 use Rattle.rehearse.specs.Trees.{tree_of}
-use Rattle.rehearse.specs.State.{Text, Variables, get, with_value, Memory, State, parameters_in}
+use Rattle.rehearse.specs.State.{Text, Variables, get, with_value, Memory, LoggedCommand, answer_in, State, parameters_in}
 use Rattle.rehearse.specs.DeviceList.{Effect, Devices}
 use Rattle.rehearse.specs.Verdict.{verdict}
 use Rattle.rehearse.specs.Commands.{Called, ChangesVariables, WritesText, RunsTexts, Tests, Exits, BuiltIn, NoCommand, Device, called_by, sets_in, asks_device, exit_status, variables_changed, text_written}
@@ -71,6 +71,10 @@ abbrev pub succeeds : Outcome → Bool
 succeeds Success = true
 succeeds Failure = false
 
+abbrev pub outcome_when : (success : Bool) → Outcome
+outcome_when true = Success
+outcome_when false = Failure
+
 -- `a && b` runs b if the status is 0, `a || b` if it is not
 abbrev pub goes : Op → ℕ → Bool
 goes And status = nat_eq status 0
@@ -83,21 +87,30 @@ holds true status = not (nat_eq status 0)
 
 -- ---- device commands
 
--- a device command that is asked: its name, its words, and what it does on success
+-- a device command that is asked: its name, its words, and what it does on success; and whether it was asked before,
+-- and is told the same again
 pub record Request : Type 0 where
   pub name : Text
   pub words : List Text
   pub effect : Effect
+  pub again : Bool
 
--- the effect of `test -e`
-abbrev pub no_effect : Effect
-no_effect = record { ends = false; sets = [] }
+-- `test -e` changes nothing; its answers stay if the list says so
+abbrev pub test_effect : Devices → Effect
+test_effect devices = record { ends = false; stays = devices.test_stays; sets = [] }
 
 -- the command and its outcome are in the log, and the outcome is the status
 abbrev pub logged : Outcome → Request → State → State
 logged outcome request s =
     set_status (status_when (succeeds outcome))
-    (record s { log = s.log ++ record { success = succeeds outcome; words = request.name ∷ request.words } ∷ [] })
+    (record s {
+      log = s.log ++ record {
+        success = succeeds outcome;
+        words = request.name ∷ request.words;
+        stays = request.effect.stays;
+        again = request.again;
+      } ∷ [];
+    })
 
 abbrev pub with_all : List (Text × Text) → Variables → Variables
 with_all [] variables = variables
@@ -112,13 +125,29 @@ abbrev pub boot : (ends : Bool) → (name : Text) → State → Answer
 boot true name s = Ended (Booted name) s
 boot false name s = Normal s
 
--- a device command takes the next outcome of the word
+-- a device command with its outcome
+abbrev pub with_outcome : Outcome → Request → State → Answer
+with_outcome Success request s =
+    boot request.effect.ends request.name
+    (set_environment (sets_in request.words request.effect.sets) (logged Success request s))
+with_outcome Failure request s = Normal (logged Failure request s)
+
+-- it takes the next outcome of the word
 abbrev pub take_outcome : Request → OutcomeWord → State → Answer
 take_outcome request [] s = Dry s
-take_outcome request (Success ∷ rest) s =
-    boot request.effect.ends request.name
-    (set_environment (sets_in request.words request.effect.sets) (logged Success request (record s { word = rest })))
-take_outcome request (Failure ∷ rest) s = Normal (logged Failure request (record s { word = rest }))
+take_outcome request (outcome ∷ rest) s = with_outcome outcome request (record s { word = rest })
+
+-- the answer that stays for it: a command whose answers stay, and that was asked before with the same words
+abbrev pub told : Request → List LoggedCommand → Option Bool
+told request log = if request.effect.stays then answer_in log (request.name ∷ request.words) else None
+
+abbrev pub told_again : Request → Request
+told_again request = record request { again = true }
+
+-- it has the answer that stays for it, and takes no outcome; or else it takes one
+abbrev pub tell_or_take : (told : Option Bool) → Request → State → Answer
+tell_or_take (Some success) request s = with_outcome (outcome_when success) (told_again request) s
+tell_or_take None request s = take_outcome request s.word s
 
 -- ---- parts of scripts, by the meaning of what they are made of
 
@@ -167,11 +196,11 @@ module _ (limits : Limits) where
         | false ↦ Ended CutSteps s
       ]
 
-  -- a device command is asked if the bound allows one more
+  -- a device command is asked if the bound allows one more in the log
   abbrev pub device : Request → State → Answer
   device request s =
       elim (nat_lt (length s.log) limits.device_bound) [
-        | true ↦ take_outcome request s.word s
+        | true ↦ tell_or_take (told request s.log) request s
         | false ↦ Ended CutDevices s
       ]
 
@@ -200,7 +229,7 @@ module _ (limits : Limits) where
   command script (BuiltIn RunsTexts) name (w ∷ ws) s = run_all script (w ∷ ws) s
   command script (BuiltIn Tests) name words s =
       elim (asks_device words) [
-        | true ↦ device (record { name = name; words = words; effect = no_effect }) s
+        | true ↦ device (record { name = name; words = words; effect = test_effect limits.devices; again = false }) s
         | false ↦ Normal (set_status (status_when (verdict words)) s)
       ]
   command script (BuiltIn (WritesText written)) name words s = Normal (remember (text_written written words) s)
@@ -209,7 +238,8 @@ module _ (limits : Limits) where
         | Some status ↦ Exit (set_status status s)
         | None ↦ Normal (set_status 1 s)
       ]
-  command script (Device effect) name words s = device (record { name = name; words = words; effect = effect }) s
+  command script (Device effect) name words s =
+      device (record { name = name; words = words; effect = effect; again = false }) s
   command script NoCommand name words s = Ended (Unknown name) s
 
   -- words that expand to no field do nothing, with status 0

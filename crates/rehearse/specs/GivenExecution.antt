@@ -1,18 +1,38 @@
--- Execution that is given what a command does that is not built in: the recursion of Execution.antt over the tree, for
--- the laws of device lists in their older forms. Ours.
-use Rattle.std.specs.Prelude.{ℕ, zero, suc, nat_eq, true, false, List, [], ◌∷◌, Some, None}
+-- Execution that is given what a command does that is not built in, and in which `test -e` asks each time: the recursion
+-- of Execution.antt over the tree, for the laws of device lists in their older forms. Ours.
+use Rattle.std.specs.Prelude.{ℕ, zero, suc, nat_lt, nat_eq, true, false, List, [], ◌∷◌, length, Some, None}
 use Rattle.hushlang.specs.Tree as tree
 use Rattle.hushlang.specs.Tree.{Script, AndOr, Joined, Command, Arms}
 use Rattle.hushlang.specs.Expansion.{fields}
 use Rattle.rehearse.specs.Outcomes.{OutcomeWord}
 use Rattle.rehearse.specs.State.{Text, Variables, State, start, parameters_in}
 use Rattle.rehearse.specs.Builtins.{builtin_of}
-use Rattle.rehearse.specs.Commands.{BuiltIn, deed_of}
-use Rattle.rehearse.specs.Execution.{Limits, Answer, Normal, Ended, CutSteps, go_on, set_status, goes, begin, command, sized, assign, turns, for_each, run_text}
+use Rattle.rehearse.specs.Verdict.{verdict}
+use Rattle.rehearse.specs.Commands.{Deed, Tests, BuiltIn, deed_of, asks_device}
+use Rattle.rehearse.specs.DeviceLaws.{quiet}
+use Rattle.rehearse.specs.Execution.{Limits, Answer, Normal, Ended, CutDevices, CutSteps, Request, take_outcome, go_on, set_status, status_when, goes, begin, command, sized, assign, turns, for_each, run_text}
 
 -- what a command does that is not built in, by its name and its words
 abbrev pub Others : Type 0
 Others = (name : Text) → (words : List Text) → State → Answer
+
+-- a device command takes the next outcome of the word, if the bound allows one more
+abbrev pub asked_anew : Limits → Request → State → Answer
+asked_anew bounds request s =
+    elim (nat_lt (length s.log) bounds.device_bound) [
+      | true ↦ take_outcome request s.word s
+      | false ↦ Ended CutDevices s
+    ]
+
+-- a built-in command
+abbrev pub given_builtin : Limits → (script : Script → State → Answer) → Deed → (name : Text) → (words : List Text) →
+    State → Answer
+given_builtin bounds script Tests name words s =
+    elim (asks_device words) [
+      | true ↦ asked_anew bounds (record { name = name; words = words; effect = quiet; again = false }) s
+      | false ↦ Normal (set_status (status_when (verdict words)) s)
+    ]
+given_builtin bounds script deed name words s = command bounds script (BuiltIn deed) name words s
 
 module _ (bounds : Limits) (others : Others) where
   -- a command by its fields, the name first
@@ -20,7 +40,7 @@ module _ (bounds : Limits) (others : Others) where
   given_simple script [] s = Normal (set_status 0 s)
   given_simple script (name ∷ words) s =
       elim (builtin_of name) [
-        | Some builtin ↦ command bounds script (BuiltIn (deed_of builtin)) name words s
+        | Some builtin ↦ given_builtin bounds script (deed_of builtin) name words s
         | None ↦ others name words s
       ]
 

@@ -4,7 +4,7 @@ use Rattle.hushlang.specs.Tree.{Script}
 use Rattle.hushlang.specs.Texts.{IsTreeOf, HasNoTree}
 use Rattle.rehearse.specs.Outcomes.{OutcomeWord, Outcome, Run, Short, common_prefix, comes_before, has_success, turned, is_within, first_run, first_from}
 use Rattle.rehearse.specs.Trees.{tree_of}
-use Rattle.rehearse.specs.State.{Text, State}
+use Rattle.rehearse.specs.State.{Text, State, asked_of}
 use Rattle.hushlang.specs.Tree.{IsProper}
 use Rattle.rehearse.specs.Execution.{Ended, Dry, CutSteps, CutDevices, succeeds}
 use Rattle.rehearse.specs.Runs.{Task, run_on, state_of, steps, asked, kind, all_runs, runs, IsListed, rest}
@@ -55,10 +55,10 @@ abbrev pub RunsPartWhereAsked : Type 0
 RunsPartWhereAsked = (task : Task) (u v : OutcomeWord) → kind task u ≡ Run → kind task v ≡ Run → u ≢ v →
     kind task (common_prefix u v) ≡ Short
 
--- the outcomes in the log of a run are its word
+-- the outcomes in the log of a run are its word, without the commands that were told an answer again
 abbrev pub LogIsWord : Type 0
 LogIsWord = (task : Task) (w : OutcomeWord) → kind task w ≡ Run →
-    map (λ e. e.success) (state_of (run_on task w)).log ≡ map succeeds w
+    map (λ e. e.success) (asked_of (state_of (run_on task w)).log) ≡ map succeeds w
 
 -- ---- bounds
 

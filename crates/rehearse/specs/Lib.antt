@@ -24,6 +24,8 @@ pub mod EarlierList
 pub mod GivenExecution
 pub mod PlainExecution
 pub mod EarlierExecution
+pub mod KnownList
+pub mod KnownExecution
 pub mod CallList
 pub mod CallExecution
 pub mod DeviceListAnswers

@@ -40,7 +40,7 @@ abbrev pub answer : (words : List Text) → OutcomeWord → State → Answer
 answer words [] s = Dry s
 answer words (outcome ∷ more) s =
     Normal (set_status (status_when (succeeds outcome)) (record s {
-      log = s.log ++ record { success = succeeds outcome; words = words } ∷ [];
+      log = s.log ++ record { success = succeeds outcome; words = words; stays = false; again = false } ∷ [];
       word = more;
     }))
 

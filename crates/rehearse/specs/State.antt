@@ -1,9 +1,11 @@
 -- What a run has at a moment: the state of the script (U-Boot documentation, doc/usage/cmdline and
 -- doc/usage/environment, on variables and `$?`), and the rest of its outcome word (ours).
-use Rattle.std.specs.Prelude.{ℕ, nat_eq, Bool, true, List, [], ◌∷◌, not, ◌||◌, Option, Some, None, filter}
+use Rattle.std.specs.Prelude.{ℕ, nat_eq, Bool, true, false, List, [], ◌∷◌, not, ◌||◌, ◌&&◌, Option, Some, None, filter, map}
 use Rattle.std.specs.FinMap.{find, put}
 use Rattle.std.specs.Cmp.Lexicographic.{slice_cmp}
 use Rattle.std.specs.List.{list_any}
+use Rattle.std.specs.Map.{lookup}
+use Rattle.std.specs.Str.{bytes_eq}
 use Rattle.std.specs.Ordering.{nat_cmp, eq_by_cmp}
 use Rattle.text.specs.Bytes as ascii
 pub use Rattle.text.specs.Lines.{Text}
@@ -39,6 +41,28 @@ pub record Memory : Type 0 where
 pub record LoggedCommand : Type 0 where
   pub success : Bool
   pub words : List Text
+  -- whether the list says that its answer stays for the rest of the run
+  pub stays : Bool
+  -- whether it was asked before, and is told that answer again
+  pub again : Bool
+
+-- the commands that took an outcome of the word
+abbrev pub asked_of : List LoggedCommand → List LoggedCommand
+asked_of log = filter (λ e. not e.again) log
+
+-- the answers that stay, by the words of the commands
+abbrev pub answers_in : List LoggedCommand → List (List Text × Bool)
+answers_in log = map (λ e. (e.words, e.success)) (filter (λ e. e.stays) (asked_of log))
+
+abbrev pub same_words : List Text → List Text → Bool
+same_words [] [] = true
+same_words [] (w ∷ ws) = false
+same_words (v ∷ vs) [] = false
+same_words (v ∷ vs) (w ∷ ws) = bytes_eq v w && same_words vs ws
+
+-- the answer that stays for a command with these words, its name first
+abbrev pub answer_in : List LoggedCommand → (call : List Text) → Option Bool
+answer_in log call = lookup (same_words call) (answers_in log)
 
 -- with the log of device commands, how many steps are begun, and the rest of the word
 pub record State : Type 0 where

@@ -5,6 +5,8 @@ ghost use Rattle.rehearse.specs.CallList.{CallListsAsk, CallListsStand};
 ghost use Rattle.rehearse.specs.DeviceLaws.{LinesAreJoined, NamesAreQuiet};
 ghost use Rattle.rehearse.specs.EarlierExecution.{EarlierListingsStand, EarlierRestsStand, EarlierRunsStand};
 ghost use Rattle.rehearse.specs.EarlierList.{EarlierListsStand, EarlierCallsStand, EarlierSettingsStand};
+ghost use Rattle.rehearse.specs.KnownExecution.{KnownListingsStand, KnownRestsStand, KnownRunsStand};
+ghost use Rattle.rehearse.specs.KnownList.{KnownListsAsk, KnownListsStand};
 ghost use Rattle.rehearse.specs.PlainExecution.{PlainListingsStand, PlainRestsStand, PlainRunsStand};
 ghost use Rattle.rehearse.specs.PlainList.{PlainListsStand};
 
@@ -117,4 +119,34 @@ pub fn call_listings_stand()
 #[tactic(auto, using(crate::proofs::CallRuns::call_rests_stand))]
 pub fn call_rests_stand()
     ensures { CallRestsStand }
+{}
+
+/// Every list in the form before a command could be steady is accepted, and says the same.
+#[tactic(auto, using(crate::proofs::KnownLists::known_lists_stand))]
+pub fn known_lists_stand()
+    ensures { KnownListsStand }
+{}
+
+/// Over a list in that form, each device command asks each time.
+#[tactic(auto, using(crate::proofs::KnownLists::known_lists_ask))]
+pub fn known_lists_ask()
+    ensures { KnownListsAsk }
+{}
+
+/// A run over a list in that form is the run that it was.
+#[tactic(auto, using(crate::proofs::KnownRuns::known_runs_stand))]
+pub fn known_runs_stand()
+    ensures { KnownRunsStand }
+{}
+
+/// The listing over a list in that form has the same bytes as before.
+#[tactic(auto, using(crate::proofs::KnownRuns::known_listings_stand))]
+pub fn known_listings_stand()
+    ensures { KnownListingsStand }
+{}
+
+/// The listing of the runs that follow a word has the same bytes over such a list, too.
+#[tactic(auto, using(crate::proofs::KnownRuns::known_rests_stand))]
+pub fn known_rests_stand()
+    ensures { KnownRestsStand }
 {}

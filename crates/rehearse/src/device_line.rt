@@ -2,20 +2,21 @@
 ghost use Rattle.std.specs.Prelude.{◌≡◌, ◌==◌, map, option_map, IfOk};
 ghost use Rattle.std.specs.List.{list_any};
 ghost use Rattle.text.specs.Words.{is_equals};
-ghost use Rattle.rehearse.specs.DeviceList.{device_words, named, call_of, heading_of, known_named, begins_comment};
+ghost use Rattle.rehearse.specs.DeviceList.{device_words, named, call_of, steady_of, heading_of, known_named, is_steady_test, begins_comment};
 ghost use Rattle.rehearse.specs.DevicesShown.{heading_shown};
 
 use crate::builtins::known_of;
 use std::alloc::{AllocError, Global};
 use text::{is_space, trimmed};
 
-/// The name of a command; for a `sub` line the first word of its calls; whether it is final; and
-/// the words after that.
+/// The name of a command; for a `sub` line the first word of its calls; whether it is final, and
+/// whether it is steady; and the words after that.
 #[derive(Clone, Copy)]
 pub(crate) struct Heading<'a> {
     pub(crate) name: &'a [u8],
     pub(crate) word: Option<&'a [u8]>,
     pub(crate) ends: bool,
+    pub(crate) stays: bool,
     pub(crate) words: &'a [&'a [u8]],
 }
 
@@ -54,21 +55,22 @@ fn has_equals(word: &[u8]) -> bool
 }
 
 /// A heading that has only a name.
-fn named<'a>(ends: bool, name: &'a [u8], words: &'a [&'a [u8]]) -> Heading<'a>
-    ensures { heading_shown result ≡ named ends name.now (map (λ w. w.now) words.now) }
+fn named<'a>(ends: bool, stays: bool, name: &'a [u8], words: &'a [&'a [u8]]) -> Heading<'a>
+    ensures { heading_shown result ≡ named ends stays name.now (map (λ w. w.now) words.now) }
 {
     Heading {
         name,
         word: None,
         ends,
+        stays,
         words,
     }
 }
 
 /// The first word is the name, unless it is `sub` and two words without `=` follow. Then these are
 /// the name and the first word of its calls.
-fn call_of<'a>(ends: bool, first: &'a [u8], behind: &'a [&'a [u8]]) -> Heading<'a>
-    ensures { heading_shown result ≡ call_of ends first.now (map (λ w. w.now) behind.now) }
+fn call_of<'a>(ends: bool, stays: bool, first: &'a [u8], behind: &'a [&'a [u8]]) -> Heading<'a>
+    ensures { heading_shown result ≡ call_of ends stays first.now (map (λ w. w.now) behind.now) }
 {
     match behind {
         [second, third, words @ ..]
@@ -77,10 +79,23 @@ fn call_of<'a>(ends: bool, first: &'a [u8], behind: &'a [&'a [u8]]) -> Heading<'
                 name: second,
                 word: Some(third),
                 ends,
+                stays,
                 words,
             }
         }
-        _ => named(ends, first, behind),
+        _ => named(ends, stays, first, behind),
+    }
+}
+
+/// A first word `steady` says that the rest is a steady command, if a word without `=` follows.
+fn steady_of<'a>(ends: bool, first: &'a [u8], behind: &'a [&'a [u8]]) -> Heading<'a>
+    ensures { heading_shown result ≡ steady_of ends first.now (map (λ w. w.now) behind.now) }
+{
+    match behind {
+        [second, words @ ..] if first == b"steady".as_slice() && !has_equals(second) => {
+            call_of(ends, true, second, words)
+        }
+        _ => call_of(ends, false, first, behind),
     }
 }
 
@@ -91,9 +106,9 @@ pub(crate) fn heading_of<'a>(first: &'a [u8], behind: &'a [&'a [u8]]) -> Heading
 {
     match behind {
         [second, words @ ..] if first == b"final".as_slice() && !has_equals(second) => {
-            call_of(true, second, words)
+            steady_of(true, second, words)
         }
-        _ => call_of(false, first, behind),
+        _ => steady_of(false, first, behind),
     }
 }
 
@@ -104,5 +119,15 @@ pub(crate) fn known_named<'a>(first: &[u8], behind: &[&'a [u8]]) -> Option<&'a [
     match behind {
         [name] if first == b"known".as_slice() && known_of(name).is_some() => Some(name),
         _ => None,
+    }
+}
+
+/// Whether a line is `steady test`.
+pub(crate) fn is_steady_test(first: &[u8], behind: &[&[u8]]) -> bool
+    ensures { result ≡ is_steady_test first.now (map (λ w. w.now) behind.now) }
+{
+    match behind {
+        [second] => first == b"steady".as_slice() && *second == b"test".as_slice(),
+        _ => false,
     }
 }

@@ -8,7 +8,9 @@ ghost use Rattle.rehearse.specs.TextsShown.{texts};
 
 use crate::builtins::{is_built_in, known_of};
 use crate::computed::{Computed, computes};
-use crate::device_line::{begins_comment, device_words, has_nul, heading_of, known_named};
+use crate::device_line::{
+    begins_comment, device_words, has_nul, heading_of, is_steady_test, known_named,
+};
 use crate::devices_error::DevicesError;
 use crate::setting::{Setting, settings};
 use indexmap::IndexMap;
@@ -16,19 +18,22 @@ use std::alloc::{AllocError, Global};
 use std::marker::Model;
 use text::Lines;
 
-/// What a device command does on success.
+/// What a device command does on success, and whether its answers stay.
 #[derive(Clone, Copy, Debug)]
 pub struct Effect<'a> {
     /// Whether it ends the run.
     pub ends: bool,
+    /// Whether it answers as before if it is asked again with the same words in one run.
+    pub stays: bool,
     /// What it sets in the environment, in order.
     pub sets: &'a [Setting],
 }
 
-/// What a device command of the list does on success.
+/// What a device command of the list does on success, and whether its answers stay.
 #[derive(Drop)]
 struct Listed {
     ends: bool,
+    stays: bool,
     sets: Vec<Setting>,
 }
 
@@ -66,6 +71,7 @@ impl Listed {
     {
         Effect {
             ends: self.ends,
+            stays: self.stays,
             sets: &self.sets,
         }
     }
@@ -79,8 +85,10 @@ pub struct Devices {
     commands: Table,
     /// By the name, and then by the first word of a call.
     subs: IndexMap<Vec<u8>, Table>,
-    /// The names of the commands that are computed.
+    /// The names of the commands that are computed, each once.
     known: Vec<Vec<u8>>,
+    /// Whether the answers of `test -e` stay.
+    test_stays: bool,
 }
 
 /// Joins one more line to the earlier ones with its name. Errors: memory ran out.
@@ -90,6 +98,7 @@ fn join(alloc: Global, table: &mut Table, name: &[u8], mut more: Listed) -> Resu
     if let Some(listed) = table.get_mut(name) {
         listed.sets.append(&mut more.sets)?;
         listed.ends |= more.ends;
+        listed.stays |= more.stays;
         return Ok(());
     }
     let name = Vec::from_slice(alloc, name)?;
@@ -111,7 +120,7 @@ impl Model for Devices {
 
     ghost Value = { spec.Devices };
 
-    ghost view = { λ d. record { commands = commands_shown d.commands.entries; subs = subs_shown d.subs.entries; known = texts d.known.items } };
+    ghost view = { λ d. record { commands = commands_shown d.commands.entries; subs = subs_shown d.subs.entries; known = texts d.known.items; test_stays = d.test_stays } };
 }
 
 impl Devices {
@@ -128,19 +137,22 @@ impl Devices {
             commands: IndexMap::new(alloc),
             subs: IndexMap::new(alloc),
             known: Vec::new(alloc),
+            test_stays: false,
         }
     }
 
     /// The commands of a device list, a line each: `NAME SETTINGS`, or `final NAME SETTINGS` for one
     /// that ends the run; `sub NAME WORD SETTINGS` and `final sub NAME WORD SETTINGS` speak of the calls
-    /// of NAME whose first word is WORD. `known NAME` has the calls of NAME computed, where its words can
+    /// of NAME whose first word is WORD. `steady`, before all of that or after `final`, has the answers
+    /// stay: asked again with the same words in one run, the command answers as before. `steady test`
+    /// says so of `test -e`. `known NAME` has the calls of NAME computed, where its words can
     /// be; NAME is `env`, `itest` or `setexpr`. Spaces, tabs and carriage returns round a line are dropped;
     /// spaces and tabs separate its words. Lines without a word, and lines that begin with `#`, are
-    /// skipped. The first word is the name, unless it is `final` and a word without `=` follows, or
-    /// `sub` and two such words follow. Each further word is a setting: a variable, the first `=`, and a
-    /// value that may be empty. In a `sub` line, `@N` and `@last` stand for the variable that the Nth or
-    /// the last word of the call names. Lines of one name, and `sub` lines of one name and word, are
-    /// joined: final where one of them is, settings in their order.
+    /// skipped. The first word is the name, unless it is `final` or `steady` and a word without `=`
+    /// follows, or `sub` and two such words follow. Each further word is a setting: a variable, the first
+    /// `=`, and a value that may be empty. In a `sub` line, `@N` and `@last` stand for the variable that
+    /// the Nth or the last word of the call names. Lines of one name, and `sub` lines of one name and
+    /// word, are joined: final if one of them is, steady if one of them is, settings in their order.
     ///
     /// The first faulty line is refused: `BadLine` where it holds NUL, or a further word has no `=`, an
     /// empty variable, one that begins with `-`, or in a `sub` line one that begins with `@` and is no
@@ -186,8 +198,15 @@ impl Devices {
         computes(known, words)
     }
 
-    /// Whether the list has a command computed.
-    fn is_known(&self, name: &[u8]) -> bool
+    /// Whether the answers of `test -e` stay.
+    pub fn test_stays(&self) -> bool
+        ensures { result ≡ (self.now).test_stays }
+    {
+        self.test_stays
+    }
+
+    /// Whether the list has a command computed. Takes no memory.
+    pub fn is_known(&self, name: &[u8]) -> bool
         ensures { result ≡ list_any (bytes_eq name.now) (self.now).known }
     {
         is_among(&self.known, name)
@@ -229,6 +248,10 @@ impl Devices {
             self.add_known(name)?;
             return Ok(());
         }
+        if is_steady_test(first, behind) {
+            self.test_stays = true;
+            return Ok(());
+        }
         let heading = heading_of(first, behind);
         let Some(sets) = settings(self.alloc, heading.words, heading.word.is_some())? else {
             return Err(DevicesError::BadLine(number));
@@ -236,15 +259,18 @@ impl Devices {
         if is_built_in(heading.name) {
             return Err(DevicesError::BuiltIn(number));
         }
-        let ends = heading.ends;
-        self.add(heading.name, heading.word, Listed { ends, sets })?;
+        let (ends, stays) = (heading.ends, heading.stays);
+        self.add(heading.name, heading.word, Listed { ends, stays, sets })?;
         Ok(())
     }
 
-    /// One more command is computed.
+    /// One more command is computed. Its name is kept once.
     fn add_known(&mut self, name: &[u8]) -> Result<(), AllocError>
         ensures { OnOk result (self.new ≡ with_known self.old name.now) }
     {
+        if self.is_known(name) {
+            return Ok(());
+        }
         let name = Vec::from_slice(self.alloc, name)?;
         self.known.push(name)?;
         Ok(())

@@ -1,14 +1,17 @@
 -- A script comes to the same elsewhere, as far as the bounds allow.
-use Rattle.std.proofs.Common.{ℕ, zero, suc, Bool, true, false, List, [], ◌∷◌, ◌++◌, length, Option, Some, None, refl, sym, ap, subst, ◌∙◌, append_assoc, ◌≡◌, ◌<◌, ◌≤◌, inl, inr, length-append, arith, ◌+◌, nat_lt, nat_le, nat_eq, ltb-true, ltb-false}
-use Rattle.rehearse.specs.Outcomes.{OutcomeWord, Success, Failure}
+use Rattle.std.proofs.Common.{ℕ, zero, suc, Bool, true, false, not, cond, map, filter, List, [], ◌∷◌, ◌++◌, length, Option, Some, None, refl, sym, ap, subst, ◌∙◌, append_assoc, ◌≡◌, ◌<◌, ◌≤◌, inl, inr, length-append, arith, ◌+◌, nat_lt, nat_le, nat_eq, ltb-true, ltb-false}
+use Rattle.std.specs.Map.{lookup}
+use Rattle.std.proofs.lemmas.List.{map-append}
+use Rattle.std.proofs.lemmas.List.Elements.{filter-append}
+use Rattle.rehearse.specs.Outcomes.{OutcomeWord, Outcome, Success, Failure}
 use Rattle.hushlang.specs.Tree as tree
 use Rattle.hushlang.specs.Tree.{Script, AndOr, Joined, Command, Arms}
-use Rattle.rehearse.specs.State.{Text, get, Memory, State, parameters_in, with_value, LoggedCommand}
+use Rattle.rehearse.specs.State.{Text, get, Memory, State, parameters_in, with_value, LoggedCommand, asked_of, answers_in, same_words}
 use Rattle.hushlang.specs.Expansion.{fields, joined, size, most_bytes}
 use Rattle.rehearse.specs.Trees.{tree_of}
 use Rattle.rehearse.specs.Verdict.{verdict}
 use Rattle.rehearse.specs.Commands.{Called, ChangesVariables, WritesText, RunsTexts, Tests, Exits, BuiltIn, Device, NoCommand, called_by, sets_in, asks_device, exit_status, variables_changed, text_written}
-use Rattle.rehearse.specs.Execution.{Limits, Answer, Normal, Exit, Ended, Dry, Ending, CutDevices, CutSteps, Unknown, Syntax, Size, go_on, remember, set_status, set_local, status_when, goes, holds, begin, take_outcome, device, Request, no_effect, logged, set_environment, boot, text_end, run_text, run_all, command, simple, sized, assign, turns, for_each, exec_script, exec_list, exec_joined, exec_command, exec_arms, exec}
+use Rattle.rehearse.specs.Execution.{Limits, Answer, Normal, Exit, Ended, Dry, Ending, CutDevices, CutSteps, Unknown, Syntax, Size, go_on, remember, set_status, set_local, status_when, goes, holds, begin, take_outcome, with_outcome, outcome_when, succeeds, told, told_again, tell_or_take, device, Request, test_effect, logged, set_environment, boot, text_end, run_text, run_all, command, simple, sized, assign, turns, for_each, exec_script, exec_list, exec_joined, exec_command, exec_arms, exec}
 use Rattle.rehearse.specs.Runs.{state_of}
 use Rattle.rehearse.proofs.Keeping.{Track-of, KeepsAll, Keeps-script, Keeps-joined, Keeps-arms, Keeps-exec, Keeps-run, Keeps-turns, Keeps-for, Keeps-if, Keeps-stays, after_condition, Keeps-after_condition, Keeps-ended, Keeps-simple, Keeps-sized, Keeps-assign}
 use Rattle.rehearse_endings.specs.Elsewhere.{elsewhere, devices_of, HaveFurther, AreApart, IsBeyond, IsAlike, same, cut_here, beyond, Alike}
@@ -33,9 +36,28 @@ further_apart k l here there h =
     let d = length-append l h.further in
     omega arith
 
+-- the answers of a log that goes on
+answers_on : (k more : List LoggedCommand) → answers_in (k ++ more) ≡ answers_in k ++ answers_in more
+answers_on k more =
+    ap (λ (log : List LoggedCommand). map (λ e. (e.words, e.success)) (filter (λ e. e.stays) log)) (filter-append (λ e. not e.again) k more)
+    ∙ ap (map (λ e. (e.words, e.success))) (filter-append (λ e. e.stays) (asked_of k) (asked_of more))
+    ∙ map-append (λ e. (e.words, e.success)) (filter (λ e. e.stays) (asked_of k)) (filter (λ e. e.stays) (asked_of more))
+
+-- so logs that go on alike have the same answers that stay
+answers_same : (k l here there : List LoggedCommand) → HaveFurther k l here there → answers_in there ≡ answers_in here
+answers_same k l here there h =
+    ap answers_in h.goes_on_there ∙ answers_on l h.further ∙ ap (λ (a : List (List Text × Bool)). a ++ answers_in h.further) h.answers
+    ∙ sym (ap answers_in h.goes_on_here ∙ answers_on k h.further)
+
+-- and a command is told the same
+told_same : (request : Request) (k l here there : List LoggedCommand) → HaveFurther k l here there → told request there ≡ told request here
+told_same request k l here there h =
+    ap (λ (a : List (List Text × Bool)). let o : Option Bool = cond request.effect.stays (lookup (same_words (request.name ∷ request.words)) a) None in o) (answers_same k l here there h)
+
 -- one more entry
 pub further_on : (k l here there : List LoggedCommand) (entry : LoggedCommand) → HaveFurther k l here there → HaveFurther k l (here ++ entry ∷ []) (there ++ entry ∷ [])
 further_on k l here there entry h = record {
+  answers = h.answers;
   further = h.further ++ entry ∷ [];
   goes_on_here = ap (λ (x : List LoggedCommand). x ++ entry ∷ []) h.goes_on_here ∙ append_assoc k h.further (entry ∷ []);
   goes_on_there = ap (λ (x : List LoggedCommand). x ++ entry ∷ []) h.goes_on_there ∙ append_assoc l h.further (entry ∷ []);
@@ -144,49 +166,65 @@ module _ (limits : Limits) (i j : ℕ) (k l : List LoggedCommand) where
   one_more : (s : State) (log : List LoggedCommand) (n : ℕ) (entry : LoggedCommand) → AreApart limits i j k l s log n → HaveFurther k l (s.log ++ entry ∷ []) (log ++ entry ∷ [])
   one_more s log n entry e = further_on k l s.log log entry e.1
 
+  abbrev entry_of : Request → Outcome → LoggedCommand
+  entry_of request d = record { success = succeeds d; words = request.name ∷ request.words; stays = request.effect.stays; again = request.again }
+
+  -- a device command with its outcome
+  with_alike : (request : Request) (d : Outcome) (s : State) (text : Text) (log : List LoggedCommand) (n : ℕ) → AreApart limits i j k l s log n → Is (with_outcome d request s) (with_outcome d request (elsewhere text log n s))
+  with_alike request Success s text log n e =
+      let entry : LoggedCommand = entry_of request Success in
+      Alike-boot request.effect.ends request.name (set_environment (sets_in request.words request.effect.sets) (logged Success request s)) text (log ++ entry ∷ []) n (e.0, one_more s log n entry e)
+  with_alike request Failure s text log n e =
+      let entry : LoggedCommand = entry_of request Failure in
+      same (record { text = text; log = log ++ entry ∷ []; steps = n; is = refl; apart = (e.0, one_more s log n entry e) })
+
   pub take_alike : (request : Request) (w : OutcomeWord) (s : State) (text : Text) (log : List LoggedCommand) (n : ℕ) → AreApart limits i j k l s log n → Is (take_outcome request w s) (take_outcome request w (elsewhere text log n s))
   take_alike request [] s text log n e = same (record { text = text; log = log; steps = n; is = refl; apart = e })
-  take_alike request (Success ∷ rest) s text log n e =
-      let entry : LoggedCommand = record { success = true; words = request.name ∷ request.words } in
-      Alike-boot request.effect.ends request.name (set_environment (sets_in request.words request.effect.sets) (logged Success request (record s { word = rest }))) text (log ++ entry ∷ []) n (e.0, one_more s log n entry e)
-  take_alike request (Failure ∷ rest) s text log n e =
-      let entry : LoggedCommand = record { success = false; words = request.name ∷ request.words } in
-      same (record { text = text; log = log ++ entry ∷ []; steps = n; is = refl; apart = (e.0, one_more s log n entry e) })
+  take_alike request (d ∷ rest) s text log n e = with_alike request d (record s { word = rest }) text log n e
+
+  tell_alike : (o : Option Bool) (request : Request) (s : State) (text : Text) (log : List LoggedCommand) (n : ℕ) → AreApart limits i j k l s log n → Is (tell_or_take o request s) (tell_or_take o request (elsewhere text log n s))
+  tell_alike None request s text log n e = take_alike request s.word s text log n e
+  tell_alike (Some success) request s text log n e = with_alike (told_again request) (outcome_when success) s text log n e
 
   boot_needs : (b : Bool) (name : Text) (s : State) → devices_of (boot b name s) ≡ length s.log
   boot_needs true name s = refl
   boot_needs false name s = refl
 
+  with_needs : (request : Request) (d : Outcome) (s : State) → length s.log < devices_of (with_outcome d request s)
+  with_needs request Success s =
+      let a = boot_needs request.effect.ends request.name (set_environment (sets_in request.words request.effect.sets) (logged Success request s)) in
+      let b = length-append s.log (entry_of request Success ∷ []) in
+      omega arith
+  with_needs request Failure s = let b = length-append s.log (entry_of request Failure ∷ []) in omega arith
+
   take_needs : (request : Request) (w : OutcomeWord) (s : State) → length s.log < devices_of (take_outcome request w s)
   take_needs request [] s = omega arith
-  take_needs request (Success ∷ rest) s =
-      let entry : LoggedCommand = record { success = true; words = request.name ∷ request.words } in
-      let a = boot_needs request.effect.ends request.name (set_environment (sets_in request.words request.effect.sets) (logged Success request (record s { word = rest }))) in
-      let b = length-append s.log (entry ∷ []) in
-      omega arith
-  take_needs request (Failure ∷ rest) s =
-      let entry : LoggedCommand = record { success = false; words = request.name ∷ request.words } in
-      let b = length-append s.log (entry ∷ []) in
-      omega arith
+  take_needs request (d ∷ rest) s = with_needs request d (record s { word = rest })
 
-  device_by : (request : Request) (s : State) (text : Text) (log : List LoggedCommand) (n : ℕ) → AreApart limits i j k l s log n → (b c : Bool) → nat_lt (length s.log) limits.device_bound ≡ b → nat_lt (length log) limits.device_bound ≡ c
-      → let t : State = elsewhere text log n s in Is (elim b [ true ↦ take_outcome request s.word s | false ↦ Ended CutDevices s ]) (elim c [ true ↦ take_outcome request t.word t | false ↦ Ended CutDevices t ])
-  device_by request s text log n e true true p q = take_alike request s.word s text log n e
-  device_by request s text log n e true false p q =
+  tell_needs : (o : Option Bool) (request : Request) (s : State) → length s.log < devices_of (tell_or_take o request s)
+  tell_needs None request s = take_needs request s.word s
+  tell_needs (Some success) request s = with_needs (told_again request) (outcome_when success) s
+
+  device_by : (o : Option Bool) (request : Request) (s : State) (text : Text) (log : List LoggedCommand) (n : ℕ) → AreApart limits i j k l s log n → (b c : Bool) → nat_lt (length s.log) limits.device_bound ≡ b → nat_lt (length log) limits.device_bound ≡ c
+      → let t : State = elsewhere text log n s in Is (elim b [ true ↦ tell_or_take o request s | false ↦ Ended CutDevices s ]) (elim c [ true ↦ tell_or_take o request t | false ↦ Ended CutDevices t ])
+  device_by o request s text log n e true true p q = tell_alike o request s text log n e
+  device_by o request s text log n e true false p q =
       let full = ltb-false (length log) limits.device_bound q in
       let room = ltb-true (length s.log) limits.device_bound p in
       let a = further_apart k l s.log log e.1 in
-      let needs = take_needs request s.word s in
+      let needs = tell_needs o request s in
       beyond (inr (omega arith, omega arith))
-  device_by request s text log n e false true p q =
+  device_by o request s text log n e false true p q =
       let full = ltb-false (length s.log) limits.device_bound p in
       let room = ltb-true (length log) limits.device_bound q in
       let a = further_apart k l s.log log e.1 in
       cut_here (let less : length l < length k = omega arith in less)
-  device_by request s text log n e false false p q = same (record { text = text; log = log; steps = n; is = refl; apart = e })
+  device_by o request s text log n e false false p q = same (record { text = text; log = log; steps = n; is = refl; apart = e })
 
   pub Alike-device : (request : Request) → AlwaysDoes (device limits request)
-  Alike-device request s = λ text log n e. device_by request s text log n e (nat_lt (length s.log) limits.device_bound) (nat_lt (length log) limits.device_bound) refl refl
+  Alike-device request s = λ text log n e.
+      subst (λ (o : Option Bool). let t : State = elsewhere text log n s in Is (device limits request s) (elim (nat_lt (length log) limits.device_bound) [ true ↦ tell_or_take o request t | false ↦ Ended CutDevices t ])) (sym (told_same request k l s.log log e.1))
+      (device_by (told request s.log) request s text log n e (nat_lt (length s.log) limits.device_bound) (nat_lt (length log) limits.device_bound) refl refl)
 
   -- ---- parts of scripts
   pub text_end_alike : (a b : Answer) (g : State → Answer) → AlwaysDoes g → KeepsAll limits g → Is a b → Is (text_end a g) (text_end b g)
@@ -243,10 +281,10 @@ module _ (limits : Limits) (i j : ℕ) (k l : List LoggedCommand) where
     Alike-command (BuiltIn (ChangesVariables change)) name ws s = Alike-normal s (variables_changed change ws) (λ text. (text, refl))
     Alike-command (BuiltIn RunsTexts) name [] s = Alike-normal s (λ m. record m { status = 1 }) (reaches_status 1 s.memory)
     Alike-command (BuiltIn RunsTexts) name (w ∷ ws) s = Alike-run (w ∷ ws) s
-    Alike-command (BuiltIn Tests) name ws s = Alike-if s (asks_device ws) (device limits (record { name = name; words = ws; effect = no_effect })) (λ t. Normal (set_status (status_when (verdict ws)) t)) (Alike-device (record { name = name; words = ws; effect = no_effect }) s) (Alike-normal s (λ m. record m { status = status_when (verdict ws) }) (reaches_status (status_when (verdict ws)) s.memory))
+    Alike-command (BuiltIn Tests) name ws s = Alike-if s (asks_device ws) (device limits (record { name = name; words = ws; effect = test_effect limits.devices; again = false })) (λ t. Normal (set_status (status_when (verdict ws)) t)) (Alike-device (record { name = name; words = ws; effect = test_effect limits.devices; again = false }) s) (Alike-normal s (λ m. record m { status = status_when (verdict ws) }) (reaches_status (status_when (verdict ws)) s.memory))
     Alike-command (BuiltIn (WritesText written)) name ws s = Alike-normal s (text_written written ws) (λ text. (text ++ written ws, refl))
     Alike-command (BuiltIn Exits) name ws s = Alike-leave (exit_status ws) s
-    Alike-command (Device effect) name ws s = Alike-device (record { name = name; words = ws; effect = effect }) s
+    Alike-command (Device effect) name ws s = Alike-device (record { name = name; words = ws; effect = effect; again = false }) s
     Alike-command NoCommand name ws s = Alike-ended s (Unknown name)
 
     pub Alike-simple : (fs : List Text) → AlwaysDoes (simple limits script fs)

@@ -1,9 +1,11 @@
 -- What the nodes of a flow draw: ends, device commands that ask, and other moments of the same core.
-use Rattle.std.proofs.Common.{ℕ, zero, suc, List, [], ◌∷◌, ◌++◌, length, Option, Some, None, refl, sym, ap, ◌∙◌, ◌≡◌, append_assoc, append-nil, inl, inr, arith}
+use Rattle.std.proofs.Common.{ℕ, zero, suc, Bool, true, false, not, cond, map, List, [], ◌∷◌, ◌++◌, length, Option, Some, None, refl, sym, ap, ◌∙◌, ◌≡◌, append_assoc, append-nil, inl, inr, arith}
 use Rattle.std.specs.List.{slice_get}
 use Rattle.bootstore.specs.Moment.{Moment}
 use Rattle.rehearse.specs.Outcomes.{OutcomeWord, Outcome, Success, Failure, WordKind, Short}
-use Rattle.rehearse.specs.State.{Text, State, LoggedCommand}
+use Rattle.std.proofs.lemmas.List.{map-append}
+use Rattle.std.proofs.lemmas.List.Elements.{filter-append}
+use Rattle.rehearse.specs.State.{Text, State, LoggedCommand, asked_of}
 use Rattle.bootstore.specs.StoredState.{state_at}
 use Rattle.rehearse.specs.Commands.{sets_in}
 use Rattle.rehearse.specs.Execution.{Limits, Answer, Ending, CutDevices, CutSteps, End, Unknown, Syntax, Size, Booted, Request, take_outcome, set_environment, logged, succeeds}
@@ -15,7 +17,7 @@ use Rattle.rehearse_machine.specs.declared.rehearsal.Stop.{Stop}
 use Rattle.rehearse_endings.specs.Elsewhere.{HaveFurther, IsAlike, same}
 use Rattle.rehearse_endings.specs.Futures as futures
 use Rattle.rehearse_endings.specs.Futures.{came_kind, came_to_end, came_log, IsSameCame, CameCut, CameBeyond, CameAlike}
-use Rattle.rehearse_endings.specs.Flow.{Node, Asks, Ends, Seen, behind, stands_at, goes_on, walk}
+use Rattle.rehearse_endings.specs.Flow.{Node, Asks, Ends, Answered, asked_in, Seen, behind, stands_at, goes_on, walk}
 use Rattle.rehearse_endings.specs.Drawing.{further, seen_behind, Draws, seen_at, HasMore, words_in}
 use Rattle.rehearse_endings.specs.Searching.{future, seen_from}
 use Rattle.rehearse_endings.proofs.Alike.{Alike-boot}
@@ -33,17 +35,22 @@ get_seam : {A : Type 0} (xs ys : List A) (x : A) → slice_get (xs ++ x ∷ ys) 
 get_seam [] ys x = refl
 get_seam (z ∷ xs) ys x = get_seam xs ys x
 
-further_all : (log : List LoggedCommand) → further (length log) log ≡ []
+further_all : (log : List Answered) → further (length log) log ≡ []
 further_all [] = refl
 further_all (c ∷ log) = further_all log
 
-further_behind : (log rest : List LoggedCommand) → further (length log) (log ++ rest) ≡ rest
+further_behind : (log rest : List Answered) → further (length log) (log ++ rest) ≡ rest
 further_behind [] rest = refl
 further_behind (c ∷ log) rest = further_behind log rest
 
-further_one : (log rest : List LoggedCommand) (entry : LoggedCommand) → further (suc (length log)) (log ++ entry ∷ rest) ≡ rest
+further_one : (log rest : List Answered) (entry : Answered) → further (suc (length log)) (log ++ entry ∷ rest) ≡ rest
 further_one [] rest entry = refl
 further_one (c ∷ log) rest entry = further_one log rest entry
+
+-- the commands of a log that goes on
+pub asked-on : (log rest : List LoggedCommand) → asked_in (log ++ rest) ≡ asked_in log ++ asked_in rest
+asked-on log rest =
+    ap (map (λ e. (e.success, e.words))) (filter-append (λ e. not e.again) log rest) ∙ map-append (λ e. (e.success, e.words)) (asked_of log) (asked_of rest)
 
 -- ---- more nodes change nothing
 
@@ -58,13 +65,13 @@ draws_as nodes place f g e d = λ more w. d more w ∙ e w
 
 -- ---- an end
 
-ended_so : (ending : Ending) (m : Moment) (w : OutcomeWord) (node : ℕ → Option Node) (place : ℕ) → node place ≡ Some (Ends ending) → walk node w place ≡ seen_behind (length m.log) (Over ending (state_at m w))
+ended_so : (ending : Ending) (m : Moment) (w : OutcomeWord) (node : ℕ → Option Node) (place : ℕ) → node place ≡ Some (Ends ending) → walk node w place ≡ seen_behind (length (asked_in m.log)) (Over ending (state_at m w))
 ended_so ending m [] node place e =
-    ap stands_at e ∙ ap (λ (log : List LoggedCommand). record (seen_behind (length m.log) (Over ending (state_at m []))) { log = log }) (sym (further_all m.log))
+    ap stands_at e ∙ ap (λ (log : List Answered). record (seen_behind (length (asked_in m.log)) (Over ending (state_at m []))) { log = log }) (sym (further_all (asked_in m.log)))
 ended_so ending m (d ∷ w) node place e =
-    ap (λ (x : Option Node). goes_on x d (walk node w)) e ∙ ap (λ (log : List LoggedCommand). record (seen_behind (length m.log) (Over ending (state_at m (d ∷ w)))) { log = log }) (sym (further_all m.log))
+    ap (λ (x : Option Node). goes_on x d (walk node w)) e ∙ ap (λ (log : List Answered). record (seen_behind (length (asked_in m.log)) (Over ending (state_at m (d ∷ w)))) { log = log }) (sym (further_all (asked_in m.log)))
 
-pub end_drawn : (limits : Limits) (nodes : List Node) (place : ℕ) (ending : Ending) (m : Moment) → slice_get nodes place ≡ Some (Ends ending) → Draws nodes place (λ w. seen_behind (length m.log) (Over ending (state_at m w)))
+pub end_drawn : (limits : Limits) (nodes : List Node) (place : ℕ) (ending : Ending) (m : Moment) → slice_get nodes place ≡ Some (Ends ending) → Draws nodes place (λ w. seen_behind (length (asked_in m.log)) (Over ending (state_at m w)))
 end_drawn limits nodes place ending m e = λ more w. ended_so ending m w (slice_get (nodes ++ more)) place (get_on nodes more place (Ends ending) e)
 
 -- ---- what the device command that asks leaves in the log
@@ -86,18 +93,18 @@ logs_itself limits i k c (futures.beyond (inl h)) = absurd (omega (arith, h.0))
 logs_itself limits i k c (futures.beyond (inr h)) = absurd (omega (arith, h.0))
 
 abbrev pub entry_of : Request → Outcome → LoggedCommand
-entry_of request d = record { success = succeeds d; words = request.name ∷ request.words }
+entry_of request d = record { success = succeeds d; words = request.name ∷ request.words; stays = request.effect.stays; again = request.again }
 
 -- a device command that answered goes on after its entry
 took : (limits : Limits) (request : Request) (d : Outcome) (w : OutcomeWord) (s : State) → IsAlike limits s.steps s.steps (s.log ++ entry_of request d ∷ []) (s.log ++ entry_of request d ∷ []) (take_outcome request (d ∷ w) s) (take_outcome request (d ∷ w) s)
 took limits request Success w s =
     let u : State = set_environment (sets_in request.words request.effect.sets) (logged Success request (record s { word = w })) in
     let k : List LoggedCommand = s.log ++ entry_of request Success ∷ [] in
-    Alike-boot limits s.steps s.steps k k request.effect.ends request.name u u.memory.text u.log u.steps (omega arith, record { further = []; goes_on_here = sym (append-nil k); goes_on_there = sym (append-nil k) })
+    Alike-boot limits s.steps s.steps k k request.effect.ends request.name u u.memory.text u.log u.steps (omega arith, record { answers = refl; further = []; goes_on_here = sym (append-nil k); goes_on_there = sym (append-nil k) })
 took limits request Failure w s =
     let u : State = logged Failure request (record s { word = w }) in
     let k : List LoggedCommand = s.log ++ entry_of request Failure ∷ [] in
-    same (record { text = u.memory.text; log = u.log; steps = u.steps; is = refl; apart = (omega arith, record { further = []; goes_on_here = sym (append-nil k); goes_on_there = sym (append-nil k) }) })
+    same (record { text = u.memory.text; log = u.log; steps = u.steps; is = refl; apart = (omega arith, record { answers = refl; further = []; goes_on_here = sym (append-nil k); goes_on_there = sym (append-nil k) }) })
 
 module _ (limits : Limits) (m : Moment) (asking : Asking limits m) where
   logs_next : (d : Outcome) (w : OutcomeWord) → (rest : List LoggedCommand) × (came_log (asked_at limits m (d ∷ w)) ≡ m.log ++ entry_of asking.request d ∷ rest)
@@ -108,17 +115,25 @@ module _ (limits : Limits) (m : Moment) (asking : Asking limits m) where
       let h = logs_itself limits m.steps k (continue limits (frames_of m.frames) a) (continue_alike limits m.steps m.steps k k (frames_of m.frames) a a (took limits asking.request d w s)) in
       (h.further, ap came_log (asks_so limits m asking (d ∷ w)) ∙ h.goes_on_here ∙ append_assoc m.log (entry_of asking.request d ∷ []) h.further)
 
-  seen_next : (d : Outcome) (w : OutcomeWord) (n : ℕ) → n ≡ suc (length m.log) → behind d (asking.request.name ∷ asking.request.words) (seen_behind n (asked_at limits m (d ∷ w))) ≡ seen_at limits m (d ∷ w)
-  seen_next d w n e =
+  -- the commands that took an outcome: after those of the moment, this one, and then others
+  asked_next : (d : Outcome) (w : OutcomeWord) → asking.request.again ≡ false → (rest : List Answered) × (asked_in (came_log (asked_at limits m (d ∷ w))) ≡ asked_in m.log ++ (succeeds d, asking.request.name ∷ asking.request.words) ∷ rest)
+  asked_next d w fresh =
       let h = logs_next d w in
+      let one : Answered = (succeeds d, asking.request.name ∷ asking.request.words) in
+      let first : asked_in (entry_of asking.request d ∷ h.0) ≡ one ∷ asked_in h.0 = ap (λ (b : Bool). let es : List LoggedCommand = cond (not b) (entry_of asking.request d ∷ asked_of h.0) (asked_of h.0) in map (λ e. (e.success, e.words)) es) fresh in
+      (asked_in h.0, ap asked_in h.1 ∙ asked-on m.log (entry_of asking.request d ∷ h.0) ∙ ap (λ (es : List Answered). asked_in m.log ++ es) first)
+
+  seen_next : (d : Outcome) (w : OutcomeWord) (n : ℕ) → asking.request.again ≡ false → n ≡ suc (length (asked_in m.log)) → behind d (asking.request.name ∷ asking.request.words) (seen_behind n (asked_at limits m (d ∷ w))) ≡ seen_at limits m (d ∷ w)
+  seen_next d w n fresh e =
+      let h = asked_next d w fresh in
       let c : Came = asked_at limits m (d ∷ w) in
-      let entry : LoggedCommand = entry_of asking.request d in
-      ap (λ (log : List LoggedCommand). record { kind = came_kind c; ending = came_to_end c; log = log })
-      (ap (λ (x : ℕ). entry ∷ further x (came_log c)) e
-      ∙ ap (λ (log : List LoggedCommand). entry ∷ further (suc (length m.log)) log) h.1
-      ∙ ap (λ (log : List LoggedCommand). entry ∷ log) (further_one m.log h.0 entry)
-      ∙ sym (further_behind m.log (entry ∷ h.0))
-      ∙ ap (further (length m.log)) (sym h.1))
+      let entry : Answered = (succeeds d, asking.request.name ∷ asking.request.words) in
+      ap (λ (log : List Answered). record { kind = came_kind c; ending = came_to_end c; log = log })
+      (ap (λ (x : ℕ). entry ∷ further x (asked_in (came_log c))) e
+      ∙ ap (λ (log : List Answered). entry ∷ further (suc (length (asked_in m.log))) log) h.1
+      ∙ ap (λ (log : List Answered). entry ∷ log) (further_one (asked_in m.log) h.0 entry)
+      ∙ sym (further_behind (asked_in m.log) (entry ∷ h.0))
+      ∙ ap (further (length (asked_in m.log))) (sym h.1))
 
   -- the words of the device command, read from the log once it has answered
   pub words_logged : (log : List LoggedCommand) (d : Outcome) (w : OutcomeWord) → came_log (asked_at limits m (d ∷ w)) ≡ log → words_in (slice_get log (length m.log)) ≡ asking.request.name ∷ asking.request.words
@@ -126,30 +141,30 @@ module _ (limits : Limits) (m : Moment) (asking : Asking limits m) where
       let h = logs_next d w in
       ap words_in (ap (λ (x : List LoggedCommand). slice_get x (length m.log)) (sym e ∙ h.1) ∙ get_seam m.log h.0 (entry_of asking.request d))
 
-  side_drawn : (d : Outcome) (stop : Stop) (n : Moment) (nodes : List Node) (place : ℕ) → ((w : OutcomeWord) → asked_at limits m (d ∷ w) ≡ future limits stop n w) → length n.log ≡ suc (length m.log)
+  side_drawn : (d : Outcome) (stop : Stop) (n : Moment) (nodes : List Node) (place : ℕ) → asking.request.again ≡ false → ((w : OutcomeWord) → asked_at limits m (d ∷ w) ≡ future limits stop n w) → length (asked_in n.log) ≡ suc (length (asked_in m.log))
       → Draws nodes place (seen_from limits stop n) → (more : List Node) (w : OutcomeWord) → behind d (asking.request.name ∷ asking.request.words) (walk (slice_get (nodes ++ more)) w place) ≡ seen_at limits m (d ∷ w)
-  side_drawn d stop n nodes place f l draws more w =
-      ap (behind d (asking.request.name ∷ asking.request.words)) (draws more w ∙ ap (seen_behind (length n.log)) (sym (f w)))
-      ∙ seen_next d w (length n.log) l
+  side_drawn d stop n nodes place fresh f l draws more w =
+      ap (behind d (asking.request.name ∷ asking.request.words)) (draws more w ∙ ap (seen_behind (length (asked_in n.log))) (sym (f w)))
+      ∙ seen_next d w (length (asked_in n.log)) fresh l
 
-  module _ (won_stop lost_stop : Stop) (won_at lost_at : Moment) (nodes : List Node) (won_place lost_place : ℕ)
+  module _ (won_stop lost_stop : Stop) (won_at lost_at : Moment) (nodes : List Node) (won_place lost_place : ℕ) (fresh : asking.request.again ≡ false)
       (wants : asked_at limits m [] ≡ Wants (state_at m []))
-      (won_future : (w : OutcomeWord) → asked_at limits m (Success ∷ w) ≡ future limits won_stop won_at w) (won_log : length won_at.log ≡ suc (length m.log)) (won : Draws nodes won_place (seen_from limits won_stop won_at))
-      (lost_future : (w : OutcomeWord) → asked_at limits m (Failure ∷ w) ≡ future limits lost_stop lost_at w) (lost_log : length lost_at.log ≡ suc (length m.log)) (lost : Draws nodes lost_place (seen_from limits lost_stop lost_at)) where
+      (won_future : (w : OutcomeWord) → asked_at limits m (Success ∷ w) ≡ future limits won_stop won_at w) (won_log : length (asked_in won_at.log) ≡ suc (length (asked_in m.log))) (won : Draws nodes won_place (seen_from limits won_stop won_at))
+      (lost_future : (w : OutcomeWord) → asked_at limits m (Failure ∷ w) ≡ future limits lost_stop lost_at w) (lost_log : length (asked_in lost_at.log) ≡ suc (length (asked_in m.log))) (lost : Draws nodes lost_place (seen_from limits lost_stop lost_at)) where
     abbrev asks_node : Node
     asks_node = Asks (asking.request.name ∷ asking.request.words) won_place lost_place
 
     sides_drawn : (more : List Node) (w : OutcomeWord) → walk (slice_get (nodes ++ asks_node ∷ more)) w (length nodes) ≡ seen_at limits m w
     sides_drawn more [] =
         ap stands_at (get_seam nodes more asks_node)
-        ∙ ap (λ (log : List LoggedCommand). record { kind = Short; ending = None; log = log }) (sym (further_all m.log))
-        ∙ ap (seen_behind (length m.log)) (sym wants)
+        ∙ ap (λ (log : List Answered). record { kind = Short; ending = None; log = log }) (sym (further_all (asked_in m.log)))
+        ∙ ap (seen_behind (length (asked_in m.log))) (sym wants)
     sides_drawn more (Success ∷ w) =
         ap (λ (x : Option Node). goes_on x Success (walk (slice_get (nodes ++ asks_node ∷ more)) w)) (get_seam nodes more asks_node)
-        ∙ side_drawn Success won_stop won_at nodes won_place won_future won_log won (asks_node ∷ more) w
+        ∙ side_drawn Success won_stop won_at nodes won_place fresh won_future won_log won (asks_node ∷ more) w
     sides_drawn more (Failure ∷ w) =
         ap (λ (x : Option Node). goes_on x Failure (walk (slice_get (nodes ++ asks_node ∷ more)) w)) (get_seam nodes more asks_node)
-        ∙ side_drawn Failure lost_stop lost_at nodes lost_place lost_future lost_log lost (asks_node ∷ more) w
+        ∙ side_drawn Failure lost_stop lost_at nodes lost_place fresh lost_future lost_log lost (asks_node ∷ more) w
 
     -- a device command that asks, from its two sides
     pub asks_drawn : (words : List Text) → words ≡ asking.request.name ∷ asking.request.words → Draws (nodes ++ Asks words won_place lost_place ∷ []) (length nodes) (seen_at limits m)
@@ -160,15 +175,16 @@ module _ (limits : Limits) (m : Moment) (asking : Asking limits m) where
 
 -- ---- another moment of the same core
 
-further_same : (k l here there : List LoggedCommand) → HaveFurther k l here there → further (length k) here ≡ further (length l) there
+further_same : (k l here there : List LoggedCommand) → HaveFurther k l here there → further (length (asked_in k)) (asked_in here) ≡ further (length (asked_in l)) (asked_in there)
 further_same k l here there h =
-    ap (further (length k)) h.goes_on_here ∙ further_behind k h.further ∙ sym (ap (further (length l)) h.goes_on_there ∙ further_behind l h.further)
+    ap (further (length (asked_in k))) (ap asked_in h.goes_on_here ∙ asked-on k h.further) ∙ further_behind (asked_in k) (asked_in h.further)
+    ∙ sym (ap (further (length (asked_in l))) (ap asked_in h.goes_on_there ∙ asked-on l h.further) ∙ further_behind (asked_in l) (asked_in h.further))
 
-seen_same : (limits : Limits) (i j : ℕ) (k l : List LoggedCommand) (c d : Came) → IsSameCame limits i j k l c d → seen_behind (length k) c ≡ seen_behind (length l) d
+seen_same : (limits : Limits) (i j : ℕ) (k l : List LoggedCommand) (c d : Came) → IsSameCame limits i j k l c d → seen_behind (length (asked_in k)) c ≡ seen_behind (length (asked_in l)) d
 seen_same limits i j k l c d h =
-    ap (λ (x : WordKind). record { kind = x; ending = came_to_end c; log = further (length k) (came_log c) }) (sym h.kind)
-    ∙ ap (λ (x : Option Ending). record { kind = came_kind d; ending = x; log = further (length k) (came_log c) }) (sym h.ended)
-    ∙ ap (λ (x : List LoggedCommand). record { kind = came_kind d; ending = came_to_end d; log = x }) (further_same k l (came_log c) (came_log d) h.logs)
+    ap (λ (x : WordKind). record { kind = x; ending = came_to_end c; log = further (length (asked_in k)) (asked_in (came_log c)) }) (sym h.kind)
+    ∙ ap (λ (x : Option Ending). record { kind = came_kind d; ending = x; log = further (length (asked_in k)) (asked_in (came_log c)) }) (sym h.ended)
+    ∙ ap (λ (x : List Answered). record { kind = came_kind d; ending = came_to_end d; log = x }) (further_same k l (came_log c) (came_log d) h.logs)
 
 pub draws_there : (limits : Limits) (m t : Moment) (nodes : List Node) (place : ℕ) → ((w : OutcomeWord) → IsSameCame limits m.steps t.steps m.log t.log (asked_at limits m w) (asked_at limits t w)) → Draws nodes place (seen_at limits m) → Draws nodes place (seen_at limits t)
 draws_there limits m t nodes place h = draws_as nodes place (seen_at limits m) (seen_at limits t) (λ w. seen_same limits m.steps t.steps m.log t.log (asked_at limits m w) (asked_at limits t w) (h w))

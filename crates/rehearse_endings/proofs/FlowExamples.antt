@@ -1,8 +1,10 @@
 -- Worked examples, computed: a flow and its lines, and what walks through it see, compared with what the runs come to.
-use Rattle.std.proofs.Common.{[], ◌∷◌, List, codes, refl, ◌≡◌, None}
+use Rattle.std.proofs.Common.{[], ◌∷◌, List, codes, refl, ◌≡◌, None, Some, true, false}
 use Rattle.std.specs.Fmt.{digits}
 use Rattle.hushlang.specs.Expansion.{fields, joined, atoms}
-use Rattle.rehearse.specs.Outcomes.{OutcomeWord, Success, Failure, Short}
+use Rattle.rehearse.specs.Outcomes.{OutcomeWord, Success, Failure, Run, Short}
+use Rattle.rehearse.specs.DeviceList.{only}
+use Rattle.rehearse.specs.DeviceLaws.{quiet}
 use Rattle.rehearse.specs.Trees.{tree_of}
 use Rattle.rehearse.specs.Execution.{End, CutDevices, Unknown}
 use Rattle.rehearse.specs.Runs.{Task, run_on}
@@ -79,3 +81,15 @@ cut_by_devices = refl
 exited : walk (numbered (Ends (End 3) ∷ [])) [] 1 ≡ seen_of (run_on (bootcmd (limits only_load 3 20) (codes "exit 3")) [])
 unfolding tree_of fields joined atoms digits
 exited = refl
+
+-- a steady command that is told its answer again takes no digit, and is no node
+abbrev steady : Task
+steady = bootcmd (limits (only ((codes "load", record quiet { stays = true }) ∷ [])) 3 20) (codes "load; load")
+
+told_again_is_left_out : seen_of (run_on steady (Failure ∷ [])) ≡ record { kind = Run; ending = Some (End 1); log = (false, codes "load" ∷ []) ∷ [] }
+unfolding tree_of fields joined atoms
+told_again_is_left_out = refl
+
+steady_walked : walk (numbered (Asks (codes "load" ∷ []) 3 2 ∷ Ends (End 1) ∷ Ends (End 0) ∷ [])) (Success ∷ []) 1 ≡ seen_of (run_on steady (Success ∷ []))
+unfolding tree_of fields joined atoms
+steady_walked = refl

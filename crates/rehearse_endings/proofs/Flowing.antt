@@ -16,12 +16,13 @@ use Rattle.rehearse_machine.specs.Machine.{IsAsking, Stops, asked_at}
 use Rattle.rehearse_machine.specs.declared.halt.Halt.{Halt}
 use Rattle.rehearse_machine.specs.declared.rehearsal.Stop.{Stop}
 use Rattle.rehearse_machine.specs.declared.rehearsal.Stop.TheVariants as stops
-use Rattle.rehearse_endings.specs.Flow.{Node, Asks, Ends, next, behind, stands_at, goes_on, walk, numbered, seen_of, IsFlow}
+use Rattle.rehearse_endings.specs.Flow.{Node, Asks, Ends, next, behind, stands_at, goes_on, walk, numbered, asked_in, seen_of, IsFlow}
 use Rattle.rehearse_endings.specs.Futures.{came_log}
 use Rattle.rehearse_endings.specs.Drawing.{nodes_shown, seen_behind, seen_at, Draws, HasMore, words_in, renumbered}
 use Rattle.rehearse_endings.specs.Searching.{future, seen_from, IsReached, AreEntries}
 use Rattle.rehearse_endings.specs.declared.flow.Flow.{Flow}
 use Rattle.rehearse_endings.specs.declared.table.Table.{Table}
+use Rattle.rehearse_endings.proofs.AskedAnew.{asks_anew}
 use Rattle.rehearse_endings.proofs.Drawn.{draws_on, end_drawn, words_logged, asks_drawn}
 use Rattle.rehearse_endings.proofs.Reached.{reached_log, reached_first, reached_on, reached_asks, reached_wants, future_is}
 
@@ -32,29 +33,29 @@ stopped_log limits stops.Asks f n h = ap came_log h.2
 stopped_log limits (stops.Ends halt) f n h = ap came_log (h [])
 
 asking_drawn : (limits : Limits) (m : Moment) (won_stop lost_stop : Stop) (won_at lost_at : Moment) (before nodes : List Node) (won_place lost_place : ℕ) (words : List Text) → IsAsking limits m → asked_at limits m [] ≡ Wants (state_at m [])
-    → Stops limits won_stop (λ w. asked_at limits m (Success ∷ w)) won_at → Stops limits lost_stop (λ w. asked_at limits m (Failure ∷ w)) lost_at → length won_at.log ≡ suc (length m.log) → length lost_at.log ≡ suc (length m.log)
+    → Stops limits won_stop (λ w. asked_at limits m (Success ∷ w)) won_at → Stops limits lost_stop (λ w. asked_at limits m (Failure ∷ w)) lost_at → length (asked_in won_at.log) ≡ suc (length (asked_in m.log)) → length (asked_in lost_at.log) ≡ suc (length (asked_in m.log))
     → words ≡ words_in (slice_get won_at.log (length m.log)) → Draws before won_place (seen_from limits won_stop won_at) → HasMore before nodes → Draws nodes lost_place (seen_from limits lost_stop lost_at)
     → Draws (nodes ++ Asks words won_place lost_place ∷ []) (length nodes) (seen_at limits m)
 unfolding IsAsking
 asking_drawn limits m won_stop lost_stop won_at lost_at before nodes won_place lost_place words asking wants won lost won_log lost_log are won_draws more lost_draws =
-    asks_drawn limits m asking won_stop lost_stop won_at lost_at nodes won_place lost_place wants
+    asks_drawn limits m asking won_stop lost_stop won_at lost_at nodes won_place lost_place (asks_anew limits m asking) wants
     (future_is limits won_stop (λ w. asked_at limits m (Success ∷ w)) won_at won) won_log (draws_on before nodes won_place (seen_from limits won_stop won_at) more won_draws)
     (future_is limits lost_stop (λ w. asked_at limits m (Failure ∷ w)) lost_at lost) lost_log lost_draws
     words (are ∙ words_logged limits m asking won_at.log Success [] (stopped_log limits won_stop (λ w. asked_at limits m (Success ∷ w)) won_at won))
 
 -- the place of the device command that asks, from the places of its two sides
-pub state_drawn : (task : Task) (depth : ℕ) (m : Moment) (won_stop lost_stop : Stop) (won_at lost_at : Moment) (before nodes new : List Node) (won_place lost_place place : ℕ) (words : List Text) → IsReached task depth stops.Asks m
+pub state_drawn : (task : Task) (depth devices : ℕ) (m : Moment) (won_stop lost_stop : Stop) (won_at lost_at : Moment) (before nodes new : List Node) (won_place lost_place place : ℕ) (words : List Text) → IsReached task depth stops.Asks m
     → Stops task.limits won_stop (λ w. asked_at task.limits m (Success ∷ w)) won_at → Stops task.limits lost_stop (λ w. asked_at task.limits m (Failure ∷ w)) lost_at
-    → words ≡ words_in (slice_get won_at.log depth) → Draws before won_place (seen_from task.limits won_stop won_at) → HasMore before nodes → Draws nodes lost_place (seen_from task.limits lost_stop lost_at)
+    → devices ≡ length m.log → words ≡ words_in (slice_get won_at.log devices) → Draws before won_place (seen_from task.limits won_stop won_at) → HasMore before nodes → Draws nodes lost_place (seen_from task.limits lost_stop lost_at)
     → place ≡ length nodes → new ≡ nodes ++ Asks words won_place lost_place ∷ [] → Draws new place (seen_at task.limits m)
-state_drawn task depth m won_stop lost_stop won_at lost_at before nodes new won_place lost_place place words reached won lost are won_draws more lost_draws at is =
+state_drawn task depth devices m won_stop lost_stop won_at lost_at before nodes new won_place lost_place place words reached won lost logged are won_draws more lost_draws at is =
     let log = reached_log task depth stops.Asks m reached in
     let won_log = reached_log task (depth + 1) won_stop won_at (reached_on task depth m won_at Success won_stop reached won) in
     let lost_log = reached_log task (depth + 1) lost_stop lost_at (reached_on task depth m lost_at Failure lost_stop reached lost) in
     subst (λ (x : List Node). Draws x place (seen_at task.limits m)) (sym is)
     (subst (λ (n : ℕ). Draws (nodes ++ Asks words won_place lost_place ∷ []) n (seen_at task.limits m)) (sym at)
     (asking_drawn task.limits m won_stop lost_stop won_at lost_at before nodes won_place lost_place words (reached_asks task depth m reached) (reached_wants task depth m reached) won lost (omega arith) (omega arith)
-    (are ∙ ap (λ (n : ℕ). words_in (slice_get won_at.log n)) (sym log)) won_draws more lost_draws))
+    (are ∙ ap (λ (n : ℕ). words_in (slice_get won_at.log n)) logged) won_draws more lost_draws))
 
 -- the state is kept
 pub kept_drawn : (limits : Limits) (m : Moment) (nodes new : List Node) (place kept : ℕ) → new ≡ nodes → kept ≡ place → Draws nodes place (seen_at limits m) → Draws new kept (seen_at limits m)
@@ -156,7 +157,7 @@ pub whole_flow : (task : Task) (stop : Stop) (m : Moment) (nodes lines : List No
     → Draws nodes place (seen_from task.limits stop m) → place + 1 ≡ count → count ≡ length nodes → lines ≡ reverse (map (renumbered count) nodes) → IsFlow task lines
 whole_flow task stop m nodes lines place count h draws last many is = λ w.
     let first : 1 ≡ length nodes - place = omega arith in
-    let log : length m.log ≡ 0 = reached_log task 0 stop m (reached_first task stop m h) in
+    let log : length (asked_in m.log) ≡ 0 = reached_log task 0 stop m (reached_first task stop m h) in
     ap (λ (x : List Node). walk (numbered x) w 1) (is ∙ ap (λ (n : ℕ). reverse (map (renumbered n) nodes)) many)
     ∙ ap (λ (n : ℕ). walk (numbered (reverse (map (renumbered (length nodes)) nodes))) w n) first
     ∙ walk_as (length nodes) (numbered (reverse (map (renumbered (length nodes)) nodes))) (slice_get nodes) (lines_of nodes) w place

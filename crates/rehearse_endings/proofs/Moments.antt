@@ -1,19 +1,20 @@
 -- If a device command asks at two moments with the same core, the same is to come, as far as the bounds allow.
-use Rattle.std.proofs.Common.{ℕ, Bool, true, false, List, [], ◌∷◌, length, Option, Some, None, refl, sym, ap, subst, ◌∙◌, ◌≡◌, append-nil, arith, nat_lt, nat_le}
+use Rattle.std.proofs.Common.{ℕ, Bool, true, false, cond, List, [], ◌∷◌, length, Option, Some, None, refl, sym, ap, subst, ◌∙◌, ◌≡◌, append-nil, arith, nat_lt, nat_le}
 use Rattle.std.specs.FinMap.{entries}
 use Rattle.hushlang.specs.Tree as tree
 use Rattle.hushlang.specs.Tree.{Script}
 use Rattle.hushlang.specs.Expansion.{fields, size, most_bytes}
 use Rattle.bootstore.specs.Moment.{Moment, RunningFrame}
-use Rattle.rehearse.specs.Outcomes.{OutcomeWord}
-use Rattle.rehearse.specs.State.{Text, State, Variables, parameters_in, LoggedCommand}
+use Rattle.std.specs.Map.{lookup}
+use Rattle.rehearse.specs.Outcomes.{OutcomeWord, Success}
+use Rattle.rehearse.specs.State.{Text, State, Variables, parameters_in, LoggedCommand, answers_in, same_words}
 use Rattle.bootstore.specs.StoredState.{state_at}
 use Rattle.rehearse.specs.Verdict.{verdict}
-use Rattle.rehearse.specs.Commands.{Called, ChangesVariables, WritesText, RunsTexts, Tests, Exits, BuiltIn, NoCommand, Device, called_by, asks_device, exit_status}
-use Rattle.rehearse.specs.Execution.{Limits, CutDevices, Size, Request, no_effect, set_status, status_when, take_outcome}
+use Rattle.rehearse.specs.Commands.{Called, ChangesVariables, WritesText, RunsTexts, Tests, Exits, BuiltIn, NoCommand, Device, called_by, sets_in, asks_device, exit_status}
+use Rattle.rehearse.specs.Execution.{Limits, CutDevices, Size, Request, test_effect, told, told_again, logged, set_environment, set_status, status_when, take_outcome}
 use Rattle.rehearse_machine.specs.Came.{Came}
 use Rattle.rehearse_machine.specs.Meaning.{continue, comes_to}
-use Rattle.rehearse_machine.specs.Places.{PlaceNext, GoOn, AskOn, StopOn, next_of, frames_of, left, to_run, place_exit, place_ask, place_called, place_fields}
+use Rattle.rehearse_machine.specs.Places.{PlaceNext, GoOn, AskOn, StopOn, next_of, frames_of, left, to_run, place_exit, place_boot, place_tell_or_ask, place_ask, place_called, place_fields}
 use Rattle.rehearse_machine.specs.AskingCommand.{words_in_front, fields_again, found_again}
 use Rattle.rehearse_machine.specs.Machine.{Asking, IsAsking, asked_at}
 use Rattle.rehearse_endings.specs.Elsewhere.{elsewhere}
@@ -48,40 +49,58 @@ module _ (limits : Limits) (text : Text) (log : List LoggedCommand) (n : ℕ) wh
   either_same true f g s h k = h
   either_same false f g s h k = k
 
-  ask_by : (b c : Bool) (r : Request) (ps : List RunningFrame) (s t : State) → AskSame (elim b [ true ↦ AskOn r ps s | false ↦ StopOn CutDevices s ]) (elim c [ true ↦ AskOn r ps t | false ↦ StopOn CutDevices t ])
-  ask_by true true r ps s t = refl
-  ask_by true false r ps s t = tt
-  ask_by false c r ps s t = tt
+  boot_same : (ends : Bool) (name : Text) (ps : List RunningFrame) (s : State) (b : PlaceNext) → AskSame (place_boot ends name ps s) b
+  boot_same true name ps s b = tt
+  boot_same false name ps s b = tt
 
-  ask_same : (r : Request) (ps : List RunningFrame) (s : State) → AskSame (place_ask limits r ps s) (place_ask limits r ps (there s))
-  ask_same r ps s = ask_by (nat_lt (length s.log) limits.device_bound) (nat_lt (length log) limits.device_bound) r ps s (there s)
+  tell_same : (o : Option Bool) (r : Request) (ps : List RunningFrame) (s t : State) → AskSame (place_tell_or_ask o r ps s) (place_tell_or_ask o r ps t)
+  tell_same None r ps s t = refl
+  tell_same (Some true) r ps s t =
+      boot_same r.effect.ends r.name ps (set_environment (sets_in r.words r.effect.sets) (logged Success (told_again r) s)) (place_tell_or_ask (Some true) r ps t)
+  tell_same (Some false) r ps s t = tt
 
-  called_same : (b : Called) (name : Text) (ws : List Text) (script : Script) (ps : List RunningFrame) (s : State) → AskSame (place_called limits b name ws script ps s) (place_called limits b name ws script ps (there s))
-  called_same (BuiltIn (ChangesVariables change)) name ws script ps s = tt
-  called_same (BuiltIn RunsTexts) name [] script ps s = tt
-  called_same (BuiltIn RunsTexts) name (w ∷ ws) script ps s = tt
-  called_same (BuiltIn Tests) name ws script ps s = either_same (asks_device ws) (place_ask limits (record { name = name; words = ws; effect = no_effect }) ps) (λ t. GoOn ps (set_status (status_when (verdict ws)) t)) s (ask_same (record { name = name; words = ws; effect = no_effect }) ps s) tt
-  called_same (BuiltIn (WritesText written)) name ws script ps s = tt
-  called_same (BuiltIn Exits) name ws script ps s = exit_same (exit_status ws) ps s (place_exit (exit_status ws) ps (there s))
-  called_same (Device effect) name ws script ps s = ask_same (record { name = name; words = ws; effect = effect }) ps s
-  called_same NoCommand name ws script ps s = tt
+  ends_same : (x : PlaceNext) (t : State) → AskSame x (StopOn CutDevices t)
+  ends_same (GoOn ps s) t = tt
+  ends_same (AskOn r ps s) t = tt
+  ends_same (StopOn ending s) t = tt
 
-  fields_same : (fs : List Text) (script : Script) (ps : List RunningFrame) (s : State) → AskSame (place_fields limits fs script ps s) (place_fields limits fs script ps (there s))
-  fields_same [] script ps s = tt
-  fields_same (name ∷ ws) script ps s = called_same (called_by limits.devices name ws) name ws script ps s
+  ask_by : (o : Option Bool) (b c : Bool) (r : Request) (ps : List RunningFrame) (s t : State) → AskSame (elim b [ true ↦ place_tell_or_ask o r ps s | false ↦ StopOn CutDevices s ]) (elim c [ true ↦ place_tell_or_ask o r ps t | false ↦ StopOn CutDevices t ])
+  ask_by o true true r ps s t = tell_same o r ps s t
+  ask_by o true false r ps s t = ends_same (place_tell_or_ask o r ps s) t
+  ask_by o false c r ps s t = tt
 
-  again_same : (o : Option (List tree.Word)) (f : RunningFrame) (fs : List RunningFrame) (s : State) → AskSame (fields_again limits o f fs s) (fields_again limits o f fs (there s))
-  again_same None f fs s = tt
-  again_same (Some words) f fs s =
+  ask_same : (r : Request) (ps : List RunningFrame) (s : State) → answers_in log ≡ answers_in s.log → AskSame (place_ask limits r ps s) (place_ask limits r ps (there s))
+  ask_same r ps s h =
+      let told_there : told r log ≡ told r s.log = ap (λ (a : List (List Text × Bool)). let o : Option Bool = cond r.effect.stays (lookup (same_words (r.name ∷ r.words)) a) None in o) h in
+      subst (λ (o : Option Bool). AskSame (place_ask limits r ps s) (elim (nat_lt (length log) limits.device_bound) [ true ↦ place_tell_or_ask o r ps (there s) | false ↦ StopOn CutDevices (there s) ])) (sym told_there)
+      (ask_by (told r s.log) (nat_lt (length s.log) limits.device_bound) (nat_lt (length log) limits.device_bound) r ps s (there s))
+
+  called_same : (b : Called) (name : Text) (ws : List Text) (script : Script) (ps : List RunningFrame) (s : State) → answers_in log ≡ answers_in s.log → AskSame (place_called limits b name ws script ps s) (place_called limits b name ws script ps (there s))
+  called_same (BuiltIn (ChangesVariables change)) name ws script ps s h = tt
+  called_same (BuiltIn RunsTexts) name [] script ps s h = tt
+  called_same (BuiltIn RunsTexts) name (w ∷ ws) script ps s h = tt
+  called_same (BuiltIn Tests) name ws script ps s h = either_same (asks_device ws) (place_ask limits (record { name = name; words = ws; effect = test_effect limits.devices; again = false }) ps) (λ t. GoOn ps (set_status (status_when (verdict ws)) t)) s (ask_same (record { name = name; words = ws; effect = test_effect limits.devices; again = false }) ps s h) tt
+  called_same (BuiltIn (WritesText written)) name ws script ps s h = tt
+  called_same (BuiltIn Exits) name ws script ps s h = exit_same (exit_status ws) ps s (place_exit (exit_status ws) ps (there s))
+  called_same (Device effect) name ws script ps s h = ask_same (record { name = name; words = ws; effect = effect; again = false }) ps s h
+  called_same NoCommand name ws script ps s h = tt
+
+  fields_same : (fs : List Text) (script : Script) (ps : List RunningFrame) (s : State) → answers_in log ≡ answers_in s.log → AskSame (place_fields limits fs script ps s) (place_fields limits fs script ps (there s))
+  fields_same [] script ps s h = tt
+  fields_same (name ∷ ws) script ps s h = called_same (called_by limits.devices name ws) name ws script ps s h
+
+  again_same : (o : Option (List tree.Word)) (f : RunningFrame) (fs : List RunningFrame) (s : State) → answers_in log ≡ answers_in s.log → AskSame (fields_again limits o f fs s) (fields_again limits o f fs (there s))
+  again_same None f fs s h = tt
+  again_same (Some words) f fs s h =
       let found : List Text = fields (parameters_in s.memory) words in
-      either_same (nat_le (size found) most_bytes) (place_fields limits found f.script (f ∷ fs)) (StopOn Size) s (fields_same found f.script (f ∷ fs) s) tt
+      either_same (nat_le (size found) most_bytes) (place_fields limits found f.script (f ∷ fs)) (StopOn Size) s (fields_same found f.script (f ∷ fs) s h) tt
 
-  found_same : (ps : List RunningFrame) (s : State) → AskSame (found_again limits ps s) (found_again limits ps (there s))
-  found_same [] s = tt
-  found_same (f ∷ fs) s = again_same (words_in_front f) f fs s
+  found_same : (ps : List RunningFrame) (s : State) → answers_in log ≡ answers_in s.log → AskSame (found_again limits ps s) (found_again limits ps (there s))
+  found_same [] s h = tt
+  found_same (f ∷ fs) s h = again_same (words_in_front f) f fs s h
 
-  request_same : (ps qs qs' : List RunningFrame) (s t t' : State) (r r' : Request) → found_again limits ps s ≡ AskOn r qs t → found_again limits ps (there s) ≡ AskOn r' qs' t' → r ≡ r'
-  request_same ps qs qs' s t t' r r' e e' = subst (λ (b : PlaceNext). AskSame (AskOn r qs t) b) e' (subst (λ (a : PlaceNext). AskSame a (found_again limits ps (there s))) e (found_same ps s))
+  request_same : (ps qs qs' : List RunningFrame) (s t t' : State) (r r' : Request) → answers_in log ≡ answers_in s.log → found_again limits ps s ≡ AskOn r qs t → found_again limits ps (there s) ≡ AskOn r' qs' t' → r ≡ r'
+  request_same ps qs qs' s t t' r r' h e e' = subst (λ (b : PlaceNext). AskSame (AskOn r qs t) b) e' (subst (λ (a : PlaceNext). AskSame a (found_again limits ps (there s))) e (found_same ps s h))
 
 -- the state of a moment is the state of another moment with the same core, elsewhere
 abbrev made : Variables → Variables → ℕ → Moment → OutcomeWord → State
@@ -102,7 +121,7 @@ module _ (limits : Limits) (m t : Moment) (am : Asking limits m) (at : Asking li
   again_there w = ap (λ (s : State). found_again limits m.frames s) (sym (state_there m t w core)) ∙ ap (λ (fs : List RunningFrame). found_again limits fs (state_at t w)) (sym core.frames) ∙ at.again w
 
   asks_same : am.request ≡ at.request
-  asks_same = request_same limits t.text t.log t.steps m.frames m.frames t.frames (state_at m []) (state_at m []) (state_at t []) am.request at.request (am.again []) (again_there [])
+  asks_same = request_same limits t.text t.log t.steps m.frames m.frames t.frames (state_at m []) (state_at m []) (state_at t []) am.request at.request core.answers (am.again []) (again_there [])
 
   there_so : (w : OutcomeWord) → asked_at limits t w ≡ continue limits (frames_of m.frames) (take_outcome am.request w (elsewhere t.text t.log t.steps (state_at m w)))
   there_so w =
@@ -117,7 +136,7 @@ module _ (limits : Limits) (m t : Moment) (am : Asking limits m) (at : Asking li
       let there' : Came = continue limits (frames_of m.frames) (take_outcome am.request w (elsewhere t.text t.log t.steps (state_at m w))) in
       let same : CameAlike limits m.steps t.steps m.log t.log here there' =
       continue_alike limits m.steps t.steps m.log t.log (frames_of m.frames) (take_outcome am.request w (state_at m w)) (take_outcome am.request w (elsewhere t.text t.log t.steps (state_at m w)))
-      (take_alike limits m.steps t.steps m.log t.log am.request w (state_at m w) t.text t.log t.steps (omega arith, record { further = []; goes_on_here = sym (append-nil m.log); goes_on_there = sym (append-nil t.log) })) in
+      (take_alike limits m.steps t.steps m.log t.log am.request w (state_at m w) t.text t.log t.steps (omega arith, record { answers = core.answers; further = []; goes_on_here = sym (append-nil m.log); goes_on_there = sym (append-nil t.log) })) in
       subst (λ (c : Came). CameAlike limits m.steps t.steps m.log t.log c (asked_at limits t w)) (sym (asks_so limits m am w))
       (subst (λ (c : Came). CameAlike limits m.steps t.steps m.log t.log here c) (sym (there_so w)) same)
 

@@ -1,5 +1,6 @@
 -- The search over the states in which device commands ask.
 use Rattle.std.proofs.Common.{ℕ, zero, suc, get_or, ◌+◌, ◌*◌, ◌≤◌, ◌<◌, true, false, List, [], ◌∷◌, ◌++◌, map, length, Option, Some, None, refl, sym, ap, subst, ◌∙◌, ◌≡◌, ◌≢◌, arith, append-nil, length-append}
+use Rattle.std.proofs.lemmas.List.{length-map}
 use Rattle.std.proofs.lemmas.List.Elements.{All-append}
 use Rattle.std.proofs.lemmas.Bool.{ltb-true}
 use Rattle.std.specs.Prelude.{nat_lt}
@@ -8,11 +9,12 @@ use Rattle.rehearse.specs.Bounds.{most_steps}
 use Rattle.rehearse_machine.specs.Machine.{outcome_when}
 use Rattle.bootstore.specs.Moment.{Moment}
 use Rattle.rehearse.specs.Outcomes.{OutcomeWord, Outcome, Success, Failure}
-use Rattle.rehearse.specs.State.{State, start}
+use Rattle.rehearse.specs.State.{State, LoggedCommand, asked_of, start}
 use Rattle.bootstore.specs.StoredState.{state_at}
-use Rattle.rehearse.specs.Execution.{Limits, Answer, Normal, Exit, Ended, Dry, Ending}
+use Rattle.rehearse.specs.Execution.{Limits, Answer, Normal, Exit, Ended, Dry, Ending, succeeds}
 use Rattle.rehearse.specs.Runs.{Task, run_on, state_of, kind, kind_of, ending_of}
-use Rattle.rehearse.proofs.Keeping.{GoesTo, Track-of}
+use Rattle.rehearse.proofs.Keeping.{answers, GoesTo, Track-of}
+use Rattle.rehearse.proofs.BoundLemmas.{devices_are_bounded}
 use Rattle.rehearse.proofs.TaskChoices.{Keeps-run_on, task_chooses}
 use Rattle.rehearse_machine.specs.Came.{Came, Wants, settled}
 use Rattle.rehearse_machine.specs.EndingsShown.{halt_shown}
@@ -31,7 +33,7 @@ use Rattle.rehearse_endings.specs.Searching.{future, IsReached, IsEntry, AreEntr
 use Rattle.rehearse_endings.specs.declared.table.Entry.{Entry}
 use Rattle.rehearse_endings.specs.declared.summary.Summary as kept
 use Rattle.std.specs.Prelude.{MatchOption, ⊤}
-use Rattle.rehearse_endings.specs.Flow.{Node}
+use Rattle.rehearse_endings.specs.Flow.{Node, asked_in}
 use Rattle.rehearse_endings.specs.Drawing.{Draws, HasMore, seen_at}
 use Rattle.rehearse_endings.proofs.Drawn.{draws_on, draws_there}
 use Rattle.rehearse_endings.proofs.Summing.{rows_as, sums_same, came_same, sums_there, sums_end, sums_sides}
@@ -46,27 +48,49 @@ state_settled (Exit s) = refl
 state_settled (Ended ending s) = refl
 state_settled (Dry s) = refl
 
-log_taken : (s t : State) (u : State) → GoesTo s t → t ≡ u → length s.log ≡ 0 → u.word ≡ [] → length u.log ≡ length s.word
+-- as many commands took an outcome as the word has
+asked_length : (log : List LoggedCommand) → length (asked_in log) ≡ length (answers log)
+asked_length log = length-map (asked_of log) (λ e. (e.success, e.words)) ∙ sym (length-map (asked_of log) (λ e. e.success))
+
+log_taken : (s t : State) (u : State) → GoesTo s t → t ≡ u → length (answers s.log) ≡ 0 → u.word ≡ [] → length (asked_in u.log) ≡ length s.word
 log_taken s t u g e none over =
     let h : GoesTo s u = subst (λ (x : State). GoesTo s x) e g in
-    let a = h.log in
+    let a = ap length h.outcomes in
     let b = ap length h.word in
     let c = length-append h.taken u.word in
     let d = ap length over in
+    let f = length-append (answers s.log) (map succeeds h.taken) in
+    let i = length-map h.taken succeeds in
+    let k = asked_length u.log in
     omega arith
 
-log_at : (task : Task) (p : OutcomeWord) (m : Moment) → came_state (settled (run_on task (p ++ []))) ≡ state_at m [] → length m.log ≡ length p
+log_at : (task : Task) (p : OutcomeWord) (m : Moment) → came_state (settled (run_on task (p ++ []))) ≡ state_at m [] → length (asked_in m.log) ≡ length p
 log_at task p m e =
     let a : Answer = run_on task (p ++ []) in
     let g = Track-of task.limits.device_bound (start task.environment (p ++ [])) a (Keeps-run_on task (start task.environment (p ++ []))).0 in
     log_taken (start task.environment (p ++ [])) (state_of a) (state_at m []) g (sym (state_settled a) ∙ e) refl refl ∙ ap length (append-nil p)
 
-stopped_log : (task : Task) (p : OutcomeWord) (stop : Stop) (m : Moment) → StoppedAt task p stop m → length m.log ≡ length p
+stopped_log : (task : Task) (p : OutcomeWord) (stop : Stop) (m : Moment) → StoppedAt task p stop m → length (asked_in m.log) ≡ length p
 stopped_log task p Asks m h = log_at task p m (ap came_state h.2)
 stopped_log task p (Ends halt) m h = log_at task p m (ap came_state (h []))
 
-pub reached_log : (task : Task) (depth : ℕ) (stop : Stop) (m : Moment) → IsReached task depth stop m → length m.log ≡ depth
+pub reached_log : (task : Task) (depth : ℕ) (stop : Stop) (m : Moment) → IsReached task depth stop m → length (asked_in m.log) ≡ depth
 reached_log task depth stop m h = stopped_log task h.0 stop m h.2 ∙ h.1
+
+-- no more device commands are in the log than the bound
+log_bounded : (task : Task) (p : OutcomeWord) (m : Moment) → came_state (settled (run_on task (p ++ []))) ≡ state_at m [] → length m.log ≤ task.limits.device_bound
+log_bounded task p m e =
+    let a : Answer = run_on task (p ++ []) in
+    let same : length (state_of a).log ≡ length m.log = ap (λ (s : State). length s.log) (sym (state_settled a) ∙ e) in
+    let b = devices_are_bounded task (p ++ []) in
+    omega arith
+
+stopped_within : (task : Task) (p : OutcomeWord) (stop : Stop) (m : Moment) → StoppedAt task p stop m → length m.log ≤ task.limits.device_bound
+stopped_within task p Asks m h = log_bounded task p m (ap came_state h.2)
+stopped_within task p (Ends halt) m h = log_bounded task p m (ap came_state (h []))
+
+pub reached_within : (task : Task) (depth : ℕ) (stop : Stop) (m : Moment) → IsReached task depth stop m → length m.log ≤ task.limits.device_bound
+reached_within task depth stop m h = stopped_within task h.0 stop m h.2
 
 pub reached_as : (task : Task) (depth : ℕ) (stop other : Stop) (m : Moment) → stop ≡ other → IsReached task depth stop m → IsReached task depth other m
 reached_as task depth stop other m e h = subst (λ (x : Stop). IsReached task depth x m) e h
@@ -102,19 +126,18 @@ summed_end limits halt m depth steps s e k h =
 
 module _ (task : Task) (depth : ℕ) (m : Moment) (reached : IsReached task depth Asks m) where
   -- a device command that asks, from its two sides
-  pub summed_sides : (won_stop lost_stop : Stop) (won_at lost_at : Moment) (won lost s : Summary) (steps : ℕ) → steps ≡ m.steps
+  pub summed_sides : (won_stop lost_stop : Stop) (won_at lost_at : Moment) (won lost s : Summary) (steps devices : ℕ) → steps ≡ m.steps → devices ≡ length m.log
       → Stops task.limits won_stop (λ w. asked_at task.limits m (Success ∷ w)) won_at → Stops task.limits lost_stop (λ w. asked_at task.limits m (Failure ∷ w)) lost_at
       → Summed (future task.limits won_stop won_at) won → Summed (future task.limits lost_stop lost_at) lost
-      → s ≡ summary_of_sides of_both_up steps depth won lost → Summed (asked_at task.limits m) s
-  summed_sides won_stop lost_stop won_at lost_at won lost s steps k a b h g e =
+      → s ≡ summary_of_sides of_both_up steps devices won lost → Summed (asked_at task.limits m) s
+  summed_sides won_stop lost_stop won_at lost_at won lost s steps devices k log a b h g e =
       let up : Sums (λ w. asked_at task.limits m (Success ∷ w)) h.0 = sums_same (future task.limits won_stop won_at) (λ w. asked_at task.limits m (Success ∷ w)) h.0 (λ w. sym (future_is task.limits won_stop (λ v. asked_at task.limits m (Success ∷ v)) won_at a w)) h.1 in
-      let down : Sums (λ w. asked_at task.limits m (Failure ∷ w)) g.0 = sums_same (future task.limits lost_stop lost_at) (λ w. asked_at task.limits m (Failure ∷ w)) g.0 (λ w. sym (future_is task.limits lost_stop (λ v. asked_at task.limits m (Failure ∷ v)) lost_at b w)) g.1 in
-      let log = reached_log task depth Asks m reached in (
+      let down : Sums (λ w. asked_at task.limits m (Failure ∷ w)) g.0 = sums_same (future task.limits lost_stop lost_at) (λ w. asked_at task.limits m (Failure ∷ w)) g.0 (λ w. sym (future_is task.limits lost_stop (λ v. asked_at task.limits m (Failure ∷ v)) lost_at b w)) g.1 in (
         of_sides m h.0 g.0,
         sums_sides (asked_at task.limits m) m h.0 g.0 (reached_wants task depth m reached) up down,
         e
-            ∙ ap (λ (n : ℕ). summary_of_sides of_both_up n depth won lost) k
-            ∙ ap (λ (n : ℕ). summary_of_sides of_both_up m.steps n won lost) (sym log)
+            ∙ ap (λ (n : ℕ). summary_of_sides of_both_up n devices won lost) k
+            ∙ ap (λ (n : ℕ). summary_of_sides of_both_up m.steps n won lost) log
             ∙ ap (λ (x : Summary). summary_of_sides of_both_up m.steps (length m.log) x lost) h.2
             ∙ ap (λ (x : Summary). summary_of_sides of_both_up m.steps (length m.log) (saturated_summary h.0) x) g.2
             ∙ ap (λ (rows : List Row). record (of_sides m h.0 g.0) { rows = rows }) (sym (both_up h.0.rows g.0.rows)),
@@ -128,6 +151,7 @@ same_core m t e = record {
   locals = sym (ap (λ (c : CoreShown). c.locals) e);
   status = sym (ap (λ (c : CoreShown). c.status) e);
   frames = sym (ap (λ (c : CoreShown). c.frames) e);
+  answers = sym (ap (λ (c : CoreShown). c.answers) e);
 }
 
 -- if an entry is found, the table has it
@@ -220,16 +244,15 @@ module _ (limits : Limits) (nodes : List Node) where
   all_wider new es h k = λ n d l. wider new (get_or es n d) h (k n d l)
 
 -- one more entry
-pub entries_more : (task : Task) (nodes : List Node) (depth : ℕ) (m : Moment) (old new : List Entry) (core : CoreShown) (steps place : ℕ) (s : Summary) → IsReached task depth Asks m → AreEntries task.limits nodes old → core ≡ core_of m → steps ≡ m.steps → Summed (asked_at task.limits m) s → Draws nodes place (seen_at task.limits m) → IsKept old new core steps depth place s → AreEntries task.limits nodes new
-entries_more task nodes depth m old new core steps place s reached all same at summed draws kept =
-    let log = reached_log task depth Asks m reached in
+pub entries_more : (task : Task) (nodes : List Node) (depth devices : ℕ) (m : Moment) (old new : List Entry) (core : CoreShown) (steps place : ℕ) (s : Summary) → IsReached task depth Asks m → AreEntries task.limits nodes old → core ≡ core_of m → steps ≡ m.steps → Summed (asked_at task.limits m) s → Draws nodes place (seen_at task.limits m) → devices ≡ length m.log → IsKept old new core steps devices place s → AreEntries task.limits nodes new
+entries_more task nodes depth devices m old new core steps place s reached all same at summed draws log kept =
     let wants = reached_wants task depth m reached in
     let entry : IsEntry task.limits nodes kept.0 = record {
       moment = m;
       asks = reached_asks task depth m reached;
       core = kept.2 ∙ same;
       steps = kept.3 ∙ at;
-      devices = kept.4 ∙ sym log;
+      devices = kept.4 ∙ log;
       summary = summed.0;
       sums = summed.1;
       reach_steps = reach_steps_of task m summed.0 wants summed.1;

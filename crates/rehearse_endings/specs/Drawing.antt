@@ -11,7 +11,7 @@ use Rattle.rehearse.specs.Execution.{Limits}
 use Rattle.rehearse_machine.specs.Came.{Came}
 use Rattle.rehearse_machine.specs.EndingsShown.{halt_shown}
 use Rattle.rehearse_machine.specs.Machine.{asked_at}
-use Rattle.rehearse_endings.specs.Flow.{Node, Asks, Ends, Seen, walk}
+use Rattle.rehearse_endings.specs.Flow.{Node, Asks, Ends, Answered, asked_in, Seen, walk}
 use Rattle.rehearse_endings.specs.Futures.{came_kind, came_to_end, came_log}
 use Rattle.rehearse_endings.specs.declared.flow.Node as rt
 use Rattle.rehearse_endings.specs.declared.flow.Node.TheVariants as made
@@ -23,18 +23,18 @@ node_shown (made.Ends halt) = Ends (halt_shown halt)
 abbrev pub nodes_shown : Vec rt.Node Global → List Node
 nodes_shown nodes = map node_shown nodes.items
 
--- the commands of a log after the first n
-abbrev pub further : ℕ → List LoggedCommand → List LoggedCommand
+-- the commands after the first n
+abbrev pub further : ℕ → List Answered → List Answered
 further zero log = log
 further (suc n) [] = []
 further (suc n) (command ∷ log) = further n log
 
--- what is seen of what a run comes to, after this many device commands
+-- what is seen of what a run comes to, after this many device commands that took an outcome
 abbrev pub seen_behind : (devices : ℕ) → Came → Seen
 seen_behind devices came = record {
   kind = came_kind came;
   ending = came_to_end came;
-  log = further devices (came_log came);
+  log = further devices (asked_in (came_log came));
 }
 
 -- the walk from a place by any word sees this, whatever nodes come after
@@ -43,7 +43,7 @@ Draws nodes place sees = (more : List Node) (w : OutcomeWord) → walk (slice_ge
 
 -- what is seen of the runs from a moment at which a device command asks
 abbrev pub seen_at : Limits → Moment → OutcomeWord → Seen
-seen_at limits m w = seen_behind (length m.log) (asked_at limits m w)
+seen_at limits m w = seen_behind (length (asked_in m.log)) (asked_at limits m w)
 
 -- the old nodes, and more nodes after them
 abbrev pub HasMore : (old new : List Node) → Type 0

@@ -1,10 +1,10 @@
 -- The flow of a script: its runs as a graph, written line by line. Ours.
-use Rattle.std.specs.Prelude.{◌≡◌, ℕ, zero, suc, List, [], ◌∷◌, ◌++◌, map, Option, Some, None, codes, decimal}
+use Rattle.std.specs.Prelude.{◌≡◌, ℕ, zero, suc, Bool, List, [], ◌∷◌, ◌++◌, map, Option, Some, None, codes, decimal}
 use Rattle.std.specs.List.{join_with_byte, slice_get}
 use Rattle.text.specs.Bytes as ascii
 use Rattle.text.specs.Escapes.{word_form}
 use Rattle.rehearse.specs.Outcomes.{OutcomeWord, Outcome, Success, Failure, WordKind, Run, Short, Long}
-use Rattle.rehearse.specs.State.{Text, LoggedCommand}
+use Rattle.rehearse.specs.State.{Text, LoggedCommand, asked_of}
 use Rattle.rehearse.specs.Execution.{Answer, Normal, Exit, Ended, Dry, Ending, End, succeeds}
 use Rattle.rehearse.specs.Runs.{Task, run_on, state_of, kind_of}
 use Rattle.rehearse.specs.Listing.{line, last_line}
@@ -14,12 +14,20 @@ pub data Node : Type 0 where
   Asks : (words : List Text) → (success failure : ℕ) → Node
   Ends : Ending → Node
 
+-- a device command that took an outcome, with its words
+abbrev pub Answered : Type 0
+Answered = Bool × List Text
+
+-- the device commands of a log that took an outcome; those that were told an answer again are left out
+abbrev pub asked_in : List LoggedCommand → List Answered
+asked_in log = map (λ e. (e.success, e.words)) (asked_of log)
+
 -- what is seen of a run: whether the word is a run, too short or too long; how the run ended, if it did; and its device
--- commands with their outcomes
+-- commands that took an outcome
 pub record Seen : Type 0 where
   pub kind : WordKind
   pub ending : Option Ending
-  pub log : List LoggedCommand
+  pub log : List Answered
 
 abbrev pub next : Outcome → (success failure : ℕ) → ℕ
 next Success success failure = success
@@ -27,9 +35,7 @@ next Failure success failure = failure
 
 -- a device command with its outcome, and what is seen after it
 abbrev pub behind : Outcome → (words : List Text) → Seen → Seen
-behind outcome words seen = record seen {
-  log = (record { success = succeeds outcome; words = words }) ∷ seen.log;
-}
+behind outcome words seen = record seen { log = (succeeds outcome, words) ∷ seen.log }
 
 -- no outcome is left at a node
 abbrev pub stands_at : Option Node → Seen
@@ -61,7 +67,11 @@ ended_with (Ended ending s) = Some ending
 ended_with (Dry s) = None
 
 abbrev pub seen_of : Answer → Seen
-seen_of answer = record { kind = kind_of answer; ending = ended_with answer; log = (state_of answer).log }
+seen_of answer = record {
+  kind = kind_of answer;
+  ending = ended_with answer;
+  log = asked_in (state_of answer).log;
+}
 
 -- the walk from the first node by any word sees what the run comes to
 abbrev pub IsFlow : Task → List Node → Type 0

@@ -3,7 +3,7 @@ use Rattle.std.specs.Prelude.{◌≡◌, ℕ, suc, ◌+◌, ◌<◌, ◌⊎◌, 
 use Rattle.std.specs.FinMap.{entries}
 use Rattle.bootstore.specs.Moment.{Moment}
 use Rattle.rehearse.specs.Outcomes.{WordKind, Short}
-use Rattle.rehearse.specs.State.{State, LoggedCommand}
+use Rattle.rehearse.specs.State.{State, LoggedCommand, answers_in}
 use Rattle.rehearse.specs.Execution.{Limits, Ending, End}
 use Rattle.rehearse.specs.Runs.{taken_kind}
 use Rattle.rehearse_machine.specs.Came.{Came, Over, Wants}
@@ -39,12 +39,13 @@ abbrev pub came_devices : Came → ℕ
 came_devices (Over ending s) = length s.log
 came_devices (Wants s) = suc (length s.log)
 
--- the two moments differ only in their texts, their logs and their steps
+-- the two moments differ only in their texts, their steps and their logs, whose answers that stay are the same
 pub record HaveSameCore (m n : Moment) : Type 0 where
   pub environment : entries n.environment ≡ entries m.environment
   pub locals : entries n.locals ≡ entries m.locals
   pub status : n.status ≡ m.status
   pub frames : n.frames ≡ m.frames
+  pub answers : answers_in n.log ≡ answers_in m.log
 
 module _ (limits : Limits) (steps_here steps_there : ℕ) (log_here log_there : List LoggedCommand) where
   -- the same, except for the text, the log and the steps

@@ -12,7 +12,7 @@ use Rattle.rehearse_machine.specs.declared.rehearsal.Stop.{Stop}
 use Rattle.rehearse_machine.specs.declared.rehearsal.Stop.TheVariants.{Asks, Ends}
 use Rattle.rehearse_runs.specs.Searching.{StoppedAt}
 use Rattle.rehearse_endings.specs.Cores.{CoreShown, core_shown, core_of}
-use Rattle.rehearse_endings.specs.Flow.{Node, Seen}
+use Rattle.rehearse_endings.specs.Flow.{Node, Seen, asked_in}
 use Rattle.rehearse_endings.specs.Drawing.{Draws, seen_behind, seen_at}
 use Rattle.rehearse_endings.specs.Summaries.{Summary, Sums}
 use Rattle.rehearse_endings.specs.RowsShown.{summary_shown, saturated_summary}
@@ -25,9 +25,9 @@ future limits (Ends halt) m w = Over (halt_shown halt) (state_at m w)
 
 -- what is seen of it
 abbrev pub seen_from : Limits → Stop → Moment → OutcomeWord → Seen
-seen_from limits stop m w = seen_behind (length m.log) (future limits stop m w)
+seen_from limits stop m w = seen_behind (length (asked_in m.log)) (future limits stop m w)
 
--- the text has stopped after this many device commands
+-- the text has stopped after this many outcomes
 abbrev pub IsReached : Task → (depth : ℕ) → Stop → Moment → Type 0
 IsReached task depth stop m = (p : OutcomeWord) × (length p ≡ depth) × StoppedAt task p stop m
 

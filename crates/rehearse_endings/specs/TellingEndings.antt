@@ -10,8 +10,8 @@ use Rattle.rehearse_endings.specs.Flow.{Node, IsFlow, flow_text}
 use Rattle.rehearse_endings.specs.Lines.{endings_text}
 use Rattle.rehearse_endings.specs.States.{HasStates}
 use Rattle.rehearse_endings.specs.declared.telling.EndingsAsk.{EndingsAsk}
-use Rattle.rehearse_endings.specs.declared.telling.EndingsError.{EndingsError}
-use Rattle.rehearse_endings.specs.declared.telling.EndingsError.TheVariants.{DeviceList, NoSuchVariable, States, Write, Memory}
+use Rattle.rehearse_runs.specs.declared.rehearse_error.RehearseError.{RehearseError}
+use Rattle.rehearse_runs.specs.declared.rehearse_error.RehearseError.TheVariants.{DeviceList, NoSuchVariable, States, Write, Memory}
 
 -- the device list is valid, and the task has this property, if the variable is set
 pub record HasDevices (environment : List (Text × Text)) (devices_text : Text) (ask : EndingsAsk)
@@ -35,12 +35,11 @@ abbrev pub HasMoreStates : (most : ℕ) → Option Task → Type 0
 HasMoreStates most found = (task : Task) × (found ≡ Some task) × HasStates task (most + 1)
 
 -- why there are no lines
-abbrev pub IsUntold : (most : ℕ) → Option Task → EndingsError → Type 0
-IsUntold most found (DeviceList fault) = ⊥
+abbrev pub IsUntold : (most : ℕ) → Option Task → RehearseError → Type 0
 IsUntold most found NoSuchVariable = found ≡ None
 IsUntold most found States = HasMoreStates most found
-IsUntold most found Write = ⊥
 IsUntold most found Memory = Unit {0}
+IsUntold most found _ = ⊥
 
 -- the lines were written
 abbrev pub TellsEndings : List (Text × Text) → Text → EndingsAsk → (old new : Sink) → Type 0
@@ -54,7 +53,7 @@ BreaksOff environment devices_text ask old new =
     HasDevices environment devices_text ask (λ found. (text : Text) × AreLines ask.flow ask.states found text
     × BrokeOff old new text)
 
-abbrev pub RefusesEndings : List (Text × Text) → Text → EndingsAsk → (old new : Sink) → EndingsError → Type 0
+abbrev pub RefusesEndings : List (Text × Text) → Text → EndingsAsk → (old new : Sink) → RehearseError → Type 0
 RefusesEndings environment devices_text ask old new (DeviceList fault) =
     (listed devices_text ≡ Err fault) × (new ≡ old)
 RefusesEndings environment devices_text ask old new NoSuchVariable =
@@ -63,3 +62,4 @@ RefusesEndings environment devices_text ask old new States =
     HasDevices environment devices_text ask (HasMoreStates ask.states) × (new ≡ old)
 RefusesEndings environment devices_text ask old new Write = BreaksOff environment devices_text ask old new
 RefusesEndings environment devices_text ask old new Memory = new ≡ old
+RefusesEndings environment devices_text ask old new _ = ⊥

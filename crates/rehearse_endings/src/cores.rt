@@ -1,21 +1,24 @@
 //! What the runs still to come of a state depend on.
 ghost use Rattle.std.specs.Prelude.{◌≡◌, IfOk, IsTrue};
-ghost use Rattle.rehearse_endings.specs.Cores.{core_shown, core_of, pairs_shown};
+ghost use Rattle.rehearse.specs.State.{answers_in};
+ghost use Rattle.rehearse_endings.specs.Cores.{core_shown, core_of, pairs_shown, answers_shown};
 
 use crate::environments::Environments;
-use crate::same::same_frame;
-use bootstore::{Frame, Store, StoreError, Variables};
+use crate::flow::copy_words;
+use crate::same::{same_frame, same_texts};
+use bootstore::{Frame, LogEntry, Store, StoreError, Variables};
 use std::alloc::Global;
 use std::rc::Rc;
 
-/// The variables, the status and the frames of a state, the innermost frame last. States share
-/// their environments, and own the rest.
+/// The variables, the status and the frames of a state, the innermost frame last, and its answers
+/// that stay, with the words of their commands. States share their environments, and own the rest.
 #[derive(Drop)]
 pub struct Core {
     pub environment: Rc<Vec<(Vec<u8>, Vec<u8>)>>,
     pub locals: Vec<(Vec<u8>, Vec<u8>)>,
     pub status: u8,
     pub frames: Vec<Frame>,
+    pub answers: Vec<(Vec<Vec<u8>>, bool)>,
 }
 
 /// A copy of variables. Errors: `Memory`.
@@ -45,6 +48,20 @@ fn copy_frames(alloc: Global, frames: &[Frame]) -> Result<Vec<Frame>, StoreError
     Ok(copies)
 }
 
+/// A copy of the answers of a log that stay. Errors: `Memory`.
+fn copy_answers(alloc: Global, log: &[LogEntry]) -> Result<Vec<(Vec<Vec<u8>>, bool)>, StoreError>
+    ensures { IfOk result (λ copies. answers_shown copies.items ≡ answers_in log.now) }
+{
+    let mut copies = Vec::new(alloc);
+    for entry in log {
+        if entry.has_answer() {
+            let words = copy_words(alloc, &entry.words)?;
+            copies.push((words, entry.success))?;
+        }
+    }
+    Ok(copies)
+}
+
 /// The core of the present state of a store. States with the same environment share it. Errors:
 /// `Memory`.
 pub(crate) fn take_core<S: Store>(
@@ -57,11 +74,13 @@ pub(crate) fn take_core<S: Store>(
     let environment = environments.share(alloc, store)?;
     let locals = copy_pairs(alloc, store.shell_variables())?;
     let frames = copy_frames(alloc, store.frames())?;
+    let answers = copy_answers(alloc, store.log())?;
     Ok(Core {
         environment,
         locals,
         status: store.get_status(),
         frames,
+        answers,
     })
 }
 
@@ -104,12 +123,38 @@ fn same_frames(a: &[Frame], b: &[Frame]) -> bool
     others.is_empty()
 }
 
+/// Whether the answers of a log that stay are these.
+fn same_answers(log: &[LogEntry], answers: &[(Vec<Vec<u8>>, bool)]) -> bool
+    ensures same { IsTrue result → answers_shown answers.now ≡ answers_in log.now }
+    ensures told { answers_shown answers.now ≡ answers_in log.now → IsTrue result }
+{
+    let mut others = answers;
+    for entry in log {
+        if entry.has_answer() {
+            let Some((other, more)) = others.split_first() else {
+                return false;
+            };
+            if entry.success != other.1 {
+                return false;
+            }
+            if !same_texts(&entry.words, &other.0) {
+                return false;
+            }
+            others = more;
+        }
+    }
+    others.is_empty()
+}
+
 /// Whether the present state of a store has this core.
 pub(crate) fn has_core<S: Store>(store: &S, core: &Core) -> bool
     ensures same { IsTrue result → core_shown core.now ≡ core_of (S.record_of store.now).present }
     ensures told { core_shown core.now ≡ core_of (S.record_of store.now).present → IsTrue result }
 {
     if core.status != store.get_status() {
+        return false;
+    }
+    if !same_answers(store.log(), &core.answers) {
         return false;
     }
     if !same_frames(&core.frames, store.frames()) {

@@ -130,8 +130,8 @@ fn renumber(node: Node, count: usize) -> Node
     }
 }
 
-/// A copy of words.
-fn copy_words(alloc: Global, words: &[Vec<u8>]) -> Result<Vec<Vec<u8>>, StoreError>
+/// A copy of words. Errors: `Memory`.
+pub(crate) fn copy_words(alloc: Global, words: &[Vec<u8>]) -> Result<Vec<Vec<u8>>, StoreError>
     ensures { IfOk result (λ copies. bytes_of_words copies.items ≡ bytes_of_words words.now) }
 {
     let mut copies = Vec::new(alloc);

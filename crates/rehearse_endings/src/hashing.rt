@@ -1,7 +1,7 @@
 //! The number under which the table keeps a state. Equal states have equal numbers. Only the time
 //! of a look-up depends on anything else about these numbers.
 
-use bootstore::{Frame, Store, Variables};
+use bootstore::{Frame, LogEntry, Store, Variables};
 
 /// The number with which every other number starts.
 const SEED: u64 = 0xcbf2_9ce4_8422_2325;
@@ -42,6 +42,20 @@ fn mix_frames(hash: u64, frames: &[Frame]) -> u64 {
     mixed
 }
 
+/// Adds the answers of a log that stay.
+fn mix_answers(hash: u64, log: &[LogEntry]) -> u64 {
+    let mut mixed = hash;
+    for entry in log {
+        if entry.has_answer() {
+            for word in &entry.words {
+                mixed = mix_text(mixed, word);
+            }
+            mixed = mix(mixed, u64::from(entry.success));
+        }
+    }
+    mixed
+}
+
 /// The number of the environment of the present state of a store.
 pub(crate) fn hash_of_environment<S: Store>(store: &S) -> u64 {
     mix_variables(SEED, store.variables())
@@ -52,5 +66,6 @@ pub(crate) fn hash_of<S: Store>(store: &S) -> u64 {
     let environment = hash_of_environment(store);
     let status = mix(environment, u64::from(store.get_status()));
     let locals = mix_variables(status, store.shell_variables());
-    mix_frames(locals, store.frames())
+    let frames = mix_frames(locals, store.frames());
+    mix_answers(frames, store.log())
 }

@@ -22,4 +22,4 @@ pub use flow::Node;
 pub use rows::Row;
 pub use searching::{Endings, sum_endings};
 pub use sum_error::SumError;
-pub use telling::{EndingsAsk, EndingsError, endings_env};
+pub use telling::{EndingsAsk, endings_env};

@@ -33,6 +33,14 @@ pub struct Endings {
     pub nodes: Vec<Node>,
 }
 
+/// How many device commands are in the log.
+fn logged<S: Store>(store: &S) -> u32
+    requires { length (S.record_of store.now).present.log < 2 ^ 32 }
+    ensures { result ≡ length (S.record_of store.now).present.log }
+{
+    store.log().len() as u32
+}
+
 /// The summary of what is to come of a text that has stopped. States that are in the table are not
 /// searched again. Errors: `Memory`, `States`.
 fn summed<S: Store>(
@@ -60,10 +68,11 @@ fn summed<S: Store>(
     ensures entered { (p : OutcomeWord) (kept pending : List Asked) → StoppedAt (task_in rehearsal.now) p stop (S.record_of store.old).present → IsNewAt p kept pending → Entered (task_in rehearsal.now) kept pending table.old → OnOk result (HasEntered (task_in rehearsal.now) p kept pending table.new) }
     ensures refused { (p : OutcomeWord) (kept pending : List Asked) → StoppedAt (task_in rehearsal.now) p stop (S.record_of store.old).present → IsNewAt p kept pending → Entered (task_in rehearsal.now) kept pending table.old → IfErr result (λ e. e ≡ States → HasStates (task_in rehearsal.now) (table.old.most + 1)) }
 {
+    let devices = logged(store);
     match stop {
         Stop::Ends(halt) => {
             let place = table.flow.end(&halt)?;
-            let summary = of_end(rehearsal.alloc, store.steps(), depth, halt, place)?;
+            let summary = of_end(rehearsal.alloc, store.steps(), devices, halt, place)?;
             Ok(summary)
         }
         Stop::Asks => {
@@ -74,7 +83,7 @@ fn summed<S: Store>(
                 rehearsal.devices,
                 rehearsal.bounds,
                 hash,
-                depth,
+                devices,
             )? {
                 return Ok(found);
             }
@@ -82,14 +91,14 @@ fn summed<S: Store>(
             let steps = store.steps();
             store.mark()?;
             let won_stop = resume(rehearsal, store, true)?;
-            let words = words_at(rehearsal.alloc, store, depth)?;
+            let words = words_at(rehearsal.alloc, store, devices)?;
             let won = summed(rehearsal, store, table, depth + 1, won_stop)?;
             store.back();
             let lost_stop = resume(rehearsal, store, false)?;
             let lost = summed(rehearsal, store, table, depth + 1, lost_stop)?;
             let place = table.flow.ask(words, won.place, lost.place)?;
-            let summary = of_sides(rehearsal.alloc, steps, depth, won, lost, place)?;
-            table.keep(rehearsal.alloc, hash, core, steps, depth, &summary)?;
+            let summary = of_sides(rehearsal.alloc, steps, devices, won, lost, place)?;
+            table.keep(rehearsal.alloc, hash, core, steps, devices, &summary)?;
             Ok(summary)
         }
     }

@@ -14,6 +14,7 @@ use envtools::Env;
 use output::{Out, write_all};
 use rehearse::{Devices, DevicesError, RunBounds};
 use rehearse_machine::Rehearsal;
+use rehearse_runs::RehearseError;
 use std::alloc::Global;
 
 /// What is asked of the endings of a script.
@@ -27,21 +28,6 @@ pub struct EndingsAsk<'a> {
     pub states: u32,
     /// Whether the flow is written, not the endings.
     pub flow: bool,
-}
-
-/// Why the endings of a script are not written.
-#[derive(Clone, Copy, Debug, Drop, PartialEq, Eq)]
-pub enum EndingsError {
-    /// The device list.
-    DeviceList(DevicesError),
-    /// The variable is not set.
-    NoSuchVariable,
-    /// There are more states than allowed.
-    States,
-    /// The output failed.
-    Write,
-    /// Memory ran out.
-    Memory,
 }
 
 /// The lines that say how all runs of a rehearsal end, or the lines of their flow.
@@ -64,18 +50,18 @@ fn lines_of<S: Store>(
     Ok(text)
 }
 
-/// The lines of all runs of a variable, if it is set.
+/// The lines of all runs of a variable, if it is set. Errors: `NoSuchVariable`, `States`, `Memory`.
 fn lines_in<S: Store>(
     alloc: Global,
     env: &Env,
     devices: &Devices,
     ask: &EndingsAsk<'_>,
-) -> Result<Vec<u8>, EndingsError>
+) -> Result<Vec<u8>, RehearseError>
     ensures ok { IfOk result (λ text. AreLines ask.now.flow ask.now.states (task_set env.now devices.now ask.now.name.now ask.now.bounds) text.items) }
     ensures err { IfErr result (λ e. IsUntold ask.now.states (task_set env.now devices.now ask.now.name.now ask.now.bounds) e) }
 {
     if env.get(ask.name).is_none() {
-        return Err(EndingsError::NoSuchVariable);
+        return Err(RehearseError::NoSuchVariable);
     }
     let rehearsal = Rehearsal {
         alloc,
@@ -86,8 +72,8 @@ fn lines_in<S: Store>(
     };
     match lines_of::<S>(&rehearsal, ask.states, ask.flow) {
         Ok(text) => Ok(text),
-        Err(SumError::States) => Err(EndingsError::States),
-        Err(SumError::Memory) => Err(EndingsError::Memory),
+        Err(SumError::States) => Err(RehearseError::States),
+        Err(SumError::Memory) => Err(RehearseError::Memory),
     }
 }
 
@@ -101,23 +87,18 @@ pub fn endings_env<S: Store, O: Out>(
     devices_text: &[u8],
     ask: &EndingsAsk<'_>,
     out: &mut O,
-) -> Result<(), EndingsError>
+) -> Result<(), RehearseError>
     ensures ok { IfOk result (λ _. TellsEndings env.now devices_text.now ask.now (O.sink out.old) (O.sink out.new)) }
     ensures err { IfErr result (λ e. RefusesEndings env.now devices_text.now ask.now (O.sink out.old) (O.sink out.new) e) }
 {
     let devices = match Devices::parse(alloc, devices_text) {
         Ok(devices) => devices,
-        Err(DevicesError::Memory) => return Err(EndingsError::Memory),
-        Err(fault) => return Err(EndingsError::DeviceList(fault)),
+        Err(DevicesError::Memory) => return Err(RehearseError::Memory),
+        Err(fault) => return Err(RehearseError::DeviceList(fault)),
     };
-    let text = match lines_in::<S>(alloc, env, &devices, ask) {
-        Ok(text) => text,
-        Err(EndingsError::NoSuchVariable) => return Err(EndingsError::NoSuchVariable),
-        Err(EndingsError::States) => return Err(EndingsError::States),
-        Err(_) => return Err(EndingsError::Memory),
-    };
+    let text = lines_in::<S>(alloc, env, &devices, ask)?;
     match write_all(out, &text) {
         Ok(()) => Ok(()),
-        Err(_) => Err(EndingsError::Write),
+        Err(_) => Err(RehearseError::Write),
     }
 }

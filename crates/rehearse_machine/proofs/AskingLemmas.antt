@@ -11,9 +11,10 @@ use Rattle.std.specs.Prelude.{slice_get}
 use Rattle.rehearse.specs.Trees.{tree_of}
 use Rattle.rehearse.specs.Verdict.{verdict}
 use Rattle.rehearse.specs.State.{Text, get, State, parameters_in}
-use Rattle.rehearse.specs.Commands.{Called, ChangesVariables, WritesText, RunsTexts, Tests, Exits, BuiltIn, NoCommand, Device, called_by, asks_device, exit_status}
-use Rattle.rehearse.specs.Execution.{Limits, CutDevices, CutSteps, Size, set_status, set_local, status_when, goes, holds, Request, no_effect}
-use Rattle.rehearse_machine.specs.Places.{PlaceNext, GoOn, AskOn, StopOn, list_at, joined_at, second, command_in, command_at, drop_arms, block_frame, behind, in_turn, left, to_run, place_exit, place_assign, place_tree, place_text, place_name, run_move, for_turn, for_move, for_begins, place_arms, condition_ends, phase_move, place_fitting, place_ask, place_called, place_fields, place_counted, place_command, place_joined, place_begins, place_turn, place_list, place_by, place_move}
+use Rattle.rehearse.specs.Commands.{Called, ChangesVariables, WritesText, RunsTexts, Tests, Exits, BuiltIn, NoCommand, Device, called_by, sets_in, asks_device, exit_status}
+use Rattle.rehearse.specs.Execution.{Limits, CutDevices, CutSteps, Size, set_status, set_local, status_when, goes, holds, Request, test_effect, told, told_again, logged, set_environment}
+use Rattle.rehearse.specs.Outcomes.{Success}
+use Rattle.rehearse_machine.specs.Places.{PlaceNext, GoOn, AskOn, StopOn, list_at, joined_at, second, command_in, command_at, drop_arms, block_frame, behind, in_turn, left, to_run, place_exit, place_boot, place_tell_or_ask, place_assign, place_tree, place_text, place_name, run_move, for_turn, for_move, for_begins, place_arms, condition_ends, phase_move, place_fitting, place_ask, place_called, place_fields, place_counted, place_command, place_joined, place_begins, place_turn, place_list, place_by, place_move}
 use Rattle.rehearse_machine.specs.AskingCommand.{words_of, fields_again, found_again, AsksAgain}
 
 -- a command that asks does so with these frames, in this state
@@ -61,19 +62,28 @@ module _ (limits : Limits) where
   exit_here ps s None = tt
   exit_here ps s (Some status) = left_here ps (to_run ps) s (set_status status s)
 
+  boot_here : (ps qs : List RunningFrame) (ends : Bool) (name : Text) (s t : State) → AsksHere ps s (place_boot ends name qs t)
+  boot_here ps qs true name s t = tt
+  boot_here ps qs false name s t = tt
+
+  tell_here : (o : Option Bool) (r : Request) (ps : List RunningFrame) (s : State) → AsksHere ps s (place_tell_or_ask o r ps s)
+  tell_here None r ps s = (refl, refl)
+  tell_here (Some true) r ps s = boot_here ps ps r.effect.ends r.name s (set_environment (sets_in r.words r.effect.sets) (logged Success (told_again r) s))
+  tell_here (Some false) r ps s = tt
+
   ask_here : (r : Request) (ps : List RunningFrame) (s : State) → AsksHere ps s (place_ask limits r ps s)
-  ask_here r ps s = either_here ps s (nat_lt (length s.log) limits.device_bound) (AskOn r ps s) (StopOn CutDevices s) (refl, refl) tt
+  ask_here r ps s = either_here ps s (nat_lt (length s.log) limits.device_bound) (place_tell_or_ask (told r s.log) r ps s) (StopOn CutDevices s) (tell_here (told r s.log) r ps s) tt
 
   builtin_here : (b : Called) (name : Text) (ws : List Text) (script : Script) (ps : List RunningFrame) (s : State) → AsksHere ps s (place_called limits b name ws script ps s)
   builtin_here (BuiltIn (ChangesVariables change)) name ws script ps s = tt
   builtin_here (BuiltIn RunsTexts) name [] script ps s = tt
   builtin_here (BuiltIn RunsTexts) name (w ∷ ws) script ps s = tt
   builtin_here (BuiltIn Tests) name ws script ps s =
-      let r : Request = record { name = name; words = ws; effect = no_effect } in
+      let r : Request = record { name = name; words = ws; effect = test_effect limits.devices; again = false } in
       either_here ps s (asks_device ws) (place_ask limits r ps s) (GoOn ps (set_status (status_when (verdict ws)) s)) (ask_here r ps s) tt
   builtin_here (BuiltIn (WritesText written)) name ws script ps s = tt
   builtin_here (BuiltIn Exits) name ws script ps s = exit_here ps s (exit_status ws)
-  builtin_here (Device effect) name ws script ps s = ask_here (record { name = name; words = ws; effect = effect }) ps s
+  builtin_here (Device effect) name ws script ps s = ask_here (record { name = name; words = ws; effect = effect; again = false }) ps s
   builtin_here NoCommand name ws script ps s = tt
 
   fields_here : (fs : List Text) (script : Script) (ps : List RunningFrame) (s : State) → AsksHere ps s (place_fields limits fs script ps s)

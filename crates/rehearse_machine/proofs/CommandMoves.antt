@@ -14,7 +14,7 @@ use Rattle.rehearse.specs.Outcomes.{OutcomeWord}
 use Rattle.rehearse.specs.State.{Text, Variables, State, with_value, without}
 use Rattle.bootstore.specs.StoredState.{state_at}
 use Rattle.rehearse.specs.Commands.{Called, ChangesVariables, WritesText, Tests, BuiltIn, Device, carried, called_by_name, called_by, asks_device, is_bad_name, setenv, variables_changed, text_written, is_digit, decimal_from}
-use Rattle.rehearse.specs.Execution.{Limits, Request, no_effect, remember, set_status, status_when}
+use Rattle.rehearse.specs.Execution.{Limits, Request, test_effect, remember, set_status, status_when}
 use Rattle.rehearse.specs.Verdict.{verdict}
 use Rattle.rehearse.specs.Computed.{Computed}
 use Rattle.rehearse.specs.DeviceList.{Effect, Devices, computed_by}
@@ -108,20 +108,20 @@ module _ (limits : Limits) (old new : Record) (name : Text) (words : List Text) 
   )
 
   abbrev request : Effect → Request
-  request effect = record { name = name; words = words; effect = effect }
+  request effect = record { name = name; words = words; effect = effect; again = false }
 
-  abbrev Asked : Step → Effect → Type 0
-  Asked step effect = (w : OutcomeWord) → next_shown step old.present w ≡ place_ask limits (request effect) old.present.frames (state_at old.present w)
+  -- what a device command does, the name does
+  pub device_comes : (r : Result Step StoreError) (b : Called) (effect : Effect) → b ≡ Device effect → Comes r old new (place_ask limits (request effect) old.present.frames) → Comes r old new (place_called limits b name words script old.present.frames)
+  device_comes r b effect e h = subst (λ (x : Called). Comes r old new (place_called limits x name words script old.present.frames)) (sym e) h
 
-  pub device_does : (step : Step) (b : Called) (effect : Effect) → b ≡ Device effect → Asked step effect → Does step old old (place_called limits b name words script old.present.frames)
-  device_does step b effect e h = (λ w. h w ∙ sym (ap (λ (x : Called). place_called limits x name words script frames (state_at old.present w)) e), record { marked = refl; begun = omega arith })
-
-  pub test_does : (step : Step) (b : Called) → b ≡ BuiltIn Tests → asks_device words ≡ true → Asked step no_effect → Does step old old (place_called limits b name words script old.present.frames)
-  test_does step b e d h = (
-    λ w. h w ∙ chosen (asks_device words) (place_ask limits (request no_effect) frames (state_at old.present w)) (GoOn frames (set_status (status_when (verdict words)) (state_at old.present w))) d
+  pub test_comes : (r : Result Step StoreError) (b : Called) (effect : Effect) → b ≡ BuiltIn Tests → asks_device words ≡ true → effect ≡ test_effect limits.devices → Comes r old new (place_ask limits (request effect) old.present.frames) → Comes r old new (place_called limits b name words script old.present.frames)
+  test_comes (Ok step) b effect e d t h = (
+    λ w. h.0 w ∙ ap (λ (x : Effect). place_ask limits (request x) frames (state_at old.present w)) t
+        ∙ chosen (asks_device words) (place_ask limits (request (test_effect limits.devices)) frames (state_at old.present w)) (GoOn frames (set_status (status_when (verdict words)) (state_at old.present w))) d
         ∙ sym (ap (λ (x : Called). place_called limits x name words script frames (state_at old.present w)) e),
-    record { marked = refl; begun = omega arith },
+    h.1,
   )
+  test_comes (Err x) b effect e d t h = tt
 
 -- a call that is computed, and one that is not
 pub called_computed : (devices : Devices) (name : Text) (words : List Text) (computed : Computed) → computed_by devices name words ≡ Some computed → called_by devices name words ≡ BuiltIn (ChangesVariables (λ ws. carried computed))

@@ -6,10 +6,11 @@ use Rattle.hushlang.specs.Expansion.{fields, joined, size, most_bytes}
 use Rattle.rehearse.specs.Trees.{tree_of}
 use Rattle.rehearse.specs.Verdict.{verdict}
 use Rattle.rehearse.specs.State.{Text, get, State, parameters_in}
-use Rattle.rehearse.specs.Commands.{Called, ChangesVariables, WritesText, RunsTexts, Tests, Exits, BuiltIn, NoCommand, Device, called_by, asks_device, exit_status}
+use Rattle.rehearse.specs.Commands.{Called, ChangesVariables, WritesText, RunsTexts, Tests, Exits, BuiltIn, NoCommand, Device, called_by, asks_device, exit_status, sets_in}
 use Rattle.hushlang.specs.Tree.{IsProperCommand, AreProperArms, HoldsCommand}
-use Rattle.rehearse.specs.Execution.{Limits, CutDevices, CutSteps, Size, set_status, set_local, status_when, goes, holds, Request, no_effect}
-use Rattle.rehearse_machine.specs.Frames.{Frame, Lists, Linked, IfCondition, LoopCondition, LoopBody, ForBody, RunNames, RunText, Next, Go, Ask, Stop, leave, begin_assign, begin_for, begin_arms, begin_tree, begin_text, begin_names, begin_exit, fitting, ask, begin_called, begin_fields, begin_command, move}
+use Rattle.rehearse.specs.Execution.{Limits, CutDevices, CutSteps, Size, set_status, set_local, status_when, goes, holds, Request, test_effect, told, told_again, logged, set_environment}
+use Rattle.rehearse.specs.Outcomes.{Success}
+use Rattle.rehearse_machine.specs.Frames.{Frame, Lists, Linked, IfCondition, LoopCondition, LoopBody, ForBody, RunNames, RunText, Next, Go, Ask, Stop, tell_or_ask, boot_next, leave, begin_assign, begin_for, begin_arms, begin_tree, begin_text, begin_names, begin_exit, fitting, ask, begin_called, begin_fields, begin_command, move}
 use Rattle.rehearse_machine.specs.MoveCounts.{command_depth, arms_depth, script_depth, block_weight, links_weight, arms_weight, tree_weight, text_weight, names_weight, weight}
 use Rattle.rehearse_machine.specs.Meaning.{AreProperFrames}
 
@@ -64,8 +65,17 @@ module _ (limits : Limits) where
   names-quiet [] fs s = refl
   names-quiet (name ∷ names) fs s = text-quiet (get s.memory.environment name) name names fs s
 
+  boot-quiet : (ends : Bool) (name : Text) (fs : List Frame) (t s : State) → s.steps ≡ t.steps → IsQuiet t (boot_next ends name fs s)
+  boot-quiet true name fs t s e = e
+  boot-quiet false name fs t s e = e
+
+  tell-quiet : (o : Option Bool) (r : Request) (fs : List Frame) (s : State) → IsQuiet s (tell_or_ask o r fs s)
+  tell-quiet None r fs s = refl
+  tell-quiet (Some true) r fs s = boot-quiet r.effect.ends r.name fs s (set_environment (sets_in r.words r.effect.sets) (logged Success (told_again r) s)) refl
+  tell-quiet (Some false) r fs s = refl
+
   ask-quiet : (r : Request) (fs : List Frame) (s : State) → IsQuiet s (ask limits r fs s)
-  ask-quiet r fs s = either-quiet s (nat_lt (length s.log) limits.device_bound) (Ask r fs s) (Stop CutDevices s) refl refl
+  ask-quiet r fs s = either-quiet s (nat_lt (length s.log) limits.device_bound) (tell_or_ask (told r s.log) r fs s) (Stop CutDevices s) (tell-quiet (told r s.log) r fs s) refl
 
   exit-quiet : (o : Option ℕ) (fs : List Frame) (s : State) → IsQuiet s (begin_exit o fs s)
   exit-quiet (Some n) fs s = leave-quiet fs (set_status n s)
@@ -75,10 +85,10 @@ module _ (limits : Limits) where
   builtin-quiet (BuiltIn (ChangesVariables change)) name ws fs s = refl
   builtin-quiet (BuiltIn RunsTexts) name [] fs s = refl
   builtin-quiet (BuiltIn RunsTexts) name (w ∷ ws) fs s = refl
-  builtin-quiet (BuiltIn Tests) name ws fs s = either-quiet s (asks_device ws) (ask limits (record { name = name; words = ws; effect = no_effect }) fs s) (Go fs (set_status (status_when (verdict ws)) s)) (ask-quiet (record { name = name; words = ws; effect = no_effect }) fs s) refl
+  builtin-quiet (BuiltIn Tests) name ws fs s = either-quiet s (asks_device ws) (ask limits (record { name = name; words = ws; effect = test_effect limits.devices; again = false }) fs s) (Go fs (set_status (status_when (verdict ws)) s)) (ask-quiet (record { name = name; words = ws; effect = test_effect limits.devices; again = false }) fs s) refl
   builtin-quiet (BuiltIn (WritesText written)) name ws fs s = refl
   builtin-quiet (BuiltIn Exits) name ws fs s = exit-quiet (exit_status ws) fs s
-  builtin-quiet (Device effect) name ws fs s = ask-quiet (record { name = name; words = ws; effect = effect }) fs s
+  builtin-quiet (Device effect) name ws fs s = ask-quiet (record { name = name; words = ws; effect = effect; again = false }) fs s
   builtin-quiet NoCommand name ws fs s = refl
 
   fields-quiet : (ws : List Text) (fs : List Frame) (s : State) → IsQuiet s (begin_fields limits ws fs s)

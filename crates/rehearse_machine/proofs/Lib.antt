@@ -20,6 +20,7 @@ pub mod AssignLemmas
 pub mod PartLemmas
 pub mod NameLemmas
 pub mod OutcomeLemmas
+pub mod ToldLemmas
 pub mod StoppingLemmas
 pub mod FoundAgain
 pub mod Limits

@@ -5,12 +5,12 @@ use Rattle.hushlang.specs.Tree.{Script, Command, Arms}
 use Rattle.hushlang.specs.Expansion.{fields, joined, size, most_bytes}
 use Rattle.rehearse.specs.Trees.{tree_of}
 use Rattle.rehearse.specs.Verdict.{verdict}
-use Rattle.rehearse.specs.Outcomes.{OutcomeWord}
+use Rattle.rehearse.specs.Outcomes.{OutcomeWord, Success}
 use Rattle.rehearse.specs.State.{Text, get, State, parameters_in}
-use Rattle.rehearse.specs.Commands.{Called, ChangesVariables, WritesText, RunsTexts, Tests, Exits, BuiltIn, NoCommand, Device, called_by, asks_device, exit_status}
+use Rattle.rehearse.specs.Commands.{Called, ChangesVariables, WritesText, RunsTexts, Tests, Exits, BuiltIn, NoCommand, Device, called_by, asks_device, exit_status, sets_in}
 use Rattle.hushlang.specs.Tree.{IsProper, IsProperCommand, HoldsCommand}
-use Rattle.rehearse.specs.Execution.{Limits, Answer, Normal, Exit, Ended, Dry, Ending, CutDevices, CutSteps, Unknown, Syntax, Size, go_on, set_status, set_local, status_when, goes, holds, begin, take_outcome, device, Request, no_effect, text_end, run_text, run_all, command, simple, sized, assign, turns, for_each}
-use Rattle.rehearse_machine.specs.Frames.{Frame, Lists, Linked, IfCondition, LoopCondition, LoopBody, ForBody, RunNames, RunText, Next, Go, Ask, Stop, leave, begin_assign, begin_for, begin_arms, begin_tree, begin_text, begin_names, begin_exit, fitting, ask, begin_called, begin_fields, counted, begin_command, move}
+use Rattle.rehearse.specs.Execution.{Limits, Answer, Normal, Exit, Ended, Dry, Ending, CutDevices, CutSteps, Unknown, Syntax, Size, go_on, set_status, set_local, status_when, goes, holds, begin, tell_or_take, told, told_again, logged, boot, set_environment, Booted, device, Request, test_effect, text_end, run_text, run_all, command, simple, sized, assign, turns, for_each}
+use Rattle.rehearse_machine.specs.Frames.{Frame, Lists, Linked, IfCondition, LoopCondition, LoopBody, ForBody, RunNames, RunText, Next, Go, Ask, Stop, tell_or_ask, boot_next, leave, begin_assign, begin_for, begin_arms, begin_tree, begin_text, begin_names, begin_exit, fitting, ask, begin_called, begin_fields, counted, begin_command, move}
 use Rattle.rehearse_machine.specs.Came.{Over, Wants}
 use Rattle.rehearse_machine.specs.Meaning.{with, full, script, one, joined_of, arms_of, again, resume, continue, comes_to, AreProperFrames}
 use Rattle.rehearse.proofs.Growing.{Grew, AtLeast-track, Grew-block}
@@ -84,8 +84,18 @@ module _ (limits : Limits) where
     names-is [] fs s = refl
     names-is (name ∷ names) fs s = text-is (get s.memory.environment name) name names fs s
 
+    boot-is : (ends : Bool) (name : Text) (fs : List Frame) (s : State) → comes_to limits w (boot_next ends name fs s) ≡ continue limits fs (boot ends name (with w s))
+    boot-is true name fs s = sym (continue-ended fs (Booted name) (with w s))
+    boot-is false name fs s = refl
+
+    -- a command that is told its answer again, or one that asks
+    tell-is : (o : Option Bool) (request : Request) (fs : List Frame) (s : State) → comes_to limits w (tell_or_ask o request fs s) ≡ continue limits fs (tell_or_take o request (with w s))
+    tell-is None request fs s = refl
+    tell-is (Some true) request fs s = boot-is request.effect.ends request.name fs (set_environment (sets_in request.words request.effect.sets) (logged Success (told_again request) s))
+    tell-is (Some false) request fs s = refl
+
     ask-is : (request : Request) (fs : List Frame) (s : State) → comes_to limits w (ask limits request fs s) ≡ continue limits fs (device limits request (with w s))
-    ask-is request fs s = if-is (nat_lt (length s.log) limits.device_bound) (Ask request fs s) (Stop CutDevices s) fs (take_outcome request w (with w s)) (Ended CutDevices (with w s)) refl (sym (continue-ended fs CutDevices (with w s)))
+    ask-is request fs s = if-is (nat_lt (length s.log) limits.device_bound) (tell_or_ask (told request s.log) request fs s) (Stop CutDevices s) fs (tell_or_take (told request s.log) request (with w s)) (Ended CutDevices (with w s)) (tell-is (told request s.log) request fs s) (sym (continue-ended fs CutDevices (with w s)))
 
     exit-is : (o : Option ℕ) (fs : List Frame) (s : State) → comes_to limits w (begin_exit o fs s) ≡ continue limits fs (elim o [ Some status ↦ Exit (set_status status (with w s)) | None ↦ Normal (set_status 1 (with w s)) ])
     exit-is (Some status) fs s = leave-is fs (set_status status s)
@@ -95,10 +105,10 @@ module _ (limits : Limits) where
     builtin-is (BuiltIn RunsTexts) name [] fs s = refl
     builtin-is (BuiltIn RunsTexts) name (v ∷ ws) fs s = refl
     builtin-is (BuiltIn (ChangesVariables change)) name ws fs s = refl
-    builtin-is (BuiltIn Tests) name ws fs s = if-is (asks_device ws) (ask limits (record { name = name; words = ws; effect = no_effect }) fs s) (Go fs (set_status (status_when (verdict ws)) s)) fs (device limits (record { name = name; words = ws; effect = no_effect }) (with w s)) (Normal (set_status (status_when (verdict ws)) (with w s))) (ask-is (record { name = name; words = ws; effect = no_effect }) fs s) refl
+    builtin-is (BuiltIn Tests) name ws fs s = if-is (asks_device ws) (ask limits (record { name = name; words = ws; effect = test_effect limits.devices; again = false }) fs s) (Go fs (set_status (status_when (verdict ws)) s)) fs (device limits (record { name = name; words = ws; effect = test_effect limits.devices; again = false }) (with w s)) (Normal (set_status (status_when (verdict ws)) (with w s))) (ask-is (record { name = name; words = ws; effect = test_effect limits.devices; again = false }) fs s) refl
     builtin-is (BuiltIn (WritesText written)) name ws fs s = refl
     builtin-is (BuiltIn Exits) name ws fs s = exit-is (exit_status ws) fs s
-    builtin-is (Device effect) name ws fs s = ask-is (record { name = name; words = ws; effect = effect }) fs s
+    builtin-is (Device effect) name ws fs s = ask-is (record { name = name; words = ws; effect = effect; again = false }) fs s
     builtin-is NoCommand name ws fs s = sym (continue-ended fs (Unknown name) (with w s))
 
     fields-is : (ws : List Text) (fs : List Frame) (s : State) → comes_to limits w (begin_fields limits ws fs s) ≡ continue limits fs (simple limits (full limits) ws (with w s))

@@ -1,6 +1,6 @@
 -- The names of a `run`, and their texts.
 use Rattle.std.proofs.Common.{◌≡◌, suc, true, false, List, [], ◌∷◌, map, length, Option, Some, None, Result, refl, sym, ap, subst, ◌∙◌, arith}
-use Rattle.std.specs.Prelude.{slice_get}
+use Rattle.std.specs.Prelude.{slice_get, option_map}
 use Rattle.std.proofs.Math.Dec.{eqb, eqb-suc-zero}
 use Rattle.std.specs.FinMap as finite
 use Rattle.std.specs.FinMap.{entries}
@@ -34,13 +34,13 @@ some_lists : (items : List ListCode) (s : State) → false ≡ eqb (length items
 some_lists [] s e = absurd (let f = e in cc)
 some_lists (x ∷ xs) s e = refl
 
-module _ (r : Result Step StoreError) (old new : Record) (f child : RunningFrame) (at : At) (code value : Code) (same : value ≡ code) (child_is : child ≡ text_frame (view.script value)) (place_is : at ≡ place f.place.list f.place.command (suc f.place.turn) 0) where
+module _ (r : Result Step StoreError) (old new : Record) (f child : RunningFrame) (at : At) (code : Code) (child_is : child ≡ text_frame (view.script code)) (place_is : at ≡ place f.place.list f.place.command (suc f.place.turn) 0) where
   abbrev framed : State → State → PlaceNext
   framed t s = GoOn (text_frame (view.script code) ∷ in_turn (suc f.place.turn) 0 f ∷ under old.present) t
 
   moves : (t : State) → GoOn (child ∷ moved_to at f ∷ under old.present) t ≡ framed t t
   moves t =
-      ap (λ (x : RunningFrame). GoOn (x ∷ moved_to at f ∷ under old.present) t) (child_is ∙ ap (λ (x : Code). text_frame (view.script x)) same)
+      ap (λ (x : RunningFrame). GoOn (x ∷ moved_to at f ∷ under old.present) t) child_is
       ∙ ap (λ (x : At). GoOn (text_frame (view.script code) ∷ moved_to x f ∷ under old.present) t) place_is
 
   says : (s : State) → begun_text (view.runs (map view.list (out-Script code).lists.items)) s ≡ begun_text (view.script code) s
@@ -86,3 +86,39 @@ module _ (old : Record) (f : RunningFrame) (name bytes : Text) (found : slice_ge
   text_comes r new text script e t comes =
       comes_at r old new (λ s. GoOn (text_frame script ∷ in_turn (suc f.place.turn) 0 f ∷ under old.present) (begun_text script s)) named
       (λ w. sym (ap (λ (x : Option Script). place_tree x name f (under old.present) (state_at old.present w)) t) ∙ with_text (Some text) w e) comes
+
+-- by what reading the text of a variable found
+none_found : (o : Option Text) → None ≡ option_map tree_of o → None ≡ o
+none_found None e = refl
+none_found (Some text) e = absurd (let f = e in cc)
+
+abbrev within : Option (Option Script) → Option Script
+within None = None
+within (Some o) = o
+
+module _ (old read : Record) (same : read ≡ old) (f : RunningFrame) (name bytes : Text) (found : slice_get f.words f.place.turn ≡ Some name) (bytes_are : bytes ≡ name) where
+  abbrev value : Option Text
+  value = finite.get old.present.environment bytes
+
+  abbrev wanted : State → PlaceNext
+  wanted = place_name (slice_get f.words f.place.turn) f (under old.present)
+
+  pub unset_found : (mid new : Record) → mid ≡ changed without_frame read → new ≡ changed (with_status 1) mid → None ≡ option_map tree_of value → Does steps.Going old new wanted
+  unset_found mid new e d none = unset old f name bytes found bytes_are mid new (e ∙ ap (changed without_frame) same) d (none_found value none)
+
+  refused_at : (copy : Text) → copy ≡ name → (o : Option Text) → o ≡ value → Some None ≡ option_map tree_of o → (w : OutcomeWord) → StopOn (Syntax copy) (state_at old.present w) ≡ wanted (state_at old.present w)
+  refused_at copy c None v e w = absurd (let g = e in cc)
+  refused_at copy c (Some text) v e w = no_script old f name bytes found bytes_are copy text c v (sym (ap within e)) w
+
+  pub no_script_found : (copy : Text) → copy ≡ name → Some None ≡ option_map tree_of value → ((w : OutcomeWord) → StopOn (Syntax copy) (state_at read.present w) ≡ wanted (state_at old.present w)) × Keeps old read
+  no_script_found copy c e =
+      subst (λ (x : Record). ((w : OutcomeWord) → StopOn (Syntax copy) (state_at x.present w) ≡ wanted (state_at old.present w)) × Keeps old x) (sym same)
+      (refused_at copy c value refl e, record { marked = refl; begun = refl })
+
+  comes_at_once : (r : Result Step StoreError) (new : Record) (script : Script) (o : Option Text) → o ≡ value → Some (Some script) ≡ option_map tree_of o → Comes r old new (λ s. GoOn (text_frame script ∷ in_turn (suc f.place.turn) 0 f ∷ under old.present) (begun_text script s)) → Comes r old new wanted
+  comes_at_once r new script None v e comes = absurd (let g = e in cc)
+  comes_at_once r new script (Some text) v e comes = text_comes old f name bytes found bytes_are r new text script v (sym (ap within e)) comes
+
+  pub text_found_comes : (r : Result Step StoreError) (new : Record) (script : Script) → Some (Some script) ≡ option_map tree_of value → Comes r read new (λ s. GoOn (text_frame script ∷ in_turn (suc f.place.turn) 0 f ∷ under read.present) (begun_text script s)) → Comes r old new wanted
+  text_found_comes r new script e comes =
+      comes_at_once r new script value refl e (subst (λ (x : Record). Comes r x new (λ s. GoOn (text_frame script ∷ in_turn (suc f.place.turn) 0 f ∷ under x.present) (begun_text script s))) same comes)

@@ -90,11 +90,11 @@ sets_one words set old new name e made = (
   subst (Keeps old) (sym made) (keeps_change (with_environment name (Some set.1)) old refl),
 )
 
-module _ (outcome : Outcome) (request : Request) (old mid late : Record) (entry : LoggedCommand) (words : entry.words ≡ request.name ∷ request.words) (success : succeeds outcome ≡ entry.success) (device : mid ≡ changed (with_device entry) old) (n : ℕ) (code : n ≡ status_when (succeeds outcome)) (status : late ≡ changed (with_status n) mid) where
-  entry_is : entry ≡ record { success = succeeds outcome; words = request.name ∷ request.words }
-  entry_is = λ i. record { success = sym success i; words = words i }
+module _ (outcome : Outcome) (request : Request) (old mid late : Record) (entry : LoggedCommand) (words : entry.words ≡ request.name ∷ request.words) (stays : entry.stays ≡ request.effect.stays) (again : entry.again ≡ request.again) (success : succeeds outcome ≡ entry.success) (device : mid ≡ changed (with_device entry) old) (n : ℕ) (code : n ≡ status_when (succeeds outcome)) (status : late ≡ changed (with_status n) mid) where
+  entry_is : entry ≡ record { success = succeeds outcome; words = request.name ∷ request.words; stays = request.effect.stays; again = request.again }
+  entry_is = λ i. record { success = sym success i; words = words i; stays = stays i; again = again i }
 
-  late_is : late ≡ changed (with_status (status_when (succeeds outcome))) (changed (with_device (record { success = succeeds outcome; words = request.name ∷ request.words })) old)
+  late_is : late ≡ changed (with_status (status_when (succeeds outcome))) (changed (with_device (record { success = succeeds outcome; words = request.name ∷ request.words; stays = request.effect.stays; again = request.again })) old)
   late_is = status ∙ ap (λ (x : ℕ). changed (with_status x) mid) code ∙ ap (changed (with_status (status_when (succeeds outcome)))) (device ∙ ap (λ (x : LoggedCommand). changed (with_device x) old) entry_is)
 
   pub logged_state : (w : OutcomeWord) → state_at late.present w ≡ logged outcome request (state_at old.present w)

@@ -16,9 +16,9 @@ use Rattle.rehearse.specs.Trees.{tree_of}
 use Rattle.rehearse.specs.State.{Text, get, State, parameters_in}
 use Rattle.rehearse.specs.Verdict.{verdict}
 use Rattle.rehearse.specs.Commands.{Called, ChangesVariables, WritesText, RunsTexts, Tests, Exits, BuiltIn, NoCommand, Device, called_by, sets_in, asks_device, exit_status}
-use Rattle.rehearse.specs.Execution.{Limits, End, CutDevices, CutSteps, Size, set_status, set_local, status_when, goes, holds, Request, no_effect, logged, set_environment}
-use Rattle.rehearse_machine.specs.Frames.{Frame, Lists, Linked, IfCondition, LoopCondition, LoopBody, ForBody, Next, Go, Ask, Stop, leave, boot_next, answered, begin_assign, begin_for, begin_arms, begun_text, begin_tree, begin_text, begin_names, begin_exit, fitting, ask, begin_called, begin_fields, counted, begin_command, move}
-use Rattle.rehearse_machine.specs.Places.{list_at, drop_lists, joined_at, drop_joined, second, command_in, command_at, drop_arms, place, from_command, condition_frame, phase, from_turn, script_frames, for_frame, run_frame, frames_by, frames_of, PlaceNext, GoOn, AskOn, StopOn, next_of, moved_to, behind, in_turn, text_frame, block_frame, is_run, to_run, left, place_exit, place_boot, place_answered, place_assign, place_tree, place_text, place_name, run_move, for_turn, for_move, for_begins, place_arms, condition_ends, phase_move, place_fitting, place_ask, place_called, place_fields, place_counted, place_command, place_joined, place_begins, place_turn, place_list, place_by, place_move}
+use Rattle.rehearse.specs.Execution.{Limits, End, CutDevices, CutSteps, Size, set_status, set_local, status_when, goes, holds, Request, test_effect, outcome_when, told, told_again, logged, set_environment}
+use Rattle.rehearse_machine.specs.Frames.{Frame, Lists, Linked, IfCondition, LoopCondition, LoopBody, ForBody, Next, Go, Ask, Stop, leave, boot_next, answered, tell_or_ask, begin_assign, begin_for, begin_arms, begun_text, begin_tree, begin_text, begin_names, begin_exit, fitting, ask, begin_called, begin_fields, counted, begin_command, move}
+use Rattle.rehearse_machine.specs.Places.{list_at, drop_lists, joined_at, drop_joined, second, command_in, command_at, drop_arms, place, from_command, condition_frame, phase, from_turn, script_frames, for_frame, run_frame, frames_by, frames_of, PlaceNext, GoOn, AskOn, StopOn, next_of, moved_to, behind, in_turn, text_frame, block_frame, is_run, to_run, left, place_exit, place_boot, place_answered, place_tell_or_ask, place_assign, place_tree, place_text, place_name, run_move, for_turn, for_move, for_begins, place_arms, condition_ends, phase_move, place_fitting, place_ask, place_called, place_fields, place_counted, place_command, place_joined, place_begins, place_turn, place_list, place_by, place_move}
 use Rattle.rehearse_machine.proofs.Beginnings.{chosen, passed}
 
 -- ---- parts by their numbers
@@ -221,24 +221,37 @@ past_command : (list : AndOr) (n : ℕ) (rest : Script) → command_in list n �
 past_command (tree.Starts c joins) zero rest e = absurd (let k = e in cc)
 past_command (tree.Starts c joins) (suc j) rest e = ap (λ (x : Joined). Linked x ∷ Lists rest ∷ []) (past_joined joins j (no_second (joined_at joins j) e))
 
+boots-is : (b : Bool) (name : Text) (ps : List RunningFrame) (s : State) → next_of (place_boot b name ps s) ≡ boot_next b name (frames_of ps) s
+boots-is true name ps s = refl
+boots-is false name ps s = refl
+
+-- and so is the outcome of the command that asks
+pub place_answered-is : (outcome : Outcome) (r : Request) (ps : List RunningFrame) (s : State) → next_of (place_answered outcome r ps s) ≡ answered outcome r (frames_of ps) s
+place_answered-is Success r ps s = boots-is r.effect.ends r.name ps (set_environment (sets_in r.words r.effect.sets) (logged Success r s))
+place_answered-is Failure r ps s = refl
+
+tell-is : (o : Option Bool) (r : Request) (ps : List RunningFrame) (s : State) → next_of (place_tell_or_ask o r ps s) ≡ tell_or_ask o r (frames_of ps) s
+tell-is None r ps s = refl
+tell-is (Some success) r ps s = place_answered-is (outcome_when success) (told_again r) ps s
+
 module _ (limits : Limits) where
   counted-is : (n : State → PlaceNext) (m : State → Next) (s : State) → ((t : State) → next_of (n t) ≡ m t) → next_of (place_counted limits n s) ≡ counted limits m s
   counted-is n m s e = let t : State = record s { steps = suc s.steps } in if_next (nat_lt s.steps limits.step_bound) (n t) (StopOn CutSteps s) (m t) (Stop CutSteps s) (e t) refl
 
   ask-is : (r : Request) (ps : List RunningFrame) (s : State) → next_of (place_ask limits r ps s) ≡ ask limits r (frames_of ps) s
-  ask-is r ps s = if_next (nat_lt (length s.log) limits.device_bound) (AskOn r ps s) (StopOn CutDevices s) (Ask r (frames_of ps) s) (Stop CutDevices s) refl refl
+  ask-is r ps s = if_next (nat_lt (length s.log) limits.device_bound) (place_tell_or_ask (told r s.log) r ps s) (StopOn CutDevices s) (tell_or_ask (told r s.log) r (frames_of ps) s) (Stop CutDevices s) (tell-is (told r s.log) r ps s) refl
 
   builtin-is : (b : Called) (name : Text) (ws : List Text) (script : Script) (ps : List RunningFrame) (s : State) → next_of (place_called limits b name ws script ps s) ≡ begin_called limits b name ws (frames_of ps) s
   builtin-is (BuiltIn (ChangesVariables change)) name ws script ps s = refl
   builtin-is (BuiltIn RunsTexts) name [] script ps s = refl
   builtin-is (BuiltIn RunsTexts) name (w ∷ ws) script ps s = refl
   builtin-is (BuiltIn Tests) name ws script ps s =
-      let r : Request = record { name = name; words = ws; effect = no_effect } in
+      let r : Request = record { name = name; words = ws; effect = test_effect limits.devices; again = false } in
       let t : State = set_status (status_when (verdict ws)) s in
       if_next (asks_device ws) (place_ask limits r ps s) (GoOn ps t) (ask limits r (frames_of ps) s) (Go (frames_of ps) t) (ask-is r ps s) refl
   builtin-is (BuiltIn (WritesText written)) name ws script ps s = refl
   builtin-is (BuiltIn Exits) name ws script ps s = exit-is (exit_status ws) ps s
-  builtin-is (Device effect) name ws script ps s = ask-is (record { name = name; words = ws; effect = effect }) ps s
+  builtin-is (Device effect) name ws script ps s = ask-is (record { name = name; words = ws; effect = effect; again = false }) ps s
   builtin-is NoCommand name ws script ps s = refl
 
   fields-is : (ws : List Text) (script : Script) (ps : List RunningFrame) (s : State) → next_of (place_fields limits ws script ps s) ≡ begin_fields limits ws (frames_of ps) s
@@ -349,15 +362,6 @@ module _ (limits : Limits) where
   pub place_move-is : (ps : List RunningFrame) (s : State) → next_of (place_move limits ps s) ≡ move limits (frames_of ps) s
   place_move-is [] s = refl
   place_move-is (f ∷ fs) s = by-is f.kind f fs s refl
-
-boots-is : (b : Bool) (name : Text) (ps : List RunningFrame) (s : State) → next_of (place_boot b name ps s) ≡ boot_next b name (frames_of ps) s
-boots-is true name ps s = refl
-boots-is false name ps s = refl
-
--- and so is the outcome of the command that asks
-pub place_answered-is : (outcome : Outcome) (r : Request) (ps : List RunningFrame) (s : State) → next_of (place_answered outcome r ps s) ≡ answered outcome r (frames_of ps) s
-place_answered-is Success r ps s = boots-is r.effect.ends r.name ps (set_environment (sets_in r.words r.effect.sets) (logged Success r s))
-place_answered-is Failure r ps s = refl
 
 -- the start of the text of a variable
 pub text_begins : (script : Script) → frames_of (text_frame script ∷ []) ≡ Lists script ∷ []

@@ -6,10 +6,11 @@ use Rattle.hushlang.specs.Expansion.{fields, joined, size, most_bytes}
 use Rattle.rehearse.specs.Trees.{tree_of}
 use Rattle.rehearse.specs.Verdict.{verdict}
 use Rattle.rehearse.specs.State.{Text, get, State, parameters_in}
-use Rattle.rehearse.specs.Commands.{Called, ChangesVariables, WritesText, RunsTexts, Tests, Exits, BuiltIn, NoCommand, Device, called_by, asks_device, exit_status}
+use Rattle.rehearse.specs.Commands.{Called, ChangesVariables, WritesText, RunsTexts, Tests, Exits, BuiltIn, NoCommand, Device, called_by, asks_device, exit_status, sets_in}
 use Rattle.hushlang.specs.Tree.{IsProper, IsProperCommand, AreProperArms, HoldsCommand}
-use Rattle.rehearse.specs.Execution.{Limits, CutDevices, CutSteps, Size, set_status, set_local, status_when, goes, holds, Request, no_effect}
-use Rattle.rehearse_machine.specs.Frames.{Frame, Lists, Linked, IfCondition, LoopCondition, LoopBody, ForBody, RunNames, RunText, Next, Go, Ask, Stop, leave, begin_assign, begin_for, begin_arms, begin_tree, begin_text, begin_names, begin_exit, fitting, ask, begin_called, begin_fields, begin_command, move}
+use Rattle.rehearse.specs.Execution.{Limits, CutDevices, CutSteps, Size, set_status, set_local, status_when, goes, holds, Request, test_effect, told, told_again, logged, set_environment}
+use Rattle.rehearse.specs.Outcomes.{Success}
+use Rattle.rehearse_machine.specs.Frames.{Frame, Lists, Linked, IfCondition, LoopCondition, LoopBody, ForBody, RunNames, RunText, Next, Go, Ask, Stop, tell_or_ask, boot_next, leave, begin_assign, begin_for, begin_arms, begin_tree, begin_text, begin_names, begin_exit, fitting, ask, begin_called, begin_fields, begin_command, move}
 use Rattle.rehearse.proofs.ProperLemmas.{trees_are_proper}
 use Rattle.rehearse_machine.proofs.Fuel.{block_proper}
 use Rattle.rehearse_machine.specs.Meaning.{AreProperFrames, IsProperNext}
@@ -42,8 +43,17 @@ module _ (limits : Limits) where
   names-proper [] fs s p = p
   names-proper (name ∷ names) fs s p = text-proper (get s.memory.environment name) name names fs s p
 
+  boot-proper : (ends : Bool) (name : Text) (fs : List Frame) (s : State) → AreProperFrames fs → IsProperNext (boot_next ends name fs s)
+  boot-proper true name fs s p = tt
+  boot-proper false name fs s p = p
+
+  tell-proper : (o : Option Bool) (request : Request) (fs : List Frame) (s : State) → AreProperFrames fs → IsProperNext (tell_or_ask o request fs s)
+  tell-proper None request fs s p = p
+  tell-proper (Some true) request fs s p = boot-proper request.effect.ends request.name fs (set_environment (sets_in request.words request.effect.sets) (logged Success (told_again request) s)) p
+  tell-proper (Some false) request fs s p = p
+
   ask-proper : (request : Request) (fs : List Frame) (s : State) → AreProperFrames fs → IsProperNext (ask limits request fs s)
-  ask-proper request fs s p = either (nat_lt (length s.log) limits.device_bound) (Ask request fs s) (Stop CutDevices s) p tt
+  ask-proper request fs s p = either (nat_lt (length s.log) limits.device_bound) (tell_or_ask (told request s.log) request fs s) (Stop CutDevices s) (tell-proper (told request s.log) request fs s p) tt
 
   exit-proper : (o : Option ℕ) (fs : List Frame) (s : State) → AreProperFrames fs → IsProperNext (begin_exit o fs s)
   exit-proper (Some n) fs s p = leave-proper fs (set_status n s) p
@@ -53,10 +63,10 @@ module _ (limits : Limits) where
   builtin-proper (BuiltIn (ChangesVariables change)) name ws fs s p = p
   builtin-proper (BuiltIn RunsTexts) name [] fs s p = p
   builtin-proper (BuiltIn RunsTexts) name (w ∷ ws) fs s p = (tt, p)
-  builtin-proper (BuiltIn Tests) name ws fs s p = either (asks_device ws) (ask limits (record { name = name; words = ws; effect = no_effect }) fs s) (Go fs (set_status (status_when (verdict ws)) s)) (ask-proper (record { name = name; words = ws; effect = no_effect }) fs s p) p
+  builtin-proper (BuiltIn Tests) name ws fs s p = either (asks_device ws) (ask limits (record { name = name; words = ws; effect = test_effect limits.devices; again = false }) fs s) (Go fs (set_status (status_when (verdict ws)) s)) (ask-proper (record { name = name; words = ws; effect = test_effect limits.devices; again = false }) fs s p) p
   builtin-proper (BuiltIn (WritesText written)) name ws fs s p = p
   builtin-proper (BuiltIn Exits) name ws fs s p = exit-proper (exit_status ws) fs s p
-  builtin-proper (Device effect) name ws fs s p = ask-proper (record { name = name; words = ws; effect = effect }) fs s p
+  builtin-proper (Device effect) name ws fs s p = ask-proper (record { name = name; words = ws; effect = effect; again = false }) fs s p
   builtin-proper NoCommand name ws fs s p = tt
 
   fields-proper : (ws : List Text) (fs : List Frame) (s : State) → AreProperFrames fs → IsProperNext (begin_fields limits ws fs s)

@@ -8,7 +8,7 @@ use Rattle.rehearse.specs.Outcomes.{OutcomeWord, Outcome, Success, Failure}
 use Rattle.rehearse.specs.State.{State}
 use Rattle.bootstore.specs.StoredState.{state_at}
 use Rattle.rehearse.specs.Commands.{sets_in}
-use Rattle.rehearse.specs.Execution.{Limits, Request, logged, set_environment, succeeds}
+use Rattle.rehearse.specs.Execution.{Limits, Request, logged, set_environment}
 use Rattle.rehearse.specs.Runs.{Task}
 use Rattle.rehearse_machine.specs.declared.ask.Ask.{Ask}
 use Rattle.rehearse_machine.specs.declared.halt.Halt.{Halt}
@@ -22,7 +22,7 @@ use Rattle.rehearse_machine.specs.Came.{Came}
 use Rattle.rehearse_machine.specs.Meaning.{comes_to, IsProperNext, AreProperFrames}
 use Rattle.rehearse_machine.specs.MovesShown.{next_shown, request_shown, Keeps, Does}
 use Rattle.rehearse_machine.specs.Turning.{to_come, step_comes, IsSound, IsSoundStep, Drives}
-use Rattle.rehearse_machine.specs.Machine.{Asking, IsAsking, asked_at, Stops, outcome_when}
+use Rattle.rehearse_machine.specs.Machine.{Asking, IsAsking, asked_at, Stops}
 use Rattle.rehearse_machine.proofs.Moves.{continue-dry}
 use Rattle.rehearse_machine.proofs.PlaceMoves.{place_answered-is}
 use Rattle.rehearse_machine.proofs.Standing.{answered-is}
@@ -187,10 +187,6 @@ module _ (limits : Limits) (old mid : Record) (step : Step) (asking : IsAsking l
         let c : mid.present.steps ≡ old.present.steps = ap (λ (s : State). s.steps) (same_state []) in
         let d = same_steps in
         omega arith
-
-pub outcome_succeeds : (b : Bool) → succeeds (outcome_when b) ≡ b
-outcome_succeeds true = refl
-outcome_succeeds false = refl
 
 -- ---- a text that went on
 

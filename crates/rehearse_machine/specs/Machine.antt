@@ -1,9 +1,10 @@
 -- What the machine promises: where a text stops, and what is still to come there for every rest of the word. Ours.
-use Rattle.std.specs.Prelude.{◌≡◌, ◌≤◌, Bool, true, false, []}
+use Rattle.std.specs.Prelude.{◌≡◌, ◌≤◌, []}
 use Rattle.bootstore.specs.Moment.{Moment}
-use Rattle.rehearse.specs.Outcomes.{OutcomeWord, Outcome, Success, Failure}
+use Rattle.rehearse.specs.Outcomes.{OutcomeWord}
 use Rattle.bootstore.specs.StoredState.{state_at}
 use Rattle.rehearse.specs.Execution.{Limits, Request}
+pub use Rattle.rehearse.specs.Execution.{outcome_when}
 use Rattle.rehearse_machine.specs.Places.{AskOn, next_of}
 use Rattle.rehearse_machine.specs.AskingCommand.{found_again}
 use Rattle.rehearse_machine.specs.Came.{Came, Over, Wants}
@@ -27,10 +28,6 @@ pub record Asking (limits : Limits) (m : Moment) : Type 0 where
 -- whether a device command asks for an outcome at a moment
 unfoldable pub IsAsking : Limits → Moment → Type 0
 IsAsking limits m = Asking limits m
-
-abbrev pub outcome_when : (success : Bool) → Outcome
-outcome_when true = Success
-outcome_when false = Failure
 
 -- a text that comes to f stopped at this moment: a device command asks, or the run has ended, whatever outcomes are
 -- left

@@ -21,7 +21,12 @@ use Rattle.rehearse_machine.specs.declared.ask.Step.TheVariants as steps
 
 abbrev pub request_shown : Ask → Request
 request_shown ask =
-    record { name = ask.name.items; words = bytes_of_words ask.words.items; effect = lent_effect ask.effect }
+    record {
+      name = ask.name.items;
+      words = bytes_of_words ask.words.items;
+      effect = lent_effect ask.effect;
+      again = ask.again;
+    }
 
 -- the result of a move that has led to a moment
 abbrev pub next_shown : Step → Moment → OutcomeWord → PlaceNext

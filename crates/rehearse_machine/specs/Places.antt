@@ -13,7 +13,7 @@ use Rattle.rehearse.specs.Trees.{tree_of}
 use Rattle.rehearse.specs.State.{Text, get, State, parameters_in}
 use Rattle.rehearse.specs.Verdict.{verdict}
 use Rattle.rehearse.specs.Commands.{Called, ChangesVariables, WritesText, RunsTexts, Tests, Exits, BuiltIn, NoCommand, Device, called_by, sets_in, asks_device, exit_status, variables_changed, text_written}
-use Rattle.rehearse.specs.Execution.{Limits, Ending, End, CutDevices, CutSteps, Unknown, Syntax, Size, Booted, remember, set_status, set_local, status_when, goes, holds, Request, no_effect, logged, set_environment}
+use Rattle.rehearse.specs.Execution.{Limits, Ending, End, CutDevices, CutSteps, Unknown, Syntax, Size, Booted, remember, set_status, set_local, status_when, goes, holds, Request, test_effect, outcome_when, told, told_again, logged, set_environment}
 use Rattle.rehearse_machine.specs.Frames.{Frame, Lists, Linked, IfCondition, LoopCondition, LoopBody, ForBody, RunNames, RunText, Next, Go, Ask, Stop, begun_text}
 
 -- ---- parts of a script by their numbers
@@ -172,6 +172,11 @@ place_answered Success request ps s =
     place_boot request.effect.ends request.name ps (set_environment (sets_in request.words request.effect.sets) (logged Success request s))
 place_answered Failure request ps s = GoOn ps (logged Failure request s)
 
+-- a command that is told its answer again goes on with it; another one asks
+abbrev pub place_tell_or_ask : (told : Option Bool) → Request → List RunningFrame → State → PlaceNext
+place_tell_or_ask (Some success) request ps s = place_answered (outcome_when success) (told_again request) ps s
+place_tell_or_ask None request ps s = AskOn request ps s
+
 abbrev pub place_assign : List (Text × tree.Word) → List RunningFrame → State → PlaceNext
 place_assign [] ps s = GoOn ps (set_status 0 s)
 place_assign (pair ∷ pairs) ps s =
@@ -256,7 +261,10 @@ place_fitting fs next s = elim (nat_le (size fs) most_bytes) [ true ↦ next fs 
 module _ (limits : Limits) where
   abbrev pub place_ask : Request → List RunningFrame → State → PlaceNext
   place_ask request ps s =
-      elim (nat_lt (length s.log) limits.device_bound) [ true ↦ AskOn request ps s | false ↦ StopOn CutDevices s ]
+      elim (nat_lt (length s.log) limits.device_bound) [
+        | true ↦ place_tell_or_ask (told request s.log) request ps s
+        | false ↦ StopOn CutDevices s
+      ]
 
   -- what a name calls, in a script; the frames go on after the command
   abbrev pub place_called : Called → Text → List Text → Script → List RunningFrame → State → PlaceNext
@@ -265,13 +273,13 @@ module _ (limits : Limits) where
   place_called (BuiltIn RunsTexts) name (w ∷ ws) script ps s = GoOn (names_frame script (w ∷ ws) ∷ ps) s
   place_called (BuiltIn Tests) name words script ps s =
       elim (asks_device words) [
-        | true ↦ place_ask (record { name = name; words = words; effect = no_effect }) ps s
+        | true ↦ place_ask (record { name = name; words = words; effect = test_effect limits.devices; again = false }) ps s
         | false ↦ GoOn ps (set_status (status_when (verdict words)) s)
       ]
   place_called (BuiltIn (WritesText written)) name words script ps s = GoOn ps (remember (text_written written words) s)
   place_called (BuiltIn Exits) name words script ps s = place_exit (exit_status words) ps s
   place_called (Device effect) name words script ps s =
-      place_ask (record { name = name; words = words; effect = effect }) ps s
+      place_ask (record { name = name; words = words; effect = effect; again = false }) ps s
   place_called NoCommand name words script ps s = StopOn (Unknown name) s
 
   abbrev pub place_fields : List Text → Script → List RunningFrame → State → PlaceNext

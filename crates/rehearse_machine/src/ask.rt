@@ -10,8 +10,10 @@ pub struct Ask<'a> {
     pub name: Vec<u8>,
     /// The words after its name.
     pub words: Vec<Vec<u8>>,
-    /// What it does on success.
+    /// What it does on success, and whether its answers stay.
     pub effect: Effect<'a>,
+    /// Whether it was asked before, and is told the same again.
+    pub again: bool,
 }
 
 /// The result of a move.

@@ -1,22 +1,15 @@
 //! What a name calls, and the commands that need no frame: `setenv` and `echo` over a store, the
-//! status of `exit`, whether `test` asks a device, and how a device command asks for its outcome.
+//! status of `exit`, and whether `test` asks a device.
 ghost use Rattle.std.specs.Prelude.{◌≡◌, ◌∷◌, [], IfOk};
 ghost use Rattle.std.specs.List.{join_with_byte, list_all};
 ghost use Rattle.text.specs.Bytes as ascii;
 ghost use Rattle.text.specs.TextsShown.{bytes_of_words};
 ghost use Rattle.rehearse.specs.Commands as says;
-ghost use Rattle.rehearse.specs.CommandsShown.{lent_effect};
-ghost use Rattle.bootstore.specs.StoredState.{state_at};
-ghost use Rattle.rehearse.specs.Outcomes.{OutcomeWord};
-ghost use Rattle.rehearse.specs.DeviceList.{Devices as ListedDevices};
-ghost use Rattle.rehearse_machine.specs.Places.{place_ask};
-ghost use Rattle.rehearse_machine.specs.MovesShown.{next_shown, Changed, limits_of};
+ghost use Rattle.rehearse_machine.specs.MovesShown.{Changed};
 ghost use Rattle.rehearse_machine.specs.CalledShown.{called_shown};
 
-use crate::ask::{Ask, Step};
-use crate::halt::Halt;
 use bootstore::{Store, StoreError};
-use rehearse::{Builtin, Devices, Effect, RunBounds, builtin_of, is_bad_name};
+use rehearse::{Builtin, Devices, Effect, builtin_of, is_bad_name};
 use std::alloc::{AllocError, Global};
 
 /// What the fields of a command call.
@@ -37,29 +30,6 @@ pub(crate) fn called_by_name<'a>(devices: &'a Devices, name: &[u8], words: &[Vec
     match devices.effect(name, words) {
         Some(effect) => Called::Device(effect),
         None => Called::NoCommand,
-    }
-}
-
-/// Asks for the outcome of a device command, if the bound allows one more.
-pub(crate) fn ask<'d, S: Store>(
-    store: &S,
-    bounds: RunBounds,
-    name: Vec<u8>,
-    words: Vec<Vec<u8>>,
-    effect: Effect<'d>,
-) -> Step<'d>
-    ensures { (devices : ListedDevices) (w : OutcomeWord) → next_shown result (S.record_of store.now).present w
-        ≡ place_ask (limits_of devices bounds) (record { name = name.items; words = bytes_of_words words.items; effect = lent_effect effect.entry }) (S.record_of store.now).present.frames (state_at (S.record_of store.now).present w) }
-{
-    let asked = store.log().len();
-    if asked < bounds.devices() as usize {
-        Step::Asks(Ask {
-            name,
-            words,
-            effect,
-        })
-    } else {
-        Step::Ends(Halt::CutDevices)
     }
 }
 

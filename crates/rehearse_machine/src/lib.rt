@@ -16,13 +16,13 @@ mod memory;
 mod names;
 mod outcomes;
 mod parts;
-mod reading;
 mod rehearsal;
 mod running;
 mod scripts;
 mod simple;
 mod steps;
 mod texts;
+mod told;
 
 pub use halt::{Ending, Halt};
 pub use rehearsal::{Rehearsal, Stop, begin, resume};

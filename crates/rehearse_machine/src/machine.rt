@@ -29,7 +29,7 @@ pub(crate) fn step<'d, S: Store>(
         FrameKind::Text => move_in_script(alloc, store, &frame, devices, bounds),
         FrameKind::Block => move_in_script(alloc, store, &frame, devices, bounds),
         FrameKind::For => move_for(store, &frame),
-        FrameKind::Run => move_run(alloc, store, &frame),
+        FrameKind::Run => move_run(store, &frame),
     }
 }
 

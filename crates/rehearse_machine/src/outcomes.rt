@@ -1,17 +1,20 @@
 //! Outcomes of device commands.
-ghost use Rattle.std.specs.Prelude.{◌≡◌, ◌∷◌, [], map, option_map, if◌then◌else◌};
+ghost use Rattle.std.specs.Prelude.{◌≡◌, ◌∷◌, [], false, map, option_map, if◌then◌else◌};
 ghost use Rattle.text.specs.TextsShown.{bytes_of_words};
 ghost use Rattle.rehearse.specs.Commands.{named_by, variable_of, sets_in};
 ghost use Rattle.rehearse.specs.DevicesShown.{left_shown, setting_shown};
 ghost use Rattle.rehearse.specs.Outcomes.{Outcome};
 ghost use Rattle.rehearse.specs.Execution.{succeeds, with_all};
-ghost use Rattle.rehearse_machine.specs.Places.{place_answered};
-ghost use Rattle.rehearse_machine.specs.MovesShown.{Changed, Comes, request_shown};
+ghost use Rattle.rehearse.specs.CommandsShown.{lent_effect};
+ghost use Rattle.rehearse.specs.DeviceList.{Devices as ListedDevices};
+ghost use Rattle.rehearse_machine.specs.Places.{place_answered, place_ask};
+ghost use Rattle.rehearse_machine.specs.MovesShown.{Changed, Comes, request_shown, limits_of};
 
 use crate::ask::{Ask, Step};
 use crate::halt::Halt;
+use crate::told::told;
 use bootstore::{LogEntry, Store, StoreError};
-use rehearse::{Effect, LeftSide, Setting, is_bad_name};
+use rehearse::{Effect, LeftSide, RunBounds, Setting, is_bad_name};
 
 /// Gives a device command its outcome, which goes into the log and is the status. On success the
 /// command sets its variables, and may end the run.
@@ -27,10 +30,17 @@ pub(crate) fn answer<'d, S: Store>(
         name,
         mut words,
         effect,
+        again,
     } = ask;
     set_all(store, &words, sets_on(success, effect))?;
     words.insert(0, name.clone()?)?;
-    store.device(LogEntry { success, words })?;
+    let stays = effect.stays;
+    store.device(LogEntry {
+        success,
+        words,
+        stays,
+        again,
+    })?;
     if !success {
         store.set_status(1)?;
         return Ok(Step::Going);
@@ -40,6 +50,40 @@ pub(crate) fn answer<'d, S: Store>(
         return Ok(Step::Ends(Halt::Booted(name)));
     }
     Ok(Step::Going)
+}
+
+/// A device command, if the bound allows one more: one that is told its answer again goes on with
+/// it, and another one asks. Errors: `Memory`.
+pub(crate) fn ask<'d, S: Store>(
+    store: &mut S,
+    bounds: RunBounds,
+    name: Vec<u8>,
+    words: Vec<Vec<u8>>,
+    effect: Effect<'d>,
+) -> Result<Step<'d>, StoreError>
+    ensures { (devices : ListedDevices) → Comes result (S.record_of store.old)
+        (S.record_of store.new) (place_ask (limits_of devices bounds) (record {
+          name = name.items;
+          words = bytes_of_words words.items;
+          effect = lent_effect effect.entry;
+          again = false;
+        }) (S.record_of store.old).present.frames) }
+{
+    let asked = store.log().len();
+    if asked >= bounds.devices() as usize {
+        return Ok(Step::Ends(Halt::CutDevices));
+    }
+    let answered = told(store, &name, &words, effect);
+    let request = Ask {
+        name,
+        words,
+        effect,
+        again: answered.is_some(),
+    };
+    match answered {
+        Some(success) => answer(store, request, success),
+        None => Ok(Step::Asks(request)),
+    }
 }
 
 /// What an outcome sets: nothing on failure.

@@ -15,8 +15,7 @@ use crate::frames::text;
 use crate::halt::Halt;
 use crate::machine::drive;
 use crate::outcomes::answer;
-use crate::reading::script_of;
-use bootstore::{Store, StoreError};
+use bootstore::{Store, StoreError, read_script};
 use envtools::Env;
 use rehearse::{Devices, RunBounds};
 use std::alloc::Global;
@@ -85,7 +84,7 @@ pub fn begin<S: Store>(rehearsal: &Rehearsal<'_>, store: &mut S) -> Result<Stop,
     let _bound = rehearsal.bounds.steps();
     store.start(rehearsal.env)?;
     let text_found = text_of(store, rehearsal.name);
-    let Some(script) = script_of(rehearsal.alloc, text_found)? else {
+    let Some(script) = read_script(rehearsal.alloc, text_found)? else {
         let name = Vec::from_slice(rehearsal.alloc, rehearsal.name)?;
         return Ok(Stop::Ends(Halt::Syntax(name)));
     };

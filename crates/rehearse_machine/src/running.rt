@@ -11,9 +11,8 @@ use crate::halt::Halt;
 use crate::lists::begin_in_list;
 use crate::names::next_turn;
 use crate::parts::command_of;
-use crate::reading::script_of;
 use crate::scripts::end_block;
-use bootstore::{Frame, Store, StoreError};
+use bootstore::{Frame, Store, StoreError, TextFound};
 use hushlang::tree::{Command, Script};
 use rehearse::{Devices, RunBounds};
 use std::alloc::Global;
@@ -73,30 +72,22 @@ pub(crate) fn move_for<'d, S: Store>(store: &mut S, frame: &Frame) -> Result<Ste
 
 /// Advances a `run` frame: starts the next name if it is the first, or if the previous text ended
 /// with status 0. Else the `run` has ended.
-pub(crate) fn move_run<'d, S: Store>(
-    alloc: Global,
-    store: &mut S,
-    frame: &Frame,
-) -> Result<Step<'d>, StoreError>
+pub(crate) fn move_run<'d, S: Store>(store: &mut S, frame: &Frame) -> Result<Step<'d>, StoreError>
     requires { IsTop frame.now (S.record_of store.old).present }
     ensures { Comes result (S.record_of store.old) (S.record_of store.new) (places.run_move frame.now (under (S.record_of store.old).present)) }
 {
     if frame.at().turn == 0 {
-        return next_name(alloc, store, frame);
+        return next_name(store, frame);
     }
     if store.get_status() == 0 {
-        return next_name(alloc, store, frame);
+        return next_name(store, frame);
     }
     leave(store)
 }
 
 /// Starts the text of the next name of a `run`, or ends the `run` if no name is left. A name that
 /// is not set ends it with status 1. A text that is not a script ends the whole run.
-fn next_name<'d, S: Store>(
-    alloc: Global,
-    store: &mut S,
-    frame: &Frame,
-) -> Result<Step<'d>, StoreError>
+fn next_name<'d, S: Store>(store: &mut S, frame: &Frame) -> Result<Step<'d>, StoreError>
     requires { IsTop frame.now (S.record_of store.old).present }
     ensures { Comes result (S.record_of store.old) (S.record_of store.new)
         (places.place_name (slice_get frame.now.words frame.now.place.turn) frame.now (under (S.record_of store.old).present)) }
@@ -105,32 +96,31 @@ fn next_name<'d, S: Store>(
     let Some(name) = frame.words().get(at.turn) else {
         return leave(store);
     };
-    let Some(value) = store.get_env(name) else {
-        store.pop()?;
-        store.set_status(1)?;
-        return Ok(Step::Going);
-    };
-    let Some(script) = script_of(alloc, value)? else {
-        return Ok(Step::Ends(Halt::Syntax(name.clone()?)));
-    };
-    begin_text(alloc, store, frame, script)
+    match store.text_of(name)? {
+        TextFound::Unset => {
+            store.pop()?;
+            store.set_status(1)?;
+            Ok(Step::Going)
+        }
+        TextFound::NoScript => Ok(Step::Ends(Halt::Syntax(name.clone()?))),
+        TextFound::Script(script) => begin_text(store, frame, script),
+    }
 }
 
 /// Starts the text of a name. A text without a command gives the status 0.
 fn begin_text<'d, S: Store>(
-    alloc: Global,
     store: &mut S,
     frame: &Frame,
-    script: Script,
+    script: Rc<Script>,
 ) -> Result<Step<'d>, StoreError>
     requires top { IsTop frame.now (S.record_of store.old).present }
     requires turn { frame.now.place.turn + 1 < 2 ^ 64 }
     ensures { Comes result (S.record_of store.old) (S.record_of store.new)
-        (λ s. places.GoOn (places.text_frame (view.script script) ∷ places.in_turn (suc frame.now.place.turn) 0 frame.now ∷ under (S.record_of store.old).present) (begun_text (view.script script) s)) }
+        (λ s. places.GoOn (places.text_frame (view.script script.value) ∷ places.in_turn (suc frame.now.place.turn) 0 frame.now ∷ under (S.record_of store.old).present) (begun_text (view.script script.value) s)) }
 {
     let at = frame.at();
     let is_empty = script.lists.as_slice().is_empty();
-    let child = text(Rc::new(alloc, script)?);
+    let child = text(script);
     if is_empty {
         store.set_status(0)?;
         return enter(store, frame, in_turn(at, at.turn, 0), child);

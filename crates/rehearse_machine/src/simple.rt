@@ -13,10 +13,11 @@ ghost use Rattle.rehearse_machine.specs.MovesShown.{Comes, IsTop, under, limits_
 ghost use Rattle.rehearse_machine.specs.CalledShown.{builtin_called, called_shown};
 
 use crate::ask::Step;
-use crate::commands::{Called, ask, asks_device, called_by_name, echo, exit_status, setenv};
+use crate::commands::{Called, asks_device, called_by_name, echo, exit_status, setenv};
 use crate::computed::carry_out;
 use crate::frames::{behind, enter, finish, place};
 use crate::halt::Halt;
+use crate::outcomes::ask;
 use crate::steps::{count, expanded};
 use crate::texts::{begin_run, leave_text};
 use bootstore::{Frame, FrameKind, Store, StoreError};
@@ -54,19 +55,21 @@ fn run_names<'d, S: Store>(
 /// command.
 fn run_test<'d, S: Store>(
     store: &mut S,
+    devices: &'d Devices,
     bounds: RunBounds,
     name: Vec<u8>,
     words: Vec<Vec<u8>>,
 ) -> Result<Step<'d>, StoreError>
-    ensures { (devices : ListedDevices) (script : tree.Script) → Comes result (S.record_of store.old) (S.record_of store.new)
-        (place_called (limits_of devices bounds) (says.BuiltIn says.Tests) name.items (bytes_of_words words.items) script (S.record_of store.old).present.frames) }
+    ensures { (script : tree.Script) → Comes result (S.record_of store.old) (S.record_of store.new)
+        (place_called (limits_of devices.now bounds) (says.BuiltIn says.Tests) name.items (bytes_of_words words.items) script (S.record_of store.old).present.frames) }
 {
     if asks_device(&words) {
         let effect = Effect {
             ends: false,
+            stays: devices.test_stays(),
             sets: &[],
         };
-        Ok(ask(store, bounds, name, words, effect))
+        ask(store, bounds, name, words, effect)
     } else if verdict(&words) {
         done(store, 0)
     } else {
@@ -94,13 +97,14 @@ fn run_builtin<'d, S: Store>(
     alloc: Global,
     store: &mut S,
     script: &Rc<Script>,
+    devices: &'d Devices,
     bounds: RunBounds,
     builtin: Builtin,
     name: Vec<u8>,
     words: Vec<Vec<u8>>,
 ) -> Result<Step<'d>, StoreError>
-    ensures { (devices : ListedDevices) → Comes result (S.record_of store.old) (S.record_of store.new)
-        (place_called (limits_of devices bounds) (builtin_called builtin) name.items (bytes_of_words words.items) (view.script script.now.value) (S.record_of store.old).present.frames) }
+    ensures { Comes result (S.record_of store.old) (S.record_of store.new)
+        (place_called (limits_of devices.now bounds) (builtin_called builtin) name.items (bytes_of_words words.items) (view.script script.now.value) (S.record_of store.old).present.frames) }
 {
     match builtin {
         Builtin::SetEnv => {
@@ -108,7 +112,7 @@ fn run_builtin<'d, S: Store>(
             Ok(Step::Going)
         }
         Builtin::Run => run_names(alloc, store, script, words),
-        Builtin::Test => run_test(store, bounds, name, words),
+        Builtin::Test => run_test(store, devices, bounds, name, words),
         Builtin::Echo => {
             echo(alloc, store, &words)?;
             Ok(Step::Going)
@@ -124,19 +128,20 @@ fn run_called<'d, S: Store>(
     alloc: Global,
     store: &mut S,
     script: &Rc<Script>,
+    devices: &'d Devices,
     bounds: RunBounds,
     called: Called<'d>,
     name: Vec<u8>,
     words: Vec<Vec<u8>>,
 ) -> Result<Step<'d>, StoreError>
-    ensures { (devices : ListedDevices) → Comes result (S.record_of store.old) (S.record_of store.new)
-        (place_called (limits_of devices bounds) (called_shown called.entry) name.items (bytes_of_words words.items) (view.script script.now.value) (S.record_of store.old).present.frames) }
+    ensures { Comes result (S.record_of store.old) (S.record_of store.new)
+        (place_called (limits_of devices.now bounds) (called_shown called.entry) name.items (bytes_of_words words.items) (view.script script.now.value) (S.record_of store.old).present.frames) }
 {
     match called {
         Called::BuiltIn(builtin) => {
-            run_builtin(alloc, store, script, bounds, builtin, name, words)
+            run_builtin(alloc, store, script, devices, bounds, builtin, name, words)
         }
-        Called::Device(effect) => Ok(ask(store, bounds, name, words, effect)),
+        Called::Device(effect) => ask(store, bounds, name, words, effect),
         Called::NoCommand => Ok(Step::Ends(Halt::Unknown(name))),
     }
 }
@@ -162,7 +167,7 @@ pub(crate) fn run_fields<'d, S: Store>(
         return Ok(Step::Going);
     }
     let called = called_by_name(devices, &name, &fields);
-    run_called(alloc, store, script, bounds, called, name, fields)
+    run_called(alloc, store, script, devices, bounds, called, name, fields)
 }
 
 /// Begins a step for a simple command, expands its words, and runs the command that the fields

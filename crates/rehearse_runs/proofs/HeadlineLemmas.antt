@@ -5,7 +5,7 @@ use Rattle.std.specs.List.{flat_map}
 use Rattle.std.proofs.lemmas.Bool.{eqb-true}
 use Rattle.output.specs.Sink.{Sink, Wrote, BrokeOff}
 use Rattle.envtools.specs.Environment.{value_of}
-use Rattle.rehearse.specs.Asking.{Asking, GivesNoRun, Listed, SpellsNoRun}
+use Rattle.rehearse.specs.Asking.{Asking, AreToCome, GivesNoRun, Listed, SpellsNoRun}
 use Rattle.rehearse.specs.Listing.{outcome_digit, spelled, record_of, line}
 use Rattle.rehearse.specs.Outcomes.{Outcome, OutcomeWord, Success, Failure}
 use Rattle.rehearse.specs.State.{Text}
@@ -13,9 +13,10 @@ use Rattle.rehearse.specs.DeviceList.{Devices, listed}
 use Rattle.rehearse.specs.Runs.{Task}
 use Rattle.rehearse_machine.specs.Tasks.{task_shown, task_set}
 use Rattle.rehearse.specs.Bounds.{BoundsShown}
-use Rattle.rehearse_runs.specs.AskShown.{asking_alone, asking_by, asking_of}
+use Rattle.rehearse_runs.specs.AskShown.{asking_alone, asking_by, asking_listed, asking_of}
 use Rattle.rehearse_runs.specs.Behind.{GoesOnBehind, IsNoRun, IsNotListed, RefusesWord}
-use Rattle.rehearse_runs.specs.RehearsedEnvironment.{Begins, Refuses, RefusesAsk, RefusesRuns, Rehearses, WithDevices}
+use Rattle.rehearse_runs.specs.RehearsedEnvironment.{Begins, Refuses, RefusesAsk, RefusesRuns, Rehearsed, Rehearses, WithDevices, task_asked}
+use Rattle.rehearse_runs.specs.ListingRuns.{Breaks, Lists}
 use Rattle.rehearse_runs.specs.RunAlone.{BreaksAlone, WritesAlone}
 use Rattle.rehearse_runs.specs.RunsShown.{RunsShown}
 use Rattle.rehearse_runs.specs.StartWord.{digits_in}
@@ -23,10 +24,8 @@ use Rattle.rehearse_runs.specs.declared.ask.Ask.{Ask}
 use Rattle.rehearse_runs.specs.declared.ask.Wanted.{Wanted}
 use Rattle.rehearse_runs.specs.declared.listing.Finish.{Finish}
 use Rattle.rehearse_runs.specs.declared.listing.Finish.TheVariants.{Done}
-use Rattle.rehearse_runs.specs.declared.rehearsing.RehearseError.{RehearseError}
-use Rattle.rehearse_runs.specs.declared.rehearsing.RehearseError.TheVariants as rehearsal
-use Rattle.rehearse_runs.specs.declared.run_error.RunError.{RunError}
-use Rattle.rehearse_runs.specs.declared.run_error.RunError.TheVariants.{NoSuchVariable, Memory, NotARun, Failed}
+use Rattle.rehearse_runs.specs.declared.rehearse_error.RehearseError.{RehearseError}
+use Rattle.rehearse_runs.specs.declared.rehearse_error.RehearseError.TheVariants.{DeviceList, NoSuchVariable, NotARun, States, Write, Memory, Failed}
 use Rattle.rehearse_runs.proofs.TaskSet.{task_is_set}
 
 -- ---- a word as it is printed, and its digits
@@ -74,14 +73,14 @@ begins_from env devices name bounds printed digits r is h set =
       sound = refl;
     })
 
-pub begins_behind : (result : Result RunsShown RunError) (env : List (Text × Text)) (devices : Devices) (name : Text) (bounds : BoundsShown) (after : Option Text) (printed digits : Text) → after ≡ Some printed → digits ≡ digits_in printed
+pub begins_behind : (result : Result RunsShown RehearseError) (env : List (Text × Text)) (devices : Devices) (name : Text) (bounds : BoundsShown) (after : Option Text) (printed digits : Text) → after ≡ Some printed → digits ≡ digits_in printed
     → IfOk result (λ r. GoesOnBehind (task_shown env devices name bounds) digits r) → OnOk result (task_set env devices name bounds ≡ Some (task_shown env devices name bounds)) → IfOk result (λ r. Begins env devices name bounds after r)
 begins_behind (Ok r) env devices name bounds after printed digits s is h set =
     let P : Option Text → Type 0 = λ o. Begins env devices name bounds o r in
     subst P (sym s) (begins_from env devices name bounds printed digits r is h set)
 begins_behind (Err e) env devices name bounds after printed digits s is h set = tt
 
-refuses_behind : (env : List (Text × Text)) (devices : Devices) (name : Text) (bounds : BoundsShown) (printed digits : Text) (e : RunError) → digits ≡ digits_in printed → RefusesWord (task_shown env devices name bounds) (value_of env name) digits e
+refuses_behind : (env : List (Text × Text)) (devices : Devices) (name : Text) (bounds : BoundsShown) (printed digits : Text) (e : RehearseError) → digits ≡ digits_in printed → RefusesWord (task_shown env devices name bounds) (value_of env name) digits e
     → (e ≡ NoSuchVariable → task_set env devices name bounds ≡ None) → RefusesRuns env devices name bounds (Some printed) e
 refuses_behind env devices name bounds printed digits NoSuchVariable is h u = u refl
 refuses_behind env devices name bounds printed digits Memory is h u = tt
@@ -90,9 +89,12 @@ refuses_behind env devices name bounds printed digits NotARun is h u = record {
   task_is = task_is_set env devices name bounds h.0;
   no_run = gives_no_run (task_shown env devices name bounds) printed digits is h.1;
 }
+refuses_behind env devices name bounds printed digits (DeviceList fault) is h u = h
+refuses_behind env devices name bounds printed digits States is h u = h
+refuses_behind env devices name bounds printed digits Write is h u = h
 refuses_behind env devices name bounds printed digits Failed is h u = h
 
-pub refused_behind : {X : Type 0} (result : Result X RunError) (env : List (Text × Text)) (devices : Devices) (name : Text) (bounds : BoundsShown) (after : Option Text) (printed digits : Text) → after ≡ Some printed → digits ≡ digits_in printed
+pub refused_behind : {X : Type 0} (result : Result X RehearseError) (env : List (Text × Text)) (devices : Devices) (name : Text) (bounds : BoundsShown) (after : Option Text) (printed digits : Text) → after ≡ Some printed → digits ≡ digits_in printed
     → IfErr result (λ e. RefusesWord (task_shown env devices name bounds) (value_of env name) digits e)
     → IfErr result (λ e. e ≡ NoSuchVariable → task_set env devices name bounds ≡ None) → IfErr result (λ e. RefusesRuns env devices name bounds after e)
 refused_behind (Ok x) env devices name bounds after printed digits s is h u = tt
@@ -100,13 +102,58 @@ refused_behind (Err e) env devices name bounds after printed digits s is h u =
     let P : Option Text → Type 0 = λ o. RefusesRuns env devices name bounds o e in
     subst P (sym s) (refuses_behind env devices name bounds printed digits e is h u)
 
+-- ---- a listing, by its runs
+
+to_come_within : (task : Task) (after : Option Text) (limit : Option ℕ) (words : List OutcomeWord) → AreToCome task (Listed after None) words → AreToCome task (Listed after limit) words
+to_come_within task None limit words h = h
+to_come_within task (Some text) limit words h = h
+
+no_run_within : (task : Task) (after : Option Text) (limit : Option ℕ) → GivesNoRun task (Listed after None) → GivesNoRun task (Listed after limit)
+no_run_within task None limit h = h
+no_run_within task (Some text) limit h = h
+
+module _ (env : List (Text × Text)) (devices : Devices) (name : Text) (bounds : BoundsShown) (after : Option Text) (limit : Option ℕ) (names : List Text) where
+  -- its runs do not begin
+  pub unstarted : (s : Sink) (e : RehearseError) → RefusesRuns env devices name bounds after e → Refuses (task_set env devices name bounds) (asking_listed name bounds after limit names) s s e
+  unstarted s (DeviceList fault) h = h
+  unstarted s NoSuchVariable h = (h, refl)
+  unstarted s NotARun h = (record { task = h.task; task_is = h.task_is; no_run = no_run_within h.task after limit h.no_run }, refl)
+  unstarted s States h = h
+  unstarted s Write h = absurd h
+  unstarted s Memory h = inl refl
+  unstarted s Failed h = h
+
+  begun : (r : RunsShown) → Begins env devices name bounds after r → Rehearsed (task_set env devices name bounds) (Listed after limit) r.task r.to_come
+  begun r b = record { task_is = b.task_is; to_come = to_come_within r.task after limit r.to_come b.to_come }
+
+  -- it is written
+  pub written : (result : Result Finish RehearseError) (old new : Sink) (r r' : RunsShown) → Begins env devices name bounds after r → IfOk result (λ finish. Lists old new r r' names limit finish)
+      → IfOk result (λ finish. Rehearses (task_set env devices name bounds) (asking_listed name bounds after limit names) old new finish)
+  written (Ok finish) old new r r' b h = record { task = r.task; words = r.to_come; rehearsed = begun r b; wrote = h.wrote; finish_is = h.finish_is }
+  written (Err e) old new r r' b h = tt
+
+  broken : (old new : Sink) (r r' : RunsShown) (e : RehearseError) → Begins env devices name bounds after r → Breaks old new r r' names limit e → Refuses (task_set env devices name bounds) (asking_listed name bounds after limit names) old new e
+  broken old new r r' (DeviceList fault) b h = h
+  broken old new r r' NoSuchVariable b h = absurd h
+  broken old new r r' NotARun b h = absurd h
+  broken old new r r' States b h = h
+  broken old new r r' Write b h = record { task = r.task; words = r.to_come; rehearsed = begun r b; broke = h.wrote }
+  broken old new r r' Memory b h = inr (record { task = r.task; words = r.to_come; rehearsed = begun r b; front = h.ws; left = h.us; parts = h.front; wrote = h.wrote })
+  broken old new r r' Failed b h = let f = h.failed in let s = b.sound in absurd cc
+
+  -- or it breaks off
+  pub unwritten : (result : Result Finish RehearseError) (old new : Sink) (r r' : RunsShown) → Begins env devices name bounds after r → IfErr result (λ e. Breaks old new r r' names limit e)
+      → IfErr result (λ e. Refuses (task_set env devices name bounds) (asking_listed name bounds after limit names) old new e)
+  unwritten (Ok finish) old new r r' b h = tt
+  unwritten (Err e) old new r r' b h = broken old new r r' e b h
+
 -- ---- the run of one word
 
 listed_alone : (f : OutcomeWord → Text) (w : OutcomeWord) (last : Text) → f w ++ last ≡ flat_map f (w ∷ []) ++ last
 listed_alone f w last = ap (λ (t : Text). t ++ last) (sym (append-nil (f w)))
 
 pub writes_alone : (env : List (Text × Text)) (devices : Devices) (name : Text) (bounds : BoundsShown) (printed : Text) (names : List Text) (old new : Sink) → task_set env devices name bounds ≡ Some (task_shown env devices name bounds)
-    → WritesAlone (task_shown env devices name bounds) printed names old new → Rehearses env devices (asking_alone name bounds printed names) old new Done
+    → WritesAlone (task_shown env devices name bounds) printed names old new → Rehearses (task_set env devices name bounds) (asking_alone name bounds printed names) old new Done
 writes_alone env devices name bounds printed names old new set h =
     let task = task_shown env devices name bounds in
     let w = h.is_run.word in
@@ -120,11 +167,11 @@ writes_alone env devices name bounds printed names old new set h =
     }
 
 pub breaks_alone : (env : List (Text × Text)) (devices : Devices) (name : Text) (bounds : BoundsShown) (printed : Text) (names : List Text) (old new : Sink) (e : RehearseError) → task_set env devices name bounds ≡ Some (task_shown env devices name bounds)
-    → BreaksAlone (task_shown env devices name bounds) printed names old new e → Refuses env devices (asking_alone name bounds printed names) old new e
-breaks_alone env devices name bounds printed names old new (rehearsal.DeviceList fault) set h = absurd h
-breaks_alone env devices name bounds printed names old new rehearsal.NoSuchVariable set h = absurd h
-breaks_alone env devices name bounds printed names old new rehearsal.NotARun set h = (record { task = task_shown env devices name bounds; task_is = set; no_run = h.0 }, h.1)
-breaks_alone env devices name bounds printed names old new rehearsal.Write set h =
+    → BreaksAlone (task_shown env devices name bounds) printed names old new e → Refuses (task_set env devices name bounds) (asking_alone name bounds printed names) old new e
+breaks_alone env devices name bounds printed names old new (DeviceList fault) set h = absurd h
+breaks_alone env devices name bounds printed names old new NoSuchVariable set h = absurd h
+breaks_alone env devices name bounds printed names old new NotARun set h = (record { task = task_shown env devices name bounds; task_is = set; no_run = h.0 }, h.1)
+breaks_alone env devices name bounds printed names old new Write set h =
     let task = task_shown env devices name bounds in
     let w = h.is_run.word in
     let P : Text → Type 0 = λ t. BrokeOff old new t in
@@ -134,7 +181,9 @@ breaks_alone env devices name bounds printed names old new rehearsal.Write set h
       rehearsed = record { task_is = set; to_come = (w, h.is_run.spells, h.is_run.run, refl) };
       broke = subst P (listed_alone (record_of task names) w (line (codes "done"))) h.broke;
     }
-breaks_alone env devices name bounds printed names old new rehearsal.Memory set h = inl h
+breaks_alone env devices name bounds printed names old new Memory set h = inl h
+breaks_alone env devices name bounds printed names old new States set h = absurd h
+breaks_alone env devices name bounds printed names old new Failed set h = absurd h
 
 -- ---- with the device list
 
@@ -142,25 +191,27 @@ asked_as : (ask : Ask) (wanted : Wanted) → ask.wanted ≡ wanted → asking_by
 asked_as ask wanted is = ap (λ (w : Wanted). asking_by ask.name.now w (map (λ n. n.now) ask.names.now)) (sym is)
 
 pub rehearses_with : (result : Result Finish RehearseError) (env : List (Text × Text)) (text : Text) (devices : Devices) (ask : Ask) (wanted : Wanted) (old new : Sink) → listed text ≡ Ok devices → ask.wanted ≡ wanted
-    → IfOk result (λ finish. Rehearses env devices (asking_by ask.name.now wanted (map (λ n. n.now) ask.names.now)) old new finish)
-    → IfOk result (λ finish. WithDevices text (λ devices. Rehearses env devices (asking_of ask) old new finish))
+    → IfOk result (λ finish. Rehearses (task_asked env devices (asking_by ask.name.now wanted (map (λ n. n.now) ask.names.now))) (asking_by ask.name.now wanted (map (λ n. n.now) ask.names.now)) old new finish)
+    → IfOk result (λ finish. WithDevices text (λ devices. Rehearses (task_asked env devices (asking_of ask)) (asking_of ask) old new finish))
 rehearses_with (Ok finish) env text devices ask wanted old new l is h =
-    let P : Asking → Type 0 = λ a. Rehearses env devices a old new finish in
+    let P : Asking → Type 0 = λ a. Rehearses (task_asked env devices a) a old new finish in
     record { devices = devices; listed_as = l; so = subst P (asked_as ask wanted is) h }
 rehearses_with (Err e) env text devices ask wanted old new l is h = tt
 
-refuses_with : (env : List (Text × Text)) (text : Text) (devices : Devices) (asking : Asking) (old new : Sink) (e : RehearseError) → listed text ≡ Ok devices → Refuses env devices asking old new e → RefusesAsk env text asking old new e
-refuses_with env text devices asking old new (rehearsal.DeviceList fault) l h = absurd h
-refuses_with env text devices asking old new rehearsal.NoSuchVariable l h = record { devices = devices; listed_as = l; so = h }
-refuses_with env text devices asking old new rehearsal.NotARun l h = record { devices = devices; listed_as = l; so = h }
-refuses_with env text devices asking old new rehearsal.Write l h = record { devices = devices; listed_as = l; so = h }
-refuses_with env text devices asking old new rehearsal.Memory l (inl same) = inl same
-refuses_with env text devices asking old new rehearsal.Memory l (inr h) = inr (record { devices = devices; listed_as = l; so = h })
+refuses_with : (env : List (Text × Text)) (text : Text) (devices : Devices) (asking : Asking) (old new : Sink) (e : RehearseError) → listed text ≡ Ok devices → Refuses (task_asked env devices asking) asking old new e → RefusesAsk env text asking old new e
+refuses_with env text devices asking old new (DeviceList fault) l h = absurd h
+refuses_with env text devices asking old new States l h = absurd h
+refuses_with env text devices asking old new Failed l h = absurd h
+refuses_with env text devices asking old new NoSuchVariable l h = record { devices = devices; listed_as = l; so = h }
+refuses_with env text devices asking old new NotARun l h = record { devices = devices; listed_as = l; so = h }
+refuses_with env text devices asking old new Write l h = record { devices = devices; listed_as = l; so = h }
+refuses_with env text devices asking old new Memory l (inl same) = inl same
+refuses_with env text devices asking old new Memory l (inr h) = inr (record { devices = devices; listed_as = l; so = h })
 
 pub refused_with : {T : Type 0} (result : Result T RehearseError) (env : List (Text × Text)) (text : Text) (devices : Devices) (ask : Ask) (wanted : Wanted) (old new : Sink) → listed text ≡ Ok devices → ask.wanted ≡ wanted
-    → IfErr result (λ e. Refuses env devices (asking_by ask.name.now wanted (map (λ n. n.now) ask.names.now)) old new e)
+    → IfErr result (λ e. Refuses (task_asked env devices (asking_by ask.name.now wanted (map (λ n. n.now) ask.names.now))) (asking_by ask.name.now wanted (map (λ n. n.now) ask.names.now)) old new e)
     → IfErr result (λ e. RefusesAsk env text (asking_of ask) old new e)
 refused_with (Ok x) env text devices ask wanted old new l is h = tt
 refused_with (Err e) env text devices ask wanted old new l is h =
-    let P : Asking → Type 0 = λ a. Refuses env devices a old new e in
+    let P : Asking → Type 0 = λ a. Refuses (task_asked env devices a) a old new e in
     refuses_with env text devices (asking_of ask) old new e l (subst P (asked_as ask wanted is) h)

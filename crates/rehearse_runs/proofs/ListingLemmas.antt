@@ -21,11 +21,11 @@ use Rattle.std.proofs.Math.Dec.{eqb-suc-zero}
 use Rattle.std.proofs.lemmas.Bool.{lt-leb, le-leb}
 use Rattle.rehearse_runs.specs.Giving.{ShowsRun, GivesWord, GivesNone, Gives}
 use Rattle.rehearse_runs.specs.Giving as giving
-use Rattle.rehearse_runs.specs.declared.run_error.RunError.{RunError}
-use Rattle.rehearse_runs.specs.declared.run_error.RunError.TheVariants.{NoSuchVariable, Memory, NotARun, Failed}
+use Rattle.rehearse_runs.specs.declared.rehearse_error.RehearseError.{RehearseError}
+use Rattle.rehearse_runs.specs.declared.rehearse_error.RehearseError.TheVariants.{DeviceList, NoSuchVariable, NotARun, States, Write, Memory, Failed}
 use Rattle.rehearse_runs.specs.declared.listing.Finish.{Finish}
 use Rattle.rehearse_runs.specs.declared.listing.Finish.TheVariants.{Done, More}
-use Rattle.rehearse_runs.specs.ListingRuns.{list_error, Breaks, Lists, left_out, finish_of, IsLeft, Takes, Recorded, WroteRecords, LacksMemory, BreaksOff, reached, lowered}
+use Rattle.rehearse_runs.specs.ListingRuns.{Breaks, Lists, left_out, finish_of, IsLeft, Takes, Recorded, WroteRecords, LacksMemory, BreaksOff, reached, lowered}
 use Rattle.rehearse_runs.specs.declared.view.RunView.{RunView}
 
 recorded_spelled : (w : OutcomeWord) (s : State) (e : Ending) (names : List Text) → recorded (map outcome_digit w) (record s { word = [] }) e names ≡ record_text w s e names
@@ -177,18 +177,21 @@ broke_record {start} {now} {old} {mid} {names} {limit} {left} {ws} end new r n m
     }
 
 -- a call of `next` that refuses
-pub refused : {start now : Sink} {old mid : RunsShown} {names : List Text} {limit left : Option ℕ} {ws : List OutcomeWord} (new : RunsShown) (e : RunError) → giving.Refuses mid e new → Recorded start now old mid names limit left ws → Breaks start now old new names limit (list_error e)
+pub refused : {start now : Sink} {old mid : RunsShown} {names : List Text} {limit left : Option ℕ} {ws : List OutcomeWord} (new : RunsShown) (e : RehearseError) → giving.Refuses mid e new → Recorded start now old mid names limit left ws → Breaks start now old new names limit e
+refused new (DeviceList fault) h r = absurd h
 refused new NoSuchVariable h r = absurd h
-refused new Memory h r = lacked r h
 refused new NotARun h r = absurd h
+refused new States h r = absurd h
+refused new Write h r = absurd h
+refused new Memory h r = lacked r h
 refused new Failed h r = let t = h.failed in let s = r.still in absurd cc
 
 module _ {S : Type 0} (g : Ghosts S) where
-  pub refused_by : {start now : Sink} {old mid : RunsShown} {names : List Text} {limit left : Option ℕ} {ws : List OutcomeWord} (new : RunsShown) (result : Result (Option (RunView S)) RunError) (e : RunError) → result ≡ Err e → Gives g mid result new → Recorded start now old mid names limit left ws → Breaks start now old new names limit (list_error e)
-  refused_by {mid = mid} new result e is h r = refused new e (subst (λ (o : Result (Option (RunView S)) RunError). Gives g mid o new) is h) r
+  pub refused_by : {start now : Sink} {old mid : RunsShown} {names : List Text} {limit left : Option ℕ} {ws : List OutcomeWord} (new : RunsShown) (result : Result (Option (RunView S)) RehearseError) (e : RehearseError) → result ≡ Err e → Gives g mid result new → Recorded start now old mid names limit left ws → Breaks start now old new names limit e
+  refused_by {mid = mid} new result e is h r = refused new e (subst (λ (o : Result (Option (RunView S)) RehearseError). Gives g mid o new) is h) r
 
-  pub given_by : (mid new : RunsShown) (result : Result (Option (RunView S)) RunError) (o : Option (RunView S)) (v : RunView S) → result ≡ Ok o → o ≡ Some v → Gives g mid result new → GivesWord mid new × ShowsRun g new.task (last_given new) v
-  given_by mid new result o v is some h = subst (λ (r : Result (Option (RunView S)) RunError). Gives g mid r new) (is ∙ ap (λ (p : Option (RunView S)). Ok p) some) h
+  pub given_by : (mid new : RunsShown) (result : Result (Option (RunView S)) RehearseError) (o : Option (RunView S)) (v : RunView S) → result ≡ Ok o → o ≡ Some v → Gives g mid result new → GivesWord mid new × ShowsRun g new.task (last_given new) v
+  given_by mid new result o v is some h = subst (λ (r : Result (Option (RunView S)) RehearseError). Gives g mid r new) (is ∙ ap (λ (p : Option (RunView S)). Ok p) some) h
 
   -- the text of the record that is written
   pub record_written : {start now : Sink} {old mid new : RunsShown} {names : List Text} {limit left : Option ℕ} {ws : List OutcomeWord} (v : RunView S) → Recorded start now old mid names limit left ws → GivesWord mid new × ShowsRun g new.task (last_given new) v

@@ -52,8 +52,8 @@ record_parts digits s ending names =
     )
 
 -- the line of a device command
-pub entry_parts : (d : ℕ) (success : Bool) (words : List (Vec ℕ Global)) (e : LoggedCommand) → d ≡ digit_when success → record { success = success; words = bytes_of_words words } ≡ e
+pub entry_parts : (d : ℕ) (success : Bool) (words : List (Vec ℕ Global)) (stays again : Bool) (e : LoggedCommand) → d ≡ digit_when success → record { success = success; words = bytes_of_words words; stays = stays; again = again } ≡ e
     → (100 ∷ 101 ∷ 118 ∷ 32 ∷ d ∷ 32 ∷ []) ++ (join_with_byte 32 (map word_form (bytes_of_words words)) ++ (10 ∷ [])) ≡ entry_line e
-entry_parts d success words e o h =
+entry_parts d success words stays again e o h =
     let j = join_with_byte 32 (map word_form (bytes_of_words words)) in
     ap (λ n. (100 ∷ 101 ∷ 118 ∷ 32 ∷ n ∷ 32 ∷ []) ++ (j ++ (10 ∷ []))) o ∙ ap entry_line h

@@ -6,8 +6,8 @@ use Rattle.rehearse.specs.State.{Text}
 use Rattle.rehearse.specs.Runs.{Task, kind, IsListed, rest, steps}
 use Rattle.rehearse.specs.Listing.{outcome_digit}
 use Rattle.rehearse_runs.specs.RunsShown.{RunsShown}
-use Rattle.rehearse_runs.specs.declared.run_error.RunError.{RunError}
-use Rattle.rehearse_runs.specs.declared.run_error.RunError.TheVariants.{NoSuchVariable, Memory, NotARun, Failed}
+use Rattle.rehearse_runs.specs.declared.rehearse_error.RehearseError.{RehearseError}
+use Rattle.rehearse_runs.specs.declared.rehearse_error.RehearseError.TheVariants.{NoSuchVariable, Memory, NotARun}
 use Rattle.rehearse_runs.specs.declared.trying.WordKind.{WordKind}
 use Rattle.rehearse_runs.specs.declared.trying.WordKind.TheVariants.{Run, Short, Long}
 
@@ -40,11 +40,11 @@ abbrev pub IsNotListed : Task → Text → Type 0
 IsNotListed task text = (w : OutcomeWord) → text ≡ map outcome_digit w → IsListed task w → ⊥
 
 -- why there are no runs after a text, if the variable has this value
-abbrev pub RefusesWord : Task → (value : Option Text) → Text → RunError → Type 0
+abbrev pub RefusesWord : Task → (value : Option Text) → Text → RehearseError → Type 0
 RefusesWord task value text NoSuchVariable = value ≡ None
 RefusesWord task value text Memory = IsSome value
 RefusesWord task value text NotARun = IsSome value × IsNotListed task text
-RefusesWord task value text Failed = ⊥
+RefusesWord task value text _ = ⊥
 
 abbrev pub kind_shown : WordKind → outcomes.WordKind
 kind_shown Run = outcomes.Run
@@ -57,8 +57,7 @@ pub record HasKind (task : Task) (text : Text) (k : outcomes.WordKind) : Type 0 
   pub others : k ≢ outcomes.Long → (w : OutcomeWord) × (text ≡ map outcome_digit w)
 
 -- why a text is not tried
-abbrev pub RefusesTry : (value : Option Text) → RunError → Type 0
+abbrev pub RefusesTry : (value : Option Text) → RehearseError → Type 0
 RefusesTry value NoSuchVariable = value ≡ None
 RefusesTry value Memory = IsSome value
-RefusesTry value NotARun = ⊥
-RefusesTry value Failed = ⊥
+RefusesTry value _ = ⊥

@@ -12,8 +12,8 @@ use Rattle.rehearse.specs.Listing.{outcome_digit}
 use Rattle.rehearse_runs.specs.RunsShown.{RunsShown, last_given, steps_shared, successes}
 use Rattle.rehearse_runs.specs.ViewShown.{shown_word, shown_moment, shown_ending, shown_marks}
 use Rattle.rehearse_runs.specs.declared.view.RunView.{RunView}
-use Rattle.rehearse_runs.specs.declared.run_error.RunError.{RunError}
-use Rattle.rehearse_runs.specs.declared.run_error.RunError.TheVariants.{NoSuchVariable, Memory, NotARun, Failed}
+use Rattle.rehearse_runs.specs.declared.rehearse_error.RehearseError.{RehearseError}
+use Rattle.rehearse_runs.specs.declared.rehearse_error.RehearseError.TheVariants.{Memory, Failed}
 use Rattle.rehearse_runs.specs.contracts.runs.Runs.{the_row}
 
 -- the next word was given, and the words after it are still to come
@@ -44,13 +44,12 @@ pub record HasFailed (old new : RunsShown) : Type 0 where
   pub failed : old.failed ≡ true
   pub same : new ≡ old
 
-abbrev pub Refuses : RunsShown → RunError → RunsShown → Type 0
-Refuses old NoSuchVariable new = ⊥
+abbrev pub Refuses : RunsShown → RehearseError → RunsShown → Type 0
 Refuses old Memory new = LacksMemory old new
-Refuses old NotARun new = ⊥
 Refuses old Failed new = HasFailed old new
+Refuses old _ new = ⊥
 
-abbrev pub Advances : RunsShown → Result Bool RunError → RunsShown → Type 0
+abbrev pub Advances : RunsShown → Result Bool RehearseError → RunsShown → Type 0
 Advances old (Ok true) new = GivesWord old new × (new.shows ≡ true)
 Advances old (Ok false) new = GivesNone old new
 Advances old (Err e) new = Refuses old e new
@@ -69,11 +68,11 @@ module _ {S : Type 0} (g : Ghosts S) where
   IsView shown None = shown.shows ≡ false
   IsView shown (Some view) = (shown.shows ≡ true) × ShowsRun shown.task (last_given shown) view
 
-  abbrev pub Gives : RunsShown → Result (Option (RunView S)) RunError → RunsShown → Type 0
+  abbrev pub Gives : RunsShown → Result (Option (RunView S)) RehearseError → RunsShown → Type 0
   Gives old (Ok None) new = GivesNone old new
   Gives old (Ok (Some view)) new = GivesWord old new × ShowsRun new.task (last_given new) view
   Gives old (Err e) new = Refuses old e new
 
 abbrev pub Lent : (S : RattleType) (g : Ghosts S.Denot) → MutBor RunsShown →
-    Result (Option (RunView S.Denot)) RunError → Fml
+    Result (Option (RunView S.Denot)) RehearseError → Fml
 Lent S g runs result = Rests (the_row (record { mir = named 1; lft = [] }) S g) runs (Gives g runs.now result)

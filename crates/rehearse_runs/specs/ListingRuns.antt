@@ -6,18 +6,10 @@ use Rattle.rehearse.specs.Outcomes.{OutcomeWord}
 use Rattle.rehearse.specs.State.{Text}
 use Rattle.rehearse.specs.Listing.{line, record_of, words_listed, closing, listing}
 use Rattle.rehearse_runs.specs.RunsShown.{RunsShown, last_answer}
-use Rattle.rehearse_runs.specs.declared.run_error.RunError.{RunError}
-use Rattle.rehearse_runs.specs.declared.run_error.RunError.TheVariants as run
+use Rattle.rehearse_runs.specs.declared.rehearse_error.RehearseError.{RehearseError}
+use Rattle.rehearse_runs.specs.declared.rehearse_error.RehearseError.TheVariants.{Memory, Write, Failed}
 use Rattle.rehearse_runs.specs.declared.listing.Finish.{Finish}
 use Rattle.rehearse_runs.specs.declared.listing.Finish.TheVariants.{Done, More}
-use Rattle.rehearse_runs.specs.declared.listing.ListError.{ListError}
-use Rattle.rehearse_runs.specs.declared.listing.ListError.TheVariants.{Memory, Write, Failed}
-
-abbrev pub list_error : RunError → ListError
-list_error run.NoSuchVariable = Memory
-list_error run.Memory = Memory
-list_error run.NotARun = Memory
-list_error run.Failed = Failed
 
 -- whether no more records are wanted
 abbrev pub reached : Option ℕ → Bool
@@ -125,7 +117,9 @@ pub record HadFailed (start now : Sink) (old new : RunsShown) : Type 0 where
   pub same : new ≡ old
   pub nothing : now ≡ start
 
-abbrev pub Breaks : (start now : Sink) (old new : RunsShown) (names : List Text) (limit : Option ℕ) → ListError → Type 0
+abbrev pub Breaks : (start now : Sink) (old new : RunsShown) (names : List Text) (limit : Option ℕ) →
+    RehearseError → Type 0
 Breaks start now old new names limit Memory = LacksMemory start now old new names limit
 Breaks start now old new names limit Write = BreaksOff start now old new names limit
 Breaks start now old new names limit Failed = HadFailed start now old new
+Breaks start now old new names limit _ = ⊥

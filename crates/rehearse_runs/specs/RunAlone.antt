@@ -6,8 +6,8 @@ use Rattle.rehearse.specs.Listing.{spelled, record_of, line}
 use Rattle.rehearse.specs.Outcomes.{OutcomeWord, Run}
 use Rattle.rehearse.specs.Runs.{Task, kind}
 use Rattle.rehearse.specs.State.{Text}
-use Rattle.rehearse_runs.specs.declared.rehearsing.RehearseError.{RehearseError}
-use Rattle.rehearse_runs.specs.declared.rehearsing.RehearseError.TheVariants.{NotARun, Write, Memory}
+use Rattle.rehearse_runs.specs.declared.rehearse_error.RehearseError.{RehearseError}
+use Rattle.rehearse_runs.specs.declared.rehearse_error.RehearseError.TheVariants.{NotARun, Write, Memory}
 
 -- the text is the printed word of a run
 pub record IsRunOf (task : Task) (printed : Text) : Type 0 where

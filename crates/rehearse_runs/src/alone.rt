@@ -11,7 +11,7 @@ ghost use Rattle.rehearse_runs.specs.RunAlone.{BreaksAlone, WritesAlone};
 use crate::ask::digits_of;
 use crate::bytes::Bytes;
 use crate::record::write_record;
-use crate::rehearsing::RehearseError;
+use crate::rehearse_error::RehearseError;
 use crate::view::RunView;
 use crate::walking::{Walked, walk_to};
 use bootstore::Store;

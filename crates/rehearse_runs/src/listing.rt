@@ -3,14 +3,13 @@ ghost use Rattle.std.specs.Prelude.{◌≡◌, ◌≢◌, map, codes, ◌++◌, 
 ghost use Rattle.output.specs.Sink.{Prints};
 ghost use Rattle.rehearse.specs.Listing.{line};
 ghost use Rattle.rehearse_runs.specs.Recording.{printed};
-ghost use Rattle.rehearse_runs.specs.ListingRuns.{list_error, reached, lowered, WroteRecords, Lists, Breaks};
+ghost use Rattle.rehearse_runs.specs.ListingRuns.{reached, lowered, WroteRecords, Lists, Breaks};
 
 use crate::record::write_record;
-use crate::run_error::RunError;
+use crate::rehearse_error::RehearseError;
 use crate::runs::Runs;
 use bootstore::Store;
 use output::{Out, OutFault, write_all, write_parts};
-use thiserror::Error;
 
 /// How a listing finishes.
 #[derive(Clone, Copy, Debug, PartialEq, Eq)]
@@ -19,41 +18,6 @@ pub enum Finish {
     Done,
     /// With the limit, and runs are left out.
     More,
-}
-
-/// Why a listing broke off.
-#[derive(Clone, Copy, Debug, PartialEq, Eq, Error)]
-pub enum ListError {
-    /// Memory ran out.
-    #[error("out of memory")]
-    Memory,
-    /// The output failed.
-    #[error("output failed")]
-    Write,
-    /// An earlier call ran out of memory.
-    #[error("the rehearsal has failed")]
-    Failed,
-}
-
-impl From<OutFault> for ListError {
-    ghost use Rattle.rehearse_runs.specs.declared.listing.ListError.TheVariants.{Write};
-
-    ghost from_gives = { λ _ e. e ≡ Write };
-
-    fn from(_fault: OutFault) -> ListError {
-        ListError::Write
-    }
-}
-
-impl From<RunError> for ListError {
-    ghost from_gives = { λ r e. e ≡ list_error r };
-
-    fn from(error: RunError) -> ListError {
-        match error {
-            RunError::Failed => ListError::Failed,
-            RunError::NoSuchVariable | RunError::Memory | RunError::NotARun => ListError::Memory,
-        }
-    }
 }
 
 /// Whether no more records are wanted.
@@ -82,7 +46,7 @@ fn write_records<S: Store, O: Out>(
     names: &[&[u8]],
     limit: Option<u32>,
     out: &mut O,
-) -> Result<(), ListError>
+) -> Result<(), RehearseError>
     requires { runs.old.failed ≡ false }
     ensures ok { OnOk result (WroteRecords (O.sink out.old) (O.sink out.new) runs.old runs.new (map (λ n. n.now) names.now) limit) }
     ensures err { IfErr result (λ e. Breaks (O.sink out.old) (O.sink out.new) runs.old runs.new (map (λ n. n.now) names.now) limit e) }
@@ -119,13 +83,13 @@ pub fn write_listing<S: Store, O: Out>(
     names: &[&[u8]],
     limit: Option<u32>,
     out: &mut O,
-) -> Result<Finish, ListError>
+) -> Result<Finish, RehearseError>
     requires { limit ≢ Some 0 }
     ensures ok { IfOk result (λ finish. Lists (O.sink out.old) (O.sink out.new) runs.old runs.new (map (λ n. n.now) names.now) limit finish) }
     ensures err { IfErr result (λ e. Breaks (O.sink out.old) (O.sink out.new) runs.old runs.new (map (λ n. n.now) names.now) limit e) }
 {
     if runs.has_failed() {
-        return Err(ListError::Failed);
+        return Err(RehearseError::Failed);
     }
     write_records(runs, names, limit, out)?;
     if runs.has_more() {

@@ -3,12 +3,12 @@ ghost use Rattle.std.specs.Prelude.{◌≡◌, ◌≢◌, Some, IfOk, IfErr, map
 ghost use Rattle.text.specs.TextsShown.{option_bytes};
 ghost use Rattle.rehearse.specs.Asking.{limit_of};
 ghost use Rattle.rehearse_runs.specs.AskShown.{asking_of, asking_alone, asking_listed, wanted_of};
-ghost use Rattle.rehearse_runs.specs.RehearsedEnvironment.{Begins, Refuses, RefusesAsk, RefusesRuns, Rehearses, WithDevices};
+ghost use Rattle.rehearse_runs.specs.RehearsedEnvironment.{Begins, Refuses, RefusesAsk, RefusesRuns, Rehearses, WithDevices, task_asked};
 
 use crate::alone::write_run;
 use crate::ask::{Ask, Wanted, digits_of};
-use crate::listing::{Finish, ListError, write_listing};
-use crate::run_error::RunError;
+use crate::listing::{Finish, write_listing};
+use crate::rehearse_error::RehearseError;
 use crate::runs::Runs;
 use bootstore::Store;
 use envtools::Env;
@@ -16,21 +16,6 @@ use output::Out;
 use rehearse::{Bounds, Devices, DevicesError, RunBounds};
 use rehearse_machine::Rehearsal;
 use std::alloc::Global;
-
-/// Why a rehearsal was refused.
-#[derive(Clone, Copy, Debug, Drop, PartialEq, Eq)]
-pub enum RehearseError {
-    /// The device list.
-    DeviceList(DevicesError),
-    /// The variable is not set.
-    NoSuchVariable,
-    /// The word that was given spells no run.
-    NotARun,
-    /// The output failed.
-    Write,
-    /// Memory ran out.
-    Memory,
-}
 
 /// The runs of a listing. Errors: `NoSuchVariable`, `NotARun`, `Memory`.
 fn begin_runs<'a, S: Store>(
@@ -40,7 +25,7 @@ fn begin_runs<'a, S: Store>(
     name: &'a [u8],
     bounds: Bounds,
     after: Option<&[u8]>,
-) -> Result<Runs<'a, S>, RunError>
+) -> Result<Runs<'a, S>, RehearseError>
     ensures ok { IfOk result (λ r. Begins env.now devices.now name.now bounds (option_bytes after.entry) r) }
     ensures err { IfErr result (λ e. RefusesRuns env.now devices.now name.now bounds (option_bytes after.entry) e) }
 {
@@ -50,7 +35,7 @@ fn begin_runs<'a, S: Store>(
     }
 }
 
-/// Writes the listing of runs.
+/// Writes the listing of runs. Errors: `NoSuchVariable`, `NotARun`, `Memory`, `Write`.
 fn list_runs<'x, S: Store, O: Out>(
     alloc: Global,
     env: &'x Env,
@@ -63,24 +48,20 @@ fn list_runs<'x, S: Store, O: Out>(
     out: &mut O,
 ) -> Result<Finish, RehearseError>
     requires { limit ≢ Some 0 }
-    ensures ok { IfOk result (λ finish. Rehearses env.now devices.now (asking_listed name.now bounds (option_bytes after.entry) limit (map (λ n. n.now) names.now)) (O.sink out.old) (O.sink out.new) finish) }
-    ensures err { IfErr result (λ e. Refuses env.now devices.now (asking_listed name.now bounds (option_bytes after.entry) limit (map (λ n. n.now) names.now)) (O.sink out.old) (O.sink out.new) e) }
+    ensures ok { let asking = asking_listed name.now bounds (option_bytes after.entry) limit
+        (map (λ n. n.now) names.now) in
+        IfOk result (λ finish. Rehearses (task_asked env.now devices.now asking) asking
+        (O.sink out.old) (O.sink out.new) finish) }
+    ensures err { let asking = asking_listed name.now bounds (option_bytes after.entry) limit
+        (map (λ n. n.now) names.now) in
+        IfErr result (λ e. Refuses (task_asked env.now devices.now asking) asking
+        (O.sink out.old) (O.sink out.new) e) }
 {
-    let mut runs = match begin_runs::<S>(alloc, env, devices, name, bounds, after) {
-        Ok(runs) => runs,
-        Err(RunError::NoSuchVariable) => return Err(RehearseError::NoSuchVariable),
-        Err(RunError::NotARun) => return Err(RehearseError::NotARun),
-        Err(_) => return Err(RehearseError::Memory),
-    };
-    match write_listing(&mut runs, names, limit, out) {
-        Ok(finish) => Ok(finish),
-        Err(ListError::Write) => Err(RehearseError::Write),
-        Err(ListError::Memory) => Err(RehearseError::Memory),
-        Err(ListError::Failed) => Err(RehearseError::Memory),
-    }
+    let mut runs = begin_runs::<S>(alloc, env, devices, name, bounds, after)?;
+    write_listing(&mut runs, names, limit, out)
 }
 
-/// Writes the run of a word, and `done`.
+/// Writes the run of a word, and `done`. Errors: `NoSuchVariable`, `NotARun`, `Memory`, `Write`.
 #[tactic(auto, using(crate::proofs::TaskSet::task_is_set, crate::proofs::TaskSet::task_is_unset))]
 fn list_one<S: Store, O: Out>(
     alloc: Global,
@@ -92,8 +73,12 @@ fn list_one<S: Store, O: Out>(
     names: &[&[u8]],
     out: &mut O,
 ) -> Result<Finish, RehearseError>
-    ensures ok { IfOk result (λ finish. Rehearses env.now devices.now (asking_alone name.now bounds word.now (map (λ n. n.now) names.now)) (O.sink out.old) (O.sink out.new) finish) }
-    ensures err { IfErr result (λ e. Refuses env.now devices.now (asking_alone name.now bounds word.now (map (λ n. n.now) names.now)) (O.sink out.old) (O.sink out.new) e) }
+    ensures ok { let asking = asking_alone name.now bounds word.now (map (λ n. n.now) names.now) in
+        IfOk result (λ finish. Rehearses (task_asked env.now devices.now asking) asking
+        (O.sink out.old) (O.sink out.new) finish) }
+    ensures err { let asking = asking_alone name.now bounds word.now (map (λ n. n.now) names.now) in
+        IfErr result (λ e. Refuses (task_asked env.now devices.now asking) asking
+        (O.sink out.old) (O.sink out.new) e) }
 {
     if env.get(name).is_none() {
         return Err(RehearseError::NoSuchVariable);
@@ -122,8 +107,11 @@ pub fn rehearse_env<'x, S: Store, O: Out>(
     out: &mut O,
 ) -> Result<Finish, RehearseError>
     requires { limit_of (wanted_of ask.now.wanted) ≢ Some 0 }
-    ensures ok { IfOk result (λ finish. WithDevices devices_text.now (λ devices. Rehearses env.now devices (asking_of ask.now) (O.sink out.old) (O.sink out.new) finish)) }
-    ensures err { IfErr result (λ e. RefusesAsk env.now devices_text.now (asking_of ask.now) (O.sink out.old) (O.sink out.new) e) }
+    ensures ok { let asking = asking_of ask.now in
+        IfOk result (λ finish. WithDevices devices_text.now (λ devices.
+        Rehearses (task_asked env.now devices asking) asking (O.sink out.old) (O.sink out.new) finish)) }
+    ensures err { IfErr result (λ e. RefusesAsk env.now devices_text.now (asking_of ask.now)
+        (O.sink out.old) (O.sink out.new) e) }
 {
     let devices = match Devices::parse(alloc, devices_text) {
         Ok(devices) => devices,

@@ -8,7 +8,7 @@ ghost use Rattle.std.specs.Borrow.{sem};
 
 use crate::bytes::Bytes;
 use crate::failing::{allows, is_within};
-use crate::run_error::RunError;
+use crate::rehearse_error::RehearseError;
 use crate::searching::{Digits, first_run, next_run};
 use crate::view::RunView;
 use crate::walking::{Walked, walk_to};
@@ -91,7 +91,7 @@ impl<'a, S: Store> Runs<'a, S> {
     ghost use Rattle.rehearse_machine.specs.Tasks.{task_shown, task_set};
     ghost use Rattle.std.specs.Prelude.{IfOk, OnOk, IfErr, OnErr, IsSome, Some, None};
     ghost use Rattle.envtools.specs.Environment.{value_of};
-    ghost use Rattle.rehearse_runs.specs.declared.run_error.RunError.TheVariants.{NoSuchVariable};
+    ghost use Rattle.rehearse_runs.specs.declared.rehearse_error.RehearseError.TheVariants.{NoSuchVariable};
     ghost use Rattle.rehearse_runs.specs.Giving.{Advances, IsView, Lent};
     ghost use Rattle.rehearse_runs.specs.Behind.{GoesOnBehind, RefusesWord};
 
@@ -103,14 +103,14 @@ impl<'a, S: Store> Runs<'a, S> {
         devices: &'a Devices,
         name: &'a [u8],
         bounds: Bounds,
-    ) -> Result<Self, RunError>
+    ) -> Result<Self, RehearseError>
         ensures ok { IfOk result (λ r. r ≡ new_runs (task_shown env.now devices.now name.now bounds)) }
         ensures set { OnOk result (task_set env.now devices.now name.now bounds ≡ Some (task_shown env.now devices.now name.now bounds)) }
         ensures err { IfErr result (λ e. (e ≡ NoSuchVariable) × (value_of env.now name.now ≡ None)) }
         ensures unset { OnErr result (task_set env.now devices.now name.now bounds ≡ None) }
     {
         if env.get(name).is_none() {
-            return Err(RunError::NoSuchVariable);
+            return Err(RehearseError::NoSuchVariable);
         }
         let _bound = bounds.devices();
         let run_bounds = bounds.of_run();
@@ -140,17 +140,17 @@ impl<'a, S: Store> Runs<'a, S> {
         name: &'a [u8],
         bounds: Bounds,
         word: &[u8],
-    ) -> Result<Self, RunError>
+    ) -> Result<Self, RehearseError>
         ensures ok { IfOk result (λ r. GoesOnBehind (task_shown env.now devices.now name.now bounds) word.now r) }
         ensures set { OnOk result (task_set env.now devices.now name.now bounds ≡ Some (task_shown env.now devices.now name.now bounds)) }
         ensures err { IfErr result (λ e. RefusesWord (task_shown env.now devices.now name.now bounds) (value_of env.now name.now) word.now e) }
         ensures unset { IfErr result (λ e. e ≡ NoSuchVariable → task_set env.now devices.now name.now bounds ≡ None) }
     {
         if env.get(name).is_none() {
-            return Err(RunError::NoSuchVariable);
+            return Err(RehearseError::NoSuchVariable);
         }
         if !is_within(bounds.failures(), word) {
-            return Err(RunError::NotARun);
+            return Err(RehearseError::NotARun);
         }
         let _bound = bounds.devices();
         let run_bounds = bounds.of_run();
@@ -164,7 +164,7 @@ impl<'a, S: Store> Runs<'a, S> {
         let mut store = S::new(alloc);
         let mut digits = Digits::new();
         let Ok(walked) = walk_to(&rehearsal, &mut store, &mut digits, word) else {
-            return Err(RunError::Memory);
+            return Err(RehearseError::Memory);
         };
         match walked {
             Walked::Ends(halt) => Ok(Runs {
@@ -175,14 +175,14 @@ impl<'a, S: Store> Runs<'a, S> {
                 has_given: true,
                 phase: Phase::At(halt),
             }),
-            Walked::Short => Err(RunError::NotARun),
-            Walked::Long => Err(RunError::NotARun),
+            Walked::Short => Err(RehearseError::NotARun),
+            Walked::Long => Err(RehearseError::NotARun),
         }
     }
 
     /// Moves to the next run. Returns false if there is none. Errors: `Memory`, and `Failed` if
     /// memory ran out before.
-    fn advance(&mut self) -> Result<bool, RunError>
+    fn advance(&mut self) -> Result<bool, RehearseError>
         ensures { Advances self.old result self.new }
     {
         match self.phase {
@@ -190,7 +190,7 @@ impl<'a, S: Store> Runs<'a, S> {
                 let mut word = Bytes::new();
                 let Ok(halt) = first_run(&self.rehearsal, &mut self.store, &mut word) else {
                     self.phase = Phase::Failed;
-                    return Err(RunError::Memory);
+                    return Err(RehearseError::Memory);
                 };
                 self.word = word;
                 self.has_given = true;
@@ -201,7 +201,7 @@ impl<'a, S: Store> Runs<'a, S> {
                 let mut word = copy_of(&self.word);
                 let Ok(found) = next_run(&self.rehearsal, &mut self.store, &mut word) else {
                     self.phase = Phase::Failed;
-                    return Err(RunError::Memory);
+                    return Err(RehearseError::Memory);
                 };
                 let Some(halt) = found else {
                     self.phase = Phase::Over;
@@ -212,7 +212,7 @@ impl<'a, S: Store> Runs<'a, S> {
                 Ok(true)
             }
             Phase::Over => Ok(false),
-            Phase::Failed => Err(RunError::Failed),
+            Phase::Failed => Err(RehearseError::Failed),
         }
     }
 
@@ -228,7 +228,7 @@ impl<'a, S: Store> Runs<'a, S> {
 
     /// Gives the next run, or `None` at the end and in every later call. Errors: `Memory`; each
     /// later call then returns `Failed`.
-    pub fn next(&mut self) -> Result<Option<RunView<'_, S>>, RunError>
+    pub fn next(&mut self) -> Result<Option<RunView<'_, S>>, RehearseError>
         ensures* { sem 𝓛 (Lent S.row S.Store self.entry result) }
     {
         self.advance()?;

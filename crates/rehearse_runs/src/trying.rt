@@ -2,10 +2,10 @@
 ghost use Rattle.std.specs.Prelude.{◌≡◌, IfOk, OnOk, IfErr, IsSome, Some, None};
 ghost use Rattle.envtools.specs.Environment.{value_of};
 ghost use Rattle.rehearse_machine.specs.Tasks.{task_shown, task_set};
-ghost use Rattle.rehearse_runs.specs.declared.run_error.RunError.TheVariants.{NoSuchVariable};
+ghost use Rattle.rehearse_runs.specs.declared.rehearse_error.RehearseError.TheVariants.{NoSuchVariable};
 ghost use Rattle.rehearse_runs.specs.Behind.{kind_shown, HasKind, RefusesTry};
 
-use crate::run_error::RunError;
+use crate::rehearse_error::RehearseError;
 use crate::searching::Digits;
 use crate::walking::{Walked, walk_to};
 use bootstore::Store;
@@ -34,7 +34,7 @@ pub fn try_word<S: Store>(
     name: &[u8],
     bounds: Bounds,
     word: &[u8],
-) -> Result<WordKind, RunError>
+) -> Result<WordKind, RehearseError>
     ensures ok { IfOk result (λ k. HasKind (task_shown env.now devices.now name.now bounds) word.now (kind_shown k)) }
     ensures found { OnOk result (IsSome (value_of env.now name.now)) }
     ensures set { OnOk result (task_set env.now devices.now name.now bounds ≡ Some (task_shown env.now devices.now name.now bounds)) }
@@ -42,7 +42,7 @@ pub fn try_word<S: Store>(
     ensures unset { IfErr result (λ e. e ≡ NoSuchVariable → task_set env.now devices.now name.now bounds ≡ None) }
 {
     if env.get(name).is_none() {
-        return Err(RunError::NoSuchVariable);
+        return Err(RehearseError::NoSuchVariable);
     }
     let _bound = bounds.devices();
     let run_bounds = bounds.of_run();
@@ -56,7 +56,7 @@ pub fn try_word<S: Store>(
     let mut store = S::new(alloc);
     let mut digits = Digits::new();
     let Ok(walked) = walk_to(&rehearsal, &mut store, &mut digits, word) else {
-        return Err(RunError::Memory);
+        return Err(RehearseError::Memory);
     };
     match walked {
         Walked::Ends(_) => Ok(WordKind::Run),

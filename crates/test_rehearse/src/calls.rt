@@ -11,10 +11,8 @@ use hushlang::token::{SyntaxError, Token};
 use hushlang::tree::{Script, Word};
 use output::{Out, Over};
 use rehearse::{Bounds, Devices, DevicesError, RunBounds};
-use rehearse_endings::{EndingsAsk, EndingsError, endings_env};
-use rehearse_runs::{
-    Finish, ListError, RunError, Runs, WordKind, resume_point, try_word, write_listing,
-};
+use rehearse_endings::{EndingsAsk, endings_env};
+use rehearse_runs::{Finish, RehearseError, Runs, WordKind, resume_point, try_word, write_listing};
 use std::alloc::Global;
 
 pub(crate) fn script_of(alloc: Global, text: &[u8]) -> Result<Script, SyntaxError> {
@@ -77,7 +75,10 @@ pub(crate) fn given_of(case: &Case) -> anyhow::Result<Given<'_>> {
 
 impl Given<'_> {
     /// All runs, or those after a word.
-    pub(crate) fn runs<S: Store>(&self, after: Option<&[u8]>) -> Result<Runs<'_, S>, RunError> {
+    pub(crate) fn runs<S: Store>(
+        &self,
+        after: Option<&[u8]>,
+    ) -> Result<Runs<'_, S>, RehearseError> {
         let (alloc, env, devices) = (self.alloc, &self.env, &self.devices);
         match after {
             None => Runs::new(alloc, env, devices, self.name, self.bounds),
@@ -86,7 +87,7 @@ impl Given<'_> {
     }
 
     /// What kind of word a text is.
-    pub(crate) fn kind<S: Store>(&self, word: &[u8]) -> Result<WordKind, RunError> {
+    pub(crate) fn kind<S: Store>(&self, word: &[u8]) -> Result<WordKind, RehearseError> {
         let (alloc, env, devices) = (self.alloc, &self.env, &self.devices);
         try_word::<S>(alloc, env, devices, self.name, self.bounds, word)
     }
@@ -114,7 +115,7 @@ pub(crate) fn list<S: Store, O: Out>(
     names: &[&[u8]],
     limit: u32,
     out: &mut O,
-) -> Result<Finish, ListError> {
+) -> Result<Finish, RehearseError> {
     let limit = if limit == 0 { None } else { Some(limit) };
     write_listing(runs, names, limit, out)
 }
@@ -134,7 +135,7 @@ pub(crate) fn endings<S: Store>(
     devices: u32,
     states: u32,
     flow: bool,
-) -> anyhow::Result<(Result<(), EndingsError>, Vec<u8>)> {
+) -> anyhow::Result<(Result<(), RehearseError>, Vec<u8>)> {
     let Some(bounds) = RunBounds::new(devices, 1_000) else {
         anyhow::bail!("no bounds");
     };

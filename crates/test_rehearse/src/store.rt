@@ -85,6 +85,8 @@ fn log_one<S: Store>(alloc: Global, store: &mut S, says: &str) -> anyhow::Result
     Ok(store.device(LogEntry {
         success: true,
         words,
+        stays: false,
+        again: false,
     })?)
 }
 

@@ -167,7 +167,7 @@ enum Subject {
 }
 
 /// The first words of rows. All others set something.
-const SUBJECTS: [(&str, Subject); 45] = [
+const SUBJECTS: [(&str, Subject); 46] = [
     ("crc", Subject::Image),
     ("data", Subject::Image),
     ("config", Subject::Image),
@@ -190,6 +190,7 @@ const SUBJECTS: [(&str, Subject); 45] = [
     ("open", Subject::File),
     ("calls", Subject::File),
     ("bytes", Subject::File),
+    ("locked", Subject::File),
     ("read", Subject::File),
     ("part", Subject::File),
     ("write", Subject::File),

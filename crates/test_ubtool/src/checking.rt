@@ -9,7 +9,7 @@ use test_rows::{number, shown, text_of, unescaped};
 /// What is told of `bootcmd` in an image's data.
 fn report(alloc: Global, says: &str) -> anyhow::Result<String> {
     let env = Env::from_data(alloc, &unescaped(alloc, says)?)?;
-    let report = check(alloc, &env, &[b"bootcmd".as_slice()])?;
+    let report = check(alloc, None, &env, &[b"bootcmd".as_slice()])?;
     let (text, sound) = (text_of(alloc, &report.text)?, report.sound);
     Ok(format!(in alloc; "{text}sound: {sound}")?)
 }

@@ -8,7 +8,7 @@ use rehearse::DevicesError;
 use std::alloc::Global;
 use std::fmt::Display;
 use test_rows::{number, shown};
-use ubtool_core::{Fault, ToolError, WordForm, write_fault};
+use ubtool_core::{Fault, RehearseError, ToolError, WordForm, write_fault};
 use ubtool_files::FileFault;
 
 /// The line that is written for a fault.
@@ -51,8 +51,8 @@ fn all(case: &Case<'_>) -> anyhow::Result<String> {
         ToolError::Env(EnvError::BadValue),
         ToolError::Script(ScriptError::BadName(5)),
         ToolError::Script(ScriptError::BadValue(6)),
-        ToolError::Devices(DevicesError::BadLine(7)),
-        ToolError::Devices(DevicesError::BuiltIn(8)),
+        ToolError::Rehearsal(RehearseError::DeviceList(DevicesError::BadLine(7))),
+        ToolError::Rehearsal(RehearseError::DeviceList(DevicesError::BuiltIn(8))),
         ToolError::Write,
         ToolError::Memory,
     ] {

@@ -2,6 +2,7 @@
 
 use crate::case::{Case, text};
 use std::alloc::{AllocError, Global};
+use std::fs::File;
 use std::{fs, process};
 use test_rows::{number, shown, unescaped};
 use ubtool_files::{Files, LIMIT, Machine, MemoryFiles, read_up_to};
@@ -34,6 +35,10 @@ fn done(case: &Case<'_>, word: &str, says: &str) -> anyhow::Result<String> {
     match word {
         "calls" => Ok(calls_of(case.alloc, &case.files)?),
         "bytes" => bytes_of(case, says),
+        "locked" => {
+            let locked = case.files.is_locked();
+            Ok(format!(in case.alloc; "{locked}")?)
+        }
         _ => {
             let reads = case.reads;
             Ok(format!(in case.alloc; "{reads}")?)
@@ -45,7 +50,7 @@ fn done(case: &Case<'_>, word: &str, says: &str) -> anyhow::Result<String> {
 pub(crate) fn told(case: &mut Case<'_>, word: &str, says: &str) -> anyhow::Result<String> {
     match word {
         "open" => open(case),
-        "calls" | "bytes" | "reads" => done(case, word, says),
+        "calls" | "bytes" | "locked" | "reads" => done(case, word, says),
         "make" | "remove" => on_machine(case, word, says),
         "up-to" => read_up(case, says),
         _ => asked(case, word, says),
@@ -56,6 +61,7 @@ pub(crate) fn told(case: &mut Case<'_>, word: &str, says: &str) -> anyhow::Resul
 fn write<F: Files>(alloc: Global, files: &mut F, path: &str, says: &str) -> anyhow::Result<String> {
     let (offset, bytes) = says.split_once(' ').unwrap_or((says, ""));
     let bytes = unescaped(alloc, bytes)?;
+    files.lock();
     files.write_at(path, u64::from(number(offset)?), &bytes)?;
     Ok(String::from_str(alloc, "written")?)
 }
@@ -95,7 +101,8 @@ fn own_path(case: &Case<'_>) -> Result<String, AllocError> {
     format!(in case.alloc; "/tmp/ubtool_core.{id}")
 }
 
-/// The answer of the files of a case, or of the machine, where `own` is a file of this process.
+/// The answer of the files of a case, or of the machine, where `own` is a file of this process. A
+/// device is the lock of the machine's files, so that no row waits for the usual one.
 fn asked(case: &mut Case<'_>, word: &str, says: &str) -> anyhow::Result<String> {
     let (path, says) = says.split_once(' ').unwrap_or((says, ""));
     if !case.is_machine {
@@ -106,9 +113,10 @@ fn asked(case: &mut Case<'_>, word: &str, says: &str) -> anyhow::Result<String> 
     } else {
         String::from_str(case.alloc, path)?
     };
+    let lock = File::open(case.rt, "/dev/null")?;
     ask(
         case.alloc,
-        &mut Machine::new(case.rt),
+        &mut Machine::under(case.rt, lock),
         path.as_str(),
         word,
         says,

@@ -22,8 +22,8 @@
 //! Rows of calls with outputs:
 //!
 //! - `print NAME..`, `value NAME`, `standard`, which prints the image on the input, `rehearse NAME STEPS` and
-//!   `run WORD..`, the whole program; `reads`, how often its input was read, `calls`, the calls of files, and
-//!   `bytes PATH`, a file after it;
+//!   `run WORD..`, the whole program; `reads`, how often its input was read, `calls`, the calls of files,
+//!   `bytes PATH`, a file after it, and `locked`, whether the lock was taken;
 //! - `each-out KIND CALL` and `each-err KIND CALL`, such a call with an output that fails further and further on;
 //! - `parts WORD..`, `pass TEXT`, `over N`, `buffer` and `flush`, outputs alone; `up-to LIMIT..`, bounded reads.
 //!

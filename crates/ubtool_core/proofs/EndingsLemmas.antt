@@ -7,12 +7,12 @@ use Rattle.rehearse.specs.Runs.{Task}
 use Rattle.rehearse.specs.State.{Text}
 use Rattle.rehearse_endings.specs.TellingEndings as below
 use Rattle.rehearse_endings.specs.declared.telling.EndingsAsk.{EndingsAsk}
-use Rattle.rehearse_endings.specs.declared.telling.EndingsError.{EndingsError}
-use Rattle.rehearse_endings.specs.declared.telling.EndingsError.TheVariants as endings
+use Rattle.rehearse_runs.specs.declared.rehearse_error.RehearseError.{RehearseError}
+use Rattle.rehearse_runs.specs.declared.rehearse_error.RehearseError.TheVariants as rehearsal
 use Rattle.ubtool_core.specs.EndingsOfImages.{RefusesEndings, TellsEndings, endings_given}
-use Rattle.ubtool_core.specs.Errors.{endings_fault}
+use Rattle.ubtool_core.specs.Errors.{rehearse_fault}
 use Rattle.ubtool_core.specs.PrintingImages.{environment_in}
-use Rattle.ubtool_core.specs.Refusing.{HasDevices}
+use Rattle.ubtool_core.specs.Headline.{HasDevices}
 
 -- what holds of the rehearsal of an environment holds of the rehearsal of its image
 with_image : (order : ByteOrder) (first : List ℕ) (second : Option (List ℕ)) (list : Text) (ask : EndingsAsk) (environment : List Pair) (IsSo : Option Task → Type 0) → environment_in order first second ≡ Ok environment
@@ -23,10 +23,12 @@ pub tells-image : (order : ByteOrder) (first : List ℕ) (second : Option (List 
     → below.TellsEndings environment list ask old new → TellsEndings (endings_given order first second list ask) ask.flow ask.states old new
 tells-image order first second list ask environment old new image h = with_image order first second list ask environment _ image h
 
-pub refused-endings : (order : ByteOrder) (first : List ℕ) (second : Option (List ℕ)) (list : Text) (ask : EndingsAsk) (environment : List Pair) (old new : Sink) (error : EndingsError) → environment_in order first second ≡ Ok environment
-    → below.RefusesEndings environment list ask old new error → RefusesEndings (endings_given order first second list ask) ask.flow ask.states old new (endings_fault error)
-refused-endings order first second list ask environment old new (endings.DeviceList fault) image h = (record { environment = environment; image = image }, h.0, h.1)
-refused-endings order first second list ask environment old new endings.NoSuchVariable image h = (with_image order first second list ask environment _ image h.0, h.1)
-refused-endings order first second list ask environment old new endings.States image h = (with_image order first second list ask environment _ image h.0, h.1)
-refused-endings order first second list ask environment old new endings.Write image h = with_image order first second list ask environment _ image h
-refused-endings order first second list ask environment old new endings.Memory image h = (record { environment = environment; image = image }, h)
+pub refused-endings : (order : ByteOrder) (first : List ℕ) (second : Option (List ℕ)) (list : Text) (ask : EndingsAsk) (environment : List Pair) (old new : Sink) (error : RehearseError) → environment_in order first second ≡ Ok environment
+    → below.RefusesEndings environment list ask old new error → RefusesEndings (endings_given order first second list ask) ask.flow ask.states old new (rehearse_fault error)
+refused-endings order first second list ask environment old new (rehearsal.DeviceList fault) image h = (record { environment = environment; image = image }, h.0, h.1)
+refused-endings order first second list ask environment old new rehearsal.NoSuchVariable image h = (with_image order first second list ask environment _ image h.0, h.1)
+refused-endings order first second list ask environment old new rehearsal.States image h = (with_image order first second list ask environment _ image h.0, h.1)
+refused-endings order first second list ask environment old new rehearsal.Write image h = with_image order first second list ask environment _ image h
+refused-endings order first second list ask environment old new rehearsal.NotARun image h = h
+refused-endings order first second list ask environment old new rehearsal.Failed image h = h
+refused-endings order first second list ask environment old new rehearsal.Memory image h = (record { environment = environment; image = image }, h)

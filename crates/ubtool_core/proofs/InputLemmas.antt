@@ -65,7 +65,4 @@ input-refused left s read tool.Write is p =
     ]
 input-refused left s read (tool.Env e) is p = absurd p
 input-refused left s read (tool.Script e) is p = absurd p
-input-refused left s read (tool.Devices e) is p = absurd p
-input-refused left s read tool.NoSuchVariable is p = absurd p
-input-refused left s read tool.NotARun is p = absurd p
-input-refused left s read tool.States is p = absurd p
+input-refused left s read (tool.Rehearsal e) is p = absurd p

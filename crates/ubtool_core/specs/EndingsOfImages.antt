@@ -7,11 +7,13 @@ use Rattle.rehearse.specs.DeviceList.{listed}
 use Rattle.rehearse.specs.State.{Text}
 use Rattle.rehearse_endings.specs.TellingEndings.{AreLines, HasMoreStates}
 use Rattle.rehearse_endings.specs.declared.telling.EndingsAsk.{EndingsAsk}
+use Rattle.rehearse_runs.specs.declared.rehearse_error.RehearseError.TheVariants.{DeviceList, NoSuchVariable, States}
 use Rattle.ubtool_core.specs.Given.{Given, given_all}
 use Rattle.ubtool_core.specs.PrintingImages.{environment_in}
-use Rattle.ubtool_core.specs.Refusing.{HasImage, HasDevices}
+use Rattle.ubtool_core.specs.Headline.{HasDevices}
+use Rattle.ubtool_core.specs.Refusing.{HasImage}
 use Rattle.ubtool_core.specs.declared.error.ToolError.{ToolError}
-use Rattle.ubtool_core.specs.declared.error.ToolError.TheVariants.{Image, Devices, NoSuchVariable, States, Write, Memory}
+use Rattle.ubtool_core.specs.declared.error.ToolError.TheVariants.{Image, Rehearsal, Write, Memory}
 
 -- what is given: all runs of the variable that is asked for, within its bounds
 abbrev pub endings_given : ByteOrder → List ℕ → Option (List ℕ) → Text → EndingsAsk → Given
@@ -29,9 +31,10 @@ BreaksOff g flow states old new =
 
 abbrev pub RefusesEndings : Given → (flow : Bool) → (states : ℕ) → (old new : Sink) → ToolError → Type 0
 RefusesEndings g flow states old new (Image fault) = (environment_in g.order g.first g.second ≡ Err fault) × (new ≡ old)
-RefusesEndings g flow states old new (Devices fault) = HasImage g × (listed g.device_list ≡ Err fault) × (new ≡ old)
-RefusesEndings g flow states old new NoSuchVariable = HasDevices g (λ found. found ≡ None) × (new ≡ old)
-RefusesEndings g flow states old new States =
+RefusesEndings g flow states old new (Rehearsal (DeviceList fault)) =
+    HasImage g × (listed g.device_list ≡ Err fault) × (new ≡ old)
+RefusesEndings g flow states old new (Rehearsal NoSuchVariable) = HasDevices g (λ found. found ≡ None) × (new ≡ old)
+RefusesEndings g flow states old new (Rehearsal States) =
     HasDevices g (HasMoreStates states) × (new ≡ old)
 RefusesEndings g flow states old new Write = BreaksOff g flow states old new
 RefusesEndings g flow states old new Memory = HasImage g × (new ≡ old)

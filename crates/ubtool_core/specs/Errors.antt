@@ -7,12 +7,10 @@ use Rattle.envtools.specs.declared.print.PrintDataError.{PrintDataError}
 use Rattle.envtools.specs.declared.print.PrintDataError.TheVariants as print
 use Rattle.envtools.specs.declared.script.ScriptError.{ScriptError}
 use Rattle.envtools.specs.declared.script.ScriptError.TheVariants as script
-use Rattle.rehearse_endings.specs.declared.telling.EndingsError.{EndingsError}
-use Rattle.rehearse_endings.specs.declared.telling.EndingsError.TheVariants as endings
-use Rattle.rehearse_runs.specs.declared.rehearsing.RehearseError.{RehearseError}
-use Rattle.rehearse_runs.specs.declared.rehearsing.RehearseError.TheVariants as rehearsal
+use Rattle.rehearse_runs.specs.declared.rehearse_error.RehearseError.{RehearseError}
+use Rattle.rehearse_runs.specs.declared.rehearse_error.RehearseError.TheVariants as rehearsal
 use Rattle.ubtool_core.specs.declared.error.ToolError.{ToolError}
-use Rattle.ubtool_core.specs.declared.error.ToolError.TheVariants.{Image, Env, Script, Devices, NoSuchVariable, NotARun, States, Write, Memory}
+use Rattle.ubtool_core.specs.declared.error.ToolError.TheVariants.{Image, Env, Script, Rehearsal, Write, Memory}
 use Rattle.ubtool_core.specs.declared.fault.Fault.{Fault}
 use Rattle.ubtool_core.specs.declared.fault.Fault.TheVariants as told
 
@@ -39,18 +37,9 @@ script_fault (script.BadValue line) = Script (script.BadValue line)
 script_fault script.Memory = Memory
 
 abbrev pub rehearse_fault : RehearseError → ToolError
-rehearse_fault (rehearsal.DeviceList fault) = Devices fault
-rehearse_fault rehearsal.NoSuchVariable = NoSuchVariable
-rehearse_fault rehearsal.NotARun = NotARun
 rehearse_fault rehearsal.Write = Write
 rehearse_fault rehearsal.Memory = Memory
-
-abbrev pub endings_fault : EndingsError → ToolError
-endings_fault (endings.DeviceList fault) = Devices fault
-endings_fault endings.NoSuchVariable = NoSuchVariable
-endings_fault endings.States = States
-endings_fault endings.Write = Write
-endings_fault endings.Memory = Memory
+rehearse_fault error = Rehearsal error
 
 -- what a program reports of it
 abbrev pub tool_fault : ToolError → Fault

@@ -1,7 +1,5 @@
 use envimage::ImageError;
 use envtools::{EnvError, PrintDataError, PrintError, ScriptError};
-use rehearse::DevicesError;
-use rehearse_endings::EndingsError;
 use rehearse_runs::RehearseError;
 use thiserror::Error;
 
@@ -17,18 +15,9 @@ pub enum ToolError {
     /// The script, for a reason other than memory.
     #[error("{0}")]
     Script(ScriptError),
-    /// The device list, for a reason other than memory.
+    /// The rehearsal, for a reason other than memory and the output.
     #[error("{0}")]
-    Devices(DevicesError),
-    /// The variable to be rehearsed is not set.
-    #[error("the variable is not set")]
-    NoSuchVariable,
-    /// The start word spells no run.
-    #[error("the word is no run")]
-    NotARun,
-    /// Device commands ask in more states than the endings may go through.
-    #[error("more states than allowed")]
-    States,
+    Rehearsal(RehearseError),
     /// An output failed.
     #[error("output failed")]
     Write,
@@ -113,28 +102,9 @@ impl From<RehearseError> for ToolError {
 
     fn from(error: RehearseError) -> ToolError {
         match error {
-            RehearseError::DeviceList(fault) => ToolError::Devices(fault),
-            RehearseError::NoSuchVariable => ToolError::NoSuchVariable,
-            RehearseError::NotARun => ToolError::NotARun,
             RehearseError::Write => ToolError::Write,
             RehearseError::Memory => ToolError::Memory,
-        }
-    }
-}
-
-impl From<EndingsError> for ToolError {
-    ghost use Rattle.std.specs.Prelude.{◌≡◌};
-    ghost use Rattle.ubtool_core.specs.Errors.{endings_fault};
-
-    ghost from_gives = { λ error e. e ≡ endings_fault error };
-
-    fn from(error: EndingsError) -> ToolError {
-        match error {
-            EndingsError::DeviceList(fault) => ToolError::Devices(fault),
-            EndingsError::NoSuchVariable => ToolError::NoSuchVariable,
-            EndingsError::States => ToolError::States,
-            EndingsError::Write => ToolError::Write,
-            EndingsError::Memory => ToolError::Memory,
+            error => ToolError::Rehearsal(error),
         }
     }
 }

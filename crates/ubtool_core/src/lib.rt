@@ -18,6 +18,6 @@ pub use print::{PrintAsk, print_bytes};
 pub use rehearsal::rehearse_bytes;
 pub use rehearse::{Bounds, RunBounds};
 pub use rehearse_endings::EndingsAsk;
-pub use rehearse_runs::{Ask as RehearseAsk, Finish, Wanted};
+pub use rehearse_runs::{Ask as RehearseAsk, Finish, RehearseError, Wanted};
 pub use standard_input::run_input;
 pub use word_form::WordForm;

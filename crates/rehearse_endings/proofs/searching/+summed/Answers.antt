@@ -16,11 +16,17 @@ use Rattle.std.proofs.Common.{Err}
 use Rattle.std.proofs.lemmas.Result.{err_from_is_err_and}
 use Rattle.rehearse_endings.proofs.Entering.{refused_as, met_as, enters, too_many, new_won, new_lost, gone_through, none_entered}
 use Rattle.rehearse_endings.proofs.Flowing.{state_drawn, kept_drawn, ended_drawn, more_on, more_nodes, no_more, entered_as}
-use Rattle.rehearse_endings.proofs.Reached.{Room, begun_marked, begun_on, begun_lost, reached_log, reached_as, reached_below, reached_on, won_on, back_there, lost_on, sides_of, summed_end, summed_sides, all_wider, entries_more}
+use Rattle.rehearse_endings.proofs.Reached.{Room, begun_marked, begun_on, begun_lost, reached_within, reached_as, reached_below, reached_on, won_on, back_there, lost_on, sides_of, summed_end, summed_sides, all_wider, entries_more}
 use Rattle.rehearse_endings.proofs.searching.+summed.Goals as goal
 
 pub find-requires-clause-depth : goal.find-requires-clause-depth
-find-requires-clause-depth g t c = reached_log (task_in c.args.rehearsal.now) c.args.depth c.args.stop (g.S.Store.record_of c.args.store.now).present c.requires.reached
+find-requires-clause-depth g t c = sym c.logged-devices.ensures
+
+pub logged-devices-requires : goal.logged-devices-requires
+logged-devices-requires g t c =
+    let within = reached_within (task_in c.args.rehearsal.now) c.args.depth c.args.stop (g.S.Store.record_of c.args.store.now).present c.requires.reached in
+    let b = c.requires.bound in
+    omega arith
 
 pub overflow_add-depth : goal.overflow_add-depth
 overflow_add-depth g t c =
@@ -75,9 +81,8 @@ pub returns-in_ok-summary-in-Ends-clause-sums : goal.returns-in_ok-summary-in-En
 returns-in_ok-summary-in-Ends-clause-sums g t c =
     let task = task_in c.args.rehearsal.now in
     let m = (g.S.Store.record_of c.args.store.now).present in
-    let log = reached_log task c.args.depth c.args.stop m c.requires.reached in
     subst (λ (x : Stop). Summed (future task.limits x m) (summary_shown c.in_ok-summary-in-Ends.summary)) (sym c.in-Ends.is)
-    (summed_end task.limits c.in-Ends.halt m c.args.depth c.steps.result (summary_shown c.in_ok-summary-in-Ends.summary) log c.steps.ensures c.in_ok-summary-in-Ends.ensures.sums)
+    (summed_end task.limits c.in-Ends.halt m c.logged-devices.result c.steps.result (summary_shown c.in_ok-summary-in-Ends.summary) (sym c.logged-devices.ensures) c.steps.ensures c.in_ok-summary-in-Ends.ensures.sums)
 
 pub returns-in_ok-keep-in-Asks-clause-sums : goal.returns-in_ok-keep-in-Asks-clause-sums
 returns-in_ok-keep-in-Asks-clause-sums g t c =
@@ -88,7 +93,7 @@ returns-in_ok-keep-in-Asks-clause-sums g t c =
     let sides = sides_of task c.args.depth c.args.stop c.in_ok-won_stop-in-Asks.won_stop c.in_ok-lost_stop-in-Asks.lost_stop r (g.S.Store.record_of c.mark.new.self) (g.S.Store.record_of c.resume.new.store) (g.S.Store.record_of c.summed.new.store) (g.S.Store.record_of c.back.new.self) (g.S.Store.record_of c.resume-in-Asks.new.store)
     c.in-Asks.is c.requires.reached c.in_ok-mark-in-Asks.ensures.ok c.in_ok-won_stop-in-Asks.ensures.stops c.in_ok-won_stop-in-Asks.ensures.marks c.in_ok-won-in-Asks.ensures.marks c.back.ensures c.in_ok-lost_stop-in-Asks.ensures.stops in
     subst (λ (x : Stop). Summed (future task.limits x r.present) (summary_shown c.in_ok-summary-in-Asks.summary)) (sym c.in-Asks.is)
-    (summed_sides task c.args.depth r.present sides.reached c.in_ok-won_stop-in-Asks.won_stop c.in_ok-lost_stop-in-Asks.lost_stop won_at lost_at (summary_shown c.in_ok-won-in-Asks.won) (summary_shown c.in_ok-lost-in-Asks.lost) (summary_shown c.in_ok-summary-in-Asks.summary) c.steps-steps.result c.steps-steps.ensures sides.won sides.lost c.in_ok-won-in-Asks.ensures.sums c.in_ok-lost-in-Asks.ensures.sums c.in_ok-summary-in-Asks.ensures.sums)
+    (summed_sides task c.args.depth r.present sides.reached c.in_ok-won_stop-in-Asks.won_stop c.in_ok-lost_stop-in-Asks.lost_stop won_at lost_at (summary_shown c.in_ok-won-in-Asks.won) (summary_shown c.in_ok-lost-in-Asks.lost) (summary_shown c.in_ok-summary-in-Asks.summary) c.steps-steps.result c.logged-devices.result c.steps-steps.ensures c.logged-devices.ensures sides.won sides.lost c.in_ok-won-in-Asks.ensures.sums c.in_ok-lost-in-Asks.ensures.sums c.in_ok-summary-in-Asks.ensures.sums)
 
 pub returns-in_ok-keep-in-Asks-clause-table : goal.returns-in_ok-keep-in-Asks-clause-table
 returns-in_ok-keep-in-Asks-clause-table g t c =
@@ -98,7 +103,7 @@ returns-in_ok-keep-in-Asks-clause-table g t c =
     let lost_at = (g.S.Store.record_of c.resume-in-Asks.new.store).present in
     let sides = sides_of task c.args.depth c.args.stop c.in_ok-won_stop-in-Asks.won_stop c.in_ok-lost_stop-in-Asks.lost_stop r (g.S.Store.record_of c.mark.new.self) (g.S.Store.record_of c.resume.new.store) (g.S.Store.record_of c.summed.new.store) (g.S.Store.record_of c.back.new.self) (g.S.Store.record_of c.resume-in-Asks.new.store)
     c.in-Asks.is c.requires.reached c.in_ok-mark-in-Asks.ensures.ok c.in_ok-won_stop-in-Asks.ensures.stops c.in_ok-won_stop-in-Asks.ensures.marks c.in_ok-won-in-Asks.ensures.marks c.back.ensures c.in_ok-lost_stop-in-Asks.ensures.stops in
-    let summed = summed_sides task c.args.depth r.present sides.reached c.in_ok-won_stop-in-Asks.won_stop c.in_ok-lost_stop-in-Asks.lost_stop won_at lost_at (summary_shown c.in_ok-won-in-Asks.won) (summary_shown c.in_ok-lost-in-Asks.lost) (summary_shown c.in_ok-summary-in-Asks.summary) c.steps-steps.result c.steps-steps.ensures sides.won sides.lost c.in_ok-won-in-Asks.ensures.sums c.in_ok-lost-in-Asks.ensures.sums c.in_ok-summary-in-Asks.ensures.sums in
+    let summed = summed_sides task c.args.depth r.present sides.reached c.in_ok-won_stop-in-Asks.won_stop c.in_ok-lost_stop-in-Asks.lost_stop won_at lost_at (summary_shown c.in_ok-won-in-Asks.won) (summary_shown c.in_ok-lost-in-Asks.lost) (summary_shown c.in_ok-summary-in-Asks.summary) c.steps-steps.result c.logged-devices.result c.steps-steps.ensures c.logged-devices.ensures sides.won sides.lost c.in_ok-won-in-Asks.ensures.sums c.in_ok-lost-in-Asks.ensures.sums c.in_ok-summary-in-Asks.ensures.sums in
     let won_nodes = nodes_shown c.summed.new.table.flow.nodes in
     let nodes = c.summed-in-Asks.new.table.flow.nodes in
     let same = ap (λ (x : Flow). nodes_shown x.nodes) c.in_ok-keep-in-Asks.ensures.flow in
@@ -107,13 +112,13 @@ returns-in_ok-keep-in-Asks-clause-table g t c =
     let at = c.in_ok-place-in-Asks.ensures.place ∙ sym (length-map nodes.items node_shown) in
     let kept_at = c.in_ok-summary-in-Asks.ensures.place in
     let drawn =
-    state_drawn task c.args.depth r.present c.in_ok-won_stop-in-Asks.won_stop c.in_ok-lost_stop-in-Asks.lost_stop won_at lost_at won_nodes (nodes_shown nodes) (nodes_shown c.ask.new.self.nodes) c.in_ok-won-in-Asks.won.place c.in_ok-lost-in-Asks.lost.place place words
-    sides.reached sides.won sides.lost c.in_ok-words-in-Asks.ensures c.in_ok-won-in-Asks.ensures.draws c.in_ok-lost-in-Asks.ensures.grows c.in_ok-lost-in-Asks.ensures.draws at c.in_ok-place-in-Asks.ensures.nodes in
+    state_drawn task c.args.depth c.logged-devices.result r.present c.in_ok-won_stop-in-Asks.won_stop c.in_ok-lost_stop-in-Asks.lost_stop won_at lost_at won_nodes (nodes_shown nodes) (nodes_shown c.ask.new.self.nodes) c.in_ok-won-in-Asks.won.place c.in_ok-lost-in-Asks.lost.place place words
+    sides.reached sides.won sides.lost c.logged-devices.ensures c.in_ok-words-in-Asks.ensures c.in_ok-won-in-Asks.ensures.draws c.in_ok-lost-in-Asks.ensures.grows c.in_ok-lost-in-Asks.ensures.draws at c.in_ok-place-in-Asks.ensures.nodes in
     let draws = kept_drawn task.limits r.present (nodes_shown c.ask.new.self.nodes) (nodes_shown c.keep.new.self.flow.nodes) place c.in_ok-summary-in-Asks.summary.place same kept_at drawn in
     let more = more_nodes (nodes_shown nodes) (nodes_shown c.ask.new.self.nodes) (nodes_shown c.keep.new.self.flow.nodes) _ c.in_ok-place-in-Asks.ensures.nodes same in
-    entries_more task (nodes_shown c.keep.new.self.flow.nodes) c.args.depth r.present c.summed-in-Asks.new.table.entries.items c.keep.new.self.entries.items (core_shown c.in_ok-core-in-Asks.core) c.steps-steps.result c.in_ok-summary-in-Asks.summary.place (summary_shown c.in_ok-summary-in-Asks.summary) sides.reached
+    entries_more task (nodes_shown c.keep.new.self.flow.nodes) c.args.depth c.logged-devices.result r.present c.summed-in-Asks.new.table.entries.items c.keep.new.self.entries.items (core_shown c.in_ok-core-in-Asks.core) c.steps-steps.result c.in_ok-summary-in-Asks.summary.place (summary_shown c.in_ok-summary-in-Asks.summary) sides.reached
     (all_wider task.limits (nodes_shown nodes) (nodes_shown c.keep.new.self.flow.nodes) c.summed-in-Asks.new.table.entries.items more c.in_ok-lost-in-Asks.ensures.table)
-    c.in_ok-core-in-Asks.ensures.core c.steps-steps.ensures summed draws c.in_ok-keep-in-Asks.ensures.kept
+    c.in_ok-core-in-Asks.ensures.core c.steps-steps.ensures summed draws c.logged-devices.ensures c.in_ok-keep-in-Asks.ensures.kept
 
 -- ---- the nodes
 
@@ -144,8 +149,8 @@ returns-in_ok-keep-in-Asks-clause-draws g t c =
     let at = c.in_ok-place-in-Asks.ensures.place ∙ sym (length-map nodes.items node_shown) in
     let kept_at = c.in_ok-summary-in-Asks.ensures.place in
     let drawn =
-    state_drawn task c.args.depth r.present c.in_ok-won_stop-in-Asks.won_stop c.in_ok-lost_stop-in-Asks.lost_stop won_at lost_at won_nodes (nodes_shown nodes) (nodes_shown c.ask.new.self.nodes) c.in_ok-won-in-Asks.won.place c.in_ok-lost-in-Asks.lost.place place words
-    sides.reached sides.won sides.lost c.in_ok-words-in-Asks.ensures c.in_ok-won-in-Asks.ensures.draws c.in_ok-lost-in-Asks.ensures.grows c.in_ok-lost-in-Asks.ensures.draws at c.in_ok-place-in-Asks.ensures.nodes in
+    state_drawn task c.args.depth c.logged-devices.result r.present c.in_ok-won_stop-in-Asks.won_stop c.in_ok-lost_stop-in-Asks.lost_stop won_at lost_at won_nodes (nodes_shown nodes) (nodes_shown c.ask.new.self.nodes) c.in_ok-won-in-Asks.won.place c.in_ok-lost-in-Asks.lost.place place words
+    sides.reached sides.won sides.lost c.logged-devices.ensures c.in_ok-words-in-Asks.ensures c.in_ok-won-in-Asks.ensures.draws c.in_ok-lost-in-Asks.ensures.grows c.in_ok-lost-in-Asks.ensures.draws at c.in_ok-place-in-Asks.ensures.nodes in
     let draws = kept_drawn task.limits r.present (nodes_shown c.ask.new.self.nodes) (nodes_shown c.keep.new.self.flow.nodes) place c.in_ok-summary-in-Asks.summary.place same kept_at drawn in
     subst (λ (x : Stop). Draws (nodes_shown c.keep.new.self.flow.nodes) c.in_ok-summary-in-Asks.summary.place (seen_from task.limits x r.present)) (sym c.in-Asks.is) draws
 
@@ -220,4 +225,4 @@ returns-in_ok-keep-in-Asks-clause-entered g t c = λ p kept pending at new enter
     let lost =
     c.in_ok-lost-in-Asks.ensures.entered (p ++ Failure ∷ []) (kept ++ won.further) ((p, r.present) ∷ pending) (stopped_on task p r.present lost_at Failure c.in_ok-lost_stop-in-Asks.lost_stop met sides.lost)
     (new_lost p r.present kept won.further pending new won.behind) won.entered in
-    gone_through task p r.present kept won.further lost.further pending c.summed-in-Asks.new.table c.keep.new.self (core_shown c.in_ok-core-in-Asks.core) c.steps-steps.result c.args.depth c.in_ok-summary-in-Asks.summary.place (summary_shown c.in_ok-summary-in-Asks.summary) won.behind lost.behind lost.entered c.in_ok-keep-in-Asks.ensures.kept c.keep.ensures.visited
+    gone_through task p r.present kept won.further lost.further pending c.summed-in-Asks.new.table c.keep.new.self (core_shown c.in_ok-core-in-Asks.core) c.steps-steps.result c.logged-devices.result c.in_ok-summary-in-Asks.summary.place (summary_shown c.in_ok-summary-in-Asks.summary) won.behind lost.behind lost.entered c.in_ok-keep-in-Asks.ensures.kept c.keep.ensures.visited

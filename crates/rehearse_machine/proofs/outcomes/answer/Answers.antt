@@ -1,4 +1,4 @@
-use Rattle.std.proofs.Common.{ap, sym, ◌∙◌, [], ◌∷◌, ◌≡◌, Bool, true, false, map, if◌then◌else◌}
+use Rattle.std.proofs.Common.{refl, ap, sym, ◌∙◌, [], ◌∷◌, ◌≡◌, Bool, true, false, map, if◌then◌else◌}
 use Rattle.text.specs.TextsShown.{bytes_of_words}
 use Rattle.bootstore.proofs.Tables.{clone_text}
 use Rattle.rehearse.specs.Commands.{sets_in}
@@ -19,7 +19,7 @@ returns-then-not-success g c outcome is =
     let set = g.S.Store.record_of c.set_all.new.store in
     let mid = g.S.Store.record_of c.device.new.self in
     let late = g.S.Store.record_of c.set_status.new.self in
-    let entry : LoggedCommand = record { success = c.args.success; words = bytes_of_words c.insert.new.self.items } in
+    let entry : LoggedCommand = record { success = c.args.success; words = bytes_of_words c.insert.new.self.items; stays = c.args.ask.effect.stays; again = c.args.ask.again } in
     let name = clone_text c.args.ask.name c.in_ok-clone.field-0 c.in_ok-clone.ensures.cases.0 in
     let words : entry.words ≡ request.name ∷ request.words = ap bytes_of_words c.in_ok-insert.ensures.items ∙ ap (λ (x : Text). x ∷ bytes_of_words c.args.ask.words.items) name in
     let succeeds_is : succeeds outcome ≡ false = is ∙ c.if-not-success.true in
@@ -28,9 +28,9 @@ returns-then-not-success g c outcome is =
     let sets = sets_in (bytes_of_words c.deref.result.now) (map setting_shown c.sets_on.result.now) in
     let are : sets ≡ [] = (λ i. sets_in (bytes_of_words c.deref.result.now) (map setting_shown (on i))) in
     failure_does outcome request old set late sets c.in_ok-set_all.ensures
-    (logged_state outcome request set mid late entry words is c.in_ok-device.ensures.ok 1 code c.in_ok-set_status.ensures.ok)
-    (logged_frames outcome request set mid late entry words is c.in_ok-device.ensures.ok 1 code c.in_ok-set_status.ensures.ok)
-    (logged_keeps outcome request set mid late entry words is c.in_ok-device.ensures.ok 1 code c.in_ok-set_status.ensures.ok)
+    (logged_state outcome request set mid late entry words refl refl is c.in_ok-device.ensures.ok 1 code c.in_ok-set_status.ensures.ok)
+    (logged_frames outcome request set mid late entry words refl refl is c.in_ok-device.ensures.ok 1 code c.in_ok-set_status.ensures.ok)
+    (logged_keeps outcome request set mid late entry words refl refl is c.in_ok-device.ensures.ok 1 code c.in_ok-set_status.ensures.ok)
     are succeeds_is
 
 pub returns-then-effect : goal.returns-then-effect
@@ -40,7 +40,7 @@ returns-then-effect g c outcome is =
     let set = g.S.Store.record_of c.set_all.new.store in
     let mid = g.S.Store.record_of c.device.new.self in
     let late = g.S.Store.record_of c.set_status-2.new.self in
-    let entry : LoggedCommand = record { success = c.args.success; words = bytes_of_words c.insert.new.self.items } in
+    let entry : LoggedCommand = record { success = c.args.success; words = bytes_of_words c.insert.new.self.items; stays = c.args.ask.effect.stays; again = c.args.ask.again } in
     let name = clone_text c.args.ask.name c.in_ok-clone.field-0 c.in_ok-clone.ensures.cases.0 in
     let words : entry.words ≡ request.name ∷ request.words = ap bytes_of_words c.in_ok-insert.ensures.items ∙ ap (λ (x : Text). x ∷ bytes_of_words c.args.ask.words.items) name in
     let succeeds_is : succeeds outcome ≡ true = is ∙ c.if-not-success.false in
@@ -49,9 +49,9 @@ returns-then-effect g c outcome is =
     let sets = sets_in (bytes_of_words c.deref.result.now) (map setting_shown c.sets_on.result.now) in
     let are : sets ≡ sets_in request.words request.effect.sets = (λ i. sets_in (bytes_of_words (c.deref.ensures.value i)) (map setting_shown (on i))) in
     success_does outcome request old set late sets c.in_ok-set_all.ensures
-    (logged_state outcome request set mid late entry words is c.in_ok-device.ensures.ok 0 code c.in_ok-set_status-2.ensures.ok)
-    (logged_frames outcome request set mid late entry words is c.in_ok-device.ensures.ok 0 code c.in_ok-set_status-2.ensures.ok)
-    (logged_keeps outcome request set mid late entry words is c.in_ok-device.ensures.ok 0 code c.in_ok-set_status-2.ensures.ok)
+    (logged_state outcome request set mid late entry words refl refl is c.in_ok-device.ensures.ok 0 code c.in_ok-set_status-2.ensures.ok)
+    (logged_frames outcome request set mid late entry words refl refl is c.in_ok-device.ensures.ok 0 code c.in_ok-set_status-2.ensures.ok)
+    (logged_keeps outcome request set mid late entry words refl refl is c.in_ok-device.ensures.ok 0 code c.in_ok-set_status-2.ensures.ok)
     (steps.Ends (halts.Booted c.args.ask.name)) are succeeds_is
     (λ w. booted request.effect.ends request.name late.present.frames (state_at late.present w) c.if-effect.true)
 
@@ -62,7 +62,7 @@ returns g c outcome is =
     let set = g.S.Store.record_of c.set_all.new.store in
     let mid = g.S.Store.record_of c.device.new.self in
     let late = g.S.Store.record_of c.set_status-2.new.self in
-    let entry : LoggedCommand = record { success = c.args.success; words = bytes_of_words c.insert.new.self.items } in
+    let entry : LoggedCommand = record { success = c.args.success; words = bytes_of_words c.insert.new.self.items; stays = c.args.ask.effect.stays; again = c.args.ask.again } in
     let name = clone_text c.args.ask.name c.in_ok-clone.field-0 c.in_ok-clone.ensures.cases.0 in
     let words : entry.words ≡ request.name ∷ request.words = ap bytes_of_words c.in_ok-insert.ensures.items ∙ ap (λ (x : Text). x ∷ bytes_of_words c.args.ask.words.items) name in
     let succeeds_is : succeeds outcome ≡ true = is ∙ c.if-not-success.false in
@@ -71,8 +71,8 @@ returns g c outcome is =
     let sets = sets_in (bytes_of_words c.deref.result.now) (map setting_shown c.sets_on.result.now) in
     let are : sets ≡ sets_in request.words request.effect.sets = (λ i. sets_in (bytes_of_words (c.deref.ensures.value i)) (map setting_shown (on i))) in
     success_does outcome request old set late sets c.in_ok-set_all.ensures
-    (logged_state outcome request set mid late entry words is c.in_ok-device.ensures.ok 0 code c.in_ok-set_status-2.ensures.ok)
-    (logged_frames outcome request set mid late entry words is c.in_ok-device.ensures.ok 0 code c.in_ok-set_status-2.ensures.ok)
-    (logged_keeps outcome request set mid late entry words is c.in_ok-device.ensures.ok 0 code c.in_ok-set_status-2.ensures.ok)
+    (logged_state outcome request set mid late entry words refl refl is c.in_ok-device.ensures.ok 0 code c.in_ok-set_status-2.ensures.ok)
+    (logged_frames outcome request set mid late entry words refl refl is c.in_ok-device.ensures.ok 0 code c.in_ok-set_status-2.ensures.ok)
+    (logged_keeps outcome request set mid late entry words refl refl is c.in_ok-device.ensures.ok 0 code c.in_ok-set_status-2.ensures.ok)
     steps.Going are succeeds_is
     (λ w. stayed request.effect.ends request.name late.present.frames (state_at late.present w) c.if-effect.false)

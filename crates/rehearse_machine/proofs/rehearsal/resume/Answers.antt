@@ -3,7 +3,8 @@ use Rattle.rehearse_machine.specs.Tasks.{task_in}
 use Rattle.rehearse_machine.specs.Machine.{asked_at, outcome_when}
 use Rattle.rehearse_machine.specs.Turning.{to_come}
 use Rattle.rehearse_machine.proofs.Limits.{steps_within}
-use Rattle.rehearse_machine.proofs.StoppingLemmas.{never_found, never_asks, booted, goes_on, goes_soundly, still_within, same_marks, same_begun, same_steps, outcome_succeeds, all_stop_as, marks_on, begun_on, grows_on}
+use Rattle.rehearse_machine.proofs.StoppingLemmas.{never_found, never_asks, booted, goes_on, goes_soundly, still_within, same_marks, same_begun, same_steps, all_stop_as, marks_on, begun_on, grows_on}
+use Rattle.rehearse_machine.proofs.ToldLemmas.{outcome_succeeds}
 use Rattle.rehearse_machine.proofs.rehearsal.resume.Goals as goal
 
 pub unreachable-requires : goal.unreachable-requires

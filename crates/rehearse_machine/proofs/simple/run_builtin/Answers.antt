@@ -8,22 +8,22 @@ use Rattle.rehearse_machine.proofs.CommandMoves.{change_does, writing_does, name
 use Rattle.rehearse_machine.proofs.simple.run_builtin.Goals as goal
 
 pub returns-in-SetEnv : goal.returns-in-SetEnv
-returns-in-SetEnv g c devices =
-    change_does (limits_of devices c.args.bounds) (g.S.Store.record_of c.args.store.now) (g.S.Store.record_of c.setenv.new.store) c.args.name.items (bytes_of_words c.args.words.items) (view.script c.args.script.now.value) (builtin_called c.args.builtin)
+returns-in-SetEnv g c =
+    change_does (limits_of c.args.devices.now c.args.bounds) (g.S.Store.record_of c.args.store.now) (g.S.Store.record_of c.setenv.new.store) c.args.name.items (bytes_of_words c.args.words.items) (view.script c.args.script.now.value) (builtin_called c.args.builtin)
     (bytes_of_words c.deref.result.now) says.setenv (ap builtin_called c.in-SetEnv.is) (ap bytes_of_words c.deref.ensures.value) c.in_ok-setenv-in-SetEnv.ensures
 
 pub returns-in-Run : goal.returns-in-Run
-returns-in-Run g c devices =
-    let limits = limits_of devices c.args.bounds in
+returns-in-Run g c =
+    let limits = limits_of c.args.devices.now c.args.bounds in
     let name = c.args.name.items in
     named_comes limits name (bytes_of_words c.args.words.items) (view.script c.args.script.now.value) _ c.run_names.result _ _ (builtin_called c.args.builtin) (says.BuiltIn says.RunsTexts) (ap builtin_called c.in-Run.is) (c.run_names.ensures limits name)
 
 pub returns-in-Test : goal.returns-in-Test
-returns-in-Test g c devices =
+returns-in-Test g c =
     let script = view.script c.args.script.now.value in
-    named_comes (limits_of devices c.args.bounds) c.args.name.items (bytes_of_words c.args.words.items) script _ c.run_test.result _ _ (builtin_called c.args.builtin) (says.BuiltIn says.Tests) (ap builtin_called c.in-Test.is) (c.run_test.ensures devices script)
+    named_comes (limits_of c.args.devices.now c.args.bounds) c.args.name.items (bytes_of_words c.args.words.items) script _ c.run_test.result _ _ (builtin_called c.args.builtin) (says.BuiltIn says.Tests) (ap builtin_called c.in-Test.is) (c.run_test.ensures script)
 
 pub returns-in-Echo : goal.returns-in-Echo
-returns-in-Echo g c devices =
-    writing_does (limits_of devices c.args.bounds) (g.S.Store.record_of c.args.store.now) (g.S.Store.record_of c.echo.new.store) c.args.name.items (bytes_of_words c.args.words.items) (view.script c.args.script.now.value) (builtin_called c.args.builtin)
+returns-in-Echo g c =
+    writing_does (limits_of c.args.devices.now c.args.bounds) (g.S.Store.record_of c.args.store.now) (g.S.Store.record_of c.echo.new.store) c.args.name.items (bytes_of_words c.args.words.items) (view.script c.args.script.now.value) (builtin_called c.args.builtin)
     (bytes_of_words c.deref-in-Echo.result.now) says.echo (ap builtin_called c.in-Echo.is) (ap bytes_of_words c.deref-in-Echo.ensures.value) c.in_ok-echo-in-Echo.ensures

@@ -54,4 +54,4 @@ returns g c =
     ∙ sym (called_named devices name.items words is) in
     comes_as c.run_called.result _ _ (place_called limits (called_shown c.called_by_name-called.result) name.items words script frames) _
     (λ s. ap (λ (b : Called). place_called limits b name.items words script frames s) called
-    ∙ fields_named limits c.args.fields.items name rest script frames s all) (c.run_called.ensures devices)
+    ∙ fields_named limits c.args.fields.items name rest script frames s all) c.run_called.ensures

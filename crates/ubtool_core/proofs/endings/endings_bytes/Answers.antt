@@ -5,7 +5,7 @@ use Rattle.envimage.specs.Data.{pairs_of}
 use Rattle.envimage.specs.Image.{loaded_shown}
 use Rattle.envtools.specs.Environment.{env_of}
 use Rattle.ubtool_core.specs.EndingsOfImages.{RefusesEndings, endings_given}
-use Rattle.ubtool_core.specs.Errors.{env_fault, endings_fault}
+use Rattle.ubtool_core.specs.Errors.{env_fault, rehearse_fault}
 use Rattle.ubtool_core.specs.declared.error.ToolError.{ToolError}
 use Rattle.ubtool_core.specs.declared.error.ToolError.TheVariants.{Memory}
 use Rattle.ubtool_core.proofs.EndingsLemmas.{refused-endings, tells-image}
@@ -31,7 +31,7 @@ returns-in_err-endings_env-clause-err g c =
     let out' = g.O.Out.sink c.endings_env.new.out in
     let image = image-env c.args.order c.args.first.now second (loaded_shown c.in_ok-loaded.loaded) _ c.in_ok-loaded.ensures.answer c.in_ok-env.ensures.ok in
     let p = err_from_is_err_and c.from_residual-in_err-endings_env.result c.from_residual-in_err-endings_env.ensures.1 in
-    let answer : c.from_residual-in_err-endings_env.result ≡ Err (endings_fault c.in_err-endings_env.field-0.0) = p.1 ∙ ap Err p.2 in
+    let answer : c.from_residual-in_err-endings_env.result ≡ Err (rehearse_fault c.in_err-endings_env.field-0.0) = p.1 ∙ ap Err p.2 in
     let P : Result (Unit {0}) ToolError → Type 0 = λ r. IfErr r (λ e. RefusesEndings (endings_given c.args.order c.args.first.now second c.args.devices_text.now c.args.ask.now) c.args.ask.now.flow c.args.ask.now.states out out' e) in
     subst P (sym answer) (refused-endings c.args.order c.args.first.now second c.args.devices_text.now c.args.ask.now _ out out' c.in_err-endings_env.field-0.0 image c.in_err-endings_env.ensures.err)
 

@@ -1,0 +1,74 @@
+-- A command that asks was not told an answer: it takes an outcome of the word.
+use Rattle.std.proofs.Common.{ℕ, Bool, true, false, List, [], ◌∷◌, length, Option, Some, None, refl, subst, ◌≡◌, nat_lt, nat_le}
+use Rattle.hushlang.specs.Tree as tree
+use Rattle.hushlang.specs.Tree.{Script}
+use Rattle.hushlang.specs.Expansion.{fields, size, most_bytes}
+use Rattle.bootstore.specs.Moment.{Moment, RunningFrame}
+use Rattle.bootstore.specs.StoredState.{state_at}
+use Rattle.rehearse.specs.Outcomes.{Success}
+use Rattle.rehearse.specs.State.{Text, State, parameters_in}
+use Rattle.rehearse.specs.Verdict.{verdict}
+use Rattle.rehearse.specs.Commands.{Called, ChangesVariables, WritesText, RunsTexts, Tests, Exits, BuiltIn, NoCommand, Device, called_by, sets_in, asks_device, exit_status}
+use Rattle.rehearse.specs.Execution.{Limits, CutDevices, Size, Request, test_effect, told, told_again, logged, set_environment, set_status, status_when}
+use Rattle.rehearse_machine.specs.Places.{PlaceNext, GoOn, AskOn, StopOn, left, to_run, place_boot, place_exit, place_tell_or_ask, place_ask, place_called, place_fields}
+use Rattle.rehearse_machine.specs.AskingCommand.{words_in_front, fields_again, found_again}
+use Rattle.rehearse_machine.specs.Machine.{Asking}
+
+abbrev AsksAnew : PlaceNext → Type 0
+AsksAnew (GoOn ps s) = Unit {0}
+AsksAnew (AskOn r ps s) = r.again ≡ false
+AsksAnew (StopOn ending s) = Unit {0}
+
+either_anew : (b : Bool) (x y : PlaceNext) → AsksAnew x → AsksAnew y → AsksAnew (elim b [ true ↦ x | false ↦ y ])
+either_anew true x y h k = h
+either_anew false x y h k = k
+
+left_anew : (ps : List RunningFrame) (s : State) → AsksAnew (left ps s)
+left_anew [] s = tt
+left_anew (p ∷ ps) s = tt
+
+exit_anew : (o : Option ℕ) (ps : List RunningFrame) (s : State) → AsksAnew (place_exit o ps s)
+exit_anew None ps s = tt
+exit_anew (Some status) ps s = left_anew (to_run ps) (set_status status s)
+
+boot_anew : (ends : Bool) (name : Text) (ps : List RunningFrame) (s : State) → AsksAnew (place_boot ends name ps s)
+boot_anew true name ps s = tt
+boot_anew false name ps s = tt
+
+tell_anew : (o : Option Bool) (r : Request) (ps : List RunningFrame) (s : State) → r.again ≡ false → AsksAnew (place_tell_or_ask o r ps s)
+tell_anew None r ps s e = e
+tell_anew (Some true) r ps s e = boot_anew r.effect.ends r.name ps (set_environment (sets_in r.words r.effect.sets) (logged Success (told_again r) s))
+tell_anew (Some false) r ps s e = tt
+
+module _ (limits : Limits) where
+  ask_anew : (r : Request) (ps : List RunningFrame) (s : State) → r.again ≡ false → AsksAnew (place_ask limits r ps s)
+  ask_anew r ps s e = either_anew (nat_lt (length s.log) limits.device_bound) (place_tell_or_ask (told r s.log) r ps s) (StopOn CutDevices s) (tell_anew (told r s.log) r ps s e) tt
+
+  called_anew : (b : Called) (name : Text) (ws : List Text) (script : Script) (ps : List RunningFrame) (s : State) → AsksAnew (place_called limits b name ws script ps s)
+  called_anew (BuiltIn (ChangesVariables change)) name ws script ps s = tt
+  called_anew (BuiltIn RunsTexts) name [] script ps s = tt
+  called_anew (BuiltIn RunsTexts) name (w ∷ ws) script ps s = tt
+  called_anew (BuiltIn Tests) name ws script ps s =
+      let r : Request = record { name = name; words = ws; effect = test_effect limits.devices; again = false } in
+      either_anew (asks_device ws) (place_ask limits r ps s) (GoOn ps (set_status (status_when (verdict ws)) s)) (ask_anew r ps s refl) tt
+  called_anew (BuiltIn (WritesText written)) name ws script ps s = tt
+  called_anew (BuiltIn Exits) name ws script ps s = exit_anew (exit_status ws) ps s
+  called_anew (Device effect) name ws script ps s = ask_anew (record { name = name; words = ws; effect = effect; again = false }) ps s refl
+  called_anew NoCommand name ws script ps s = tt
+
+  fields_anew : (fs : List Text) (script : Script) (ps : List RunningFrame) (s : State) → AsksAnew (place_fields limits fs script ps s)
+  fields_anew [] script ps s = tt
+  fields_anew (name ∷ ws) script ps s = called_anew (called_by limits.devices name ws) name ws script ps s
+
+  again_anew : (o : Option (List tree.Word)) (f : RunningFrame) (fs : List RunningFrame) (s : State) → AsksAnew (fields_again limits o f fs s)
+  again_anew None f fs s = tt
+  again_anew (Some words) f fs s =
+      let found : List Text = fields (parameters_in s.memory) words in
+      either_anew (nat_le (size found) most_bytes) (place_fields limits found f.script (f ∷ fs) s) (StopOn Size s) (fields_anew found f.script (f ∷ fs) s) tt
+
+  found_anew : (ps : List RunningFrame) (s : State) → AsksAnew (found_again limits ps s)
+  found_anew [] s = tt
+  found_anew (f ∷ fs) s = again_anew (words_in_front f) f fs s
+
+  pub asks_anew : (m : Moment) (asking : Asking limits m) → asking.request.again ≡ false
+  asks_anew m asking = subst AsksAnew (asking.again []) (found_anew m.frames (state_at m []))

@@ -1,0 +1,62 @@
+//! The answers of steady commands that were asked before.
+ghost use Rattle.std.specs.Prelude.{◌≡◌, ◌∷◌, ◌&&◌, not, false};
+ghost use Rattle.text.specs.TextsShown.{bytes_of_words};
+ghost use Rattle.rehearse.specs.CommandsShown.{lent_effect};
+ghost use Rattle.rehearse.specs.Execution.{told};
+ghost use Rattle.rehearse.specs.State.{same_words, answer_in};
+
+use bootstore::{LogEntry, Store};
+use rehearse::Effect;
+
+/// Whether the words of a logged command are these, the name first.
+fn is_call(call: &[Vec<u8>], name: &[u8], words: &[Vec<u8>]) -> bool
+    ensures { result ≡ same_words (name.now ∷ bytes_of_words words.now) (bytes_of_words call.now) }
+{
+    match call {
+        [first, rest @ ..] => name == first.as_slice() && words == rest,
+        [] => false,
+    }
+}
+
+/// Whether a logged command has the answer that stays for one with these words.
+fn answers(entry: &LogEntry, name: &[u8], words: &[Vec<u8>]) -> bool
+    ensures { result ≡ ((not entry.now.again && entry.now.stays)
+        && same_words (name.now ∷ bytes_of_words words.now) entry.now.words) }
+{
+    entry.has_answer() && is_call(&entry.words, name, words)
+}
+
+/// The answer in a log that stays for a command with these words. Looks at each entry until it is
+/// found.
+fn answer_in(log: &[LogEntry], name: &[u8], words: &[Vec<u8>]) -> Option<bool>
+    ensures { result ≡ answer_in log.now (name.now ∷ bytes_of_words words.now) }
+{
+    for entry in log {
+        if answers(entry, name, words) {
+            return Some(entry.success);
+        }
+    }
+    None
+}
+
+/// The answer that stays for a command, if its answers stay and it was asked before with the same
+/// words.
+pub(crate) fn told<S: Store>(
+    store: &S,
+    name: &[u8],
+    words: &[Vec<u8>],
+    effect: Effect<'_>,
+) -> Option<bool>
+    ensures { result ≡ told (record {
+      name = name.now;
+      words = bytes_of_words words.now;
+      effect = lent_effect effect.entry;
+      again = false;
+    }) (S.record_of store.now).present.log }
+{
+    if effect.stays {
+        answer_in(store.log(), name, words)
+    } else {
+        None
+    }
+}
