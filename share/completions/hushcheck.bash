@@ -30,14 +30,14 @@ _hushcheck_names() {
 }
 
 _hushcheck() {
-    local options='-c --config --big-endian -h --help -V --version' line last word words number
+    local options='-c --config --big-endian -d --device-list --all -h --help -V --version' line last word words number
     _hushcheck_line
     word=${line[last]}
     COMPREPLY=()
     for ((number = 1; number < last; number++)); do
         [ "${line[number]}" != -- ] || options=''
     done
-    if [[ -n $options && ${line[last - 1]} =~ ^(-c|--config)$ ]]; then
+    if [[ -n $options && ${line[last - 1]} =~ ^(-c|--config|-d|--device-list)$ ]]; then
         compopt -o filenames 2>/dev/null
         mapfile -t COMPREPLY < <(compgen -f -- "$word")
         return

@@ -22,4 +22,6 @@ complete -c hushcheck -s h -l help -d 'Print help'
 complete -c hushcheck -s V -l version -d 'Print version'
 complete -c hushcheck -s c -l config -r -F -d 'Configuration'
 complete -c hushcheck -l big-endian -d 'The CRC is stored big-endian'
+complete -c hushcheck -s d -l device-list -r -F -d 'Device list'
+complete -c hushcheck -l all -d 'Check every variable'
 complete -c hushcheck -a '(__hushcheck_names)' -d Variable

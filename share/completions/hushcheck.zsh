@@ -18,6 +18,8 @@ _hushcheck() {
     _arguments -S \
         '(-c --config)'{-c,--config}'[configuration]:configuration:_files' \
         '--big-endian[the CRC is stored big-endian]' \
+        '(-d --device-list)'{-d,--device-list}'[device list]:device list:_files' \
+        '--all[check every variable]' \
         '(- *)'{-h,--help}'[print help]' \
         '(- *)'{-V,--version}'[print version]' \
         '*: :_hushcheck_names'

@@ -1,21 +1,20 @@
--- A command that was built as described, after one more step.
-use Rattle.std.proofs.Common.{◌≡◌, ◌∙◌, ap, ap₂, false, ◌||◌}
-use Rattle.clap.specs.Words.{AddsArg, AddsSubcommand, App, Rule, rule_of, with_rule, with_subcommand}
-use Rattle.clap.specs.declared.builder.arg.Arg.{Arg}
+-- A command that was built as described, after a table was added.
+use Rattle.std.proofs.Common.{◌∙◌, List, ap}
+use Rattle.clap.specs.Words.{App, Rule}
 use Rattle.clap.specs.declared.builder.command.Command.{Command}
+use Rattle.command_line.specs.Arguments.{AddsRules, AddsSubcommands, with_rules, with_subcommands}
 use Rattle.command_line.specs.Made.{IsMade}
 
--- with one more argument
-pub made_with : (app : App) (old : Command) (a : Arg) (new : Command) (r : Rule) → IsMade app old → rule_of a ≡ r → a.global ≡ false → AddsArg old a new
-    → IsMade (with_rule app r) new
-made_with app old a new r made rule local adds = record {
-  app_is = adds.shape local ∙ ap₂ with_rule made.app_is rule;
-  local = adds.globals ∙ ap₂ (λ x y. x || y) made.local local;
+-- with the arguments of a table
+pub made_with_arguments : (app : App) (rules : List Rule) (old new : Command) → IsMade app old → AddsRules old rules new → IsMade (with_rules app rules) new
+made_with_arguments app rules old new made adds = record {
+  app_is = adds.app_is ∙ ap (λ a. with_rules a rules) made.app_is;
+  local = adds.globals ∙ made.local;
 }
 
--- with one more subcommand
-pub made_above : (app sub_app : App) (old sub new : Command) → IsMade app old → IsMade sub_app sub → AddsSubcommand old sub new → IsMade (with_subcommand app sub_app.top) new
-made_above app sub_app old sub new made sub_made adds = record {
-  app_is = adds.shape sub_made.local ∙ ap₂ with_subcommand made.app_is (ap (λ (a : App). a.top) sub_made.app_is);
-  local = adds.globals ∙ ap₂ (λ x y. x || y) made.local sub_made.local;
+-- with the subcommands of a table
+pub made_with_subcommands : (app : App) (subs : List App) (old new : Command) → IsMade app old → AddsSubcommands old subs new → IsMade (with_subcommands app subs) new
+made_with_subcommands app subs old new made adds = record {
+  app_is = adds.app_is ∙ ap (λ a. with_subcommands a subs) made.app_is;
+  local = adds.globals ∙ made.local;
 }

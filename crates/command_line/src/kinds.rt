@@ -1,7 +1,7 @@
 //! Kinds of arguments.
 ghost use Rattle.std.specs.Prelude.{◌≡◌, false};
 ghost use Rattle.clap.specs.Words.{rule_of};
-ghost use Rattle.command_line.specs.CommandLine.{lettered_flag, lettered_option, long_flag, long_option, many, number_option, one};
+ghost use Rattle.command_line.specs.Arguments.{long_flag, long_option, many, number_option, one};
 
 use clap::builder::ValueParser;
 use clap::{Arg, ArgAction};
@@ -13,19 +13,6 @@ pub(crate) fn long_option<'a>(alloc: Global, id: &'a str, value: &'a str) -> Arg
     ensures local { result.global ≡ false }
 {
     Arg::new(alloc, id).long(id).value_name(value)
-}
-
-/// The option `-x VALUE`, with the long form `--word VALUE`.
-pub(crate) fn lettered_option<'a>(
-    alloc: Global,
-    id: &'a str,
-    letter: char,
-    value: &'a str,
-) -> Arg<'a>
-    ensures rule { rule_of result ≡ lettered_option id.entry.now letter }
-    ensures local { result.global ≡ false }
-{
-    long_option(alloc, id, value).short(letter)
 }
 
 /// The option `--word N`, a whole number in this range.
@@ -43,14 +30,6 @@ pub(crate) fn long_flag<'a>(alloc: Global, id: &'a str) -> Arg<'a>
     ensures local { result.global ≡ false }
 {
     Arg::new(alloc, id).long(id).action(ArgAction::SetTrue)
-}
-
-/// The flag `-x`, with the long form `--word`.
-pub(crate) fn lettered_flag<'a>(alloc: Global, id: &'a str, letter: char) -> Arg<'a>
-    ensures rule { rule_of result ≡ lettered_flag id.entry.now letter }
-    ensures local { result.global ≡ false }
-{
-    long_flag(alloc, id).short(letter)
 }
 
 /// The word `[NAME]`.

@@ -28,7 +28,7 @@ hushcheck_free = refl
 accepted_answer : (words : List Text) (a : Asked) (r : Result Ask UseError) → IsAccepted hushcheck words → a ≡ asked words → Says a r → Answers words r
 accepted_answer words a (Ok (Help text)) fine is says = absurd says
 accepted_answer words a (Ok Version) fine is says = absurd says
-accepted_answer words a (Ok (Check config names order)) fine is says = (fine, sym is ∙ says)
+accepted_answer words a (Ok (Check config list what order)) fine is says = (fine, sym is ∙ says)
 accepted_answer words a (Err (Line text)) fine is says = absurd says
 accepted_answer words a (Err Memory) fine is says = tt
 accepted_answer words a (Err NeedName) fine is says = absurd says
@@ -51,7 +51,7 @@ refused_answer words k (Ok Version) among is = elim among [
       cc
   | inr one ↦ subst (λ (x : ErrorKind). IsAmong x (fault_of hushcheck words)) is one
 ]
-refused_answer words k (Ok (Check config names order)) among is = absurd is
+refused_answer words k (Ok (Check config list what order)) among is = absurd is
 refused_answer words k (Err (Line text)) among is = elim among [
   | inl memory ↦ absurd (is.2 memory)
   | inr one ↦ (k, one, is.0, is.1)

@@ -1,19 +1,55 @@
 -- What checking the texts of an image does, from files whose contents are known. Ours.
-use Rattle.std.specs.Prelude.{◌≡◌, Bool, List, None, Result, Ok, Err}
+use Rattle.std.specs.Prelude.{◌≡◌, ◌⊎◌, ℕ, Bool, List, Option, Some, None, Result, Ok, Err, Vec}
+use Rattle.std.specs.declared.alloc.Global.{Global}
 use Rattle.envimage.specs.Data.{Pair}
 use Rattle.output.specs.Sink.{BrokeOff, Sink, Wrote}
 use Rattle.envimage.specs.declared.image.ByteOrder.{ByteOrder}
 use Rattle.envimage.specs.declared.image.ImageError.{ImageError}
+use Rattle.hushcheck.specs.Asked.{Asked}
 use Rattle.hushcheck_core.specs.Names.{Text}
-use Rattle.hushcheck_core.specs.Report.{Checks}
+use Rattle.hushcheck_core.specs.Report.{Checks, asked_names}
+use Rattle.hushcheck_core.specs.declared.checking.Report.{Report}
+use Rattle.rehearse.specs.DeviceList.{Devices, listed}
+use Rattle.rehearse.specs.declared.devices_error.DevicesError.{DevicesError}
+use Rattle.rehearse_runs.specs.declared.rehearse_error.RehearseError.TheVariants.{DeviceList}
 use Rattle.ubtool_files.specs.CallOrder.{OnlyReads}
 use Rattle.ubtool_files.specs.Told.{Told}
 use Rattle.ubtool_core.specs.declared.error.ToolError.{ToolError}
-use Rattle.ubtool_core.specs.declared.error.ToolError.TheVariants.{Image, Memory, Write}
+use Rattle.ubtool_core.specs.declared.error.ToolError.TheVariants.{Image, Memory, Rehearsal, Write}
 use Rattle.ubtool_core.specs.declared.fault.Fault.{Fault}
 use Rattle.ubtool_core.specs.declared.fault.Fault.TheVariants.{Tool}
-use Rattle.ubtool_run.specs.Images.{IsImagesFault}
+use Rattle.ubtool_run.specs.Images.{Copy, IsImagesFault}
 use Rattle.ubtool_run.specs.PrintingFiles.{FromImages, environment}
+use Rattle.ubtool_run.specs.ReadingFiles.{ReadsText}
+use Rattle.ubtool_run.specs.RehearsingFiles.{AreRead, IsUnlisted}
+
+-- ---- what is checked
+
+-- the environment that was found, the device list if there is one, the names that the call gives, and whether every
+-- variable is checked after them
+pub record Given : Type 0 where
+  pub env : Result (List Pair) ImageError
+  pub devices : Result (Option Devices) DevicesError
+  pub names : List Text
+  pub all : Bool
+
+abbrev pub given : Result (List Pair) ImageError → Result (Option Devices) DevicesError → List Text → Bool → Given
+given env devices names all = record { env = env; devices = devices; names = names; all = all }
+
+abbrev pub with_list : Result Devices DevicesError → Result (Option Devices) DevicesError
+with_list (Ok devices) = Ok (Some devices)
+with_list (Err fault) = Err fault
+
+-- the device list of a text, if there is one
+abbrev pub list_in : Option Text → Result (Option Devices) DevicesError
+list_in None = Ok None
+list_in (Some text) = with_list (listed text)
+
+-- the same for copies and the text of a device list
+abbrev pub given_by : ByteOrder → List Copy → (list : Option Text) → List Text → Bool → Given
+given_by order found list names all = given (environment order found) (list_in list) names all
+
+-- ---- one environment
 
 -- the environment that was found, or why there is none
 abbrev pub Finds : Result (List Pair) ImageError → Result (List Pair) ToolError → Type 0
@@ -22,42 +58,86 @@ Finds answer (Err (Image error)) = answer ≡ Err error
 Finds answer (Err Memory) = Unit {0}
 Finds answer (Err _) = ⊥
 
--- The environment was found, and all that is reported of it was written.
-pub record TellsAll (answer : Result (List Pair) ImageError) (names : List Text) (old new : Sink) (sound : Bool) :
-    Type 0 where
+-- the device list, or why there is none
+abbrev pub Lists : Result (Option Devices) DevicesError → Result (Option Devices) ToolError → Type 0
+Lists answer (Ok devices) = answer ≡ Ok devices
+Lists answer (Err (Rehearsal (DeviceList fault))) = answer ≡ Err fault
+Lists answer (Err Memory) = Unit {0}
+Lists answer (Err _) = ⊥
+
+-- The environment and the device list are right, and this is what is reported.
+pub record AreTexts (g : Given) (told : Text) (sound : Bool) : Type 0 where
   pub env : List Pair
-  pub there : answer ≡ Ok env
-  pub told : Text
-  pub checks : Checks None env names told sound
-  pub wrote : Wrote old new told
+  pub there : g.env ≡ Ok env
+  pub devices : Option Devices
+  pub are_listed : g.devices ≡ Ok devices
+  pub checks : Checks devices env (asked_names g.all env g.names) told sound
 
--- The environment was found, and the output failed inside what is reported of it.
-pub record BreaksOff (answer : Result (List Pair) ImageError) (names : List Text) (old new : Sink) : Type 0 where
+-- The environment is right, and the device list is refused for this.
+pub record IsBadList (g : Given) (fault : DevicesError) : Type 0 where
   pub env : List Pair
-  pub there : answer ≡ Ok env
-  pub told : Text
-  pub sound : Bool
-  pub checks : Checks None env names told sound
-  pub broken : BrokeOff old new told
+  pub there : g.env ≡ Ok env
+  pub refused : g.devices ≡ Err fault
 
--- each answer to checking an environment, and what is written then
-abbrev pub ChecksText : Result (List Pair) ImageError → List Text → Sink → Sink → Result Bool ToolError → Type 0
-ChecksText answer names old new (Ok sound) = TellsAll answer names old new sound
-ChecksText answer names old new (Err (Image error)) = (answer ≡ Err error) × (new ≡ old)
-ChecksText answer names old new (Err Write) = BreaksOff answer names old new
-ChecksText answer names old new (Err Memory) = new ≡ old
-ChecksText answer names old new (Err _) = ⊥
+-- what is reported, or why nothing is
+abbrev pub IsReport : Given → Result Report ToolError → Type 0
+IsReport g (Ok report) = AreTexts g report.text.items report.sound
+IsReport g (Err (Rehearsal (DeviceList fault))) = IsBadList g fault
+IsReport g (Err Memory) = Unit {0}
+IsReport g (Err _) = ⊥
 
--- the images of the configuration were read and their texts checked, or refused; memory may run out at any time
-abbrev pub ChecksFrom : ByteOrder → (config : Text) → (names : List Text) → (out out' : Sink) → (old new : Told)
-    → Result Bool Fault → Type 0
-ChecksFrom order config names out out' old new (Ok sound) =
-    FromImages config old new (λ found. TellsAll (environment order found) names out out' sound)
-ChecksFrom order config names out out' old new (Err (Tool (Image error))) =
-    FromImages config old new (λ found. environment order found ≡ Err error)
-ChecksFrom order config names out out' old new (Err (Tool Write)) =
-    FromImages config old new (λ found. BreaksOff (environment order found) names out out')
-ChecksFrom order config names out out' old new (Err fault) = OnlyReads old new × IsImagesFault config old.stored fault
+-- all that is reported was written
+abbrev pub TellsAll : Given → (old new : Sink) → (sound : Bool) → Type 0
+TellsAll g old new sound = (told : Text) × AreTexts g told sound × Wrote old new told
+
+-- the output failed inside what is reported
+abbrev pub BreaksOff : Given → (old new : Sink) → Type 0
+BreaksOff g old new = (told : Text) × (sound : Bool) × AreTexts g told sound × BrokeOff old new told
+
+-- each answer to checking the texts, and what is written then
+abbrev pub ChecksText : Given → Sink → Sink → Result Bool ToolError → Type 0
+ChecksText g old new (Ok sound) = TellsAll g old new sound
+ChecksText g old new (Err (Image error)) = (g.env ≡ Err error) × (new ≡ old)
+ChecksText g old new (Err (Rehearsal (DeviceList fault))) = IsBadList g fault × (new ≡ old)
+ChecksText g old new (Err Write) = BreaksOff g old new
+ChecksText g old new (Err Memory) = new ≡ old
+ChecksText g old new (Err _) = ⊥
+
+-- ---- files
+
+-- the device list was read, if one is named, or refused
+abbrev pub ReadsList : Option Text → Told → Told → Result (Option (Vec ℕ Global)) Fault → Type 0
+ReadsList None old new (Ok None) = new ≡ old
+ReadsList (Some path) old new (Ok (Some text)) = ReadsText path old new (Ok text)
+ReadsList (Some path) old new (Err fault) = ReadsText path old new (Err fault)
+ReadsList path old new _ = ⊥
+
+-- the images were read, and then the device list if one is named, and this holds of what they give
+abbrev pub AreFound : (config : Text) → (list : Option Text) → (old new : Told) → (List Copy → Option Text → Type 0) →
+    Type 0
+AreFound config None old new IsSo = FromImages config old new (λ found. IsSo found None)
+AreFound config (Some list) old new IsSo = AreRead config list old new (λ found text. IsSo found (Some text))
+
+-- why a file is refused that is read
+abbrev pub IsUnread : (config : Text) → (list : Option Text) → Told → Fault → Type 0
+IsUnread config None old fault = IsImagesFault config old.stored fault
+IsUnread config (Some list) old fault = IsImagesFault config old.stored fault ⊎ IsUnlisted config list old fault
+
+-- and what is checked then has this property
+abbrev pub FromFiles : Asked → (old new : Told) → (Given → Type 0) → Type 0
+FromFiles asked old new IsSo =
+    AreFound asked.config asked.device_list old new (λ found list.
+    IsSo (given_by asked.order found list asked.names asked.all))
+
+-- The images and the device list were read and the texts checked, or the image or the list is refused; or a read is
+-- refused, and files were only read. Memory may run out at any time.
+abbrev pub ChecksFrom : Asked → (out out' : Sink) → (old new : Told) → Result Bool Fault → Type 0
+ChecksFrom asked out out' old new (Ok sound) = FromFiles asked old new (λ g. TellsAll g out out' sound)
+ChecksFrom asked out out' old new (Err (Tool (Image error))) = FromFiles asked old new (λ g. g.env ≡ Err error)
+ChecksFrom asked out out' old new (Err (Tool (Rehearsal (DeviceList fault)))) =
+    FromFiles asked old new (λ g. IsBadList g fault)
+ChecksFrom asked out out' old new (Err (Tool Write)) = FromFiles asked old new (λ g. BreaksOff g out out')
+ChecksFrom asked out out' old new (Err fault) = OnlyReads old new × IsUnread asked.config asked.device_list old fault
 
 -- a refusal other than that of the output leaves the output as it was
 abbrev pub LeavesOutput : Result Bool Fault → (old new : Sink) → Type 0

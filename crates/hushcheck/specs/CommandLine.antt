@@ -1,17 +1,24 @@
--- The command line that `clap` is given: two options that `ubtool` has too, and names. It is ours.
-use Rattle.std.specs.Prelude.{true, codes}
-use Rattle.clap.specs.Words.{App, Shape, new_app, with_rule}
+-- The command line that `clap` is given: three options and a flag, and names. The options but `--all` are those of
+-- `ubtool`. It is ours.
+use Rattle.std.specs.Prelude.{[], ◌∷◌, false, true, codes}
+use Rattle.clap.specs.Words.{App, Rule, Shape, new_app}
 use Rattle.clap.specs.Simple.{on_top}
+use Rattle.command_line.specs.Arguments.{long_flag, with_rules}
+use Rattle.command_line.specs.CommandLine as ubtool
 use Rattle.command_line.specs.CommandLine.{big_endian, config, names}
 
 -- the program, which has a version and no words of its own
 abbrev pub base : App
 base = on_top (λ (s : Shape). record s { no_binary_name = true; has_version = true }) (new_app (codes "hushcheck"))
 
--- `[-c FILE] [--big-endian]`
-abbrev pub options : App
-options = with_rule (with_rule base config) big_endian
+-- `-d FILE`, which no call needs
+abbrev pub device_list : Rule
+device_list = record ubtool.device_list { required = false }
 
--- and `[NAME]..`
+-- every variable
+abbrev pub all : Rule
+all = long_flag (codes "all")
+
+-- `[-c FILE] [--big-endian] [-d FILE] [--all] [NAME]..`
 unfoldable pub hushcheck : App
-hushcheck = with_rule options names
+hushcheck = with_rules base (config ∷ big_endian ∷ device_list ∷ all ∷ names ∷ [])

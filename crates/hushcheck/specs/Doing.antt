@@ -1,5 +1,6 @@
 -- What is done for what is asked, on files whose contents are known. Ours.
-use Rattle.std.specs.Prelude.{◌≡◌, Bool, map, Option, Result, codes, string_bytes}
+use Rattle.std.specs.Prelude.{◌≡◌, Bool, Option, Result, codes, string_bytes}
+use Rattle.hushcheck.specs.Asked.{asked_by}
 use Rattle.hushcheck.specs.Checking.{ChecksFrom, LeavesOutput}
 use Rattle.hushcheck.specs.declared.ask.Ask.{Ask}
 use Rattle.hushcheck.specs.declared.ask.Ask.TheVariants.{Check, Help, Version}
@@ -11,11 +12,12 @@ use Rattle.ubtool_run.specs.declared.build.Build.{Build}
 use Rattle.ubtool_run.specs.Performing.{Shows}
 
 -- What a program of this build does for it, with the files before and after, and on the outputs. With status 0 each
--- text is well-formed and each name that was asked for is set, or the help or the version was shown.
+-- text is well-formed, each name that was asked for is set and the device list lacks no command, or the help or the
+-- version was shown.
 abbrev pub Does : Build → Ask → Option Told → Option Told → Outputs → Result Bool Fault → Type 0
-Does build (Check config names order) before after outputs result =
+Does build (Check config list what order) before after outputs result =
     IfTold before after (λ old new.
-    ChecksFrom order (string_bytes config) (map string_bytes names.items) outputs.out outputs.out' old new result)
+    ChecksFrom (asked_by config list what order) outputs.out outputs.out' old new result)
     × LeavesOutput result outputs.out outputs.out'
     × (outputs.err' ≡ outputs.err)
 Does build (Help text) before after outputs result = Shows (string_bytes text) before after outputs result

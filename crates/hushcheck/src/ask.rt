@@ -9,8 +9,10 @@ pub enum Ask {
     Check {
         /// The path of the configuration.
         config: String,
-        /// The variables, in this order.
-        names: Vec<String>,
+        /// The path of the device list, if there is one.
+        devices_file: Option<String>,
+        /// What to check.
+        what: CheckAsk,
         /// How the image's CRC is stored.
         order: ByteOrder,
     },
@@ -18,4 +20,13 @@ pub enum Ask {
     Help(String),
     /// To read the version.
     Version,
+}
+
+/// The variables to check.
+#[derive(Debug, Drop)]
+pub struct CheckAsk {
+    /// The variables that are named, in this order.
+    pub names: Vec<String>,
+    /// Whether every variable is checked after them.
+    pub all: bool,
 }

@@ -1,10 +1,12 @@
 //! The command line that `clap` is given.
 ghost use Rattle.std.specs.Prelude.{IfOk};
-ghost use Rattle.hushcheck.specs.CommandLine.{base, hushcheck, options};
+ghost use Rattle.hushcheck.specs.CommandLine.{base, hushcheck};
 ghost use Rattle.command_line.specs.Made.{IsMade};
 
 use clap::Command;
-use command_line::{VERSION, big_endian_flag, config_option, names};
+use command_line::{
+    Argument, BIG_ENDIAN, CONFIG, DEVICE_LIST, Form, NAMES, VERSION, with_arguments,
+};
 use std::alloc::{AllocError, Global};
 
 const NOTES: &str = "\
@@ -14,12 +16,18 @@ there is a line: 'NAME: ok', 'NAME: not set', or 'NAME:LINE:COLUMN: what is
 wrong' with the line of the text and a mark under the byte. Lines and columns
 count from 1. The image is read and never written.
 
-The status is 0 when all texts are well-formed, 1 when one is not, a NAME is
-not set or something is refused, and 2 when the words are wrong.
+With -d there is such a place, and 'the device list lacks COMMAND', for each
+command that a text calls by a plain name and that is neither built in nor in
+the device list.
+
+The status is 0 when all texts are well-formed and the device list lacks no
+command, 1 when that is not so, a NAME is not set or something is refused, and
+2 when the words are wrong.
 
 Examples:
   hushcheck
   hushcheck bootcmd altbootcmd
+  hushcheck --all -d devices
   hushcheck -c fw_env.config --big-endian
 ";
 
@@ -35,24 +43,33 @@ fn base<'a>(alloc: Global) -> Result<Command<'a>, AllocError>
     Ok(command.no_binary_name(true))
 }
 
-/// The program with its options.
-fn options<'a>(alloc: Global) -> Result<Command<'a>, AllocError>
-    ensures { IfOk result (IsMade options) }
-{
-    let config = config_option(alloc);
-    let order = big_endian_flag(alloc);
-    let command = base(alloc)?;
-    command.arg(config)?.arg(order)
-}
+const ARGUMENTS: [Argument<'static>; 5] = [
+    CONFIG,
+    BIG_ENDIAN,
+    Argument {
+        required: false,
+        help: "Device list, at most 1048576 bytes, that the commands are looked up in [default: none]",
+        ..DEVICE_LIST
+    },
+    Argument {
+        id: "all",
+        form: Form::Flag,
+        letter: None,
+        alias: None,
+        required: false,
+        value: "",
+        help: "Check every variable of the image, after the NAMEs",
+    },
+    Argument {
+        help: "Variables to check, in order [default: bootcmd, with --all none]",
+        ..NAMES
+    },
+];
 
 /// The program's command line.
 pub(crate) fn hushcheck<'a>(alloc: Global) -> Result<Command<'a>, AllocError>
     ensures { IfOk result (IsMade hushcheck) }
 {
-    let names = names(
-        alloc,
-        "Variables to check, in this order [default: bootcmd]",
-    );
-    let command = options(alloc)?;
-    command.arg(names)
+    let command = base(alloc)?;
+    with_arguments(alloc, command, &ARGUMENTS)
 }

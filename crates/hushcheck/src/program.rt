@@ -20,7 +20,8 @@ use ubtool_run::{Build, refuse, show_help, show_version, status_of};
 /// The name before the report of a refusal.
 pub const PROGRAM: &str = "hushcheck";
 
-/// Does what is asked for. Returns false if a text is not well-formed, or a name is not set.
+/// Does what is asked for. Returns false if a text is not well-formed, a name is not set, or the
+/// device list lacks a command.
 fn perform<F: Files, O: Out>(
     alloc: Global,
     build: Build,
@@ -35,18 +36,20 @@ fn perform<F: Files, O: Out>(
     match ask {
         Ask::Check {
             config,
-            names,
+            devices_file,
+            what,
             order,
-        } => check_files(alloc, files, config, &names, order, out),
+        } => check_files(alloc, files, config, devices_file, &what, order, out),
         Ask::Help(text) => show_help(out, &text),
         Ask::Version => show_version(out, PROGRAM, build),
     }
 }
 
-/// The whole program, from its words to its status. The status is 0 if all texts are well-formed,
-/// or if the help or the version was asked for; 1 if a text is not well-formed, a name is not set
-/// or something was refused; and 2 if the words were not understood. A fault is reported on `err`
-/// in one line. If `err` fails, nothing more is written there.
+/// The whole program, from its words to its status. The status is 0 if all texts are well-formed
+/// and the device list lacks no command, or if the help or the version was asked for; 1 if a text
+/// is not well-formed, a name is not set, the device list lacks a command or something was refused;
+/// and 2 if the words were not understood. A fault is reported on `err` in one line. If `err`
+/// fails, nothing more is written there.
 pub fn run_check<S: AsStr, F: Files, O: Out, E: Out>(
     alloc: Global,
     build: Build,

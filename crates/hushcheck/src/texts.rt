@@ -1,21 +1,23 @@
 //! The texts of images, checked.
-ghost use Rattle.std.specs.Prelude.{map, string_bytes};
+ghost use Rattle.std.specs.Prelude.{Ok, map, option_map, string_bytes};
 ghost use Rattle.std.specs.Option.{option_copied};
-ghost use Rattle.hushcheck.specs.Checking.{ChecksFrom, ChecksText, Finds, LeavesOutput};
+ghost use Rattle.hushcheck.specs.Asked.{asked_by};
+ghost use Rattle.hushcheck.specs.Checking.{ChecksFrom, ChecksText, Finds, IsReport, LeavesOutput, Lists, ReadsList, given, given_by, list_in};
 ghost use Rattle.ubtool_core.specs.PrintingImages.{environment_in};
 ghost use Rattle.ubtool_files.specs.Told.{IfTold};
 ghost use Rattle.ubtool_run.specs.Faults.{CountsTold};
 ghost use Rattle.ubtool_run.specs.Images.{copies};
-ghost use Rattle.ubtool_run.specs.PrintingFiles.{environment};
 
+use crate::ask::CheckAsk;
 use envimage::{ByteOrder, load};
 use envtools::Env;
-use hushcheck_core::check;
+use hushcheck_core::{Report, asked_names, check};
 use output::{Out, write_all};
+use rehearse::{Devices, DevicesError};
 use std::alloc::Global;
-use ubtool_core::{Fault, ToolError};
+use ubtool_core::{Fault, RehearseError, ToolError};
 use ubtool_files::Files;
-use ubtool_run::{Images, read_images, slices_of};
+use ubtool_run::{Images, read_images, read_text, slices_of};
 
 /// The environment of an image, or of the current copy of a pair.
 fn environment(
@@ -30,59 +32,113 @@ fn environment(
     Ok(Env::from_checked(alloc, loaded.body)?)
 }
 
-/// Checks the texts of an image, or of the current copy of a pair, and writes what is reported of
-/// them. Returns false if a text is not well-formed, or a name is not set.
-fn check_bytes<O: Out>(
-    alloc: Global,
-    first: &[u8],
-    second: Option<&[u8]>,
-    order: ByteOrder,
-    names: &[&[u8]],
-    out: &mut O,
-) -> Result<bool, ToolError>
-    ensures { ChecksText (environment_in order first.now (option_copied second.entry)) (map (λ n. n.now) names.now) (O.sink out.old) (O.sink out.new) result }
+/// The device list of a text, if there is one.
+fn list_of(alloc: Global, text: Option<&[u8]>) -> Result<Option<Devices>, ToolError>
+    ensures { Lists (list_in (option_copied text.entry)) result }
 {
-    let env = environment(alloc, first, second, order)?;
-    let Ok(report) = check(alloc, None, &env, names) else {
+    let Some(text) = text else {
+        return Ok(None);
+    };
+    match Devices::parse(alloc, text) {
+        Ok(devices) => Ok(Some(devices)),
+        Err(DevicesError::Memory) => Err(ToolError::Memory),
+        Err(fault) => Err(ToolError::Rehearsal(RehearseError::DeviceList(fault))),
+    }
+}
+
+/// What is reported of the texts of an environment.
+fn report_of(
+    alloc: Global,
+    env: &Env,
+    list: Option<&[u8]>,
+    names: &[&[u8]],
+    all: bool,
+) -> Result<Report, ToolError>
+    ensures { IsReport (given (Ok env.now) (list_in (option_copied list.entry)) (map (λ n. n.now) names.now) all) result }
+{
+    let devices = list_of(alloc, list)?;
+    let Ok(names) = asked_names(alloc, env, names, all) else {
         return Err(ToolError::Memory);
     };
+    match check(alloc, devices.as_ref(), env, &names) {
+        Ok(report) => Ok(report),
+        Err(_) => Err(ToolError::Memory),
+    }
+}
+
+/// Checks the texts of an environment, and writes what is reported of them. Returns false if a text
+/// is not well-formed, a name is not set, or the device list lacks a command.
+fn check_env<O: Out>(
+    alloc: Global,
+    env: &Env,
+    list: Option<&[u8]>,
+    names: &[&[u8]],
+    all: bool,
+    out: &mut O,
+) -> Result<bool, ToolError>
+    ensures { ChecksText (given (Ok env.now) (list_in (option_copied list.entry)) (map (λ n. n.now) names.now) all) (O.sink out.old) (O.sink out.new) result }
+{
+    let report = report_of(alloc, env, list, names, all)?;
     match write_all(out, &report.text) {
         Ok(()) => Ok(report.sound),
         Err(_) => Err(ToolError::Write),
     }
 }
 
-/// The same for images that were read.
+/// The same for images that were read, a single one or a pair.
 fn check_images<O: Out>(
     alloc: Global,
     images: &Images,
+    list: Option<&[u8]>,
+    what: &CheckAsk,
     order: ByteOrder,
-    names: &[&[u8]],
     out: &mut O,
 ) -> Result<bool, ToolError>
-    ensures { ChecksText (environment order (copies images.now)) (map (λ n. n.now) names.now) (O.sink out.old) (O.sink out.new) result }
+    ensures { ChecksText (given_by order (copies images.now) (option_copied list.entry) (map string_bytes what.now.names.items) what.now.all) (O.sink out.old) (O.sink out.new) result }
 {
+    let Ok(names) = slices_of(alloc, &what.names) else {
+        return Err(ToolError::Memory);
+    };
     let second = images.second_bytes();
-    check_bytes(alloc, &images.first.bytes, second, order, names, out)
+    let env = environment(alloc, &images.first.bytes, second, order)?;
+    check_env(alloc, &env, list, &names, what.all, out)
 }
 
-/// Checks the texts of the images that a configuration names.
+/// Reads the text of the device list, if one is named.
+fn read_list<F: Files>(
+    alloc: Global,
+    files: &mut F,
+    path: Option<String>,
+) -> Result<Option<Vec<u8>>, Fault>
+    ensures count { CountsTold (F.faults files.old) (F.faults files.new) result }
+    ensures told { IfTold (F.told files.old) (F.told files.new)
+        (λ old new. ReadsList (option_map string_bytes path) old new result) }
+{
+    match path {
+        Some(path) => Ok(Some(read_text(alloc, files, path)?)),
+        None => Ok(None),
+    }
+}
+
+/// Checks the texts of the images that a configuration names. Reads the images, then the device
+/// list if one is named, and then writes the lines.
 pub fn check_files<F: Files, O: Out>(
     alloc: Global,
     files: &mut F,
     config: String,
-    names: &[String],
+    list: Option<String>,
+    what: &CheckAsk,
     order: ByteOrder,
     out: &mut O,
 ) -> Result<bool, Fault>
     ensures count { CountsTold (F.faults files.old) (F.faults files.new) result }
     ensures told { IfTold (F.told files.old) (F.told files.new) (λ old new.
-        ChecksFrom order (string_bytes config) (map string_bytes names.now) (O.sink out.old) (O.sink out.new) old new result) }
+        ChecksFrom (asked_by config list what.now order) (O.sink out.old) (O.sink out.new) old new result) }
     ensures output { LeavesOutput result (O.sink out.old) (O.sink out.new) }
 {
     let images = read_images(alloc, files, config)?;
-    let names = slices_of(alloc, names)?;
-    match check_images(alloc, &images, order, &names, out) {
+    let list = read_list(alloc, files, list)?;
+    match check_images(alloc, &images, list.as_deref(), what, order, out) {
         Ok(sound) => Ok(sound),
         Err(error) => Err(error.into()),
     }

@@ -5,21 +5,22 @@ ghost use Rattle.hushcheck.specs.CommandAnswers.{Answers, Reports, Says};
 ghost use Rattle.hushcheck.specs.Asked.{asked_of, or_bootcmd};
 ghost use Rattle.ubtool_cli.specs.Asked.{values_of};
 
-use crate::ask::Ask;
+use crate::ask::{Ask, CheckAsk};
 use crate::command::hushcheck;
 use clap::ArgMatches;
 use clap::error::ErrorKind;
 use std::alloc::{AllocError, Global};
 use std::convert::AsStr;
-use ubtool_cli::{DEFAULT_VARIABLE, UseError, config_of, order_of, texts_of};
+use ubtool_cli::{DEFAULT_VARIABLE, UseError, config_of, is_set, order_of, text_of, texts_of};
 
-/// The variables to check.
-fn names_of(alloc: Global, matches: &ArgMatches<'_>) -> Result<Vec<String>, AllocError>
+/// The variables that are named. If none is, and not every variable is to be checked, it is the one
+/// that boots.
+fn names_of(alloc: Global, matches: &ArgMatches<'_>, all: bool) -> Result<Vec<String>, AllocError>
     ensures { IfOk result (λ names. map string_bytes names.items
-        ≡ or_bootcmd (values_of (codes "names") (rows_of (found_of matches.now)))) }
+        ≡ or_bootcmd all (values_of (codes "names") (rows_of (found_of matches.now)))) }
 {
     let mut names = texts_of(alloc, matches, "names")?;
-    if names.is_empty() {
+    if names.is_empty() && !all {
         names.push(String::from_str(alloc, DEFAULT_VARIABLE)?)?;
     }
     Ok(names)
@@ -29,9 +30,14 @@ fn names_of(alloc: Global, matches: &ArgMatches<'_>) -> Result<Vec<String>, Allo
 fn ask_of(alloc: Global, matches: &ArgMatches<'_>) -> Result<Ask, UseError>
     ensures { Says (asked_of (rows_of (found_of matches.now))) result }
 {
+    let all = is_set(matches, "all");
     Ok(Ask::Check {
         config: config_of(alloc, matches)?,
-        names: names_of(alloc, matches)?,
+        devices_file: text_of(alloc, matches, "device-list")?,
+        what: CheckAsk {
+            names: names_of(alloc, matches, all)?,
+            all,
+        },
         order: order_of(matches),
     })
 }

@@ -11,4 +11,4 @@ pub use ask::{
     Wanted,
 };
 pub use called::{CalledAs, called_as, words_called};
-pub use read::{config_of, order_of, read_command, read_lock, texts_of};
+pub use read::{config_of, is_set, order_of, read_command, read_lock, text_of, texts_of};

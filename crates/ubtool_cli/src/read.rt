@@ -34,7 +34,11 @@ impl From<AllocError> for UseError {
 // ---- the entries of a subcommand
 
 /// The value of an argument, if it has one.
-fn text_of(alloc: Global, matches: &ArgMatches<'_>, id: &str) -> Result<Option<String>, AllocError>
+pub fn text_of(
+    alloc: Global,
+    matches: &ArgMatches<'_>,
+    id: &str,
+) -> Result<Option<String>, AllocError>
     ensures { IfOk result (λ t. option_map string_bytes t
         ≡ first_of id.now (rows_of (found_of matches.now))) }
 {
@@ -62,7 +66,7 @@ pub fn texts_of(
 }
 
 /// Whether the flag was given.
-fn is_set(matches: &ArgMatches<'_>, flag: &str) -> bool
+pub fn is_set(matches: &ArgMatches<'_>, flag: &str) -> bool
     ensures { result ≡ is_set flag.now (rows_of (found_of matches.now)) }
 {
     match matches.get_str(flag) {

@@ -1,0 +1,238 @@
+//! The subcommands of `ubtool` with their arguments, as tables.
+
+use crate::argument::{Argument, Form};
+use crate::notes::{ENDINGS_NOTES, PRINTENV_NOTES, REHEARSE_NOTES, SETENV_NOTES};
+use crate::shared::{BIG_ENDIAN, CONFIG, DEVICE_LIST, NAMES};
+use crate::subcommand::Subcommand;
+use rehearse::{RUN_DEVICES_MAX, STEPS_MAX};
+
+/// The most device commands that may fail in a run that is listed.
+pub const FAILURES_MAX: u32 = 32;
+
+/// The option that names the folder of the lock, as `printenv` has it.
+const LOCK: Argument<'static> = Argument {
+    id: "lock",
+    form: Form::Value,
+    letter: Some('l'),
+    alias: None,
+    required: false,
+    value: "DIR",
+    help: "Wait for the lock file in DIR [default: do not wait]",
+};
+
+/// The flag for a value without its name, which has a second long name.
+const NO_HEADER: Argument<'static> = Argument {
+    id: "noheader",
+    form: Form::Flag,
+    letter: Some('n'),
+    alias: Some("no-header"),
+    required: false,
+    value: "",
+    help: "Print the value alone, of exactly one NAME [default: NAME=VALUE]",
+};
+
+const PRINTENV: [Argument<'static>; 5] = [
+    CONFIG,
+    BIG_ENDIAN,
+    LOCK,
+    NO_HEADER,
+    Argument {
+        help: "Variables to print, in this order [default: all of the image]",
+        ..NAMES
+    },
+];
+
+const SCRIPT: Argument<'static> = Argument {
+    id: "script",
+    form: Form::Value,
+    letter: Some('s'),
+    alias: None,
+    required: false,
+    value: "FILE",
+    help: "Script of changes, at most 1048576 bytes [default: none, NAME instead]",
+};
+
+const NAME: Argument<'static> = Argument {
+    id: "name",
+    form: Form::Word,
+    letter: None,
+    alias: None,
+    required: false,
+    value: "NAME",
+    help: "Variable to set or delete",
+};
+
+const VALUES: Argument<'static> = Argument {
+    id: "values",
+    form: Form::Words,
+    letter: None,
+    alias: None,
+    required: false,
+    value: "VALUE",
+    help: "Its new value [default: delete the variable]",
+};
+
+const SETENV: [Argument<'static>; 6] = [
+    CONFIG,
+    BIG_ENDIAN,
+    Argument {
+        help: "Folder of the lock file [default: /var/lock]",
+        ..LOCK
+    },
+    SCRIPT,
+    NAME,
+    VALUES,
+];
+
+const VARIABLE: Argument<'static> = Argument {
+    id: "variable",
+    form: Form::Value,
+    letter: Some('b'),
+    alias: None,
+    required: false,
+    value: "NAME",
+    help: "Variable whose text is run [default: bootcmd]",
+};
+
+const DEVICES: Argument<'static> = Argument {
+    id: "devices",
+    form: Form::Number(0, RUN_DEVICES_MAX),
+    letter: None,
+    alias: None,
+    required: false,
+    value: "N",
+    help: "At most N device commands a run, 0 to 32, with --word or --failures 3 to 1000 \
+        [default: 16, with --word 1000]",
+};
+
+const STEPS: Argument<'static> = Argument {
+    id: "steps",
+    form: Form::Number(0, STEPS_MAX),
+    letter: None,
+    alias: None,
+    required: false,
+    value: "N",
+    help: "At most N steps (commands begun) a run, 0 to 1000000 [default: 10000, with --word 1000000]",
+};
+
+const WORD: Argument<'static> = Argument {
+    id: "word",
+    form: Form::Value,
+    letter: None,
+    alias: None,
+    required: false,
+    value: "WORD",
+    help: "The run of WORD alone, . for the empty one [default: a listing]",
+};
+
+const FAILURES: Argument<'static> = Argument {
+    id: "failures",
+    form: Form::Number(0, FAILURES_MAX),
+    letter: None,
+    alias: None,
+    required: false,
+    value: "N",
+    help: "The runs in which at most N device commands fail, 0 to 32 [default: all]",
+};
+
+const AFTER: Argument<'static> = Argument {
+    id: "after",
+    form: Form::Value,
+    letter: None,
+    alias: None,
+    required: false,
+    value: "WORD",
+    help: "Begin after the run of WORD, . for the empty one [default: the first]",
+};
+
+const LIMIT: Argument<'static> = Argument {
+    id: "limit",
+    form: Form::Number(1, u32::MAX),
+    letter: None,
+    alias: None,
+    required: false,
+    value: "N",
+    help: "At most N records, 1 to 4294967295 [default: all]",
+};
+
+const REHEARSE: [Argument<'static>; 11] = [
+    CONFIG,
+    BIG_ENDIAN,
+    DEVICE_LIST,
+    VARIABLE,
+    DEVICES,
+    STEPS,
+    WORD,
+    FAILURES,
+    AFTER,
+    LIMIT,
+    Argument {
+        help: "Variables to list after each run, in this order [default: all]",
+        ..NAMES
+    },
+];
+
+const STATES: Argument<'static> = Argument {
+    id: "states",
+    form: Form::Number(0, u32::MAX),
+    letter: None,
+    alias: None,
+    required: false,
+    value: "N",
+    help: "At most N states in all, 0 to 4294967295 [default: 1000000]",
+};
+
+const FLOW: Argument<'static> = Argument {
+    id: "flow",
+    form: Form::Flag,
+    letter: None,
+    alias: None,
+    required: false,
+    value: "",
+    help: "Write the states as a graph, a line each",
+};
+
+const ENDINGS: [Argument<'static>; 8] = [
+    CONFIG,
+    BIG_ENDIAN,
+    DEVICE_LIST,
+    VARIABLE,
+    Argument {
+        help: "At most N device commands a run, 0 to 1000 [default: 1000]",
+        ..DEVICES
+    },
+    Argument {
+        help: "At most N steps (commands begun) a run, 0 to 1000000 [default: 1000000]",
+        ..STEPS
+    },
+    STATES,
+    FLOW,
+];
+
+/// The subcommands, in the order of the help.
+pub(crate) const SUBCOMMANDS: [Subcommand<'static>; 4] = [
+    Subcommand {
+        name: "printenv",
+        about: "Print variables of the environment",
+        notes: PRINTENV_NOTES,
+        arguments: &PRINTENV,
+    },
+    Subcommand {
+        name: "setenv",
+        about: "Set or delete variables of the environment",
+        notes: SETENV_NOTES,
+        arguments: &SETENV,
+    },
+    Subcommand {
+        name: "rehearse",
+        about: "List every run of a boot script",
+        notes: REHEARSE_NOTES,
+        arguments: &REHEARSE,
+    },
+    Subcommand {
+        name: "endings",
+        about: "Tell how all runs of a boot script end",
+        notes: ENDINGS_NOTES,
+        arguments: &ENDINGS,
+    },
+];

@@ -1,0 +1,128 @@
+-- Checking the texts of what was read.
+use Rattle.std.proofs.Common.{◌≡◌, ℕ, refl, sym, subst, List, Option, Some, None, Ok, Err, inl, inr, Bool}
+use Rattle.std.specs.Prelude.{Vec, option_map}
+use Rattle.std.specs.declared.alloc.Global.{Global}
+use Rattle.output.specs.Sink.{Sink}
+use Rattle.hushcheck.specs.Asked.{Asked}
+use Rattle.hushcheck.specs.Checking.{AreFound, ChecksFrom, ChecksText, FromFiles, Given, IsUnread, LeavesOutput, ReadsList, given_by, TellsAll, IsBadList, BreaksOff}
+use Rattle.hushcheck_core.specs.Names.{Text}
+use Rattle.rehearse_runs.specs.declared.rehearse_error.RehearseError.TheVariants as rehearsal
+use Rattle.ubtool_core.specs.Errors.{tool_fault}
+use Rattle.ubtool_core.specs.declared.error.ToolError.{ToolError}
+use Rattle.ubtool_core.specs.declared.error.ToolError.TheVariants as tool
+use Rattle.ubtool_core.specs.declared.fault.Fault.{Fault}
+use Rattle.ubtool_core.specs.declared.fault.Fault.TheVariants as fault
+use Rattle.ubtool_files.proofs.OrderLemmas.{OnlyReads-one, OnlyReads-then}
+use Rattle.ubtool_files.specs.CallOrder.{OnlyReads}
+use Rattle.ubtool_files.specs.Told.{Stored, Told, file_at}
+use Rattle.ubtool_files.specs.declared.files.Action.TheVariants.{ReadAll}
+use Rattle.ubtool_run.proofs.ReadingLemmas.{found-reads}
+use Rattle.ubtool_run.proofs.RehearseLemmas.{are-read}
+use Rattle.ubtool_run.specs.Images.{Copy, HasRead, ReadsImages}
+use Rattle.ubtool_run.specs.PrintingFiles.{FromImages}
+use Rattle.ubtool_run.specs.ReadingFiles.{IsTextFault}
+
+-- the bytes of a text, if there is one
+abbrev pub bytes_if : Option (Vec ℕ Global) → Option Text
+bytes_if text = option_map (λ v. v.items) text
+
+-- ---- reads that were refused
+
+-- checking gives no such refusal
+unread : (asked : Asked) (out : Sink) (old new : Told) (f : Fault) → OnlyReads old new → IsUnread asked.config asked.device_list old f → ChecksFrom asked out out old new (Err f)
+unread asked out old new (fault.Config error) reads h = (reads, h)
+unread asked out old new (fault.Tool error) reads h = absurd (none asked.device_list h)
+  where
+    none : (list : Option Text) → IsUnread asked.config list old (fault.Tool error) → ⊥
+    none None h = h
+    none (Some list) (inl h) = h
+    none (Some list) (inr h) = h.refused
+unread asked out old new (fault.CannotRead path) reads h = (reads, h)
+unread asked out old new (fault.CannotWrite path) reads h = (reads, h)
+unread asked out old new (fault.FileShort path) reads h = (reads, h)
+unread asked out old new (fault.FileTooLong path) reads h = (reads, h)
+unread asked out old new fault.CannotReadInput reads h = (reads, h)
+unread asked out old new fault.InputTooLong reads h = (reads, h)
+unread asked out old new (fault.NoSuchVariable name) reads h = (reads, h)
+unread asked out old new (fault.NotARun word) reads h = (reads, h)
+unread asked out old new fault.Memory reads h = (reads, h)
+
+-- the refusal of the images
+pub checks-unread : (asked : Asked) (out : Sink) (old new : Told) (f : Fault) → ReadsImages asked.config old new (Err f) → ChecksFrom asked out out old new (Err f)
+checks-unread asked out old new f h = unread asked out old new f h.0 (by asked.device_list)
+  where
+    by : (list : Option Text) → IsUnread asked.config list old f
+    by None = h.1
+    by (Some list) = inl h.1
+
+-- the refusal of the device list
+pub checks-unlisted : (asked : Asked) (out : Sink) (found : List Copy) (x y z : Told) (f : Fault) → HasRead asked.config x y found → ReadsList asked.device_list y z (Err f) → ChecksFrom asked out out x z (Err f)
+checks-unlisted asked out found x y z f read h =
+    let both = by asked.device_list h in
+    unread asked out x z f both.0 both.1
+  where
+    by : (list : Option Text) → ReadsList list y z (Err f) → OnlyReads x z × IsUnread asked.config list x f
+    by None h = absurd h
+    by (Some list) h =
+        let refused : IsTextFault list (file_at list x.stored) f = subst (λ (s : Stored). IsTextFault list (file_at list s) f) read.stored h.1 in
+        (OnlyReads-then x y z (found-reads asked.config x y found read) h.0, inr (record { found = found; after_images = y; read = read; refused = refused }))
+
+-- ---- the texts of what was read
+
+are-found : (config : Text) (list : Option Text) (found : List Copy) (x y z : Told) (text : Option (Vec ℕ Global)) (IsSo : List Copy → Option Text → Type 0) → HasRead config x y found
+    → ReadsList list y z (Ok text) → IsSo found (bytes_if text) → AreFound config list x z IsSo
+are-found config None found x y z None IsSo read listed so = subst (λ (t : Told). FromImages config x t (λ copies. IsSo copies None)) (sym listed) (record { found = found; read = read; so = so })
+are-found config None found x y z (Some text) IsSo read listed so = absurd listed
+are-found config (Some list) found x y z None IsSo read listed so = absurd listed
+are-found config (Some list) found x y z (Some text) IsSo read listed so = are-read config list found text x y z (λ copies bytes. IsSo copies (Some bytes)) read listed so
+
+only-read : (config : Text) (list : Option Text) (found : List Copy) (x y z : Told) (text : Option (Vec ℕ Global)) → HasRead config x y found → ReadsList list y z (Ok text) → OnlyReads x z
+only-read config None found x y z None read listed = subst (λ (t : Told). OnlyReads x t) (sym listed) (found-reads config x y found read)
+only-read config None found x y z (Some text) read listed = absurd listed
+only-read config (Some list) found x y z None read listed = absurd listed
+only-read config (Some list) found x y z (Some text) read listed = OnlyReads-then x y z (found-reads config x y found read) (OnlyReads-one list ReadAll y z refl listed.calls listed.stored)
+
+module _ (asked : Asked) (out out' : Sink) (found : List Copy) (text : Option (Vec ℕ Global)) (x y z : Told) (read : HasRead asked.config x y found) (listed : ReadsList asked.device_list y z (Ok text)) where
+  abbrev pub here : Given
+  here = given_by asked.order found (bytes_if text) asked.names asked.all
+
+  from-files : (IsSo : Given → Type 0) → IsSo here → FromFiles asked x z IsSo
+  from-files IsSo so = are-found asked.config asked.device_list found x y z text (λ copies list. IsSo (given_by asked.order copies list asked.names asked.all)) read listed so
+
+  pub checks-found : (sound : Bool) → ChecksText here out out' (Ok sound) → ChecksFrom asked out out' x z (Ok sound)
+  checks-found sound h = from-files (λ g. TellsAll g out out' sound) h
+
+  -- memory ran out after the reads
+  no-memory : (list : Option Text) → IsUnread asked.config list x fault.Memory
+  no-memory None = tt
+  no-memory (Some list) = inl tt
+
+  pub checks-refused : (error : ToolError) → ChecksText here out out' (Err error) → ChecksFrom asked out out' x z (Err (tool_fault error))
+  checks-refused (tool.Image error) h = from-files (λ g. g.env ≡ Err error) h.0
+  checks-refused (tool.Env error) h = absurd h
+  checks-refused (tool.Script error) h = absurd h
+  checks-refused (tool.Rehearsal (rehearsal.DeviceList error)) h = from-files (λ g. IsBadList g error) h.0
+  checks-refused (tool.Rehearsal rehearsal.NoSuchVariable) h = absurd h
+  checks-refused (tool.Rehearsal rehearsal.NotARun) h = absurd h
+  checks-refused (tool.Rehearsal rehearsal.States) h = absurd h
+  checks-refused (tool.Rehearsal rehearsal.Write) h = absurd h
+  checks-refused (tool.Rehearsal rehearsal.Memory) h = absurd h
+  checks-refused (tool.Rehearsal rehearsal.Failed) h = absurd h
+  checks-refused tool.Write h = from-files (λ g. BreaksOff g out out') h
+  checks-refused tool.Memory h = (only-read asked.config asked.device_list found x y z text read listed, no-memory asked.device_list)
+
+-- ---- the output, over any files
+
+pub leaves-refused : (g : Given) (out out' : Sink) (error : ToolError) → ChecksText g out out' (Err error) → LeavesOutput (Err (tool_fault error)) out out'
+leaves-refused g out out' (tool.Image error) h = h.1
+leaves-refused g out out' (tool.Env error) h = absurd h
+leaves-refused g out out' (tool.Script error) h = absurd h
+leaves-refused g out out' (tool.Rehearsal (rehearsal.DeviceList error)) h = h.1
+leaves-refused g out out' (tool.Rehearsal rehearsal.NoSuchVariable) h = absurd h
+leaves-refused g out out' (tool.Rehearsal rehearsal.NotARun) h = absurd h
+leaves-refused g out out' (tool.Rehearsal rehearsal.States) h = absurd h
+leaves-refused g out out' (tool.Rehearsal rehearsal.Write) h = absurd h
+leaves-refused g out out' (tool.Rehearsal rehearsal.Memory) h = absurd h
+leaves-refused g out out' (tool.Rehearsal rehearsal.Failed) h = absurd h
+leaves-refused g out out' tool.Write h = tt
+leaves-refused g out out' tool.Memory h = h
