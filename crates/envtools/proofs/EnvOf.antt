@@ -52,7 +52,7 @@ dropped-assigned_other (p ∷ ps) name value other ne =
     ]
 
 -- a first variable, before the others as they become
-abbrev in_front : Pair → List Pair → List Pair
+abbrev pub in_front : Pair → List Pair → List Pair
 in_front p later = (p.0, unwrap_or (value_of later p.0) p.1) ∷ dropped later p.0
 
 in_front-assigned : (p q : Pair) (later : List Pair) → in_front p (assigned later q.0 q.1) ≡ assigned (in_front p later) q.0 q.1

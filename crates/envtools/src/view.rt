@@ -97,6 +97,14 @@ impl<'a> EnvView<'a> {
         }
         Ok(EnvView { variables })
     }
+
+    /// The variable at a place.
+    pub(crate) fn slices(&self, at: usize) -> Option<(&'a [u8], &'a [u8])>
+        ensures { option_map (λ p. (p.0.now, p.1.now)) result ≡ slice_get self.now at }
+    {
+        let (name, value) = self.variables.get_index(at)?;
+        Some((*name, *value))
+    }
 }
 
 impl Lookup for EnvView<'_> {
@@ -114,7 +122,6 @@ impl Variables for EnvView<'_> {
     }
 
     fn pair(&self, at: usize) -> Option<(&[u8], &[u8])> {
-        let (name, value) = self.variables.get_index(at)?;
-        Some((*name, *value))
+        self.slices(at)
     }
 }

@@ -1,6 +1,6 @@
 //! What words expand to: the fields of a command, or the one value of an assignment.
 
-ghost use Rattle.std.specs.Prelude.{◌≡◌, ◌<◌, ◌≤◌, ◌+◌, ◌++◌, length, map, OnOk, IfOk, IfErr};
+ghost use Rattle.std.specs.Prelude.{◌≡◌, ◌<◌, ◌≤◌, ◌+◌, ◌++◌, [], length, map, OnOk, IfOk, IfErr};
 ghost use Rattle.std.specs.Option.{option_copied};
 ghost use Rattle.hushlang.specs.Expansion as spec;
 ghost use Rattle.hushlang.specs.Splitting as way;
@@ -10,6 +10,7 @@ use crate::tree::{Piece, Word};
 use itoa::Buffer;
 use std::alloc::{AllocError, AllocFailed, Global};
 use std::collections::BTreeMap;
+use std::marker::Model;
 use std::mem;
 use thiserror::Error;
 
@@ -19,6 +20,15 @@ pub use one_variable::OneVariable;
 
 /// The most bytes that one expansion may hold.
 const MOST_BYTES: usize = 65_536;
+
+/// How many fields' memory is kept for later fields, and how many bytes a field may have room for
+/// if its memory is kept.
+const MOST_SPARE: usize = 32;
+
+const MOST_SPARE_BYTES: usize = 1_024;
+
+/// The length of the longest value that is read again at each use.
+const MOST_READ_AGAIN: usize = 64;
 
 /// Why words are not expanded.
 #[derive(Clone, Copy, Debug, PartialEq, Eq, Error)]
@@ -74,12 +84,62 @@ pub fn expand<V: Vars>(alloc: Global, words: &[Word], vars: &V) -> Result<Vec<Ve
     ensures within_limit { OnOk result (spec.size (spec.fields (V.parameters vars.now) (map view.word words.now)) ≤ spec.most_bytes) }
     ensures too_long { IfErr result (λ error. error ≡ ExpandError.TooLong → spec.most_bytes < spec.size (spec.fields (V.parameters vars.now) (map view.word words.now))) }
 {
-    let mut fields = Gathering::new(alloc);
-    let mut values = ShortValues::new(alloc);
-    for word in words {
-        fields.add_word(word, vars, &mut values)?;
+    let mut fields = Fields::new(alloc);
+    fields.fill(words, vars)?;
+    Ok(fields.into_vec())
+}
+
+/// The fields of words, as `expand` gives them. What takes their place uses their memory again, so
+/// that expanding words of the same lengths takes none.
+#[derive(Drop)]
+pub struct Fields {
+    gathering: Gathering,
+}
+
+impl Model for Fields {
+    ghost use Rattle.std.specs.Prelude.{List, ℕ};
+    ghost use Rattle.hushlang.specs.Splitting.{fields_so_far};
+
+    ghost Value = { List (List ℕ) };
+
+    ghost view = { λ f. (fields_so_far f.gathering).whole };
+}
+
+impl Fields {
+    /// No fields. Takes no memory.
+    pub fn new(alloc: Global) -> Fields
+        ensures { result ≡ [] }
+    {
+        Fields {
+            gathering: Gathering::new(alloc),
+        }
     }
-    Ok(fields.into_fields())
+
+    /// Puts the fields of words in the place of these, in order. Errors: `TooLong` exactly if the
+    /// fields hold more than 65,536 bytes in all; `Memory` only if a growth was refused. After an
+    /// error these may be any fields.
+    pub fn fill<V: Vars>(&mut self, words: &[Word], vars: &V) -> Result<(), ExpandError>
+        ensures fields { OnOk result (self.new ≡ spec.fields (V.parameters vars.now) (map view.word words.now)) }
+        ensures within_limit { OnOk result (spec.size (spec.fields (V.parameters vars.now) (map view.word words.now)) ≤ spec.most_bytes) }
+        ensures too_long { IfErr result (λ error. error ≡ ExpandError.TooLong → spec.most_bytes < spec.size (spec.fields (V.parameters vars.now) (map view.word words.now))) }
+    {
+        self.gathering.restart();
+        self.gathering.add_words(words, vars)
+    }
+
+    /// The fields, in order.
+    pub fn as_slice(&self) -> &[Vec<u8>]
+        ensures { map (λ field. field.items) result.now ≡ self.now }
+    {
+        &self.gathering.whole
+    }
+
+    /// The fields, with their memory.
+    pub fn into_vec(self) -> Vec<Vec<u8>>
+        ensures { map (λ field. field.items) result.items ≡ self }
+    {
+        self.gathering.into_fields()
+    }
 }
 
 /// Expands a word to all its bytes, without cutting it at separators. Errors: `TooLong` exactly if
@@ -166,7 +226,7 @@ fn append_piece<V: Vars>(value: &mut Vec<u8>, piece: &Piece, vars: &V) -> Result
 }
 
 /// Fields on the way: those that are whole, the one to which bytes are added, whether that one has
-/// begun (it may be empty), and how many more bytes fit the limit.
+/// begun (it may be empty), how many more bytes fit the limit, and the memory of earlier fields.
 #[derive(Drop)]
 struct Gathering {
     alloc: Global,
@@ -174,6 +234,7 @@ struct Gathering {
     field: Vec<u8>,
     begun: bool,
     room: usize,
+    spare: Vec<Vec<u8>>,
 }
 
 impl Gathering {
@@ -187,6 +248,44 @@ impl Gathering {
             field: Vec::new(alloc),
             begun: false,
             room: MOST_BYTES,
+            spare: Vec::new(alloc),
+        }
+    }
+
+    /// Begins anew without a field, and keeps the memory of some fields for later ones.
+    fn restart(&mut self)
+        ensures nothing { way.fields_so_far self.new ≡ way.nothing_gathered }
+        ensures counted { way.IsCounted self.new }
+    {
+        'fields: while let Some(field) = self.whole.pop() {
+            self.spare(field);
+        }
+        self.field.clear();
+        self.begun = false;
+        self.room = MOST_BYTES;
+    }
+
+    /// Keeps the memory of a field, if it is small and no more than enough is kept.
+    fn spare(&mut self, field: Vec<u8>)
+        ensures { way.fields_so_far self.new ≡ way.fields_so_far self.old }
+    {
+        if self.spare.len() < MOST_SPARE && field.capacity() <= MOST_SPARE_BYTES {
+            let _kept = self.spare.push(field);
+        }
+    }
+
+    /// An empty field, in memory that was kept if there is any.
+    fn empty_field(&mut self) -> Vec<u8>
+        ensures empty { result.items ≡ [] }
+        ensures same { way.fields_so_far self.new ≡ way.fields_so_far self.old }
+        ensures room { self.new.room ≡ self.old.room }
+    {
+        match self.spare.pop() {
+            Some(mut field) => {
+                field.clear();
+                field
+            }
+            None => Vec::new(self.alloc),
         }
     }
 
@@ -200,6 +299,7 @@ impl Gathering {
             field: _,
             begun: _,
             room: _,
+            spare: _,
         } = self;
         whole
     }
@@ -229,7 +329,8 @@ impl Gathering {
         ensures memory { IfErr result (λ error. error ≡ ExpandError.Memory) }
     {
         if self.begun {
-            let field = mem::replace(&mut self.field, Vec::new(self.alloc));
+            let next = self.empty_field();
+            let field = mem::replace(&mut self.field, next);
             self.whole.push(field)?;
             self.begun = false;
         }
@@ -274,8 +375,8 @@ impl Gathering {
     }
 
     /// Adds the bytes of a variable that is cut at its separators. The first use of a name reads
-    /// the whole value; each later use takes time for the bytes that it adds. Errors: `TooLong`,
-    /// `Memory`.
+    /// the whole value; each later use takes time for the bytes that it adds, if the value is not
+    /// short. Errors: `TooLong`, `Memory`.
     fn add_split<V: Vars>(
         &mut self,
         name: &[u8],
@@ -295,6 +396,9 @@ impl Gathering {
         }
         let value = value_of(vars, name);
         self.split(value)?;
+        if value.len() <= MOST_READ_AGAIN {
+            return Ok(());
+        }
         let short = shortened(self.alloc, value)?;
         values.insert(Vec::from_slice(self.alloc, name)?, short)?;
         Ok(())
@@ -324,6 +428,21 @@ impl Gathering {
             Piece::Var { name, split: false } => self.keep_all(value_of(vars, name)),
             Piece::Status => self.keep_all(Buffer::new().format(vars.status()).as_bytes()),
         }
+    }
+
+    /// Adds the fields of words to none. Errors: `TooLong`, `Memory`.
+    fn add_words<V: Vars>(&mut self, words: &[Word], vars: &V) -> Result<(), ExpandError>
+        requires nothing { way.fields_so_far self.old ≡ way.nothing_gathered }
+        requires counted { way.IsCounted self.old }
+        ensures fields { OnOk result ((way.fields_so_far self.new).whole ≡ spec.fields (V.parameters vars.now) (map view.word words.now)) }
+        ensures within_limit { OnOk result (spec.size (spec.fields (V.parameters vars.now) (map view.word words.now)) ≤ spec.most_bytes) }
+        ensures too_long { IfErr result (λ error. error ≡ ExpandError.TooLong → spec.most_bytes < spec.size (spec.fields (V.parameters vars.now) (map view.word words.now))) }
+    {
+        let mut values = ShortValues::new(self.alloc);
+        for word in words {
+            self.add_word(word, vars, &mut values)?;
+        }
+        Ok(())
     }
 
     /// Adds the fields of a word. Errors: `TooLong`, `Memory`.

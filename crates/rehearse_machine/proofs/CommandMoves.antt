@@ -53,10 +53,6 @@ pub first_and_rest : (xs : List (Vec ℕ Global)) (x : Vec ℕ Global) → 1 ≤
 first_and_rest [] x h e = absurd (omega arith)
 first_and_rest (y ∷ ys) x h e = ap (λ z. z ∷ ys) (sym e) ∙ ap (λ zs. x ∷ zs) (sym (take_all (suc (length ys) - 1) ys (omega arith)))
 
-pub removed_first : (xs : List (Vec ℕ Global)) (x : Vec ℕ Global) (rest : List (Vec ℕ Global)) → 0 < length xs → x ≡ slice_index_or xs 0 x → rest ≡ remove xs 0 → xs ≡ x ∷ rest
-removed_first [] x rest h e k = absurd (omega arith)
-removed_first (y ∷ ys) x rest h e k = ap (λ z. z ∷ ys) (sym e) ∙ ap (λ zs. x ∷ zs) (sym k)
-
 -- ---- `setenv`
 
 abbrev with_memory : State → Variables → State
@@ -142,10 +138,6 @@ empty_rest (y ∷ ys) e = absurd (let f = e ∙ eqb-suc-zero (length ys) in cc)
 pub some_rest : (ys : List (Vec ℕ Global)) → false ≡ eqb (length ys) 0 → 0 < length (bytes_of_words ys)
 some_rest [] e = absurd (let f = e in cc)
 some_rest (y ∷ ys) e = omega arith
-
-pub some_length : (n : ℕ) → false ≡ eqb n 0 → 0 < n
-some_length zero e = absurd (let f = e in cc)
-some_length (suc n) e = omega arith
 
 -- what the built-in command of a name does, the name does
 pub named_comes : (limits : Limits) (name : Text) (words : List Text) (script : Script) (frames : List RunningFrame) (r : Result Step StoreError) (old new : Record) (b k : Called) → b ≡ k → Comes r old new (place_called limits k name words script frames) → Comes r old new (place_called limits b name words script frames)

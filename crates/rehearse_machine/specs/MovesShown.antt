@@ -70,10 +70,10 @@ abbrev pub Changed : Result (Unit {0}) StoreError → Record → Record → (Mem
 Changed (Ok done) old new change = Changes old new change
 Changed (Err e) old new change = Unit {0}
 
--- fields, if they hold no more bytes than allowed
-abbrev pub IsExpanded : Option (Vec (Vec ℕ Global) Global) → List Text → Type 0
-IsExpanded (Some found) fields = (bytes_of_words found.items ≡ fields) × (nat_le (size fields) most_bytes ≡ true)
-IsExpanded None fields = nat_le (size fields) most_bytes ≡ false
+-- the fields that were found, if they hold no more bytes than allowed
+abbrev pub IsExpanded : Bool → List Text → List Text → Type 0
+IsExpanded true found fields = (found ≡ fields) × (nat_le (size fields) most_bytes ≡ true)
+IsExpanded false found fields = nat_le (size fields) most_bytes ≡ false
 
 abbrev pub IsExpandedOne : Option (Vec ℕ Global) → Text → Type 0
 IsExpandedOne (Some found) value = (found.items ≡ value) × (nat_le (length value) most_bytes ≡ true)

@@ -10,6 +10,7 @@ use crate::parts::command_of;
 use crate::simple::run_fields;
 use crate::steps::expanded;
 use bootstore::{Frame, Store, StoreError};
+use hushlang::expand::Fields;
 use hushlang::tree::{Command, Word};
 use rehearse::{Devices, RunBounds};
 use std::alloc::Global;
@@ -39,6 +40,7 @@ fn words_in_front(frame: &Frame) -> Option<&[Word]>
 fn find_behind<'d, S: Store>(
     alloc: Global,
     store: &mut S,
+    fields: &mut Fields,
     frame: &Frame,
     devices: &'d Devices,
     bounds: RunBounds,
@@ -50,10 +52,18 @@ fn find_behind<'d, S: Store>(
     let Some(words) = words_in_front(frame) else {
         return Ok(Step::Ends(Halt::End(store.get_status())));
     };
-    let Some(fields) = expanded(alloc, store, words)? else {
+    let fit = expanded(fields, store, words)?;
+    if !fit {
         return Ok(Step::Ends(Halt::Size));
-    };
-    run_fields(alloc, store, frame.script(), devices, bounds, fields)
+    }
+    run_fields(
+        alloc,
+        store,
+        frame.script(),
+        devices,
+        bounds,
+        fields.as_slice(),
+    )
 }
 
 /// Finds the device command again that has begun and asks. It is before the place of the innermost
@@ -70,5 +80,6 @@ pub(crate) fn find_again<'d, S: Store>(
         return Ok(Step::Ends(Halt::End(store.get_status())));
     };
     let frame = top.copy()?;
-    find_behind(alloc, store, &frame, devices, bounds)
+    let mut fields = Fields::new(alloc);
+    find_behind(alloc, store, &mut fields, &frame, devices, bounds)
 }

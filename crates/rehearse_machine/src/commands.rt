@@ -33,6 +33,17 @@ pub(crate) fn called_by_name<'a>(devices: &'a Devices, name: &[u8], words: &[Vec
     }
 }
 
+/// Copies of the words. Errors: memory ran out.
+pub(crate) fn copied(alloc: Global, words: &[Vec<u8>]) -> Result<Vec<Vec<u8>>, AllocError>
+    ensures { IfOk result (λ v. bytes_of_words v.items ≡ bytes_of_words words.now) }
+{
+    let mut copies = Vec::with_capacity(alloc, words.len())?;
+    for word in words {
+        copies.push(Vec::from_slice(alloc, word)?)?;
+    }
+    Ok(copies)
+}
+
 /// The words, joined by single spaces. Errors: memory ran out.
 pub(crate) fn joined(alloc: Global, words: &[Vec<u8>]) -> Result<Vec<u8>, AllocError>
     ensures { IfOk result (λ v. v.items ≡ join_with_byte ascii.space (bytes_of_words words.now)) }

@@ -9,6 +9,7 @@ use crate::ask::Step;
 use crate::frames::{behind, go_on, place};
 use crate::scripts::begin_command;
 use bootstore::{Frame, Store, StoreError};
+use hushlang::expand::Fields;
 use hushlang::tree::{AndOr, Op};
 use rehearse::{Devices, RunBounds};
 use std::alloc::Global;
@@ -27,6 +28,7 @@ fn goes(op: Op, status: u8) -> bool
 pub fn begin_in_list<'d, S: Store>(
     alloc: Global,
     store: &mut S,
+    fields: &mut Fields,
     frame: &Frame,
     devices: &'d Devices,
     bounds: RunBounds,
@@ -40,13 +42,13 @@ pub fn begin_in_list<'d, S: Store>(
 {
     let at = frame.at();
     if at.command == 0 {
-        return begin_command(alloc, store, frame, devices, bounds, &list.first);
+        return begin_command(alloc, store, fields, frame, devices, bounds, &list.first);
     }
     let Some((op, command)) = list.rest.get(at.command - 1) else {
         return go_on(store, frame, place(at.list + 1, 0));
     };
     if goes(*op, store.get_status()) {
-        begin_command(alloc, store, frame, devices, bounds, command)
+        begin_command(alloc, store, fields, frame, devices, bounds, command)
     } else {
         go_on(store, frame, behind(at))
     }

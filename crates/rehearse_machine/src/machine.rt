@@ -8,6 +8,7 @@ use crate::ask::Step;
 use crate::halt::Halt;
 use crate::running::{move_for, move_in_script, move_run};
 use bootstore::{FrameKind, Store, StoreError};
+use hushlang::expand::Fields;
 use rehearse::{Devices, RunBounds};
 use std::alloc::Global;
 
@@ -15,6 +16,7 @@ use std::alloc::Global;
 pub(crate) fn step<'d, S: Store>(
     alloc: Global,
     store: &mut S,
+    fields: &mut Fields,
     devices: &'d Devices,
     bounds: RunBounds,
 ) -> Result<Step<'d>, StoreError>
@@ -26,8 +28,8 @@ pub(crate) fn step<'d, S: Store>(
     };
     let frame = top.copy()?;
     match frame.kind() {
-        FrameKind::Text => move_in_script(alloc, store, &frame, devices, bounds),
-        FrameKind::Block => move_in_script(alloc, store, &frame, devices, bounds),
+        FrameKind::Text => move_in_script(alloc, store, fields, &frame, devices, bounds),
+        FrameKind::Block => move_in_script(alloc, store, fields, &frame, devices, bounds),
         FrameKind::For => move_for(store, &frame),
         FrameKind::Run => move_run(store, &frame),
     }
@@ -37,6 +39,7 @@ pub(crate) fn step<'d, S: Store>(
 pub(crate) fn turn<'d, S: Store>(
     alloc: Global,
     store: &mut S,
+    fields: &mut Fields,
     devices: &'d Devices,
     bounds: RunBounds,
 ) -> Result<Step<'d>, StoreError>
@@ -46,7 +49,7 @@ pub(crate) fn turn<'d, S: Store>(
 {
     let before = store.steps();
     'moves: loop {
-        match step(alloc, store, devices, bounds)? {
+        match step(alloc, store, fields, devices, bounds)? {
             Step::Going => {
                 if store.steps() != before {
                     return Ok(Step::Going);
@@ -62,6 +65,7 @@ pub(crate) fn turn<'d, S: Store>(
 pub(crate) fn drive<'d, S: Store>(
     alloc: Global,
     store: &mut S,
+    fields: &mut Fields,
     devices: &'d Devices,
     bounds: RunBounds,
 ) -> Result<Step<'d>, StoreError>
@@ -71,7 +75,7 @@ pub(crate) fn drive<'d, S: Store>(
     ensures { IfOk result (λ step. Drives (limits_of devices.now bounds) step (S.record_of store.old) (S.record_of store.new)) }
 {
     'turns: loop {
-        match turn(alloc, store, devices, bounds)? {
+        match turn(alloc, store, fields, devices, bounds)? {
             Step::Going => {}
             Step::Asks(ask) => return Ok(Step::Asks(ask)),
             Step::Ends(halt) => return Ok(Step::Ends(halt)),

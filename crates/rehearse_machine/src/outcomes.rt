@@ -11,10 +11,12 @@ ghost use Rattle.rehearse_machine.specs.Places.{place_answered, place_ask};
 ghost use Rattle.rehearse_machine.specs.MovesShown.{Changed, Comes, request_shown, limits_of};
 
 use crate::ask::{Ask, Step};
+use crate::commands::copied;
 use crate::halt::Halt;
 use crate::told::told;
 use bootstore::{LogEntry, Store, StoreError};
 use rehearse::{Effect, LeftSide, RunBounds, Setting, is_bad_name};
+use std::alloc::Global;
 
 /// Gives a device command its outcome, which goes into the log and is the status. On success the
 /// command sets its variables, and may end the run.
@@ -55,16 +57,17 @@ pub(crate) fn answer<'d, S: Store>(
 /// A device command, if the bound allows one more: one that is told its answer again goes on with
 /// it, and another one asks. Errors: `Memory`.
 pub(crate) fn ask<'d, S: Store>(
+    alloc: Global,
     store: &mut S,
     bounds: RunBounds,
-    name: Vec<u8>,
-    words: Vec<Vec<u8>>,
+    name: &[u8],
+    words: &[Vec<u8>],
     effect: Effect<'d>,
 ) -> Result<Step<'d>, StoreError>
     ensures { (devices : ListedDevices) → Comes result (S.record_of store.old)
         (S.record_of store.new) (place_ask (limits_of devices bounds) (record {
-          name = name.items;
-          words = bytes_of_words words.items;
+          name = name.now;
+          words = bytes_of_words words.now;
           effect = lent_effect effect.entry;
           again = false;
         }) (S.record_of store.old).present.frames) }
@@ -73,10 +76,10 @@ pub(crate) fn ask<'d, S: Store>(
     if asked >= bounds.devices() as usize {
         return Ok(Step::Ends(Halt::CutDevices));
     }
-    let answered = told(store, &name, &words, effect);
+    let answered = told(store, name, words, effect);
     let request = Ask {
-        name,
-        words,
+        name: Vec::from_slice(alloc, name)?,
+        words: copied(alloc, words)?,
         effect,
         again: answered.is_some(),
     };

@@ -17,6 +17,7 @@ use crate::machine::drive;
 use crate::outcomes::answer;
 use bootstore::{Store, StoreError, read_script};
 use envtools::Env;
+use hushlang::expand::Fields;
 use rehearse::{Devices, RunBounds};
 use std::alloc::Global;
 use std::rc::Rc;
@@ -55,7 +56,14 @@ fn go_on<S: Store>(rehearsal: &Rehearsal<'_>, store: &mut S) -> Result<Stop, Sto
     ensures within { OnOk result ((S.record_of store.new).present.steps ≤ rehearsal.now.bounds.steps) }
     ensures grows { OnOk result ((S.record_of store.old).present.steps ≤ (S.record_of store.new).present.steps) }
 {
-    match drive(rehearsal.alloc, store, rehearsal.devices, rehearsal.bounds)? {
+    let mut fields = Fields::new(rehearsal.alloc);
+    match drive(
+        rehearsal.alloc,
+        store,
+        &mut fields,
+        rehearsal.devices,
+        rehearsal.bounds,
+    )? {
         Step::Going => unreachable!(),
         Step::Asks(_) => Ok(Stop::Asks),
         Step::Ends(halt) => Ok(Stop::Ends(halt)),

@@ -13,6 +13,7 @@ use crate::names::next_turn;
 use crate::parts::command_of;
 use crate::scripts::end_block;
 use bootstore::{Frame, Store, StoreError, TextFound};
+use hushlang::expand::Fields;
 use hushlang::tree::{Command, Script};
 use rehearse::{Devices, RunBounds};
 use std::alloc::Global;
@@ -22,6 +23,7 @@ use std::rc::Rc;
 pub(crate) fn move_in_script<'d, S: Store>(
     alloc: Global,
     store: &mut S,
+    fields: &mut Fields,
     frame: &Frame,
     devices: &'d Devices,
     bounds: RunBounds,
@@ -37,7 +39,7 @@ pub(crate) fn move_in_script<'d, S: Store>(
         return leave(store);
     };
     if at.turn == 0 {
-        return begin_in_list(alloc, store, frame, devices, bounds, list);
+        return begin_in_list(alloc, store, fields, frame, devices, bounds, list);
     }
     match command_of(list, at.command) {
         Some(command) => end_block(store, frame, command, at.turn - 1),

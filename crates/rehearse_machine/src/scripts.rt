@@ -10,6 +10,7 @@ use crate::blocks::{begin_arms, begin_loop, end_condition, end_loop_condition};
 use crate::frames::{behind, go_on};
 use crate::simple::{begin_for, begin_simple};
 use bootstore::{Frame, Store, StoreError};
+use hushlang::expand::Fields;
 use hushlang::tree::Command;
 use rehearse::{Devices, RunBounds};
 use std::alloc::Global;
@@ -45,6 +46,7 @@ pub(crate) fn end_block<'d, S: Store>(
 pub fn begin_command<'d, S: Store>(
     alloc: Global,
     store: &mut S,
+    fields: &mut Fields,
     frame: &Frame,
     devices: &'d Devices,
     bounds: RunBounds,
@@ -57,7 +59,7 @@ pub fn begin_command<'d, S: Store>(
         (place_command (limits_of devices.now bounds) (view.command command.now) frame.now (under (S.record_of store.old).present)) }
 {
     match command {
-        Command::Simple(words) => begin_simple(alloc, store, frame, devices, bounds, words),
+        Command::Simple(words) => begin_simple(alloc, store, fields, frame, devices, bounds, words),
         Command::Assign(values) => begin_assign(alloc, store, frame, bounds, values),
         Command::If { arms, other } => begin_arms(store, frame, arms, other, 0),
         Command::Loop {
@@ -69,6 +71,6 @@ pub fn begin_command<'d, S: Store>(
             name: _,
             words,
             body: _,
-        } => begin_for(alloc, store, frame, bounds, words),
+        } => begin_for(alloc, store, fields, frame, bounds, words),
     }
 }

@@ -2,7 +2,7 @@
 ghost use Rattle.std.specs.Prelude.{◌+◌, ◌<◌, ◌^◌, map};
 ghost use Rattle.hushlang.specs.TreesShown as view;
 ghost use Rattle.hushlang.specs.Tree as tree;
-ghost use Rattle.hushlang.specs.Expansion.{fields};
+ghost use Rattle.hushlang.specs.Expansion as expansion;
 ghost use Rattle.rehearse.specs.State.{Text, parameters_in};
 ghost use Rattle.rehearse.specs.Execution.{Limits, set_status};
 ghost use Rattle.rehearse.specs.Commands as says;
@@ -13,7 +13,7 @@ ghost use Rattle.rehearse_machine.specs.MovesShown.{Comes, IsTop, under, limits_
 ghost use Rattle.rehearse_machine.specs.CalledShown.{builtin_called, called_shown};
 
 use crate::ask::Step;
-use crate::commands::{Called, asks_device, called_by_name, echo, exit_status, setenv};
+use crate::commands::{Called, asks_device, called_by_name, copied, echo, exit_status, setenv};
 use crate::computed::carry_out;
 use crate::frames::{behind, enter, finish, place};
 use crate::halt::Halt;
@@ -21,6 +21,7 @@ use crate::outcomes::ask;
 use crate::steps::{count, expanded};
 use crate::texts::{begin_run, leave_text};
 use bootstore::{Frame, FrameKind, Store, StoreError};
+use hushlang::expand::Fields;
 use hushlang::tree::{Script, Word};
 use rehearse::{Builtin, Devices, Effect, RunBounds, verdict};
 use std::alloc::Global;
@@ -39,10 +40,10 @@ fn run_names<'d, S: Store>(
     alloc: Global,
     store: &mut S,
     script: &Rc<Script>,
-    names: Vec<Vec<u8>>,
+    names: &[Vec<u8>],
 ) -> Result<Step<'d>, StoreError>
     ensures { (limits : Limits) (name : Text) → Comes result (S.record_of store.old) (S.record_of store.new)
-        (place_called limits (says.BuiltIn says.RunsTexts) name (bytes_of_words names.items) (view.script script.now.value) (S.record_of store.old).present.frames) }
+        (place_called limits (says.BuiltIn says.RunsTexts) name (bytes_of_words names.now) (view.script script.now.value) (S.record_of store.old).present.frames) }
 {
     if names.is_empty() {
         done(store, 1)
@@ -54,23 +55,24 @@ fn run_names<'d, S: Store>(
 /// `test`: the status says whether its words hold. If they are `-e` and three more, it is a device
 /// command.
 fn run_test<'d, S: Store>(
+    alloc: Global,
     store: &mut S,
     devices: &'d Devices,
     bounds: RunBounds,
-    name: Vec<u8>,
-    words: Vec<Vec<u8>>,
+    name: &[u8],
+    words: &[Vec<u8>],
 ) -> Result<Step<'d>, StoreError>
     ensures { (script : tree.Script) → Comes result (S.record_of store.old) (S.record_of store.new)
-        (place_called (limits_of devices.now bounds) (says.BuiltIn says.Tests) name.items (bytes_of_words words.items) script (S.record_of store.old).present.frames) }
+        (place_called (limits_of devices.now bounds) (says.BuiltIn says.Tests) name.now (bytes_of_words words.now) script (S.record_of store.old).present.frames) }
 {
-    if asks_device(&words) {
+    if asks_device(words) {
         let effect = Effect {
             ends: false,
             stays: devices.test_stays(),
             sets: &[],
         };
-        ask(store, bounds, name, words, effect)
-    } else if verdict(&words) {
+        ask(alloc, store, bounds, name, words, effect)
+    } else if verdict(words) {
         done(store, 0)
     } else {
         done(store, 1)
@@ -100,26 +102,26 @@ fn run_builtin<'d, S: Store>(
     devices: &'d Devices,
     bounds: RunBounds,
     builtin: Builtin,
-    name: Vec<u8>,
-    words: Vec<Vec<u8>>,
+    name: &[u8],
+    words: &[Vec<u8>],
 ) -> Result<Step<'d>, StoreError>
     ensures { Comes result (S.record_of store.old) (S.record_of store.new)
-        (place_called (limits_of devices.now bounds) (builtin_called builtin) name.items (bytes_of_words words.items) (view.script script.now.value) (S.record_of store.old).present.frames) }
+        (place_called (limits_of devices.now bounds) (builtin_called builtin) name.now (bytes_of_words words.now) (view.script script.now.value) (S.record_of store.old).present.frames) }
 {
     match builtin {
         Builtin::SetEnv => {
-            setenv(alloc, store, &words)?;
+            setenv(alloc, store, words)?;
             Ok(Step::Going)
         }
         Builtin::Run => run_names(alloc, store, script, words),
-        Builtin::Test => run_test(store, devices, bounds, name, words),
+        Builtin::Test => run_test(alloc, store, devices, bounds, name, words),
         Builtin::Echo => {
-            echo(alloc, store, &words)?;
+            echo(alloc, store, words)?;
             Ok(Step::Going)
         }
         Builtin::True => done(store, 0),
         Builtin::False => done(store, 1),
-        Builtin::Leave => run_exit(store, &words),
+        Builtin::Leave => run_exit(store, words),
     }
 }
 
@@ -131,18 +133,18 @@ fn run_called<'d, S: Store>(
     devices: &'d Devices,
     bounds: RunBounds,
     called: Called<'d>,
-    name: Vec<u8>,
-    words: Vec<Vec<u8>>,
+    name: &[u8],
+    words: &[Vec<u8>],
 ) -> Result<Step<'d>, StoreError>
     ensures { Comes result (S.record_of store.old) (S.record_of store.new)
-        (place_called (limits_of devices.now bounds) (called_shown called.entry) name.items (bytes_of_words words.items) (view.script script.now.value) (S.record_of store.old).present.frames) }
+        (place_called (limits_of devices.now bounds) (called_shown called.entry) name.now (bytes_of_words words.now) (view.script script.now.value) (S.record_of store.old).present.frames) }
 {
     match called {
         Called::BuiltIn(builtin) => {
             run_builtin(alloc, store, script, devices, bounds, builtin, name, words)
         }
-        Called::Device(effect) => ask(store, bounds, name, words, effect),
-        Called::NoCommand => Ok(Step::Ends(Halt::Unknown(name))),
+        Called::Device(effect) => ask(alloc, store, bounds, name, words, effect),
+        Called::NoCommand => Ok(Step::Ends(Halt::Unknown(Vec::from_slice(alloc, name)?))),
     }
 }
 
@@ -153,21 +155,20 @@ pub(crate) fn run_fields<'d, S: Store>(
     script: &Rc<Script>,
     devices: &'d Devices,
     bounds: RunBounds,
-    mut fields: Vec<Vec<u8>>,
+    fields: &[Vec<u8>],
 ) -> Result<Step<'d>, StoreError>
     ensures { Comes result (S.record_of store.old) (S.record_of store.new)
-        (place_fields (limits_of devices.now bounds) (bytes_of_words fields.items) (view.script script.now.value) (S.record_of store.old).present.frames) }
+        (place_fields (limits_of devices.now bounds) (bytes_of_words fields.now) (view.script script.now.value) (S.record_of store.old).present.frames) }
 {
-    if fields.as_slice().is_empty() {
+    let Some((name, words)) = fields.split_first() else {
         return done(store, 0);
-    }
-    let name = fields.remove(0);
-    if let Some(computed) = devices.computed(&name, &fields) {
+    };
+    if let Some(computed) = devices.computed(name, words) {
         carry_out(alloc, store, computed)?;
         return Ok(Step::Going);
     }
-    let called = called_by_name(devices, &name, &fields);
-    run_called(alloc, store, script, devices, bounds, called, name, fields)
+    let called = called_by_name(devices, name, words);
+    run_called(alloc, store, script, devices, bounds, called, name, words)
 }
 
 /// Begins a step for a simple command, expands its words, and runs the command that the fields
@@ -175,6 +176,7 @@ pub(crate) fn run_fields<'d, S: Store>(
 pub(crate) fn begin_simple<'d, S: Store>(
     alloc: Global,
     store: &mut S,
+    fields: &mut Fields,
     frame: &Frame,
     devices: &'d Devices,
     bounds: RunBounds,
@@ -190,17 +192,26 @@ pub(crate) fn begin_simple<'d, S: Store>(
     if !counted {
         return Ok(Step::Ends(Halt::CutSteps));
     }
-    let Some(fields) = expanded(alloc, store, words)? else {
+    let fit = expanded(fields, store, words)?;
+    if !fit {
         return Ok(Step::Ends(Halt::Size));
-    };
+    }
     store.advance(behind(frame.at()))?;
-    run_fields(alloc, store, frame.script(), devices, bounds, fields)
+    run_fields(
+        alloc,
+        store,
+        frame.script(),
+        devices,
+        bounds,
+        fields.as_slice(),
+    )
 }
 
 /// Begins a step for a `for`, and expands its words. Without a field the status is 0.
 pub(crate) fn begin_for<'d, S: Store>(
     alloc: Global,
     store: &mut S,
+    fields: &mut Fields,
     frame: &Frame,
     bounds: RunBounds,
     words: &[Word],
@@ -209,16 +220,17 @@ pub(crate) fn begin_for<'d, S: Store>(
     requires command { frame.now.place.command + 1 < 2 ^ 64 }
     requires begun { (S.record_of store.old).begun + 1 < 2 ^ 64 }
     ensures { (devices : ListedDevices) → Comes result (S.record_of store.old) (S.record_of store.new)
-        (place_counted (limits_of devices bounds) (λ t. place_fitting (fields (parameters_in t.memory) (map view.word words.now)) (λ found. for_begins found frame.now (under (S.record_of store.old).present)) t)) }
+        (place_counted (limits_of devices bounds) (λ t. place_fitting (expansion.fields (parameters_in t.memory) (map view.word words.now)) (λ found. for_begins found frame.now (under (S.record_of store.old).present)) t)) }
 {
     let counted = count(store, bounds)?;
     if !counted {
         return Ok(Step::Ends(Halt::CutSteps));
     }
-    let Some(fields) = expanded(alloc, store, words)? else {
+    let fit = expanded(fields, store, words)?;
+    if !fit {
         return Ok(Step::Ends(Halt::Size));
-    };
-    begin_turns(alloc, store, frame, fields)
+    }
+    begin_turns(alloc, store, frame, fields.as_slice())
 }
 
 /// Starts the turns of a `for` with these fields.
@@ -226,18 +238,18 @@ fn begin_turns<'d, S: Store>(
     alloc: Global,
     store: &mut S,
     frame: &Frame,
-    fields: Vec<Vec<u8>>,
+    fields: &[Vec<u8>],
 ) -> Result<Step<'d>, StoreError>
     requires top { IsTop frame.now (S.record_of store.old).present }
     requires command { frame.now.place.command + 1 < 2 ^ 64 }
     ensures { Comes result (S.record_of store.old) (S.record_of store.new)
-        (for_begins (bytes_of_words fields.items) frame.now (under (S.record_of store.old).present)) }
+        (for_begins (bytes_of_words fields.now) frame.now (under (S.record_of store.old).present)) }
 {
     let at = frame.at();
-    if fields.as_slice().is_empty() {
+    if fields.is_empty() {
         return finish(store, frame, behind(at), 0);
     }
-    let fields = Rc::new(alloc, fields)?;
+    let fields = Rc::new(alloc, copied(alloc, fields)?)?;
     let turns = Frame::with_words(
         FrameKind::For,
         frame.script().clone()?,

@@ -7,7 +7,7 @@ ghost use Rattle.rehearse_machine.specs.MovesShown.{IsExpanded, IsExpandedOne, I
 
 use crate::memory::Memory;
 use bootstore::{Store, StoreError};
-use hushlang::expand::{ExpandError, expand, expand_one};
+use hushlang::expand::{ExpandError, Fields, expand_one};
 use hushlang::tree::Word;
 use rehearse::RunBounds;
 use std::alloc::Global;
@@ -24,17 +24,18 @@ pub(crate) fn count<S: Store>(store: &mut S, bounds: RunBounds) -> Result<bool, 
     Ok(true)
 }
 
-/// Expands words to their fields. Gives `None` if they hold too many bytes.
+/// Puts the fields of words in the place of these. Returns whether they hold no more bytes than
+/// allowed.
 pub(crate) fn expanded<S: Store>(
-    alloc: Global,
+    fields: &mut Fields,
     store: &S,
     words: &[Word],
-) -> Result<Option<Vec<Vec<u8>>>, StoreError>
-    ensures { IfOk result (λ found. IsExpanded found (expansion.fields (parameters_at (S.record_of store.now).present) (map view.word words.now))) }
+) -> Result<bool, StoreError>
+    ensures { IfOk result (λ fit. IsExpanded fit fields.new (expansion.fields (parameters_at (S.record_of store.now).present) (map view.word words.now))) }
 {
-    match expand(alloc, words, &Memory { store }) {
-        Ok(fields) => Ok(Some(fields)),
-        Err(ExpandError::TooLong) => Ok(None),
+    match fields.fill(words, &Memory { store }) {
+        Ok(()) => Ok(true),
+        Err(ExpandError::TooLong) => Ok(false),
         Err(ExpandError::Memory) => Err(StoreError::Memory),
     }
 }

@@ -6,6 +6,7 @@ ghost use Rattle.rehearse_machine.specs.Places.{left, to_run, GoOn, names_frame}
 ghost use Rattle.rehearse_machine.specs.MovesShown.{Comes};
 
 use crate::ask::Step;
+use crate::commands::copied;
 use crate::frames::place;
 use crate::halt::Halt;
 use bootstore::{Frame, FrameKind, Store, StoreError};
@@ -32,12 +33,12 @@ pub(crate) fn begin_run<'d, S: Store>(
     alloc: Global,
     store: &mut S,
     script: &Rc<Script>,
-    names: Vec<Vec<u8>>,
+    names: &[Vec<u8>],
 ) -> Result<Step<'d>, StoreError>
     ensures { Comes result (S.record_of store.old) (S.record_of store.new)
-        (GoOn (names_frame (view.script script.now.value) (bytes_of_words names.items) ∷ (S.record_of store.old).present.frames)) }
+        (GoOn (names_frame (view.script script.now.value) (bytes_of_words names.now) ∷ (S.record_of store.old).present.frames)) }
 {
-    let names = Rc::new(alloc, names)?;
+    let names = Rc::new(alloc, copied(alloc, names)?)?;
     store.push(Frame::with_words(FrameKind::Run, script.clone()?, names, place(0, 0)))?;
     Ok(Step::Going)
 }

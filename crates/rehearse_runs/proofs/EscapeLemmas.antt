@@ -78,6 +78,10 @@ module _ (f : ℕ → List ℕ) (is_other : ℕ → Bool) (same : (b : ℕ) → 
       let same_rest : flat_map f rest ≡ rest = all_same rest (position-none is_other rest is) in
       Puts-as a c p r (far.front ++ rest) (flat_map f bytes) result (ap (λ t. far.front ++ t) (sym same_rest) ∙ far.joined) (Puts-after c r rest result far.put puts)
 
+  -- bytes without another byte were put as they are
+  pub at_once : {T E : Type 0} (a b : Sink) (p q bytes : List ℕ) (result : Result T E) → list_any is_other bytes ≡ false → Puts result a b p q bytes → Puts result a b p q (flat_map f bytes)
+  at_once a b p q bytes result none puts = Puts-as a b p q bytes (flat_map f bytes) result (sym (all_same bytes none)) puts
+
 -- a byte that is printed as it is
 pub as_it_is : (form : Form) (b : ℕ) → not (stands form b) ≡ false → form_of form b ≡ b ∷ []
 as_it_is AsText b h = grind (arith, nat_tests)

@@ -1,6 +1,6 @@
 //! The pieces of a line of a listing.
 ghost use Rattle.std.specs.Prelude.{◌≡◌, ◌<◌, length, not, position, IfSome};
-ghost use Rattle.std.specs.List.{flat_map};
+ghost use Rattle.std.specs.List.{flat_map, list_any};
 ghost use Rattle.text.specs.Escapes.{bytes_of, word_form};
 ghost use Rattle.rehearse_runs.specs.Paging.{Puts};
 ghost use Rattle.rehearse_runs.specs.Pieces.{form_of, least_of, piece_text, stands};
@@ -56,6 +56,18 @@ fn first_escaped(form: Form, bytes: &[u8]) -> Option<usize>
     bytes.iter().position(|byte| !(least <= *byte && *byte <= b'~' && *byte != b'\\'))
 }
 
+/// Whether a byte is not printed as it is. All bytes are looked at, which a processor does several at a time.
+fn has_escaped(form: Form, bytes: &[u8]) -> bool
+    ensures { result ≡ list_any (λ b. not (stands form b)) bytes.now }
+{
+    let least = least_of(form);
+    let mut found = false;
+    for byte in bytes {
+        found = found | (*byte < least) | (*byte > b'~') | (*byte == b'\\');
+    }
+    found
+}
+
 /// Puts a byte as it is printed.
 fn put_byte<O: Out>(out: &mut O, page: &mut Page, form: Form, byte: u8) -> Result<(), OutFault>
     ensures { Puts result (O.sink out.old) (O.sink out.new) page.old.items page.new.items (form_of form byte) }
@@ -67,6 +79,9 @@ fn put_byte<O: Out>(out: &mut O, page: &mut Page, form: Form, byte: u8) -> Resul
 fn put_bytes<O: Out>(out: &mut O, page: &mut Page, form: Form, bytes: &[u8]) -> Result<(), OutFault>
     ensures { Puts result (O.sink out.old) (O.sink out.new) page.old.items page.new.items (flat_map (form_of form) bytes.now) }
 {
+    if !has_escaped(form, bytes) {
+        return put(out, page, bytes);
+    }
     let mut rest = bytes;
     while let Some(at) = first_escaped(form, rest) {
         put(out, page, &rest[..at])?;

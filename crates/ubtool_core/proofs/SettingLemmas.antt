@@ -1,6 +1,7 @@
 -- A write to a pair that breaks off.
 use Rattle.std.proofs.Common.{◌≡◌, ◌≤◌, ◌⊎◌, ℕ, Bool, true, false, List, Option, None, Some, Result, Ok, Err, refl, sym, subst, ◌∙◌, arith, inl, inr}
-use Rattle.std.specs.Prelude.{nat_lt}
+use Rattle.std.specs.Prelude.{nat_lt, Vec, IfOk}
+use Rattle.std.specs.declared.alloc.Global.{Global}
 use Rattle.std.proofs.lemmas.Bool.Decides.{nat_tests}
 use Rattle.envimage.specs.Data.{Pair, pairs_of}
 use Rattle.envimage.specs.Encoding.{needed}
@@ -11,7 +12,7 @@ use Rattle.envimage.specs.declared.image.Which.{Which}
 use Rattle.envimage.specs.declared.image.Which.TheVariants.{First, Second}
 use Rattle.envtools.specs.Environment.{env_of}
 use Rattle.envtools.specs.Saving.{copy_to_write, half_written, load_pair, next_flag, other_copy, saved_image, size_of, spare_of, with_spare}
-use Rattle.ubtool_core.specs.ChangingImages.{IsSafe, IsSafeAt, edited, set_of, then_written, written}
+use Rattle.ubtool_core.specs.ChangingImages.{Answers, IsSafe, IsSafeAt, edited, set_of, then_written, written}
 use Rattle.ubtool_core.specs.declared.change.Edit.{Edit}
 use Rattle.ubtool_core.specs.declared.error.ToolError.{ToolError}
 use Rattle.envtools.proofs.SavingLemmas.{front_may_stand, spare-is-written}
@@ -57,3 +58,9 @@ set-safe order first (Some second) change which bytes h = by (load_of order firs
     by : (answer : Result LoadedShown ImageError) → load_of order first (Some second) ≡ answer → IsSafe order first (Some second) which bytes
     by (Err e) is = let bad = rw is at h in cc
     by (Ok s) is = let good = rw is at h in edited-safe order first second s which bytes is (edited (env_of (pairs_of s.body)) change) good
+
+-- the same of what a call answered
+pub answered-safe : (order : ByteOrder) (first : List ℕ) (second : Option (List ℕ)) (change : Edit) (loaded : Result LoadedShown ImageError) (r : Result (Which × Vec ℕ Global) ToolError)
+    → Answers loaded (set_of order first second change) r → IfOk r (λ w. IsSafe order first second w.0 w.1.items)
+answered-safe order first second change loaded (Ok w) h = set-safe order first second change w.0 w.1.items h
+answered-safe order first second change loaded (Err e) h = tt

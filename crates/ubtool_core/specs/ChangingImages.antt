@@ -57,13 +57,6 @@ set_of order first second change = then_edited change (load_of order first secon
 
 -- ---- what the calls answer; memory can run out wherever a growth is made
 
-abbrev pub Edits : List Pair → Edit → List Pair → Result (Unit {0}) ToolError → Type 0
-Edits old change new (Ok u) = edited old change ≡ Ok new
-Edits old change new (Err (Env e)) = edited old change ≡ Err (Env e)
-Edits old change new (Err (Script e)) = edited old change ≡ Err (Script e)
-Edits old change new (Err Memory) = Unit {0}
-Edits old change new (Err _) = ⊥
-
 abbrev pub Answers : Result LoadedShown ImageError → Result (Which × List ℕ) ToolError →
     Result (Which × Vec ℕ Global) ToolError → Type 0
 Answers loaded answer (Ok w) = answer ≡ Ok (w.0, w.1.items)

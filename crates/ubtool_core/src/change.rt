@@ -1,11 +1,16 @@
-ghost use Rattle.std.specs.Prelude.{IfOk};
+ghost use Rattle.std.specs.Prelude.{◌≡◌, true, None, Ok, map, IfOk};
 ghost use Rattle.std.specs.Option.{option_copied};
-ghost use Rattle.envimage.specs.Image.{load_of};
-ghost use Rattle.ubtool_core.specs.ChangingImages.{set_of, Edits, Answers, IsSafe};
+ghost use Rattle.envimage.specs.Data.{data_fault, pairs_of};
+ghost use Rattle.envimage.specs.Encoding.{is_image_size};
+ghost use Rattle.envimage.specs.Image.{load_of, loaded_shown};
+ghost use Rattle.envtools.specs.Environment.{env_of};
+ghost use Rattle.envtools.specs.Saving.{size_of};
+ghost use Rattle.envtools.specs.Scripting.{scripted};
+ghost use Rattle.ubtool_core.specs.ChangingImages.{set_of, one_edited, all_edited, then_written, Answers, IsSafe};
 
 use crate::error::ToolError;
-use envimage::{ByteOrder, Which, load};
-use envtools::{Env, apply_script, save};
+use envimage::{ByteOrder, Loaded, Which, load};
+use envtools::{Env, VariableList, apply_script, new_value, save, save_list};
 use std::alloc::Global;
 
 /// A change of an environment.
@@ -22,15 +27,33 @@ pub enum Edit<'a> {
     Script(&'a [u8]),
 }
 
-/// Makes the change. If a script is refused, the environment is the one after the lines before the
-/// refused one.
-fn edit_env(env: &mut Env, edit: Edit<'_>) -> Result<(), ToolError>
-    ensures { Edits env.old edit.entry env.new result }
+/// Gives a variable of a loaded image its new words. The other variables are not copied before they
+/// are written.
+fn set_one(
+    alloc: Global,
+    loaded: &Loaded<'_>,
+    name: &[u8],
+    words: &[&[u8]],
+) -> Result<(Which, Vec<u8>), ToolError>
+    requires size { is_image_size loaded.now.flag (size_of (loaded_shown loaded.now)) ≡ true }
+    requires faultless { data_fault loaded.now.body.now ≡ None }
+    ensures { Answers (Ok (loaded_shown loaded.now)) (then_written (loaded_shown loaded.now) (one_edited (env_of (pairs_of loaded.now.body.now)) name.now (map (λ w. w.now) words.now))) result }
 {
-    match edit {
-        Edit::One { name, words } => Ok(env.change(name, words)?),
-        Edit::Script(text) => Ok(apply_script(env, text)?),
-    }
+    let value = new_value(alloc, name, words)?;
+    let mut list = VariableList::from_checked(alloc, loaded.body)?;
+    list.change_to(name, &value)?;
+    Ok(save_list(alloc, &list, loaded)?)
+}
+
+/// Makes the changes of a script in a loaded image.
+fn set_all(alloc: Global, loaded: &Loaded<'_>, script: &[u8]) -> Result<(Which, Vec<u8>), ToolError>
+    requires size { is_image_size loaded.now.flag (size_of (loaded_shown loaded.now)) ≡ true }
+    requires faultless { data_fault loaded.now.body.now ≡ None }
+    ensures { Answers (Ok (loaded_shown loaded.now)) (then_written (loaded_shown loaded.now) (all_edited (scripted (env_of (pairs_of loaded.now.body.now)) script.now))) result }
+{
+    let mut env = Env::from_checked(alloc, loaded.body)?;
+    apply_script(&mut env, script)?;
+    Ok(save(alloc, &env, loaded)?)
 }
 
 /// Changes the environment of an image, or of a redundant pair. Returns which copy is to be
@@ -51,7 +74,8 @@ pub fn set_bytes(
     ensures safe { IfOk result (λ w. IsSafe order first.now (option_copied second.entry) w.0 w.1.items) }
 {
     let loaded = load(first, second, order)?;
-    let mut env = Env::from_checked(alloc, loaded.body)?;
-    edit_env(&mut env, edit)?;
-    Ok(save(alloc, &env, &loaded)?)
+    match edit {
+        Edit::One { name, words } => set_one(alloc, &loaded, name, words),
+        Edit::Script(text) => set_all(alloc, &loaded, text),
+    }
 }

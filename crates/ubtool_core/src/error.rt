@@ -1,6 +1,7 @@
 use envimage::ImageError;
 use envtools::{EnvError, PrintDataError, PrintError, ScriptError};
 use rehearse_runs::RehearseError;
+use std::alloc::AllocError;
 use thiserror::Error;
 
 /// Why a call from bytes to bytes was refused.
@@ -52,6 +53,17 @@ impl From<EnvError> for ToolError {
             EnvError::Content(fault) => ToolError::Image(ImageError::Content(fault)),
             error => ToolError::Env(error),
         }
+    }
+}
+
+impl From<AllocError> for ToolError {
+    ghost use Rattle.std.specs.Prelude.{◌≡◌};
+    ghost use Rattle.ubtool_core.specs.declared.error.ToolError.TheVariants.{Memory};
+
+    ghost from_gives = { λ _ e. e ≡ Memory };
+
+    fn from(_error: AllocError) -> ToolError {
+        ToolError::Memory
     }
 }
 

@@ -19,7 +19,7 @@ pub use build::Build;
 pub use ending::{end, finish, refuse, status_of};
 pub use images::{Images, read_images};
 pub use print::slices_of;
-pub use read::StoredCopy;
+pub use read::{StoredCopy, read_text};
 pub use showing::{show_help, show_version};
 pub use starting::{Buffered, StartError, buffered, words_of_call};
 pub use telling::Telling;

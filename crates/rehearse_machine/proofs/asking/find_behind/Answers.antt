@@ -1,4 +1,4 @@
-use Rattle.std.proofs.Common.{ap, ◌∙◌, subst, List, ℕ, map, Option}
+use Rattle.std.proofs.Common.{Bool, ap, ◌∙◌, subst, List, ℕ, map, Option}
 use Rattle.std.specs.Prelude.{Vec}
 use Rattle.std.specs.declared.alloc.Global.{Global}
 use Rattle.hushlang.specs.TreesShown as view
@@ -22,11 +22,11 @@ returns-in_default g c =
     let nothing = nothing_again (limits_of c.args.devices.now c.args.bounds) old c.args.frame.now (under old.present) c.in_default.ensures in
     (λ w. ap (λ (n : ℕ). StopOn (End n) (state_at old.present w)) c.get_status.ensures ∙ nothing.0 w, nothing.1)
 
-pub returns-in_default-2 : goal.returns-in_default-2
-returns-in_default-2 g c =
+pub returns-then-not-fit : goal.returns-then-not-fit
+returns-then-not-fit g c =
     let old = g.S.Store.record_of c.args.store.now in
     let words = map view.word c.in-Some.words.now in
-    let found = subst (λ (o : Option (Vec (Vec ℕ Global) Global)). IsExpanded o (fields (parameters_at old.present) words)) c.in_default-2.is c.in_ok-fields.ensures in
+    let found = subst (λ (fit : Bool). IsExpanded fit c.expanded.new.fields (fields (parameters_at old.present) words)) c.if-not-fit.true c.in_ok-fit.ensures in
     too_long_again (limits_of c.args.devices.now c.args.bounds) old c.args.frame.now (under old.present) words c.in-Some.ensures found
 
 pub returns : goal.returns
@@ -36,10 +36,10 @@ returns g c =
     let f = c.args.frame.now in
     let fs = under old.present in
     let words = map view.word c.in-Some.words.now in
-    let list = bytes_of_words c.in-Some-2.fields.items in
-    let found = subst (λ (o : Option (Vec (Vec ℕ Global) Global)). IsExpanded o (fields (parameters_at old.present) words)) c.in-Some-2.is c.in_ok-fields.ensures in
+    let list = bytes_of_words c.as_slice.result.now in
+    let found = subst (λ (fit : Bool). IsExpanded fit c.expanded.new.fields (fields (parameters_at old.present) words)) c.if-not-fit.false c.in_ok-fit.ensures in
     comes_at c.run_fields.result old (g.S.Store.record_of c.run_fields.new.store) (place_fields limits list (view.script c.script.result.now.value) old.present.frames) (fields_again limits (words_in_front f) f fs)
     (λ w. ap (λ (x : Script). place_fields limits list x old.present.frames (state_at old.present w)) c.script.ensures
     ∙ ap (λ (x : List RunningFrame). place_fields limits list f.script x (state_at old.present w)) c.requires
-    ∙ fields_found limits old f fs words c.in-Some.ensures list found.0 found.1 w)
+    ∙ fields_found limits old f fs words c.in-Some.ensures list (c.as_slice.ensures ∙ found.0) found.1 w)
     c.run_fields.ensures

@@ -1,4 +1,4 @@
-use Rattle.std.proofs.Common.{ap, ℕ, map, refl, subst, Bool, Option}
+use Rattle.std.proofs.Common.{◌∙◌, ap, ℕ, map, refl, subst, Bool, Option}
 use Rattle.std.specs.Prelude.{Vec}
 use Rattle.std.specs.declared.alloc.Global.{Global}
 use Rattle.hushlang.specs.TreesShown as view
@@ -11,8 +11,8 @@ use Rattle.rehearse_machine.specs.Places.{for_begins}
 use Rattle.rehearse_machine.proofs.Beginnings.{too_long, comes_with}
 use Rattle.rehearse_machine.proofs.simple.begin_for.Goals as goal
 
-pub returns-in_default : goal.returns-in_default
-returns-in_default g c devices =
+pub returns-then-not-fit : goal.returns-then-not-fit
+returns-then-not-fit g c devices =
     let limits = limits_of devices c.args.bounds in
     let old = g.S.Store.record_of c.args.store.now in
     let mid = g.S.Store.record_of c.count.new.store in
@@ -20,7 +20,7 @@ returns-in_default g c devices =
     let fs = under old.present in
     let words = map view.word c.args.words.now in
     let counted = subst (λ (b : Bool). IsCounted c.args.bounds b old mid) c.if-not-counted.false c.in_ok-counted.ensures in
-    let found = subst (λ (o : Option (Vec (Vec ℕ Global) Global)). IsExpanded o (fields (parameters_at mid.present) words)) c.in_default.is c.in_ok-fields.ensures in
+    let found = subst (λ (fit : Bool). IsExpanded fit c.expanded.new.fields (fields (parameters_at mid.present) words)) c.if-not-fit.true c.in_ok-fit.ensures in
     too_long limits old mid words (λ found. for_begins found f fs) counted.0 counted.1 found
 
 pub returns : goal.returns
@@ -32,10 +32,10 @@ returns g c devices =
     let fs = under old.present in
     let words = map view.word c.args.words.now in
     let counted = subst (λ (b : Bool). IsCounted c.args.bounds b old mid) c.if-not-counted.false c.in_ok-counted.ensures in
-    let found = subst (λ (o : Option (Vec (Vec ℕ Global) Global)). IsExpanded o (fields (parameters_at mid.present) words)) c.in-Some.is c.in_ok-fields.ensures in
+    let found = subst (λ (fit : Bool). IsExpanded fit c.expanded.new.fields (fields (parameters_at mid.present) words)) c.if-not-fit.false c.in_ok-fit.ensures in
     let new = g.S.Store.record_of c.begin_turns.new.store in
-    let list = bytes_of_words c.in-Some.fields.items in
-    comes_with limits old mid words (λ found. for_begins found f fs) counted.0 counted.1 c.begin_turns.result mid new list (for_begins list f (under mid.present)) found.0 found.1
+    let list = bytes_of_words c.as_slice.result.now in
+    comes_with limits old mid words (λ found. for_begins found f fs) counted.0 counted.1 c.begin_turns.result mid new list (for_begins list f (under mid.present)) (c.as_slice.ensures ∙ found.0) found.1
     (λ w. refl) (record { marked = refl; begun = refl })
     (λ s. ap (λ (r : Record). for_begins list f (under r.present) s) counted.1)
     c.begin_turns.ensures

@@ -10,6 +10,6 @@ use Rattle.rehearse_machine.proofs.simple.run_test.Goals as goal
 pub returns-then-asks_device : goal.returns-then-asks_device
 returns-then-asks_device g c script =
     let devices = c.args.devices.now in
-    test_comes (limits_of devices c.args.bounds) (g.S.Store.record_of c.args.store.now) (g.S.Store.record_of c.ask.new.store) c.args.name.items (bytes_of_words c.args.words.items) script c.ask.result (says.BuiltIn says.Tests) (record { ends = false; stays = c.test_stays.result; sets = [] })
-    refl (ap asks_device (ap bytes_of_words (sym c.deref.ensures.value)) ∙ sym c.if-asks_device.ensures)
+    test_comes (limits_of devices c.args.bounds) (g.S.Store.record_of c.args.store.now) (g.S.Store.record_of c.ask.new.store) c.args.name.now (bytes_of_words c.args.words.now) script c.ask.result (says.BuiltIn says.Tests) (record { ends = false; stays = c.test_stays.result; sets = [] })
+    refl (sym c.if-asks_device.ensures)
     (ap (λ (b : Bool). let e : Effect = record { ends = false; stays = b; sets = [] } in e) c.test_stays.ensures) (c.ask.ensures devices)

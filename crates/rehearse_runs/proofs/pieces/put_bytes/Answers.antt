@@ -2,7 +2,7 @@ use Rattle.std.proofs.Common.{◌+◌, ◌≤◌, ℕ, List, length, arith, sym,
 use Rattle.std.proofs.lemmas.List.{take_rest, length-drop}
 use Rattle.std.proofs.lemmas.Result.{err_from_is_err_and}
 use Rattle.rehearse_runs.specs.Pieces.{form_of}
-use Rattle.rehearse_runs.proofs.EscapeLemmas.{SoFar, as_it_is, one_more, broke_in_front, broke_behind, at_last}
+use Rattle.rehearse_runs.proofs.EscapeLemmas.{SoFar, as_it_is, at_once, one_more, broke_in_front, broke_behind, at_last}
 use Rattle.rehearse_runs.proofs.pieces.put_bytes.Goals as goal
 
 pub returns-in_err-put : goal.returns-in_err-put
@@ -23,6 +23,9 @@ loop-at-preserved g c =
     let Q : List ℕ → Type 0 = λ rest. length rest ≤ length c.args.bytes.now in
     let dropped = length-drop (c.in-Some.at + 1) c.loop-at.rest.now in
     (subst P (sym cut) far, subst Q (sym cut) (omega (arith, dropped, c.loop-at.invariant.1)))
+
+pub returns-then-not-has_escaped : goal.returns-then-not-has_escaped
+returns-then-not-has_escaped g c = at_once _ _ (as_it_is c.args.form) _ _ _ _ _ c.put.result (sym c.if-not-has_escaped.ensures) c.put.ensures
 
 pub returns : goal.returns
 returns g c =
