@@ -1,5 +1,5 @@
 -- Runs over a device list in the form before a command could be computed.
-use Rattle.std.proofs.Common.{◌≡◌, ℕ, false, List, Option, Some, None, refl}
+use Rattle.std.proofs.Common.{◌≡◌, false, List, Option, Some, None, refl}
 use Rattle.rehearse.specs.Outcomes.{OutcomeWord, runs_within, few_of, after}
 use Rattle.rehearse.specs.State.{Text}
 use Rattle.rehearse.specs.Commands.{Device, NoCommand}

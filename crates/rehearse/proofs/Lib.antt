@@ -34,6 +34,7 @@ pub mod PlainRuns
 pub mod EarlierRuns
 pub mod CallRuns
 pub mod KnownRuns
+pub mod KnownLogs
 mod PlainExecutionExamples
 pub mod VerdictLemmas
 mod VerdictExamples

@@ -1,14 +1,14 @@
 -- Execution as it was when no answer stayed (KnownList.antt): each device command takes the next outcome of the word. All
 -- that it does not define is that of Execution.antt, over the tree as in GivenExecution.antt. Ours.
-use Rattle.std.specs.Prelude.{◌≡◌, ℕ, false, List, Option, Some, None, Ok}
-use Rattle.rehearse.specs.Outcomes.{OutcomeWord, runs_within, few_of, after}
+use Rattle.std.specs.Prelude.{◌≡◌, ℕ, false, List, map, Option, Some, None, Ok}
+use Rattle.rehearse.specs.Outcomes.{OutcomeWord, Run, runs_within, few_of, after}
 use Rattle.rehearse.specs.State.{Text, State}
 use Rattle.rehearse.specs.Commands.{carried, changed_by}
 use Rattle.rehearse.specs.DeviceList.{effect_of, computed_by}
 use Rattle.rehearse.specs.KnownList.{known_listed}
-use Rattle.rehearse.specs.Execution.{Answer, Normal, Ended, Unknown, remember}
+use Rattle.rehearse.specs.Execution.{Answer, Normal, Ended, Unknown, remember, succeeds}
 use Rattle.rehearse.specs.GivenExecution.{asked_anew, given_run_on}
-use Rattle.rehearse.specs.Runs.{Task, run_on, state_of, ending_of, kind_of, runs, rest}
+use Rattle.rehearse.specs.Runs.{Task, run_on, state_of, ending_of, kind, kind_of, runs, rest}
 use Rattle.rehearse.specs.Listing.{record_text, record_of, listing}
 
 module _ (task : Task) where
@@ -49,6 +49,11 @@ module _ (task : Task) where
 abbrev pub KnownRunsStand : Type 0
 KnownRunsStand = (text : Text) (task : Task) (w : OutcomeWord) → known_listed text ≡ Ok task.limits.devices →
     run_on task w ≡ known_run_on task w
+
+-- The outcomes in its log are its word: no command is told an answer again.
+abbrev pub KnownLogIsWord : Type 0
+KnownLogIsWord = (text : Text) (task : Task) (w : OutcomeWord) → known_listed text ≡ Ok task.limits.devices →
+    kind task w ≡ Run → map (λ e. e.success) (state_of (run_on task w)).log ≡ map succeeds w
 
 -- So the listing over such a list has the bytes that it had,
 abbrev pub KnownListingsStand : Type 0

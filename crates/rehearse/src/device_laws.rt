@@ -5,7 +5,7 @@ ghost use Rattle.rehearse.specs.CallList.{CallListsAsk, CallListsStand};
 ghost use Rattle.rehearse.specs.DeviceLaws.{LinesAreJoined, NamesAreQuiet};
 ghost use Rattle.rehearse.specs.EarlierExecution.{EarlierListingsStand, EarlierRestsStand, EarlierRunsStand};
 ghost use Rattle.rehearse.specs.EarlierList.{EarlierListsStand, EarlierCallsStand, EarlierSettingsStand};
-ghost use Rattle.rehearse.specs.KnownExecution.{KnownListingsStand, KnownRestsStand, KnownRunsStand};
+ghost use Rattle.rehearse.specs.KnownExecution.{KnownListingsStand, KnownLogIsWord, KnownRestsStand, KnownRunsStand};
 ghost use Rattle.rehearse.specs.KnownList.{KnownListsAsk, KnownListsStand};
 ghost use Rattle.rehearse.specs.PlainExecution.{PlainListingsStand, PlainRestsStand, PlainRunsStand};
 ghost use Rattle.rehearse.specs.PlainList.{PlainListsStand};
@@ -137,6 +137,13 @@ pub fn known_lists_ask()
 #[tactic(auto, using(crate::proofs::KnownRuns::known_runs_stand))]
 pub fn known_runs_stand()
     ensures { KnownRunsStand }
+{}
+
+/// The outcomes in the log of a run over a list in that form are its word: each device command of the
+/// log took one.
+#[tactic(auto, using(crate::proofs::KnownLogs::known_log_is_word))]
+pub fn known_log_is_word()
+    ensures { KnownLogIsWord }
 {}
 
 /// The listing over a list in that form has the same bytes as before.

@@ -1,9 +1,11 @@
 -- Worked examples, computed: from the text of `bootcmd` to the rows of its runs and their lines. A word starts with the
 -- first device command; `0` means that it succeeded.
-use Rattle.std.proofs.Common.{ℕ, Bool, [], ◌∷◌, ◌+◌, ◌-◌, ◌^◌, List, codes, refl, ◌≡◌, map, length, nat_eq}
+use Rattle.std.proofs.Common.{ℕ, Bool, true, [], ◌∷◌, ◌+◌, ◌-◌, ◌^◌, List, codes, refl, ◌≡◌, map, length, nat_eq}
 use Rattle.std.specs.Fmt.{digits}
 use Rattle.hushlang.specs.Expansion.{fields, joined, atoms}
 use Rattle.rehearse.specs.Outcomes.{OutcomeWord, Success, Failure, failures}
+use Rattle.rehearse.specs.DeviceLaws.{quiet}
+use Rattle.rehearse.specs.DeviceList.{only}
 use Rattle.rehearse.specs.Trees.{tree_of}
 use Rattle.rehearse.specs.State.{Text}
 use Rattle.rehearse.specs.Execution.{Ending, End, CutDevices, CutSteps, Unknown, Syntax, Size, Booted}
@@ -59,6 +61,18 @@ cut_by_steps = refl
 unknown_command : lines (task 2 (codes "load a && boom; load b")) 2 ≡ codes "ends 1 first 0 fewest 0 0 stop unknown boom\nends 1 first 10 fewest 1 10 end 0\nends 1 first 11 fewest 2 11 end 1\nall 3 states 2\n"
 unfolding tree_of fields joined atoms digits
 unknown_command = refl
+
+-- the device list `steady load`: of the four runs that succeed and fail in turn, two are left, and each is one state
+abbrev steady : Text → Task
+steady text = bootcmd (limits (only ((codes "load", record quiet { stays = true }) ∷ [])) 3 20) text
+
+told_again : lines (steady (codes "load; load; exit $?")) 1 ≡ codes "ends 1 first 0 fewest 0 0 end 0\nends 1 first 1 fewest 1 1 end 1\nall 2 states 1\n"
+unfolding tree_of fields joined atoms digits
+told_again = refl
+
+asked_each_time : lines (task 3 (codes "load; load; exit $?")) 3 ≡ codes "ends 2 first 00 fewest 0 00 end 0\nends 2 first 01 fewest 1 01 end 1\nall 4 states 3\n"
+unfolding tree_of fields joined atoms digits
+asked_each_time = refl
 
 -- ---- endings
 
