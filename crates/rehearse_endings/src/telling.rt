@@ -60,15 +60,8 @@ fn lines_in<S: Store>(
     ensures ok { IfOk result (λ text. AreLines ask.now.flow ask.now.states (task_set env.now devices.now ask.now.name.now ask.now.bounds) text.items) }
     ensures err { IfErr result (λ e. IsUntold ask.now.states (task_set env.now devices.now ask.now.name.now ask.now.bounds) e) }
 {
-    if env.get(ask.name).is_none() {
+    let Some(rehearsal) = Rehearsal::of(alloc, env, devices, ask.name, ask.bounds) else {
         return Err(RehearseError::NoSuchVariable);
-    }
-    let rehearsal = Rehearsal {
-        alloc,
-        env,
-        devices,
-        name: ask.name,
-        bounds: ask.bounds,
     };
     match lines_of::<S>(&rehearsal, ask.states, ask.flow) {
         Ok(text) => Ok(text),

@@ -25,3 +25,4 @@ pub mod StoppingLemmas
 pub mod FoundAgain
 pub mod Limits
 pub mod TextLemmas
+pub mod TaskSet

@@ -1,5 +1,5 @@
 //! The text of a rehearsal, from one outcome that is asked for to the next.
-ghost use Rattle.std.specs.Prelude.{◌≡◌, ◌+◌, ◌<◌, ◌≤◌, ◌^◌, ◌∷◌, [], OnOk, IfOk, unwrap_or};
+ghost use Rattle.std.specs.Prelude.{◌≡◌, ◌+◌, ◌<◌, ◌≤◌, ◌^◌, ◌∷◌, [], OnOk, IfOk, IsSome, unwrap_or};
 ghost use Rattle.std.specs.FinMap.{get};
 ghost use Rattle.rehearse.specs.Bounds.{most_steps};
 ghost use Rattle.rehearse.specs.Runs.{run_on};
@@ -44,6 +44,38 @@ pub struct Rehearsal<'a> {
     pub name: &'a [u8],
     /// The bounds of a run.
     pub bounds: RunBounds,
+}
+
+impl<'a> Rehearsal<'a> {
+    ghost use Rattle.std.specs.Prelude.{IfSome, option_map, Some, None};
+    ghost use Rattle.envtools.specs.Environment.{value_of};
+    ghost use Rattle.rehearse_machine.specs.Tasks.{task_shown, task_set};
+
+    /// The rehearsal of the text of a variable, if it is set.
+    #[tactic(auto, using(crate::proofs::TaskSet::task_is_set, crate::proofs::TaskSet::task_is_unset))]
+    pub fn of(
+        alloc: Global,
+        env: &'a Env,
+        devices: &'a Devices,
+        name: &'a [u8],
+        bounds: RunBounds,
+    ) -> Option<Self>
+        ensures set { option_map task_in result ≡ task_set env.now devices.now name.now bounds }
+        ensures shown { IfSome result (λ r. task_in r ≡ task_shown env.now devices.now name.now bounds) }
+        ensures there { IfSome result (λ _. IsSome (value_of env.now name.now)) }
+        ensures unset { result ≡ None → value_of env.now name.now ≡ None }
+    {
+        if env.get(name).is_none() {
+            return None;
+        }
+        Some(Rehearsal {
+            alloc,
+            env,
+            devices,
+            name,
+            bounds,
+        })
+    }
 }
 
 /// Goes on until a device command asks, or the run ends.

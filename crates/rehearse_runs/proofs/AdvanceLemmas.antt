@@ -65,6 +65,10 @@ within_if devices failures (inr r) = r.1
 pub are_within : (task : Task) → AreBounds task → task.limits.device_bound ≤ most_run_devices
 are_within task h = within_if task.limits.device_bound task.failures (fit task.limits.device_bound task.limits.step_bound task.failures h)
 
+-- a task whose bounds are those of another
+pub bounds_in : (task other : Task) → task ≡ other → AreBounds other → AreBounds task
+bounds_in task other e h = subst AreBounds (sym e) h
+
 -- of bounds that are the same
 pub bounds_as : (b c : BoundsShown) → c ≡ b → are_bounds b.devices b.steps b.failures ≡ true → are_bounds c.devices c.steps c.failures ≡ true
 bounds_as b c e h = subst (λ (x : BoundsShown). are_bounds x.devices x.steps x.failures ≡ true) (sym e) h

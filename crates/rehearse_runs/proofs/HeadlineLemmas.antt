@@ -26,7 +26,7 @@ use Rattle.rehearse_runs.specs.declared.listing.Finish.{Finish}
 use Rattle.rehearse_runs.specs.declared.listing.Finish.TheVariants.{Done}
 use Rattle.rehearse_runs.specs.declared.rehearse_error.RehearseError.{RehearseError}
 use Rattle.rehearse_runs.specs.declared.rehearse_error.RehearseError.TheVariants.{DeviceList, NoSuchVariable, NotARun, States, Write, Memory, Failed}
-use Rattle.rehearse_runs.proofs.TaskSet.{task_is_set}
+use Rattle.rehearse_machine.proofs.TaskSet.{task_is_set}
 
 -- ---- a word as it is printed, and its digits
 

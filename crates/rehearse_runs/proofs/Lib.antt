@@ -10,6 +10,5 @@ pub mod AdvanceLemmas
 pub mod GivingLemmas
 pub mod WalkLemmas
 pub mod BehindLemmas
-pub mod TaskSet
 pub mod HeadlineLemmas
 pub mod AloneLemmas

@@ -62,7 +62,6 @@ fn list_runs<'x, S: Store, O: Out>(
 }
 
 /// Writes the run of a word, and `done`. Errors: `NoSuchVariable`, `NotARun`, `Memory`, `Write`.
-#[tactic(auto, using(crate::proofs::TaskSet::task_is_set, crate::proofs::TaskSet::task_is_unset))]
 fn list_one<S: Store, O: Out>(
     alloc: Global,
     env: &Env,
@@ -80,15 +79,8 @@ fn list_one<S: Store, O: Out>(
         IfErr result (λ e. Refuses (task_asked env.now devices.now asking) asking
         (O.sink out.old) (O.sink out.new) e) }
 {
-    if env.get(name).is_none() {
+    let Some(rehearsal) = Rehearsal::of(alloc, env, devices, name, bounds) else {
         return Err(RehearseError::NoSuchVariable);
-    }
-    let rehearsal = Rehearsal {
-        alloc,
-        env,
-        devices,
-        name,
-        bounds,
     };
     match write_run::<S, O>(&rehearsal, word, names, out) {
         Ok(()) => Ok(Finish::Done),

@@ -96,7 +96,6 @@ impl<'a, S: Store> Runs<'a, S> {
     ghost use Rattle.rehearse_runs.specs.Behind.{GoesOnBehind, RefusesWord};
 
     /// The runs of the text of a variable. Takes no memory. Errors: `NoSuchVariable`.
-    #[tactic(auto, using(crate::proofs::TaskSet::task_is_set, crate::proofs::TaskSet::task_is_unset))]
     pub fn new(
         alloc: Global,
         env: &'a Env,
@@ -109,19 +108,12 @@ impl<'a, S: Store> Runs<'a, S> {
         ensures err { IfErr result (λ e. (e ≡ NoSuchVariable) × (value_of env.now name.now ≡ None)) }
         ensures unset { OnErr result (task_set env.now devices.now name.now bounds ≡ None) }
     {
-        if env.get(name).is_none() {
-            return Err(RehearseError::NoSuchVariable);
-        }
         let _bound = bounds.devices();
-        let run_bounds = bounds.of_run();
+        let Some(rehearsal) = Rehearsal::of(alloc, env, devices, name, bounds.of_run()) else {
+            return Err(RehearseError::NoSuchVariable);
+        };
         Ok(Runs {
-            rehearsal: Rehearsal {
-                alloc,
-                env,
-                devices,
-                name,
-                bounds: run_bounds,
-            },
+            rehearsal,
             start: None,
             store: S::new(alloc),
             word: Bytes::new(),
@@ -132,7 +124,6 @@ impl<'a, S: Store> Runs<'a, S> {
 
     /// The runs that follow the run of a word, whose digits are handed over. It is run first. Errors: `NoSuchVariable`;
     /// `NotARun` if the word is no run, or if more device commands fail in it than the bounds allow; `Memory`.
-    #[tactic(auto, using(crate::proofs::TaskSet::task_is_set, crate::proofs::TaskSet::task_is_unset))]
     pub fn after(
         alloc: Global,
         env: &'a Env,
@@ -146,21 +137,13 @@ impl<'a, S: Store> Runs<'a, S> {
         ensures err { IfErr result (λ e. RefusesWord (task_shown env.now devices.now name.now bounds) (value_of env.now name.now) word.now e) }
         ensures unset { IfErr result (λ e. e ≡ NoSuchVariable → task_set env.now devices.now name.now bounds ≡ None) }
     {
-        if env.get(name).is_none() {
+        let _bound = bounds.devices();
+        let Some(rehearsal) = Rehearsal::of(alloc, env, devices, name, bounds.of_run()) else {
             return Err(RehearseError::NoSuchVariable);
-        }
+        };
         if !is_within(bounds.failures(), word) {
             return Err(RehearseError::NotARun);
         }
-        let _bound = bounds.devices();
-        let run_bounds = bounds.of_run();
-        let rehearsal = Rehearsal {
-            alloc,
-            env,
-            devices,
-            name,
-            bounds: run_bounds,
-        };
         let mut store = S::new(alloc);
         let mut digits = Digits::new();
         let Ok(walked) = walk_to(&rehearsal, &mut store, &mut digits, word) else {

@@ -26,7 +26,6 @@ pub enum WordKind {
 }
 
 /// Tells what kind of word a text is for the text of a variable.
-#[tactic(auto, using(crate::proofs::TaskSet::task_is_set, crate::proofs::TaskSet::task_is_unset))]
 pub fn try_word<S: Store>(
     alloc: Global,
     env: &Env,
@@ -41,17 +40,9 @@ pub fn try_word<S: Store>(
     ensures err { IfErr result (λ e. RefusesTry (value_of env.now name.now) e) }
     ensures unset { IfErr result (λ e. e ≡ NoSuchVariable → task_set env.now devices.now name.now bounds ≡ None) }
 {
-    if env.get(name).is_none() {
-        return Err(RehearseError::NoSuchVariable);
-    }
     let _bound = bounds.devices();
-    let run_bounds = bounds.of_run();
-    let rehearsal = Rehearsal {
-        alloc,
-        env,
-        devices,
-        name,
-        bounds: run_bounds,
+    let Some(rehearsal) = Rehearsal::of(alloc, env, devices, name, bounds.of_run()) else {
+        return Err(RehearseError::NoSuchVariable);
     };
     let mut store = S::new(alloc);
     let mut digits = Digits::new();
