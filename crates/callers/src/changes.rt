@@ -1,11 +1,11 @@
-//! A caller of `ubtool_core`.
+//! A caller of `image_tools`.
 ghost use Rattle.std.specs.Prelude.{Some, IfOk};
 ghost use Rattle.envimage.specs.declared.image.ByteOrder.TheVariants.{Little};
-ghost use Rattle.ubtool_core.specs.ChangingImages.{IsSafe};
+ghost use Rattle.image_tools.specs.ChangingImages.{IsSafe};
 
 use envimage::{ByteOrder, Which};
+use image_tools::{Edit, ToolError, set_bytes};
 use std::alloc::Global;
-use ubtool_core::{Edit, ToolError, set_bytes};
 
 /// The copy of a redundant pair to write, and its bytes, with one variable set. Whatever prefix of them is written, the
 /// pair still loads.

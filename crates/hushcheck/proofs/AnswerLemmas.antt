@@ -9,9 +9,9 @@ use Rattle.clap.specs.declared.error.kind.ErrorKind.TheVariants.{DisplayHelp, Di
 use Rattle.clap.proofs.OnLiterals.{clap_on_literals}
 use Rattle.hushcheck.specs.declared.ask.Ask.{Ask}
 use Rattle.hushcheck.specs.declared.ask.Ask.TheVariants.{Check, Help, Version}
-use Rattle.ubtool_cli.specs.CommandAnswers.{IsAccepted}
-use Rattle.ubtool_cli.specs.declared.ask.UseError.{UseError}
-use Rattle.ubtool_cli.specs.declared.ask.UseError.TheVariants.{HeaderNeedsOne, WordAlone, TooManyDevices, Line, Memory, NeedName, ScriptAndName}
+use Rattle.requests.specs.CommandAnswers.{IsAccepted}
+use Rattle.requests.specs.declared.ask.UseError.{UseError}
+use Rattle.requests.specs.declared.ask.UseError.TheVariants.{HeaderNeedsOne, WordAlone, TooManyDevices, Line, Memory, NeedName, ScriptAndName}
 use Rattle.hushcheck.specs.Asked.{Asked, asked_of}
 use Rattle.hushcheck.specs.CommandAnswers.{Answers, Reports, Says, asked}
 use Rattle.hushcheck.specs.CommandLine.{hushcheck}

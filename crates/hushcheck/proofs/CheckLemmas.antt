@@ -7,20 +7,20 @@ use Rattle.hushcheck.specs.Asked.{Asked}
 use Rattle.hushcheck.specs.Checking.{AreFound, ChecksFrom, ChecksText, FromFiles, Given, IsUnread, LeavesOutput, ReadsList, given_by, TellsAll, IsBadList, BreaksOff}
 use Rattle.hushcheck_core.specs.Names.{Text}
 use Rattle.rehearse_runs.specs.declared.rehearse_error.RehearseError.TheVariants as rehearsal
-use Rattle.ubtool_core.specs.Errors.{tool_fault}
-use Rattle.ubtool_core.specs.declared.error.ToolError.{ToolError}
-use Rattle.ubtool_core.specs.declared.error.ToolError.TheVariants as tool
-use Rattle.ubtool_core.specs.declared.fault.Fault.{Fault}
-use Rattle.ubtool_core.specs.declared.fault.Fault.TheVariants as fault
-use Rattle.ubtool_files.proofs.OrderLemmas.{OnlyReads-one, OnlyReads-then}
-use Rattle.ubtool_files.specs.CallOrder.{OnlyReads}
-use Rattle.ubtool_files.specs.Told.{Stored, Told, file_at}
-use Rattle.ubtool_files.specs.declared.files.Action.TheVariants.{ReadAll}
-use Rattle.ubtool_run.proofs.ReadingLemmas.{found-reads}
-use Rattle.ubtool_run.proofs.RehearseLemmas.{are-read}
-use Rattle.ubtool_run.specs.Images.{Copy, HasRead, ReadsImages}
-use Rattle.ubtool_run.specs.PrintingFiles.{FromImages}
-use Rattle.ubtool_run.specs.ReadingFiles.{IsTextFault}
+use Rattle.image_tools.specs.Errors.{tool_fault}
+use Rattle.image_tools.specs.declared.error.ToolError.{ToolError}
+use Rattle.image_tools.specs.declared.error.ToolError.TheVariants as tool
+use Rattle.image_tools.specs.declared.fault.Fault.{Fault}
+use Rattle.image_tools.specs.declared.fault.Fault.TheVariants as fault
+use Rattle.locked_files.proofs.OrderLemmas.{OnlyReads-one, OnlyReads-then}
+use Rattle.locked_files.specs.CallOrder.{OnlyReads}
+use Rattle.locked_files.specs.Told.{Stored, Told, file_at}
+use Rattle.locked_files.specs.declared.files.Action.TheVariants.{ReadAll}
+use Rattle.whole_program.proofs.ReadingLemmas.{found-reads}
+use Rattle.whole_program.proofs.RehearseLemmas.{are-read}
+use Rattle.whole_program.specs.Images.{Copy, HasRead, ReadsImages}
+use Rattle.whole_program.specs.PrintingFiles.{FromImages}
+use Rattle.whole_program.specs.ReadingFiles.{IsTextFault}
 
 -- the bytes of a text, if there is one
 abbrev pub bytes_if : Option (Vec ℕ Global) → Option Text

@@ -5,7 +5,7 @@ use Rattle.std.specs.declared.alloc.Global.{Global}
 use Rattle.clap.specs.Words.{Row, Text, first_of}
 use Rattle.envimage.specs.declared.image.ByteOrder.{ByteOrder}
 use Rattle.hushcheck.specs.declared.ask.CheckAsk.{CheckAsk}
-use Rattle.ubtool_cli.specs.Asked.{config_of, is_set, order_of, values_of}
+use Rattle.requests.specs.Asked.{config_of, is_set, order_of, values_of}
 
 -- the paths of the configuration and of the device list, if there is one; the variables to check, and whether every
 -- variable is checked after them; and how the checksum is stored

@@ -7,9 +7,9 @@ use Rattle.hushcheck.specs.Asked.{Asked, asked_by, asked_of}
 use Rattle.hushcheck.specs.CommandLine.{hushcheck}
 use Rattle.hushcheck.specs.declared.ask.Ask.{Ask}
 use Rattle.hushcheck.specs.declared.ask.Ask.TheVariants.{Check, Help, Version}
-use Rattle.ubtool_cli.specs.CommandAnswers.{IsAccepted, IsMistaken}
-use Rattle.ubtool_cli.specs.declared.ask.UseError.{UseError}
-use Rattle.ubtool_cli.specs.declared.ask.UseError.TheVariants.{Line, Memory}
+use Rattle.requests.specs.CommandAnswers.{IsAccepted, IsMistaken}
+use Rattle.requests.specs.declared.ask.UseError.{UseError}
+use Rattle.requests.specs.declared.ask.UseError.TheVariants.{Line, Memory}
 
 -- what the words ask for, by the entries that `clap` finds in them
 abbrev pub asked : List Text → Asked

@@ -5,11 +5,11 @@ use Rattle.hushcheck.specs.Checking.{ChecksFrom, LeavesOutput}
 use Rattle.hushcheck.specs.declared.ask.Ask.{Ask}
 use Rattle.hushcheck.specs.declared.ask.Ask.TheVariants.{Check, Help, Version}
 use Rattle.output.specs.Outputs.{Outputs}
-use Rattle.ubtool_files.specs.Told.{IfTold, Told}
-use Rattle.ubtool_core.specs.declared.fault.Fault.{Fault}
-use Rattle.ubtool_run.specs.Builds.{version_line}
-use Rattle.ubtool_run.specs.declared.build.Build.{Build}
-use Rattle.ubtool_run.specs.Performing.{Shows}
+use Rattle.locked_files.specs.Told.{IfTold, Told}
+use Rattle.image_tools.specs.declared.fault.Fault.{Fault}
+use Rattle.whole_program.specs.Builds.{version_line}
+use Rattle.whole_program.specs.declared.build.Build.{Build}
+use Rattle.whole_program.specs.Performing.{Shows}
 
 -- What a program of this build does for it, with the files before and after, and on the outputs. With status 0 each
 -- text is well-formed, each name that was asked for is set and the device list lacks no command, or the help or the

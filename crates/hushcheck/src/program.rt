@@ -4,18 +4,18 @@ ghost use Rattle.output.specs.Sink.{Sink};
 ghost use Rattle.hushcheck.specs.CommandAnswers.{Answers};
 ghost use Rattle.hushcheck.specs.Doing.{Does};
 ghost use Rattle.output.specs.Outputs.{outputs};
-ghost use Rattle.ubtool_run.specs.Faults.{CountsTold};
-ghost use Rattle.ubtool_run.specs.Running.{HasDone, HasRefused, IsMisused, files_shown};
+ghost use Rattle.whole_program.specs.Faults.{CountsTold};
+ghost use Rattle.whole_program.specs.Running.{HasDone, HasRefused, IsMisused, files_shown};
 
 use crate::ask::Ask;
 use crate::texts::check_files;
 use crate::words::read_words;
+use image_tools::Fault;
+use locked_files::Files;
 use output::Out;
 use std::alloc::Global;
 use std::convert::AsStr;
-use ubtool_core::Fault;
-use ubtool_files::Files;
-use ubtool_run::{Build, refuse, show_help, show_version, status_of};
+use whole_program::{Build, refuse, show_help, show_version, status_of};
 
 /// The name before the report of a refusal.
 pub const PROGRAM: &str = "hushcheck";

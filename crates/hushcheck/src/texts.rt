@@ -3,21 +3,21 @@ ghost use Rattle.std.specs.Prelude.{Ok, map, option_map, string_bytes};
 ghost use Rattle.std.specs.Option.{option_copied};
 ghost use Rattle.hushcheck.specs.Asked.{asked_by};
 ghost use Rattle.hushcheck.specs.Checking.{ChecksFrom, ChecksText, Finds, IsReport, LeavesOutput, Lists, ReadsList, given, given_by, list_in};
-ghost use Rattle.ubtool_core.specs.PrintingImages.{environment_in};
-ghost use Rattle.ubtool_files.specs.Told.{IfTold};
-ghost use Rattle.ubtool_run.specs.Faults.{CountsTold};
-ghost use Rattle.ubtool_run.specs.Images.{copies};
+ghost use Rattle.image_tools.specs.PrintingImages.{environment_in};
+ghost use Rattle.locked_files.specs.Told.{IfTold};
+ghost use Rattle.whole_program.specs.Faults.{CountsTold};
+ghost use Rattle.whole_program.specs.Images.{copies};
 
 use crate::ask::CheckAsk;
 use envimage::{ByteOrder, load};
 use envtools::Env;
 use hushcheck_core::{Report, asked_names, check};
+use image_tools::{Fault, RehearseError, ToolError};
+use locked_files::Files;
 use output::{Out, write_all};
 use rehearse::{Devices, DevicesError};
 use std::alloc::Global;
-use ubtool_core::{Fault, RehearseError, ToolError};
-use ubtool_files::Files;
-use ubtool_run::{Images, read_images, read_text, slices_of};
+use whole_program::{Images, read_images, read_text, slices_of};
 
 /// The environment of an image, or of the current copy of a pair.
 fn environment(

@@ -3,15 +3,15 @@ ghost use Rattle.std.specs.Prelude.{◌≡◌, IfOk, codes, map, string_bytes};
 ghost use Rattle.clap.specs.Words.{found_of, kind_of, rows_of};
 ghost use Rattle.hushcheck.specs.CommandAnswers.{Answers, Reports, Says};
 ghost use Rattle.hushcheck.specs.Asked.{asked_of, or_bootcmd};
-ghost use Rattle.ubtool_cli.specs.Asked.{values_of};
+ghost use Rattle.requests.specs.Asked.{values_of};
 
 use crate::ask::{Ask, CheckAsk};
 use crate::command::hushcheck;
 use clap::ArgMatches;
 use clap::error::ErrorKind;
+use requests::{DEFAULT_VARIABLE, UseError, config_of, is_set, order_of, text_of, texts_of};
 use std::alloc::{AllocError, Global};
 use std::convert::AsStr;
-use ubtool_cli::{DEFAULT_VARIABLE, UseError, config_of, is_set, order_of, text_of, texts_of};
 
 /// The variables that are named. If none is, and not every variable is to be checked, it is the one
 /// that boots.

@@ -1,5 +1,5 @@
 -- What a rehearsal of an environment writes. Ours. The words in quotation marks are those of the headline
--- (ubtool_core/specs/Headline.antt), and each is explained at its line.
+-- (image_tools/specs/Headline.antt), and each is explained at its line.
 use Rattle.std.specs.Prelude.{◌≡◌, ◌⊎◌, ◌++◌, false, List, Option, Some, None, Ok, Err}
 use Rattle.std.specs.List.{flat_map}
 use Rattle.output.specs.Sink.{Sink, Wrote, BrokeOff}

@@ -4,10 +4,10 @@
 //! Its words are `little|big FIRST SECOND NAME WORD..`. SECOND is `-` for a single image.
 
 use envimage::{ByteOrder, SIZE_MAX, Which};
+use image_tools::{Edit, set_bytes};
+use locked_files::read_up_to;
 use std::alloc::AllocError;
 use std::fs;
-use ubtool_core::{Edit, set_bytes};
-use ubtool_files::read_up_to;
 
 fn read(rt: &HostRuntime, path: &str) -> Option<Vec<u8>> {
     let mut file = fs::open(rt, path).ok()?;

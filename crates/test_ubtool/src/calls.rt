@@ -8,14 +8,14 @@ use envimage::{
     ByteOrder, ConfigError, DataError, Place, Which, check_data, crc32, encode, parse_config,
 };
 use envtools::{Env, EnvError, ScriptError, apply_script};
-use std::alloc::Global;
-use ubtool_cli::CalledAs;
-use ubtool_core::{
+use image_tools::{
     Bounds, Edit, Finish, PrintAsk, RehearseAsk, ToolError, Wanted, print_bytes, rehearse_bytes,
     run_input, set_bytes,
 };
-use ubtool_files::MemoryFiles;
-use ubtool_run::{Build, run_tool};
+use locked_files::MemoryFiles;
+use requests::CalledAs;
+use std::alloc::Global;
+use whole_program::{Build, run_tool};
 
 pub(crate) fn crc(bytes: &[u8]) -> u32 {
     crc32(bytes)

@@ -5,10 +5,10 @@ use crate::writers::Mode;
 use crate::{checking, commands, environments, faults, files, images, outputs, performing};
 use envimage::ByteOrder;
 use envtools::Env;
+use locked_files::MemoryFiles;
+use requests::CalledAs;
 use std::alloc::{AllocError, Global};
 use test_rows::{Rows, number, text_of, unescaped};
-use ubtool_cli::CalledAs;
-use ubtool_files::MemoryFiles;
 
 /// A case: what is set, by which the next rows are answered.
 #[derive(Drop)]

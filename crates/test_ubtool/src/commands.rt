@@ -1,8 +1,8 @@
 //! Command lines.
 
 use crate::case::{Case, text};
+use requests::{Ask, CalledAs, called_as, read_command, read_lock, words_called};
 use std::alloc::{AllocError, Global};
-use ubtool_cli::{Ask, CalledAs, called_as, read_command, read_lock, words_called};
 
 /// The words of a line.
 fn args_of(alloc: Global, line: &str) -> Result<Vec<String>, AllocError> {

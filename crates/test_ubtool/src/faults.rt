@@ -3,13 +3,13 @@
 use crate::case::{Case, text};
 use envimage::{ConfigError, DataError, ImageError};
 use envtools::{EnvError, ScriptError};
+use image_tools::{Fault, RehearseError, ToolError, WordForm, write_fault};
+use locked_files::FileFault;
 use output::Over;
 use rehearse::DevicesError;
 use std::alloc::Global;
 use std::fmt::Display;
 use test_rows::{number, shown};
-use ubtool_core::{Fault, RehearseError, ToolError, WordForm, write_fault};
-use ubtool_files::FileFault;
 
 /// The line that is written for a fault.
 fn line_of<E: Display>(alloc: Global, fault: &E) -> anyhow::Result<String> {

@@ -1,11 +1,11 @@
 //! Files, in memory and of the machine.
 
 use crate::case::{Case, text};
+use locked_files::{Files, LIMIT, Machine, MemoryFiles, read_up_to};
 use std::alloc::{AllocError, Global};
 use std::fs::File;
 use std::{fs, process};
 use test_rows::{number, shown, unescaped};
-use ubtool_files::{Files, LIMIT, Machine, MemoryFiles, read_up_to};
 
 /// The calls that were made, a line each.
 fn calls_of(alloc: Global, files: &MemoryFiles) -> Result<String, AllocError> {
@@ -98,7 +98,7 @@ fn ask<F: Files>(
 /// The path of a file of this process.
 fn own_path(case: &Case<'_>) -> Result<String, AllocError> {
     let id = process::id(case.rt.process());
-    format!(in case.alloc; "/tmp/ubtool_core.{id}")
+    format!(in case.alloc; "/tmp/image_tools.{id}")
 }
 
 /// The answer of the files of a case, or of the machine, where `own` is a file of this process. A

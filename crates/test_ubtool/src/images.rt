@@ -4,9 +4,9 @@ use crate::calls;
 use crate::case::{Case, text};
 use callers::images::order_of;
 use envimage::load;
+use image_tools::Edit;
 use std::alloc::Global;
 use test_rows::{number, shown, slices, unescaped, words_of};
-use ubtool_core::Edit;
 
 /// The places of a configuration, a line each.
 fn places(alloc: Global, says: &str) -> anyhow::Result<String> {

@@ -2,11 +2,11 @@
 
 use crate::case::Case;
 use crate::writers::Tested;
+use locked_files::UntilFailed;
 use output::{Out, Over, write_all, write_parts};
 use std::alloc::Global;
 use std::io::{self, BufWriter, ErrorKind, Write};
 use test_rows::{number, shown, slices, unescaped, words_of};
-use ubtool_files::UntilFailed;
 
 /// A writer of std with one write that fails. It counts its writes and its flushes.
 #[derive(Drop)]

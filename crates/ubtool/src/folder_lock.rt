@@ -2,12 +2,12 @@
 ghost use Rattle.std.specs.Prelude.{◌≡◌};
 ghost use Rattle.ubtool.specs.declared.folder_lock.LockError.TheVariants.{Memory};
 
+use image_tools::WordForm;
+use locked_files::lock_file;
 use std::alloc::{AllocError, Global};
 use std::fs::File;
 use std::rt;
 use thiserror::Error;
-use ubtool_core::WordForm;
-use ubtool_files::lock_file;
 
 /// Why the lock in a folder is not taken. The texts are those of U-Boot's tools.
 #[derive(Debug, Drop, Error)]

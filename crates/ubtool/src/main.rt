@@ -5,14 +5,14 @@
 mod folder_lock;
 
 use folder_lock::{LockError, lock_in};
+use image_tools::write_fault_of;
+use locked_files::Machine;
 use output::{Out, Over, write_all};
+use requests::{called_as, read_lock, words_called};
 use std::fs::File;
 use std::io;
 use std::process::ExitCode;
-use ubtool_cli::{called_as, read_lock, words_called};
-use ubtool_core::write_fault_of;
-use ubtool_files::Machine;
-use ubtool_run::{
+use whole_program::{
     Build, PROGRAM, StartError, Telling, buffered, end, finish, run_tool, words_of_call,
 };
 

@@ -8,10 +8,10 @@ use hushlang::expand::{ExpandError, OneVariable, expand, expand_one};
 use hushlang::parse::parse;
 use hushlang::token::SyntaxError;
 use hushlang::tree::{Command, Script, Word};
+use locked_files::{FileFault, Files, MemoryFiles};
 use rehearse::{Bounds, Devices, DevicesError};
 use rehearse_runs::{RehearseError, WordKind, try_word};
 use std::alloc::{AllocError, Global};
-use ubtool_files::{FileFault, Files, MemoryFiles};
 
 /// The variables that words are expanded by.
 fn variables() -> OneVariable<'static> {

@@ -1,9 +1,9 @@
 use Rattle.std.proofs.Common.{◌≡◌, ◌∙◌, ap, sym, subst, Bool, Err, Result, List, ℕ, Option}
 use Rattle.std.proofs.lemmas.Result.{err_from_is_err_and}
-use Rattle.ubtool_core.specs.declared.fault.Fault.{Fault}
-use Rattle.ubtool_files.proofs.ToldLemmas.{IfTold-then}
-use Rattle.ubtool_files.specs.Told.{IfTold}
-use Rattle.ubtool_run.specs.Images.{copies}
+use Rattle.image_tools.specs.declared.fault.Fault.{Fault}
+use Rattle.locked_files.proofs.ToldLemmas.{IfTold-then}
+use Rattle.locked_files.specs.Told.{IfTold}
+use Rattle.whole_program.specs.Images.{copies}
 use Rattle.hushcheck.specs.Asked.{Asked, asked_by}
 use Rattle.hushcheck.specs.Checking.{ChecksFrom, ChecksText, given_by}
 use Rattle.hushcheck.proofs.CheckLemmas.{bytes_if, checks-refused, checks-unlisted}

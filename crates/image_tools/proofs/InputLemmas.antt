@@ -1,0 +1,68 @@
+-- An image that was read within the limit is the whole input; what the output has if the input is refused.
+use Rattle.std.proofs.Common.{◌≡◌, ◌≤◌, ℕ, Bool, true, List, [], length, take, min, Option, None, Some, Ok, Err, sym, ap, ◌∙◌, inl, inr, arith, length-take}
+use Rattle.std.proofs.lemmas.Bool.{cases_Bool}
+use Rattle.std.proofs.lemmas.Bool.Decides.{nat_tests}
+use Rattle.std.proofs.lemmas.List.{take_all}
+use Rattle.std.specs.Prelude.{IfSome}
+use Rattle.envimage.specs.Data.{Pair}
+use Rattle.envimage.specs.Image.{is_size}
+use Rattle.envimage.specs.declared.image.ByteOrder.TheVariants.{Little}
+use Rattle.output.specs.Sink.{BrokeOff, Sink}
+use Rattle.envtools.specs.Printing.{printed_output}
+use Rattle.output.specs.Outputs.{WroteFront, Outputs}
+use Rattle.image_tools.specs.Input.{FrontStands, PrintsFront, PrintsInput, RefusesInput}
+use Rattle.image_tools.specs.PrintingImages.{environment_in, Prints, PrintsAll}
+use Rattle.image_tools.specs.declared.error.ToolError.{ToolError}
+use Rattle.image_tools.specs.declared.error.ToolError.TheVariants as tool
+
+at_most : (n : ℕ) → is_size 5 n ≡ true → n ≤ 1048576
+at_most n e = grind (arith, nat_tests)
+
+-- a single image that is loaded is within the limit
+image-size : (bytes : List ℕ) (env : List Pair) → environment_in Little bytes None ≡ Ok env → length bytes ≤ 1048576
+image-size bytes env e =
+    elim (cases_Bool (is_size 5 (length bytes))) [
+      | inl yes_size ↦ at_most (length bytes) yes_size
+      | inr no_size ↦ let refused = rw no_size at e in cc
+    ]
+
+-- a single image within the limit is the whole input
+whole-input : (xs read : List ℕ) (env : List Pair) → read ≡ take 1048577 xs → environment_in Little read None ≡ Ok env → read ≡ xs
+whole-input xs read env is there =
+    let short : length read ≤ 1048576 = image-size read env there in
+    let taken : length read ≡ min 1048577 (length xs) = rw is (length-take 1048577 xs) in
+    let all : length xs ≤ 1048577 = omega (arith, short, taken) in
+    is ∙ take_all 1048577 xs all
+
+pub input-printed : (left : Option (List ℕ)) (s : Outputs) (read : List ℕ) (found : Bool) → IfSome left (λ xs. read ≡ take 1048577 xs)
+    → PrintsAll (environment_in Little read None) [] true s found → PrintsInput left s.out s.out'
+input-printed None s read found is p = tt
+input-printed (Some xs) s read found is p =
+    (p.env, ap (λ bytes. environment_in Little bytes None) (sym (whole-input xs read p.env is p.there)) ∙ p.there, p.output)
+
+-- ---- an input that is refused
+
+front-printed : (left : Option (List ℕ)) (old new : Sink) (read : List ℕ) (env : List Pair) → IfSome left (λ xs. read ≡ take 1048577 xs)
+    → environment_in Little read None ≡ Ok env → FrontStands old new (printed_output env [] true) → PrintsFront left old new
+front-printed None old new read env is there front = (env, front)
+front-printed (Some xs) old new read env is there front =
+    (env, ap (λ bytes. environment_in Little bytes None) (sym (whole-input xs read env is there)) ∙ there, front)
+
+broke-off : (old new : Sink) (text : List ℕ) → BrokeOff old new text → FrontStands old new text
+broke-off old new text b = record { front = b.front; rest = b.rest; whole = b.whole; bytes = b.bytes }
+
+wrote-front : (old new : Sink) (text : List ℕ) → WroteFront old new text → FrontStands old new text
+wrote-front old new text w = record { front = w.front; rest = w.rest; whole = w.whole; bytes = w.wrote.bytes }
+
+pub input-refused : (left : Option (List ℕ)) (s : Outputs) (read : List ℕ) (error : ToolError) → IfSome left (λ xs. read ≡ take 1048577 xs)
+    → Prints (environment_in Little read None) [] true s (Err error) → RefusesInput left s.out s.out'
+input-refused left s read (tool.Image e) is p = inl p.1.out
+input-refused left s read tool.Memory is p = inl p.1.out
+input-refused left s read tool.Write is p =
+    elim p.broken [
+      | inl b ↦ inr (front-printed left s.out s.out' read p.env is p.there (broke-off s.out s.out' (printed_output p.env [] true) b.0))
+      | inr b ↦ inr (front-printed left s.out s.out' read p.env is p.there (wrote-front s.out s.out' (printed_output p.env [] true) b.0))
+    ]
+input-refused left s read (tool.Env e) is p = absurd p
+input-refused left s read (tool.Script e) is p = absurd p
+input-refused left s read (tool.Rehearsal e) is p = absurd p

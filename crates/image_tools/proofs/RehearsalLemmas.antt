@@ -1,0 +1,36 @@
+-- From the rehearsal of an environment to the rehearsal of an image.
+use Rattle.std.proofs.Common.{◌≡◌, ℕ, refl, List, Option, Ok, inl, inr}
+use Rattle.envimage.specs.Data.{Pair, pairs_of}
+use Rattle.envimage.specs.Image.{LoadedShown, load_of}
+use Rattle.output.specs.Sink.{Sink}
+use Rattle.envimage.specs.declared.image.ByteOrder.{ByteOrder}
+use Rattle.envtools.specs.Environment.{env_of}
+use Rattle.rehearse.specs.Asking.{Asking}
+use Rattle.rehearse.specs.State.{Text}
+use Rattle.rehearse_runs.specs.RehearsedEnvironment as below
+use Rattle.rehearse_runs.specs.declared.listing.Finish.{Finish}
+use Rattle.rehearse_runs.specs.declared.rehearse_error.RehearseError.{RehearseError}
+use Rattle.rehearse_runs.specs.declared.rehearse_error.RehearseError.TheVariants as rehearsal
+use Rattle.image_tools.specs.Errors.{rehearse_fault}
+use Rattle.image_tools.specs.Given.{given}
+use Rattle.image_tools.specs.Headline.{Rehearses}
+use Rattle.image_tools.specs.PrintingImages.{environment_in}
+use Rattle.image_tools.specs.Refusing.{Refuses}
+
+pub image-env : (order : ByteOrder) (first : List ℕ) (second : Option (List ℕ)) (s : LoadedShown) (environment : List Pair) → load_of order first second ≡ Ok s → environment ≡ env_of (pairs_of s.body)
+    → environment_in order first second ≡ Ok environment
+image-env order first second s environment e h = rw (e, h) refl
+
+module _ (order : ByteOrder) (first : List ℕ) (second : Option (List ℕ)) (list : Text) (asking : Asking) (environment : List Pair) (old new : Sink) (image : environment_in order first second ≡ Ok environment) where
+  pub rehearses-image : (finish : Finish) → below.WithDevices list (λ devices. below.Rehearses (below.task_asked environment devices asking) asking old new finish) → Rehearses (given order first second list asking) old new finish
+  rehearses-image finish h = record { environment = environment; devices = h.devices; image = image; device_list = h.listed_as; so = h.so }
+
+  pub refused-image : (error : RehearseError) → below.RefusesAsk environment list asking old new error → Refuses (given order first second list asking) old new (rehearse_fault error)
+  refused-image (rehearsal.DeviceList fault) h = (record { environment = environment; image = image }, h.0, h.1)
+  refused-image rehearsal.NoSuchVariable h = (record { environment = environment; devices = h.devices; image = image; device_list = h.listed_as; so = h.so.0 }, h.so.1)
+  refused-image rehearsal.NotARun h = (record { environment = environment; devices = h.devices; image = image; device_list = h.listed_as; so = h.so.0 }, h.so.1)
+  refused-image rehearsal.States h = h.so
+  refused-image rehearsal.Failed h = h.so
+  refused-image rehearsal.Write h = record { environment = environment; devices = h.devices; image = image; device_list = h.listed_as; so = h.so }
+  refused-image rehearsal.Memory (inl nothing) = inl (record { environment = environment; image = image }, nothing)
+  refused-image rehearsal.Memory (inr h) = inr (record { environment = environment; devices = h.devices; image = image; device_list = h.listed_as; so = h.so })

@@ -1,0 +1,31 @@
+-- What printing the image of an input says of that input.
+use Rattle.std.specs.Prelude.{◌≡◌, ◌⊎◌, List, [], ◌++◌, ℕ, true, Option, None, Some, Ok}
+use Rattle.std.specs.Io.KnownBytes.{Appends}
+use Rattle.envimage.specs.Data.{Pair}
+use Rattle.output.specs.Sink.{Sink, Wrote}
+use Rattle.envimage.specs.declared.image.ByteOrder.TheVariants.{Little}
+use Rattle.envtools.specs.Printing.{printed_output}
+use Rattle.image_tools.specs.PrintingImages.{environment_in}
+
+-- If the input's bytes are known, they are a single image whose variables were all printed.
+abbrev pub PrintsInput : Option (List ℕ) → Sink → Sink → Type 0
+PrintsInput None old new = Unit {0}
+PrintsInput (Some image) old new =
+    (env : List Pair) × (environment_in Little image None ≡ Ok env) × (Wrote old new (printed_output env [] true))
+
+-- The output has a prefix of the text.
+pub record FrontStands (old new : Sink) (text : List ℕ) : Type 0 where
+  pub front : List ℕ
+  pub rest : List ℕ
+  pub whole : text ≡ front ++ rest
+  pub bytes : Appends old.taken new.taken front
+
+-- The output has a prefix of the variables of an image. If the input's bytes are known, it is the input's image.
+abbrev pub PrintsFront : Option (List ℕ) → Sink → Sink → Type 0
+PrintsFront None old new = (env : List Pair) × FrontStands old new (printed_output env [] true)
+PrintsFront (Some image) old new =
+    (env : List Pair) × (environment_in Little image None ≡ Ok env) × (FrontStands old new (printed_output env [] true))
+
+-- if an input is refused, the output is as it was, or it failed inside the variables
+abbrev pub RefusesInput : Option (List ℕ) → Sink → Sink → Type 0
+RefusesInput left old new = (new ≡ old) ⊎ PrintsFront left old new

@@ -1,0 +1,121 @@
+//! The faults that the program reports, each in one line.
+ghost use Rattle.output.specs.Sink.{Wrote};
+
+use crate::error::ToolError;
+use crate::word_form::WordForm;
+use envimage::ConfigError;
+use locked_files::FileFault;
+use output::{Out, write_all};
+use std::fmt;
+use thiserror::Error;
+
+/// Why the program gave up. The text is what it reports.
+#[derive(Debug, Drop, Error)]
+pub enum Fault {
+    /// The configuration was refused.
+    #[error("{0}")]
+    Config(ConfigError),
+    /// A call from bytes to bytes was refused, for a reason other than memory.
+    #[error("{0}")]
+    Tool(ToolError),
+    /// The device failed while the file was read.
+    #[error("cannot read {0}")]
+    CannotRead(WordForm),
+    /// The device failed while the file was written.
+    #[error("cannot write {0}")]
+    CannotWrite(WordForm),
+    /// The file ends before the bytes that were asked for.
+    #[error("{0} is too short")]
+    FileShort(WordForm),
+    /// The file has more bytes than are read.
+    #[error("{0} is too long")]
+    FileTooLong(WordForm),
+    /// Standard input failed.
+    #[error("cannot read standard input")]
+    CannotReadInput,
+    /// Standard input has more bytes than are read.
+    #[error("standard input is too long")]
+    InputTooLong,
+    /// The variable to be rehearsed is not set.
+    #[error("no variable {0}")]
+    NoSuchVariable(WordForm),
+    /// The rehearsal has no run of this word, which is printed as it was given.
+    #[error("no run has the word {0}")]
+    NotARun(WordForm),
+    /// Memory ran out.
+    #[error("out of memory")]
+    Memory,
+}
+
+impl From<ToolError> for Fault {
+    ghost use Rattle.std.specs.Prelude.{◌≡◌};
+    ghost use Rattle.image_tools.specs.Errors.{tool_fault};
+
+    ghost from_gives = { λ error fault. fault ≡ tool_fault error };
+
+    fn from(error: ToolError) -> Fault {
+        match error {
+            ToolError::Memory => Fault::Memory,
+            error => Fault::Tool(error),
+        }
+    }
+}
+
+impl Fault {
+    ghost use Rattle.std.specs.Prelude.{◌≡◌};
+    ghost use Rattle.image_tools.specs.FileFaults.{path_form, read_fault, written_fault};
+
+    /// What is reported if the file at the path could not be read.
+    pub fn of_read(path: String, fault: FileFault) -> Fault
+        ensures { result ≡ read_fault (path_form path) fault }
+    {
+        match fault {
+            FileFault::Failed => Fault::CannotRead(WordForm(path)),
+            FileFault::Short => Fault::FileShort(WordForm(path)),
+            FileFault::TooLong => Fault::FileTooLong(WordForm(path)),
+            FileFault::Memory => Fault::Memory,
+        }
+    }
+
+    /// What is reported if the file at the path could not be written.
+    pub fn of_write(path: String, fault: FileFault) -> Fault
+        ensures { result ≡ written_fault (path_form path) fault }
+    {
+        match fault {
+            FileFault::Failed => Fault::CannotWrite(WordForm(path)),
+            FileFault::Short => Fault::FileShort(WordForm(path)),
+            FileFault::TooLong => Fault::FileTooLong(WordForm(path)),
+            FileFault::Memory => Fault::Memory,
+        }
+    }
+}
+
+/// Text for an output, by `write!`.
+struct Line<'a, O> {
+    out: &'a mut O,
+}
+
+impl<O: Out> fmt::Write for Line<'_, O> {
+    ghost write_str_gives = { λ before text after.
+        Wrote (O.sink before.out.now) (O.sink after.out.now) text };
+
+    fn write_str(&mut self, text: &str) -> fmt::Result {
+        write_all(self.out, text.as_bytes()).map_err(|_| fmt::Error)
+    }
+}
+
+/// Writes one line for a fault of a program, starting with the program's name. If the output fails,
+/// the rest is left out. Takes no memory.
+pub fn write_fault_of<O: Out, E: fmt::Display>(err: &mut O, program: &str, fault: &E) {
+    use std::fmt::Write;
+
+    let mut line = Line { out: err };
+    let _ = write!(line, "{program}: {fault}\n");
+    let Line { out: _ } = line;
+}
+
+/// Writes one line for a fault, such as `ubtool: output failed`. If the output fails, the rest is
+/// left out.
+pub fn write_fault<O: Out, E: fmt::Display>(err: &mut O, fault: &E) {
+    write_fault_of(err, "ubtool", fault);
+}

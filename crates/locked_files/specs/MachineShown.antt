@@ -1,0 +1,18 @@
+-- What the machine's files count, and whether their lock was taken. Both are ours.
+use Rattle.std.specs.Prelude.{ℕ, Bool, true, false}
+use Rattle.locked_files.specs.declared.lock.Lock.{Lock}
+use Rattle.locked_files.specs.declared.lock.Lock.TheVariants.{Held, Missing, NotTaken}
+use Rattle.locked_files.specs.declared.machine.Machine.{Machine}
+
+-- how often the device has failed
+abbrev pub faults_of : {R : Type 0} → Machine R → ℕ
+faults_of m = m.faults
+
+-- the lock was asked for: it is held, or it cannot be had
+abbrev pub is_taken : Lock → Bool
+is_taken NotTaken = false
+is_taken (Held file) = true
+is_taken Missing = true
+
+abbrev pub is_locked : {R : Type 0} → Machine R → Bool
+is_locked m = is_taken m.lock

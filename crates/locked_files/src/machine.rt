@@ -1,0 +1,187 @@
+//! The machine's own files.
+ghost use Rattle.std.specs.Prelude.{◌≡◌, ◌≤◌, ◌⊎◌, IfOk, IfErr, None, false, true, vec_len};
+ghost use Rattle.locked_files.specs.FailedReads.{file_fault_of};
+ghost use Rattle.locked_files.specs.declared.files.FileFault.TheVariants.{Failed, Memory};
+
+use crate::files::{FileFault, Files, LIMIT};
+use crate::input::{ReadFault, read_up_to};
+use crate::lock::{Lock, usual_lock};
+use std::alloc::Global;
+use std::fs::{File, OpenFile, OpenOptions};
+use std::io::{ErrorKind, Read, Seek, SeekFrom, Write};
+use std::rt;
+
+/// The files of the machine, which the runtime reaches. A lock is held as long as these files last.
+#[derive(Drop)]
+pub struct Machine<'a, R> {
+    rt: &'a R,
+    faults: u64,
+    lock: Lock,
+}
+
+impl<'a, R: rt::Files> Machine<'a, R> {
+    ghost use Rattle.locked_files.specs.FailureCounts.{CountsFault};
+    ghost use Rattle.locked_files.specs.MachineShown.{faults_of, is_locked};
+
+    /// The files that `rt` reaches; no failure is counted yet, and no lock is taken.
+    pub fn new(rt: &'a R) -> Machine<'a, R>
+        ensures sound { faults_of result ≡ 0 }
+        ensures unlocked { is_locked result ≡ false }
+    {
+        Machine {
+            rt,
+            faults: 0,
+            lock: Lock::NotTaken,
+        }
+    }
+
+    /// The same files under a lock that is held already.
+    pub fn under(rt: &'a R, lock: File) -> Machine<'a, R>
+        ensures sound { faults_of result ≡ 0 }
+        ensures locked { is_locked result ≡ true }
+    {
+        Machine {
+            rt,
+            faults: 0,
+            lock: Lock::Held(lock),
+        }
+    }
+
+    /// Counts a failure of the device, if the answer is one.
+    fn counted<T: Drop>(&mut self, answer: Result<T, FileFault>) -> Result<T, FileFault>
+        ensures answer { result ≡ answer }
+        ensures count { CountsFault (faults_of self.old) (faults_of self.new) answer }
+        ensures lock { is_locked self.new ≡ is_locked self.old }
+    {
+        if let Err(FileFault::Failed) = answer {
+            self.faults = self.faults.saturating_add(1);
+        }
+        answer
+    }
+}
+
+/// What a read of one file answers.
+fn fault_of(fault: ReadFault) -> FileFault
+    ensures { result ≡ file_fault_of fault }
+{
+    match fault {
+        ReadFault::Failed => FileFault::Failed,
+        ReadFault::Memory => FileFault::Memory,
+    }
+}
+
+/// Opens the file at byte `offset`, to be read or written. The file is neither made nor shortened.
+/// Gives `None` if this fails.
+fn opened<R: rt::Files>(rt: &R, path: &str, offset: u64, writes: bool) -> Option<R::File> {
+    let mut how = OpenOptions::new();
+    how.read(!writes);
+    how.write(writes);
+    let Ok(mut file) = how.open(rt, path) else {
+        return None;
+    };
+    if offset > 0 && file.seek(SeekFrom::Start(offset)).is_err() {
+        return None;
+    }
+    Some(file)
+}
+
+/// Reads the bytes from `offset` up to the file's end, or the first `size` of them. Errors:
+/// `Failed`, `Memory`.
+fn read_from<R: rt::Files>(
+    rt: &R,
+    alloc: Global,
+    path: &str,
+    offset: u64,
+    size: usize,
+) -> Result<Vec<u8>, FileFault>
+    ensures bound { IfOk result (λ bytes. vec_len bytes ≤ size) }
+    ensures refusals { IfErr result (λ fault. (fault ≡ Failed) ⊎ (fault ≡ Memory)) }
+{
+    let Some(mut file) = opened(rt, path, offset, false) else {
+        return Err(FileFault::Failed);
+    };
+    match read_up_to(alloc, &mut file, size) {
+        Ok(bytes) => Ok(bytes),
+        Err(fault) => Err(fault_of(fault)),
+    }
+}
+
+/// Writes the bytes, and returns whether all were written. No failed write is repeated.
+fn is_written<W: Write>(to: &mut W, bytes: &[u8]) -> bool {
+    let mut rest = bytes;
+    while !rest.is_empty() {
+        match to.write(rest) {
+            Ok(count) if count > 0 => rest = &rest[count..],
+            _ => return false,
+        }
+    }
+    to.flush().is_ok()
+}
+
+/// Whether the device has what was written. A file that cannot be asked counts as one that has.
+fn is_synced<F: OpenFile>(file: &F) -> bool {
+    match file.sync_all() {
+        Ok(()) => true,
+        Err(error) => error.kind() == ErrorKind::InvalidInput,
+    }
+}
+
+/// Writes all the bytes from `offset` on. Errors: `Failed`.
+fn write_to<R: rt::Files>(rt: &R, path: &str, offset: u64, bytes: &[u8]) -> Result<(), FileFault>
+    ensures refusal { IfErr result (λ fault. fault ≡ Failed) }
+{
+    let Some(mut file) = opened(rt, path, offset, true) else {
+        return Err(FileFault::Failed);
+    };
+    if is_written(&mut file, bytes) && is_synced(&file) {
+        Ok(())
+    } else {
+        Err(FileFault::Failed)
+    }
+}
+
+impl<R: rt::Files<File = File>> Files for Machine<'_, R> {
+    ghost use Rattle.locked_files.specs.MachineShown.{faults_of, is_locked};
+
+    ghost faults = { faults_of };
+
+    ghost told = { λ _. None };
+
+    ghost locked = { is_locked };
+
+    /// Takes the lock of U-Boot's tools. If its file cannot be opened or locked, there is no lock.
+    fn lock(&mut self) {
+        if let Lock::NotTaken = self.lock {
+            self.lock = usual_lock(self.rt);
+        }
+    }
+
+    fn read_all(&mut self, alloc: Global, path: &str) -> Result<Vec<u8>, FileFault> {
+        let read = read_from(self.rt, alloc, path, 0, LIMIT + 1);
+        let bytes = self.counted(read)?;
+        if bytes.len() > LIMIT {
+            return Err(FileFault::TooLong);
+        }
+        Ok(bytes)
+    }
+
+    fn read_at(
+        &mut self,
+        alloc: Global,
+        path: &str,
+        offset: u64,
+        size: usize,
+    ) -> Result<Vec<u8>, FileFault> {
+        let read = read_from(self.rt, alloc, path, offset, size);
+        let bytes = self.counted(read)?;
+        if bytes.len() < size {
+            return Err(FileFault::Short);
+        }
+        Ok(bytes)
+    }
+
+    fn write_at(&mut self, path: &str, offset: u64, bytes: &[u8]) -> Result<(), FileFault> {
+        let written = write_to(self.rt, path, offset, bytes);
+        self.counted(written)
+    }
+}

@@ -1,0 +1,125 @@
+-- What an answer of the reader of words says, and when each refusal comes. The refusals are ours.
+use Rattle.std.specs.Prelude.{◌≡◌, ◌≢◌, ◌⊎◌, List, [], map, Option, Some, None}
+use Rattle.std.specs.Prelude.{Result, Ok, Err, option_map, option_and_then, string_bytes}
+use Rattle.clap.specs.Words.{App, IsAmong, Text, fault_of, subcommand_of}
+use Rattle.clap.specs.declared.error.kind.ErrorKind.{ErrorKind}
+use Rattle.clap.specs.declared.error.kind.ErrorKind.TheVariants.{DisplayHelp, DisplayVersion}
+use Rattle.clap.specs.declared.error.kind.ErrorKind.TheVariants.{OutOfMemory}
+use Rattle.envimage.specs.declared.image.ByteOrder.{ByteOrder}
+use Rattle.requests.specs.declared.ask.Ask.{Ask}
+use Rattle.requests.specs.declared.ask.Ask.TheVariants.{Print, Setenv, Rehearse, Endings, Help, Version}
+use Rattle.requests.specs.declared.ask.Change.{Change}
+use Rattle.requests.specs.declared.ask.Change.TheVariants.{Input, One, Script}
+use Rattle.requests.specs.declared.ask.EndingsAsk.{EndingsAsk}
+use Rattle.requests.specs.declared.called.CalledAs.{CalledAs}
+use Rattle.requests.specs.declared.ask.RehearseAsk.{RehearseAsk}
+use Rattle.requests.specs.declared.ask.UseError.{UseError}
+use Rattle.requests.specs.declared.ask.Wanted.{Wanted}
+use Rattle.requests.specs.declared.ask.UseError.TheVariants.{Line, NeedName, ScriptAndName}
+use Rattle.requests.specs.declared.ask.UseError.TheVariants.{HeaderNeedsOne, Memory, TooManyDevices, WordAlone}
+use Rattle.requests.specs.Asked as what
+use Rattle.requests.specs.Asked.{Asked, WantedAsked, asked_of, ending, input_scripted, lock_of, printing, setting}
+use Rattle.requests.specs.Asked.{scripted, rehearsing, needs_name, script_and_name}
+use Rattle.requests.specs.Asked.{header_needs_one, too_many_devices, word_alone}
+use Rattle.command_line.specs.CommandLine.{ubtool}
+use Rattle.requests.specs.WantedShown.{bounds_of, wanted_of}
+use Rattle.rehearse.specs.Asking.{Asking}
+
+abbrev pub asking_of : RehearseAsk → Asking
+asking_of r = record {
+  variable = string_bytes r.name;
+  bounds = bounds_of r.wanted;
+  wanted = wanted_of r.wanted;
+  names = map string_bytes r.names.items;
+}
+
+abbrev pub endings_of : EndingsAsk → what.Endings
+endings_of e = record { variable = string_bytes e.name; bounds = e.bounds; states = e.states; flow = e.flow }
+
+abbrev pub change_of : Text → Change → ByteOrder → Asked
+change_of config (One name words) order =
+    setting config (string_bytes name) (map string_bytes words.items) order
+change_of config (Script file) order = scripted config (string_bytes file) order
+change_of config Input order = input_scripted config order
+
+-- what the value asks for, if it is neither a help text nor the version
+abbrev pub meaning_of : Ask → Option Asked
+meaning_of (Print config what order) =
+    Some (printing (string_bytes config) what.header (map string_bytes what.names.items) order)
+meaning_of (Setenv config change order) =
+    Some (change_of (string_bytes config) change order)
+meaning_of (Rehearse config list what order) =
+    Some (rehearsing (string_bytes config) (string_bytes list) (asking_of what) order)
+meaning_of (Endings config list what order) =
+    Some (ending (string_bytes config) (string_bytes list) (endings_of what) order)
+meaning_of (Help text) = None
+meaning_of Version = None
+
+-- what the words ask for, by the subcommand that `clap` finds in them and its entries
+abbrev pub asked : CalledAs → List Text → Option Asked
+asked called words = option_and_then (λ s. asked_of called s.0 s.1) (subcommand_of ubtool words)
+
+-- `clap` finds no fault in the words
+abbrev pub IsAccepted : App → List Text → Type 0
+IsAccepted app words = fault_of app words ≡ []
+
+-- `clap` refuses the words for some mistake, not to show the help or the version
+abbrev pub IsMistaken : App → List Text → Type 0
+IsMistaken app words = (k : ErrorKind) × IsAmong k (fault_of app words) × (k ≢ DisplayHelp)
+    × (k ≢ DisplayVersion)
+
+-- The answer to words. A line without a mistake would need an accepted `rehearse` or `endings` that has no device list
+-- or a number out of its range, and `clap` accepts neither.
+abbrev pub Answers : CalledAs → List Text → Result Ask UseError → Type 0
+Answers called words (Ok (Help text)) = IsAmong DisplayHelp (fault_of ubtool words)
+Answers called words (Ok Version) = IsAmong DisplayVersion (fault_of ubtool words)
+Answers called words (Ok ask) = IsAccepted ubtool words × (meaning_of ask ≡ asked called words)
+Answers called words (Err NeedName) = IsAccepted ubtool words × (Some needs_name ≡ asked called words)
+Answers called words (Err ScriptAndName) = IsAccepted ubtool words × (Some script_and_name ≡ asked called words)
+Answers called words (Err HeaderNeedsOne) = IsAccepted ubtool words × (Some header_needs_one ≡ asked called words)
+Answers called words (Err WordAlone) = IsAccepted ubtool words × (Some word_alone ≡ asked called words)
+Answers called words (Err TooManyDevices) = IsAccepted ubtool words × (Some too_many_devices ≡ asked called words)
+Answers called words (Err (Line text)) = IsMistaken ubtool words ⊎ (IsAccepted ubtool words × (None ≡ asked called words))
+Answers called words (Err Memory) = Unit {0}
+
+-- the folder of the lock that accepted words name, if they name one; words that `clap` refuses name none
+abbrev pub NamesLock : List Text → Option Text → Type 0
+NamesLock words folder =
+    (IsAccepted ubtool words × (folder ≡ option_and_then (λ s. lock_of s.1) (subcommand_of ubtool words)))
+    ⊎ (((k : ErrorKind) × IsAmong k (fault_of ubtool words)) × (folder ≡ None))
+
+-- the answer says this, or memory ran out; a line says nothing
+abbrev pub Says : Option Asked → Result Ask UseError → Type 0
+Says a (Ok (Help text)) = ⊥
+Says a (Ok Version) = ⊥
+Says a (Ok ask) = meaning_of ask ≡ a
+Says a (Err NeedName) = Some needs_name ≡ a
+Says a (Err ScriptAndName) = Some script_and_name ≡ a
+Says a (Err HeaderNeedsOne) = Some header_needs_one ≡ a
+Says a (Err WordAlone) = Some word_alone ≡ a
+Says a (Err TooManyDevices) = Some too_many_devices ≡ a
+Says a (Err (Line text)) = None ≡ a
+Says a (Err Memory) = Unit {0}
+
+-- the same for the runs that `rehearse` is to list
+abbrev pub SaysWanted : Option WantedAsked → Result Wanted UseError → Type 0
+SaysWanted a (Ok wanted) = Some (Ok (bounds_of wanted, wanted_of wanted)) ≡ a
+SaysWanted a (Err WordAlone) = Some (Err word_alone) ≡ a
+SaysWanted a (Err TooManyDevices) = Some (Err too_many_devices) ≡ a
+SaysWanted a (Err (Line text)) = None ≡ a
+SaysWanted a (Err Memory) = Unit {0}
+SaysWanted a (Err error) = ⊥
+
+-- a line, or memory ran out
+abbrev pub IsUnread : UseError → Type 0
+IsUnread (Line text) = Unit {0}
+IsUnread Memory = Unit {0}
+IsUnread _ = ⊥
+
+-- the answer to an error of `clap`
+abbrev pub Reports : ErrorKind → Result Ask UseError → Type 0
+Reports k (Ok (Help text)) = k ≡ DisplayHelp
+Reports k (Ok Version) = k ≡ DisplayVersion
+Reports k (Err (Line text)) = (k ≢ DisplayHelp) × (k ≢ DisplayVersion) × (k ≢ OutOfMemory)
+Reports k (Err Memory) = Unit {0}
+Reports k _ = ⊥

@@ -1,0 +1,173 @@
+//! What a call asks for, and why its words are refused.
+ghost use Rattle.std.specs.Prelude.{◌<◌};
+ghost use Rattle.std.specs.Option.{ForSome};
+ghost use Rattle.rehearse.specs.Asking.{limit_of};
+ghost use Rattle.requests.specs.WantedShown.{wanted_of};
+
+use envimage::ByteOrder;
+use rehearse::{Bounds, RunBounds};
+use thiserror::Error;
+
+/// The configuration that is read if a call names none.
+pub const DEFAULT_CONFIG: &str = "/etc/fw_env.config";
+
+/// The variable that is rehearsed if a call names none.
+pub const DEFAULT_VARIABLE: &str = "bootcmd";
+
+/// The device commands that a run may have if a call sets no bound.
+pub const DEFAULT_DEVICES: u32 = 16;
+
+/// The steps that a run may begin if a call sets no bound.
+pub const DEFAULT_STEPS: u32 = 10_000;
+
+/// The device commands that a run which is not listed may have if a call sets no bound: for
+/// `endings`, and for `rehearse --word`.
+pub const DEFAULT_RUN_DEVICES: u32 = 1_000;
+
+/// The steps that a run which is not listed may begin if a call sets no bound.
+pub const DEFAULT_RUN_STEPS: u32 = 1_000_000;
+
+/// The states that `endings` may search if a call sets no bound.
+pub const DEFAULT_STATES: u32 = 1_000_000;
+
+/// What the words of a call ask for.
+#[derive(Debug, Drop)]
+pub enum Ask {
+    /// To print variables.
+    Print {
+        /// The path of the configuration.
+        config: String,
+        /// What to print.
+        what: PrintAsk,
+        /// How the image's CRC is stored.
+        order: ByteOrder,
+    },
+    /// To set or delete variables.
+    Setenv {
+        /// The path of the configuration.
+        config: String,
+        /// What to change.
+        change: Change,
+        /// How the image's CRC is stored.
+        order: ByteOrder,
+    },
+    /// To list the runs of a boot script.
+    Rehearse {
+        /// The path of the configuration.
+        config: String,
+        /// The path of the device list.
+        devices_file: String,
+        /// What to list.
+        what: RehearseAsk,
+        /// How the image's CRC is stored.
+        order: ByteOrder,
+    },
+    /// To count how all runs of a boot script end.
+    Endings {
+        /// The path of the configuration.
+        config: String,
+        /// The path of the device list.
+        devices_file: String,
+        /// What to write.
+        what: EndingsAsk,
+        /// How the image's CRC is stored.
+        order: ByteOrder,
+    },
+    /// To read the help, which this text is.
+    Help(String),
+    /// To read the version.
+    Version,
+}
+
+/// What `printenv` is to print.
+#[derive(Debug, Drop)]
+pub struct PrintAsk {
+    /// The variables to print, in this order; none for all.
+    pub names: Vec<String>,
+    /// Whether `NAME=` is printed before a value. Without it, `names` is one name.
+    pub header: bool,
+}
+
+/// What `setenv` is to change.
+#[derive(Debug, Drop)]
+pub enum Change {
+    /// The variable `name` becomes the words joined by one space; no word deletes it.
+    One { name: String, words: Vec<String> },
+    /// The changes are in the script at this path.
+    Script(String),
+    /// The changes are in the script on standard input.
+    Input,
+}
+
+/// Which runs `rehearse` is to list. A word is written as a listing prints it: `.` is the empty
+/// one.
+#[derive(Debug, Drop)]
+pub enum Wanted {
+    /// The runs of a listing.
+    Listing {
+        /// How far each run may go.
+        bounds: Bounds,
+        /// The listing starts after the run of this word.
+        after: Option<String>,
+        /// The most records to list.
+        limit: Option<u32>,
+    },
+    /// Only the run of a word.
+    Word {
+        /// How far it may go.
+        bounds: RunBounds,
+        /// Its word.
+        word: String,
+    },
+}
+
+/// What `rehearse` is to list.
+#[derive(Debug, Drop)]
+pub struct RehearseAsk {
+    /// The variable whose text is run.
+    pub name: String,
+    /// The runs to list.
+    pub wanted: Wanted,
+    /// The variables to list after each run, in this order; none for all.
+    pub names: Vec<String>,
+    pub ghost limit_above_zero: { ForSome (limit_of (wanted_of wanted)) (λ n. 0 < n) },
+}
+
+/// What `endings` is to write.
+#[derive(Debug, Drop)]
+pub struct EndingsAsk {
+    /// The variable whose text is run.
+    pub name: String,
+    /// How far each run may go.
+    pub bounds: RunBounds,
+    /// The most states to search.
+    pub states: u32,
+    /// Whether to write the flow, not the endings.
+    pub flow: bool,
+}
+
+/// Why the words of a call are refused.
+#[derive(Debug, Drop, Error)]
+pub enum UseError {
+    /// `clap` refuses the words. The text is its message, with its line ends.
+    #[error("{0}")]
+    Line(String),
+    /// `setenv` is given neither a name nor a script.
+    #[error("setenv needs a NAME")]
+    NeedName,
+    /// `setenv` is given a script and a name.
+    #[error("-s takes no NAME")]
+    ScriptAndName,
+    /// `printenv -n` is given no name, or several.
+    #[error("-n takes exactly one NAME")]
+    HeaderNeedsOne,
+    /// `rehearse` is given the word of one run, and which runs a listing has.
+    #[error("--word takes no --failures, no --after and no --limit")]
+    WordAlone,
+    /// `rehearse` is given a device bound of a run for a listing in which many device commands may fail.
+    #[error("--devices above 32 needs --word, or --failures of at most 3")]
+    TooManyDevices,
+    /// Memory ran out.
+    #[error("out of memory")]
+    Memory,
+}

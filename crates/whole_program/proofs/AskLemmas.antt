@@ -1,0 +1,109 @@
+-- What the words ask for.
+use Rattle.std.proofs.Common.{◌≡◌, ◌==◌, ℕ, Bool, true, false, not, refl, sym, subst, ◌∙◌, List, length, Option, Some, None, Ok, Err}
+use Rattle.std.proofs.lemmas.Bool.{eqb-true}
+use Rattle.std.proofs.lemmas.List.{length-map}
+use Rattle.std.specs.Prelude.{option_and_then, option_map, if◌then◌else◌, ◌&&◌, codes, string_bytes}
+use Rattle.std.specs.Str.{bytes_eq}
+use Rattle.clap.specs.Words.{Row, Text, first_of, subcommand_of}
+use Rattle.envimage.specs.declared.image.ByteOrder.{ByteOrder}
+use Rattle.rehearse.specs.Asking.{Listed}
+use Rattle.rehearse.specs.Bounds.{BoundsShown, bounds_of}
+use Rattle.requests.specs.CommandAnswers.{Answers, asked, meaning_of}
+use Rattle.requests.specs.Asked.{Asked, asked_of, bounds_asked, endings_asked, endings_with, run_bounds_asked, change_asked, config_of, header_needs_one, input_scripted, is_set, listing_asked, number_within, order_of, print_asked, printing, rehearsal_of, rehearsal_with, rehearse_asked, scripted, set_asked, too_many_devices, values_of, wanted_by, word_asked}
+use Rattle.command_line.specs.CommandLine.{most_failures, most_records, most_states, ubtool}
+use Rattle.requests.specs.declared.called.CalledAs.{CalledAs}
+use Rattle.requests.specs.declared.called.CalledAs.TheVariants.{FwTool, Ubtool}
+use Rattle.requests.specs.declared.ask.Ask.{Ask}
+use Rattle.requests.specs.declared.ask.Ask.TheVariants.{Endings, Help, Print, Rehearse, Setenv, Version}
+use Rattle.whole_program.specs.Performing.{IsComplete}
+
+-- a value without its name is asked for only with one name
+abbrev IsFit : Option Asked → Type 0
+IsFit (Some (printing config header names order)) = header ≡ false → length names ≡ 1
+IsFit asked = Unit {0}
+
+either : (b : Bool) (x y : Option Asked) → IsFit x → IsFit y → IsFit (if b then x else y)
+either true x y first second = first
+either false x y first second = second
+
+either-asked : (b : Bool) (x y : Asked) → IsFit (Some x) → IsFit (Some y) → IsFit (Some (if b then x else y))
+either-asked true x y first second = first
+either-asked false x y first second = second
+
+print-fit : (no_header one : Bool) (config : Text) (names : List Text) (order : ByteOrder) → (length names == 1) ≡ one
+    → IsFit (Some (if no_header && not one then header_needs_one else printing config (not no_header) names order))
+print-fit true true config names order e = λ h. eqb-true (length names) 1 e
+print-fit true false config names order e = tt
+print-fit false one config names order e = λ h. let none : ⊥ = cc in absurd none
+
+set-fit : (called : CalledAs) (script name : Option Text) (rows : List Row) → IsFit (Some (change_asked called script name rows))
+set-fit Ubtool (Some script) None rows = tt
+set-fit FwTool (Some script) None rows =
+    either-asked (bytes_eq script (codes "-")) (input_scripted (config_of rows) (order_of rows)) (scripted (config_of rows) script (order_of rows)) tt tt
+set-fit called (Some script) (Some name) rows = tt
+set-fit called None (Some name) rows = tt
+set-fit called None None rows = tt
+
+listing-fit : (list : Text) (rows : List Row) (after : Option Text) (limit : Option ℕ) (narrow : Option BoundsShown)
+    → IsFit (Some (rehearsal_of list rows (elim narrow [ Some within ↦ Ok (within, Listed after limit) | None ↦ Err too_many_devices ])))
+listing-fit list rows after limit (Some within) = tt
+listing-fit list rows after limit None = tt
+
+narrow-fit : (list : Text) (rows : List Row) (after : Option Text) (limit failures : Option ℕ) (bounds : Option BoundsShown) → IsFit (option_map (rehearsal_of list rows) (option_map (listing_asked after limit failures) bounds))
+narrow-fit list rows after limit failures (Some bounds) = listing-fit list rows after limit (bounds_of bounds.devices bounds.steps failures)
+narrow-fit list rows after limit failures None = tt
+
+wide-fit : (list : Text) (rows : List Row) (word : Text) (after : Option Text) (limit failures : Option ℕ) (bounds : Option BoundsShown) → IsFit (option_map (rehearsal_of list rows) (option_map (word_asked word after limit failures) bounds))
+wide-fit list rows word None None None (Some bounds) = tt
+wide-fit list rows word (Some after) limit failures (Some bounds) = tt
+wide-fit list rows word None (Some limit) failures (Some bounds) = tt
+wide-fit list rows word None None (Some failures) (Some bounds) = tt
+wide-fit list rows word after limit failures None = tt
+
+wanted-fit : (list : Text) (word after : Option Text) (limit failures : Option ℕ) (rows : List Row) → IsFit (option_map (rehearsal_of list rows) (wanted_by word after limit failures rows))
+wanted-fit list None after limit failures rows = narrow-fit list rows after limit failures (bounds_asked rows)
+wanted-fit list (Some word) after limit failures rows = wide-fit list rows word after limit failures (run_bounds_asked rows)
+
+rehearse-fit : (list : Option Text) (limit failures : Option (Option ℕ)) (rows : List Row) → IsFit (rehearsal_with list limit failures rows)
+rehearse-fit (Some list) (Some limit) (Some failures) rows = wanted-fit list (first_of (codes "word") rows) (first_of (codes "after") rows) limit failures rows
+rehearse-fit None limit failures rows = tt
+rehearse-fit (Some list) None failures rows = tt
+rehearse-fit (Some list) (Some limit) None rows = tt
+
+endings-fit : (list : Option Text) (bounds : Option BoundsShown) (states : Option (Option ℕ)) (rows : List Row) → IsFit (endings_with list bounds states rows)
+endings-fit (Some list) (Some bounds) (Some states) rows = tt
+endings-fit None bounds states rows = tt
+endings-fit (Some list) None states rows = tt
+endings-fit (Some list) (Some bounds) None rows = tt
+
+asked-fit : (called : CalledAs) (words : List Text) → IsFit (asked called words)
+asked-fit called words = by (subcommand_of ubtool words)
+  where
+    of : (name : Text) (rows : List Row) → IsFit (asked_of called name rows)
+    of name rows =
+        let names = values_of (codes "names") rows in
+        let printed = print-fit (is_set (codes "noheader") rows) (length names == 1) (config_of rows) names (order_of rows) refl in
+        let set = set-fit called (first_of (codes "script") rows) (first_of (codes "name") rows) rows in
+        let rehearsed = rehearse-fit (first_of (codes "device-list") rows) (number_within 1 most_records (codes "limit") rows) (number_within 0 most_failures (codes "failures") rows) rows in
+        let ended = endings-fit (first_of (codes "device-list") rows) (run_bounds_asked rows) (number_within 0 most_states (codes "states") rows) rows in
+        let last = either (bytes_eq name (codes "endings")) (endings_asked rows) None ended tt in
+        let two = either (bytes_eq name (codes "rehearse")) (rehearse_asked rows) (if bytes_eq name (codes "endings") then endings_asked rows else None) rehearsed last in
+        let three = either (bytes_eq name (codes "setenv")) (Some (set_asked called rows))
+        (if bytes_eq name (codes "rehearse") then rehearse_asked rows else (if bytes_eq name (codes "endings") then endings_asked rows else None)) set two in
+        either (bytes_eq name (codes "printenv")) (Some (print_asked rows))
+        (if bytes_eq name (codes "setenv") then Some (set_asked called rows) else (if bytes_eq name (codes "rehearse") then rehearse_asked rows else (if bytes_eq name (codes "endings") then endings_asked rows else None))) printed three
+
+    by : (found : Option (Text × List Row)) → IsFit (option_and_then (λ s. asked_of called s.0 s.1) found)
+    by None = tt
+    by (Some s) = of s.0 s.1
+
+-- what was asked for is complete
+pub answer-complete : (called : CalledAs) (words : List Text) (ask : Ask) → Answers called words (Ok ask) → IsComplete ask
+answer-complete called words (Print config what order) h =
+    let fit : IsFit (meaning_of (Print config what order)) = subst IsFit (sym h.1) (asked-fit called words) in
+    λ none. sym (length-map what.names.items string_bytes) ∙ fit none
+answer-complete called words (Setenv config change order) h = tt
+answer-complete called words (Rehearse config list what order) h = tt
+answer-complete called words (Endings config list what order) h = tt
+answer-complete called words (Help text) h = tt
+answer-complete called words Version h = tt

@@ -1,0 +1,30 @@
+-- What takes the lock, in worked cases.
+use Rattle.std.proofs.Common.{◌≡◌, true, false, refl, List}
+use Rattle.std.specs.Prelude.{String}
+use Rattle.std.specs.declared.alloc.Global.{Global}
+use Rattle.envimage.specs.declared.image.ByteOrder.{ByteOrder}
+use Rattle.requests.specs.declared.ask.Ask.TheVariants.{Print, Setenv, Version}
+use Rattle.requests.specs.declared.ask.Change.{Change}
+use Rattle.requests.specs.declared.ask.PrintAsk.{PrintAsk}
+use Rattle.whole_program.specs.Locking.{LocksFor}
+
+-- a change takes the lock, or goes on under a lock that is held already
+change_takes_it : (config : String Global) (change : Change) (order : ByteOrder) → LocksFor (Setenv config change order) false true
+change_takes_it config change order = refl
+
+change_keeps_it : (config : String Global) (change : Change) (order : ByteOrder) → LocksFor (Setenv config change order) true true
+change_keeps_it config change order = refl
+
+-- and is not made without it
+no_change_without_it : (config : String Global) (change : Change) (order : ByteOrder) → LocksFor (Setenv config change order) false false → ⊥
+no_change_without_it config change order h = cc
+
+-- printing takes none, and keeps a lock that is held
+printing_takes_none : (config : String Global) (what : PrintAsk) (order : ByteOrder) → LocksFor (Print config what order) false true → ⊥
+printing_takes_none config what order h = cc
+
+printing_keeps_it : (config : String Global) (what : PrintAsk) (order : ByteOrder) → LocksFor (Print config what order) true true
+printing_keeps_it config what order = refl
+
+version_takes_none : LocksFor Version false true → ⊥
+version_takes_none h = cc

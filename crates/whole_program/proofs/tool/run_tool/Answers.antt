@@ -1,0 +1,12 @@
+use Rattle.std.proofs.Common.{refl}
+use Rattle.whole_program.proofs.RunLemmas.{printed-low}
+use Rattle.whole_program.proofs.tool.run_tool.Goals as goal
+
+pub returns-then-is_empty-clause-input : goal.returns-then-is_empty-clause-input
+returns-then-is_empty-clause-input g c = λ _. record {
+  bound = printed-low c.run_input.result c.run_input.ensures.status;
+  printed = c.run_input.ensures.printed;
+  quiet = c.run_input.ensures.quiet;
+  refused = c.run_input.ensures.refused;
+  untouched = refl;
+}

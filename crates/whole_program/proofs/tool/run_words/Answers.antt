@@ -1,0 +1,42 @@
+use Rattle.std.proofs.Common.{arith, map, refl}
+use Rattle.requests.specs.CommandAnswers.{Answers}
+use Rattle.whole_program.specs.Performing.{Does}
+use Rattle.whole_program.proofs.AskLemmas.{answer-complete}
+use Rattle.whole_program.proofs.RunLemmas.{ends-low, never-misused, status-done, status-refused}
+use Rattle.whole_program.proofs.tool.run_words.Goals as goal
+
+pub perform-answer-requires : goal.perform-answer-requires
+perform-answer-requires g c = answer-complete c.args.called (map g.S.AsStr.text c.args.words.now) c.in-Ok.ask c.in-Ok.ensures
+
+pub returns-in-Ok : goal.returns-in-Ok
+returns-in-Ok g c =
+    let words = map g.S.AsStr.text c.args.words.now in
+    let faults = g.F.Files.faults c.args.files.now in
+    let faults' = g.F.Files.faults c.perform-answer.new.files in
+    let before = g.F.Files.told c.args.files.now in
+    let after = g.F.Files.told c.perform-answer.new.files in
+    let out = g.O.Out.sink c.args.out.now in
+    let out' = g.O.Out.sink c.perform-answer.new.out in
+    let err = g.E.Out.sink c.args.err.now in
+    let told = g.E.Out.sink c.perform-answer.new.err in
+    let err' = g.E.Out.sink c.status_of.new.err in
+    let Doing = Does c.args.build (g.R.Read.remaining c.args.input.now) in
+    let answer = c.perform-answer.result in
+    let status = c.status_of.result in
+    let ends = c.status_of.ensures in
+    record {
+      bound = ends-low answer told err' status ends;
+      done = λ is. status-done (Answers c.args.called) Doing words c.in-Ok.ask faults faults' before after out out' err told err' answer status c.in-Ok.ensures c.perform-answer.ensures.count c.perform-answer.ensures.does ends is;
+      refused = λ is. status-refused (Answers c.args.called) Doing words c.in-Ok.ask faults faults' before after out out' err told err' answer status c.in-Ok.ensures c.perform-answer.ensures.count c.perform-answer.ensures.does ends is;
+      misused = λ is. absurd (never-misused answer told err' status ends is);
+      lock = λ _. (c.in-Ok.ask, c.in-Ok.ensures, c.perform-answer.ensures.lock);
+    }
+
+pub returns-in-Err : goal.returns-in-Err
+returns-in-Err g c = record {
+  bound = omega arith;
+  done = λ is. let none : ⊥ = omega (arith, is) in absurd none;
+  refused = λ is. let none : ⊥ = omega (arith, is) in absurd none;
+  misused = λ _. record { error = c.in-Err.error; refused = c.in-Err.ensures; sound = refl; files = refl; lock = refl; output = refl; tells = c.refuse.ensures };
+  lock = λ low. let none : ⊥ = omega (arith, low) in absurd none;
+}

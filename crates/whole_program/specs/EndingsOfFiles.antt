@@ -1,0 +1,57 @@
+-- How all runs of the images of a configuration end, from files whose contents are known. The order of work is that of
+-- a rehearsal. Ours.
+use Rattle.std.specs.Prelude.{◌≡◌, ◌⊎◌, ℕ, Bool, true, List, Result, Ok, Err, string_bytes}
+use Rattle.output.specs.Sink.{Sink}
+use Rattle.envimage.specs.declared.image.ByteOrder.{ByteOrder}
+use Rattle.requests.specs.declared.ask.EndingsAsk.{EndingsAsk}
+use Rattle.image_tools.specs.EndingsOfImages.{RefusesEndings, TellsEndings}
+use Rattle.image_tools.specs.Errors.{tool_fault}
+use Rattle.image_tools.specs.FileFaults.{path_form}
+use Rattle.image_tools.specs.Given.{Given, given_all}
+use Rattle.image_tools.specs.declared.error.ToolError.{ToolError}
+use Rattle.rehearse_runs.specs.declared.rehearse_error.RehearseError.TheVariants as rehearsal
+use Rattle.image_tools.specs.declared.error.ToolError.TheVariants as tool
+use Rattle.image_tools.specs.declared.fault.Fault.{Fault}
+use Rattle.image_tools.specs.declared.fault.Fault.TheVariants.{Memory, NoSuchVariable, Tool}
+use Rattle.locked_files.specs.CallOrder.{OnlyReads}
+use Rattle.locked_files.specs.Told.{Told}
+use Rattle.whole_program.specs.Images.{Copy, IsImagesFault}
+use Rattle.whole_program.specs.PrintingFiles.{first_bytes, second_bytes}
+use Rattle.whole_program.specs.RehearsingFiles.{AreRead, IsUnlisted}
+
+-- what is rehearsed: the bytes of these copies, by the text of the device list, in all runs
+abbrev pub endings_of : ByteOrder → List Copy → (device_list : List ℕ) → EndingsAsk → Given
+endings_of order found device_list what =
+    given_all order (first_bytes found) (second_bytes found) device_list (string_bytes what.name) what.bounds
+
+-- how a refusal is reported: a variable that is not set, by its name
+abbrev pub endings_refusal : EndingsAsk → ToolError → Fault
+endings_refusal what (tool.Rehearsal rehearsal.NoSuchVariable) = NoSuchVariable (path_form what.name)
+endings_refusal what error = tool_fault error
+
+-- each answer to the endings of copies
+abbrev pub TellsCopies : Given → (flow : Bool) → (states : ℕ) → (old new : Sink) → Result (Unit {0}) ToolError → Type 0
+TellsCopies g flow states old new (Ok done) = TellsEndings g flow states old new
+TellsCopies g flow states old new (Err error) = RefusesEndings g flow states old new error
+
+-- the images and the device list were read, and this holds of the endings of what they give
+abbrev pub FromFiles : ByteOrder → (config device_list : List ℕ) → EndingsAsk → (old new : Told) → (Given → Type 0) →
+    Type 0
+FromFiles order config device_list what old new IsSo =
+    AreRead config device_list old new (λ found text. IsSo (endings_of order found text what))
+
+-- The images and the device list were read, and the lines were written; or the endings are refused; or a read is
+-- refused, and files were only read. If memory runs out, nothing is written.
+abbrev pub TellsFrom : ByteOrder → (config device_list : List ℕ) → EndingsAsk → (out out' : Sink) → (old new : Told) →
+    Result Bool Fault → Type 0
+TellsFrom order config device_list what out out' old new (Ok all) =
+    (all ≡ true) × FromFiles order config device_list what old new (λ g. TellsEndings g what.flow what.states out out')
+TellsFrom order config device_list what out out' old new (Err Memory) = OnlyReads old new × (out' ≡ out)
+TellsFrom order config device_list what out out' old new (Err (Tool tool.Memory)) = ⊥
+TellsFrom order config device_list what out out' old new (Err (Tool error)) =
+    FromFiles order config device_list what old new (λ g. RefusesEndings g what.flow what.states out out' error)
+TellsFrom order config device_list what out out' old new (Err (NoSuchVariable name)) =
+    (name ≡ path_form what.name) × FromFiles order config device_list what old new (λ g.
+    RefusesEndings g what.flow what.states out out' (tool.Rehearsal rehearsal.NoSuchVariable))
+TellsFrom order config device_list what out out' old new (Err fault) =
+    OnlyReads old new × (IsImagesFault config old.stored fault ⊎ IsUnlisted config device_list old fault)

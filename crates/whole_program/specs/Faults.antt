@@ -1,0 +1,21 @@
+-- Which faults say that a file failed. They are ours.
+use Rattle.std.specs.Prelude.{◌≡◌, ℕ, Result, Err}
+use Rattle.output.specs.Sink.{counted}
+use Rattle.image_tools.specs.declared.fault.Fault.{Fault}
+use Rattle.image_tools.specs.declared.fault.Fault.TheVariants.{Config, CannotRead, CannotWrite, FileShort, FileTooLong, Memory}
+
+-- If "cannot read" or "cannot write" is answered, one more failure of the device is counted. No other answer changes
+-- the count.
+abbrev pub CountsTold : {T : Type 0} → ℕ → ℕ → Result T Fault → Type 0
+CountsTold old new (Err (CannotRead path)) = new ≡ counted old
+CountsTold old new (Err (CannotWrite path)) = new ≡ counted old
+CountsTold old new _ = new ≡ old
+
+-- the faults of reading files and a configuration
+abbrev pub IsReadFault : Fault → Type 0
+IsReadFault (Config error) = Unit {0}
+IsReadFault (CannotRead path) = Unit {0}
+IsReadFault (FileShort path) = Unit {0}
+IsReadFault (FileTooLong path) = Unit {0}
+IsReadFault Memory = Unit {0}
+IsReadFault _ = ⊥

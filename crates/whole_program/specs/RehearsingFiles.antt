@@ -1,0 +1,109 @@
+-- What rehearsing the images of a configuration does, from files whose contents are known. The order of work is ours.
+use Rattle.std.specs.Prelude.{◌≡◌, ◌⊎◌, ℕ, Bool, true, List, map, Option, Some, None, option_map, Result, Ok, Err, string_bytes, String}
+use Rattle.std.specs.declared.alloc.Global.{Global}
+use Rattle.output.specs.Sink.{Sink, counted}
+use Rattle.envimage.specs.declared.image.ByteOrder.{ByteOrder}
+use Rattle.rehearse_runs.specs.declared.listing.Finish.{Finish}
+use Rattle.requests.specs.CommandAnswers.{asking_of}
+use Rattle.requests.specs.declared.ask.RehearseAsk.{RehearseAsk}
+use Rattle.requests.specs.declared.ask.Wanted.{Wanted}
+use Rattle.requests.specs.declared.ask.Wanted.TheVariants.{Listing, Word}
+use Rattle.image_tools.specs.Errors.{tool_fault}
+use Rattle.image_tools.specs.FileFaults.{path_form}
+use Rattle.image_tools.specs.Given.{Given, given}
+use Rattle.image_tools.specs.Headline.{LacksMemory, Rehearses}
+use Rattle.locked_files.specs.CallOrder.{OnlyReads}
+use Rattle.image_tools.specs.Refusing.{Refuses}
+use Rattle.locked_files.specs.Told.{Told, file_at}
+use Rattle.image_tools.specs.declared.error.ToolError.{ToolError}
+use Rattle.rehearse_runs.specs.declared.rehearse_error.RehearseError.TheVariants as rehearsal
+use Rattle.image_tools.specs.declared.error.ToolError.TheVariants as tool
+use Rattle.image_tools.specs.declared.fault.Fault.{Fault}
+use Rattle.image_tools.specs.declared.fault.Fault.TheVariants.{Memory, NoSuchVariable, NotARun, Tool}
+use Rattle.locked_files.specs.declared.files.Action.TheVariants.{ReadAll}
+use Rattle.whole_program.specs.Images.{Copy, HasRead, IsImagesFault}
+use Rattle.whole_program.specs.PrintingFiles.{first_bytes, second_bytes}
+use Rattle.whole_program.specs.ReadingFiles.{IsTextFault, Reads}
+
+-- what a rehearsal is given: the bytes of these copies, the text of the device list, and what the words ask for
+abbrev pub rehearsal_of : ByteOrder → List Copy → (device_list : List ℕ) → RehearseAsk → Given
+rehearsal_of order found device_list what =
+    given order (first_bytes found) (second_bytes found) device_list (asking_of what)
+
+-- the word of the one run that is asked for, if there is one
+abbrev pub word_of : Wanted → Option (String Global)
+word_of (Listing bounds after limit) = after
+word_of (Word bounds word) = Some word
+
+-- how a refusal is reported: a variable that is not set by its name, and a word that spells no run as it was given
+abbrev pub no_run_of : Option (String Global) → Fault
+no_run_of None = Tool (tool.Rehearsal rehearsal.NotARun)
+no_run_of (Some word) = NotARun (path_form word)
+
+abbrev pub refusal_of : RehearseAsk → ToolError → Fault
+refusal_of what (tool.Rehearsal rehearsal.NoSuchVariable) = NoSuchVariable (path_form what.name)
+refusal_of what (tool.Rehearsal rehearsal.NotARun) = no_run_of (word_of what.wanted)
+refusal_of what error = tool_fault error
+
+-- running out of memory leaves the output as it was, or whole records of the listing
+abbrev pub RunsOut : Given → (old new : Sink) → Type 0
+RunsOut g old new = (new ≡ old) ⊎ LacksMemory g old new
+
+-- each answer to the rehearsal of copies
+abbrev pub RehearsesCopies : Given → (old new : Sink) → Result Finish ToolError → Type 0
+RehearsesCopies g old new (Ok finish) = Rehearses g old new finish
+RehearsesCopies g old new (Err tool.Memory) = RunsOut g old new
+RehearsesCopies g old new (Err error) = Refuses g old new error
+
+-- The images were read, and then the device list, and this holds of what they give.
+pub record AreRead (config device_list : List ℕ) (old new : Told) (IsSo : List Copy → (text : List ℕ) → Type 0) : Type 0
+  where
+    pub found : List Copy
+    pub after_images : Told
+    pub read : HasRead config old after_images found
+    pub text : List ℕ
+    pub listed : Reads (device_list, ReadAll) (file_at device_list after_images.stored) after_images new text
+    pub so : IsSo found text
+
+-- and the rehearsal of what they give has this property
+abbrev pub FromFiles : ByteOrder → (config device_list : List ℕ) → RehearseAsk → (old new : Told) → (Given → Type 0) →
+    Type 0
+FromFiles order config device_list what old new IsSo =
+    AreRead config device_list old new (λ found text. IsSo (rehearsal_of order found text what))
+
+-- The images were read, and the device list is refused for this.
+pub record IsUnlisted (config device_list : List ℕ) (old : Told) (fault : Fault) : Type 0 where
+  pub found : List Copy
+  pub after_images : Told
+  pub read : HasRead config old after_images found
+  pub refused : IsTextFault device_list (file_at device_list old.stored) fault
+
+-- The images and the device list were read, and the whole listing was written; or the rehearsal is refused, and the
+-- fault names what the words said; or a read is refused, and files were only read. If memory runs out while they are
+-- read, nothing is written; if it runs out later, whole records may be written.
+abbrev pub RehearsesFrom : ByteOrder → (config device_list : List ℕ) → RehearseAsk → (out out' : Sink) →
+    (old new : Told) → Result Bool Fault → Type 0
+RehearsesFrom order config device_list what out out' old new (Ok all) =
+    (all ≡ true) × FromFiles order config device_list what old new (λ g. (finish : Finish)
+    × Rehearses g out out' finish)
+RehearsesFrom order config device_list what out out' old new (Err Memory) =
+    (OnlyReads old new × (out' ≡ out)) ⊎ FromFiles order config device_list what old new (λ g. RunsOut g out out')
+RehearsesFrom order config device_list what out out' old new (Err (Tool tool.Memory)) = ⊥
+RehearsesFrom order config device_list what out out' old new (Err (Tool error)) =
+    FromFiles order config device_list what old new (λ g. Refuses g out out' error)
+RehearsesFrom order config device_list what out out' old new (Err (NoSuchVariable name)) =
+    (name ≡ path_form what.name)
+    × FromFiles order config device_list what old new (λ g. Refuses g out out' (tool.Rehearsal rehearsal.NoSuchVariable))
+RehearsesFrom order config device_list what out out' old new (Err (NotARun word)) =
+    (Some word ≡ option_map path_form (word_of what.wanted))
+    × FromFiles order config device_list what old new (λ g. Refuses g out out' (tool.Rehearsal rehearsal.NotARun))
+RehearsesFrom order config device_list what out out' old new (Err fault) =
+    OnlyReads old new × (IsImagesFault config old.stored fault ⊎ IsUnlisted config device_list old fault)
+
+-- over any files: a reported failure of the output is counted, and any refusal but this and memory leaves the output as
+-- it was
+abbrev pub LeavesOutput : Result Bool Fault → (old new : Sink) → Type 0
+LeavesOutput (Ok all) old new = new.failures ≡ old.failures
+LeavesOutput (Err (Tool tool.Write)) old new = new.failures ≡ counted old.failures
+LeavesOutput (Err Memory) old new = new.failures ≡ old.failures
+LeavesOutput (Err fault) old new = new ≡ old

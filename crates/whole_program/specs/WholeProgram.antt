@@ -1,0 +1,32 @@
+-- What the whole program `ubtool` has done when it ends with a status. Ours.
+use Rattle.std.specs.Prelude.{◌≡◌, ◌≤◌, ℕ, List, [], Option, Ok}
+use Rattle.clap.specs.Words.{Text}
+use Rattle.output.specs.Outputs.{Outputs}
+use Rattle.output.specs.Sink.{Wrote}
+use Rattle.requests.specs.CommandAnswers.{Answers}
+use Rattle.requests.specs.declared.ask.Ask.{Ask}
+use Rattle.requests.specs.declared.called.CalledAs.{CalledAs}
+use Rattle.image_tools.specs.Input.{PrintsInput, RefusesInput}
+use Rattle.whole_program.specs.Locking.{LocksFor}
+use Rattle.whole_program.specs.Performing.{Does}
+use Rattle.whole_program.specs.Running.{FilesShown, HasDone, HasRefused, IsMisused}
+use Rattle.whole_program.specs.declared.build.Build.{Build}
+
+-- Without words: the image on the input was printed, or it was refused. No file was touched, and no lock was taken.
+pub record HasPrinted (input : Option (List ℕ)) (before after : FilesShown) (outputs : Outputs) (status : ℕ) : Type 0
+  where
+    pub bound : status ≤ 1
+    pub printed : status ≡ 0 → PrintsInput input outputs.out outputs.out'
+    pub quiet : status ≡ 0 → Wrote outputs.err outputs.err' []
+    pub refused : status ≡ 1 → RefusesInput input outputs.out outputs.out'
+    pub untouched : after ≡ before
+
+-- With words: they ask for something, and it was done or refused; or they were refused. A change was made under the
+-- lock, and nothing else took it.
+pub record HasEnded (called : CalledAs) (build : Build) (input : Option (List ℕ)) (words : List Text)
+    (before after : FilesShown) (outputs : Outputs) (status : ℕ) : Type 0 where
+  pub bound : status ≤ 2
+  pub done : status ≡ 0 → HasDone (Answers called) (Does build input) words before after outputs
+  pub refused : status ≡ 1 → HasRefused (Answers called) (Does build input) words before after outputs
+  pub misused : status ≡ 2 → IsMisused (Answers called) words before after outputs
+  pub lock : status ≤ 1 → (ask : Ask) × Answers called words (Ok ask) × LocksFor ask before.locked after.locked

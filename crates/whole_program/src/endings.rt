@@ -1,0 +1,82 @@
+//! `endings`, from files to the lines.
+ghost use Rattle.std.specs.Prelude.{◌≡◌, string_bytes};
+ghost use Rattle.locked_files.specs.Told.{IfTold};
+ghost use Rattle.whole_program.specs.EndingsOfFiles.{TellsCopies, TellsFrom, endings_of, endings_refusal};
+ghost use Rattle.whole_program.specs.Faults.{CountsTold};
+ghost use Rattle.whole_program.specs.Images.{copies};
+ghost use Rattle.whole_program.specs.RehearsingFiles.{LeavesOutput};
+
+use crate::images::{Images, read_images};
+use crate::read::read_text;
+use envimage::ByteOrder;
+use image_tools::{Fault, RehearseError, ToolError, WordForm, endings_bytes};
+use locked_files::Files;
+use output::Out;
+use requests::EndingsAsk;
+use std::alloc::Global;
+
+/// How a refusal of the endings is reported.
+fn refusal_of(error: ToolError, what: EndingsAsk) -> Fault
+    ensures { result ≡ endings_refusal what error }
+{
+    match error {
+        ToolError::Rehearsal(RehearseError::NoSuchVariable) => {
+            Fault::NoSuchVariable(WordForm(what.name))
+        }
+        error => error.into(),
+    }
+}
+
+/// Reports how the runs of a variable of images end.
+fn endings_of_images<O: Out>(
+    alloc: Global,
+    images: &Images,
+    order: ByteOrder,
+    device_list: &[u8],
+    what: &EndingsAsk,
+    out: &mut O,
+) -> Result<(), ToolError>
+    ensures { TellsCopies (endings_of order (copies images.now) device_list.now what.now) what.now.flow what.now.states (O.sink out.old) (O.sink out.new) result }
+{
+    let ask = image_tools::EndingsAsk {
+        name: what.name.as_bytes(),
+        bounds: what.bounds,
+        states: what.states,
+        flow: what.flow,
+    };
+    let second = images.second_bytes();
+    endings_bytes(
+        alloc,
+        &images.first.bytes,
+        second,
+        order,
+        device_list,
+        &ask,
+        out,
+    )
+}
+
+/// Reports how all runs of a variable end, for the images that a configuration names. Reads the
+/// images, then the device list, and then writes the lines.
+pub fn endings<F: Files, O: Out>(
+    alloc: Global,
+    files: &mut F,
+    config: String,
+    device_list: String,
+    what: EndingsAsk,
+    order: ByteOrder,
+    out: &mut O,
+) -> Result<bool, Fault>
+    ensures count { CountsTold (F.faults files.old) (F.faults files.new) result }
+    ensures lock { F.locked files.new ≡ F.locked files.old }
+    ensures told { IfTold (F.told files.old) (F.told files.new) (λ old new.
+        TellsFrom order (string_bytes config) (string_bytes device_list) what (O.sink out.old) (O.sink out.new) old new result) }
+    ensures output { LeavesOutput result (O.sink out.old) (O.sink out.new) }
+{
+    let images = read_images(alloc, files, config)?;
+    let device_list = read_text(alloc, files, device_list)?;
+    match endings_of_images(alloc, &images, order, &device_list, &what, out) {
+        Ok(()) => Ok(true),
+        Err(error) => Err(refusal_of(error, what)),
+    }
+}

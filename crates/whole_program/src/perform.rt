@@ -1,0 +1,71 @@
+//! Does what is asked for.
+ghost use Rattle.output.specs.Outputs.{outputs};
+ghost use Rattle.whole_program.specs.Performing.{Does, IsComplete};
+ghost use Rattle.whole_program.specs.Faults.{CountsTold};
+ghost use Rattle.whole_program.specs.Locking.{LocksFor};
+
+use crate::build::Build;
+use crate::endings::endings;
+use crate::print::print;
+use crate::rehearsing::rehearse;
+use crate::set::set;
+use crate::showing::{show_help, show_version};
+use crate::tool::PROGRAM;
+use image_tools::Fault;
+use locked_files::Files;
+use output::Out;
+use requests::Ask;
+use std::alloc::Global;
+use std::io::Read;
+
+/// Does what is asked for. Takes the lock for a change, before its first read, and for nothing else.
+/// A script of changes may be on `input`, and the version names `build`. Returns false if a variable
+/// that was to be printed is missing.
+pub fn perform<R: Read, F: Files, O: Out, E: Out>(
+    alloc: Global,
+    build: Build,
+    ask: Ask,
+    input: &mut R,
+    files: &mut F,
+    out: &mut O,
+    err: &mut E,
+) -> Result<bool, Fault>
+    requires { IsComplete ask }
+    ensures count { CountsTold (F.faults files.old) (F.faults files.new) result }
+    ensures lock { LocksFor ask (F.locked files.old) (F.locked files.new) }
+    ensures does { Does build (R.remaining input.old) ask (F.told files.old) (F.told files.new)
+        (outputs (O.sink out.old) (O.sink out.new) (E.sink err.old) (E.sink err.new)) result }
+{
+    match ask {
+        Ask::Print {
+            config,
+            what,
+            order,
+        } => print(alloc, files, config, &what, order, out, err),
+        Ask::Setenv {
+            config,
+            change,
+            order,
+        } => {
+            files.lock();
+            match set(alloc, input, files, config, change, order) {
+                Ok(()) => Ok(true),
+                Err(fault) => Err(fault),
+            }
+        }
+        Ask::Rehearse {
+            config,
+            devices_file,
+            what,
+            order,
+        } => rehearse(alloc, files, config, devices_file, what, order, out),
+        Ask::Endings {
+            config,
+            devices_file,
+            what,
+            order,
+        } => endings(alloc, files, config, devices_file, what, order, out),
+        Ask::Help(text) => show_help(out, &text),
+        Ask::Version => show_version(out, PROGRAM, build),
+    }
+}
