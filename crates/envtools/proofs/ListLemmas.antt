@@ -15,14 +15,9 @@ use Rattle.envimage.specs.Data.{Pair, IsVariable}
 use Rattle.envtools.specs.Environment.{value_of, dropped, put, assigned, env_of, has_value, same, HasDistinctNames, IsEnvironment, is_name, is_value}
 use Rattle.envtools.proofs.EnvLemmas.{IsEnvironment-assigned, IsEnvironment-put, IsVariable-tested, filter-none, others}
 use Rattle.envtools.proofs.EnvOf.{fold-assigned, in_front, all-at, take-next}
-use Rattle.envtools.specs.Listed.{IsPlaceOf}
+use Rattle.envtools.specs.Listed.{AscendAfter, IsPlaceOf}
 
 -- ---- names that ascend
-
--- each name is greater than the one before it
-abbrev pub Climbs : List ℕ → List Pair → Type 0
-Climbs last [] = Unit {0}
-Climbs last (p ∷ ps) = (slice_cmp nat_cmp last p.0 ≡ Less) × Climbs p.0 ps
 
 apart : (a b : List ℕ) → slice_cmp nat_cmp a b ≡ Less → same a b ≡ false
 apart a b e =
@@ -38,16 +33,16 @@ all-weaker : (P Q : Pair → Type 0) → ((p : Pair) → P p → Q p) → (ps : 
 all-weaker P Q f [] all = tt
 all-weaker P Q f (p ∷ ps) all = (f p all.0, all-weaker P Q f ps all.1)
 
-all-above : (last : List ℕ) (ps : List Pair) → Climbs last ps → AllByRecursion (λ q. slice_cmp nat_cmp last q.0 ≡ Less) ps
+all-above : (last : List ℕ) (ps : List Pair) → AscendAfter last ps → AllByRecursion (λ q. slice_cmp nat_cmp last q.0 ≡ Less) ps
 all-above last [] c = tt
 all-above last (p ∷ ps) c =
     (c.0, all-weaker (λ q. slice_cmp nat_cmp p.0 q.0 ≡ Less) (λ q. slice_cmp nat_cmp last q.0 ≡ Less) (λ q. nat_list_cmp_total.trans last p.0 q.0 c.0) ps (all-above p.0 ps c.1))
 
 -- names that ascend are distinct
-pub climbs-distinct : (last : List ℕ) (ps : List Pair) → Climbs last ps → HasDistinctNames ps
-climbs-distinct last [] c = tt
-climbs-distinct last (p ∷ ps) c =
-    (all-weaker (λ q. slice_cmp nat_cmp p.0 q.0 ≡ Less) (λ q. same p.0 q.0 ≡ false) (λ q. apart p.0 q.0) ps (all-above p.0 ps c.1), climbs-distinct p.0 ps c.1)
+pub ascend-distinct : (last : List ℕ) (ps : List Pair) → AscendAfter last ps → HasDistinctNames ps
+ascend-distinct last [] c = tt
+ascend-distinct last (p ∷ ps) c =
+    (all-weaker (λ q. slice_cmp nat_cmp p.0 q.0 ≡ Less) (λ q. same p.0 q.0 ≡ false) (λ q. apart p.0 q.0) ps (all-above p.0 ps c.1), ascend-distinct p.0 ps c.1)
 
 -- ---- a name that is not there, and one that is
 

@@ -1,9 +1,9 @@
 //! The variables of an image's data as a list of slices: for one change, and for printing all.
-ghost use Rattle.std.specs.Prelude.{◌≡◌, None, IfOk, OnOk, OnErr, true, List, ℕ, map};
+ghost use Rattle.std.specs.Prelude.{◌≡◌, ◌↔◌, None, IfOk, OnOk, OnErr, IsTrue, true, List, ℕ, map};
 ghost use Rattle.envimage.specs.Data.{data_fault, pairs_of};
 ghost use Rattle.envimage.specs.Entries.{pair_at};
 ghost use Rattle.envtools.specs.Environment.{HasDistinctNames, IsEnvironment, env_of, dropped, put, has_value, changed_to, is_name, is_value};
-ghost use Rattle.envtools.specs.Listed.{IsPlaceOf};
+ghost use Rattle.envtools.specs.Listed.{Ascend, IsPlaceOf};
 
 use crate::view::{EnvView, Variables};
 use envimage::entries;
@@ -14,7 +14,7 @@ use std::marker::Model;
 /// memory.
 pub(crate) fn is_ascending(body: &[u8]) -> bool
     requires { data_fault body.now ≡ None }
-    ensures { result ≡ true → HasDistinctNames (pairs_of body.now) }
+    ensures { IsTrue result ↔ Ascend (pairs_of body.now) }
 {
     let mut last: &[u8] = &[];
     for (name, _value) in entries(body) {

@@ -8,7 +8,7 @@ use folder_lock::{LockError, lock_in};
 use image_tools::write_fault_of;
 use locked_files::Machine;
 use output::{Out, Over, write_all};
-use requests::{called_as, read_lock, words_called};
+use requests::{CalledAs, called_as, read_lock, words_called};
 use std::fs::File;
 use std::io;
 use std::process::ExitCode;
@@ -31,21 +31,14 @@ fn named_lock(rt: &HostRuntime, words: &[String]) -> Result<Option<File>, LockEr
     }
 }
 
-/// Reads the words of the command line, takes the lock that they name, and does what they ask for.
-/// If the program was called by the name of one of U-Boot's tools, that name counts as a word.
-/// Returns the status.
-fn run<E: Out>(rt: &HostRuntime, err: &mut Telling<E>) -> Result<u8, StartError> {
-    let args = words_of_call(rt)?;
-    let called = called_as(&args);
-    let words = words_called(args)?;
-    let lock = match named_lock(rt, &words) {
-        Ok(lock) => lock,
-        Err(LockError::Memory) => return Err(StartError::Memory),
-        Err(error) => {
-            write_fault_of(err, PROGRAM, &error);
-            return Ok(1);
-        }
-    };
+/// Does what the words ask for, over the machine's files and outputs, under a lock if one was taken. Returns the status.
+fn work<E: Out>(
+    rt: &HostRuntime,
+    called: CalledAs,
+    words: &[String],
+    lock: Option<File>,
+    err: &mut Telling<E>,
+) -> Result<u8, StartError> {
     let mut out = buffered(rt.alloc(), io::writer(rt))?;
     let mut files = match lock {
         Some(lock) => Machine::under(rt, lock),
@@ -56,13 +49,30 @@ fn run<E: Out>(rt: &HostRuntime, err: &mut Telling<E>) -> Result<u8, StartError>
         rt.alloc(),
         BUILD,
         called,
-        &words,
+        words,
         &mut input,
         &mut files,
         &mut out,
         err,
     );
     Ok(finish(out, err, PROGRAM, status))
+}
+
+/// Reads the words of the command line, takes the lock that they name, and does what they ask for.
+/// If the program was called by the name of one of U-Boot's tools, that name counts as a word.
+/// Returns the status.
+fn run<E: Out>(rt: &HostRuntime, err: &mut Telling<E>) -> Result<u8, StartError> {
+    let args = words_of_call(rt)?;
+    let called = called_as(&args);
+    let words = words_called(args)?;
+    match named_lock(rt, &words) {
+        Ok(lock) => work(rt, called, &words, lock, err),
+        Err(LockError::Memory) => Err(StartError::Memory),
+        Err(error) => {
+            write_fault_of(err, PROGRAM, &error);
+            Ok(1)
+        }
+    }
 }
 
 fn main(rt: HostRuntime) -> ExitCode {
