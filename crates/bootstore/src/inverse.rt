@@ -57,13 +57,18 @@ pub enum Kept {
 
 /// Takes back one change. Takes no memory.
 pub fn undo(present: &mut Present, inverse: Inverse)
-    requires place { finds_its_place (has_slot present.old.environment) (has_slot present.old.locals) inverse ≡ true }
+    requires place { finds_its_place (has_slot present.old.environment)
+        (has_slot present.old.locals) inverse ≡ true }
     requires room { HasRoom (vec_capacity present.old.frames) inverse }
     ensures undone { moment_of present.new ≡ undone inverse (moment_of present.old) }
-    ensures kept { AreEqual (last_left inverse (last_kept present.old.environment)) (last_kept present.new.environment) }
-    ensures kept_locals { AreEqual (local_last_left inverse (last_kept present.old.locals)) (last_kept present.new.locals) }
-    ensures environment { AreWithin (names_left inverse (has_slot present.old.environment)) (has_slot present.new.environment) }
-    ensures locals { AreWithin (local_names_left inverse (has_slot present.old.locals)) (has_slot present.new.locals) }
+    ensures kept { AreEqual (last_left inverse (last_kept present.old.environment))
+        (last_kept present.new.environment) }
+    ensures kept_locals { AreEqual (local_last_left inverse (last_kept present.old.locals))
+        (last_kept present.new.locals) }
+    ensures environment { AreWithin (names_left inverse (has_slot present.old.environment))
+        (has_slot present.new.environment) }
+    ensures locals { AreWithin (local_names_left inverse (has_slot present.old.locals))
+        (has_slot present.new.locals) }
     ensures capacity { vec_capacity present.old.frames ≤ vec_capacity present.new.frames }
 {
     match inverse {
@@ -93,9 +98,12 @@ pub fn return_to(present: &mut Present, marked: Marked)
 /// Takes back the changes since the last mark, and removes the mark. Returns what is known of the
 /// time since the previous mark.
 pub fn undo_to_mark(present: &mut Present, kept: &mut Vec<Kept>) -> Since
-    requires can { CanGoBack present.old (frame_reach (reverse kept.old.items)) (reverse kept.old.items) }
-    requires once { KeepsOnce present.old (up_to_mark (reverse kept.old.items)) (reverse kept.old.items) }
-    ensures back { record_with present.new (reverse kept.new.items) 0 ≡ gone_back (record_with present.old (reverse kept.old.items) 0) }
+    requires can { CanGoBack present.old (frame_reach (reverse kept.old.items))
+        (reverse kept.old.items) }
+    requires once { KeepsOnce present.old (up_to_mark (reverse kept.old.items))
+        (reverse kept.old.items) }
+    ensures back { record_with present.new (reverse kept.new.items) 0
+        ≡ gone_back (record_with present.old (reverse kept.old.items) 0) }
     ensures can { CanGoBack present.new result.untouched (reverse kept.new.items) }
     ensures once { KeepsOnce present.new result.kept (reverse kept.new.items) }
 {

@@ -44,8 +44,10 @@ impl Present {
 
     /// The state at the start of a run in an environment. Errors: memory ran out.
     pub fn at_start(alloc: Global, env: &Env) -> Result<Present, AllocError>
-        ensures beginning { IfOk result (λ present. moment_of present ≡ beginning (environment_of env.now)) }
-        ensures kept { IfOk result (λ present. KeepsNothing present.environment × KeepsNothing present.locals) }
+        ensures beginning { IfOk result
+            (λ present. moment_of present ≡ beginning (environment_of env.now)) }
+        ensures kept { IfOk result (λ present. KeepsNothing present.environment
+            × KeepsNothing present.locals) }
     {
         let mut present = Present::new(alloc);
         for place in 0..env.len() {

@@ -50,32 +50,38 @@ pub trait Store: Drop {
 
     /// Starts a run in an environment: no frame and no mark. `begun` stays.
     fn start(&mut self, env: &Env) -> Result<(), StoreError>
-        ensures ok { OnOk result (record_of self.new ≡ started (environment_of env.now) (record_of self.old)) }
+        ensures ok { OnOk result (record_of self.new ≡ started (environment_of env.now)
+            (record_of self.old)) }
         ensures err { OnErr result (record_of self.new ≡ record_of self.old) };
 
     /// Sets an environment variable to a value, or deletes it if no value is given.
     fn set_env(&mut self, name: &[u8], value: Option<&[u8]>) -> Result<(), StoreError>
-        ensures ok { OnOk result (record_of self.new ≡ changed (with_environment name.now (option_bytes value.entry)) (record_of self.old)) }
+        ensures ok { OnOk result (record_of self.new
+            ≡ changed (with_environment name.now (option_bytes value.entry)) (record_of self.old)) }
         ensures err { OnErr result (record_of self.new ≡ record_of self.old) };
 
     /// Sets a shell variable.
     fn set_local(&mut self, name: &[u8], value: &[u8]) -> Result<(), StoreError>
-        ensures ok { OnOk result (record_of self.new ≡ changed (with_local name.now value.now) (record_of self.old)) }
+        ensures ok { OnOk result (record_of self.new ≡ changed (with_local name.now value.now)
+            (record_of self.old)) }
         ensures err { OnErr result (record_of self.new ≡ record_of self.old) };
 
     /// Adds bytes at the end of the text.
     fn echo(&mut self, written: &[u8]) -> Result<(), StoreError>
-        ensures ok { OnOk result (record_of self.new ≡ changed (with_echo written.now) (record_of self.old)) }
+        ensures ok { OnOk result (record_of self.new ≡ changed (with_echo written.now)
+            (record_of self.old)) }
         ensures err { OnErr result (record_of self.new ≡ record_of self.old) };
 
     /// Adds a device command at the end of the log.
     fn device(&mut self, entry: LogEntry) -> Result<(), StoreError>
-        ensures ok { OnOk result (record_of self.new ≡ changed (with_device entry) (record_of self.old)) }
+        ensures ok { OnOk result (record_of self.new ≡ changed (with_device entry)
+            (record_of self.old)) }
         ensures err { OnErr result (record_of self.new ≡ record_of self.old) };
 
     /// Sets the status of the last command.
     fn set_status(&mut self, status: u8) -> Result<(), StoreError>
-        ensures ok { OnOk result (record_of self.new ≡ changed (with_status status) (record_of self.old)) }
+        ensures ok { OnOk result (record_of self.new ≡ changed (with_status status)
+            (record_of self.old)) }
         ensures err { OnErr result (record_of self.new ≡ record_of self.old) };
 
     /// Begins a step: `steps` and `begun` grow by one. No other call changes `begun`.
@@ -87,12 +93,14 @@ pub trait Store: Drop {
 
     /// Puts a frame on top of the others.
     fn push(&mut self, frame: Frame) -> Result<(), StoreError>
-        ensures ok { OnOk result (record_of self.new ≡ changed (with_frame frame) (record_of self.old)) }
+        ensures ok { OnOk result (record_of self.new ≡ changed (with_frame frame)
+            (record_of self.old)) }
         ensures err { OnErr result (record_of self.new ≡ record_of self.old) };
 
     /// Moves the innermost frame to this place. Without a frame nothing changes.
     fn advance(&mut self, place: At) -> Result<(), StoreError>
-        ensures ok { OnOk result (record_of self.new ≡ changed (with_place place) (record_of self.old)) }
+        ensures ok { OnOk result (record_of self.new ≡ changed (with_place place)
+            (record_of self.old)) }
         ensures err { OnErr result (record_of self.new ≡ record_of self.old) };
 
     /// Removes the innermost frame. Without a frame nothing changes.
@@ -190,7 +198,8 @@ pub trait Store: Drop {
 
     /// The innermost frame.
     fn top(&self) -> Option<&Frame>
-        ensures { option_map (λ frame. frame.now) result ≡ slice_get (record_of self.now).present.frames 0 }
+        ensures { option_map (λ frame. frame.now) result
+            ≡ slice_get (record_of self.now).present.frames 0 }
     {
         self.present().top()
     }

@@ -101,7 +101,8 @@ impl Table {
         name: &[u8],
         value: Option<&[u8]>,
     ) -> Result<(), AllocError>
-        ensures ok { OnOk result (variables_of self.new ≡ assigned (variables_of self.old) name.now (option_bytes value.entry)) }
+        ensures ok { OnOk result (variables_of self.new ≡ assigned (variables_of self.old) name.now
+            (option_bytes value.entry)) }
         ensures err { OnErr result (variables_of self.new ≡ variables_of self.old) }
         ensures kept { OnOk result (IsWith (last_kept self.old) name.now 0 (last_kept self.new)) }
         ensures gone { OnOk result (value.entry ≡ None → has_slot self.new name.now ≡ false) }
@@ -124,11 +125,13 @@ impl Table {
         value: Option<&[u8]>,
         kept_at: usize,
     ) -> Result<Option<Place>, AllocError>
-        ensures ok { OnOk result (variables_of self.new ≡ assigned (variables_of self.old) name.now (option_bytes value.entry)) }
+        ensures ok { OnOk result (variables_of self.new ≡ assigned (variables_of self.old) name.now
+            (option_bytes value.entry)) }
         ensures before { IfOk result (λ before. before ≡ place_at self.old name.now) }
         ensures slots { KeepsSlots self.old self.new }
         ensures err { OnErr result (variables_of self.new ≡ variables_of self.old) }
-        ensures kept { OnOk result (IsWith (last_kept self.old) name.now kept_at (last_kept self.new)) }
+        ensures kept { OnOk result
+            (IsWith (last_kept self.old) name.now kept_at (last_kept self.new)) }
         ensures kept_err { OnErr result (AreEqual (last_kept self.old) (last_kept self.new)) }
     {
         let value = copied(alloc, value)?;
@@ -154,8 +157,10 @@ impl Table {
     /// memory.
     pub fn restore(&mut self, name: &[u8], before: Option<Place>)
         requires { stands_among (has_slot self.old) name.now before ≡ true }
-        ensures restored { variables_of self.new ≡ assigned (variables_of self.old) name.now (place_value before) }
-        ensures places { AreEqual (names_before name.now before (has_slot self.old)) (has_slot self.new) }
+        ensures restored { variables_of self.new ≡ assigned (variables_of self.old) name.now
+            (place_value before) }
+        ensures places { AreEqual (names_before name.now before (has_slot self.old))
+            (has_slot self.new) }
         ensures kept { IsWith (last_kept self.old) name.now (kept_of before) (last_kept self.new) }
     {
         let Some(place) = before else {

@@ -33,7 +33,9 @@ impl Trail {
     /// `Memory`.
     fn keep_top(&mut self) -> Result<(), StoreError>
         ensures record { record_of_trail self.new ≡ record_of_trail self.old }
-        ensures touched { OnOk result ((self.new.since.untouched < length self.new.present.frames.items) ⊎ (length self.new.present.frames.items ≡ 0)) }
+        ensures touched { OnOk result
+            ((self.new.since.untouched < length self.new.present.frames.items)
+            ⊎ (length self.new.present.frames.items ≡ 0)) }
     {
         let count = self.present.frames.len();
         if self.since.untouched < count || count == 0 {

@@ -18,7 +18,8 @@ pub fn asks_nothing(
     name: &[u8],
     bounds: Bounds,
 ) -> Result<bool, RehearseError>
-    ensures { IfOk result (λ asks. asks ≡ true → kind (task_shown env.now devices.now name.now bounds) [] ≡ Run) }
+    ensures { IfOk result (λ asks. asks ≡ true
+        → kind (task_shown env.now devices.now name.now bounds) [] ≡ Run) }
 {
     let found = try_word::<Trail>(alloc, env, devices, name, bounds, b"")?;
     Ok(found == WordKind::Run)

@@ -85,7 +85,8 @@ fn next_place_line<'a>(lines: &mut Lines<'a>) -> Option<(usize, &'a [u8])>
 /// The first three words of a line: device, offset and size.
 fn first_words(line: &[u8]) -> Option<(&[u8], &[u8], &[u8])>
     ensures { MatchOption result ((n : ℕ) → place_of n (words_of line.now) ≡ Err (BadLine n))
-        (λ w. (n : ℕ) → place_of n (words_of line.now) ≡ place_of n (w.0.now ∷ w.1.now ∷ w.2.now ∷ [])) }
+        (λ w. (n : ℕ) → place_of n (words_of line.now)
+        ≡ place_of n (w.0.now ∷ w.1.now ∷ w.2.now ∷ [])) }
 {
     let (device, rest) = next_word(line)?;
     let (offset, rest) = next_word(rest)?;
@@ -96,7 +97,8 @@ fn first_words(line: &[u8]) -> Option<(&[u8], &[u8], &[u8])>
 /// The text of UTF-8 bytes.
 #[tactic(auto, using(crate::proofs::ConfigLemmas::texts))]
 fn text_of(bytes: &[u8]) -> Option<&str>
-    ensures { MatchOption result (is_text bytes.now ≡ false) (λ s. (is_text bytes.now ≡ true) × (s.now ≡ bytes.now)) }
+    ensures { MatchOption result (is_text bytes.now ≡ false)
+        (λ s. (is_text bytes.now ≡ true) × (s.now ≡ bytes.now)) }
 {
     match str::from_utf8(bytes) {
         Ok(text) => Some(text),
@@ -190,7 +192,8 @@ fn pair(
     first: NamedPlace<'_>,
     second: NamedPlace<'_>,
 ) -> Result<Vec<Place>, ConfigError>
-    ensures { AnswersPlaces (pair numbers.0 numbers.1 (Ok (named_shown first.entry)) (Ok (named_shown second.entry))) result }
+    ensures { AnswersPlaces (pair numbers.0 numbers.1 (Ok (named_shown first.entry))
+        (Ok (named_shown second.entry))) result }
 {
     if !is_size(first.size, COPY_MIN) {
         return Err(ConfigError::SizeOutOfRange(numbers.0));

@@ -182,7 +182,8 @@ pub fn load<'a>(
     second: Option<&'a [u8]>,
     order: ByteOrder,
 ) -> Result<Loaded<'a>, ImageError>
-    ensures answer { Gives loaded_shown result (load_of order first.now (option_copied second.entry)) }
+    ensures answer { Gives loaded_shown result
+        (load_of order first.now (option_copied second.entry)) }
     ensures faultless { IfOk result (λ loaded. data_fault loaded.body.now ≡ None) }
 {
     let which = choose(first, second, order)?;

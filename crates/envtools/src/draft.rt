@@ -160,7 +160,8 @@ fn move_to(
     name: &[u8],
     place: Option<usize>,
 ) -> Result<(), AllocError>
-    ensures ok { OnOk result (IsMoved (place_of places.old.entries) name.now place (place_of places.new.entries)) }
+    ensures ok { OnOk result (IsMoved (place_of places.old.entries) name.now place
+        (place_of places.new.entries)) }
     ensures err { OnErr result (places.new.entries ≡ places.old.entries) }
 {
     let key = Vec::from_slice(alloc, name)?;
@@ -172,7 +173,8 @@ fn move_to(
 fn assign(variables: &mut Variables, name: Vec<u8>, value: Vec<u8>)
     requires { 0 < spare variables.old }
     ensures assigned { map (λ p. (p.0.items, p.1.items)) variables.new.entries
-        ≡ assigned (map (λ p. (p.0.items, p.1.items)) variables.old.entries) name.items value.items }
+        ≡ assigned (map (λ p. (p.0.items, p.1.items)) variables.old.entries) name.items
+        value.items }
     ensures room { spare variables.old ≤ spare variables.new + 1 }
 {
     variables.insert(name, value).unwrap();
@@ -180,7 +182,8 @@ fn assign(variables: &mut Variables, name: Vec<u8>, value: Vec<u8>)
 
 /// Moves the written variables that hold into the room for them, in order.
 fn held(written: Vec<(Vec<u8>, Vec<u8>)>, places: &Places, room: Variables) -> Variables
-    requires draft { IsDraft (place_of places.now.entries) (map (λ p. (p.0.items, p.1.items)) written.items) }
+    requires draft { IsDraft (place_of places.now.entries)
+        (map (λ p. (p.0.items, p.1.items)) written.items) }
     requires empty { room.entries ≡ [] }
     requires room { length written.items ≤ spare room }
     ensures { map (λ p. (p.0.items, p.1.items)) result.entries

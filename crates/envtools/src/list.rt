@@ -159,7 +159,8 @@ fn put_at<'a>(
 ) -> Result<(), AllocError>
     requires distinct { HasDistinctNames (map pair_at pairs.old.items) }
     requires place { IsPlaceOf (map pair_at pairs.old.items) name.now place }
-    ensures ok { OnOk result (map pair_at pairs.new.items ≡ put (map pair_at pairs.old.items) name.now value.now) }
+    ensures ok { OnOk result (map pair_at pairs.new.items
+        ≡ put (map pair_at pairs.old.items) name.now value.now) }
     ensures err { OnErr result (pairs.new.items ≡ pairs.old.items) }
 {
     pairs.push((name, value))?;

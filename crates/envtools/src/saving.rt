@@ -50,11 +50,13 @@ fn copy_to_write(loaded: &Loaded<'_>) -> Which
 /// Refusals in order: `TooLarge`, `Memory`.
 pub fn save(alloc: Global, env: &Env, loaded: &Loaded<'_>) -> Result<(Which, Vec<u8>), ImageError>
     requires { is_image_size loaded.now.flag (size_of (loaded_shown loaded.now)) ≡ true }
-    ensures too_large { (result ≡ Err ImageError.TooLarge) ↔ (size_of (loaded_shown loaded.now) < needed (next_flag loaded.now.flag) env.now) }
+    ensures too_large { (result ≡ Err ImageError.TooLarge)
+        ↔ (size_of (loaded_shown loaded.now) < needed (next_flag loaded.now.flag) env.now) }
     ensures other { IfErr result IsSaveRefusal }
     ensures which { IfOk result (λ w. w.0 ≡ copy_to_write (loaded_shown loaded.now)) }
     ensures bytes { IfOk result (λ w. w.1.items ≡ saved_image env.now (loaded_shown loaded.now)) }
-    ensures back { IfOk result (λ w. ReadsBack loaded.now.order (next_flag loaded.now.flag) w.1.items env.now) }
+    ensures back { IfOk result
+        (λ w. ReadsBack loaded.now.order (next_flag loaded.now.flag) w.1.items env.now) }
 {
     if env.entries_len() >= loaded.body.len() {
         return Err(ImageError::TooLarge);
@@ -70,11 +72,13 @@ pub fn save_list(
     loaded: &Loaded<'_>,
 ) -> Result<(Which, Vec<u8>), ImageError>
     requires { is_image_size loaded.now.flag (size_of (loaded_shown loaded.now)) ≡ true }
-    ensures too_large { (result ≡ Err ImageError.TooLarge) ↔ (size_of (loaded_shown loaded.now) < needed (next_flag loaded.now.flag) list.now) }
+    ensures too_large { (result ≡ Err ImageError.TooLarge)
+        ↔ (size_of (loaded_shown loaded.now) < needed (next_flag loaded.now.flag) list.now) }
     ensures other { IfErr result IsSaveRefusal }
     ensures which { IfOk result (λ w. w.0 ≡ copy_to_write (loaded_shown loaded.now)) }
     ensures bytes { IfOk result (λ w. w.1.items ≡ saved_image list.now (loaded_shown loaded.now)) }
-    ensures back { IfOk result (λ w. ReadsBack loaded.now.order (next_flag loaded.now.flag) w.1.items list.now) }
+    ensures back { IfOk result
+        (λ w. ReadsBack loaded.now.order (next_flag loaded.now.flag) w.1.items list.now) }
 {
     save_pairs(alloc, list.as_slice(), loaded)
 }
@@ -87,11 +91,16 @@ fn save_pairs(
 ) -> Result<(Which, Vec<u8>), ImageError>
     requires size { is_image_size loaded.now.flag (size_of (loaded_shown loaded.now)) ≡ true }
     requires valid { AllByRecursion IsVariable (map pair_at pairs.now) }
-    ensures too_large { (result ≡ Err ImageError.TooLarge) ↔ (size_of (loaded_shown loaded.now) < needed (next_flag loaded.now.flag) (map pair_at pairs.now)) }
+    ensures too_large { (result ≡ Err ImageError.TooLarge)
+        ↔ (size_of (loaded_shown loaded.now) < needed (next_flag loaded.now.flag)
+        (map pair_at pairs.now)) }
     ensures other { IfErr result IsSaveRefusal }
     ensures which { IfOk result (λ w. w.0 ≡ copy_to_write (loaded_shown loaded.now)) }
-    ensures bytes { IfOk result (λ w. w.1.items ≡ saved_image (map pair_at pairs.now) (loaded_shown loaded.now)) }
-    ensures back { IfOk result (λ w. ReadsBack loaded.now.order (next_flag loaded.now.flag) w.1.items (map pair_at pairs.now)) }
+    ensures bytes { IfOk result
+        (λ w. w.1.items ≡ saved_image (map pair_at pairs.now) (loaded_shown loaded.now)) }
+    ensures back { IfOk result
+        (λ w. ReadsBack loaded.now.order (next_flag loaded.now.flag) w.1.items
+        (map pair_at pairs.now)) }
 {
     let size = header_len(loaded.flag) + loaded.body.len();
     let image = encode(alloc, pairs, size, next_flag(loaded.flag), loaded.order)?;

@@ -28,7 +28,8 @@ pub(crate) trait Variables: Lookup {
 
     /// The variable at a place.
     fn pair(&self, at: usize) -> Option<(&[u8], &[u8])>
-        ensures { option_map (λ p. (p.0.now, p.1.now)) result ≡ slice_get (Self.pairs self.now) at };
+        ensures { option_map (λ p. (p.0.now, p.1.now)) result
+            ≡ slice_get (Self.pairs self.now) at };
 }
 
 impl Lookup for Env {

@@ -59,11 +59,14 @@ pub fn run_check<S: AsStr, F: Files, O: Out, E: Out>(
     err: &mut E,
 ) -> u8
     ensures status { result ≤ 2 }
-    ensures done { result ≡ 0 → HasDone Answers (Does build) (map S.text words.now) (files_shown F.Files files.old) (files_shown F.Files files.new)
+    ensures done { result ≡ 0 → HasDone Answers (Does build) (map S.text words.now)
+        (files_shown F.Files files.old) (files_shown F.Files files.new)
         (outputs (O.sink out.old) (O.sink out.new) (E.sink err.old) (E.sink err.new)) }
-    ensures refused { result ≡ 1 → HasRefused Answers (Does build) (map S.text words.now) (files_shown F.Files files.old) (files_shown F.Files files.new)
+    ensures refused { result ≡ 1 → HasRefused Answers (Does build) (map S.text words.now)
+        (files_shown F.Files files.old) (files_shown F.Files files.new)
         (outputs (O.sink out.old) (O.sink out.new) (E.sink err.old) (E.sink err.new)) }
-    ensures misused { result ≡ 2 → IsMisused Answers (map S.text words.now) (files_shown F.Files files.old) (files_shown F.Files files.new)
+    ensures misused { result ≡ 2 → IsMisused Answers (map S.text words.now)
+        (files_shown F.Files files.old) (files_shown F.Files files.new)
         (outputs (O.sink out.old) (O.sink out.new) (E.sink err.old) (E.sink err.new)) }
 {
     match read_words(alloc, words) {

@@ -54,7 +54,8 @@ fn report_of(
     names: &[&[u8]],
     all: bool,
 ) -> Result<Report, ToolError>
-    ensures { IsReport (given (Ok env.now) (list_in (option_copied list.entry)) (map (λ n. n.now) names.now) all) result }
+    ensures { IsReport (given (Ok env.now) (list_in (option_copied list.entry))
+        (map (λ n. n.now) names.now) all) result }
 {
     let devices = list_of(alloc, list)?;
     let Ok(names) = asked_names(alloc, env, names, all) else {
@@ -76,7 +77,8 @@ fn check_env<O: Out>(
     all: bool,
     out: &mut O,
 ) -> Result<bool, ToolError>
-    ensures { ChecksText (given (Ok env.now) (list_in (option_copied list.entry)) (map (λ n. n.now) names.now) all) (O.sink out.old) (O.sink out.new) result }
+    ensures { ChecksText (given (Ok env.now) (list_in (option_copied list.entry))
+        (map (λ n. n.now) names.now) all) (O.sink out.old) (O.sink out.new) result }
 {
     let report = report_of(alloc, env, list, names, all)?;
     match write_all(out, &report.text) {
@@ -94,7 +96,9 @@ fn check_images<O: Out>(
     order: ByteOrder,
     out: &mut O,
 ) -> Result<bool, ToolError>
-    ensures { ChecksText (given_by order (copies images.now) (option_copied list.entry) (map string_bytes what.now.names.items) what.now.all) (O.sink out.old) (O.sink out.new) result }
+    ensures { ChecksText (given_by order (copies images.now) (option_copied list.entry)
+        (map string_bytes what.now.names.items) what.now.all) (O.sink out.old)
+        (O.sink out.new) result }
 {
     let Ok(names) = slices_of(alloc, &what.names) else {
         return Err(ToolError::Memory);
@@ -133,7 +137,8 @@ pub fn check_files<F: Files, O: Out>(
 ) -> Result<bool, Fault>
     ensures count { CountsTold (F.faults files.old) (F.faults files.new) result }
     ensures told { IfTold (F.told files.old) (F.told files.new) (λ old new.
-        ChecksFrom (asked_by config list what.now order) (O.sink out.old) (O.sink out.new) old new result) }
+        ChecksFrom (asked_by config list what.now order) (O.sink out.old) (O.sink out.new) old new
+        result) }
     ensures output { LeavesOutput result (O.sink out.old) (O.sink out.new) }
 {
     let images = read_images(alloc, files, config)?;

@@ -109,9 +109,11 @@ fn take_turn(
 ) -> Result<(), AllocError>
     requires { at < length names.old }
     ensures text { OnOk result (report.new.text.items ≡ report.old.text.items
-        ++ lines_of (option_map (λ d. d.now) devices.entry) env.now (slice_index_or names.old at [])) }
+        ++ lines_of (option_map (λ d. d.now) devices.entry) env.now
+        (slice_index_or names.old at [])) }
     ensures sound { OnOk result (report.new.sound ≡ (report.old.sound
-        && is_fine (option_map (λ d. d.now) devices.entry) env.now (slice_index_or names.old at []))) }
+        && is_fine (option_map (λ d. d.now) devices.entry) env.now
+        (slice_index_or names.old at []))) }
     ensures names { OnOk result (names.new
         ≡ with_names names.old (run_by_name env.now (slice_index_or names.old at []))) }
 {

@@ -57,7 +57,8 @@ pub(crate) fn push_at(
     at: usize,
     what: &[u8],
 ) -> Result<(), AllocError>
-    ensures { OnOk result (told.new.items ≡ told.old.items ++ places.lines_at name.now text.now at what.now) }
+    ensures { OnOk result (told.new.items ≡ told.old.items
+        ++ places.lines_at name.now text.now at what.now) }
 {
     push_place(told, name, place_of(text, at))?;
     told.extend_from_slice(what)?;
@@ -72,7 +73,8 @@ pub(crate) fn push_fault(
     text: &[u8],
     error: SyntaxError,
 ) -> Result<(), AllocError>
-    ensures { OnOk result (told.new.items ≡ told.old.items ++ spec.fault_lines name.now text.now error) }
+    ensures { OnOk result (told.new.items ≡ told.old.items
+        ++ spec.fault_lines name.now text.now error) }
 {
     push_at(told, name, text, byte_of(error), what_of(text.len(), error))
 }
@@ -80,7 +82,8 @@ pub(crate) fn push_fault(
 /// Adds a warning at the end of `told`, if U-Boot's old shell refuses the first word that is
 /// straight after a compound command.
 fn push_warning(told: &mut Vec<u8>, name: &[u8], text: &[u8]) -> Result<(), AllocError>
-    ensures { OnOk result (told.new.items ≡ told.old.items ++ spec.warning_lines name.now text.now) }
+    ensures { OnOk result (told.new.items ≡ told.old.items
+        ++ spec.warning_lines name.now text.now) }
 {
     match word_straight_behind(text) {
         Some(at) => push_at(

@@ -12,7 +12,8 @@ use std::rc::Rc;
 
 /// The bytes of a word that holds no variable and no status, with what its quotes hold.
 pub(crate) fn written_out(alloc: Global, word: &Word) -> Result<Option<Vec<u8>>, AllocError>
-    ensures { IfOk result (λ bytes. option_map (λ v. v.items) bytes ≡ spec.written_out (view.word word.now)) }
+    ensures { IfOk result (λ bytes. option_map (λ v. v.items) bytes
+        ≡ spec.written_out (view.word word.now)) }
 {
     let mut bytes = Vec::new(alloc);
     for piece in &word.pieces {
@@ -37,7 +38,8 @@ pub(crate) fn is_run(alloc: Global, word: &Word) -> Result<bool, AllocError>
 
 /// Adds the name that a word is, if it is written out.
 fn add_word(alloc: Global, word: &Word, names: &mut Names) -> Result<(), AllocError>
-    ensures { OnOk result (names.new ≡ with_names names.old (option_to_list (spec.written_out (view.word word.now)))) }
+    ensures { OnOk result (names.new ≡ with_names names.old
+        (option_to_list (spec.written_out (view.word word.now)))) }
 {
     match written_out(alloc, word)? {
         Some(name) => names.add(name),
@@ -47,7 +49,8 @@ fn add_word(alloc: Global, word: &Word, names: &mut Names) -> Result<(), AllocEr
 
 /// Adds the names that are written out.
 fn add_words(alloc: Global, words: &[Word], names: &mut Names) -> Result<(), AllocError>
-    ensures { OnOk result (names.new ≡ with_names names.old (filter_map spec.written_out (map view.word words.now))) }
+    ensures { OnOk result (names.new ≡ with_names names.old
+        (filter_map spec.written_out (map view.word words.now))) }
 {
     for word in words {
         add_word(alloc, word, names)?;
@@ -57,7 +60,8 @@ fn add_words(alloc: Global, words: &[Word], names: &mut Names) -> Result<(), All
 
 /// Adds the names that a simple command runs.
 fn add_simple(alloc: Global, words: &[Word], names: &mut Names) -> Result<(), AllocError>
-    ensures { OnOk result (names.new ≡ with_names names.old (spec.run_by_words (map view.word words.now))) }
+    ensures { OnOk result (names.new ≡ with_names names.old
+        (spec.run_by_words (map view.word words.now))) }
 {
     if let Some((first, operands)) = words.split_first() {
         if is_run(alloc, first)? {
@@ -74,7 +78,8 @@ pub(crate) fn add_script(
     script: &Script,
     names: &mut Names,
 ) -> Result<(), AllocError>
-    ensures { OnOk result (names.new ≡ with_names names.old (spec.run_by_script (view.script script.now))) }
+    ensures { OnOk result (names.new ≡ with_names names.old
+        (spec.run_by_script (view.script script.now))) }
 {
     for list in &script.lists {
         add_list(alloc, list, names)?;
@@ -85,7 +90,8 @@ pub(crate) fn add_script(
 /// Adds the names that a command runs, and the names that the commands joined to it run.
 #[cycle(walk)]
 fn add_list(alloc: Global, list: &AndOr, names: &mut Names) -> Result<(), AllocError>
-    ensures { OnOk result (names.new ≡ with_names names.old (spec.run_by_list (view.list list.now))) }
+    ensures { OnOk result (names.new ≡ with_names names.old
+        (spec.run_by_list (view.list list.now))) }
 {
     add_command(alloc, &list.first, names)?;
     for joined in &list.rest {
@@ -97,7 +103,8 @@ fn add_list(alloc: Global, list: &AndOr, names: &mut Names) -> Result<(), AllocE
 /// Adds the names that a command runs.
 #[cycle(walk)]
 fn add_command(alloc: Global, command: &Command, names: &mut Names) -> Result<(), AllocError>
-    ensures { OnOk result (names.new ≡ with_names names.old (spec.run_by_command (view.command command.now))) }
+    ensures { OnOk result (names.new ≡ with_names names.old
+        (spec.run_by_command (view.command command.now))) }
 {
     match command {
         Command::Simple(words) => add_simple(alloc, words, names),
@@ -124,7 +131,8 @@ fn add_arms(
     arms: &[(Rc<Script>, Rc<Script>)],
     names: &mut Names,
 ) -> Result<(), AllocError>
-    ensures { OnOk result (names.new ≡ with_names names.old (flat_map spec.run_by_arm (map view.arm arms.now))) }
+    ensures { OnOk result (names.new ≡ with_names names.old
+        (flat_map spec.run_by_arm (map view.arm arms.now))) }
 {
     for (cond, body) in arms {
         add_script(alloc, cond, names)?;

@@ -117,7 +117,8 @@ impl<'a> Tokens<'a> {
     #[tactic(auto, unfolding(crate::specs::Parsing::next))]
     pub fn take(&mut self)
         ensures after { self.new ≡ spec.next self.old }
-        ensures shrinks { 0 < length self.old.tokens → length self.new.tokens < length self.old.tokens }
+        ensures shrinks { 0 < length self.old.tokens → length self.new.tokens
+            < length self.old.tokens }
     {
         if self.ahead.token.is_some() {
             self.ahead = pull(&mut self.lexer);
@@ -152,7 +153,8 @@ impl<'a> Tokens<'a> {
         ensures ok { OnOk result ((0 < depth) × (self.new ≡ spec.next self.old)) }
         ensures err { OnErr result ((depth ≡ 0) × (self.new ≡ self.old)) }
         ensures error { IfErr result (λ e. e ≡ spec.too_deep_at self.old.tokens) }
-        ensures shrinks { 0 < length self.old.tokens → OnOk result (length self.new.tokens < length self.old.tokens) }
+        ensures shrinks { 0 < length self.old.tokens
+            → OnOk result (length self.new.tokens < length self.old.tokens) }
     {
         if depth == 0 {
             return Err(self.too_deep());
@@ -359,7 +361,8 @@ impl<'a> Tokens<'a> {
     /// Checks that the text ends here, without a fault. Errors: `Unexpected` if a token is left, or
     /// the fault of the text.
     pub fn finish(&self) -> Result<(), SyntaxError>
-        ensures { (s : says.Script) → spec.finish_at s self.now.tokens self.now.end self.now.size ≡ spec.finished s result }
+        ensures { (s : says.Script) → spec.finish_at s self.now.tokens self.now.end self.now.size
+            ≡ spec.finished s result }
     {
         match self.ahead.token {
             Some(token) => Err(SyntaxError::Unexpected(token.start)),

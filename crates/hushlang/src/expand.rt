@@ -80,9 +80,13 @@ pub trait Vars {
 /// Expands words to their fields, in order. Errors: `TooLong` exactly if the fields hold more than
 /// 65,536 bytes in all; `Memory` only if a growth was refused.
 pub fn expand<V: Vars>(alloc: Global, words: &[Word], vars: &V) -> Result<Vec<Vec<u8>>, ExpandError>
-    ensures fields { IfOk result (λ found. map (λ field. field.items) found.items ≡ spec.fields (V.parameters vars.now) (map view.word words.now)) }
-    ensures within_limit { OnOk result (spec.size (spec.fields (V.parameters vars.now) (map view.word words.now)) ≤ spec.most_bytes) }
-    ensures too_long { IfErr result (λ error. error ≡ ExpandError.TooLong → spec.most_bytes < spec.size (spec.fields (V.parameters vars.now) (map view.word words.now))) }
+    ensures fields { IfOk result (λ found. map (λ field. field.items) found.items
+        ≡ spec.fields (V.parameters vars.now) (map view.word words.now)) }
+    ensures within_limit { OnOk result
+        (spec.size (spec.fields (V.parameters vars.now) (map view.word words.now))
+        ≤ spec.most_bytes) }
+    ensures too_long { IfErr result (λ error. error ≡ ExpandError.TooLong → spec.most_bytes
+        < spec.size (spec.fields (V.parameters vars.now) (map view.word words.now))) }
 {
     let mut fields = Fields::new(alloc);
     fields.fill(words, vars)?;
@@ -119,9 +123,13 @@ impl Fields {
     /// fields hold more than 65,536 bytes in all; `Memory` only if a growth was refused. After an
     /// error these may be any fields.
     pub fn fill<V: Vars>(&mut self, words: &[Word], vars: &V) -> Result<(), ExpandError>
-        ensures fields { OnOk result (self.new ≡ spec.fields (V.parameters vars.now) (map view.word words.now)) }
-        ensures within_limit { OnOk result (spec.size (spec.fields (V.parameters vars.now) (map view.word words.now)) ≤ spec.most_bytes) }
-        ensures too_long { IfErr result (λ error. error ≡ ExpandError.TooLong → spec.most_bytes < spec.size (spec.fields (V.parameters vars.now) (map view.word words.now))) }
+        ensures fields { OnOk result
+            (self.new ≡ spec.fields (V.parameters vars.now) (map view.word words.now)) }
+        ensures within_limit { OnOk result
+            (spec.size (spec.fields (V.parameters vars.now) (map view.word words.now))
+            ≤ spec.most_bytes) }
+        ensures too_long { IfErr result (λ error. error ≡ ExpandError.TooLong → spec.most_bytes
+            < spec.size (spec.fields (V.parameters vars.now) (map view.word words.now))) }
     {
         self.gathering.restart();
         self.gathering.add_words(words, vars)
@@ -145,9 +153,12 @@ impl Fields {
 /// Expands a word to all its bytes, without cutting it at separators. Errors: `TooLong` exactly if
 /// there are more than 65,536 of them; `Memory` only if a growth was refused.
 pub fn expand_one<V: Vars>(alloc: Global, word: &Word, vars: &V) -> Result<Vec<u8>, ExpandError>
-    ensures bytes { IfOk result (λ value. value.items ≡ spec.joined (V.parameters vars.now) (view.word word.now)) }
-    ensures within_limit { OnOk result (length (spec.joined (V.parameters vars.now) (view.word word.now)) ≤ spec.most_bytes) }
-    ensures too_long { IfErr result (λ error. error ≡ ExpandError.TooLong → spec.most_bytes < length (spec.joined (V.parameters vars.now) (view.word word.now))) }
+    ensures bytes { IfOk result
+        (λ value. value.items ≡ spec.joined (V.parameters vars.now) (view.word word.now)) }
+    ensures within_limit { OnOk result
+        (length (spec.joined (V.parameters vars.now) (view.word word.now)) ≤ spec.most_bytes) }
+    ensures too_long { IfErr result (λ error. error ≡ ExpandError.TooLong → spec.most_bytes
+        < length (spec.joined (V.parameters vars.now) (view.word word.now))) }
 {
     let mut value = Vec::new(alloc);
     for piece in &word.pieces {
@@ -200,7 +211,8 @@ fn append(value: &mut Vec<u8>, bytes: &[u8]) -> Result<(), ExpandError>
     requires { length value.old.items ≤ spec.most_bytes }
     ensures appended { OnOk result (value.new.items ≡ value.old.items ++ bytes.now) }
     ensures within_limit { OnOk result (length value.new.items ≤ spec.most_bytes) }
-    ensures too_long { IfErr result (λ error. error ≡ ExpandError.TooLong → spec.most_bytes < length (value.old.items ++ bytes.now)) }
+    ensures too_long { IfErr result (λ error. error ≡ ExpandError.TooLong → spec.most_bytes
+        < length (value.old.items ++ bytes.now)) }
 {
     if bytes.len() > MOST_BYTES - value.len() {
         return Err(ExpandError::TooLong);
@@ -213,9 +225,13 @@ fn append(value: &mut Vec<u8>, bytes: &[u8]) -> Result<(), ExpandError>
 #[tactic(auto, using(crate::proofs::ExpandLemmas::uncut))]
 fn append_piece<V: Vars>(value: &mut Vec<u8>, piece: &Piece, vars: &V) -> Result<(), ExpandError>
     requires { length value.old.items ≤ spec.most_bytes }
-    ensures appended { OnOk result (value.new.items ≡ value.old.items ++ spec.all_bytes (spec.atoms_of_piece (V.parameters vars.now) (view.piece piece.now))) }
+    ensures appended { OnOk result
+        (value.new.items ≡ value.old.items
+        ++ spec.all_bytes (spec.atoms_of_piece (V.parameters vars.now) (view.piece piece.now))) }
     ensures within_limit { OnOk result (length value.new.items ≤ spec.most_bytes) }
-    ensures too_long { IfErr result (λ error. error ≡ ExpandError.TooLong → spec.most_bytes < length (value.old.items ++ spec.all_bytes (spec.atoms_of_piece (V.parameters vars.now) (view.piece piece.now)))) }
+    ensures too_long { IfErr result (λ error. error ≡ ExpandError.TooLong → spec.most_bytes
+        < length (value.old.items
+        ++ spec.all_bytes (spec.atoms_of_piece (V.parameters vars.now) (view.piece piece.now)))) }
 {
     match piece {
         Piece::Bytes(bytes) => append(value, bytes),
@@ -307,10 +323,13 @@ impl Gathering {
     /// Adds a byte to the field on the way. Errors: `TooLong`, `Memory`.
     fn keep(&mut self, byte: u8) -> Result<(), ExpandError>
         requires { way.IsCounted self.old }
-        ensures added { OnOk result (way.fields_so_far self.new ≡ way.with_atom (way.fields_so_far self.old) (spec.Kept byte)) }
+        ensures added { OnOk result
+            (way.fields_so_far self.new ≡ way.with_atom (way.fields_so_far self.old)
+            (spec.Kept byte)) }
         ensures counted { OnOk result (way.IsCounted self.new) }
         ensures too_long { IfErr result (λ error. error ≡ ExpandError.TooLong →
-            spec.most_bytes < way.gathered_size (way.with_atom (way.fields_so_far self.old) (spec.Kept byte))) }
+            spec.most_bytes < way.gathered_size
+            (way.with_atom (way.fields_so_far self.old) (spec.Kept byte))) }
     {
         if self.room == 0 {
             return Err(ExpandError::TooLong);
@@ -324,7 +343,8 @@ impl Gathering {
     /// Ends the field on the way, if it has begun. Errors: `Memory`.
     fn close(&mut self) -> Result<(), ExpandError>
         requires { way.IsCounted self.old }
-        ensures closed { OnOk result (way.fields_so_far self.new ≡ way.closed (way.fields_so_far self.old)) }
+        ensures closed { OnOk result
+            (way.fields_so_far self.new ≡ way.closed (way.fields_so_far self.old)) }
         ensures counted { OnOk result (way.IsCounted self.new) }
         ensures memory { IfErr result (λ error. error ≡ ExpandError.Memory) }
     {
@@ -342,10 +362,13 @@ impl Gathering {
     #[tactic(auto, using(crate::proofs::ExpandLemmas::kept_at_once))]
     fn keep_all(&mut self, bytes: &[u8]) -> Result<(), ExpandError>
         requires { way.IsCounted self.old }
-        ensures added { OnOk result (way.fields_so_far self.new ≡ way.with_atoms (way.fields_so_far self.old) (map spec.Kept bytes.now)) }
+        ensures added { OnOk result
+            (way.fields_so_far self.new ≡ way.with_atoms (way.fields_so_far self.old)
+            (map spec.Kept bytes.now)) }
         ensures counted { OnOk result (way.IsCounted self.new) }
         ensures too_long { IfErr result (λ error. error ≡ ExpandError.TooLong →
-            spec.most_bytes < way.gathered_size (way.with_atoms (way.fields_so_far self.old) (map spec.Kept bytes.now))) }
+            spec.most_bytes < way.gathered_size
+            (way.with_atoms (way.fields_so_far self.old) (map spec.Kept bytes.now))) }
     {
         if bytes.len() > self.room {
             return Err(ExpandError::TooLong);
@@ -359,10 +382,13 @@ impl Gathering {
     /// Adds the bytes of a value that is cut at its separators. Errors: `TooLong`, `Memory`.
     fn split(&mut self, value: &[u8]) -> Result<(), ExpandError>
         requires { way.IsCounted self.old }
-        ensures added { OnOk result (way.fields_so_far self.new ≡ way.with_atoms (way.fields_so_far self.old) (map spec.split_atom value.now)) }
+        ensures added { OnOk result
+            (way.fields_so_far self.new ≡ way.with_atoms (way.fields_so_far self.old)
+            (map spec.split_atom value.now)) }
         ensures counted { OnOk result (way.IsCounted self.new) }
         ensures too_long { IfErr result (λ error. error ≡ ExpandError.TooLong →
-            spec.most_bytes < way.gathered_size (way.with_atoms (way.fields_so_far self.old) (map spec.split_atom value.now))) }
+            spec.most_bytes < way.gathered_size
+            (way.with_atoms (way.fields_so_far self.old) (map spec.split_atom value.now))) }
     {
         for byte in value {
             if separates(*byte) {
@@ -385,11 +411,15 @@ impl Gathering {
     ) -> Result<(), ExpandError>
         requires counted { way.IsCounted self.old }
         requires short { way.AreShort (V.parameters vars.now) values.old.entries }
-        ensures added { OnOk result (way.fields_so_far self.new ≡ way.with_atoms (way.fields_so_far self.old) (map spec.split_atom (spec.value_of (V.parameters vars.now) name.now))) }
+        ensures added { OnOk result
+            (way.fields_so_far self.new ≡ way.with_atoms (way.fields_so_far self.old)
+            (map spec.split_atom (spec.value_of (V.parameters vars.now) name.now))) }
         ensures counted { OnOk result (way.IsCounted self.new) }
         ensures short { OnOk result (way.AreShort (V.parameters vars.now) values.new.entries) }
         ensures too_long { IfErr result (λ error. error ≡ ExpandError.TooLong →
-            spec.most_bytes < way.gathered_size (way.with_atoms (way.fields_so_far self.old) (map spec.split_atom (spec.value_of (V.parameters vars.now) name.now)))) }
+            spec.most_bytes < way.gathered_size
+            (way.with_atoms (way.fields_so_far self.old)
+            (map spec.split_atom (spec.value_of (V.parameters vars.now) name.now)))) }
     {
         if let Some(short) = values.get(name) {
             return self.split(short);
@@ -412,11 +442,15 @@ impl Gathering {
     ) -> Result<(), ExpandError>
         requires counted { way.IsCounted self.old }
         requires short { way.AreShort (V.parameters vars.now) values.old.entries }
-        ensures added { OnOk result (way.fields_so_far self.new ≡ way.with_atoms (way.fields_so_far self.old) (spec.atoms_of_piece (V.parameters vars.now) (view.piece piece.now))) }
+        ensures added { OnOk result
+            (way.fields_so_far self.new ≡ way.with_atoms (way.fields_so_far self.old)
+            (spec.atoms_of_piece (V.parameters vars.now) (view.piece piece.now))) }
         ensures counted { OnOk result (way.IsCounted self.new) }
         ensures short { OnOk result (way.AreShort (V.parameters vars.now) values.new.entries) }
         ensures too_long { IfErr result (λ error. error ≡ ExpandError.TooLong →
-            spec.most_bytes < way.gathered_size (way.with_atoms (way.fields_so_far self.old) (spec.atoms_of_piece (V.parameters vars.now) (view.piece piece.now)))) }
+            spec.most_bytes < way.gathered_size
+            (way.with_atoms (way.fields_so_far self.old)
+            (spec.atoms_of_piece (V.parameters vars.now) (view.piece piece.now)))) }
     {
         match piece {
             Piece::Bytes(bytes) => self.keep_all(bytes),
@@ -434,9 +468,14 @@ impl Gathering {
     fn add_words<V: Vars>(&mut self, words: &[Word], vars: &V) -> Result<(), ExpandError>
         requires nothing { way.fields_so_far self.old ≡ way.nothing_gathered }
         requires counted { way.IsCounted self.old }
-        ensures fields { OnOk result ((way.fields_so_far self.new).whole ≡ spec.fields (V.parameters vars.now) (map view.word words.now)) }
-        ensures within_limit { OnOk result (spec.size (spec.fields (V.parameters vars.now) (map view.word words.now)) ≤ spec.most_bytes) }
-        ensures too_long { IfErr result (λ error. error ≡ ExpandError.TooLong → spec.most_bytes < spec.size (spec.fields (V.parameters vars.now) (map view.word words.now))) }
+        ensures fields { OnOk result
+            ((way.fields_so_far self.new).whole ≡ spec.fields (V.parameters vars.now)
+            (map view.word words.now)) }
+        ensures within_limit { OnOk result
+            (spec.size (spec.fields (V.parameters vars.now) (map view.word words.now))
+            ≤ spec.most_bytes) }
+        ensures too_long { IfErr result (λ error. error ≡ ExpandError.TooLong → spec.most_bytes
+            < spec.size (spec.fields (V.parameters vars.now) (map view.word words.now))) }
     {
         let mut values = ShortValues::new(self.alloc);
         for word in words {
@@ -454,11 +493,15 @@ impl Gathering {
     ) -> Result<(), ExpandError>
         requires counted { way.IsCounted self.old }
         requires short { way.AreShort (V.parameters vars.now) values.old.entries }
-        ensures added { OnOk result (way.fields_so_far self.new ≡ way.with_word (V.parameters vars.now) (way.fields_so_far self.old) (view.word word.now)) }
+        ensures added { OnOk result
+            (way.fields_so_far self.new ≡ way.with_word (V.parameters vars.now)
+            (way.fields_so_far self.old) (view.word word.now)) }
         ensures counted { OnOk result (way.IsCounted self.new) }
         ensures short { OnOk result (way.AreShort (V.parameters vars.now) values.new.entries) }
         ensures too_long { IfErr result (λ error. error ≡ ExpandError.TooLong →
-            spec.most_bytes < way.gathered_size (way.with_word (V.parameters vars.now) (way.fields_so_far self.old) (view.word word.now))) }
+            spec.most_bytes < way.gathered_size
+            (way.with_word (V.parameters vars.now) (way.fields_so_far self.old)
+            (view.word word.now))) }
     {
         for piece in &word.pieces {
             self.add_piece(piece, vars, values)?;

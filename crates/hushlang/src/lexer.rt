@@ -53,7 +53,8 @@ fn word_end(text: &[u8], at: usize) -> Result<usize, SyntaxError>
 fn word(text: &[u8], at: usize) -> Result<Front, SyntaxError>
     requires inside { at < length text.now }
     requires begins { BeginsWord (slice_index text.now at) (drop (at + 1) text.now) }
-    ensures value { result ≡ front_shown at (spec.word_front at (slice_index text.now at) (drop (at + 1) text.now)) }
+    ensures value { result ≡ front_shown at
+        (spec.word_front at (slice_index text.now at) (drop (at + 1) text.now)) }
     ensures within { GoesOn at (length text.now) result }
 {
     let stop = word_end(text, at)?;
@@ -84,7 +85,8 @@ fn separator(at: usize, b: u8, behind: &[u8]) -> Result<Front, SyntaxError>
 #[tactic(auto, using(crate::proofs::Steps::rest_is), unfolding(crate::specs::Tokenizing::front))]
 fn front_at(text: &[u8], at: usize) -> Result<Front, SyntaxError>
     requires { at < length text.now }
-    ensures value { result ≡ front_shown at (spec.front at (slice_index text.now at) (drop (at + 1) text.now)) }
+    ensures value { result ≡ front_shown at
+        (spec.front at (slice_index text.now at) (drop (at + 1) text.now)) }
     ensures within { GoesOn at (length text.now) result }
 {
     let b = text[at];

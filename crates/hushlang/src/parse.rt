@@ -124,7 +124,8 @@ fn joined(
     tokens: &mut Tokens<'_>,
     depth: usize,
 ) -> Result<Vec<(Op, Command)>, SyntaxError>
-    ensures reads { Reads view.joins_in (spec.joined_all (spec.command depth) tokens.old) result tokens.new }
+    ensures reads { Reads view.joins_in (spec.joined_all (spec.command depth) tokens.old) result
+        tokens.new }
     ensures shrinks { OnOk result (length tokens.new.tokens ≤ length tokens.old.tokens) }
 {
     let mut rest = Vec::new(alloc);
@@ -140,7 +141,8 @@ fn joined(
 #[cycle(grammar)]
 #[tactic(auto, using(crate::proofs::ViewLemmas::what_it_says), unfolding(crate::specs::Parsing::and_or))]
 fn and_or(alloc: Global, tokens: &mut Tokens<'_>, depth: usize) -> Result<AndOr, SyntaxError>
-    ensures reads { Reads view.list (spec.and_or (spec.command depth) tokens.old) result tokens.new }
+    ensures reads { Reads view.list (spec.and_or (spec.command depth) tokens.old) result
+        tokens.new }
     ensures shrinks { OnOk result (length tokens.new.tokens < length tokens.old.tokens) }
 {
     let first = command(alloc, tokens, depth)?;
@@ -151,7 +153,8 @@ fn and_or(alloc: Global, tokens: &mut Tokens<'_>, depth: usize) -> Result<AndOr,
 /// And-or lists, up to the end of a block or of the text.
 #[cycle(grammar)]
 fn lists(alloc: Global, tokens: &mut Tokens<'_>, depth: usize) -> Result<Vec<AndOr>, SyntaxError>
-    ensures reads { Reads view.lists_in (spec.lists_all (spec.command depth) tokens.old) result tokens.new }
+    ensures reads { Reads view.lists_in (spec.lists_all (spec.command depth) tokens.old) result
+        tokens.new }
     ensures shrinks { OnOk result (length tokens.new.tokens < length tokens.old.tokens) }
 {
     let mut lists = Vec::new(alloc);
@@ -171,7 +174,8 @@ fn lists(alloc: Global, tokens: &mut Tokens<'_>, depth: usize) -> Result<Vec<And
 #[cycle(grammar)]
 #[tactic(auto, using(crate::proofs::ViewLemmas::what_it_says), unfolding(crate::specs::Parsing::block))]
 fn block(alloc: Global, tokens: &mut Tokens<'_>, depth: usize) -> Result<Script, SyntaxError>
-    ensures reads { Reads view.script (spec.block (spec.command depth) tokens.old) result tokens.new }
+    ensures reads { Reads view.script (spec.block (spec.command depth) tokens.old) result
+        tokens.new }
     ensures shrinks { OnOk result (length tokens.new.tokens < length tokens.old.tokens) }
 {
     tokens.skip_separators();
@@ -198,7 +202,8 @@ fn arm(
 /// The arms of an `if`, and its `else` block.
 #[cycle(grammar)]
 fn arms(alloc: Global, tokens: &mut Tokens<'_>, depth: usize) -> Result<Arms, SyntaxError>
-    ensures reads { Reads view.arms_of (spec.arms_all (spec.command depth) tokens.old) result tokens.new }
+    ensures reads { Reads view.arms_of (spec.arms_all (spec.command depth) tokens.old) result
+        tokens.new }
     ensures shrinks { OnOk result (length tokens.new.tokens < length tokens.old.tokens) }
 {
     let mut arms = Vec::new(alloc);
@@ -226,7 +231,8 @@ fn arms(alloc: Global, tokens: &mut Tokens<'_>, depth: usize) -> Result<Arms, Sy
 #[cycle(grammar)]
 #[tactic(auto, using(crate::proofs::ViewLemmas::what_it_says), unfolding(crate::specs::Parsing::if_command))]
 fn if_command(alloc: Global, tokens: &mut Tokens<'_>, depth: usize) -> Result<Command, SyntaxError>
-    ensures reads { Reads view.command (spec.if_command (spec.command depth) tokens.old) result tokens.new }
+    ensures reads { Reads view.command (spec.if_command (spec.command depth) tokens.old) result
+        tokens.new }
     ensures shrinks { OnOk result (length tokens.new.tokens < length tokens.old.tokens) }
 {
     let (arms, other) = arms(alloc, tokens, depth)?;
@@ -238,7 +244,8 @@ fn if_command(alloc: Global, tokens: &mut Tokens<'_>, depth: usize) -> Result<Co
 #[cycle(grammar)]
 #[tactic(auto, using(crate::proofs::ViewLemmas::what_it_says), unfolding(crate::specs::Parsing::body_of))]
 fn body(alloc: Global, tokens: &mut Tokens<'_>, depth: usize) -> Result<Script, SyntaxError>
-    ensures reads { Reads view.script (spec.body_of (spec.command depth) tokens.old) result tokens.new }
+    ensures reads { Reads view.script (spec.body_of (spec.command depth) tokens.old) result
+        tokens.new }
     ensures shrinks { OnOk result (length tokens.new.tokens < length tokens.old.tokens) }
 {
     tokens.expect(Reserved::Do)?;
@@ -256,7 +263,8 @@ fn loop_command(
     depth: usize,
     until: bool,
 ) -> Result<Command, SyntaxError>
-    ensures reads { Reads view.command (spec.loop_command until (spec.command depth) tokens.old) result tokens.new }
+    ensures reads { Reads view.command (spec.loop_command until (spec.command depth) tokens.old)
+        result tokens.new }
     ensures shrinks { OnOk result (length tokens.new.tokens < length tokens.old.tokens) }
 {
     let cond = block(alloc, tokens, depth)?;
@@ -272,7 +280,8 @@ fn loop_command(
 #[cycle(grammar)]
 #[tactic(auto, using(crate::proofs::ViewLemmas::what_it_says), unfolding(crate::specs::Parsing::for_command))]
 fn for_command(alloc: Global, tokens: &mut Tokens<'_>, depth: usize) -> Result<Command, SyntaxError>
-    ensures reads { Reads view.command (spec.for_command (spec.command depth) tokens.old) result tokens.new }
+    ensures reads { Reads view.command (spec.for_command (spec.command depth) tokens.old) result
+        tokens.new }
     ensures shrinks { OnOk result (length tokens.new.tokens < length tokens.old.tokens) }
 {
     let name = tokens.name(alloc)?;

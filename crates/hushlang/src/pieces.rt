@@ -24,7 +24,8 @@ struct Gathering {
 impl Gathering {
     /// Makes a piece of the bytes, if there are any.
     fn close(&mut self, alloc: Global) -> Result<(), AllocError>
-        ensures { OnOk result (spec.pieces_so_far self.new ≡ spec.closed (spec.pieces_so_far self.old)) }
+        ensures { OnOk result (spec.pieces_so_far self.new
+            ≡ spec.closed (spec.pieces_so_far self.old)) }
     {
         if !self.bytes.is_empty() {
             let bytes = mem::replace(&mut self.bytes, Vec::new(alloc));
@@ -34,7 +35,8 @@ impl Gathering {
     }
 
     fn push(&mut self, alloc: Global, piece: Piece) -> Result<(), AllocError>
-        ensures { OnOk result (spec.pieces_so_far self.new ≡ spec.with_piece (spec.pieces_so_far self.old) (view.piece piece)) }
+        ensures { OnOk result (spec.pieces_so_far self.new
+            ≡ spec.with_piece (spec.pieces_so_far self.old) (view.piece piece)) }
     {
         self.close(alloc)?;
         self.pieces.push(piece)?;
@@ -42,7 +44,8 @@ impl Gathering {
     }
 
     fn add(&mut self, alloc: Global, part: Part<'_>) -> Result<(), AllocError>
-        ensures { OnOk result (spec.pieces_so_far self.new ≡ spec.with_part (spec.pieces_so_far self.old) (cutting.part part.entry)) }
+        ensures { OnOk result (spec.pieces_so_far self.new
+            ≡ spec.with_part (spec.pieces_so_far self.old) (cutting.part part.entry)) }
     {
         match part {
             Part::Plain(b) | Part::Kept(b) => {
@@ -79,7 +82,8 @@ pub fn read_pieces(alloc: Global, mut parts: Parts<'_>) -> Result<Vec<Piece>, Sy
 
 /// The pieces of a word.
 pub fn pieces_of(alloc: Global, token: Token<'_>) -> Result<Vec<Piece>, SyntaxError>
-    ensures { GivesPieces (spec.pieces_in (reading.row modes.Bare 0 0 0 token.entry.text.now)) result }
+    ensures { GivesPieces (spec.pieces_in (reading.row modes.Bare 0 0 0 token.entry.text.now))
+        result }
 {
     read_pieces(alloc, Parts::new(token.text, 0))
 }

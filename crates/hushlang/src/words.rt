@@ -200,7 +200,8 @@ fn is_name(bytes: &[u8]) -> bool
 #[tactic(auto, unfolding(crate::specs::Grammar::name_of))]
 fn name(alloc: Global, token: Token<'_>) -> Result<Option<Vec<u8>>, SyntaxError>
     requires { IsCut token }
-    ensures value { IfOk result (λ n. option_map (λ v. v.items) n ≡ grammar.name_of (parts_of token.entry)) }
+    ensures value { IfOk result
+        (λ n. option_map (λ v. v.items) n ≡ grammar.name_of (parts_of token.entry)) }
     ensures err { IfErr result (λ e. e ≡ Memory) }
 {
     let mut parts = Parts::new(token.text, 0);
@@ -221,7 +222,8 @@ fn name(alloc: Global, token: Token<'_>) -> Result<Option<Vec<u8>>, SyntaxError>
 #[tactic(auto, unfolding(crate::specs::Grammar::name_in))]
 pub fn name_in(alloc: Global, token: Token<'_>) -> Result<Option<Vec<u8>>, SyntaxError>
     requires { IsCut token }
-    ensures value { IfOk result (λ n. option_map (λ v. v.items) n ≡ grammar.name_in (token_of token.entry)) }
+    ensures value { IfOk result
+        (λ n. option_map (λ v. v.items) n ≡ grammar.name_in (token_of token.entry)) }
     ensures err { IfErr result (λ e. e ≡ Memory) }
 {
     if is_word(token.kind) {
@@ -260,7 +262,8 @@ pub fn assignment<'a>(
     token: Token<'a>,
 ) -> Result<Option<(Vec<u8>, Parts<'a>)>, SyntaxError>
     requires { IsCut token }
-    ensures value { IfOk result (λ found. option_map name_and_value found ≡ grammar.assignment (parts_of token.entry)) }
+    ensures value { IfOk result
+        (λ found. option_map name_and_value found ≡ grammar.assignment (parts_of token.entry)) }
     ensures taken { IfOk result (λ found. IfSome found (λ f. IsTaken (to_come f.1))) }
     ensures err { IfErr result (λ e. e ≡ Memory) }
 {

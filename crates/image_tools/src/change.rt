@@ -37,7 +37,10 @@ fn set_one(
 ) -> Result<(Which, Vec<u8>), ToolError>
     requires size { is_image_size loaded.now.flag (size_of (loaded_shown loaded.now)) ≡ true }
     requires faultless { data_fault loaded.now.body.now ≡ None }
-    ensures { Answers (Ok (loaded_shown loaded.now)) (then_written (loaded_shown loaded.now) (one_edited (env_of (pairs_of loaded.now.body.now)) name.now (map (λ w. w.now) words.now))) result }
+    ensures { Answers (Ok (loaded_shown loaded.now))
+        (then_written (loaded_shown loaded.now)
+        (one_edited (env_of (pairs_of loaded.now.body.now)) name.now (map (λ w. w.now) words.now)))
+        result }
 {
     let value = new_value(alloc, name, words)?;
     let mut list = VariableList::from_checked(alloc, loaded.body)?;
@@ -49,7 +52,9 @@ fn set_one(
 fn set_all(alloc: Global, loaded: &Loaded<'_>, script: &[u8]) -> Result<(Which, Vec<u8>), ToolError>
     requires size { is_image_size loaded.now.flag (size_of (loaded_shown loaded.now)) ≡ true }
     requires faultless { data_fault loaded.now.body.now ≡ None }
-    ensures { Answers (Ok (loaded_shown loaded.now)) (then_written (loaded_shown loaded.now) (all_edited (scripted (env_of (pairs_of loaded.now.body.now)) script.now))) result }
+    ensures { Answers (Ok (loaded_shown loaded.now))
+        (then_written (loaded_shown loaded.now)
+        (all_edited (scripted (env_of (pairs_of loaded.now.body.now)) script.now))) result }
 {
     let mut env = Env::from_checked(alloc, loaded.body)?;
     apply_script(&mut env, script)?;
@@ -70,8 +75,10 @@ pub fn set_bytes(
     order: ByteOrder,
     edit: Edit<'_>,
 ) -> Result<(Which, Vec<u8>), ToolError>
-    ensures answer { Answers (load_of order first.now (option_copied second.entry)) (set_of order first.now (option_copied second.entry) edit.entry) result }
-    ensures safe { IfOk result (λ w. IsSafe order first.now (option_copied second.entry) w.0 w.1.items) }
+    ensures answer { Answers (load_of order first.now (option_copied second.entry))
+        (set_of order first.now (option_copied second.entry) edit.entry) result }
+    ensures safe { IfOk result
+        (λ w. IsSafe order first.now (option_copied second.entry) w.0 w.1.items) }
 {
     let loaded = load(first, second, order)?;
     match edit {

@@ -27,8 +27,12 @@ pub fn endings_bytes<O: Out>(
     ask: &EndingsAsk<'_>,
     out: &mut O,
 ) -> Result<(), ToolError>
-    ensures ok { IfOk result (λ _. TellsEndings (endings_given order first.now (option_copied second.entry) devices_text.now ask.now) ask.now.flow ask.now.states (O.sink out.old) (O.sink out.new)) }
-    ensures err { IfErr result (λ e. RefusesEndings (endings_given order first.now (option_copied second.entry) devices_text.now ask.now) ask.now.flow ask.now.states (O.sink out.old) (O.sink out.new) e) }
+    ensures ok { IfOk result (λ _. TellsEndings
+        (endings_given order first.now (option_copied second.entry) devices_text.now ask.now)
+        ask.now.flow ask.now.states (O.sink out.old) (O.sink out.new)) }
+    ensures err { IfErr result
+        (λ e. RefusesEndings (endings_given order first.now (option_copied second.entry)
+        devices_text.now ask.now) ask.now.flow ask.now.states (O.sink out.old) (O.sink out.new) e) }
 {
     let loaded = load(first, second, order)?;
     let env = Env::from_checked(alloc, loaded.body)?;

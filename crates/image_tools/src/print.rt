@@ -31,7 +31,8 @@ pub fn print_bytes<O: Out, E: Out>(
     err: &mut E,
 ) -> Result<bool, ToolError>
     requires { ask.now.header ≡ false → length ask.now.names.now ≡ 1 }
-    ensures { Prints (environment_in order first.now (option_copied second.entry)) (map (λ n. n.now) ask.now.names.now) ask.now.header
+    ensures { Prints (environment_in order first.now (option_copied second.entry))
+        (map (λ n. n.now) ask.now.names.now) ask.now.header
         (outputs (O.sink out.old) (O.sink out.new) (E.sink err.old) (E.sink err.new)) result }
 {
     let loaded = load(first, second, order)?;

@@ -32,8 +32,12 @@ pub fn rehearse_bytes<O: Out>(
     out: &mut O,
 ) -> Result<Finish, ToolError>
     requires { limit_of (wanted_of ask.now.wanted) ≢ Some 0 }
-    ensures ok { IfOk result (λ finish. Rehearses (given order first.now (option_copied second.entry) devices_text.now (asking_of ask.now)) (O.sink out.old) (O.sink out.new) finish) }
-    ensures err { IfErr result (λ e. Refuses (given order first.now (option_copied second.entry) devices_text.now (asking_of ask.now)) (O.sink out.old) (O.sink out.new) e) }
+    ensures ok { IfOk result (λ finish. Rehearses
+        (given order first.now (option_copied second.entry) devices_text.now (asking_of ask.now))
+        (O.sink out.old) (O.sink out.new) finish) }
+    ensures err { IfErr result
+        (λ e. Refuses (given order first.now (option_copied second.entry) devices_text.now
+        (asking_of ask.now)) (O.sink out.old) (O.sink out.new) e) }
 {
     let loaded = load(first, second, order)?;
     let env = Env::from_checked(alloc, loaded.body)?;

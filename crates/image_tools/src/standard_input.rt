@@ -17,9 +17,11 @@ fn print_input<R: Read, O: Out, E: Out>(
     out: &mut O,
     err: &mut E,
 ) -> Result<(), Fault>
-    ensures printed { OnOk result (PrintsInput (R.remaining input.old) (O.sink out.old) (O.sink out.new)) }
+    ensures printed { OnOk result
+        (PrintsInput (R.remaining input.old) (O.sink out.old) (O.sink out.new)) }
     ensures quiet { OnOk result (Wrote (E.sink err.old) (E.sink err.new) []) }
-    ensures refused { IfErr result (λ fault. RefusesInput (R.remaining input.old) (O.sink out.old) (O.sink out.new)) }
+    ensures refused { IfErr result
+        (λ fault. RefusesInput (R.remaining input.old) (O.sink out.old) (O.sink out.new)) }
 {
     let image = match read_up_to(alloc, input, SIZE_MAX + 1) {
         Ok(image) => image,
@@ -45,9 +47,11 @@ pub fn run_input<R: Read, O: Out, E: Out>(
     err: &mut E,
 ) -> u8
     ensures status { (result ≡ 0) ⊎ (result ≡ 1) }
-    ensures printed { result ≡ 0 → PrintsInput (R.remaining input.old) (O.sink out.old) (O.sink out.new) }
+    ensures printed { result ≡ 0 → PrintsInput (R.remaining input.old) (O.sink out.old)
+        (O.sink out.new) }
     ensures quiet { result ≡ 0 → Wrote (E.sink err.old) (E.sink err.new) [] }
-    ensures refused { result ≡ 1 → RefusesInput (R.remaining input.old) (O.sink out.old) (O.sink out.new) }
+    ensures refused { result ≡ 1 → RefusesInput (R.remaining input.old) (O.sink out.old)
+        (O.sink out.new) }
 {
     match print_input(alloc, input, out, err) {
         Ok(()) => 0,

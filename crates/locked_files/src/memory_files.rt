@@ -150,7 +150,8 @@ impl MemoryFiles {
 
     /// Reads the whole file.
     fn whole(&self, alloc: Global, path: &str) -> Result<Vec<u8>, FileFault>
-        ensures { Gives (whole_answer (is_due self.now) (file_at path.now (memory_files_shown self.now).stored)) result }
+        ensures { Gives (whole_answer (is_due self.now)
+            (file_at path.now (memory_files_shown self.now).stored)) result }
     {
         if self.is_due() {
             return Err(FileFault::Failed);
@@ -172,7 +173,8 @@ impl MemoryFiles {
         offset: u64,
         size: usize,
     ) -> Result<Vec<u8>, FileFault>
-        ensures { Gives (part_answer (is_due self.now) (file_at path.now (memory_files_shown self.now).stored) offset size) result }
+        ensures { Gives (part_answer (is_due self.now)
+            (file_at path.now (memory_files_shown self.now).stored) offset size) result }
     {
         if self.is_due() {
             return Err(FileFault::Failed);
@@ -198,7 +200,8 @@ impl MemoryFiles {
         ensures count { CountsFault (faults_of self.old) (faults_of self.new) result }
         ensures calls { (memory_files_shown self.new).calls
             ≡ calls_after (memory_files_shown self.old).calls path.now action result }
-        ensures stored { (memory_files_shown self.new).stored ≡ (memory_files_shown self.old).stored }
+        ensures stored { (memory_files_shown self.new).stored
+            ≡ (memory_files_shown self.old).stored }
         ensures lock { is_locked self.new ≡ is_locked self.old }
     {
         if let Err(FileFault::Memory) = answer {
@@ -231,8 +234,10 @@ impl Files for MemoryFiles {
         ensures bound { IfOk result (λ bytes. vec_len bytes ≤ read_limit) }
         ensures never_short { result ≢ Err Short }
         ensures lock { is_locked self.new ≡ is_locked self.old }
-        ensures told { ReadsAll path.now (memory_files_shown self.old) (memory_files_shown self.new) result }
-        ensures exact { Gives (whole_answer (is_due self.old) (file_at path.now (memory_files_shown self.old).stored)) result }
+        ensures told { ReadsAll path.now (memory_files_shown self.old) (memory_files_shown self.new)
+            result }
+        ensures exact { Gives (whole_answer (is_due self.old)
+            (file_at path.now (memory_files_shown self.old).stored)) result }
     {
         let whole = self.whole(alloc, path);
         self.answered(path, Action::ReadAll, whole)
@@ -249,8 +254,10 @@ impl Files for MemoryFiles {
         ensures size { IfOk result (λ bytes. vec_len bytes ≡ size) }
         ensures never_long { result ≢ Err TooLong }
         ensures lock { is_locked self.new ≡ is_locked self.old }
-        ensures told { ReadsAt path.now offset size (memory_files_shown self.old) (memory_files_shown self.new) result }
-        ensures exact { Gives (part_answer (is_due self.old) (file_at path.now (memory_files_shown self.old).stored) offset size) result }
+        ensures told { ReadsAt path.now offset size (memory_files_shown self.old)
+            (memory_files_shown self.new) result }
+        ensures exact { Gives (part_answer (is_due self.old)
+            (file_at path.now (memory_files_shown self.old).stored) offset size) result }
     {
         let part = self.part(alloc, path, offset, size);
         self.answered(path, Action::ReadAt { offset, size }, part)
@@ -262,10 +269,14 @@ impl Files for MemoryFiles {
         ensures never_short { result ≢ Err Short }
         ensures never_long { result ≢ Err TooLong }
         ensures lock { is_locked self.new ≡ is_locked self.old }
-        ensures told { WritesAt path.now offset bytes.now (memory_files_shown self.old) (memory_files_shown self.new) result }
-        ensures exact { IsUnlessMemory (write_answer (is_due self.old) (file_at path.now (memory_files_shown self.old).stored) offset bytes.now) result }
+        ensures told { WritesAt path.now offset bytes.now (memory_files_shown self.old)
+            (memory_files_shown self.new) result }
+        ensures exact { IsUnlessMemory
+            (write_answer (is_due self.old) (file_at path.now (memory_files_shown self.old).stored)
+            offset bytes.now) result }
         ensures kept { result ≢ Err Memory → (memory_files_shown self.new).stored
-            ≡ put path.now offset (taken (is_due self.old) bytes.now) (memory_files_shown self.old).stored }
+            ≡ put path.now offset (taken (is_due self.old) bytes.now)
+            (memory_files_shown self.old).stored }
     {
         let fails = self.is_due();
         let call = Call {

@@ -36,11 +36,13 @@ impl<W: Write> Write for UntilFailed<W> {
     /// A write that takes none of the bytes given is a failure too.
     fn write(&mut self, buf: &[u8]) -> Result<usize>
         ensures bound { WritesAtMost result buf.now }
-        ensures bytes { WriteAppends (W.contents (writer_of self.old)) (W.contents (writer_of self.new)) result buf.now }
+        ensures bytes { WriteAppends (W.contents (writer_of self.old))
+            (W.contents (writer_of self.new)) result buf.now }
         ensures stopped { has_failed self.old ≡ true → IsErr result }
         ensures unasked { has_failed self.old ≡ true → writer_of self.new ≡ writer_of self.old }
         ensures failed { IsErr result → has_failed self.new ≡ true }
-        ensures none { IfOk result (λ taken. taken ≡ 0 → 0 < length buf.now → has_failed self.new ≡ true) }
+        ensures none { IfOk result (λ taken. taken ≡ 0 → 0 < length buf.now → has_failed self.new
+            ≡ true) }
     {
         if self.failed {
             return Err(Error::from(ErrorKind::BrokenPipe));

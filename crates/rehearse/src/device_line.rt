@@ -114,7 +114,8 @@ pub(crate) fn heading_of<'a>(first: &'a [u8], behind: &'a [&'a [u8]]) -> Heading
 
 /// The command that a line `known NAME` has computed, if NAME is one that may be.
 pub(crate) fn known_named<'a>(first: &[u8], behind: &[&'a [u8]]) -> Option<&'a [u8]>
-    ensures { option_map (λ name. name.now) result ≡ known_named first.now (map (λ w. w.now) behind.now) }
+    ensures { option_map (λ name. name.now) result ≡ known_named first.now
+        (map (λ w. w.now) behind.now) }
 {
     match behind {
         [name] if first == b"known".as_slice() && known_of(name).is_some() => Some(name),

@@ -49,7 +49,9 @@ fn join_sub(
     word: &[u8],
     more: Listed,
 ) -> Result<(), AllocError>
-    ensures { OnOk result (subs_shown subs.new.entries ≡ changed_at (joined_behind word.now (listed_shown more)) (subs_shown subs.old.entries) name.now) }
+    ensures { OnOk result (subs_shown subs.new.entries
+        ≡ changed_at (joined_behind word.now (listed_shown more)) (subs_shown subs.old.entries)
+        name.now) }
 {
     if let Some(table) = subs.get_mut(name) {
         join(alloc, table, word, more)?;
@@ -93,7 +95,8 @@ pub struct Devices {
 
 /// Joins one more line to the earlier ones with its name. Errors: memory ran out.
 fn join(alloc: Global, table: &mut Table, name: &[u8], mut more: Listed) -> Result<(), AllocError>
-    ensures { OnOk result (commands_shown table.new.entries ≡ joined_in (commands_shown table.old.entries) name.now (listed_shown more)) }
+    ensures { OnOk result (commands_shown table.new.entries
+        ≡ joined_in (commands_shown table.old.entries) name.now (listed_shown more)) }
 {
     if let Some(listed) = table.get_mut(name) {
         listed.sets.append(&mut more.sets)?;
@@ -279,7 +282,8 @@ impl Devices {
     /// Joins one more line to the earlier ones; for a `sub` line with its first word. Errors:
     /// `Memory`.
     fn add(&mut self, name: &[u8], word: Option<&[u8]>, more: Listed) -> Result<(), AllocError>
-        ensures { OnOk result (self.new ≡ joined_by self.old name.now (option_map (λ w. w.now) word.entry) (listed_shown more)) }
+        ensures { OnOk result (self.new ≡ joined_by self.old name.now
+            (option_map (λ w. w.now) word.entry) (listed_shown more)) }
     {
         match word {
             Some(word) => join_sub(self.alloc, &mut self.subs, name, word, more)?,

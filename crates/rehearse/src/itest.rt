@@ -59,7 +59,8 @@ fn compared(operator: &[u8], left: u64, right: u64) -> bool
 
 /// The status of a comparison.
 fn status_of(operator: &[u8], left: u64, right: u64) -> u8
-    ensures { result ≡ (if says.compared operator.now (left % 2 ^ 32) (right % 2 ^ 32) then 0 else 1) }
+    ensures { result ≡ (if says.compared operator.now (left % 2 ^ 32) (right % 2 ^ 32) then 0 else
+        1) }
 {
     if compared(operator, left % 4_294_967_296, right % 4_294_967_296) {
         0

@@ -113,7 +113,8 @@ pub(crate) fn settings(
     words: &[&[u8]],
     of_calls: bool,
 ) -> Result<Option<Vec<Setting>>, AllocError>
-    ensures { IfOk result (λ s. option_map settings_shown s ≡ settings of_calls (map (λ w. w.now) words.now)) }
+    ensures { IfOk result (λ s. option_map settings_shown s
+        ≡ settings of_calls (map (λ w. w.now) words.now)) }
 {
     let mut list = Vec::new(alloc);
     for word in words {

@@ -31,7 +31,8 @@ impl Environments {
         alloc: Global,
         store: &S,
     ) -> Result<Rc<Vec<(Vec<u8>, Vec<u8>)>>, StoreError>
-        ensures { IfOk result (λ shared. pairs_shown shared.value.items ≡ entries (S.record_of store.now).present.environment) }
+        ensures { IfOk result (λ shared. pairs_shown shared.value.items
+            ≡ entries (S.record_of store.now).present.environment) }
     {
         let hash = hash_of_environment(store);
         if let Some(found) = self.find(store, hash)? {
@@ -50,7 +51,9 @@ impl Environments {
         store: &S,
         hash: u64,
     ) -> Result<Option<Rc<Vec<(Vec<u8>, Vec<u8>)>>>, StoreError>
-        ensures { IfOk result (λ found. MatchOption found ⊤ (λ shared. pairs_shown shared.value.items ≡ entries (S.record_of store.now).present.environment)) }
+        ensures { IfOk result (λ found. MatchOption found ⊤
+            (λ shared. pairs_shown shared.value.items
+            ≡ entries (S.record_of store.now).present.environment)) }
     {
         let Some(kept) = self.kept.get(&hash) else {
             return Ok(None);

@@ -49,7 +49,8 @@ impl Flow {
 
     /// The place of this way to end, if it has one.
     fn find(&self, halt: &Halt) -> Option<usize>
-        ensures { MatchOption result ⊤ (λ place. slice_get (nodes_shown self.now.nodes) place ≡ Some (Ends (halt_shown halt.now))) }
+        ensures { MatchOption result ⊤ (λ place. slice_get (nodes_shown self.now.nodes) place
+            ≡ Some (Ends (halt_shown halt.now))) }
     {
         for place in &self.ends {
             if let Some(Node::Ends(other)) = self.nodes.get(*place) {
@@ -63,9 +64,12 @@ impl Flow {
 
     /// The place of a way to end. Makes a node if it is new. Errors: `Memory`.
     pub(crate) fn end(&mut self, halt: &Halt) -> Result<usize, StoreError>
-        ensures place { IfOk result (λ place. slice_get (nodes_shown self.new.nodes) place ≡ Some (Ends (halt_shown halt.now))) }
-        ensures grows { OnOk result (HasMore (nodes_shown self.old.nodes) (nodes_shown self.new.nodes)) }
-        ensures last { IfOk result (λ place. self.old.nodes.items ≡ [] → place + 1 ≡ length self.new.nodes.items) }
+        ensures place { IfOk result (λ place. slice_get (nodes_shown self.new.nodes) place
+            ≡ Some (Ends (halt_shown halt.now))) }
+        ensures grows { OnOk result
+            (HasMore (nodes_shown self.old.nodes) (nodes_shown self.new.nodes)) }
+        ensures last { IfOk result (λ place. self.old.nodes.items ≡ [] → place + 1
+            ≡ length self.new.nodes.items) }
     {
         if let Some(place) = self.find(halt) {
             return Ok(place);
@@ -86,7 +90,8 @@ impl Flow {
         failure: usize,
     ) -> Result<usize, StoreError>
         ensures place { IfOk result (λ place. place ≡ length self.old.nodes.items) }
-        ensures nodes { OnOk result (nodes_shown self.new.nodes ≡ nodes_shown self.old.nodes ++ Asks (bytes_of_words words.items) success failure ∷ []) }
+        ensures nodes { OnOk result (nodes_shown self.new.nodes ≡ nodes_shown self.old.nodes
+            ++ Asks (bytes_of_words words.items) success failure ∷ []) }
     {
         let place = self.nodes.len();
         self.nodes.push(Node::Asks {
@@ -100,7 +105,8 @@ impl Flow {
     /// The nodes in the order of their lines: the last node made is the first, and numbers count
     /// from 1.
     pub(crate) fn into_lines(self, alloc: Global) -> Result<Vec<Node>, StoreError>
-        ensures { IfOk result (λ lines. nodes_shown lines ≡ reverse (map (renumbered (length self.nodes.items)) (nodes_shown self.nodes))) }
+        ensures { IfOk result (λ lines. nodes_shown lines
+            ≡ reverse (map (renumbered (length self.nodes.items)) (nodes_shown self.nodes))) }
     {
         let count = self.nodes.len();
         let mut left = self.nodes;
@@ -148,7 +154,8 @@ pub(crate) fn words_at<S: Store>(
     store: &S,
     place: u32,
 ) -> Result<Vec<Vec<u8>>, StoreError>
-    ensures { IfOk result (λ words. bytes_of_words words.items ≡ words_in (slice_get (S.record_of store.now).present.log place)) }
+    ensures { IfOk result (λ words. bytes_of_words words.items
+        ≡ words_in (slice_get (S.record_of store.now).present.log place)) }
 {
     match store.log().get(place as usize) {
         Some(command) => copy_words(alloc, &command.words),

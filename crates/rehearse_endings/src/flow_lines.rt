@@ -26,7 +26,8 @@ fn put_spaced(text: &mut Vec<u8>, words: &[Vec<u8>]) -> Result<(), StoreError>
 
 /// Adds words in word form, with a blank between them.
 fn put_words(text: &mut Vec<u8>, words: &[Vec<u8>]) -> Result<(), StoreError>
-    ensures { OnOk result (text.new.items ≡ text.old.items ++ join_with_byte ascii.space (map word_form (bytes_of_words words.now))) }
+    ensures { OnOk result (text.new.items ≡ text.old.items ++ join_with_byte ascii.space
+        (map word_form (bytes_of_words words.now))) }
 {
     match words.split_first() {
         None => Ok(()),

@@ -55,7 +55,8 @@ fn digits_of(alloc: Global, word: &[bool]) -> Result<Vec<u8>, StoreError>
 
 /// Adds the digits of a word, or a dot for the empty word.
 fn put_digits(alloc: Global, text: &mut Vec<u8>, word: &[bool]) -> Result<(), StoreError>
-    ensures { OnOk result (text.new.items ≡ text.old.items ++ spelled (reverse (map outcome_when word.now))) }
+    ensures { OnOk result (text.new.items ≡ text.old.items
+        ++ spelled (reverse (map outcome_when word.now))) }
 {
     if word.is_empty() {
         return put(text, b".");
@@ -135,7 +136,8 @@ fn total(rows: &Vec<Row>) -> u128
 
 /// The lines of all endings, and one for all runs.
 pub(crate) fn text_of(alloc: Global, rows: &Vec<Row>, states: u32) -> Result<Vec<u8>, StoreError>
-    ensures { IfOk result (λ text. text.items ≡ endings_text (rows_shown rows.now) (counted (rows_shown rows.now)) states) }
+    ensures { IfOk result (λ text. text.items ≡ endings_text (rows_shown rows.now)
+        (counted (rows_shown rows.now)) states) }
 {
     let mut text = Vec::new(alloc);
     for row in rows {

@@ -93,7 +93,8 @@ pub(crate) fn put_in_front(
     rows: Vec<Row>,
     success: bool,
 ) -> Result<Vec<Row>, StoreError>
-    ensures { IfOk result (λ made. rows_shown made ≡ map (in_front (outcome_when success)) (rows_shown rows)) }
+    ensures { IfOk result (λ made. rows_shown made ≡ map (in_front (outcome_when success))
+        (rows_shown rows)) }
 {
     let mut made = Vec::new(alloc);
     for row in rows {
@@ -132,7 +133,8 @@ pub(crate) fn failures(word: &[bool]) -> usize
 
 /// The word with fewer failures; if they have equally many, the first.
 fn fewer(alloc: Global, first: Vec<bool>, second: &Vec<bool>) -> Result<Vec<bool>, StoreError>
-    ensures { IfOk result (λ word. word_shown word ≡ fewer (word_shown first) (word_shown second.now)) }
+    ensures { IfOk result (λ word. word_shown word ≡ fewer (word_shown first)
+        (word_shown second.now)) }
 {
     if failures(&first) <= failures(second) {
         return Ok(first);
@@ -143,7 +145,8 @@ fn fewer(alloc: Global, first: Vec<bool>, second: &Vec<bool>) -> Result<Vec<bool
 
 /// The row of the runs of both rows, which end alike.
 fn join(alloc: Global, row: Row, further: &Row) -> Result<Row, StoreError>
-    ensures { IfOk result (λ made. row_shown made ≡ joined_up (row_shown row) (row_shown further.now)) }
+    ensures { IfOk result (λ made. row_shown made ≡ joined_up (row_shown row)
+        (row_shown further.now)) }
 {
     let fewest = fewer(alloc, row.fewest, &further.fewest)?;
     Ok(Row {
@@ -156,7 +159,8 @@ fn join(alloc: Global, row: Row, further: &Row) -> Result<Row, StoreError>
 
 /// Adds a row to rows: its runs join the row that ends alike, or the row comes after the others.
 fn put_row(alloc: Global, rows: Vec<Row>, row: Row) -> Result<Vec<Row>, StoreError>
-    ensures { IfOk result (λ made. rows_shown made ≡ with_row_up (rows_shown rows) (row_shown row)) }
+    ensures { IfOk result (λ made. rows_shown made ≡ with_row_up (rows_shown rows)
+        (row_shown row)) }
 {
     let mut made = Vec::new(alloc);
     let mut is_there = false;
@@ -181,7 +185,8 @@ pub(crate) fn merge_rows(
     rows: Vec<Row>,
     others: Vec<Row>,
 ) -> Result<Vec<Row>, StoreError>
-    ensures { IfOk result (λ made. rows_shown made ≡ merge_up (rows_shown rows) (rows_shown others)) }
+    ensures { IfOk result (λ made. rows_shown made ≡ merge_up (rows_shown rows)
+        (rows_shown others)) }
 {
     let mut made = rows;
     for row in others {

@@ -50,23 +50,40 @@ fn summed<S: Store>(
     depth: u32,
     stop: Stop,
 ) -> Result<Summary, SumError>
-    requires reached { IsReached (task_in rehearsal.now) depth stop (S.record_of store.old).present }
-    requires table { AreEntries (task_in rehearsal.now).limits (nodes_shown table.old.flow.nodes) table.old.entries.items }
+    requires reached { IsReached (task_in rehearsal.now) depth stop
+        (S.record_of store.old).present }
+    requires table { AreEntries (task_in rehearsal.now).limits (nodes_shown table.old.flow.nodes)
+        table.old.entries.items }
     requires within { (S.record_of store.old).present.steps ≤ most_steps }
     requires bound { (task_in rehearsal.now).limits.device_bound < 2 ^ 32 }
     requires begun { (S.record_of store.old).begun ≤ (2 * table.old.visited + 1) * most_steps }
     requires room { table.old.visited ≤ table.old.most }
-    ensures sums { IfOk result (λ s. Summed (future (task_in rehearsal.now).limits stop (S.record_of store.old).present) (summary_shown s)) }
-    ensures draws { IfOk result (λ s. Draws (nodes_shown table.new.flow.nodes) s.place (seen_from (task_in rehearsal.now).limits stop (S.record_of store.old).present)) }
-    ensures grows { OnOk result (HasMore (nodes_shown table.old.flow.nodes) (nodes_shown table.new.flow.nodes)) }
-    ensures last { IfOk result (λ s. table.old.entries.items ≡ [] → table.old.flow.nodes.items ≡ [] → s.place + 1 ≡ length table.new.flow.nodes.items) }
+    ensures sums { IfOk result
+        (λ s. Summed (future (task_in rehearsal.now).limits stop (S.record_of store.old).present)
+        (summary_shown s)) }
+    ensures draws { IfOk result
+        (λ s. Draws (nodes_shown table.new.flow.nodes) s.place
+        (seen_from (task_in rehearsal.now).limits stop (S.record_of store.old).present)) }
+    ensures grows { OnOk result
+        (HasMore (nodes_shown table.old.flow.nodes) (nodes_shown table.new.flow.nodes)) }
+    ensures last { IfOk result (λ s. table.old.entries.items ≡ [] → table.old.flow.nodes.items ≡ []
+        → s.place + 1 ≡ length table.new.flow.nodes.items) }
     ensures marks { OnOk result ((S.record_of store.new).marked ≡ (S.record_of store.old).marked) }
-    ensures table { OnOk result (AreEntries (task_in rehearsal.now).limits (nodes_shown table.new.flow.nodes) table.new.entries.items) }
-    ensures begun { OnOk result ((S.record_of store.new).begun + 2 * table.old.visited * most_steps ≤ (S.record_of store.old).begun + 2 * table.new.visited * most_steps) }
+    ensures table { OnOk result
+        (AreEntries (task_in rehearsal.now).limits (nodes_shown table.new.flow.nodes)
+        table.new.entries.items) }
+    ensures begun { OnOk result ((S.record_of store.new).begun + 2 * table.old.visited * most_steps
+        ≤ (S.record_of store.old).begun + 2 * table.new.visited * most_steps) }
     ensures room { OnOk result (table.new.visited ≤ table.new.most) }
     ensures most { OnOk result (table.new.most ≡ table.old.most) }
-    ensures entered { (p : OutcomeWord) (kept pending : List Asked) → StoppedAt (task_in rehearsal.now) p stop (S.record_of store.old).present → IsNewAt p kept pending → Entered (task_in rehearsal.now) kept pending table.old → OnOk result (HasEntered (task_in rehearsal.now) p kept pending table.new) }
-    ensures refused { (p : OutcomeWord) (kept pending : List Asked) → StoppedAt (task_in rehearsal.now) p stop (S.record_of store.old).present → IsNewAt p kept pending → Entered (task_in rehearsal.now) kept pending table.old → IfErr result (λ e. e ≡ States → HasStates (task_in rehearsal.now) (table.old.most + 1)) }
+    ensures entered { (p : OutcomeWord) (kept pending : List Asked)
+        → StoppedAt (task_in rehearsal.now) p stop (S.record_of store.old).present
+        → IsNewAt p kept pending → Entered (task_in rehearsal.now) kept pending table.old
+        → OnOk result (HasEntered (task_in rehearsal.now) p kept pending table.new) }
+    ensures refused { (p : OutcomeWord) (kept pending : List Asked)
+        → StoppedAt (task_in rehearsal.now) p stop (S.record_of store.old).present
+        → IsNewAt p kept pending → Entered (task_in rehearsal.now) kept pending table.old
+        → IfErr result (λ e. e ≡ States → HasStates (task_in rehearsal.now) (table.old.most + 1)) }
 {
     let devices = logged(store);
     match stop {
@@ -116,12 +133,15 @@ pub fn sum_endings<S: Store>(
 ) -> Result<Endings, SumError>
     requires begun { (S.record_of store.old).begun ≡ 0 }
     requires bound { (task_in rehearsal.now).limits.device_bound < 2 ^ 32 }
-    ensures rows { IfOk result (λ e. rows_shown e.rows ≡ map saturated (endings (task_in rehearsal.now))) }
+    ensures rows { IfOk result
+        (λ e. rows_shown e.rows ≡ map saturated (endings (task_in rehearsal.now))) }
     ensures flow { IfOk result (λ e. IsFlow (task_in rehearsal.now) (nodes_shown e.nodes)) }
     ensures states { IfOk result (λ e. e.states ≤ most_states) }
     ensures met { IfOk result (λ e. HasStates (task_in rehearsal.now) e.states) }
-    ensures refused { IfErr result (λ e. e ≡ States → HasStates (task_in rehearsal.now) (most_states + 1)) }
-    ensures once { IfOk result (λ e. (S.record_of store.new).begun ≤ (2 * e.states + 1) * most_steps) }
+    ensures refused { IfErr result
+        (λ e. e ≡ States → HasStates (task_in rehearsal.now) (most_states + 1)) }
+    ensures once { IfOk result
+        (λ e. (S.record_of store.new).begun ≤ (2 * e.states + 1) * most_steps) }
 {
     let stop = begin(rehearsal, store)?;
     let mut table = Table::new(rehearsal.alloc, most_states);

@@ -30,7 +30,8 @@ pub(crate) fn of_end(
     halt: Halt,
     place: usize,
 ) -> Result<Summary, StoreError>
-    ensures sums { IfOk result (λ s. summary_shown s ≡ summary_at_end (halt_shown halt) steps devices) }
+    ensures sums { IfOk result
+        (λ s. summary_shown s ≡ summary_at_end (halt_shown halt) steps devices) }
     ensures place { IfOk result (λ s. s.place ≡ place) }
 {
     let cut_steps = matches!(halt, Halt::CutSteps);
@@ -55,7 +56,9 @@ pub(crate) fn of_sides(
     lost: Summary,
     place: usize,
 ) -> Result<Summary, StoreError>
-    ensures sums { IfOk result (λ s. summary_shown s ≡ summary_of_sides of_both_up steps devices (summary_shown won) (summary_shown lost)) }
+    ensures sums { IfOk result
+        (λ s. summary_shown s ≡ summary_of_sides of_both_up steps devices (summary_shown won)
+        (summary_shown lost)) }
     ensures place { IfOk result (λ s. s.place ≡ place) }
 {
     let front = put_in_front(alloc, won.rows, true)?;

@@ -69,7 +69,8 @@ impl Table {
     /// Enters the present state of a store, and returns its core. Errors: `States` if as many
     /// states were entered as allowed, `Memory`.
     pub(crate) fn enter<S: Store>(&mut self, alloc: Global, store: &S) -> Result<Core, SumError>
-        ensures core { IfOk result (λ core. core_shown core ≡ core_of (S.record_of store.now).present) }
+        ensures core { IfOk result
+            (λ core. core_shown core ≡ core_of (S.record_of store.now).present) }
         ensures entries { self.new.entries.items ≡ self.old.entries.items }
         ensures flow { self.new.flow ≡ self.old.flow }
         ensures most { self.new.most ≡ self.old.most }
@@ -97,10 +98,18 @@ impl Table {
     ) -> Result<Option<Summary>, StoreError>
         requires asks { IsAsking (limits_of devices.now bounds) (S.record_of store.now).present }
         requires depth { length (S.record_of store.now).present.log ≡ depth }
-        requires table { AreEntries (limits_of devices.now bounds) (nodes_shown self.now.flow.nodes) self.now.entries.items }
-        ensures sums { IfOk result (λ found. MatchOption found ⊤ (λ s. Summed (asked_at (limits_of devices.now bounds) (S.record_of store.now).present) (summary_shown s))) }
-        ensures draws { IfOk result (λ found. MatchOption found ⊤ (λ s. Draws (nodes_shown self.now.flow.nodes) s.place (seen_at (limits_of devices.now bounds) (S.record_of store.now).present))) }
-        ensures some { IfOk result (λ found. MatchOption found ⊤ (λ s. self.now.entries.items ≢ [])) }
+        requires table { AreEntries (limits_of devices.now bounds) (nodes_shown self.now.flow.nodes)
+            self.now.entries.items }
+        ensures sums { IfOk result
+            (λ found. MatchOption found ⊤
+            (λ s. Summed (asked_at (limits_of devices.now bounds) (S.record_of store.now).present)
+            (summary_shown s))) }
+        ensures draws { IfOk result
+            (λ found. MatchOption found ⊤
+            (λ s. Draws (nodes_shown self.now.flow.nodes) s.place
+            (seen_at (limits_of devices.now bounds) (S.record_of store.now).present))) }
+        ensures some { IfOk result
+            (λ found. MatchOption found ⊤ (λ s. self.now.entries.items ≢ [])) }
     {
         let _devices = devices;
         let Some(places) = self.places.get(&hash) else {
@@ -129,7 +138,9 @@ impl Table {
         summary: &Summary,
     ) -> Result<(), SumError>
         ensures err { IfErr result (λ e. e ≡ Memory) }
-        ensures kept { OnOk result (IsKept self.old.entries.items self.new.entries.items (core_shown core) steps devices summary.now.place (summary_shown summary.now)) }
+        ensures kept { OnOk result
+            (IsKept self.old.entries.items self.new.entries.items (core_shown core) steps devices
+            summary.now.place (summary_shown summary.now)) }
         ensures flow { self.new.flow ≡ self.old.flow }
         ensures visited { self.new.visited ≡ self.old.visited }
         ensures most { self.new.most ≡ self.old.most }
@@ -198,9 +209,12 @@ fn has_room(cut: bool, here: u32, there: u32, reach: u64, bound: u32) -> bool
 /// Whether an entry is of the present state, apart from text, log and steps, and its runs have room
 /// here.
 fn fits<S: Store>(store: &S, bounds: RunBounds, entry: &Entry, depth: u32) -> bool
-    ensures core { IsTrue result → core_shown entry.now.core ≡ core_of (S.record_of store.now).present }
-    ensures steps { IsTrue result → FitsIf entry.now.summary.cut_steps entry.now.steps (S.record_of store.now).present.steps entry.now.summary.steps bounds.steps }
-    ensures devices { IsTrue result → FitsIf entry.now.summary.cut_devices entry.now.devices depth entry.now.summary.devices bounds.devices }
+    ensures core { IsTrue result → core_shown entry.now.core
+        ≡ core_of (S.record_of store.now).present }
+    ensures steps { IsTrue result → FitsIf entry.now.summary.cut_steps entry.now.steps
+        (S.record_of store.now).present.steps entry.now.summary.steps bounds.steps }
+    ensures devices { IsTrue result → FitsIf entry.now.summary.cut_devices entry.now.devices depth
+        entry.now.summary.devices bounds.devices }
 {
     has_room(
         entry.summary.cut_steps,
@@ -224,8 +238,12 @@ fn moved(
     steps: u32,
     devices: u32,
 ) -> Result<Option<Summary>, StoreError>
-    ensures sums { IfOk result (λ found. MatchOption found ⊤ (λ s. summary_shown s ≡ moved_by entry.now.steps steps entry.now.devices devices (summary_shown entry.now.summary))) }
-    ensures place { IfOk result (λ found. MatchOption found ⊤ (λ s. s.place ≡ entry.now.summary.place)) }
+    ensures sums { IfOk result
+        (λ found. MatchOption found ⊤
+        (λ s. summary_shown s ≡ moved_by entry.now.steps steps entry.now.devices devices
+        (summary_shown entry.now.summary))) }
+    ensures place { IfOk result
+        (λ found. MatchOption found ⊤ (λ s. s.place ≡ entry.now.summary.place)) }
 {
     let further = entry.summary.steps.saturating_sub(u64::from(entry.steps));
     let more = entry

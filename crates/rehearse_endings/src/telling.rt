@@ -36,8 +36,10 @@ fn lines_of<S: Store>(
     most_states: u32,
     flow: bool,
 ) -> Result<Vec<u8>, SumError>
-    ensures ok { IfOk result (λ text. AreLines flow most_states (Some (task_in rehearsal.now)) text.items) }
-    ensures err { IfErr result (λ e. e ≡ States → HasStates (task_in rehearsal.now) (most_states + 1)) }
+    ensures ok { IfOk result (λ text. AreLines flow most_states (Some (task_in rehearsal.now))
+        text.items) }
+    ensures err { IfErr result
+        (λ e. e ≡ States → HasStates (task_in rehearsal.now) (most_states + 1)) }
 {
     let _bound = rehearsal.bounds.devices();
     let mut store = S::new(rehearsal.alloc);
@@ -57,8 +59,11 @@ fn lines_in<S: Store>(
     devices: &Devices,
     ask: &EndingsAsk<'_>,
 ) -> Result<Vec<u8>, RehearseError>
-    ensures ok { IfOk result (λ text. AreLines ask.now.flow ask.now.states (task_set env.now devices.now ask.now.name.now ask.now.bounds) text.items) }
-    ensures err { IfErr result (λ e. IsUntold ask.now.states (task_set env.now devices.now ask.now.name.now ask.now.bounds) e) }
+    ensures ok { IfOk result (λ text. AreLines ask.now.flow ask.now.states
+        (task_set env.now devices.now ask.now.name.now ask.now.bounds) text.items) }
+    ensures err { IfErr result
+        (λ e. IsUntold ask.now.states (task_set env.now devices.now ask.now.name.now ask.now.bounds)
+        e) }
 {
     let Some(rehearsal) = Rehearsal::of(alloc, env, devices, ask.name, ask.bounds) else {
         return Err(RehearseError::NoSuchVariable);
@@ -81,8 +86,10 @@ pub fn endings_env<S: Store, O: Out>(
     ask: &EndingsAsk<'_>,
     out: &mut O,
 ) -> Result<(), RehearseError>
-    ensures ok { IfOk result (λ _. TellsEndings env.now devices_text.now ask.now (O.sink out.old) (O.sink out.new)) }
-    ensures err { IfErr result (λ e. RefusesEndings env.now devices_text.now ask.now (O.sink out.old) (O.sink out.new) e) }
+    ensures ok { IfOk result (λ _. TellsEndings env.now devices_text.now ask.now (O.sink out.old)
+        (O.sink out.new)) }
+    ensures err { IfErr result
+        (λ e. RefusesEndings env.now devices_text.now ask.now (O.sink out.old) (O.sink out.new) e) }
 {
     let devices = match Devices::parse(alloc, devices_text) {
         Ok(devices) => devices,

@@ -17,7 +17,8 @@ use std::alloc::Global;
 
 /// The words of the simple command before the place of a frame.
 fn words_in_front(frame: &Frame) -> Option<&[Word]>
-    ensures { option_map (λ words. map view.word words.now) result ≡ asking.words_in_front frame.now }
+    ensures { option_map (λ words. map view.word words.now) result
+        ≡ asking.words_in_front frame.now }
 {
     let at = frame.at();
     if at.command == 0 {
@@ -47,7 +48,8 @@ fn find_behind<'d, S: Store>(
 ) -> Result<Step<'d>, StoreError>
     requires { IsTop frame.now (S.record_of store.old).present }
     ensures { Comes result (S.record_of store.old) (S.record_of store.new)
-        (asking.fields_again (limits_of devices.now bounds) (asking.words_in_front frame.now) frame.now (under (S.record_of store.old).present)) }
+        (asking.fields_again (limits_of devices.now bounds) (asking.words_in_front frame.now)
+        frame.now (under (S.record_of store.old).present)) }
 {
     let Some(words) = words_in_front(frame) else {
         return Ok(Step::Ends(Halt::End(store.get_status())));
@@ -74,7 +76,8 @@ pub(crate) fn find_again<'d, S: Store>(
     devices: &'d Devices,
     bounds: RunBounds,
 ) -> Result<Step<'d>, StoreError>
-    ensures { Comes result (S.record_of store.old) (S.record_of store.new) (asking.found_again (limits_of devices.now bounds) (S.record_of store.old).present.frames) }
+    ensures { Comes result (S.record_of store.old) (S.record_of store.new)
+        (asking.found_again (limits_of devices.now bounds) (S.record_of store.old).present.frames) }
 {
     let Some(top) = store.top() else {
         return Ok(Step::Ends(Halt::End(store.get_status())));

@@ -26,8 +26,10 @@ pub(crate) fn begin_assign<'d, S: Store>(
     requires top { IsTop frame.now (S.record_of store.old).present }
     requires command { frame.now.place.command + 1 < 2 ^ 64 }
     requires begun { (S.record_of store.old).begun + 1 < 2 ^ 64 }
-    ensures { (devices : ListedDevices) → Comes result (S.record_of store.old) (S.record_of store.new)
-        (places.place_command (limits_of devices bounds) (tree.Assign (map view.value values.now)) frame.now (under (S.record_of store.old).present)) }
+    ensures { (devices : ListedDevices) → Comes result (S.record_of store.old)
+        (S.record_of store.new)
+        (places.place_command (limits_of devices bounds) (tree.Assign (map view.value values.now))
+        frame.now (under (S.record_of store.old).present)) }
 {
     let counted = count(store, bounds)?;
     if !counted {
@@ -47,7 +49,8 @@ fn assign<'d, S: Store>(
     requires top { IsTop frame.now (S.record_of store.old).present }
     requires command { frame.now.place.command + 1 < 2 ^ 64 }
     ensures { Comes result (S.record_of store.old) (S.record_of store.new)
-        (places.place_assign (map view.value values.now) (places.behind frame.now ∷ under (S.record_of store.old).present)) }
+        (places.place_assign (map view.value values.now)
+        (places.behind frame.now ∷ under (S.record_of store.old).present)) }
 {
     for value in values {
         let Some(found) = expanded_one(alloc, store, &value.1)? else {

@@ -22,7 +22,8 @@ pub(crate) fn begin_arms<'d, S: Store>(
     requires top { IsTop frame.now (S.record_of store.old).present }
     requires command { frame.now.place.command + 1 < 2 ^ 64 }
     ensures { Comes result (S.record_of store.old) (S.record_of store.new)
-        (place_arms (drop_arms arm (view.arms (map view.arm arms.now) (view.script_in other.now))) arm frame.now (under (S.record_of store.old).present)) }
+        (place_arms (drop_arms arm (view.arms (map view.arm arms.now) (view.script_in other.now)))
+        arm frame.now (under (S.record_of store.old).present)) }
 {
     let at = frame.at();
     if let Some((cond, _)) = arms.get(arm) {
@@ -46,7 +47,9 @@ pub(crate) fn end_condition<'d, S: Store>(
     requires top { IsTop frame.now (S.record_of store.old).present }
     requires command { frame.now.place.command + 1 < 2 ^ 64 }
     ensures { Comes result (S.record_of store.old) (S.record_of store.new)
-        (condition_ends (drop_arms arm (view.arms (map view.arm arms.now) (view.script_in other.now))) arm frame.now (under (S.record_of store.old).present)) }
+        (condition_ends (drop_arms arm
+        (view.arms (map view.arm arms.now) (view.script_in other.now))) arm frame.now
+        (under (S.record_of store.old).present)) }
 {
     match arms.get(arm) {
         Some((_, body)) if store.get_status() == 0 => {
@@ -66,7 +69,8 @@ pub(crate) fn begin_loop<'d, S: Store>(
 ) -> Result<Step<'d>, StoreError>
     requires { IsTop frame.now (S.record_of store.old).present }
     ensures { Comes result (S.record_of store.old) (S.record_of store.new)
-        (GoOn (block_frame (view.script cond.now.value) ∷ in_turn 1 last frame.now ∷ under (S.record_of store.old).present)) }
+        (GoOn (block_frame (view.script cond.now.value) ∷ in_turn 1 last frame.now
+        ∷ under (S.record_of store.old).present)) }
 {
     enter(
         store,
@@ -87,7 +91,8 @@ pub(crate) fn end_loop_condition<'d, S: Store>(
     requires top { IsTop frame.now (S.record_of store.old).present }
     requires command { frame.now.place.command + 1 < 2 ^ 64 }
     ensures { Comes result (S.record_of store.old) (S.record_of store.new)
-        (loop_ends until (view.script body.now.value) frame.now (under (S.record_of store.old).present)) }
+        (loop_ends until (view.script body.now.value) frame.now
+        (under (S.record_of store.old).present)) }
 {
     let at = frame.at();
     if (store.get_status() == 0) == until {

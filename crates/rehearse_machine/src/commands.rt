@@ -22,7 +22,8 @@ pub(crate) enum Called<'a> {
 
 /// What a name and its words call if nothing is computed: a built-in command, else a call of one of the device list.
 pub(crate) fn called_by_name<'a>(devices: &'a Devices, name: &[u8], words: &[Vec<u8>]) -> Called<'a>
-    ensures { called_shown result ≡ says.called_by_name devices.now name.now (bytes_of_words words.now) }
+    ensures { called_shown result ≡ says.called_by_name devices.now name.now
+        (bytes_of_words words.now) }
 {
     if let Some(builtin) = builtin_of(name) {
         return Called::BuiltIn(builtin);
@@ -65,7 +66,8 @@ pub(crate) fn setenv<S: Store>(
     store: &mut S,
     words: &[Vec<u8>],
 ) -> Result<(), StoreError>
-    ensures { Changed result (S.record_of store.old) (S.record_of store.new) (says.variables_changed says.setenv (bytes_of_words words.now)) }
+    ensures { Changed result (S.record_of store.old) (S.record_of store.new)
+        (says.variables_changed says.setenv (bytes_of_words words.now)) }
 {
     let [name, values @ ..] = words else {
         return store.set_status(1);
@@ -144,7 +146,8 @@ pub(crate) fn echo<S: Store>(
     store: &mut S,
     words: &[Vec<u8>],
 ) -> Result<(), StoreError>
-    ensures { Changed result (S.record_of store.old) (S.record_of store.new) (says.text_written says.echo (bytes_of_words words.now)) }
+    ensures { Changed result (S.record_of store.old) (S.record_of store.new)
+        (says.text_written says.echo (bytes_of_words words.now)) }
 {
     let mut shown = words;
     let mut ends_line = true;

@@ -16,7 +16,8 @@ use std::alloc::{AllocError, Global};
 
 /// Whether an environment variable is set.
 fn is_set<S: Store>(store: &S, name: &[u8]) -> bool
-    ensures { result ≡ is_some (get (entries (S.record_of store.now).present.environment) name.now) }
+    ensures { result ≡ is_some
+        (get (entries (S.record_of store.now).present.environment) name.now) }
 {
     match store.get_env(name) {
         Some(_) => true,
@@ -71,7 +72,8 @@ fn set_number<S: Store>(
     number: u64,
 ) -> Result<(), StoreError>
     ensures { Changed result (S.record_of store.old) (S.record_of store.new)
-        (says.changed_by (λ variables. (with_value variables name.now (digits 16 false number), 0))) }
+        (says.changed_by (λ variables.
+        (with_value variables name.now (digits 16 false number), 0))) }
 {
     let value = hexadecimal(alloc, number)?;
     store.set_env(name, Some(value.as_bytes()))?;

@@ -65,7 +65,8 @@ pub(crate) fn enter<'d, S: Store>(
     child: Frame,
 ) -> Result<Step<'d>, StoreError>
     requires { IsTop frame.now (S.record_of store.old).present }
-    ensures { Comes result (S.record_of store.old) (S.record_of store.new) (GoOn (child ∷ moved_to at frame.now ∷ under (S.record_of store.old).present)) }
+    ensures { Comes result (S.record_of store.old) (S.record_of store.new)
+        (GoOn (child ∷ moved_to at frame.now ∷ under (S.record_of store.old).present)) }
 {
     store.advance(at)?;
     store.push(child)?;
@@ -79,7 +80,8 @@ pub(crate) fn go_on<'d, S: Store>(
     at: At,
 ) -> Result<Step<'d>, StoreError>
     requires { IsTop frame.now (S.record_of store.old).present }
-    ensures { Comes result (S.record_of store.old) (S.record_of store.new) (GoOn (moved_to at frame.now ∷ under (S.record_of store.old).present)) }
+    ensures { Comes result (S.record_of store.old) (S.record_of store.new)
+        (GoOn (moved_to at frame.now ∷ under (S.record_of store.old).present)) }
 {
     store.advance(at)?;
     Ok(Step::Going)
@@ -93,7 +95,9 @@ pub(crate) fn finish<'d, S: Store>(
     status: u8,
 ) -> Result<Step<'d>, StoreError>
     requires { IsTop frame.now (S.record_of store.old).present }
-    ensures { Comes result (S.record_of store.old) (S.record_of store.new) (λ s. GoOn (moved_to at frame.now ∷ under (S.record_of store.old).present) (set_status status s)) }
+    ensures { Comes result (S.record_of store.old) (S.record_of store.new)
+        (λ s. GoOn (moved_to at frame.now ∷ under (S.record_of store.old).present)
+        (set_status status s)) }
 {
     store.advance(at)?;
     store.set_status(status)?;
@@ -102,7 +106,8 @@ pub(crate) fn finish<'d, S: Store>(
 
 /// Removes the innermost frame, which is done.
 pub(crate) fn leave<'d, S: Store>(store: &mut S) -> Result<Step<'d>, StoreError>
-    ensures { Comes result (S.record_of store.old) (S.record_of store.new) (GoOn (under (S.record_of store.old).present)) }
+    ensures { Comes result (S.record_of store.old) (S.record_of store.new)
+        (GoOn (under (S.record_of store.old).present)) }
 {
     store.pop()?;
     Ok(Step::Going)

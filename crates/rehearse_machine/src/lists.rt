@@ -38,7 +38,8 @@ pub fn begin_in_list<'d, S: Store>(
     requires list { frame.now.place.list + 1 < 2 ^ 64 }
     requires begun { (S.record_of store.old).begun + 1 < 2 ^ 64 }
     ensures { Comes result (S.record_of store.old) (S.record_of store.new)
-        (place_begins (limits_of devices.now bounds) (view.list list.now) frame.now.place.command frame.now (under (S.record_of store.old).present)) }
+        (place_begins (limits_of devices.now bounds) (view.list list.now) frame.now.place.command
+        frame.now (under (S.record_of store.old).present)) }
 {
     let at = frame.at();
     if at.command == 0 {

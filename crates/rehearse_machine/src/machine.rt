@@ -21,7 +21,8 @@ pub(crate) fn step<'d, S: Store>(
     bounds: RunBounds,
 ) -> Result<Step<'d>, StoreError>
     requires { (S.record_of store.old).begun + 1 < 2 ^ 64 }
-    ensures { Comes result (S.record_of store.old) (S.record_of store.new) (place_move (limits_of devices.now bounds) (S.record_of store.old).present.frames) }
+    ensures { Comes result (S.record_of store.old) (S.record_of store.new)
+        (place_move (limits_of devices.now bounds) (S.record_of store.old).present.frames) }
 {
     let Some(top) = store.top() else {
         return Ok(Step::Ends(Halt::End(store.get_status())));
@@ -45,7 +46,8 @@ pub(crate) fn turn<'d, S: Store>(
 ) -> Result<Step<'d>, StoreError>
     requires sound { IsSound (S.record_of store.old).present }
     requires begun { (S.record_of store.old).begun + 1 < 2 ^ 64 }
-    ensures { IfOk result (λ step. Turns (limits_of devices.now bounds) step (S.record_of store.old) (S.record_of store.new)) }
+    ensures { IfOk result (λ step. Turns (limits_of devices.now bounds) step (S.record_of store.old)
+        (S.record_of store.new)) }
 {
     let before = store.steps();
     'moves: loop {
@@ -72,7 +74,8 @@ pub(crate) fn drive<'d, S: Store>(
     requires sound { IsSound (S.record_of store.old).present }
     requires steps { (S.record_of store.old).present.steps ≤ bounds.steps }
     requires begun { (S.record_of store.old).begun + bounds.steps + 1 < 2 ^ 64 }
-    ensures { IfOk result (λ step. Drives (limits_of devices.now bounds) step (S.record_of store.old) (S.record_of store.new)) }
+    ensures { IfOk result (λ step. Drives (limits_of devices.now bounds) step
+        (S.record_of store.old) (S.record_of store.new)) }
 {
     'turns: loop {
         match turn(alloc, store, fields, devices, bounds)? {

@@ -20,7 +20,8 @@ pub fn next_turn<'d, S: Store>(
 ) -> Result<Step<'d>, StoreError>
     requires { IsTop frame.now (S.record_of store.old).present }
     ensures { Comes result (S.record_of store.old) (S.record_of store.new)
-        (for_turn (slice_get frame.now.words frame.now.place.turn) name.now (view.script body.now.value) frame.now (under (S.record_of store.old).present)) }
+        (for_turn (slice_get frame.now.words frame.now.place.turn) name.now
+        (view.script body.now.value) frame.now (under (S.record_of store.old).present)) }
 {
     let at = frame.at();
     let Some(field) = frame.words().get(at.turn) else {

@@ -25,7 +25,8 @@ pub(crate) fn answer<'d, S: Store>(
     ask: Ask<'d>,
     success: bool,
 ) -> Result<Step<'d>, StoreError>
-    ensures { (outcome : Outcome) → succeeds outcome ≡ success → Comes result (S.record_of store.old) (S.record_of store.new)
+    ensures { (outcome : Outcome) → succeeds outcome ≡ success
+        → Comes result (S.record_of store.old) (S.record_of store.new)
         (place_answered outcome (request_shown ask.entry) (S.record_of store.old).present.frames) }
 {
     let Ask {
@@ -98,7 +99,11 @@ fn sets_on(success: bool, effect: Effect<'_>) -> &[Setting]
 
 /// Sets what a call with these words sets, one setting after another.
 fn set_all<S: Store>(store: &mut S, words: &[Vec<u8>], sets: &[Setting]) -> Result<(), StoreError>
-    ensures { Changed result (S.record_of store.old) (S.record_of store.new) (λ m. record m { environment = with_all (sets_in (bytes_of_words words.now) (map setting_shown sets.now)) m.environment }) }
+    ensures { Changed result (S.record_of store.old) (S.record_of store.new)
+        (λ m. record m {
+          environment = with_all
+              (sets_in (bytes_of_words words.now) (map setting_shown sets.now)) m.environment;
+        }) }
 {
     for set in sets {
         set_one(store, words, set)?;
@@ -108,7 +113,11 @@ fn set_all<S: Store>(store: &mut S, words: &[Vec<u8>], sets: &[Setting]) -> Resu
 
 /// Makes one setting in a call with these words.
 fn set_one<S: Store>(store: &mut S, words: &[Vec<u8>], set: &Setting) -> Result<(), StoreError>
-    ensures { Changed result (S.record_of store.old) (S.record_of store.new) (λ m. record m { environment = with_all (sets_in (bytes_of_words words.now) (setting_shown set.now ∷ [])) m.environment }) }
+    ensures { Changed result (S.record_of store.old) (S.record_of store.new)
+        (λ m. record m {
+          environment = with_all
+              (sets_in (bytes_of_words words.now) (setting_shown set.now ∷ [])) m.environment;
+        }) }
 {
     let Some(name) = variable_of(&set.left, words) else {
         return Ok(());
@@ -119,7 +128,8 @@ fn set_one<S: Store>(store: &mut S, words: &[Vec<u8>], set: &Setting) -> Result<
 
 /// The variable that the left side of a setting means in a call with these words.
 fn variable_of<'a>(left: &'a LeftSide, words: &'a [Vec<u8>]) -> Option<&'a [u8]>
-    ensures { option_map (λ n. n.now) result ≡ variable_of (left_shown left.now) (bytes_of_words words.now) }
+    ensures { option_map (λ n. n.now) result ≡ variable_of (left_shown left.now)
+        (bytes_of_words words.now) }
 {
     match left {
         LeftSide::Variable(name) => Some(name),

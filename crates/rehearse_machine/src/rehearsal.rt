@@ -61,7 +61,8 @@ impl<'a> Rehearsal<'a> {
         bounds: RunBounds,
     ) -> Option<Self>
         ensures set { option_map task_in result ≡ task_set env.now devices.now name.now bounds }
-        ensures shown { IfSome result (λ r. task_in r ≡ task_shown env.now devices.now name.now bounds) }
+        ensures shown { IfSome result
+            (λ r. task_in r ≡ task_shown env.now devices.now name.now bounds) }
         ensures there { IfSome result (λ _. IsSome (value_of env.now name.now)) }
         ensures unset { result ≡ None → value_of env.now name.now ≡ None }
     {
@@ -83,10 +84,15 @@ fn go_on<S: Store>(rehearsal: &Rehearsal<'_>, store: &mut S) -> Result<Stop, Sto
     requires sound { IsSound (S.record_of store.old).present }
     requires steps { (S.record_of store.old).present.steps ≤ rehearsal.now.bounds.steps }
     requires begun { (S.record_of store.old).begun + rehearsal.now.bounds.steps + 1 < 2 ^ 64 }
-    ensures stops { IfOk result (λ stop. Stops (limits_of rehearsal.now.devices.now rehearsal.now.bounds) stop (to_come (limits_of rehearsal.now.devices.now rehearsal.now.bounds) (S.record_of store.old).present) (S.record_of store.new).present) }
+    ensures stops { IfOk result
+        (λ stop. Stops (limits_of rehearsal.now.devices.now rehearsal.now.bounds) stop
+        (to_come (limits_of rehearsal.now.devices.now rehearsal.now.bounds)
+        (S.record_of store.old).present) (S.record_of store.new).present) }
     ensures kept { OnOk result (Keeps (S.record_of store.old) (S.record_of store.new)) }
-    ensures within { OnOk result ((S.record_of store.new).present.steps ≤ rehearsal.now.bounds.steps) }
-    ensures grows { OnOk result ((S.record_of store.old).present.steps ≤ (S.record_of store.new).present.steps) }
+    ensures within { OnOk result
+        ((S.record_of store.new).present.steps ≤ rehearsal.now.bounds.steps) }
+    ensures grows { OnOk result
+        ((S.record_of store.old).present.steps ≤ (S.record_of store.new).present.steps) }
 {
     let mut fields = Fields::new(rehearsal.alloc);
     match drive(
@@ -116,9 +122,13 @@ fn text_of<'s, S: Store>(store: &'s S, name: &[u8]) -> &'s [u8]
 /// variable that is not set is run as the empty text. Errors: `Memory`.
 pub fn begin<S: Store>(rehearsal: &Rehearsal<'_>, store: &mut S) -> Result<Stop, StoreError>
     requires { (S.record_of store.old).begun + most_steps + 1 < 2 ^ 64 }
-    ensures stops { IfOk result (λ stop. Stops (task_in rehearsal.now).limits stop (λ w. settled (run_on (task_in rehearsal.now) w)) (S.record_of store.new).present) }
+    ensures stops { IfOk result
+        (λ stop. Stops (task_in rehearsal.now).limits stop
+        (λ w. settled (run_on (task_in rehearsal.now) w)) (S.record_of store.new).present) }
     ensures marks { OnOk result ((S.record_of store.new).marked ≡ []) }
-    ensures begun { OnOk result ((S.record_of store.new).begun ≡ (S.record_of store.old).begun + (S.record_of store.new).present.steps) }
+    ensures begun { OnOk result
+        ((S.record_of store.new).begun ≡ (S.record_of store.old).begun +
+        (S.record_of store.new).present.steps) }
     ensures within { OnOk result ((S.record_of store.new).present.steps ≤ most_steps) }
 {
     let _bound = rehearsal.bounds.steps();
@@ -141,11 +151,17 @@ pub fn resume<S: Store>(
 ) -> Result<Stop, StoreError>
     requires asks { IsAsking (task_in rehearsal.now).limits (S.record_of store.old).present }
     requires begun { (S.record_of store.old).begun + most_steps + 1 < 2 ^ 64 }
-    ensures stops { IfOk result (λ stop. Stops (task_in rehearsal.now).limits stop (λ w. asked_at (task_in rehearsal.now).limits (S.record_of store.old).present (outcome_when success ∷ w)) (S.record_of store.new).present) }
+    ensures stops { IfOk result
+        (λ stop. Stops (task_in rehearsal.now).limits stop
+        (λ w. asked_at (task_in rehearsal.now).limits (S.record_of store.old).present
+        (outcome_when success ∷ w)) (S.record_of store.new).present) }
     ensures marks { OnOk result ((S.record_of store.new).marked ≡ (S.record_of store.old).marked) }
-    ensures begun { OnOk result ((S.record_of store.new).begun + (S.record_of store.old).present.steps ≡ (S.record_of store.old).begun + (S.record_of store.new).present.steps) }
+    ensures begun { OnOk result
+        ((S.record_of store.new).begun + (S.record_of store.old).present.steps
+        ≡ (S.record_of store.old).begun + (S.record_of store.new).present.steps) }
     ensures within { OnOk result ((S.record_of store.new).present.steps ≤ most_steps) }
-    ensures grows { OnOk result ((S.record_of store.old).present.steps ≤ (S.record_of store.new).present.steps) }
+    ensures grows { OnOk result
+        ((S.record_of store.old).present.steps ≤ (S.record_of store.new).present.steps) }
 {
     let _bound = rehearsal.bounds.steps();
     let found = find_again(rehearsal.alloc, store, rehearsal.devices, rehearsal.bounds)?;

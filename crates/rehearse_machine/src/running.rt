@@ -31,7 +31,9 @@ pub(crate) fn move_in_script<'d, S: Store>(
     requires top { IsTop frame.now (S.record_of store.old).present }
     requires begun { (S.record_of store.old).begun + 1 < 2 ^ 64 }
     ensures { Comes result (S.record_of store.old) (S.record_of store.new)
-        (places.place_list (limits_of devices.now bounds) (places.list_at frame.now.script frame.now.place.list) frame.now (under (S.record_of store.old).present)) }
+        (places.place_list (limits_of devices.now bounds)
+        (places.list_at frame.now.script frame.now.place.list) frame.now
+        (under (S.record_of store.old).present)) }
 {
     let at = frame.at();
     let script = frame.script();
@@ -51,7 +53,8 @@ pub(crate) fn move_in_script<'d, S: Store>(
 pub(crate) fn move_for<'d, S: Store>(store: &mut S, frame: &Frame) -> Result<Step<'d>, StoreError>
     requires { IsTop frame.now (S.record_of store.old).present }
     ensures { Comes result (S.record_of store.old) (S.record_of store.new)
-        (places.for_move (places.command_at (places.list_at frame.now.script frame.now.place.list) frame.now.place.command) frame.now (under (S.record_of store.old).present)) }
+        (places.for_move (places.command_at (places.list_at frame.now.script frame.now.place.list)
+        frame.now.place.command) frame.now (under (S.record_of store.old).present)) }
 {
     let at = frame.at();
     let script = frame.script();
@@ -76,7 +79,8 @@ pub(crate) fn move_for<'d, S: Store>(store: &mut S, frame: &Frame) -> Result<Ste
 /// with status 0. Else the `run` has ended.
 pub(crate) fn move_run<'d, S: Store>(store: &mut S, frame: &Frame) -> Result<Step<'d>, StoreError>
     requires { IsTop frame.now (S.record_of store.old).present }
-    ensures { Comes result (S.record_of store.old) (S.record_of store.new) (places.run_move frame.now (under (S.record_of store.old).present)) }
+    ensures { Comes result (S.record_of store.old) (S.record_of store.new)
+        (places.run_move frame.now (under (S.record_of store.old).present)) }
 {
     if frame.at().turn == 0 {
         return next_name(store, frame);
@@ -92,7 +96,8 @@ pub(crate) fn move_run<'d, S: Store>(store: &mut S, frame: &Frame) -> Result<Ste
 fn next_name<'d, S: Store>(store: &mut S, frame: &Frame) -> Result<Step<'d>, StoreError>
     requires { IsTop frame.now (S.record_of store.old).present }
     ensures { Comes result (S.record_of store.old) (S.record_of store.new)
-        (places.place_name (slice_get frame.now.words frame.now.place.turn) frame.now (under (S.record_of store.old).present)) }
+        (places.place_name (slice_get frame.now.words frame.now.place.turn) frame.now
+        (under (S.record_of store.old).present)) }
 {
     let at = frame.at();
     let Some(name) = frame.words().get(at.turn) else {
@@ -118,7 +123,9 @@ fn begin_text<'d, S: Store>(
     requires top { IsTop frame.now (S.record_of store.old).present }
     requires turn { frame.now.place.turn + 1 < 2 ^ 64 }
     ensures { Comes result (S.record_of store.old) (S.record_of store.new)
-        (λ s. places.GoOn (places.text_frame (view.script script.value) ∷ places.in_turn (suc frame.now.place.turn) 0 frame.now ∷ under (S.record_of store.old).present) (begun_text (view.script script.value) s)) }
+        (λ s. places.GoOn (places.text_frame (view.script script.value)
+        ∷ places.in_turn (suc frame.now.place.turn) 0 frame.now
+        ∷ under (S.record_of store.old).present) (begun_text (view.script script.value) s)) }
 {
     let at = frame.at();
     let is_empty = script.lists.as_slice().is_empty();

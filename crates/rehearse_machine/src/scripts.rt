@@ -24,7 +24,9 @@ pub(crate) fn end_block<'d, S: Store>(
 ) -> Result<Step<'d>, StoreError>
     requires top { IsTop frame.now (S.record_of store.old).present }
     requires command { frame.now.place.command + 1 < 2 ^ 64 }
-    ensures { Comes result (S.record_of store.old) (S.record_of store.new) (phase_move (Some (view.command command.now)) turn frame.now (under (S.record_of store.old).present)) }
+    ensures { Comes result (S.record_of store.old) (S.record_of store.new)
+        (phase_move (Some (view.command command.now)) turn frame.now
+        (under (S.record_of store.old).present)) }
 {
     match command {
         Command::If { arms, other } => end_condition(store, frame, arms, other, turn),
@@ -56,7 +58,8 @@ pub fn begin_command<'d, S: Store>(
     requires command { frame.now.place.command + 1 < 2 ^ 64 }
     requires begun { (S.record_of store.old).begun + 1 < 2 ^ 64 }
     ensures { Comes result (S.record_of store.old) (S.record_of store.new)
-        (place_command (limits_of devices.now bounds) (view.command command.now) frame.now (under (S.record_of store.old).present)) }
+        (place_command (limits_of devices.now bounds) (view.command command.now) frame.now
+        (under (S.record_of store.old).present)) }
 {
     match command {
         Command::Simple(words) => begin_simple(alloc, store, fields, frame, devices, bounds, words),

@@ -29,7 +29,8 @@ use std::rc::Rc;
 
 /// Sets the status, and goes on.
 fn done<'d, S: Store>(store: &mut S, status: u8) -> Result<Step<'d>, StoreError>
-    ensures { Comes result (S.record_of store.old) (S.record_of store.new) (λ s. GoOn (S.record_of store.old).present.frames (set_status status s)) }
+    ensures { Comes result (S.record_of store.old) (S.record_of store.new)
+        (λ s. GoOn (S.record_of store.old).present.frames (set_status status s)) }
 {
     store.set_status(status)?;
     Ok(Step::Going)
@@ -42,8 +43,10 @@ fn run_names<'d, S: Store>(
     script: &Rc<Script>,
     names: &[Vec<u8>],
 ) -> Result<Step<'d>, StoreError>
-    ensures { (limits : Limits) (name : Text) → Comes result (S.record_of store.old) (S.record_of store.new)
-        (place_called limits (says.BuiltIn says.RunsTexts) name (bytes_of_words names.now) (view.script script.now.value) (S.record_of store.old).present.frames) }
+    ensures { (limits : Limits) (name : Text) → Comes result (S.record_of store.old)
+        (S.record_of store.new)
+        (place_called limits (says.BuiltIn says.RunsTexts) name (bytes_of_words names.now)
+        (view.script script.now.value) (S.record_of store.old).present.frames) }
 {
     if names.is_empty() {
         done(store, 1)
@@ -63,7 +66,8 @@ fn run_test<'d, S: Store>(
     words: &[Vec<u8>],
 ) -> Result<Step<'d>, StoreError>
     ensures { (script : tree.Script) → Comes result (S.record_of store.old) (S.record_of store.new)
-        (place_called (limits_of devices.now bounds) (says.BuiltIn says.Tests) name.now (bytes_of_words words.now) script (S.record_of store.old).present.frames) }
+        (place_called (limits_of devices.now bounds) (says.BuiltIn says.Tests) name.now
+        (bytes_of_words words.now) script (S.record_of store.old).present.frames) }
 {
     if asks_device(words) {
         let effect = Effect {
@@ -83,7 +87,8 @@ fn run_test<'d, S: Store>(
 /// status 1.
 fn run_exit<'d, S: Store>(store: &mut S, words: &[Vec<u8>]) -> Result<Step<'d>, StoreError>
     ensures { Comes result (S.record_of store.old) (S.record_of store.new)
-        (place_exit (says.exit_status (bytes_of_words words.now)) (S.record_of store.old).present.frames) }
+        (place_exit (says.exit_status (bytes_of_words words.now))
+        (S.record_of store.old).present.frames) }
 {
     match exit_status(words) {
         Some(status) => {
@@ -106,7 +111,9 @@ fn run_builtin<'d, S: Store>(
     words: &[Vec<u8>],
 ) -> Result<Step<'d>, StoreError>
     ensures { Comes result (S.record_of store.old) (S.record_of store.new)
-        (place_called (limits_of devices.now bounds) (builtin_called builtin) name.now (bytes_of_words words.now) (view.script script.now.value) (S.record_of store.old).present.frames) }
+        (place_called (limits_of devices.now bounds) (builtin_called builtin) name.now
+        (bytes_of_words words.now) (view.script script.now.value)
+        (S.record_of store.old).present.frames) }
 {
     match builtin {
         Builtin::SetEnv => {
@@ -137,7 +144,9 @@ fn run_called<'d, S: Store>(
     words: &[Vec<u8>],
 ) -> Result<Step<'d>, StoreError>
     ensures { Comes result (S.record_of store.old) (S.record_of store.new)
-        (place_called (limits_of devices.now bounds) (called_shown called.entry) name.now (bytes_of_words words.now) (view.script script.now.value) (S.record_of store.old).present.frames) }
+        (place_called (limits_of devices.now bounds) (called_shown called.entry) name.now
+        (bytes_of_words words.now) (view.script script.now.value)
+        (S.record_of store.old).present.frames) }
 {
     match called {
         Called::BuiltIn(builtin) => {
@@ -158,7 +167,8 @@ pub(crate) fn run_fields<'d, S: Store>(
     fields: &[Vec<u8>],
 ) -> Result<Step<'d>, StoreError>
     ensures { Comes result (S.record_of store.old) (S.record_of store.new)
-        (place_fields (limits_of devices.now bounds) (bytes_of_words fields.now) (view.script script.now.value) (S.record_of store.old).present.frames) }
+        (place_fields (limits_of devices.now bounds) (bytes_of_words fields.now)
+        (view.script script.now.value) (S.record_of store.old).present.frames) }
 {
     let Some((name, words)) = fields.split_first() else {
         return done(store, 0);
@@ -186,7 +196,8 @@ pub(crate) fn begin_simple<'d, S: Store>(
     requires command { frame.now.place.command + 1 < 2 ^ 64 }
     requires begun { (S.record_of store.old).begun + 1 < 2 ^ 64 }
     ensures { Comes result (S.record_of store.old) (S.record_of store.new)
-        (place_command (limits_of devices.now bounds) (tree.Simple (map view.word words.now)) frame.now (under (S.record_of store.old).present)) }
+        (place_command (limits_of devices.now bounds) (tree.Simple (map view.word words.now))
+        frame.now (under (S.record_of store.old).present)) }
 {
     let counted = count(store, bounds)?;
     if !counted {
@@ -219,8 +230,12 @@ pub(crate) fn begin_for<'d, S: Store>(
     requires top { IsTop frame.now (S.record_of store.old).present }
     requires command { frame.now.place.command + 1 < 2 ^ 64 }
     requires begun { (S.record_of store.old).begun + 1 < 2 ^ 64 }
-    ensures { (devices : ListedDevices) → Comes result (S.record_of store.old) (S.record_of store.new)
-        (place_counted (limits_of devices bounds) (λ t. place_fitting (expansion.fields (parameters_in t.memory) (map view.word words.now)) (λ found. for_begins found frame.now (under (S.record_of store.old).present)) t)) }
+    ensures { (devices : ListedDevices) → Comes result (S.record_of store.old)
+        (S.record_of store.new)
+        (place_counted (limits_of devices bounds)
+        (λ t. place_fitting (expansion.fields (parameters_in t.memory)
+        (map view.word words.now))
+        (λ found. for_begins found frame.now (under (S.record_of store.old).present)) t)) }
 {
     let counted = count(store, bounds)?;
     if !counted {

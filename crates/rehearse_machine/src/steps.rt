@@ -15,7 +15,8 @@ use std::alloc::Global;
 /// Begins a step if the bound allows one more. Returns whether it did.
 pub(crate) fn count<S: Store>(store: &mut S, bounds: RunBounds) -> Result<bool, StoreError>
     requires { (S.record_of store.old).begun + 1 < 2 ^ 64 }
-    ensures { IfOk result (λ counted. IsCounted bounds counted (S.record_of store.old) (S.record_of store.new)) }
+    ensures { IfOk result (λ counted. IsCounted bounds counted (S.record_of store.old)
+        (S.record_of store.new)) }
 {
     if store.steps() >= bounds.steps() {
         return Ok(false);
@@ -31,7 +32,9 @@ pub(crate) fn expanded<S: Store>(
     store: &S,
     words: &[Word],
 ) -> Result<bool, StoreError>
-    ensures { IfOk result (λ fit. IsExpanded fit fields.new (expansion.fields (parameters_at (S.record_of store.now).present) (map view.word words.now))) }
+    ensures { IfOk result (λ fit. IsExpanded fit fields.new
+        (expansion.fields (parameters_at (S.record_of store.now).present)
+        (map view.word words.now))) }
 {
     match fields.fill(words, &Memory { store }) {
         Ok(()) => Ok(true),
@@ -46,7 +49,8 @@ pub(crate) fn expanded_one<S: Store>(
     store: &S,
     word: &Word,
 ) -> Result<Option<Vec<u8>>, StoreError>
-    ensures { IfOk result (λ found. IsExpandedOne found (expansion.joined (parameters_at (S.record_of store.now).present) (view.word word.now))) }
+    ensures { IfOk result (λ found. IsExpandedOne found
+        (expansion.joined (parameters_at (S.record_of store.now).present) (view.word word.now))) }
 {
     match expand_one(alloc, word, &Memory { store }) {
         Ok(value) => Ok(Some(value)),

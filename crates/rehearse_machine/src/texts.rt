@@ -17,7 +17,8 @@ use std::rc::Rc;
 /// Leaves the text that is running: removes the frames above the innermost `run`. Without a `run`
 /// the whole run ends.
 pub(crate) fn leave_text<'d, S: Store>(store: &mut S) -> Result<Step<'d>, StoreError>
-    ensures { Comes result (S.record_of store.old) (S.record_of store.new) (left (to_run (S.record_of store.old).present.frames)) }
+    ensures { Comes result (S.record_of store.old) (S.record_of store.new)
+        (left (to_run (S.record_of store.old).present.frames)) }
 {
     'frames: while let Some(frame) = store.top() {
         if let FrameKind::Run = frame.kind() {
@@ -36,7 +37,8 @@ pub(crate) fn begin_run<'d, S: Store>(
     names: &[Vec<u8>],
 ) -> Result<Step<'d>, StoreError>
     ensures { Comes result (S.record_of store.old) (S.record_of store.new)
-        (GoOn (names_frame (view.script script.now.value) (bytes_of_words names.now) ∷ (S.record_of store.old).present.frames)) }
+        (GoOn (names_frame (view.script script.now.value) (bytes_of_words names.now)
+        ∷ (S.record_of store.old).present.frames)) }
 {
     let names = Rc::new(alloc, copied(alloc, names)?)?;
     store.push(Frame::with_words(FrameKind::Run, script.clone()?, names, place(0, 0)))?;

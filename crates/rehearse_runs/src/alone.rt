@@ -25,7 +25,8 @@ fn write_one<S: Store, O: Out>(
     out: &mut O,
 ) -> Result<(), OutFault>
     ensures { Prints result (O.sink out.old) (O.sink out.new)
-        (recorded (shown_word view.now) (state_at (shown_moment S.Store view.now) []) (shown_ending view.now) (map (λ n. n.now) names.now)
+        (recorded (shown_word view.now) (state_at (shown_moment S.Store view.now) [])
+        (shown_ending view.now) (map (λ n. n.now) names.now)
         ++ line (codes "done")) }
 {
     match write_record(view, names, out) {
@@ -42,8 +43,11 @@ pub(crate) fn write_run<S: Store, O: Out>(
     names: &[&[u8]],
     out: &mut O,
 ) -> Result<(), RehearseError>
-    ensures ok { IfOk result (λ _. WritesAlone (task_in rehearsal.now) word.now (map (λ n. n.now) names.now) (O.sink out.old) (O.sink out.new)) }
-    ensures err { IfErr result (λ e. BreaksAlone (task_in rehearsal.now) word.now (map (λ n. n.now) names.now) (O.sink out.old) (O.sink out.new) e) }
+    ensures ok { IfOk result (λ _. WritesAlone (task_in rehearsal.now) word.now
+        (map (λ n. n.now) names.now) (O.sink out.old) (O.sink out.new)) }
+    ensures err { IfErr result
+        (λ e. BreaksAlone (task_in rehearsal.now) word.now (map (λ n. n.now) names.now)
+        (O.sink out.old) (O.sink out.new) e) }
 {
     let _bound = rehearsal.bounds.devices();
     let mut store = S::new(rehearsal.alloc);

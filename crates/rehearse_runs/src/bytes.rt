@@ -80,7 +80,8 @@ impl<const N: usize> Bytes<N> {
     /// changes.
     pub(crate) fn extend(&mut self, bytes: &[u8]) -> bool
         ensures room { IsTrue result ↔ (length self.old.items + length bytes.now ≤ N) }
-        ensures items { MatchBool result (self.new.items ≡ self.old.items ++ bytes.now) (self.new.items ≡ self.old.items) }
+        ensures items { MatchBool result (self.new.items ≡ self.old.items ++ bytes.now)
+            (self.new.items ≡ self.old.items) }
     {
         if bytes.len() > N - self.len {
             return false;

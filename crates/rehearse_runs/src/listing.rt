@@ -48,8 +48,11 @@ fn write_records<S: Store, O: Out>(
     out: &mut O,
 ) -> Result<(), RehearseError>
     requires { runs.old.failed ≡ false }
-    ensures ok { OnOk result (WroteRecords (O.sink out.old) (O.sink out.new) runs.old runs.new (map (λ n. n.now) names.now) limit) }
-    ensures err { IfErr result (λ e. Breaks (O.sink out.old) (O.sink out.new) runs.old runs.new (map (λ n. n.now) names.now) limit e) }
+    ensures ok { OnOk result (WroteRecords (O.sink out.old) (O.sink out.new) runs.old runs.new
+        (map (λ n. n.now) names.now) limit) }
+    ensures err { IfErr result
+        (λ e. Breaks (O.sink out.old) (O.sink out.new) runs.old runs.new
+        (map (λ n. n.now) names.now) limit e) }
 {
     let mut left = limit;
     while !is_reached(left) {
@@ -65,7 +68,8 @@ fn write_records<S: Store, O: Out>(
 /// Writes the line after the records of a listing that leaves runs out, with the digits of the last
 /// word.
 fn write_more<O: Out>(out: &mut O, digits: &[u8]) -> Result<(), OutFault>
-    ensures { Prints result (O.sink out.old) (O.sink out.new) (line (codes "more " ++ printed digits.now)) }
+    ensures { Prints result (O.sink out.old) (O.sink out.new)
+        (line (codes "more " ++ printed digits.now)) }
 {
     if digits.is_empty() {
         write_all(out, b"more .\n")
@@ -85,8 +89,11 @@ pub fn write_listing<S: Store, O: Out>(
     out: &mut O,
 ) -> Result<Finish, RehearseError>
     requires { limit ≢ Some 0 }
-    ensures ok { IfOk result (λ finish. Lists (O.sink out.old) (O.sink out.new) runs.old runs.new (map (λ n. n.now) names.now) limit finish) }
-    ensures err { IfErr result (λ e. Breaks (O.sink out.old) (O.sink out.new) runs.old runs.new (map (λ n. n.now) names.now) limit e) }
+    ensures ok { IfOk result (λ finish. Lists (O.sink out.old) (O.sink out.new) runs.old runs.new
+        (map (λ n. n.now) names.now) limit finish) }
+    ensures err { IfErr result
+        (λ e. Breaks (O.sink out.old) (O.sink out.new) runs.old runs.new
+        (map (λ n. n.now) names.now) limit e) }
 {
     if runs.has_failed() {
         return Err(RehearseError::Failed);

@@ -22,7 +22,8 @@ pub(crate) fn flush<O: Out>(out: &mut O, page: &mut Page) -> Result<(), OutFault
 
 /// Writes all bytes of the page, and puts bytes on it.
 fn put_anew<O: Out>(out: &mut O, page: &mut Page, bytes: &[u8]) -> Result<(), OutFault>
-    ensures { Puts result (O.sink out.old) (O.sink out.new) page.old.items page.new.items bytes.now }
+    ensures { Puts result (O.sink out.old) (O.sink out.new) page.old.items page.new.items
+        bytes.now }
 {
     flush(out, page)?;
     if page.extend(bytes) {
@@ -34,7 +35,8 @@ fn put_anew<O: Out>(out: &mut O, page: &mut Page, bytes: &[u8]) -> Result<(), Ou
 
 /// Puts bytes after the bytes of the page. If they do not fit, all bytes are written.
 pub(crate) fn put<O: Out>(out: &mut O, page: &mut Page, bytes: &[u8]) -> Result<(), OutFault>
-    ensures { Puts result (O.sink out.old) (O.sink out.new) page.old.items page.new.items bytes.now }
+    ensures { Puts result (O.sink out.old) (O.sink out.new) page.old.items page.new.items
+        bytes.now }
 {
     if page.extend(bytes) {
         Ok(())

@@ -70,14 +70,16 @@ fn has_escaped(form: Form, bytes: &[u8]) -> bool
 
 /// Puts a byte as it is printed.
 fn put_byte<O: Out>(out: &mut O, page: &mut Page, form: Form, byte: u8) -> Result<(), OutFault>
-    ensures { Puts result (O.sink out.old) (O.sink out.new) page.old.items page.new.items (form_of form byte) }
+    ensures { Puts result (O.sink out.old) (O.sink out.new) page.old.items page.new.items
+        (form_of form byte) }
 {
     put(out, page, escape(form, byte).as_slice())
 }
 
 /// Puts bytes as they are printed. Bytes that are printed as they are go on the page together.
 fn put_bytes<O: Out>(out: &mut O, page: &mut Page, form: Form, bytes: &[u8]) -> Result<(), OutFault>
-    ensures { Puts result (O.sink out.old) (O.sink out.new) page.old.items page.new.items (flat_map (form_of form) bytes.now) }
+    ensures { Puts result (O.sink out.old) (O.sink out.new) page.old.items page.new.items
+        (flat_map (form_of form) bytes.now) }
 {
     if !has_escaped(form, bytes) {
         return put(out, page, bytes);
@@ -93,7 +95,8 @@ fn put_bytes<O: Out>(out: &mut O, page: &mut Page, form: Form, bytes: &[u8]) -> 
 
 /// Puts bytes in word form.
 pub(crate) fn put_word<O: Out>(out: &mut O, page: &mut Page, bytes: &[u8]) -> Result<(), OutFault>
-    ensures { Puts result (O.sink out.old) (O.sink out.new) page.old.items page.new.items (word_form bytes.now) }
+    ensures { Puts result (O.sink out.old) (O.sink out.new) page.old.items page.new.items
+        (word_form bytes.now) }
 {
     if bytes.is_empty() {
         put(out, page, b"\\e")
@@ -104,7 +107,8 @@ pub(crate) fn put_word<O: Out>(out: &mut O, page: &mut Page, bytes: &[u8]) -> Re
 
 /// Puts a piece.
 fn put_piece<O: Out>(out: &mut O, page: &mut Page, piece: Piece<'_>) -> Result<(), OutFault>
-    ensures { Puts result (O.sink out.old) (O.sink out.new) page.old.items page.new.items (piece_text piece.entry) }
+    ensures { Puts result (O.sink out.old) (O.sink out.new) page.old.items page.new.items
+        (piece_text piece.entry) }
 {
     match piece {
         Piece::Plain(bytes) => put(out, page, bytes),
@@ -119,7 +123,8 @@ pub(crate) fn put_pieces<O: Out>(
     page: &mut Page,
     pieces: &[Piece<'_>],
 ) -> Result<(), OutFault>
-    ensures { Puts result (O.sink out.old) (O.sink out.new) page.old.items page.new.items (flat_map piece_text pieces.now) }
+    ensures { Puts result (O.sink out.old) (O.sink out.new) page.old.items page.new.items
+        (flat_map piece_text pieces.now) }
 {
     for piece in pieces {
         put_piece(out, page, *piece)?;

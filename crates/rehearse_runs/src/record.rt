@@ -22,7 +22,8 @@ use rehearse_machine::Ending;
 
 /// Puts the first line of a record, with the digits of its word.
 fn put_first<O: Out>(out: &mut O, page: &mut Page, word: &[u8]) -> Result<(), OutFault>
-    ensures { Puts result (O.sink out.old) (O.sink out.new) page.old.items page.new.items (line (codes "run " ++ printed word.now)) }
+    ensures { Puts result (O.sink out.old) (O.sink out.new) page.old.items page.new.items
+        (line (codes "run " ++ printed word.now)) }
 {
     if word.is_empty() {
         return put(out, page, b"run .\n");
@@ -40,7 +41,8 @@ fn put_first<O: Out>(out: &mut O, page: &mut Page, word: &[u8]) -> Result<(), Ou
 
 /// Puts words in word form, a space before each.
 fn put_spaced<O: Out>(out: &mut O, page: &mut Page, words: &[Vec<u8>]) -> Result<(), OutFault>
-    ensures { Puts result (O.sink out.old) (O.sink out.new) page.old.items page.new.items (flat_map spaced words.now) }
+    ensures { Puts result (O.sink out.old) (O.sink out.new) page.old.items page.new.items
+        (flat_map spaced words.now) }
 {
     for word in words {
         put_pieces(out, page, &[Piece::Plain(b" "), Piece::Word(word)])?;
@@ -50,7 +52,8 @@ fn put_spaced<O: Out>(out: &mut O, page: &mut Page, words: &[Vec<u8>]) -> Result
 
 /// Puts words in word form, separated by spaces.
 fn put_words<O: Out>(out: &mut O, page: &mut Page, words: &[Vec<u8>]) -> Result<(), OutFault>
-    ensures { Puts result (O.sink out.old) (O.sink out.new) page.old.items page.new.items (join_with_byte ascii.space (map word_form (bytes_of_words words.now))) }
+    ensures { Puts result (O.sink out.old) (O.sink out.new) page.old.items page.new.items
+        (join_with_byte ascii.space (map word_form (bytes_of_words words.now))) }
 {
     match words.split_first() {
         None => Ok(()),
@@ -70,7 +73,8 @@ fn outcome_digit(success: bool) -> u8
 
 /// Puts the line of a device command.
 fn put_entry<O: Out>(out: &mut O, page: &mut Page, entry: &LogEntry) -> Result<(), OutFault>
-    ensures { Puts result (O.sink out.old) (O.sink out.new) page.old.items page.new.items (entry_line entry.now) }
+    ensures { Puts result (O.sink out.old) (O.sink out.new) page.old.items page.new.items
+        (entry_line entry.now) }
 {
     let outcome = outcome_digit(entry.success);
     put(out, page, &[b'd', b'e', b'v', b' ', outcome, b' '])?;
@@ -80,7 +84,8 @@ fn put_entry<O: Out>(out: &mut O, page: &mut Page, entry: &LogEntry) -> Result<(
 
 /// Puts the lines of device commands.
 fn put_log<O: Out>(out: &mut O, page: &mut Page, log: &[LogEntry]) -> Result<(), OutFault>
-    ensures { Puts result (O.sink out.old) (O.sink out.new) page.old.items page.new.items (flat_map entry_line log.now) }
+    ensures { Puts result (O.sink out.old) (O.sink out.new) page.old.items page.new.items
+        (flat_map entry_line log.now) }
 {
     for entry in log {
         put_entry(out, page, entry)?;
@@ -90,7 +95,8 @@ fn put_log<O: Out>(out: &mut O, page: &mut Page, log: &[LogEntry]) -> Result<(),
 
 /// Puts the line of what was printed, if it is not empty.
 fn put_printed<O: Out>(out: &mut O, page: &mut Page, text: &[u8]) -> Result<(), OutFault>
-    ensures { Puts result (O.sink out.old) (O.sink out.new) page.old.items page.new.items (flat_map line (text_lines text.now)) }
+    ensures { Puts result (O.sink out.old) (O.sink out.new) page.old.items page.new.items
+        (flat_map line (text_lines text.now)) }
 {
     if text.is_empty() {
         return Ok(());
@@ -113,7 +119,8 @@ fn put_set<'x, O: Out>(
     name: &'x [u8],
     value: &'x [u8],
 ) -> Result<(), OutFault>
-    ensures { Puts result (O.sink out.old) (O.sink out.new) page.old.items page.new.items (set_line (name.now, value.now)) }
+    ensures { Puts result (O.sink out.old) (O.sink out.new) page.old.items page.new.items
+        (set_line (name.now, value.now)) }
 {
     put_pieces(
         out,
@@ -135,7 +142,8 @@ fn put_word_line<'x, O: Out>(
     before: &'x [u8],
     word: &'x [u8],
 ) -> Result<(), OutFault>
-    ensures { Puts result (O.sink out.old) (O.sink out.new) page.old.items page.new.items (line (before.now ++ word_form word.now)) }
+    ensures { Puts result (O.sink out.old) (O.sink out.new) page.old.items page.new.items
+        (line (before.now ++ word_form word.now)) }
 {
     put_pieces(
         out,
@@ -146,7 +154,8 @@ fn put_word_line<'x, O: Out>(
 
 /// Puts the lines of all variables.
 fn put_all<O: Out>(out: &mut O, page: &mut Page, variables: Variables<'_>) -> Result<(), OutFault>
-    ensures { Puts result (O.sink out.old) (O.sink out.new) page.old.items page.new.items (flat_map set_line variables.entry) }
+    ensures { Puts result (O.sink out.old) (O.sink out.new) page.old.items page.new.items
+        (flat_map set_line variables.entry) }
 {
     let mut variables = variables;
     while let Some((name, value)) = variables.next() {
@@ -179,7 +188,8 @@ fn put_named<S: Store, O: Out>(
     names: &[&[u8]],
 ) -> Result<(), OutFault>
     ensures { Puts result (O.sink out.old) (O.sink out.new) page.old.items page.new.items
-        (flat_map (λ n. named_line (entries (shown_moment S.Store view.now).environment) n.now) names.now) }
+        (flat_map (λ n. named_line (entries (shown_moment S.Store view.now).environment) n.now)
+        names.now) }
 {
     for name in names {
         put_asked(out, page, view, name)?;
@@ -195,7 +205,8 @@ fn put_variables<S: Store, O: Out>(
     names: &[&[u8]],
 ) -> Result<(), OutFault>
     ensures { Puts result (O.sink out.old) (O.sink out.new) page.old.items page.new.items
-        (flat_map line (variable_lines (entries (shown_moment S.Store view.now).environment) (map (λ n. n.now) names.now))) }
+        (flat_map line (variable_lines (entries (shown_moment S.Store view.now).environment)
+        (map (λ n. n.now) names.now))) }
 {
     if names.is_empty() {
         put_all(out, page, view.variables())
@@ -206,7 +217,8 @@ fn put_variables<S: Store, O: Out>(
 
 /// Puts the last line of a record.
 fn put_last<O: Out>(out: &mut O, page: &mut Page, ending: Ending<'_>) -> Result<(), OutFault>
-    ensures { Puts result (O.sink out.old) (O.sink out.new) page.old.items page.new.items (line (last_line (ending_shown ending.entry))) }
+    ensures { Puts result (O.sink out.old) (O.sink out.new) page.old.items page.new.items
+        (line (last_line (ending_shown ending.entry))) }
 {
     let mut digits = itoa::Buffer::new();
     match ending {
@@ -237,7 +249,8 @@ fn put_word_of<S: Store, O: Out>(
     page: &mut Page,
     view: &RunView<'_, S>,
 ) -> Result<(), OutFault>
-    ensures { Puts result (O.sink out.old) (O.sink out.new) page.old.items page.new.items (line (codes "run " ++ printed (shown_word view.now))) }
+    ensures { Puts result (O.sink out.old) (O.sink out.new) page.old.items page.new.items
+        (line (codes "run " ++ printed (shown_word view.now))) }
 {
     put_first(out, page, view.word())
 }
@@ -248,7 +261,8 @@ fn put_log_of<S: Store, O: Out>(
     page: &mut Page,
     view: &RunView<'_, S>,
 ) -> Result<(), OutFault>
-    ensures { Puts result (O.sink out.old) (O.sink out.new) page.old.items page.new.items (flat_map entry_line (shown_moment S.Store view.now).log) }
+    ensures { Puts result (O.sink out.old) (O.sink out.new) page.old.items page.new.items
+        (flat_map entry_line (shown_moment S.Store view.now).log) }
 {
     put_log(out, page, view.log())
 }
@@ -259,7 +273,8 @@ fn put_text_of<S: Store, O: Out>(
     page: &mut Page,
     view: &RunView<'_, S>,
 ) -> Result<(), OutFault>
-    ensures { Puts result (O.sink out.old) (O.sink out.new) page.old.items page.new.items (flat_map line (text_lines (shown_moment S.Store view.now).text)) }
+    ensures { Puts result (O.sink out.old) (O.sink out.new) page.old.items page.new.items
+        (flat_map line (text_lines (shown_moment S.Store view.now).text)) }
 {
     put_printed(out, page, view.text())
 }
@@ -270,7 +285,8 @@ fn put_ending_of<S: Store, O: Out>(
     page: &mut Page,
     view: &RunView<'_, S>,
 ) -> Result<(), OutFault>
-    ensures { Puts result (O.sink out.old) (O.sink out.new) page.old.items page.new.items (line (last_line (shown_ending view.now))) }
+    ensures { Puts result (O.sink out.old) (O.sink out.new) page.old.items page.new.items
+        (line (last_line (shown_ending view.now))) }
 {
     put_last(out, page, view.ending())
 }
@@ -283,7 +299,8 @@ fn put_record<S: Store, O: Out>(
     names: &[&[u8]],
 ) -> Result<(), OutFault>
     ensures { Puts result (O.sink out.old) (O.sink out.new) page.old.items page.new.items
-        (recorded (shown_word view.now) (state_at (shown_moment S.Store view.now) []) (shown_ending view.now) (map (λ n. n.now) names.now)) }
+        (recorded (shown_word view.now) (state_at (shown_moment S.Store view.now) [])
+        (shown_ending view.now) (map (λ n. n.now) names.now)) }
 {
     put_word_of(out, page, view)?;
     put_log_of(out, page, view)?;
@@ -300,7 +317,8 @@ pub fn write_record<S: Store, O: Out>(
     out: &mut O,
 ) -> Result<(), OutFault>
     ensures { Prints result (O.sink out.old) (O.sink out.new)
-        (recorded (shown_word view.now) (state_at (shown_moment S.Store view.now) []) (shown_ending view.now) (map (λ n. n.now) names.now)) }
+        (recorded (shown_word view.now) (state_at (shown_moment S.Store view.now) [])
+        (shown_ending view.now) (map (λ n. n.now) names.now)) }
 {
     let mut page = Page::new();
     put_record(out, &mut page, view, names)?;

@@ -26,8 +26,10 @@ fn begin_runs<'a, S: Store>(
     bounds: Bounds,
     after: Option<&[u8]>,
 ) -> Result<Runs<'a, S>, RehearseError>
-    ensures ok { IfOk result (λ r. Begins env.now devices.now name.now bounds (option_bytes after.entry) r) }
-    ensures err { IfErr result (λ e. RefusesRuns env.now devices.now name.now bounds (option_bytes after.entry) e) }
+    ensures ok { IfOk result (λ r. Begins env.now devices.now name.now bounds
+        (option_bytes after.entry) r) }
+    ensures err { IfErr result
+        (λ e. RefusesRuns env.now devices.now name.now bounds (option_bytes after.entry) e) }
 {
     match after {
         None => Runs::new(alloc, env, devices, name, bounds),
@@ -101,7 +103,8 @@ pub fn rehearse_env<'x, S: Store, O: Out>(
     requires { limit_of (wanted_of ask.now.wanted) ≢ Some 0 }
     ensures ok { let asking = asking_of ask.now in
         IfOk result (λ finish. WithDevices devices_text.now (λ devices.
-        Rehearses (task_asked env.now devices asking) asking (O.sink out.old) (O.sink out.new) finish)) }
+        Rehearses (task_asked env.now devices asking) asking (O.sink out.old)
+        (O.sink out.new) finish)) }
     ensures err { IfErr result (λ e. RefusesAsk env.now devices_text.now (asking_of ask.now)
         (O.sink out.old) (O.sink out.new) e) }
 {

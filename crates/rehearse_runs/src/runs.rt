@@ -103,9 +103,12 @@ impl<'a, S: Store> Runs<'a, S> {
         name: &'a [u8],
         bounds: Bounds,
     ) -> Result<Self, RehearseError>
-        ensures ok { IfOk result (λ r. r ≡ new_runs (task_shown env.now devices.now name.now bounds)) }
-        ensures set { OnOk result (task_set env.now devices.now name.now bounds ≡ Some (task_shown env.now devices.now name.now bounds)) }
-        ensures err { IfErr result (λ e. (e ≡ NoSuchVariable) × (value_of env.now name.now ≡ None)) }
+        ensures ok { IfOk result (λ r. r
+            ≡ new_runs (task_shown env.now devices.now name.now bounds)) }
+        ensures set { OnOk result (task_set env.now devices.now name.now bounds
+            ≡ Some (task_shown env.now devices.now name.now bounds)) }
+        ensures err { IfErr result
+            (λ e. (e ≡ NoSuchVariable) × (value_of env.now name.now ≡ None)) }
         ensures unset { OnErr result (task_set env.now devices.now name.now bounds ≡ None) }
     {
         let _bound = bounds.devices();
@@ -132,10 +135,15 @@ impl<'a, S: Store> Runs<'a, S> {
         bounds: Bounds,
         word: &[u8],
     ) -> Result<Self, RehearseError>
-        ensures ok { IfOk result (λ r. GoesOnBehind (task_shown env.now devices.now name.now bounds) word.now r) }
-        ensures set { OnOk result (task_set env.now devices.now name.now bounds ≡ Some (task_shown env.now devices.now name.now bounds)) }
-        ensures err { IfErr result (λ e. RefusesWord (task_shown env.now devices.now name.now bounds) (value_of env.now name.now) word.now e) }
-        ensures unset { IfErr result (λ e. e ≡ NoSuchVariable → task_set env.now devices.now name.now bounds ≡ None) }
+        ensures ok { IfOk result (λ r. GoesOnBehind (task_shown env.now devices.now name.now bounds)
+            word.now r) }
+        ensures set { OnOk result (task_set env.now devices.now name.now bounds
+            ≡ Some (task_shown env.now devices.now name.now bounds)) }
+        ensures err { IfErr result
+            (λ e. RefusesWord (task_shown env.now devices.now name.now bounds)
+            (value_of env.now name.now) word.now e) }
+        ensures unset { IfErr result
+            (λ e. e ≡ NoSuchVariable → task_set env.now devices.now name.now bounds ≡ None) }
     {
         let _bound = bounds.devices();
         let Some(rehearsal) = Rehearsal::of(alloc, env, devices, name, bounds.of_run()) else {
@@ -265,7 +273,8 @@ impl<'a, S: Store> Runs<'a, S> {
     /// it.
     pub fn work(&self) -> u64
         ensures work { result ≡ self.now.work }
-        ensures whole { self.now.failed ≡ false → result ≡ work_of self.now.task self.now.start self.now.answers }
+        ensures whole { self.now.failed ≡ false → result
+            ≡ work_of self.now.task self.now.start self.now.answers }
     {
         self.store.begun()
     }

@@ -34,13 +34,17 @@ pub(crate) fn search<S: Store>(
     may: bool,
 ) -> Result<Halt, StoreError>
     requires may { may ≡ may_fail (task_in rehearsal.now) (outcomes digits.old.items) }
-    requires stopped { StoppedAt (task_in rehearsal.now) (outcomes digits.old.items) stop (S.record_of store.old).present }
-    requires marks { AreMarks (task_in rehearsal.now) (outcomes digits.old.items) (S.record_of store.old).marked }
+    requires stopped { StoppedAt (task_in rehearsal.now) (outcomes digits.old.items) stop
+        (S.record_of store.old).present }
+    requires marks { AreMarks (task_in rehearsal.now) (outcomes digits.old.items)
+        (S.record_of store.old).marked }
     requires digits { AreDigits digits.old.items }
     requires within { (S.record_of store.old).present.steps ≤ most_steps }
-    requires begun { (S.record_of store.old).begun + (most_steps - (S.record_of store.old).present.steps) + most_steps + 1 < 2 ^ 64 }
+    requires begun { (S.record_of store.old).begun +
+        (most_steps - (S.record_of store.old).present.steps) + most_steps + 1 < 2 ^ 64 }
     requires bound { (task_in rehearsal.now).limits.device_bound ≤ most_run_devices }
-    ensures ok { IfOk result (λ halt. Found (task_in rehearsal.now) (outcomes digits.old.items) (outcomes digits.new.items) halt (S.record_of store.old) (S.record_of store.new)) }
+    ensures ok { IfOk result (λ halt. Found (task_in rehearsal.now) (outcomes digits.old.items)
+        (outcomes digits.new.items) halt (S.record_of store.old) (S.record_of store.new)) }
     ensures digits { AreDigits digits.new.items }
 {
     match stop {
@@ -62,7 +66,8 @@ pub(crate) fn first_run<S: Store>(
 ) -> Result<Halt, StoreError>
     requires begun { (S.record_of store.old).begun + 2 * most_steps + 1 < 2 ^ 64 }
     requires bound { (task_in rehearsal.now).limits.device_bound ≤ most_run_devices }
-    ensures ok { IfOk result (λ halt. FoundFirst (task_in rehearsal.now) (outcomes digits.new.items) halt (S.record_of store.old) (S.record_of store.new)) }
+    ensures ok { IfOk result (λ halt. FoundFirst (task_in rehearsal.now) (outcomes digits.new.items)
+        halt (S.record_of store.old) (S.record_of store.new)) }
     ensures digits { AreDigits digits.new.items }
 {
     digits.clear();
@@ -98,11 +103,13 @@ pub(crate) fn next_run<S: Store>(
     digits: &mut Digits,
 ) -> Result<Option<Halt>, StoreError>
     requires run { IsListed (task_in rehearsal.now) (outcomes digits.old.items) }
-    requires marks { AreMarks (task_in rehearsal.now) (outcomes digits.old.items) (S.record_of store.old).marked }
+    requires marks { AreMarks (task_in rehearsal.now) (outcomes digits.old.items)
+        (S.record_of store.old).marked }
     requires digits { AreDigits digits.old.items }
     requires begun { (S.record_of store.old).begun + 2 * most_steps + 1 < 2 ^ 64 }
     requires bound { (task_in rehearsal.now).limits.device_bound ≤ most_run_devices }
-    ensures ok { IfOk result (λ found. FoundNext (task_in rehearsal.now) (outcomes digits.old.items) (outcomes digits.new.items) found (S.record_of store.old) (S.record_of store.new)) }
+    ensures ok { IfOk result (λ found. FoundNext (task_in rehearsal.now) (outcomes digits.old.items)
+        (outcomes digits.new.items) found (S.record_of store.old) (S.record_of store.new)) }
     ensures digits { AreDigits digits.new.items }
 {
     if !turn(digits, rehearsal.bounds.failures()) {

@@ -34,11 +34,14 @@ pub fn try_word<S: Store>(
     bounds: Bounds,
     word: &[u8],
 ) -> Result<WordKind, RehearseError>
-    ensures ok { IfOk result (λ k. HasKind (task_shown env.now devices.now name.now bounds) word.now (kind_shown k)) }
+    ensures ok { IfOk result (λ k. HasKind (task_shown env.now devices.now name.now bounds) word.now
+        (kind_shown k)) }
     ensures found { OnOk result (IsSome (value_of env.now name.now)) }
-    ensures set { OnOk result (task_set env.now devices.now name.now bounds ≡ Some (task_shown env.now devices.now name.now bounds)) }
+    ensures set { OnOk result (task_set env.now devices.now name.now bounds
+        ≡ Some (task_shown env.now devices.now name.now bounds)) }
     ensures err { IfErr result (λ e. RefusesTry (value_of env.now name.now) e) }
-    ensures unset { IfErr result (λ e. e ≡ NoSuchVariable → task_set env.now devices.now name.now bounds ≡ None) }
+    ensures unset { IfErr result
+        (λ e. e ≡ NoSuchVariable → task_set env.now devices.now name.now bounds ≡ None) }
 {
     let _bound = bounds.devices();
     let Some(rehearsal) = Rehearsal::of(alloc, env, devices, name, bounds.of_run()) else {

@@ -70,7 +70,8 @@ impl<'v, S: Store> RunView<'v, S> {
 
     /// The value of an environment variable at its end.
     pub fn variable(&self, name: &[u8]) -> Option<&[u8]>
-        ensures { option_bytes result ≡ get (entries (shown_moment S.Store self.now).environment) name.now }
+        ensures { option_bytes result ≡ get (entries (shown_moment S.Store self.now).environment)
+            name.now }
     {
         self.store.get_env(name)
     }

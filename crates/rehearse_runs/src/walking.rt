@@ -33,14 +33,23 @@ fn choose<S: Store, const N: usize>(
     digits: &mut Bytes<N>,
     success: bool,
 ) -> Result<Stop, StoreError>
-    requires asks { StoppedAt (task_in rehearsal.now) (outcomes digits.old.items) Asks (S.record_of store.old).present }
-    requires marks { AreMarks (task_in rehearsal.now) (outcomes digits.old.items) (S.record_of store.old).marked }
+    requires asks { StoppedAt (task_in rehearsal.now) (outcomes digits.old.items) Asks
+        (S.record_of store.old).present }
+    requires marks { AreMarks (task_in rehearsal.now) (outcomes digits.old.items)
+        (S.record_of store.old).marked }
     requires begun { (S.record_of store.old).begun + most_steps + 1 < 2 ^ 64 }
     requires bound { (task_in rehearsal.now).limits.device_bound ≤ N }
-    ensures stopped { IfOk result (λ stop. StoppedAt (task_in rehearsal.now) (outcomes digits.new.items) stop (S.record_of store.new).present) }
-    ensures marks { OnOk result (AreMarks (task_in rehearsal.now) (outcomes digits.new.items) (S.record_of store.new).marked) }
-    ensures digits { OnOk result (digits.new.items ≡ digits.old.items ++ outcome_digit (outcome_when success) ∷ []) }
-    ensures begun { OnOk result ((S.record_of store.new).begun + (S.record_of store.old).present.steps ≡ (S.record_of store.old).begun + (S.record_of store.new).present.steps) }
+    ensures stopped { IfOk result
+        (λ stop. StoppedAt (task_in rehearsal.now) (outcomes digits.new.items) stop
+        (S.record_of store.new).present) }
+    ensures marks { OnOk result
+        (AreMarks (task_in rehearsal.now) (outcomes digits.new.items)
+        (S.record_of store.new).marked) }
+    ensures digits { OnOk result
+        (digits.new.items ≡ digits.old.items ++ outcome_digit (outcome_when success) ∷ []) }
+    ensures begun { OnOk result
+        ((S.record_of store.new).begun + (S.record_of store.old).present.steps
+        ≡ (S.record_of store.old).begun + (S.record_of store.new).present.steps) }
     ensures within { OnOk result ((S.record_of store.new).present.steps ≤ most_steps) }
 {
     if success {
@@ -75,12 +84,17 @@ fn walk<S: Store, const N: usize>(
     stop: Stop,
     text: &[u8],
 ) -> Result<Walked, StoreError>
-    requires stopped { StoppedAt (task_in rehearsal.now) (outcomes digits.old.items) stop (S.record_of store.old).present }
-    requires marks { AreMarks (task_in rehearsal.now) (outcomes digits.old.items) (S.record_of store.old).marked }
+    requires stopped { StoppedAt (task_in rehearsal.now) (outcomes digits.old.items) stop
+        (S.record_of store.old).present }
+    requires marks { AreMarks (task_in rehearsal.now) (outcomes digits.old.items)
+        (S.record_of store.old).marked }
     requires within { (S.record_of store.old).present.steps ≤ most_steps }
-    requires begun { (S.record_of store.old).begun + (most_steps - (S.record_of store.old).present.steps) + most_steps + 1 < 2 ^ 64 }
+    requires begun { (S.record_of store.old).begun +
+        (most_steps - (S.record_of store.old).present.steps) + most_steps + 1 < 2 ^ 64 }
     requires bound { (task_in rehearsal.now).limits.device_bound ≤ N }
-    ensures ok { IfOk result (λ found. Walks (task_in rehearsal.now) (outcomes digits.old.items) digits.old.items text.now digits.new.items (outcomes digits.new.items) found (S.record_of store.old) (S.record_of store.new)) }
+    ensures ok { IfOk result (λ found. Walks (task_in rehearsal.now) (outcomes digits.old.items)
+        digits.old.items text.now digits.new.items (outcomes digits.new.items) found
+        (S.record_of store.old) (S.record_of store.new)) }
 {
     match stop {
         Stop::Ends(halt) => {
@@ -113,7 +127,8 @@ pub(crate) fn walk_to<S: Store, const N: usize>(
 ) -> Result<Walked, StoreError>
     requires begun { (S.record_of store.old).begun + 2 * most_steps + 1 < 2 ^ 64 }
     requires bound { (task_in rehearsal.now).limits.device_bound ≤ N }
-    ensures ok { IfOk result (λ found. WalksTo (task_in rehearsal.now) text.now digits.new.items (outcomes digits.new.items) found (S.record_of store.old) (S.record_of store.new)) }
+    ensures ok { IfOk result (λ found. WalksTo (task_in rehearsal.now) text.now digits.new.items
+        (outcomes digits.new.items) found (S.record_of store.old) (S.record_of store.new)) }
 {
     digits.clear();
     let stop = begin(rehearsal, store)?;

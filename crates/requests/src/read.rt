@@ -209,7 +209,9 @@ fn listing(
     failures: Option<u32>,
 ) -> Result<Wanted, UseError>
     requires { ForSome limit (λ n. 0 < n) }
-    ensures says { SaysWanted (wanted_by None (first_of (codes "after") (rows_of (found_of matches.now))) limit failures (rows_of (found_of matches.now))) result }
+    ensures says { SaysWanted
+        (wanted_by None (first_of (codes "after") (rows_of (found_of matches.now))) limit failures
+        (rows_of (found_of matches.now))) result }
     ensures limit { IfOk result (λ w. ForSome (limit_of (wanted_of w)) (λ n. 0 < n)) }
 {
     let Some(wide) = bounds_or(matches, DEFAULT_DEVICES, DEFAULT_STEPS) else {
@@ -234,7 +236,10 @@ fn word(
     failures: Option<u32>,
 ) -> Result<Wanted, UseError>
     requires { ForSome limit (λ n. 0 < n) }
-    ensures says { SaysWanted (wanted_by (Some (string_bytes word)) (first_of (codes "after") (rows_of (found_of matches.now))) limit failures (rows_of (found_of matches.now))) result }
+    ensures says { SaysWanted
+        (wanted_by (Some (string_bytes word))
+        (first_of (codes "after") (rows_of (found_of matches.now))) limit failures
+        (rows_of (found_of matches.now))) result }
     ensures limit { IfOk result (λ w. ForSome (limit_of (wanted_of w)) (λ n. 0 < n)) }
 {
     let Some(bounds) = bounds_or(matches, DEFAULT_RUN_DEVICES, DEFAULT_RUN_STEPS) else {
@@ -258,7 +263,8 @@ fn wanted(
     failures: Option<u32>,
 ) -> Result<Wanted, UseError>
     requires { ForSome limit (λ n. 0 < n) }
-    ensures says { SaysWanted (wanted_asked limit failures (rows_of (found_of matches.now))) result }
+    ensures says { SaysWanted (wanted_asked limit failures (rows_of (found_of matches.now)))
+        result }
     ensures limit { IfOk result (λ w. ForSome (limit_of (wanted_of w)) (λ n. 0 < n)) }
 {
     match text_of(alloc, matches, "word")? {
@@ -315,7 +321,8 @@ fn endings_ask(alloc: Global, matches: &ArgMatches<'_>) -> Result<Ask, UseError>
 }
 
 fn ask_of(alloc: Global, called: CalledAs, matches: &ArgMatches<'_>) -> Result<Ask, UseError>
-    ensures { Says (option_and_then (λ s. asked_of called s.0 s.1) (subcommand_rows_of matches.now)) result }
+    ensures { Says (option_and_then (λ s. asked_of called s.0 s.1) (subcommand_rows_of matches.now))
+        result }
 {
     let Some((name, entries)) = matches.subcommand() else {
         return Err(unread(alloc));
@@ -355,7 +362,8 @@ fn lock_of(alloc: Global, matches: &ArgMatches<'_>) -> Result<Option<String>, Al
 /// The folder of the lock that the words after the program's name ask for, if they name one. Words
 /// that `clap` refuses name none. Errors: memory ran out.
 pub fn read_lock<S: AsStr>(alloc: Global, words: &[S]) -> Result<Option<String>, AllocError>
-    ensures { IfOk result (λ folder. NamesLock (map S.text words.now) (option_map string_bytes folder)) }
+    ensures { IfOk result (λ folder. NamesLock (map S.text words.now)
+        (option_map string_bytes folder)) }
 {
     match ubtool(alloc)?.try_get_matches_from(words) {
         Ok(matches) => lock_of(alloc, &matches),

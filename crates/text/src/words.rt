@@ -74,7 +74,8 @@ fn word_len(line: &[u8]) -> usize
 /// The first word of a line, and what follows it. Gives `None` if the line has no word.
 #[tactic(auto, using(crate::proofs::WordLemmas::first_words))]
 pub fn next_word(line: &[u8]) -> Option<(&[u8], &[u8])>
-    ensures { MatchOption result (words_of line.now ≡ []) (λ cut. words_of line.now ≡ cut.0.now ∷ words_of cut.1.now) }
+    ensures { MatchOption result (words_of line.now ≡ [])
+        (λ cut. words_of line.now ≡ cut.0.now ∷ words_of cut.1.now) }
 {
     let line = cut_front(line, is_blank);
     if line.is_empty() {

@@ -36,7 +36,8 @@ fn endings_of_images<O: Out>(
     what: &EndingsAsk,
     out: &mut O,
 ) -> Result<(), ToolError>
-    ensures { TellsCopies (endings_of order (copies images.now) device_list.now what.now) what.now.flow what.now.states (O.sink out.old) (O.sink out.new) result }
+    ensures { TellsCopies (endings_of order (copies images.now) device_list.now what.now)
+        what.now.flow what.now.states (O.sink out.old) (O.sink out.new) result }
 {
     let ask = image_tools::EndingsAsk {
         name: what.name.as_bytes(),
@@ -70,7 +71,8 @@ pub fn endings<F: Files, O: Out>(
     ensures count { CountsTold (F.faults files.old) (F.faults files.new) result }
     ensures lock { F.locked files.new ≡ F.locked files.old }
     ensures told { IfTold (F.told files.old) (F.told files.new) (λ old new.
-        TellsFrom order (string_bytes config) (string_bytes device_list) what (O.sink out.old) (O.sink out.new) old new result) }
+        TellsFrom order (string_bytes config) (string_bytes device_list) what (O.sink out.old)
+        (O.sink out.new) old new result) }
     ensures output { LeavesOutput result (O.sink out.old) (O.sink out.new) }
 {
     let images = read_images(alloc, files, config)?;

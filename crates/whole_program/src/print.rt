@@ -18,7 +18,8 @@ use std::alloc::Global;
 /// The bytes of each text.
 pub fn slices_of(alloc: Global, texts: &[String]) -> Result<Vec<&[u8]>, Fault>
     ensures fault { IfErr result (λ fault. fault ≡ Memory) }
-    ensures slices { IfOk result (λ slices. map (λ s. s.now) slices.items ≡ map string_bytes texts.now) }
+    ensures slices { IfOk result
+        (λ slices. map (λ s. s.now) slices.items ≡ map string_bytes texts.now) }
 {
     let mut slices = Vec::new(alloc);
     for text in texts {
@@ -64,9 +65,12 @@ pub fn print<F: Files, O: Out, E: Out>(
     ensures count { CountsTold (F.faults files.old) (F.faults files.new) result }
     ensures lock { F.locked files.new ≡ F.locked files.old }
     ensures told { IfTold (F.told files.old) (F.told files.new) (λ old new.
-        PrintsFrom order (string_bytes config) (map string_bytes what.now.names.items) what.now.header
-        (outputs (O.sink out.old) (O.sink out.new) (E.sink err.old) (E.sink err.new)) old new result) }
-    ensures outputs { LeavesOutputs result (outputs (O.sink out.old) (O.sink out.new) (E.sink err.old) (E.sink err.new)) }
+        PrintsFrom order (string_bytes config) (map string_bytes what.now.names.items)
+        what.now.header
+        (outputs (O.sink out.old) (O.sink out.new) (E.sink err.old) (E.sink err.new)) old new
+        result) }
+    ensures outputs { LeavesOutputs result
+        (outputs (O.sink out.old) (O.sink out.new) (E.sink err.old) (E.sink err.new)) }
 {
     let images = read_images(alloc, files, config)?;
     let names = slices_of(alloc, &what.names)?;

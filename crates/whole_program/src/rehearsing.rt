@@ -84,7 +84,8 @@ fn rehearse_images<O: Out>(
     what: &RehearseAsk,
     out: &mut O,
 ) -> Result<Finish, ToolError>
-    ensures { RehearsesCopies (rehearsal_of order (copies images.now) device_list.now what.now) (O.sink out.old) (O.sink out.new) result }
+    ensures { RehearsesCopies (rehearsal_of order (copies images.now) device_list.now what.now)
+        (O.sink out.old) (O.sink out.new) result }
 {
     let Ok(names) = slices_of(alloc, &what.names) else {
         return Err(ToolError::Memory);
@@ -120,7 +121,8 @@ pub fn rehearse<F: Files, O: Out>(
     ensures count { CountsTold (F.faults files.old) (F.faults files.new) result }
     ensures lock { F.locked files.new ≡ F.locked files.old }
     ensures told { IfTold (F.told files.old) (F.told files.new) (λ old new.
-        RehearsesFrom order (string_bytes config) (string_bytes device_list) what (O.sink out.old) (O.sink out.new) old new result) }
+        RehearsesFrom order (string_bytes config) (string_bytes device_list) what (O.sink out.old)
+        (O.sink out.new) old new result) }
     ensures output { LeavesOutput result (O.sink out.old) (O.sink out.new) }
 {
     let images = read_images(alloc, files, config)?;

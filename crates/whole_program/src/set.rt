@@ -110,7 +110,8 @@ pub fn set<R: Read, F: Files>(
     ensures count { CountsTold (F.faults files.old) (F.faults files.new) result }
     ensures lock { F.locked files.new ≡ F.locked files.old }
     ensures told { IfTold (F.told files.old) (F.told files.new)
-        (λ old new. Sets (R.remaining input.old) order (string_bytes config) change old new result) }
+        (λ old new. Sets (R.remaining input.old) order (string_bytes config) change old new
+        result) }
 {
     let images = read_images(alloc, files, config)?;
     let (which, bytes) = changed_copy(alloc, input, files, &images, order, change)?;
