@@ -1,1 +1,0 @@
-use Rattle.envtools.proofs.list.is_ascending.Goals as goal
