@@ -5,7 +5,7 @@ use Rattle.envimage.specs.Data.{Pair}
 use Rattle.envtools.specs.Environment.{value_of}
 use Rattle.envtools.specs.Printing.{all_found}
 use Rattle.hushlang.specs.CursorShown.{input_in}
-use Rattle.hushlang.specs.Straight.{straight}
+use Rattle.hushlang.specs.AfterCompound.{straight}
 use Rattle.hushlang.specs.Tree.{Script}
 use Rattle.hushlang.specs.declared.token.SyntaxError.{SyntaxError}
 use Rattle.hushlang.specs.declared.token.SyntaxError.TheVariants.{OpenQuote, LoneBackslash, OpenBrace, BadVariable, SingleAmp, SinglePipe, Unexpected, MissingWord, AssignmentBeforeCommand, TooDeep, Memory}

@@ -7,7 +7,7 @@ ghost use Rattle.text.specs.Escapes.{word_form};
 use crate::fault::{byte_of, what_of};
 use crate::place::{Place, line_at, line_front, place_of};
 use crate::shown::{push_line, push_mark, push_name};
-use hushlang::straight::word_straight_behind;
+use hushlang::after_compound::word_straight_behind;
 use hushlang::token::SyntaxError;
 use itoa::Buffer;
 use std::alloc::AllocError;

@@ -1,7 +1,7 @@
 -- The examples of the language's description, computed.
 use Rattle.std.proofs.Common.{◌≡◌, true, false, List, [], ◌∷◌, ◌++◌, map, refl}
 use Rattle.std.specs.Prelude.{codes}
-use Rattle.hushlang.specs.Pieces.{pieces}
+use Rattle.hushlang.specs.WordPieces.{pieces}
 use Rattle.hushlang.specs.Tree as tree
 use Rattle.hushlang.specs.Token.{Plain, Kept, Mark, Var, Status, Token, sign, word, End, Whole, Refused}
 use Rattle.hushlang.specs.Tokenizing.{Lexed, lexed, step, bare, dollar, braced, inside, front, word_front}

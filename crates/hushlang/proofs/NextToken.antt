@@ -4,7 +4,7 @@ use Rattle.hushlang.specs.Token.{Whole, Refused}
 use Rattle.hushlang.specs.Tokenizing.{Lexed}
 use Rattle.hushlang.specs.Spelling.{Spells}
 use Rattle.hushlang.specs.LexerShown.{Coming, tokens_to_come, token_of, StillSpells, Gives, SpellsNext}
-use Rattle.hushlang.proofs.EachSpelled.{each_spelled, spelled_once}
+use Rattle.hushlang.proofs.SpellingOfEachText.{each_spelled, spelled_once}
 use Rattle.hushlang.specs.declared.token.Token.{Token}
 use Rattle.hushlang.specs.declared.token.SyntaxError.{SyntaxError}
 

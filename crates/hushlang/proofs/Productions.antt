@@ -11,7 +11,7 @@ use Rattle.hushlang.specs.Laws.{EachProducedBlockIsDerived, EachDerivedBlockIsPr
 use Rattle.hushlang.specs.declared.token.Kind.{Kind}
 use Rattle.hushlang.specs.declared.token.Kind.TheVariants as kinds
 use Rattle.hushlang.specs.declared.words.Reserved.{Reserved}
-use Rattle.hushlang.proofs.Closed.{blocks_are_closed, closes_word}
+use Rattle.hushlang.proofs.BlockEndLemmas.{blocks_are_closed, closes_word}
 
 -- ---- skipping separators
 

@@ -5,7 +5,7 @@ use Rattle.hushlang.specs.Tree.{Script, Empty, Runs, Starts, Alone, Joins, Simpl
 use Rattle.hushlang.specs.Tokenizing.{step, bare, dollar, braced, inside, front, word_front}
 use Rattle.hushlang.specs.Grammar.{reserved_of, assignment, name_in, name_of, is_in_word, max_nesting}
 use Rattle.hushlang.specs.Words.{reserved}
-use Rattle.hushlang.specs.Pieces.{pieces}
+use Rattle.hushlang.specs.WordPieces.{pieces}
 use Rattle.hushlang.specs.Parsing.{whole, script, command, simple, keyword, next, behind, sees, expect, joined, joined_all, and_or, lists, lists_all, block, arm, arms, arms_all, if_command, body_of, loop_command, for_command, name, name_next, expect_in, in_next, all_words, separators, separator_next, closes_next, op_next, refusal, missing, at_last, word_next, assignment_next, assignments}
 use Rattle.hushlang.specs.CursorShown.{input_in}
 use Rattle.hushlang.specs.declared.tree.Op.TheVariants.{And, Or}

@@ -5,7 +5,7 @@ use Rattle.hushlang.specs.Tree.{Word, Simple, Assign}
 use Rattle.hushlang.specs.Grammar.{is_word, word_of, words, words_if, past, past_if, assignment, value_of}
 use Rattle.hushlang.specs.Parsing as spec
 use Rattle.hushlang.specs.Parsing.{Input, Parsed, behind, next, word_ahead, all_words, all_values, values_by, assignments, simple, word_next, assignment_next}
-use Rattle.hushlang.proofs.Shorter.{past-shorter}
+use Rattle.hushlang.proofs.RestLengthLemmas.{past-shorter}
 use Rattle.hushlang.specs.declared.token.SyntaxError.{SyntaxError}
 use Rattle.hushlang.specs.declared.token.SyntaxError.TheVariants.{AssignmentBeforeCommand}
 

@@ -3,12 +3,12 @@ use Rattle.std.specs.Prelude.{◌≡◌, ℕ, ◌<◌, ◌≤◌, List, [], ◌�
 use Rattle.hushlang.specs.Token as spec
 use Rattle.hushlang.specs.Tokenizing as reading
 use Rattle.hushlang.specs.Tokenizing.{Goes, Vanishes, Ends, Fails, Seen, Takes, Refuses, in_front, row}
-use Rattle.hushlang.specs.declared.parts.Mode.{Mode}
+use Rattle.hushlang.specs.declared.word_parts.Mode.{Mode}
 use Rattle.hushlang.specs.declared.token.SyntaxError.{SyntaxError}
-use Rattle.hushlang.specs.declared.parts.Part.{Part}
-use Rattle.hushlang.specs.declared.parts.Part.TheVariants as code
-use Rattle.hushlang.specs.declared.parts.Step.{Step}
-use Rattle.hushlang.specs.declared.parts.Step.TheVariants as steps
+use Rattle.hushlang.specs.declared.word_parts.Part.{Part}
+use Rattle.hushlang.specs.declared.word_parts.Part.TheVariants as code
+use Rattle.hushlang.specs.declared.word_parts.Step.{Step}
+use Rattle.hushlang.specs.declared.word_parts.Step.TheVariants as steps
 
 abbrev pub part : Part → spec.Part
 part (code.Plain b) = spec.Plain b

@@ -7,7 +7,7 @@ use Rattle.text.specs.Bytes as ascii
 use Rattle.hushlang.specs.ByteClasses.{begins_name, is_name_byte}
 use Rattle.hushlang.specs.Token.{Part, Plain, Token}
 use Rattle.hushlang.specs.Words.{reserved, plain_bytes, is_plain}
-use Rattle.hushlang.specs.Pieces.{pieces}
+use Rattle.hushlang.specs.WordPieces.{pieces}
 use Rattle.hushlang.specs.Tree.{Script, Empty, Runs, AndOr, Starts, Joined, Alone, Joins, Command, Simple, Assign, If, Loop, For, Arms, NoElse, Else, Arm, Word}
 use Rattle.hushlang.specs.declared.tree.Op.{Op}
 use Rattle.hushlang.specs.declared.tree.Op.TheVariants.{And, Or}

@@ -5,7 +5,7 @@ use Rattle.hushlang.specs.Token.{Part, Token, End, Whole, Refused}
 use Rattle.hushlang.specs.declared.token.SyntaxError.{SyntaxError}
 use Rattle.hushlang.specs.declared.token.SyntaxError.TheVariants.{OpenQuote, LoneBackslash, OpenBrace, BadVariable, SingleAmp, SinglePipe}
 use Rattle.hushlang.specs.Tree.{Piece, Bytes, Script, AndOr, IsProper, ends_compound}
-use Rattle.hushlang.specs.Pieces.{pieces}
+use Rattle.hushlang.specs.WordPieces.{pieces}
 use Rattle.hushlang.specs.Spelling.{Spells}
 use Rattle.hushlang.specs.Tokenizing.{lexed}
 use Rattle.hushlang.specs.Words.{is_plain}

@@ -6,7 +6,7 @@ use Rattle.hushlang.specs.Token as spec
 use Rattle.hushlang.specs.Token.{Part, End, Whole, Refused}
 use Rattle.hushlang.specs.Tokenizing as reading
 use Rattle.hushlang.specs.Tokenizing.{Seen, Takes, Refuses, row, Lexed, lexed, Gap, Sees, Stops}
-use Rattle.hushlang.specs.declared.parts.Mode.TheVariants.{Bare}
+use Rattle.hushlang.specs.declared.word_parts.Mode.TheVariants.{Bare}
 use Rattle.hushlang.specs.declared.token.Token.{Token}
 use Rattle.hushlang.specs.declared.token.SyntaxError.{SyntaxError}
 use Rattle.hushlang.specs.declared.lexer.Front.{Front}

@@ -5,7 +5,7 @@ pub mod Tokenizing
 pub mod Tree
 pub mod TreesShown
 pub mod Words
-pub mod Pieces
+pub mod WordPieces
 pub mod CuttersShown
 pub mod Laws
 pub mod LexerShown
@@ -15,6 +15,6 @@ pub mod Parsing
 pub mod RefusalPlaces
 pub mod Texts
 pub mod CursorShown
-pub mod Straight
+pub mod AfterCompound
 pub mod Expansion
 pub mod Splitting

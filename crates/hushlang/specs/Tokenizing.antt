@@ -7,8 +7,8 @@ use Rattle.text.specs.Words.{is_space}
 use Rattle.hushlang.specs.ByteClasses.{is_separator, begins_name, is_name_byte, is_brace_byte, is_escapable, begins}
 use Rattle.hushlang.specs.Token.{Part, Plain, Kept, Mark, Var, Status, Token, sign, word, End, Whole, Refused}
 use Rattle.hushlang.specs.Spelling.{dollar_itself}
-use Rattle.hushlang.specs.declared.parts.Mode.{Mode}
-use Rattle.hushlang.specs.declared.parts.Mode.TheVariants.{Bare, Single, Double}
+use Rattle.hushlang.specs.declared.word_parts.Mode.{Mode}
+use Rattle.hushlang.specs.declared.word_parts.Mode.TheVariants.{Bare, Single, Double}
 use Rattle.hushlang.specs.declared.token.Kind.TheVariants as kinds
 use Rattle.hushlang.specs.declared.token.SyntaxError.{SyntaxError}
 use Rattle.hushlang.specs.declared.token.SyntaxError.TheVariants.{OpenQuote, LoneBackslash, OpenBrace, BadVariable, SingleAmp, SinglePipe}

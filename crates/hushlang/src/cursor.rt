@@ -205,7 +205,7 @@ impl<'a> Tokens<'a> {
     }
 
     /// Takes the newlines that come next.
-    #[tactic(auto, using(crate::proofs::Passing::passing))]
+    #[tactic(auto, using(crate::proofs::SkippedTokenLemmas::passing))]
     pub fn skip_newlines(&mut self)
         ensures after { self.new ≡ spec.behind grammar.is_newline_token self.old }
         ensures shrinks { length self.new.tokens ≤ length self.old.tokens }
@@ -215,7 +215,7 @@ impl<'a> Tokens<'a> {
         }
     }
 
-    #[tactic(auto, using(crate::proofs::Passing::passing))]
+    #[tactic(auto, using(crate::proofs::SkippedTokenLemmas::passing))]
     fn pass_separators(&mut self)
         ensures after { self.new ≡ spec.behind grammar.is_separator self.old }
         ensures shrinks { length self.new.tokens ≤ length self.old.tokens }
@@ -226,7 +226,7 @@ impl<'a> Tokens<'a> {
     }
 
     /// Takes the separators that come next. Returns whether there was one.
-    #[tactic(auto, using(crate::proofs::Passing::passing))]
+    #[tactic(auto, using(crate::proofs::SkippedTokenLemmas::passing))]
     pub fn skip_separators(&mut self) -> bool
         ensures found { result ≡ spec.separator_next self.old }
         ensures after { self.new ≡ spec.behind grammar.is_separator self.old }

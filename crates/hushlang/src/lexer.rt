@@ -5,11 +5,11 @@ ghost use Rattle.hushlang.specs.ByteClasses as bytes;
 ghost use Rattle.hushlang.specs.Tokenizing as spec;
 ghost use Rattle.hushlang.specs.CuttersShown.{stop_of};
 ghost use Rattle.hushlang.specs.LexerShown.{front_shown, Gives, SpellsNext, GoesOn, BeginsWord};
-ghost use Rattle.hushlang.specs.declared.parts.Mode.TheVariants as modes;
+ghost use Rattle.hushlang.specs.declared.word_parts.Mode.TheVariants as modes;
 
-use crate::bytes::{begins, is_separator, line_len};
-use crate::parts::Parts;
+use crate::byte_classes::{begins, is_separator, line_len};
 use crate::token::{Kind, SyntaxError, Token};
+use crate::word_parts::Parts;
 use std::marker::Model;
 use text::is_space;
 
@@ -82,7 +82,7 @@ fn separator(at: usize, b: u8, behind: &[u8]) -> Result<Front, SyntaxError>
 }
 
 /// What is at a place.
-#[tactic(auto, using(crate::proofs::Steps::rest_is), unfolding(crate::specs::Tokenizing::front))]
+#[tactic(auto, using(crate::proofs::WordPartLemmas::rest_is), unfolding(crate::specs::Tokenizing::front))]
 fn front_at(text: &[u8], at: usize) -> Result<Front, SyntaxError>
     requires { at < length text.now }
     ensures value { result ≡ front_shown at

@@ -1,15 +1,15 @@
 //! The language of boot scripts: tokens, the grammar, the tree of a script, and expansion.
 #![tactic(auto)]
 
-mod bytes;
+pub mod after_compound;
+mod byte_classes;
 mod cursor;
 pub mod expand;
 pub mod laws;
 pub mod lexer;
 pub mod parse;
-mod parts;
-mod pieces;
-pub mod straight;
 pub mod token;
 pub mod tree;
+mod word_parts;
+mod word_pieces;
 mod words;

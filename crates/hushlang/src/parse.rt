@@ -13,9 +13,9 @@ ghost use Rattle.hushlang.specs.Texts.{IsTreeOf, HasNoTree, IsPlaced, IsFaultIf,
 ghost use Rattle.hushlang.specs.declared.token.SyntaxError.TheVariants.{Memory};
 
 use crate::cursor::Tokens;
-use crate::pieces::{pieces_of, read_pieces};
 use crate::token::{SyntaxError, Token};
 use crate::tree::{AndOr, Command, Op, Script, Word};
+use crate::word_pieces::{pieces_of, read_pieces};
 use crate::words::{Reserved, assignment};
 use std::alloc::Global;
 use std::rc::Rc;

@@ -10,12 +10,12 @@ ghost use Rattle.hushlang.specs.Grammar as grammar;
 ghost use Rattle.hushlang.specs.CursorShown.{name_and_value};
 ghost use Rattle.hushlang.specs.CuttersShown as cutting;
 ghost use Rattle.hushlang.specs.CuttersShown.{to_come, IsTaken};
-ghost use Rattle.hushlang.specs.declared.parts.Mode.TheVariants as modes;
+ghost use Rattle.hushlang.specs.declared.word_parts.Mode.TheVariants as modes;
 ghost use Rattle.hushlang.specs.declared.token.SyntaxError.TheVariants.{Memory};
 
-use crate::bytes::{begins_name, continues_name, name_len};
-use crate::parts::{Part, Parts};
+use crate::byte_classes::{begins_name, continues_name, name_len};
 use crate::token::{Kind, SyntaxError, Token};
+use crate::word_parts::{Part, Parts};
 use std::alloc::Global;
 
 /// The words that the grammar reserves at places where a command may start.
@@ -54,7 +54,7 @@ fn plain(part: Part<'_>) -> Option<u8>
 }
 
 /// Whether a text is a word that has only ordinary bytes, and these.
-#[tactic(auto, using(crate::proofs::Plain::spelled))]
+#[tactic(auto, using(crate::proofs::PlainWordLemmas::spelled))]
 fn spells(text: &[u8], word: &[u8]) -> bool
     ensures { result ≡ spec.spells word.now (reading.row modes.Bare 0 0 0 text.now) }
 {
@@ -76,7 +76,7 @@ fn spells(text: &[u8], word: &[u8]) -> bool
 }
 
 /// The same for a token, with a word that is not empty.
-#[tactic(auto, using(crate::proofs::Plain::spells_parts), unfolding(crate::specs::LexerShown::parts_of))]
+#[tactic(auto, using(crate::proofs::PlainWordLemmas::spells_parts), unfolding(crate::specs::LexerShown::parts_of))]
 fn spells_word(token: Token<'_>, word: &[u8]) -> bool
     requires { 0 < length word.now }
     ensures { result ≡ spec.is_plain word.now (parts_of token.entry) }
@@ -134,7 +134,7 @@ const RESERVED_MAX: usize = 5;
 
 /// The reserved word that a word is. Cuts at most one part more of it than a reserved word can
 /// have.
-#[tactic(auto, using(crate::proofs::Fronted::fronting))]
+#[tactic(auto, using(crate::proofs::ReservedWordLemmas::fronting))]
 fn reserved_word(token: Token<'_>) -> Option<Reserved>
     ensures { result ≡ spec.reserved (parts_of token.entry) }
 {

@@ -1,6 +1,6 @@
 -- Each text's tree is proper.
 use Rattle.hushlang.specs.Grammar.{max_nesting}
-use Rattle.hushlang.proofs.Full.{blocks_hold_commands}
+use Rattle.hushlang.proofs.CommandsInBlocks.{blocks_hold_commands}
 use Rattle.rehearse.specs.Laws.{TreesAreProper}
 use Rattle.rehearse.proofs.TreeLemmas.{trees_are_read}
 

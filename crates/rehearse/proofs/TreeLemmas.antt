@@ -9,9 +9,9 @@ use Rattle.hushlang.specs.Parsing.{whole}
 use Rattle.hushlang.specs.CursorShown.{input_with, input_in}
 use Rattle.hushlang.specs.Texts.{IsTreeOf}
 use Rattle.hushlang.specs.declared.token.SyntaxError.{SyntaxError}
-use Rattle.hushlang.proofs.EachSpelled.{each_spelled, spelled_once}
-use Rattle.hushlang.proofs.Agreement.{each_tree_is_read}
-use Rattle.hushlang.proofs.Converse.{what_is_read_is_a_tree}
+use Rattle.hushlang.proofs.SpellingOfEachText.{each_spelled, spelled_once}
+use Rattle.hushlang.proofs.DerivedTreesAreRead.{each_tree_is_read}
+use Rattle.hushlang.proofs.ReadTreesAreDerived.{what_is_read_is_a_tree}
 use Rattle.rehearse.specs.Trees.{tree_of, script_in}
 use Rattle.rehearse.specs.Laws.{TreesAreRead, RefusedTexts}
 

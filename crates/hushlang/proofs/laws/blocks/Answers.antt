@@ -1,6 +1,6 @@
-use Rattle.hushlang.proofs.Closed.{blocks_are_closed}
+use Rattle.hushlang.proofs.BlockEndLemmas.{blocks_are_closed}
 use Rattle.hushlang.proofs.Productions.{each_produced_block_is_derived, each_derived_block_is_produced}
-use Rattle.hushlang.proofs.Full.{blocks_hold_commands}
+use Rattle.hushlang.proofs.CommandsInBlocks.{blocks_hold_commands}
 use Rattle.hushlang.proofs.laws.blocks.Goals as goal
 
 pub returns-clause-hold_commands : goal.returns-clause-hold_commands

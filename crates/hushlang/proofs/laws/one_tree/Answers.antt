@@ -1,5 +1,5 @@
-use Rattle.hushlang.proofs.Agreement.{each_tree_is_read, one_tree_only}
-use Rattle.hushlang.proofs.Converse.{what_is_read_is_a_tree}
+use Rattle.hushlang.proofs.DerivedTreesAreRead.{each_tree_is_read, one_tree_only}
+use Rattle.hushlang.proofs.ReadTreesAreDerived.{what_is_read_is_a_tree}
 use Rattle.hushlang.proofs.laws.one_tree.Goals as goal
 
 pub returns-clause-read : goal.returns-clause-read

@@ -1,6 +1,6 @@
-use Rattle.hushlang.proofs.Faults.{faults_are_answered}
-use Rattle.hushlang.proofs.Blocked.{refusals_are_placed}
-use Rattle.hushlang.proofs.Told.{one_blocked_place, each_text_is_blocked}
+use Rattle.hushlang.proofs.LexicalFaultLemmas.{faults_are_answered}
+use Rattle.hushlang.proofs.RefusalPlaceLemmas.{refusals_are_placed}
+use Rattle.hushlang.proofs.ParserAnswerLemmas.{one_blocked_place, each_text_is_blocked}
 use Rattle.hushlang.proofs.laws.places.Goals as goal
 
 pub returns-clause-placed : goal.returns-clause-placed

@@ -9,10 +9,10 @@ use Rattle.hushlang.specs.Tree as tree
 use Rattle.hushlang.specs.declared.tree.Op.{Op}
 use Rattle.hushlang.specs.Parsing as spec
 use Rattle.hushlang.specs.declared.words.Reserved.TheVariants as r
-use Rattle.hushlang.proofs.Turns.{joined_more, joined_end, command_by, command_simple}
+use Rattle.hushlang.proofs.CommandRuleLemmas.{joined_more, joined_end, command_by, command_simple}
 use Rattle.hushlang.specs.Grammar.{is_separator}
 use Rattle.hushlang.specs.Parsing.{and_then, pure}
-use Rattle.hushlang.proofs.Loops.{arms_by, arms_fail, more_refuses, lists_by_turn, lists_fail, behind_unmoved, next_shorter, keyword_seen, not_seen}
+use Rattle.hushlang.proofs.ListRuleLemmas.{arms_by, arms_fail, more_refuses, lists_by_turn, lists_fail, behind_unmoved, next_shorter, keyword_seen, not_seen}
 use Rattle.hushlang.proofs.WordLists.{words_within}
 use Rattle.hushlang.proofs.parse.+grammar.Goals as goal
 use Rattle.std.proofs.Common.{true, false, Ok, Err}

@@ -1,4 +1,4 @@
-use Rattle.hushlang.proofs.Told.{tree_told, blocks_told, refusal_told, place_told, fault_told, faults_told}
+use Rattle.hushlang.proofs.ParserAnswerLemmas.{tree_told, blocks_told, refusal_told, place_told, fault_told, faults_told}
 use Rattle.hushlang.proofs.parse.parse.Goals as goal
 
 pub returns-clause-tree : goal.returns-clause-tree

@@ -1,5 +1,5 @@
 use Rattle.std.proofs.Common.{◌∙◌, sym}
-use Rattle.hushlang.proofs.Fronted.{are_plain}
+use Rattle.hushlang.proofs.ReservedWordLemmas.{are_plain}
 use Rattle.hushlang.proofs.words.are.Goals as goal
 
 pub returns : goal.returns

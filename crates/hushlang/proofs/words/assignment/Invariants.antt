@@ -2,7 +2,7 @@ use Rattle.std.proofs.Common.{◌≡◌, ◌-◌, length}
 use Rattle.hushlang.specs.CuttersShown.{to_come, IsTaken}
 use Rattle.hushlang.specs.LexerShown.{parts_in, parts_of}
 use Rattle.hushlang.specs.Grammar.{up_to_equals}
-use Rattle.hushlang.proofs.Names.{found_behind}
+use Rattle.hushlang.proofs.NameAndAssignmentLemmas.{found_behind}
 use Rattle.hushlang.proofs.words.assignment.Given as goal
 
 abbrev pub invariant-parts : goal.invariant-parts

@@ -2,7 +2,7 @@ use Rattle.std.proofs.Common.{◌≡◌, ◌-◌, ℕ, List, [], false, length}
 use Rattle.hushlang.specs.CuttersShown.{to_come, IsTaken}
 use Rattle.hushlang.specs.LexerShown.{parts_in, parts_of}
 use Rattle.hushlang.specs.Grammar.{up_to_equals, is_name}
-use Rattle.hushlang.proofs.Names.{found_behind}
+use Rattle.hushlang.proofs.NameAndAssignmentLemmas.{found_behind}
 use Rattle.hushlang.proofs.words.is_assignment.Given as goal
 
 -- the bytes at the start are a name, or there is none

@@ -1,5 +1,5 @@
 use Rattle.std.proofs.Common.{◌∙◌, ◌==◌, ap, sym, length}
-use Rattle.hushlang.proofs.Names.{name_all}
+use Rattle.hushlang.proofs.NameAndAssignmentLemmas.{name_all}
 use Rattle.hushlang.proofs.words.is_name.Goals as goal
 
 pub returns-then-begins_name : goal.returns-then-begins_name

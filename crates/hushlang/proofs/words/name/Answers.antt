@@ -4,7 +4,7 @@ use Rattle.hushlang.specs.LexerShown.{parts_of}
 use Rattle.hushlang.specs.CuttersShown.{to_come}
 use Rattle.hushlang.specs.Words.{plain_bytes}
 use Rattle.hushlang.specs.CuttersShown as cutting
-use Rattle.hushlang.proofs.Names.{behind_nothing, cut_taken, part_taken, name_step, no_name, some_name}
+use Rattle.hushlang.proofs.NameAndAssignmentLemmas.{behind_nothing, cut_taken, part_taken, name_step, no_name, some_name}
 use Rattle.hushlang.proofs.words.name.Goals as goal
 
 pub parts-init : goal.parts-init

@@ -2,7 +2,7 @@ use Rattle.std.proofs.Common.{◌≡◌, ◌-◌, length}
 use Rattle.hushlang.specs.CuttersShown.{to_come, IsTaken}
 use Rattle.hushlang.specs.LexerShown.{parts_in, parts_of}
 use Rattle.hushlang.specs.Words.{plain_bytes}
-use Rattle.hushlang.proofs.Names.{behind}
+use Rattle.hushlang.proofs.NameAndAssignmentLemmas.{behind}
 use Rattle.hushlang.proofs.words.name.Given as goal
 
 abbrev pub invariant-parts : goal.invariant-parts

@@ -5,7 +5,7 @@ use Rattle.hushlang.specs.Token.{Part}
 use Rattle.hushlang.specs.LexerShown.{parts_of}
 use Rattle.hushlang.specs.CuttersShown.{to_come}
 use Rattle.hushlang.specs.CuttersShown as cutting
-use Rattle.hushlang.proofs.Fronted.{fronted, fronted_nothing, fronted_step, fronted_end, other_part, part_too_many}
+use Rattle.hushlang.proofs.ReservedWordLemmas.{fronted, fronted_nothing, fronted_step, fronted_end, other_part, part_too_many}
 use Rattle.hushlang.proofs.words.reserved_word.Goals as goal
 
 pub parts-init : goal.parts-init

@@ -1,7 +1,7 @@
 use Rattle.std.proofs.Common.{◌≡◌, ◌-◌, ◌≤◌, take, length}
 use Rattle.hushlang.specs.CuttersShown.{to_come}
 use Rattle.hushlang.specs.LexerShown.{parts_of}
-use Rattle.hushlang.proofs.Fronted.{fronted}
+use Rattle.hushlang.proofs.ReservedWordLemmas.{fronted}
 use Rattle.hushlang.proofs.words.reserved_word.Given as goal
 
 abbrev pub invariant-parts : goal.invariant-parts

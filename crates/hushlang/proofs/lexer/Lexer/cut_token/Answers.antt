@@ -1,6 +1,6 @@
 use Rattle.std.proofs.Common.{◌∙◌, ℕ, List, take, drop, sym, ap, arith, ◌-◌, length}
 use Rattle.hushlang.specs.LexerShown.{parts_of}
-use Rattle.hushlang.proofs.Fronts.{gap_next, token_next}
+use Rattle.hushlang.proofs.TextFrontLemmas.{gap_next, token_next}
 use Rattle.hushlang.proofs.lexer.Lexer.cut_token.Goals as goal
 
 pub fronts-preserved : goal.fronts-preserved
