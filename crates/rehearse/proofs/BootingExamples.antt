@@ -3,7 +3,7 @@ use Rattle.std.proofs.Common.{true, false, [], ◌∷◌, None, codes, refl, ◌
 use Rattle.rehearse.specs.State.{Text}
 use Rattle.rehearse.specs.DeviceList.{Variable, LastWord, Effect, Devices, only}
 use Rattle.rehearse.specs.Runs.{Task}
-use Rattle.rehearse.proofs.Rehearsed.{limits, bootcmd, bootcmd_among, z, listed, works, ends_along, listed_along, works_along, along, working}
+use Rattle.rehearse.proofs.ExampleRehearsals.{limits, bootcmd, bootcmd_among, z, listed, works, ends_along, listed_along, works_along, along, working}
 
 abbrev final : Effect
 final = record { ends = true; stays = false; sets = [] }

@@ -10,7 +10,7 @@ use Rattle.rehearse.specs.Execution.{End, CutSteps, Size}
 use Rattle.rehearse.specs.Runs.{steps, work}
 use Rattle.rehearse.specs.DeviceLaws.{is_name_alone}
 use Rattle.text.specs.Lines.{numbered_lines}
-use Rattle.rehearse.proofs.Rehearsed.{only_load, limits, bootcmd, bootcmd_among, z, listed, told_of, told, told_within, times}
+use Rattle.rehearse.proofs.ExampleRehearsals.{only_load, limits, bootcmd, bootcmd_among, z, listed, told_of, told, told_within, times}
 
 -- a list whose comment has two words
 names_alone_beside_a_comment : map (λ l. is_name_alone l.1) (numbered_lines (codes "# d\nload\n\nmmc")) ≡ false ∷ true ∷ true ∷ true ∷ []

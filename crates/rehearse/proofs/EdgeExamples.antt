@@ -5,7 +5,7 @@ use Rattle.rehearse.specs.State.{Text}
 use Rattle.rehearse.specs.DeviceList.{Variable, Devices, only}
 use Rattle.rehearse.specs.Execution.{End, CutSteps, Syntax, Size}
 use Rattle.rehearse.specs.Runs.{Task}
-use Rattle.rehearse.proofs.Rehearsed.{only_load, limits, bootcmd, bootcmd_among, z, listed, listed_after, Told, told_of, told, told_with, told_within, letters}
+use Rattle.rehearse.proofs.ExampleRehearsals.{only_load, limits, bootcmd, bootcmd_among, z, listed, listed_after, Told, told_of, told, told_with, told_within, letters}
 
 abbrev v : Text → Text → Text × Text
 v name value = (name, value)

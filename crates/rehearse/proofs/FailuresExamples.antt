@@ -8,7 +8,7 @@ use Rattle.rehearse.specs.Outcomes.{Success, Failure, failures, is_within, has_s
 use Rattle.rehearse.specs.Trees.{tree_of}
 use Rattle.rehearse.specs.State.{Text}
 use Rattle.rehearse.specs.Runs.{Task, runs, all_runs, work}
-use Rattle.rehearse.proofs.Rehearsed.{only_load, limits, bootcmd, z, listed, listed_after, works, times, is_listed, ends_along, ends_behind, listed_along, listed_behind, works_along, along, behind, working}
+use Rattle.rehearse.proofs.ExampleRehearsals.{only_load, limits, bootcmd, z, listed, listed_after, works, times, is_listed, ends_along, ends_behind, listed_along, listed_behind, works_along, along, behind, working}
 
 -- ---- two attempts to load, and the status of the last
 

@@ -6,8 +6,8 @@ use Rattle.std.proofs.lemmas.Bool.{le-leb, leb-true}
 use Rattle.rehearse.specs.Outcomes.{OutcomeWord, Success, Failure, Run, failures, is_within, few_of, allows, one_less, is_run_kind, words, IsChoice, first_run, beyond}
 use Rattle.rehearse.specs.Runs.{Task, kind, all_runs, runs, rest, IsListed}
 use Rattle.rehearse.specs.Laws.{failing}
-use Rattle.rehearse.proofs.Choice.{Kinds, few_within, few_here, few_beyond-length}
-use Rattle.rehearse.proofs.Following.{no_longer, turned_none}
+use Rattle.rehearse.proofs.ChoiceTreeLemmas.{Kinds, few_within, few_here, few_beyond-length}
+use Rattle.rehearse.proofs.NextRunLemmas.{no_longer, turned_none}
 use Rattle.rehearse.proofs.TaskChoices.{AllPass, passes_run, task_begins, task_chooses, task_ends, runs_are_runs}
 
 -- ---- if as many may fail as a run may ask

@@ -1,7 +1,7 @@
 pub mod TreeLemmas
 pub mod ProperLemmas
-pub mod Choice
-pub mod Following
+pub mod ChoiceTreeLemmas
+pub mod NextRunLemmas
 pub mod Keeping
 pub mod TaskChoices
 pub mod StepLemmas
@@ -10,10 +10,10 @@ pub mod OrderOfWords
 pub mod Growing
 pub mod BoundLemmas
 pub mod Pages
-pub mod Whole
+pub mod WholeRecordLemmas
 pub mod RecordLines
 pub mod ResumedLemmas
-pub mod Rehearsed
+pub mod ExampleRehearsals
 mod ListingExamples
 mod ExecutionExamples
 mod BootingExamples

@@ -4,7 +4,7 @@ use Rattle.rehearse.specs.State.{Text}
 use Rattle.rehearse.specs.DeviceList.{Devices, only, listed as devices_listed}
 use Rattle.rehearse.specs.declared.devices_error.DevicesError.{DevicesError}
 use Rattle.rehearse.specs.Execution.{Limits}
-use Rattle.rehearse.proofs.Rehearsed.{limits, bootcmd, bootcmd_among, z, listed, ends_along, listed_along, along}
+use Rattle.rehearse.proofs.ExampleRehearsals.{limits, bootcmd, bootcmd_among, z, listed, ends_along, listed_along, along}
 
 abbrev devices_in : Result Devices DevicesError → Devices
 devices_in (Ok devices) = devices

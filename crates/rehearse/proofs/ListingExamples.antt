@@ -8,7 +8,7 @@ use Rattle.rehearse.specs.Trees.{tree_of}
 use Rattle.rehearse.specs.State.{Text, get}
 use Rattle.rehearse.specs.Execution.{Limits}
 use Rattle.rehearse.specs.Runs.{Task, task_of, run_on, state_of, kind, runs, work}
-use Rattle.rehearse.proofs.Rehearsed.{only_load, limits, bootcmd, bootcmd_among, z, listed, listed_after, works, times, ends_along, ends_behind, listed_along, listed_behind, works_along, along, behind, working}
+use Rattle.rehearse.proofs.ExampleRehearsals.{only_load, limits, bootcmd, bootcmd_among, z, listed, listed_after, works, times, ends_along, ends_behind, listed_along, listed_behind, works_along, along, behind, working}
 
 -- only `load` is listed, and both bounds are the usual ones
 abbrev usual : Limits

@@ -2,7 +2,7 @@
 use Rattle.std.proofs.Common.{◌≡◌, ℕ, zero, suc, Bool, true, false, cond, List, [], ◌∷◌, ◌++◌, map, filter, Option, refl, sym, ◌∙◌, subst}
 use Rattle.rehearse.specs.Outcomes.{OutcomeWord, Outcome, Success, Failure, words, comes_before, is_run_kind, is_within, runs_within}
 use Rattle.rehearse.specs.Runs.{Task, kind, all_runs, runs}
-use Rattle.rehearse.proofs.Choice.{Kinds, few-is, few_within}
+use Rattle.rehearse.proofs.ChoiceTreeLemmas.{Kinds, few-is, few_within}
 
 -- u comes before all of these words
 abbrev pub Before : OutcomeWord → List OutcomeWord → Type 0

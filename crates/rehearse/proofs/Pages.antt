@@ -7,7 +7,7 @@ use Rattle.rehearse.specs.Outcomes.{OutcomeWord, Success, Failure, after}
 use Rattle.rehearse.specs.State.{Text}
 use Rattle.rehearse.specs.Listing.{listing, record_of, line, last_of, spelled, outcome_digit}
 use Rattle.rehearse.specs.Runs.{Task, runs, rest}
-use Rattle.rehearse.proofs.Following.{AreDistinct, after_in, after_ends}
+use Rattle.rehearse.proofs.NextRunLemmas.{AreDistinct, after_in, after_ends}
 use Rattle.rehearse.proofs.TaskChoices.{task_distinct}
 
 -- the first k words, the last of which is known

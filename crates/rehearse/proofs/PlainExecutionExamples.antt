@@ -8,7 +8,7 @@ use Rattle.rehearse.specs.PlainList.{plain_names}
 use Rattle.rehearse.specs.PlainExecution.{PlainTask, plain_runs, plain_record}
 use Rattle.rehearse.specs.Listing.{listing}
 use Rattle.rehearse.specs.declared.devices_error.DevicesError.{DevicesError}
-use Rattle.rehearse.proofs.Rehearsed.{z}
+use Rattle.rehearse.proofs.ExampleRehearsals.{z}
 
 unfoldable plain_listed : PlainTask → List Text → Text
 unfolding tree_of fields joined atoms digits

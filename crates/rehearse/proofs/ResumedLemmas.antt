@@ -8,10 +8,10 @@ use Rattle.rehearse.specs.Execution.{Ending}
 use Rattle.rehearse.specs.Runs.{Task, run_on, state_of, ending_of, runs, rest}
 use Rattle.rehearse.specs.Listing.{listing, line, last_of, spelled, words_listed, closing, record_of, record_lines, inner_lines, last_line}
 use Rattle.rehearse.specs.Resuming.{whole, next_text, ended_lines, is_last_line, Point, point_in, resume_point_of, point_after}
-use Rattle.rehearse.proofs.Following.{AreDistinct, Absent_at, word_eq-same, after_ends}
+use Rattle.rehearse.proofs.NextRunLemmas.{AreDistinct, Absent_at, word_eq-same, after_ends}
 use Rattle.rehearse.proofs.TaskChoices.{task_distinct}
 use Rattle.rehearse.proofs.Pages.{after_page, spelled_same}
-use Rattle.rehearse.proofs.Whole.{IsSplit, split_whole, resumes}
+use Rattle.rehearse.proofs.WholeRecordLemmas.{IsSplit, split_whole, resumes}
 use Rattle.rehearse.proofs.RecordLines.{IsOneLine, spelled-line, lines-of, bytes_of, Told, told_lines, told_length, told_point, told-lines, AreOpen, past-records, part-lines, broken_off}
 
 -- no run is in the list twice

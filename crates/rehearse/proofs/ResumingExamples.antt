@@ -9,7 +9,7 @@ use Rattle.rehearse.specs.DeviceList.{only}
 use Rattle.rehearse.specs.Listing.{record_of}
 use Rattle.rehearse.specs.Runs.{Task, runs}
 use Rattle.rehearse.specs.Resuming.{Point, whole, resume_point_of}
-use Rattle.rehearse.proofs.Rehearsed.{only_load, limits, bootcmd, listed, listed_after}
+use Rattle.rehearse.proofs.ExampleRehearsals.{only_load, limits, bootcmd, listed, listed_after}
 
 abbrev two_attempts : Task
 two_attempts = bootcmd (limits only_load 2 10000) (codes "load a || load b; echo $?")

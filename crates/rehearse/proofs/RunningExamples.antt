@@ -4,7 +4,7 @@ use Rattle.rehearse.specs.Outcomes.{Success, Failure}
 use Rattle.rehearse.specs.State.{Text}
 use Rattle.rehearse.specs.Execution.{End, CutSteps, Unknown, Syntax, Size}
 use Rattle.rehearse.specs.Runs.{Task}
-use Rattle.rehearse.proofs.Rehearsed.{only_load, limits, bootcmd, bootcmd_among, z, listed, listed_after, told_of, told, told_with, told_within, write}
+use Rattle.rehearse.proofs.ExampleRehearsals.{only_load, limits, bootcmd, bootcmd_among, z, listed, listed_after, told_of, told, told_with, told_within, write}
 
 abbrev listing_with : ℕ → Text → Text
 listing_with devices text = listed (bootcmd (limits only_load devices 10000) text) z None

@@ -5,7 +5,7 @@ use Rattle.rehearse.specs.DeviceList.{Variable, LastWord, Effect, Devices, effec
 use Rattle.rehearse.specs.DeviceLaws.{quiet}
 use Rattle.rehearse.specs.Laws.{failing}
 use Rattle.rehearse.specs.Runs.{Task}
-use Rattle.rehearse.proofs.Rehearsed.{limits, bootcmd, bootcmd_among, z, listed, ends_along, listed_along, along}
+use Rattle.rehearse.proofs.ExampleRehearsals.{limits, bootcmd, bootcmd_among, z, listed, ends_along, listed_along, along}
 
 abbrev steady : Effect
 steady = record { ends = false; stays = true; sets = [] }

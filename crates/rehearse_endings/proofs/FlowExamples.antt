@@ -8,7 +8,7 @@ use Rattle.rehearse.specs.DeviceLaws.{quiet}
 use Rattle.rehearse.specs.Trees.{tree_of}
 use Rattle.rehearse.specs.Execution.{End, CutDevices, Unknown}
 use Rattle.rehearse.specs.Runs.{Task, run_on}
-use Rattle.rehearse.proofs.Rehearsed.{only_load, limits, bootcmd}
+use Rattle.rehearse.proofs.ExampleRehearsals.{only_load, limits, bootcmd}
 use Rattle.rehearse_endings.specs.Flow.{Node, Asks, Ends, Seen, walk, numbered, seen_of, flow_text}
 
 -- `load a || load b`

@@ -1,4 +1,4 @@
-use Rattle.rehearse.proofs.Whole.{whole_is_greatest}
+use Rattle.rehearse.proofs.WholeRecordLemmas.{whole_is_greatest}
 use Rattle.rehearse.proofs.ResumedLemmas as resumed
 use Rattle.rehearse.proofs.laws.whole_records.Goals as goal
 

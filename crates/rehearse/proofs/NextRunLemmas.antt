@@ -5,7 +5,7 @@ use Rattle.std.proofs.Math.Dec.{leb-zero, leb-suc-suc}
 use Rattle.std.proofs.lemmas.Bool.{false≢true}
 use Rattle.rehearse.specs.Outcomes.{OutcomeWord, Outcome, Success, Failure, Run, Long, is_within, allows, one_less, word_eq, comes_before, after, common_prefix, Short, turned, has_success, beyond, first_run, first_from, IsChoice}
 use Rattle.rehearse.proofs.OrderOfWords.{AreOrdered, Before, few_ordered}
-use Rattle.rehearse.proofs.Choice.{Kinds, few_within, next_run, IsFollowed, followed_by, begins_with_first}
+use Rattle.rehearse.proofs.ChoiceTreeLemmas.{Kinds, few_within, next_run, IsFollowed, followed_by, begins_with_first}
 
 -- u is not one of the words
 abbrev pub Absent : OutcomeWord → List OutcomeWord → Type 0
