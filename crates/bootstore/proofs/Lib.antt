@@ -1,6 +1,6 @@
 mod StoreExamples
 pub mod Tables
 pub mod KeptScripts
-pub mod Trails
-pub mod Onces
+pub mod TrailLemmas
+pub mod OneInversePerName
 pub mod StateLemmas

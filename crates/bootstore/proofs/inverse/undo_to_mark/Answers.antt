@@ -2,8 +2,8 @@ use Rattle.std.proofs.Common.{[], ◌∷◌, ◌∙◌, sym, ap, subst, reverse,
 use Rattle.bootstore.specs.Inverse.{CanGoBack, KeepsOnce, record_with, marked_before, frame_reach, up_to_mark}
 use Rattle.bootstore.specs.Present.{moment_of}
 use Rattle.bootstore.specs.Record.{returned}
-use Rattle.bootstore.proofs.Trails.{reverse_last, can_last, can_after, nothing_marked, no_items, none_of_reversed}
-use Rattle.bootstore.proofs.Onces.{once_after}
+use Rattle.bootstore.proofs.TrailLemmas.{reverse_last, can_last, can_after, nothing_marked, no_items, none_of_reversed}
+use Rattle.bootstore.proofs.OneInversePerName.{once_after}
 use Rattle.bootstore.proofs.inverse.undo_to_mark.Goals as goal
 
 pub loop-last-init : goal.loop-last-init

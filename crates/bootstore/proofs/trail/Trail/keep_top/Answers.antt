@@ -2,8 +2,8 @@ use Rattle.std.proofs.Common.{◌-◌, sym, subst}
 use Rattle.bootstore.specs.declared.inverse.Inverse.TheVariants.{Touched}
 use Rattle.bootstore.specs.declared.inverse.Kept.TheVariants.{Change}
 use Rattle.bootstore.specs.Inverse.{CanGoBack, KeepsOnce}
-use Rattle.bootstore.proofs.Trails.{can_kept_top, kept_last}
-use Rattle.bootstore.proofs.Onces.{once_touched}
+use Rattle.bootstore.proofs.TrailLemmas.{can_kept_top, kept_last}
+use Rattle.bootstore.proofs.OneInversePerName.{once_touched}
 use Rattle.bootstore.proofs.trail.Trail.keep_top.Goals as goal
 
 pub invariant_of-self-2 : goal.invariant_of-self-2

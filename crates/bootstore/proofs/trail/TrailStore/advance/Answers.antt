@@ -3,7 +3,7 @@ use Rattle.std.proofs.lemmas.List.{length-reverse}
 use Rattle.bootstore.specs.Inverse.{marked_before}
 use Rattle.bootstore.specs.Present.{moment_of}
 use Rattle.bootstore.specs.Record.{changed, with_place}
-use Rattle.bootstore.proofs.Trails.{marked_moved, same_record}
+use Rattle.bootstore.proofs.TrailLemmas.{marked_moved, same_record}
 use Rattle.bootstore.proofs.trail.TrailStore.advance.Goals as goal
 
 pub returns-clause-ok : goal.returns-clause-ok

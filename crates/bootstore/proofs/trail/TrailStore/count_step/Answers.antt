@@ -1,6 +1,6 @@
 use Rattle.std.proofs.Common.{refl, ◌+◌}
 use Rattle.bootstore.specs.Present.{moment_of}
-use Rattle.bootstore.proofs.Trails.{marked_status, same_record}
+use Rattle.bootstore.proofs.TrailLemmas.{marked_status, same_record}
 use Rattle.bootstore.proofs.trail.TrailStore.count_step.Goals as goal
 
 pub returns-clause-ok : goal.returns-clause-ok

@@ -1,7 +1,7 @@
 use Rattle.std.proofs.Common.{ap, ◌∙◌, reverse}
 use Rattle.bootstore.specs.Inverse.{marked_before}
 use Rattle.bootstore.specs.Present.{moment_of}
-use Rattle.bootstore.proofs.Trails.{marked_device, same_record}
+use Rattle.bootstore.proofs.TrailLemmas.{marked_device, same_record}
 use Rattle.bootstore.proofs.trail.TrailStore.device.Goals as goal
 
 pub returns-clause-ok : goal.returns-clause-ok

@@ -1,5 +1,5 @@
 use Rattle.std.proofs.Common.{ap, reverse}
-use Rattle.bootstore.proofs.Onces.{once_nothing}
+use Rattle.bootstore.proofs.OneInversePerName.{once_nothing}
 use Rattle.bootstore.proofs.trail.TrailStore.new.Goals as goal
 
 pub invariant_of-result-clause-once : goal.invariant_of-result-clause-once

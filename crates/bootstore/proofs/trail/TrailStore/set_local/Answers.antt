@@ -6,8 +6,8 @@ use Rattle.bootstore.specs.Table.{variables_of, place_value, IsWith, AreEqual, l
 use Rattle.bootstore.specs.Inverse.{CanGoBack, KeepsOnce, marked_before}
 use Rattle.bootstore.specs.Present.{moment_of}
 use Rattle.bootstore.proofs.Tables.{found}
-use Rattle.bootstore.proofs.Trails.{can_local, can_kept_local, some_kept, kept_last, restored, same_record}
-use Rattle.bootstore.proofs.Onces.{once_equal_local, once_kept_local, marked_once_local, on_either, with_same}
+use Rattle.bootstore.proofs.TrailLemmas.{can_local, can_kept_local, some_kept, kept_last, restored, same_record}
+use Rattle.bootstore.proofs.OneInversePerName.{once_equal_local, once_kept_local, marked_once_local, on_either, with_same}
 use Rattle.bootstore.proofs.trail.TrailStore.set_local.Goals as goal
 
 pub invariant_of-self-then-kept_at-self : goal.invariant_of-self-then-kept_at-self
