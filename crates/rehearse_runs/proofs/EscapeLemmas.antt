@@ -6,9 +6,9 @@ use Rattle.std.proofs.lemmas.Bool.{false≢true, cases_Bool}
 use Rattle.std.proofs.lemmas.List.Quantifiers.{position-Some}
 use Rattle.output.specs.Sink.{Sink, BrokeOff}
 use Rattle.text.proofs.SearchLemmas.{position-none}
-use Rattle.rehearse_runs.specs.Pieces.{form_of, stands}
-use Rattle.rehearse_runs.specs.declared.pieces.Form.{Form}
-use Rattle.rehearse_runs.specs.declared.pieces.Form.TheVariants.{Text as AsText, Word as AsWord}
+use Rattle.rehearse_runs.specs.LinePieces.{form_of, stands}
+use Rattle.rehearse_runs.specs.declared.line_pieces.Form.{Form}
+use Rattle.rehearse_runs.specs.declared.line_pieces.Form.TheVariants.{Text as AsText, Word as AsWord}
 use Rattle.rehearse_runs.specs.Paging.{Put, Puts}
 use Rattle.rehearse_runs.proofs.PageLemmas.{Put-none, Put-append, Breaks-after, Breaks-before, Puts-after, Puts-as, Breaks-as}
 

@@ -11,4 +11,4 @@ pub mod GivingLemmas
 pub mod WalkLemmas
 pub mod BehindLemmas
 pub mod HeadlineLemmas
-pub mod AloneLemmas
+pub mod OneRunLemmas

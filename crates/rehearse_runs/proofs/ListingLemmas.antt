@@ -15,7 +15,7 @@ use Rattle.rehearse.specs.Listing.{outcome_digit, record_text, record_of, words_
 use Rattle.rehearse_runs.specs.Recording.{recorded, printed}
 use Rattle.rehearse_runs.specs.RunsShown.{RunsShown, last_given, last_answer, has_words}
 use Rattle.rehearse_runs.proofs.WorkLemmas.{last_some, last_more}
-use Rattle.rehearse_runs.specs.ViewShown.{shown_word, shown_moment, shown_ending}
+use Rattle.rehearse_runs.specs.RunViewShown.{shown_word, shown_moment, shown_ending}
 use Rattle.std.proofs.Common.{Result, Ok, Err, ◌≤◌, length-append}
 use Rattle.std.proofs.Math.Dec.{eqb-suc-zero}
 use Rattle.std.proofs.lemmas.Bool.{lt-leb, le-leb}
@@ -26,7 +26,7 @@ use Rattle.rehearse_runs.specs.declared.rehearse_error.RehearseError.TheVariants
 use Rattle.rehearse_runs.specs.declared.listing.Finish.{Finish}
 use Rattle.rehearse_runs.specs.declared.listing.Finish.TheVariants.{Done, More}
 use Rattle.rehearse_runs.specs.ListingRuns.{Breaks, Lists, left_out, finish_of, IsLeft, Takes, Recorded, WroteRecords, LacksMemory, BreaksOff, reached, lowered}
-use Rattle.rehearse_runs.specs.declared.view.RunView.{RunView}
+use Rattle.rehearse_runs.specs.declared.run_view.RunView.{RunView}
 
 recorded_spelled : (w : OutcomeWord) (s : State) (e : Ending) (names : List Text) → recorded (map outcome_digit w) (record s { word = [] }) e names ≡ record_text w s e names
 recorded_spelled [] s e names = refl

@@ -1,8 +1,8 @@
-pub mod BytesShown
+pub mod ByteArrayShown
 pub mod Paging
-pub mod Pieces
+pub mod LinePieces
 pub mod PointShown
-pub mod ViewShown
+pub mod RunViewShown
 pub mod Recording
 pub mod RunsShown
 pub mod Phases

@@ -1,21 +1,21 @@
 //! The runs of a boot script in their order, and their listing.
 #![tactic(auto)]
 
-mod alone;
 mod ask;
-mod bytes;
+mod byte_array;
 mod failing;
+mod line_pieces;
 mod listing;
+mod one_run;
 mod page;
-mod pieces;
 mod record;
 mod rehearse_error;
 mod rehearsing;
 mod resuming;
+mod run_view;
 mod runs;
 mod searching;
 mod trying;
-mod view;
 mod walking;
 
 pub use ask::{Ask, Wanted};
@@ -25,6 +25,6 @@ pub use rehearse_error::RehearseError;
 pub use rehearse_machine::Ending;
 pub use rehearsing::rehearse_env;
 pub use resuming::{Point, resume_point};
+pub use run_view::RunView;
 pub use runs::Runs;
 pub use trying::{WordKind, try_word};
-pub use view::RunView;

@@ -4,7 +4,7 @@ ghost use Rattle.std.specs.Prelude.{◌≡◌, [], OnOk};
 ghost use Rattle.output.specs.Sink.{Prints};
 ghost use Rattle.rehearse_runs.specs.Paging.{Puts};
 
-use crate::bytes::Bytes;
+use crate::byte_array::Bytes;
 use output::{Out, OutFault, write_all};
 
 /// The bytes that are not written yet.

@@ -10,12 +10,12 @@ ghost use Rattle.bootstore.specs.StoredState.{state_at};
 ghost use Rattle.rehearse.specs.Listing.{line, digit_when, text_lines, variable_lines, last_line};
 ghost use Rattle.rehearse_runs.specs.Paging.{Puts};
 ghost use Rattle.rehearse_runs.specs.Recording.{printed, spaced, entry_line, set_line, named_line, recorded};
-ghost use Rattle.rehearse_runs.specs.ViewShown.{shown_word, shown_moment, shown_ending};
+ghost use Rattle.rehearse_runs.specs.RunViewShown.{shown_word, shown_moment, shown_ending};
 ghost use Rattle.rehearse_machine.specs.EndingsShown.{ending_shown};
 
+use crate::line_pieces::{Piece, put_pieces, put_word};
 use crate::page::{Page, flush, put};
-use crate::pieces::{Piece, put_pieces, put_word};
-use crate::view::RunView;
+use crate::run_view::RunView;
 use bootstore::{LogEntry, Store, Variables};
 use output::{Out, OutFault};
 use rehearse_machine::Ending;

@@ -5,9 +5,9 @@ ghost use Rattle.rehearse.specs.Asking.{limit_of};
 ghost use Rattle.rehearse_runs.specs.AskShown.{asking_of, asking_alone, asking_listed, wanted_of};
 ghost use Rattle.rehearse_runs.specs.RehearsedEnvironment.{Begins, Refuses, RefusesAsk, RefusesRuns, Rehearses, WithDevices, task_asked};
 
-use crate::alone::write_run;
 use crate::ask::{Ask, Wanted, digits_of};
 use crate::listing::{Finish, write_listing};
+use crate::one_run::write_run;
 use crate::rehearse_error::RehearseError;
 use crate::runs::Runs;
 use bootstore::Store;

@@ -6,11 +6,11 @@ ghost use Rattle.rehearse.specs.Outcomes.{has_success};
 ghost use Rattle.rehearse_runs.specs.RunsShown.{has_words, last_given, outcomes, words_made, work_of};
 ghost use Rattle.std.specs.Borrow.{sem};
 
-use crate::bytes::Bytes;
+use crate::byte_array::Bytes;
 use crate::failing::{allows, is_within};
 use crate::rehearse_error::RehearseError;
+use crate::run_view::RunView;
 use crate::searching::{Digits, first_run, next_run};
-use crate::view::RunView;
 use crate::walking::{Walked, walk_to};
 use bootstore::Store;
 use envtools::Env;

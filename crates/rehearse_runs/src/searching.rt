@@ -7,7 +7,7 @@ ghost use Rattle.rehearse_machine.specs.Tasks.{task_in};
 ghost use Rattle.rehearse.specs.Bounds.{most_run_devices, most_steps};
 ghost use Rattle.rehearse.specs.Runs.{IsListed};
 
-use crate::bytes::Bytes;
+use crate::byte_array::Bytes;
 use crate::failing::{allows, failures, may_fail};
 use bootstore::{Store, StoreError};
 use rehearse_machine::{Halt, Rehearsal, Stop, begin, resume};

@@ -1,7 +1,7 @@
 use Rattle.std.proofs.lemmas.Result.{err_from_is_err_and}
 use Rattle.std.specs.FinMap.{entries}
 use Rattle.rehearse_runs.specs.Recording.{named_line}
-use Rattle.rehearse_runs.specs.ViewShown.{shown_moment}
+use Rattle.rehearse_runs.specs.RunViewShown.{shown_moment}
 use Rattle.rehearse_runs.proofs.PageLemmas.{Put-none, Put-item, Breaks-item}
 use Rattle.rehearse_runs.proofs.record.put_named.Goals as goal
 

@@ -3,7 +3,7 @@ use Rattle.std.specs.List.{flat_map}
 use Rattle.std.specs.FinMap.{entries}
 use Rattle.rehearse_runs.specs.Paging.{Put}
 use Rattle.rehearse_runs.specs.Recording.{named_line}
-use Rattle.rehearse_runs.specs.ViewShown.{shown_moment}
+use Rattle.rehearse_runs.specs.RunViewShown.{shown_moment}
 use Rattle.rehearse_runs.proofs.record.put_named.Given as goal
 
 -- the lines of the names so far were put

@@ -5,7 +5,7 @@ use Rattle.std.specs.List.{flat_map}
 use Rattle.bootstore.specs.StoredState.{state_at}
 use Rattle.rehearse.specs.Listing.{line, text_lines, variable_lines, last_line}
 use Rattle.rehearse_runs.specs.Recording.{printed, entry_line}
-use Rattle.rehearse_runs.specs.ViewShown.{shown_word, shown_moment, shown_ending}
+use Rattle.rehearse_runs.specs.RunViewShown.{shown_word, shown_moment, shown_ending}
 use Rattle.rehearse_runs.proofs.RecordParts.{record_parts}
 use Rattle.rehearse_runs.proofs.PageLemmas.{Breaks-before, Breaks-after, Breaks-as, Puts-as, Puts-after}
 use Rattle.rehearse_runs.proofs.record.put_record.Goals as goal

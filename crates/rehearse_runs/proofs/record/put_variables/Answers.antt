@@ -2,7 +2,7 @@ use Rattle.std.proofs.Common.{◌∙◌, ap, rules}
 use Rattle.std.specs.List.{flat_map}
 use Rattle.std.specs.FinMap.{entries}
 use Rattle.rehearse_runs.specs.Recording.{set_line}
-use Rattle.rehearse_runs.specs.ViewShown.{shown_moment}
+use Rattle.rehearse_runs.specs.RunViewShown.{shown_moment}
 use Rattle.rehearse_runs.proofs.RecordParts.{all_variables, named_variables}
 use Rattle.rehearse_runs.proofs.PageLemmas.{Puts-as}
 use Rattle.rehearse_runs.proofs.record.put_variables.Goals as goal

@@ -12,7 +12,7 @@ pub(crate) struct Bytes<const N: usize> {
 
 impl<const N: usize> Model for Bytes<N> {
     ghost use Rattle.std.specs.Prelude.{◌≤◌, take};
-    ghost use Rattle.rehearse_runs.specs.BytesShown.{Held};
+    ghost use Rattle.rehearse_runs.specs.ByteArrayShown.{Held};
 
     ghost Value = { Held };
 

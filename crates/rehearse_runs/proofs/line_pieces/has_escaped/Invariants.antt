@@ -1,7 +1,7 @@
 use Rattle.std.proofs.Common.{◌≡◌, not, take}
 use Rattle.std.specs.List.{list_any}
-use Rattle.rehearse_runs.specs.Pieces.{stands}
-use Rattle.rehearse_runs.proofs.pieces.has_escaped.Given as goal
+use Rattle.rehearse_runs.specs.LinePieces.{stands}
+use Rattle.rehearse_runs.proofs.line_pieces.has_escaped.Given as goal
 
 -- whether one of the bytes so far is not printed as it is
 abbrev pub invariant-loop-byte : goal.invariant-loop-byte

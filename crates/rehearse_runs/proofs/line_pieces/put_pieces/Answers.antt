@@ -1,7 +1,7 @@
 use Rattle.std.proofs.lemmas.Result.{err_from_is_err_and}
-use Rattle.rehearse_runs.specs.Pieces.{piece_text}
+use Rattle.rehearse_runs.specs.LinePieces.{piece_text}
 use Rattle.rehearse_runs.proofs.PageLemmas.{Put-none, Put-item, Breaks-item}
-use Rattle.rehearse_runs.proofs.pieces.put_pieces.Goals as goal
+use Rattle.rehearse_runs.proofs.line_pieces.put_pieces.Goals as goal
 
 pub loop-piece-init : goal.loop-piece-init
 loop-piece-init g c = Put-none _ _

@@ -16,7 +16,7 @@ pub struct RunView<'v, S: Store> {
 }
 
 impl<'v, S: Store> RunView<'v, S> {
-    ghost use Rattle.rehearse_runs.specs.ViewShown.{shown_word, shown_moment, shown_ending, shown_marks};
+    ghost use Rattle.rehearse_runs.specs.RunViewShown.{shown_word, shown_moment, shown_ending, shown_marks};
     ghost use Rattle.rehearse_machine.specs.EndingsShown.{ending_shown};
 
     /// The run in a store.

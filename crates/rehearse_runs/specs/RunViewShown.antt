@@ -5,7 +5,7 @@ use Rattle.bootstore.specs.declared.store.Store.{Ghosts}
 use Rattle.rehearse.specs.State.{Text}
 use Rattle.rehearse.specs.Execution as spec
 use Rattle.rehearse_machine.specs.EndingsShown.{ending_shown}
-use Rattle.rehearse_runs.specs.declared.view.RunView.{RunView}
+use Rattle.rehearse_runs.specs.declared.run_view.RunView.{RunView}
 
 -- the digits of its word
 abbrev pub shown_word : {S : Type 0} → RunView S → Text

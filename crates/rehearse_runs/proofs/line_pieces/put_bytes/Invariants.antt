@@ -1,7 +1,7 @@
 use Rattle.std.proofs.Common.{◌≤◌, length}
-use Rattle.rehearse_runs.specs.Pieces.{form_of}
+use Rattle.rehearse_runs.specs.LinePieces.{form_of}
 use Rattle.rehearse_runs.proofs.EscapeLemmas.{SoFar}
-use Rattle.rehearse_runs.proofs.pieces.put_bytes.Given as goal
+use Rattle.rehearse_runs.proofs.line_pieces.put_bytes.Given as goal
 
 -- the bytes before the rest were put, and the rest is not longer than the whole
 abbrev pub invariant-loop-at : goal.invariant-loop-at

@@ -3,10 +3,10 @@ use Rattle.std.specs.Prelude.{ℕ, Bool, nat_eq, nat_le, not, ◌&&◌}
 use Rattle.text.specs.Bytes as ascii
 use Rattle.text.specs.Escapes.{escaped, text_form, word_escaped, word_form}
 use Rattle.rehearse.specs.State.{Text}
-use Rattle.rehearse_runs.specs.declared.pieces.Form.{Form}
-use Rattle.rehearse_runs.specs.declared.pieces.Form.TheVariants.{Text as AsText, Word as AsWord}
-use Rattle.rehearse_runs.specs.declared.pieces.Piece.{Piece}
-use Rattle.rehearse_runs.specs.declared.pieces.Piece.TheVariants.{Plain, Text as OfText, Word as OfWord}
+use Rattle.rehearse_runs.specs.declared.line_pieces.Form.{Form}
+use Rattle.rehearse_runs.specs.declared.line_pieces.Form.TheVariants.{Text as AsText, Word as AsWord}
+use Rattle.rehearse_runs.specs.declared.line_pieces.Piece.{Piece}
+use Rattle.rehearse_runs.specs.declared.line_pieces.Piece.TheVariants.{Plain, Text as OfText, Word as OfWord}
 
 -- what a piece is printed as
 abbrev pub piece_text : Piece → Text

@@ -1,8 +1,8 @@
 use Rattle.std.proofs.Common.{take}
 use Rattle.std.specs.List.{flat_map}
 use Rattle.rehearse_runs.specs.Paging.{Put}
-use Rattle.rehearse_runs.specs.Pieces.{piece_text}
-use Rattle.rehearse_runs.proofs.pieces.put_pieces.Given as goal
+use Rattle.rehearse_runs.specs.LinePieces.{piece_text}
+use Rattle.rehearse_runs.proofs.line_pieces.put_pieces.Given as goal
 
 -- the pieces so far were put
 abbrev pub invariant-loop-piece : goal.invariant-loop-piece

@@ -3,7 +3,7 @@ ghost use Rattle.std.specs.Prelude.{◌≡◌, ◌<◌, length, not, position, I
 ghost use Rattle.std.specs.List.{flat_map, list_any};
 ghost use Rattle.text.specs.Escapes.{bytes_of, word_form};
 ghost use Rattle.rehearse_runs.specs.Paging.{Puts};
-ghost use Rattle.rehearse_runs.specs.Pieces.{form_of, least_of, piece_text, stands};
+ghost use Rattle.rehearse_runs.specs.LinePieces.{form_of, least_of, piece_text, stands};
 
 use crate::page::{Page, put};
 use output::{Out, OutFault};

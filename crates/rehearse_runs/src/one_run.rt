@@ -5,14 +5,14 @@ ghost use Rattle.rehearse.specs.Listing.{line};
 ghost use Rattle.bootstore.specs.StoredState.{state_at};
 ghost use Rattle.rehearse_machine.specs.Tasks.{task_in};
 ghost use Rattle.rehearse_runs.specs.Recording.{recorded};
-ghost use Rattle.rehearse_runs.specs.ViewShown.{shown_word, shown_moment, shown_ending};
+ghost use Rattle.rehearse_runs.specs.RunViewShown.{shown_word, shown_moment, shown_ending};
 ghost use Rattle.rehearse_runs.specs.RunAlone.{BreaksAlone, WritesAlone};
 
 use crate::ask::digits_of;
-use crate::bytes::Bytes;
+use crate::byte_array::Bytes;
 use crate::record::write_record;
 use crate::rehearse_error::RehearseError;
-use crate::view::RunView;
+use crate::run_view::RunView;
 use crate::walking::{Walked, walk_to};
 use bootstore::Store;
 use output::{Out, OutFault, write_all};

@@ -1,9 +1,9 @@
 use Rattle.std.proofs.Common.{◌+◌, ◌≤◌, ℕ, List, length, arith, sym, subst, ◌∙◌}
 use Rattle.std.proofs.lemmas.List.{take_rest, length-drop}
 use Rattle.std.proofs.lemmas.Result.{err_from_is_err_and}
-use Rattle.rehearse_runs.specs.Pieces.{form_of}
+use Rattle.rehearse_runs.specs.LinePieces.{form_of}
 use Rattle.rehearse_runs.proofs.EscapeLemmas.{SoFar, as_it_is, at_once, one_more, broke_in_front, broke_behind, at_last}
-use Rattle.rehearse_runs.proofs.pieces.put_bytes.Goals as goal
+use Rattle.rehearse_runs.proofs.line_pieces.put_bytes.Goals as goal
 
 pub returns-in_err-put : goal.returns-in_err-put
 returns-in_err-put g c =

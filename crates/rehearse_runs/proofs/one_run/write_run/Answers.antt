@@ -2,10 +2,10 @@ use Rattle.std.proofs.Common.{map, refl, ◌∙◌}
 use Rattle.rehearse_machine.specs.Tasks.{task_in}
 use Rattle.rehearse_runs.specs.RunsShown.{outcomes}
 use Rattle.rehearse_runs.specs.declared.walking.Walked.TheVariants.{Ends, Short, Long}
-use Rattle.rehearse_runs.proofs.AloneLemmas.{alone_broken, alone_written, long_no_run}
+use Rattle.rehearse_runs.proofs.OneRunLemmas.{alone_broken, alone_written, long_no_run}
 use Rattle.rehearse_runs.proofs.BehindLemmas.{short_no_run, walked_at}
 use Rattle.rehearse_runs.proofs.HeadlineLemmas.{spells_no_run}
-use Rattle.rehearse_runs.proofs.alone.write_run.Goals as goal
+use Rattle.rehearse_runs.proofs.one_run.write_run.Goals as goal
 
 pub returns-in-Ok-write_one-clause-ok : goal.returns-in-Ok-write_one-clause-ok
 returns-in-Ok-write_one-clause-ok g c =

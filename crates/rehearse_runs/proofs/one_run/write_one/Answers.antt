@@ -1,8 +1,8 @@
 use Rattle.std.specs.Prelude.{codes}
 use Rattle.output.proofs.SinkLemmas.{BrokeOff-before}
 use Rattle.rehearse.specs.Listing.{line}
-use Rattle.rehearse_runs.proofs.AloneLemmas.{Prints-behind}
-use Rattle.rehearse_runs.proofs.alone.write_one.Goals as goal
+use Rattle.rehearse_runs.proofs.OneRunLemmas.{Prints-behind}
+use Rattle.rehearse_runs.proofs.one_run.write_one.Goals as goal
 
 pub returns-in-Ok : goal.returns-in-Ok
 returns-in-Ok g c = Prints-behind c.write_all.result (g.O.Out.sink c.write_all.new.out) (line (codes "done")) c.in-Ok.ensures c.write_all.ensures
