@@ -13,7 +13,7 @@ use Rattle.rehearse_endings.specs.Flow.{Node, Ends, node_text, flow_from, flow_t
 use Rattle.rehearse_endings.specs.Drawing.{node_shown}
 use Rattle.rehearse_endings.specs.declared.flow.Node as rt
 use Rattle.rehearse_endings.specs.declared.flow.Node.TheVariants as made
-use Rattle.rehearse_endings.proofs.Gathering.{ending_same}
+use Rattle.rehearse_endings.proofs.RowsOfRuns.{ending_same}
 
 -- a way to end that was found
 pub end_found : (nodes slice : List rt.Node) (i : ℕ) (node : rt.Node) (other halt : Halt) → slice ≡ nodes → true ≡ nat_lt i (length slice) → node ≡ get_or slice i node → node ≡ made.Ends other

@@ -14,9 +14,9 @@ use Rattle.rehearse_endings.specs.States.{HasStates}
 use Rattle.rehearse_runs.proofs.SearchLemmas.{stopped_on}
 use Rattle.std.proofs.Common.{Err}
 use Rattle.std.proofs.lemmas.Result.{err_from_is_err_and}
-use Rattle.rehearse_endings.proofs.Entering.{refused_as, met_as, enters, too_many, new_won, new_lost, gone_through, none_entered}
-use Rattle.rehearse_endings.proofs.Flowing.{state_drawn, kept_drawn, ended_drawn, more_on, more_nodes, no_more, entered_as}
-use Rattle.rehearse_endings.proofs.Reached.{Room, begun_marked, begun_on, begun_lost, reached_within, reached_as, reached_below, reached_on, won_on, back_there, lost_on, sides_of, summed_end, summed_sides, all_wider, entries_more}
+use Rattle.rehearse_endings.proofs.EnteredStateLemmas.{refused_as, met_as, enters, too_many, new_won, new_lost, gone_through, none_entered}
+use Rattle.rehearse_endings.proofs.WrittenFlowLemmas.{state_drawn, kept_drawn, ended_drawn, more_on, more_nodes, no_more, entered_as}
+use Rattle.rehearse_endings.proofs.SearchLemmas.{Room, begun_marked, begun_on, begun_lost, reached_within, reached_as, reached_below, reached_on, won_on, back_there, lost_on, sides_of, summed_end, summed_sides, all_wider, entries_more}
 use Rattle.rehearse_endings.proofs.searching.+summed.Goals as goal
 
 pub find-requires-clause-depth : goal.find-requires-clause-depth

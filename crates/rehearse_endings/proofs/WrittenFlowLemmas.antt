@@ -22,9 +22,9 @@ use Rattle.rehearse_endings.specs.Drawing.{nodes_shown, seen_behind, seen_at, Dr
 use Rattle.rehearse_endings.specs.Searching.{future, seen_from, IsReached, AreEntries}
 use Rattle.rehearse_endings.specs.declared.flow.Flow.{Flow}
 use Rattle.rehearse_endings.specs.declared.table.Table.{Table}
-use Rattle.rehearse_endings.proofs.AskedAnew.{asks_anew}
-use Rattle.rehearse_endings.proofs.Drawn.{draws_on, end_drawn, words_logged, asks_drawn}
-use Rattle.rehearse_endings.proofs.Reached.{reached_log, reached_first, reached_on, reached_asks, reached_wants, future_is}
+use Rattle.rehearse_endings.proofs.AskingCommandLemmas.{asks_anew}
+use Rattle.rehearse_endings.proofs.DrawingLemmas.{draws_on, end_drawn, words_logged, asks_drawn}
+use Rattle.rehearse_endings.proofs.SearchLemmas.{reached_log, reached_first, reached_on, reached_asks, reached_wants, future_is}
 
 -- ---- a state in which a device command asks
 

@@ -8,7 +8,7 @@ use Rattle.rehearse.specs.Runs.{Task, kind, run_on}
 use Rattle.rehearse_machine.specs.declared.rehearsal.Stop.{Stop}
 use Rattle.rehearse_machine.specs.declared.rehearsal.Stop.TheVariants.{Asks}
 use Rattle.rehearse_endings.specs.Futures.{came_kind}
-use Rattle.rehearse_endings.proofs.Reached.{kind_settled}
+use Rattle.rehearse_endings.proofs.SearchLemmas.{kind_settled}
 use Rattle.rehearse_runs.specs.Searching.{StoppedAt}
 use Rattle.rehearse_endings.specs.States.{Asked, IsMet, IsUnlike, NoTwoAlike, HasStates, Entered, BeginsWith, IsNewAt, HasEntered}
 use Rattle.rehearse_endings.specs.Searching.{IsKept}

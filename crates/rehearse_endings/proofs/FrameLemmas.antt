@@ -10,7 +10,7 @@ use Rattle.rehearse_machine.specs.Meaning.{first_or_next, full, script, joined_o
 use Rattle.rehearse_endings.specs.Elsewhere.{IsAlike, same, cut_here, beyond}
 use Rattle.rehearse_endings.specs.Futures as futures
 use Rattle.rehearse_endings.specs.Futures.{CameAlike}
-use Rattle.rehearse_endings.proofs.Alike.{further_apart, AlwaysDoes, go_on_alike, normal_later, text_end_alike, Alike-if, Alike-script, Alike-joined, Alike-arms, Alike-exec, Alike-run, Alike-turns, Alike-for, Alike-after}
+use Rattle.rehearse_endings.proofs.ElsewhereLemmas.{further_apart, AlwaysDoes, go_on_alike, normal_later, text_end_alike, Alike-if, Alike-script, Alike-joined, Alike-arms, Alike-exec, Alike-run, Alike-turns, Alike-for, Alike-after}
 
 module _ (limits : Limits) (i j : ℕ) (k l : List LoggedCommand) where
   abbrev Is : Answer → Answer → Type 0

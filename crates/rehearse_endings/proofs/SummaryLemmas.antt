@@ -11,7 +11,7 @@ use Rattle.rehearse_endings.specs.Futures as futures
 use Rattle.rehearse_endings.specs.Futures.{came_kind, came_ending, came_steps, came_devices, HaveSameCore, IsSameCame, CameCut, CameBeyond, CameAlike}
 use Rattle.rehearse_endings.specs.Endings.{Row, HasRows, ends, asks}
 use Rattle.rehearse_endings.specs.Summaries.{Summary, Sums, FitsIf, Fits, moved_on, is_cut_steps, is_cut_devices, of_end, of_sides}
-use Rattle.rehearse_endings.proofs.Moments.{asked_alike}
+use Rattle.rehearse_endings.proofs.SameCoreLemmas.{asked_alike}
 
 pub same_function : {A B : Type 0} (f g : A → B) → ((x : A) → f x ≡ g x) → f ≡ g
 same_function f g h = λ i. λ x. h x i

@@ -19,8 +19,8 @@ use Rattle.rehearse_machine.specs.AskingCommand.{words_in_front, fields_again, f
 use Rattle.rehearse_machine.specs.Machine.{Asking, IsAsking, asked_at}
 use Rattle.rehearse_endings.specs.Elsewhere.{elsewhere}
 use Rattle.rehearse_endings.specs.Futures.{HaveSameCore, CameAlike}
-use Rattle.rehearse_endings.proofs.Alike.{take_alike}
-use Rattle.rehearse_endings.proofs.Frames.{continue_alike}
+use Rattle.rehearse_endings.proofs.ElsewhereLemmas.{take_alike}
+use Rattle.rehearse_endings.proofs.FrameLemmas.{continue_alike}
 
 -- if both ask, they ask the same
 abbrev AsksFor : Request → PlaceNext → Type 0

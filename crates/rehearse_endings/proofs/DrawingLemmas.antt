@@ -20,9 +20,9 @@ use Rattle.rehearse_endings.specs.Futures.{came_kind, came_to_end, came_log, IsS
 use Rattle.rehearse_endings.specs.Flow.{Node, Asks, Ends, Answered, asked_in, Seen, behind, stands_at, goes_on, walk}
 use Rattle.rehearse_endings.specs.Drawing.{further, seen_behind, Draws, seen_at, HasMore, words_in}
 use Rattle.rehearse_endings.specs.Searching.{future, seen_from}
-use Rattle.rehearse_endings.proofs.Alike.{Alike-boot}
-use Rattle.rehearse_endings.proofs.Frames.{continue_alike}
-use Rattle.rehearse_endings.proofs.Moments.{asks_so}
+use Rattle.rehearse_endings.proofs.ElsewhereLemmas.{Alike-boot}
+use Rattle.rehearse_endings.proofs.FrameLemmas.{continue_alike}
+use Rattle.rehearse_endings.proofs.SameCoreLemmas.{asks_so}
 
 -- ---- lists
 

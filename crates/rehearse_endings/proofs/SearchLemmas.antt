@@ -35,10 +35,10 @@ use Rattle.rehearse_endings.specs.declared.summary.Summary as kept
 use Rattle.std.specs.Prelude.{MatchOption, ⊤}
 use Rattle.rehearse_endings.specs.Flow.{Node, asked_in}
 use Rattle.rehearse_endings.specs.Drawing.{Draws, HasMore, seen_at}
-use Rattle.rehearse_endings.proofs.Drawn.{draws_on, draws_there}
-use Rattle.rehearse_endings.proofs.Summing.{rows_as, sums_same, came_same, sums_there, sums_end, sums_sides}
-use Rattle.rehearse_endings.proofs.Gathering.{are_rows}
-use Rattle.rehearse_endings.proofs.Saturating.{both_up}
+use Rattle.rehearse_endings.proofs.DrawingLemmas.{draws_on, draws_there}
+use Rattle.rehearse_endings.proofs.SummaryLemmas.{rows_as, sums_same, came_same, sums_there, sums_end, sums_sides}
+use Rattle.rehearse_endings.proofs.RowsOfRuns.{are_rows}
+use Rattle.rehearse_endings.proofs.SaturatedCountLemmas.{both_up}
 
 -- ---- a text that has stopped
 
