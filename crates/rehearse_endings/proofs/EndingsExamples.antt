@@ -12,7 +12,7 @@ use Rattle.rehearse.specs.Execution.{Ending, End, CutDevices, CutSteps, Unknown,
 use Rattle.rehearse.specs.Runs.{Task, all_runs}
 use Rattle.rehearse.proofs.ExampleRehearsals.{only_load, limits, bootcmd}
 use Rattle.rehearse_endings.specs.Endings.{Row, ending_eq, fewer, joined as with_further, with_row, gather, endings, of_both}
-use Rattle.rehearse_endings.specs.Lines.{count_text, endings_text, counted}
+use Rattle.rehearse_endings.specs.EndingLines.{count_text, endings_text, counted}
 use Rattle.rehearse_endings.specs.RowsShown.{most_runs, saturated, with_row_up}
 
 abbrev task : ℕ → Text → Task

@@ -3,7 +3,7 @@ use Rattle.std.specs.Prelude.{◌≡◌, ◌≢◌, ◌<◌, ◌≤◌, List, []
 use Rattle.rehearse.specs.Outcomes.{OutcomeWord, failures}
 use Rattle.rehearse.specs.Runs.{Task, all_runs}
 use Rattle.rehearse_endings.specs.Endings.{Row, ending, endings}
-use Rattle.rehearse_endings.specs.Lines.{counted}
+use Rattle.rehearse_endings.specs.EndingLines.{counted}
 
 -- each run is counted, and only once
 abbrev pub RunsAreCounted : Type 0

@@ -8,6 +8,6 @@ pub mod Cores
 pub mod RowsShown
 pub mod Searching
 pub mod States
-pub mod Lines
+pub mod EndingLines
 pub mod TellingEndings
 pub mod Laws

@@ -7,7 +7,7 @@ use Rattle.rehearse.specs.Runs.{Task, all_runs}
 use Rattle.rehearse_machine.specs.Tasks.{task_set}
 use Rattle.rehearse_endings.specs.Endings.{endings}
 use Rattle.rehearse_endings.specs.Flow.{Node, IsFlow, flow_text}
-use Rattle.rehearse_endings.specs.Lines.{endings_text}
+use Rattle.rehearse_endings.specs.EndingLines.{endings_text}
 use Rattle.rehearse_endings.specs.States.{HasStates}
 use Rattle.rehearse_endings.specs.declared.telling.EndingsAsk.{EndingsAsk}
 use Rattle.rehearse_runs.specs.declared.rehearse_error.RehearseError.{RehearseError}

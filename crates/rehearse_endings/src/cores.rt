@@ -5,7 +5,7 @@ ghost use Rattle.rehearse_endings.specs.Cores.{core_shown, core_of, pairs_shown,
 
 use crate::environments::Environments;
 use crate::flow::copy_words;
-use crate::same::{same_frame, same_texts};
+use crate::same_scripts::{same_frame, same_texts};
 use bootstore::{Frame, LogEntry, Store, StoreError, Variables};
 use std::alloc::Global;
 use std::rc::Rc;

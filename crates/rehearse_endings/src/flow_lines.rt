@@ -8,8 +8,8 @@ ghost use Rattle.rehearse_runs.specs.Recording.{spaced};
 ghost use Rattle.rehearse_endings.specs.Drawing.{node_shown, nodes_shown};
 ghost use Rattle.rehearse_endings.specs.Flow.{node_text, flow_text};
 
+use crate::ending_lines::{put, put_ending, put_number, put_word};
 use crate::flow::Node;
-use crate::lines::{put, put_ending, put_number, put_word};
 use bootstore::StoreError;
 use std::alloc::Global;
 

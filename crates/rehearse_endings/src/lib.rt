@@ -3,14 +3,14 @@
 #![tactic(auto)]
 
 mod cores;
+mod ending_lines;
 mod environments;
 mod flow;
 mod flow_lines;
 mod hashing;
 pub mod laws;
-mod lines;
 mod rows;
-mod same;
+mod same_scripts;
 mod searching;
 mod sum_error;
 mod summary;

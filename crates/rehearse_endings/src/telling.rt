@@ -5,8 +5,8 @@ ghost use Rattle.rehearse_endings.specs.declared.sum_error.SumError.TheVariants.
 ghost use Rattle.rehearse_endings.specs.States.{HasStates};
 ghost use Rattle.rehearse_endings.specs.TellingEndings.{AreLines, IsUntold, TellsEndings, RefusesEndings};
 
+use crate::ending_lines::text_of;
 use crate::flow_lines::flow_text_of;
-use crate::lines::text_of;
 use crate::searching::sum_endings;
 use crate::sum_error::SumError;
 use bootstore::Store;

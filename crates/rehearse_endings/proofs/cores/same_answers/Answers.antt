@@ -4,7 +4,7 @@ use Rattle.std.specs.declared.alloc.Global.{Global}
 use Rattle.text.specs.TextsShown.{bytes_of_words}
 use Rattle.rehearse.specs.State.{Text, LoggedCommand, answers_in}
 use Rattle.rehearse_endings.specs.Cores.{answers_shown}
-use Rattle.rehearse_endings.proofs.SameLemmas.{same_flag, told_flag, pairs_step, pairs_first, pairs_rest, pairs_none, told_empty}
+use Rattle.rehearse_endings.proofs.SameScriptLemmas.{same_flag, told_flag, pairs_step, pairs_first, pairs_rest, pairs_none, told_empty}
 use Rattle.rehearse_endings.proofs.AnswerLemmas.{answer_of, answers_first, answers_skipped, answers_past}
 use Rattle.rehearse_endings.proofs.cores.same_answers.Goals as goal
 use Rattle.rehearse_endings.proofs.cores.same_answers.Goals.{then-has_answer+in-Some+else-entry-other+else-not-same_texts, else-has_answer}

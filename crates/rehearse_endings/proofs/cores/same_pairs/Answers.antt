@@ -1,7 +1,7 @@
 use Rattle.std.proofs.Common.{rules, ◌≡◌, [], ◌∷◌, List, ℕ, Vec, length, ap, sym, ◌∙◌}
 use Rattle.std.specs.declared.alloc.Global.{Global}
 use Rattle.rehearse_endings.specs.Cores.{pairs_shown}
-use Rattle.rehearse_endings.proofs.SameLemmas.{same_pair, pairs_step, same_bytes, pairs_rest, pairs_first, told_empty, told_bytes, pairs_none}
+use Rattle.rehearse_endings.proofs.SameScriptLemmas.{same_pair, pairs_step, same_bytes, pairs_rest, pairs_first, told_empty, told_bytes, pairs_none}
 use Rattle.rehearse_endings.proofs.cores.same_pairs.Goals as goal
 
 pub loop-name-preserved : goal.loop-name-preserved

@@ -1,6 +1,6 @@
 use Rattle.std.proofs.Common.{◌≡◌, ◌++◌, flat_map, take}
 use Rattle.text.specs.Escapes.{word_escaped}
-use Rattle.rehearse_endings.proofs.lines.put_word.Given as goal
+use Rattle.rehearse_endings.proofs.ending_lines.put_word.Given as goal
 
 -- the bytes so far
 abbrev pub invariant-loop-byte : goal.invariant-loop-byte

@@ -1,6 +1,6 @@
 use Rattle.std.proofs.Common.{◌≡◌, map, take, ◌++◌}
 use Rattle.hushlang.specs.TreesShown as view
-use Rattle.rehearse_endings.proofs.same.same_words.Given as goal
+use Rattle.rehearse_endings.proofs.same_scripts.same_words.Given as goal
 
 -- the words so far say the same
 abbrev pub invariant-loop-word : goal.invariant-loop-word

@@ -1,6 +1,6 @@
 use Rattle.std.proofs.Common.{rules, ◌≡◌, ◌∷◌}
-use Rattle.rehearse_endings.proofs.SameLemmas.{same_step, same_bytes, told_step, told_end, told_bytes}
-use Rattle.rehearse_endings.proofs.same.same_texts.Goals as goal
+use Rattle.rehearse_endings.proofs.SameScriptLemmas.{same_step, same_bytes, told_step, told_end, told_bytes}
+use Rattle.rehearse_endings.proofs.same_scripts.same_texts.Goals as goal
 
 pub loop-text-preserved : goal.loop-text-preserved
 loop-text-preserved c =

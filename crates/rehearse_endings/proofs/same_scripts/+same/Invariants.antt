@@ -1,6 +1,6 @@
 use Rattle.std.proofs.Common.{◌≡◌, map, take, ◌++◌}
 use Rattle.hushlang.specs.TreesShown as view
-use Rattle.rehearse_endings.proofs.same.+same.Given as goal
+use Rattle.rehearse_endings.proofs.same_scripts.+same.Given as goal
 
 -- the lists so far say the same
 abbrev pub invariant-same_script-loop-list : goal.invariant-same_script-loop-list

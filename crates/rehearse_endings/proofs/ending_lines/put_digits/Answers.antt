@@ -1,6 +1,6 @@
 use Rattle.std.proofs.Common.{rules, ◌<◌, ◌++◌, ◌∙◌, ap, sym, length, List, ℕ}
-use Rattle.rehearse_endings.proofs.LineLemmas.{spelled_shown}
-use Rattle.rehearse_endings.proofs.lines.put_digits.Goals as goal
+use Rattle.rehearse_endings.proofs.EndingLineLemmas.{spelled_shown}
+use Rattle.rehearse_endings.proofs.ending_lines.put_digits.Goals as goal
 
 pub returns : goal.returns
 returns c =

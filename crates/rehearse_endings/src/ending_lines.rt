@@ -6,7 +6,7 @@ ghost use Rattle.rehearse.specs.Listing.{digit_when, line, last_line, spelled};
 ghost use Rattle.rehearse_machine.specs.EndingsShown.{halt_shown};
 ghost use Rattle.rehearse_machine.specs.Machine.{outcome_when};
 ghost use Rattle.rehearse.specs.Outcomes.{failures};
-ghost use Rattle.rehearse_endings.specs.Lines.{count_text, row_text, endings_text, counted};
+ghost use Rattle.rehearse_endings.specs.EndingLines.{count_text, row_text, endings_text, counted};
 ghost use Rattle.rehearse_endings.specs.RowsShown.{most_runs, row_shown, rows_shown};
 
 use crate::rows::{Row, failures};

@@ -1,7 +1,7 @@
 use Rattle.std.proofs.Common.{rules, sym, ap, ◌∙◌, ◌≡◌, ◌∷◌, map}
 use Rattle.hushlang.specs.TreesShown as view
-use Rattle.rehearse_endings.proofs.SameLemmas.{told_step, told_end}
-use Rattle.rehearse_endings.proofs.same.same_word.Goals as goal
+use Rattle.rehearse_endings.proofs.SameScriptLemmas.{told_step, told_end}
+use Rattle.rehearse_endings.proofs.same_scripts.same_word.Goals as goal
 
 pub returns-then-not-same_piece-clause-told : goal.returns-then-not-same_piece-clause-told
 returns-then-not-same_piece-clause-told c = λ h.

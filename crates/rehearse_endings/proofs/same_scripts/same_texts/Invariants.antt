@@ -1,5 +1,5 @@
 use Rattle.std.proofs.Common.{◌≡◌, map, take, ◌++◌}
-use Rattle.rehearse_endings.proofs.same.same_texts.Given as goal
+use Rattle.rehearse_endings.proofs.same_scripts.same_texts.Given as goal
 
 -- the texts so far are the same
 abbrev pub invariant-loop-text : goal.invariant-loop-text

@@ -10,7 +10,7 @@ use Rattle.rehearse.specs.Execution.{Ending}
 use Rattle.rehearse.specs.Runs.{Task, all_runs}
 use Rattle.rehearse_endings.specs.Endings.{Row, ending_eq, joined, with_row, merge, one_run, ending, endings}
 use Rattle.rehearse_endings.specs.RowsShown.{most_runs, saturated}
-use Rattle.rehearse_endings.specs.Lines.{count_text, row_text, all_text, endings_text, counted}
+use Rattle.rehearse_endings.specs.EndingLines.{count_text, row_text, all_text, endings_text, counted}
 
 -- ---- counts that are too large
 

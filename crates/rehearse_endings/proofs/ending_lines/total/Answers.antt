@@ -2,8 +2,8 @@ use Rattle.std.proofs.Common.{◌∙◌, ◌+◌, ◌++◌, ◌∷◌, [], ap, s
 use Rattle.std.proofs.lemmas.List.{map_more}
 use Rattle.rehearse_endings.specs.Endings.{Row}
 use Rattle.rehearse_endings.specs.RowsShown.{row_shown}
-use Rattle.rehearse_endings.proofs.LineLemmas.{counted_more}
-use Rattle.rehearse_endings.proofs.lines.total.Goals as goal
+use Rattle.rehearse_endings.proofs.EndingLineLemmas.{counted_more}
+use Rattle.rehearse_endings.proofs.ending_lines.total.Goals as goal
 
 pub loop-row-preserved : goal.loop-row-preserved
 loop-row-preserved c =

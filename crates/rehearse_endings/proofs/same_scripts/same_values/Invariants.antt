@@ -1,6 +1,6 @@
 use Rattle.std.proofs.Common.{◌≡◌, map, take, ◌++◌}
 use Rattle.hushlang.specs.TreesShown as view
-use Rattle.rehearse_endings.proofs.same.same_values.Given as goal
+use Rattle.rehearse_endings.proofs.same_scripts.same_values.Given as goal
 
 -- the values so far say the same
 abbrev pub invariant-loop-value : goal.invariant-loop-value

@@ -1,7 +1,7 @@
 use Rattle.std.proofs.Common.{◌≡◌, min, take, map}
 use Rattle.rehearse_endings.specs.RowsShown.{most_runs, row_shown}
-use Rattle.rehearse_endings.specs.Lines.{counted}
-use Rattle.rehearse_endings.proofs.lines.total.Given as goal
+use Rattle.rehearse_endings.specs.EndingLines.{counted}
+use Rattle.rehearse_endings.proofs.ending_lines.total.Given as goal
 
 -- the runs of the rows so far
 abbrev pub invariant-loop-row : goal.invariant-loop-row

@@ -1,9 +1,9 @@
 use Rattle.std.proofs.Common.{refl, rules, ap, ◌≡◌, ◌∷◌, List, ℕ}
 use Rattle.hushlang.specs.TreesShown as view
 use Rattle.hushlang.specs.Tree as tree
-use Rattle.rehearse_endings.proofs.same.same_values.Goals.{then-ne-via-then-ne, then-ne-via-else-ne+then-not-same_word}
-use Rattle.rehearse_endings.proofs.SameLemmas.{same_step, same_value, same_bytes, told_step, told_end, told_bytes}
-use Rattle.rehearse_endings.proofs.same.same_values.Goals as goal
+use Rattle.rehearse_endings.proofs.same_scripts.same_values.Goals.{then-ne-via-then-ne, then-ne-via-else-ne+then-not-same_word}
+use Rattle.rehearse_endings.proofs.SameScriptLemmas.{same_step, same_value, same_bytes, told_step, told_end, told_bytes}
+use Rattle.rehearse_endings.proofs.same_scripts.same_values.Goals as goal
 
 pub loop-value-preserved : goal.loop-value-preserved
 loop-value-preserved c =

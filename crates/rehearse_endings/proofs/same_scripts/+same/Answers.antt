@@ -1,10 +1,10 @@
 use Rattle.std.proofs.Common.{refl, sym, ap, ◌∙◌, rules, ◌≡◌, ◌∷◌, map, length}
 use Rattle.hushlang.specs.Tree as tree
 use Rattle.hushlang.specs.declared.tree.Op.{Op}
-use Rattle.rehearse_endings.proofs.same.+same.Goals.{same_command-then-until-until_there-via-then-until-until_there, same_command-then-until-until_there-via-else-until-until_there+then-not-same_script, same_command-then-ne-via-then-ne, same_command-then-ne-via-else-ne+then-not-same_words, same_list-then-ne-via-then-ne, same_list-then-ne-via-else-ne+then-not-same_command-2}
+use Rattle.rehearse_endings.proofs.same_scripts.+same.Goals.{same_command-then-until-until_there-via-then-until-until_there, same_command-then-until-until_there-via-else-until-until_there+then-not-same_script, same_command-then-ne-via-then-ne, same_command-then-ne-via-else-ne+then-not-same_words, same_list-then-ne-via-then-ne, same_list-then-ne-via-else-ne+then-not-same_command-2}
 use Rattle.hushlang.specs.TreesShown as view
-use Rattle.rehearse_endings.proofs.SameLemmas.{same_simple, same_assign, same_loop, same_for, same_if, same_body, same_none, same_lists, same_joins, same_end, same_flag, same_bytes, empty_of, told_step, told_end, none_left, told_bytes, told_flag, told_none, told_body, told_no_body, told_lists, told_first, told_joins, told_simple, told_assign, told_loop, told_for, told_if, other_simple, other_assign, other_if, other_loop, other_for, kind}
-use Rattle.rehearse_endings.proofs.same.+same.Goals as goal
+use Rattle.rehearse_endings.proofs.SameScriptLemmas.{same_simple, same_assign, same_loop, same_for, same_if, same_body, same_none, same_lists, same_joins, same_end, same_flag, same_bytes, empty_of, told_step, told_end, none_left, told_bytes, told_flag, told_none, told_body, told_no_body, told_lists, told_first, told_joins, told_simple, told_assign, told_loop, told_for, told_if, other_simple, other_assign, other_if, other_loop, other_for, kind}
+use Rattle.rehearse_endings.proofs.same_scripts.+same.Goals as goal
 
 pub same_command-returns-in-Simple-b-clause-same : goal.same_command-returns-in-Simple-b-clause-same
 same_command-returns-in-Simple-b-clause-same t c = λ h. same_simple c.args.a.now c.args.b.now c.in-Simple.words c.in-Simple-b.others c.deref.result.now c.deref-in-Simple-b.result.now c.in-Simple.is c.in-Simple-b.is c.deref.ensures.value c.deref-in-Simple-b.ensures.value (c.same_words.ensures.same h)
