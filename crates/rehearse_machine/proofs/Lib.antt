@@ -3,6 +3,8 @@ pub mod Cutting
 pub mod Fuel
 pub mod Moves
 pub mod Coming
+pub mod MakingLemmas
+pub mod ForLemmas
 pub mod ArmLemmas
 pub mod Settings
 pub mod CommandLemmas

@@ -7,6 +7,7 @@ pub mod MoveCounts
 pub mod AskingCommand
 pub mod EndingsShown
 pub mod MovesShown
+pub mod NextMoves
 pub mod CalledShown
 pub mod Turning
 pub mod Machine

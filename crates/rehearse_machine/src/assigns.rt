@@ -58,5 +58,5 @@ fn assign<'d, S: Store>(
         };
         store.set_local(&value.0, &found)?;
     }
-    finish(store, frame, behind(frame.at()), 0)
+    finish(store, behind(frame.at()), 0)
 }

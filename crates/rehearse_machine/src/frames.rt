@@ -1,6 +1,7 @@
 //! Places in scripts.
 ghost use Rattle.std.specs.Prelude.{◌≡◌, suc, ◌∷◌, ◌+◌, ◌<◌, ◌^◌};
 ghost use Rattle.hushlang.specs.TreesShown as view;
+ghost use Rattle.bootstore.specs.Moment.{RunningFrame};
 ghost use Rattle.rehearse.specs.Execution.{set_status};
 ghost use Rattle.rehearse_machine.specs.Places.{place, block_frame, text_frame, moved_to, GoOn};
 ghost use Rattle.rehearse_machine.specs.MovesShown.{Comes, IsTop, under};
@@ -11,6 +12,7 @@ use hushlang::tree::Script;
 use std::rc::Rc;
 
 /// A place in a script, at a command that has not begun.
+#[inline(always)]
 pub(crate) fn place(list: usize, command: usize) -> At
     ensures { result ≡ place list command 0 0 }
 {
@@ -23,6 +25,7 @@ pub(crate) fn place(list: usize, command: usize) -> At
 }
 
 /// The place after the command of a place.
+#[inline(always)]
 pub(crate) fn behind(at: At) -> At
     requires { at.command + 1 < 2 ^ 64 }
     ensures { result ≡ place at.list (suc at.command) 0 0 }
@@ -31,6 +34,7 @@ pub(crate) fn behind(at: At) -> At
 }
 
 /// The same command, in the turn after this one.
+#[inline(always)]
 pub(crate) fn in_turn(at: At, turn: usize, last: u8) -> At
     requires { turn + 1 < 2 ^ 64 }
     ensures { result ≡ place at.list at.command (suc turn) last }
@@ -44,6 +48,7 @@ pub(crate) fn in_turn(at: At, turn: usize, last: u8) -> At
 }
 
 /// A block from its start.
+#[inline(always)]
 pub(crate) fn block(script: Rc<Script>) -> Frame
     ensures { result ≡ block_frame (view.script script.value) }
 {
@@ -60,47 +65,41 @@ pub(crate) fn text(script: Rc<Script>) -> Frame
 /// Moves the innermost frame to a place, and pushes a frame on it.
 pub(crate) fn enter<'d, S: Store>(
     store: &mut S,
-    frame: &Frame,
     at: At,
     child: Frame,
 ) -> Result<Step<'d>, StoreError>
-    requires { IsTop frame.now (S.record_of store.old).present }
-    ensures { Comes result (S.record_of store.old) (S.record_of store.new)
-        (GoOn (child ∷ moved_to at frame.now ∷ under (S.record_of store.old).present)) }
+    ensures { (f : RunningFrame) → IsTop f (S.record_of store.old).present
+        → Comes result (S.record_of store.old) (S.record_of store.new)
+        (GoOn (child ∷ moved_to at f ∷ under (S.record_of store.old).present)) }
 {
     store.advance(at)?;
     store.push(child)?;
     Ok(Step::Going)
 }
 
-/// Moves the innermost frame to a place.
-pub(crate) fn go_on<'d, S: Store>(
-    store: &mut S,
-    frame: &Frame,
-    at: At,
-) -> Result<Step<'d>, StoreError>
-    requires { IsTop frame.now (S.record_of store.old).present }
-    ensures { Comes result (S.record_of store.old) (S.record_of store.new)
-        (GoOn (moved_to at frame.now ∷ under (S.record_of store.old).present)) }
-{
-    store.advance(at)?;
-    Ok(Step::Going)
-}
-
 /// Moves the innermost frame to a place, and sets the status.
 pub(crate) fn finish<'d, S: Store>(
     store: &mut S,
-    frame: &Frame,
     at: At,
     status: u8,
 ) -> Result<Step<'d>, StoreError>
-    requires { IsTop frame.now (S.record_of store.old).present }
-    ensures { Comes result (S.record_of store.old) (S.record_of store.new)
-        (λ s. GoOn (moved_to at frame.now ∷ under (S.record_of store.old).present)
+    ensures { (f : RunningFrame) → IsTop f (S.record_of store.old).present
+        → Comes result (S.record_of store.old) (S.record_of store.new)
+        (λ s. GoOn (moved_to at f ∷ under (S.record_of store.old).present)
         (set_status status s)) }
 {
     store.advance(at)?;
     store.set_status(status)?;
+    Ok(Step::Going)
+}
+
+/// Moves the innermost frame to a place.
+pub(crate) fn go_on<'d, S: Store>(store: &mut S, at: At) -> Result<Step<'d>, StoreError>
+    ensures { (f : RunningFrame) → IsTop f (S.record_of store.old).present
+        → Comes result (S.record_of store.old) (S.record_of store.new)
+        (GoOn (moved_to at f ∷ under (S.record_of store.old).present)) }
+{
+    store.advance(at)?;
     Ok(Step::Going)
 }
 

@@ -14,6 +14,7 @@ mod lists;
 mod machine;
 mod memory;
 mod names;
+mod next_move;
 mod outcomes;
 mod parts;
 mod rehearsal;

@@ -1,18 +1,58 @@
 //! The machine: moves over a store, until an outcome is asked for or the run ends.
 ghost use Rattle.std.specs.Prelude.{◌+◌, ◌<◌, ◌≤◌, ◌^◌, IfOk};
 ghost use Rattle.rehearse_machine.specs.Places.{place_move};
-ghost use Rattle.rehearse_machine.specs.MovesShown.{Comes, limits_of};
+ghost use Rattle.rehearse_machine.specs.MovesShown.{Comes, IsTop, limits_of, under};
+ghost use Rattle.rehearse_machine.specs.NextMoves.{continued, HasRoom};
 ghost use Rattle.rehearse_machine.specs.Turning.{IsSound, Turns, Drives};
 
 use crate::ask::Step;
+use crate::assigns::begin_assign;
+use crate::frames::{behind, block, enter, finish, go_on, leave};
 use crate::halt::Halt;
-use crate::running::{move_for, move_in_script, move_run};
-use bootstore::{FrameKind, Store, StoreError};
+use crate::next_move::Next;
+use crate::running::{move_for, move_run, next_of};
+use crate::simple::{begin_for, call};
+use crate::steps::expanded;
+use bootstore::{Frame, Store, StoreError};
 use hushlang::expand::Fields;
 use rehearse::{Devices, RunBounds};
 use std::alloc::Global;
 
-/// Makes one move.
+/// Does what the innermost frame does next. The frame is a copy, since the store changes.
+fn proceed<'d, S: Store>(
+    alloc: Global,
+    store: &mut S,
+    fields: &mut Fields,
+    frame: &Frame,
+    devices: &'d Devices,
+    bounds: RunBounds,
+    next: Next<'_>,
+) -> Result<Step<'d>, StoreError>
+    requires top { IsTop frame.now (S.record_of store.old).present }
+    requires room { HasRoom next frame.now }
+    requires begun { (S.record_of store.old).begun + 1 < 2 ^ 64 }
+    ensures { Comes result (S.record_of store.old) (S.record_of store.new)
+        (continued (limits_of devices.now bounds) next.entry frame.now
+        (under (S.record_of store.old).present)) }
+{
+    match next {
+        Next::Leaves => leave(store),
+        Next::Goes(at) => go_on(store, at),
+        Next::Finishes(at, status) => finish(store, at, status),
+        Next::Enters(at, script) => enter(store, at, block(script.clone()?)),
+        Next::Calls(words) => {
+            let fit = expanded(fields, store, words)?;
+            let after = behind(frame.at());
+            call(alloc, store, frame.script(), after, devices, bounds, fit, fields.as_slice())
+        }
+        Next::Assigns(values) => begin_assign(alloc, store, frame, bounds, values),
+        Next::Loops(words) => begin_for(alloc, store, fields, frame, bounds, words),
+        Next::Turns => move_for(store, frame),
+        Next::Names => move_run(store, frame),
+    }
+}
+
+/// Makes one move. Only a move that reads its frame after the store has changed copies the frame.
 pub(crate) fn step<'d, S: Store>(
     alloc: Global,
     store: &mut S,
@@ -24,16 +64,29 @@ pub(crate) fn step<'d, S: Store>(
     ensures { Comes result (S.record_of store.old) (S.record_of store.new)
         (place_move (limits_of devices.now bounds) (S.record_of store.old).present.frames) }
 {
+    let status = store.get_status();
     let Some(top) = store.top() else {
-        return Ok(Step::Ends(Halt::End(store.get_status())));
+        return Ok(Step::Ends(Halt::End(status)));
     };
-    let frame = top.copy()?;
-    match frame.kind() {
-        FrameKind::Text => move_in_script(alloc, store, fields, &frame, devices, bounds),
-        FrameKind::Block => move_in_script(alloc, store, fields, &frame, devices, bounds),
-        FrameKind::For => move_for(store, &frame),
-        FrameKind::Run => move_run(store, &frame),
+    match next_of(top, status) {
+        Next::Leaves => return leave(store),
+        Next::Goes(at) => return go_on(store, at),
+        Next::Finishes(at, status) => return finish(store, at, status),
+        Next::Enters(at, script) => {
+            let child = block(script.clone()?);
+            return enter(store, at, child);
+        }
+        Next::Calls(words) => {
+            let fit = expanded(fields, store, words)?;
+            let script = top.script().clone()?;
+            let after = behind(top.at());
+            return call(alloc, store, &script, after, devices, bounds, fit, fields.as_slice());
+        }
+        _ => {}
     }
+    let frame = top.copy()?;
+    let next = next_of(&frame, status);
+    proceed(alloc, store, fields, &frame, devices, bounds, next)
 }
 
 /// Makes moves until a step is begun, an outcome is asked for, or the run is over.

@@ -28,5 +28,5 @@ pub fn next_turn<'d, S: Store>(
         return leave(store);
     };
     store.set_local(name, field)?;
-    enter(store, frame, in_turn(at, at.turn, 0), block(body.clone()?))
+    enter(store, in_turn(at, at.turn, 0), block(body.clone()?))
 }

@@ -6,6 +6,7 @@ ghost use Rattle.rehearse_machine.specs.Places.{command_in};
 use hushlang::tree::{AndOr, Command};
 
 /// The command of a list with this number.
+#[inline(always)]
 pub(crate) fn command_of(list: &AndOr, command: usize) -> Option<&Command>
     ensures value { option_map (λ found. view.command found.now) result
         ≡ command_in (view.list list.now) command }

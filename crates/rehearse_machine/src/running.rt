@@ -1,51 +1,54 @@
-//! One move of a frame of each kind.
+//! What a frame of each kind does next, and the moves of a `for` and of a `run`.
 ghost use Rattle.std.specs.Prelude.{◌∷◌, ◌+◌, ◌<◌, ◌^◌, suc, slice_get};
 ghost use Rattle.hushlang.specs.TreesShown as view;
 ghost use Rattle.rehearse_machine.specs.Frames.{begun_text};
 ghost use Rattle.rehearse_machine.specs.Places as places;
-ghost use Rattle.rehearse_machine.specs.MovesShown.{Comes, IsTop, under, limits_of};
+ghost use Rattle.rehearse_machine.specs.MovesShown.{Comes, IsTop, under};
+ghost use Rattle.rehearse_machine.specs.NextMoves.{ContinuesAt, HasRoom};
 
 use crate::ask::Step;
-use crate::frames::{enter, go_on, in_turn, leave, place, text};
+use crate::frames::{enter, in_turn, leave, place, text};
 use crate::halt::Halt;
 use crate::lists::begin_in_list;
+use crate::next_move::Next;
 use crate::names::next_turn;
 use crate::parts::command_of;
 use crate::scripts::end_block;
-use bootstore::{Frame, Store, StoreError, TextFound};
-use hushlang::expand::Fields;
+use bootstore::{Frame, FrameKind, Store, StoreError, TextFound};
 use hushlang::tree::{Command, Script};
-use rehearse::{Devices, RunBounds};
-use std::alloc::Global;
 use std::rc::Rc;
 
-/// Advances a frame that runs a script: its list goes on, or the script has ended.
-pub(crate) fn move_in_script<'d, S: Store>(
-    alloc: Global,
-    store: &mut S,
-    fields: &mut Fields,
-    frame: &Frame,
-    devices: &'d Devices,
-    bounds: RunBounds,
-) -> Result<Step<'d>, StoreError>
-    requires top { IsTop frame.now (S.record_of store.old).present }
-    requires begun { (S.record_of store.old).begun + 1 < 2 ^ 64 }
-    ensures { Comes result (S.record_of store.old) (S.record_of store.new)
-        (places.place_list (limits_of devices.now bounds)
-        (places.list_at frame.now.script frame.now.place.list) frame.now
-        (under (S.record_of store.old).present)) }
+/// What a frame that runs a script does next: its list goes on, or the script has ended.
+fn next_in_script(frame: &Frame, status: u8) -> Next<'_>
+    ensures next { ContinuesAt status result frame.now (λ limits. places.place_list limits
+        (places.list_at frame.now.script frame.now.place.list) frame.now) }
+    ensures room { HasRoom result frame.now }
 {
     let at = frame.at();
     let script = frame.script();
     let Some(list) = script.lists.get(at.list) else {
-        return leave(store);
+        return Next::Leaves;
     };
     if at.turn == 0 {
-        return begin_in_list(alloc, store, fields, frame, devices, bounds, list);
+        return begin_in_list(frame, status, list);
     }
     match command_of(list, at.command) {
-        Some(command) => end_block(store, frame, command, at.turn - 1),
-        None => go_on(store, frame, place(at.list, at.command)),
+        Some(command) => end_block(frame, status, command, at.turn - 1),
+        None => Next::Goes(place(at.list, at.command)),
+    }
+}
+
+/// What a frame does next at this status.
+pub(crate) fn next_of(frame: &Frame, status: u8) -> Next<'_>
+    ensures next { ContinuesAt status result frame.now
+        (λ limits. places.place_by limits frame.now.kind frame.now) }
+    ensures room { HasRoom result frame.now }
+{
+    match frame.kind() {
+        FrameKind::Text => next_in_script(frame, status),
+        FrameKind::Block => next_in_script(frame, status),
+        FrameKind::For => Next::Turns,
+        FrameKind::Run => Next::Names,
     }
 }
 
@@ -132,7 +135,7 @@ fn begin_text<'d, S: Store>(
     let child = text(script);
     if is_empty {
         store.set_status(0)?;
-        return enter(store, frame, in_turn(at, at.turn, 0), child);
+        return enter(store, in_turn(at, at.turn, 0), child);
     }
-    enter(store, frame, in_turn(at, at.turn, 0), child)
+    enter(store, in_turn(at, at.turn, 0), child)
 }

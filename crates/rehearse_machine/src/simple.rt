@@ -1,5 +1,5 @@
 //! Simple commands.
-ghost use Rattle.std.specs.Prelude.{◌+◌, ◌<◌, ◌^◌, map};
+ghost use Rattle.std.specs.Prelude.{◌≡◌, ◌+◌, ◌<◌, ◌^◌, List, map};
 ghost use Rattle.hushlang.specs.TreesShown as view;
 ghost use Rattle.hushlang.specs.Tree as tree;
 ghost use Rattle.hushlang.specs.Expansion as expansion;
@@ -9,7 +9,10 @@ ghost use Rattle.rehearse.specs.Commands as says;
 ghost use Rattle.text.specs.TextsShown.{bytes_of_words};
 ghost use Rattle.rehearse.specs.DeviceList.{Devices as ListedDevices};
 ghost use Rattle.rehearse_machine.specs.Places.{place_fields, place_called, place_exit, place_command, place_counted, place_fitting, for_begins, GoOn};
-ghost use Rattle.rehearse_machine.specs.MovesShown.{Comes, IsTop, under, limits_of};
+ghost use Rattle.rehearse_machine.specs.Places.{behind as goes_behind};
+ghost use Rattle.bootstore.specs.Moment.{RunningFrame};
+ghost use Rattle.rehearse_machine.specs.Variables.{parameters_at};
+ghost use Rattle.rehearse_machine.specs.MovesShown.{Comes, IsExpanded, IsTop, under, limits_of};
 ghost use Rattle.rehearse_machine.specs.CalledShown.{builtin_called, called_shown};
 
 use crate::ask::Step;
@@ -20,7 +23,7 @@ use crate::halt::Halt;
 use crate::outcomes::ask;
 use crate::steps::{count, expanded};
 use crate::texts::{begin_run, leave_text};
-use bootstore::{Frame, FrameKind, Store, StoreError};
+use bootstore::{At, Frame, FrameKind, Store, StoreError};
 use hushlang::expand::Fields;
 use hushlang::tree::{Script, Word};
 use rehearse::{Builtin, Devices, Effect, RunBounds, verdict};
@@ -181,41 +184,37 @@ pub(crate) fn run_fields<'d, S: Store>(
     run_called(alloc, store, script, devices, bounds, called, name, words)
 }
 
-/// Begins a step for a simple command, expands its words, and runs the command that the fields
-/// name.
-pub(crate) fn begin_simple<'d, S: Store>(
+/// Begins a step for a simple command whose fields were found, moves its frame to the place after
+/// it, and runs the command that the fields name. `fit` says whether they hold no more bytes than
+/// allowed.
+pub(crate) fn call<'d, S: Store>(
     alloc: Global,
     store: &mut S,
-    fields: &mut Fields,
-    frame: &Frame,
+    script: &Rc<Script>,
+    after: At,
     devices: &'d Devices,
     bounds: RunBounds,
-    words: &[Word],
+    fit: bool,
+    fields: &[Vec<u8>],
 ) -> Result<Step<'d>, StoreError>
-    requires top { IsTop frame.now (S.record_of store.old).present }
-    requires command { frame.now.place.command + 1 < 2 ^ 64 }
-    requires begun { (S.record_of store.old).begun + 1 < 2 ^ 64 }
-    ensures { Comes result (S.record_of store.old) (S.record_of store.new)
-        (place_command (limits_of devices.now bounds) (tree.Simple (map view.word words.now))
-        frame.now (under (S.record_of store.old).present)) }
+    requires { (S.record_of store.old).begun + 1 < 2 ^ 64 }
+    ensures { (f : RunningFrame) (words : List tree.Word) → IsTop f (S.record_of store.old).present
+        → after ≡ (goes_behind f).place → view.script script.now.value ≡ f.script
+        → IsExpanded fit (bytes_of_words fields.now)
+        (expansion.fields (parameters_at (S.record_of store.old).present) words)
+        → Comes result (S.record_of store.old) (S.record_of store.new)
+        (place_command (limits_of devices.now bounds) (tree.Simple words) f
+        (under (S.record_of store.old).present)) }
 {
     let counted = count(store, bounds)?;
     if !counted {
         return Ok(Step::Ends(Halt::CutSteps));
     }
-    let fit = expanded(fields, store, words)?;
     if !fit {
         return Ok(Step::Ends(Halt::Size));
     }
-    store.advance(behind(frame.at()))?;
-    run_fields(
-        alloc,
-        store,
-        frame.script(),
-        devices,
-        bounds,
-        fields.as_slice(),
-    )
+    store.advance(after)?;
+    run_fields(alloc, store, script, devices, bounds, fields)
 }
 
 /// Begins a step for a `for`, and expands its words. Without a field the status is 0.
@@ -262,7 +261,7 @@ fn begin_turns<'d, S: Store>(
 {
     let at = frame.at();
     if fields.is_empty() {
-        return finish(store, frame, behind(at), 0);
+        return finish(store, behind(at), 0);
     }
     let fields = Rc::new(alloc, copied(alloc, fields)?)?;
     let turns = Frame::with_words(
@@ -271,5 +270,5 @@ fn begin_turns<'d, S: Store>(
         fields,
         place(at.list, at.command),
     );
-    enter(store, frame, behind(at), turns)
+    enter(store, behind(at), turns)
 }

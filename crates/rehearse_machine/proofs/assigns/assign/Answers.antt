@@ -32,14 +32,11 @@ loop-value-preserved g c =
     next_assigned c.args.values.now c.loop-value.value-index (behind c.args.frame.now ∷ under old.present) old now d c.loop-value-test.true c.value-item.is c.loop-value.invariant
     (g.S.Store.record_of c.set_local.new.self) c.deref.result.now c.deref-in-loop-value.result.now c.deref.ensures.value (c.deref-in-loop-value.ensures.value ∙ found.0) found.1 c.in_ok-set_local.ensures.ok
 
-pub finish-requires : goal.finish-requires
-finish-requires g c =
-    let e = c.loop-value.invariant.frames in
-    e ∙ c.requires.top ∙ sym (ap (λ (x : List RunningFrame). c.args.frame.now ∷ without_first x) e)
-
 pub returns : goal.returns
 returns g c =
     let old = g.S.Store.record_of c.args.store.now in
     let now = g.S.Store.record_of c.loop-value.store in
+    let e = c.loop-value.invariant.frames in
+    let top = e ∙ c.requires.top ∙ sym (ap (λ (x : List RunningFrame). c.args.frame.now ∷ without_first x) e) in
     all_assigned c.finish.result c.args.values.now c.loop-value.value-index c.args.frame.now old now (g.S.Store.record_of c.finish.new.store) c.behind.result c.loop-value-test.false c.loop-value.invariant
-    (c.behind.ensures ∙ ap (λ (x : At). place x.list (suc x.command) 0 0) c.at.ensures) c.finish.ensures
+    (c.behind.ensures ∙ ap (λ (x : At). place x.list (suc x.command) 0 0) c.at.ensures) (c.finish.ensures c.args.frame.now top)

@@ -2,4 +2,4 @@ use Rattle.rehearse_machine.proofs.Coming.{finished_does}
 use Rattle.rehearse_machine.proofs.frames.finish.Goals as goal
 
 pub returns : goal.returns
-returns g c = finished_does _ _ _ c.args.frame.now c.args.at c.args.status c.requires (c.in_ok-advance.ensures.ok) (c.in_ok-set_status.ensures.ok)
+returns g c f top = finished_does _ _ _ f c.args.at c.args.status top (c.in_ok-advance.ensures.ok) (c.in_ok-set_status.ensures.ok)

@@ -1,10 +1,11 @@
-use Rattle.std.proofs.Common.{sym, ap, ◌∙◌, suc, Some, Option}
+use Rattle.std.proofs.Common.{sym, ap, ◌∙◌, suc, subst, Some, Option}
 use Rattle.hushlang.specs.TreesShown as view
 use Rattle.hushlang.specs.declared.tree.Script.{Script as Code}
 use Rattle.bootstore.specs.declared.frame.At.{At}
+use Rattle.bootstore.specs.Record.{Record}
 use Rattle.rehearse.specs.State.{Text}
 use Rattle.rehearse_machine.specs.Places.{GoOn, for_turn, place, block_frame}
-use Rattle.rehearse_machine.specs.MovesShown.{under}
+use Rattle.rehearse_machine.specs.MovesShown.{under, IsTop}
 use Rattle.rehearse_machine.proofs.Coming.{comes_as}
 use Rattle.rehearse_machine.proofs.WordLemmas.{word_none, word_some, turn_begins}
 use Rattle.rehearse_machine.proofs.names.next_turn.Goals as goal
@@ -25,4 +26,5 @@ returns g c =
     let some = word_some c.words.result.now f.words c.at-at.result.turn f.place.turn c.in-Some.field.now c.words.ensures (ap (λ (x : At). x.turn) c.at-at.ensures) c.in-Some.ensures.lookup.3.0 c.in-Some.ensures.lookup.1 in
     turn_begins c.enter.result old mid new c.args.name.now c.deref.result.now (view.script c.args.body.now.value) f c.block.result c.in_turn.result
     (some ∙ ap Some (sym c.deref.ensures.value)) (c.block.ensures ∙ ap (λ (x : Code). block_frame (view.script x)) c.in_ok-clone.ensures.cases)
-    (c.in_turn.ensures ∙ ap (λ (x : At). place x.list x.command (suc x.turn) 0) c.at-at.ensures) c.in_ok-set_local.ensures.ok c.enter.ensures
+    (c.in_turn.ensures ∙ ap (λ (x : At). place x.list x.command (suc x.turn) 0) c.at-at.ensures) c.in_ok-set_local.ensures.ok
+    (c.enter.ensures f (subst (λ (x : Record). IsTop f x.present) (sym c.in_ok-set_local.ensures.ok) c.requires))

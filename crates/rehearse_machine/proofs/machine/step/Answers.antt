@@ -1,0 +1,52 @@
+use Rattle.std.proofs.Common.{ap, ◌∙◌, sym, subst, suc, List, ◌∷◌, map}
+use Rattle.hushlang.specs.TreesShown as view
+use Rattle.hushlang.specs.Expansion.{fields}
+use Rattle.hushlang.specs.declared.tree.Script.{Script as Code}
+use Rattle.rehearse.specs.State.{Text, State}
+use Rattle.bootstore.specs.Moment.{RunningFrame}
+use Rattle.bootstore.specs.declared.frame.At.{At}
+use Rattle.rehearse_machine.specs.declared.next_move.Next.TheVariants as nexts
+use Rattle.rehearse_machine.specs.Places.{GoOn, place, block_frame, moved_to}
+use Rattle.rehearse_machine.specs.Variables.{parameters_at}
+use Rattle.rehearse_machine.specs.MovesShown.{limits_of, under, IsExpanded}
+use Rattle.rehearse_machine.proofs.Coming.{comes_as}
+use Rattle.rehearse_machine.proofs.MakingLemmas.{is_top, moves_on}
+use Rattle.rehearse_machine.proofs.machine.step.Goals as goal
+
+pub returns-in-Goes : goal.returns-in-Goes
+returns-in-Goes g c =
+    let old = g.S.Store.record_of c.args.store.now in
+    let f = c.in-Some.top.now in
+    let top = is_top old.present.frames f c.in-Some.ensures in
+    moves_on (limits_of c.args.devices.now c.args.bounds) c.go_on.result old (g.S.Store.record_of c.go_on.new.store) (nexts.Goes c.in-Goes.at) c.next_of.result c.get_status-status.result f c.in-Goes.is top (sym c.get_status-status.ensures) c.next_of.ensures.next
+    (c.go_on.ensures f top)
+
+pub returns-in-Finishes : goal.returns-in-Finishes
+returns-in-Finishes g c =
+    let old = g.S.Store.record_of c.args.store.now in
+    let f = c.in-Some.top.now in
+    let top = is_top old.present.frames f c.in-Some.ensures in
+    moves_on (limits_of c.args.devices.now c.args.bounds) c.finish.result old (g.S.Store.record_of c.finish.new.store) (nexts.Finishes c.in-Finishes.at c.in-Finishes.status) c.next_of.result c.get_status-status.result f c.in-Finishes.is top (sym c.get_status-status.ensures) c.next_of.ensures.next
+    (c.finish.ensures f top)
+
+pub returns-in-Enters : goal.returns-in-Enters
+returns-in-Enters g c =
+    let old = g.S.Store.record_of c.args.store.now in
+    let new = g.S.Store.record_of c.enter.new.store in
+    let f = c.in-Some.top.now in
+    let top = is_top old.present.frames f c.in-Some.ensures in
+    let child = c.block-child.ensures ∙ ap (λ (x : Code). block_frame (view.script x)) c.in_ok-clone-in-Enters.ensures.cases in
+    moves_on (limits_of c.args.devices.now c.args.bounds) c.enter.result old new (nexts.Enters c.in-Enters.at c.in-Enters.script) c.next_of.result c.get_status-status.result f c.in-Enters.is top (sym c.get_status-status.ensures) c.next_of.ensures.next
+    (comes_as c.enter.result old new (GoOn (c.block-child.result ∷ moved_to c.in-Enters.at f ∷ under old.present)) _
+    (λ s. ap (λ (x : RunningFrame). GoOn (x ∷ moved_to c.in-Enters.at f ∷ under old.present) s) child) (c.enter.ensures f top))
+
+pub returns-in-Calls : goal.returns-in-Calls
+returns-in-Calls g c =
+    let old = g.S.Store.record_of c.args.store.now in
+    let f = c.in-Some.top.now in
+    let top = is_top old.present.frames f c.in-Some.ensures in
+    let words = map view.word c.in-Calls.words.now in
+    let found = subst (λ (x : List Text). IsExpanded c.in_ok-fit-in-Calls.fit x (fields (parameters_at old.present) words)) (sym c.as_slice.ensures) c.in_ok-fit-in-Calls.ensures in
+    let script = ap (λ (x : Code). view.script x) c.in_ok-script-in-Calls.ensures.cases ∙ c.script.ensures in
+    moves_on (limits_of c.args.devices.now c.args.bounds) c.call.result old (g.S.Store.record_of c.call.new.store) (nexts.Calls c.in-Calls.words) c.next_of.result c.get_status-status.result f c.in-Calls.is top (sym c.get_status-status.ensures) c.next_of.ensures.next
+    (c.call.ensures f words top (c.behind-after.ensures ∙ ap (λ (x : At). place x.list (suc x.command) 0 0) c.at.ensures) script found)
