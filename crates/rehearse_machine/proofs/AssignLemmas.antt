@@ -23,8 +23,8 @@ use Rattle.rehearse_machine.specs.declared.ask.Step.TheVariants as steps
 use Rattle.rehearse_machine.specs.Places.{PlaceNext, GoOn, StopOn, place, moved_to, behind, place_assign, place_command}
 use Rattle.rehearse_machine.specs.Variables.{parameters_at}
 use Rattle.rehearse_machine.specs.MovesShown.{under, Keeps, Does, Comes}
-use Rattle.rehearse_machine.proofs.Settings.{same_parameters}
-use Rattle.rehearse_machine.proofs.Coming.{comes_at, comes_after, keeps_both, keeps_change}
+use Rattle.rehearse_machine.proofs.ParameterLemmas.{same_parameters}
+use Rattle.rehearse_machine.proofs.StoreMoves.{comes_at, comes_after, keeps_both, keeps_change}
 use Rattle.rehearse_machine.proofs.WordLemmas.{local_state}
 use Rattle.rehearse_machine.proofs.Beginnings.{chosen, passed, counted_state, stepped_state, stepped_keeps}
 

@@ -17,8 +17,8 @@ use Rattle.rehearse_machine.specs.declared.ask.Step.TheVariants as steps
 use Rattle.rehearse_machine.specs.Places.{PlaceNext, StopOn, place, moved_to, behind, place_counted, place_fitting}
 use Rattle.rehearse_machine.specs.Variables.{parameters_at}
 use Rattle.rehearse_machine.specs.MovesShown.{under, IsTop, Keeps, Does, Comes}
-use Rattle.rehearse_machine.proofs.Settings.{same_parameters}
-use Rattle.rehearse_machine.proofs.Coming.{comes_at, comes_after, keeps_both, top_moved}
+use Rattle.rehearse_machine.proofs.ParameterLemmas.{same_parameters}
+use Rattle.rehearse_machine.proofs.StoreMoves.{comes_at, comes_after, keeps_both, top_moved}
 
 pub chosen : (b : Bool) (x y : PlaceNext) → b ≡ true → x ≡ elim b [ true ↦ x | false ↦ y ]
 chosen true x y e = refl

@@ -1,7 +1,7 @@
 -- What the built-in commands do to a store.
 use Rattle.std.proofs.Common.{ℕ, zero, suc, ◌+◌, ◌-◌, ◌*◌, Bool, true, false, cond, List, [], ◌∷◌, take, drop, length, get_or, Option, Some, None, Result, Ok, Err, refl, sym, ap, subst, ◌∙◌, ◌≡◌, ◌<◌, ◌≤◌, arith, drop-cons}
 use Rattle.std.specs.Prelude.{Vec, OnOk}
-use Rattle.std.specs.List.{join_with_byte, slice_index_or, remove}
+use Rattle.std.specs.List.{join_with_byte}
 use Rattle.std.proofs.lemmas.Bool.{lt-leb}
 use Rattle.std.proofs.Math.Dec.{eqb, eqb-suc-zero}
 use Rattle.std.specs.declared.alloc.Global.{Global}
@@ -22,7 +22,7 @@ use Rattle.bootstore.proofs.StateLemmas.{stored_changes, stored_deletions}
 use Rattle.rehearse_machine.specs.declared.ask.Step.{Step}
 use Rattle.rehearse_machine.specs.declared.ask.Step.TheVariants as steps
 use Rattle.rehearse_machine.specs.Places.{GoOn, place_ask, place_called, place_fields}
-use Rattle.rehearse_machine.specs.MovesShown.{next_shown, Does, Comes, Changes, Changed}
+use Rattle.rehearse_machine.specs.MovesShown.{Does, Comes, Changes, Changed}
 use Rattle.rehearse_machine.proofs.Beginnings.{chosen}
 
 -- ---- numbers

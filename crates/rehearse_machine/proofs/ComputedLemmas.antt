@@ -16,7 +16,7 @@ use Rattle.rehearse.specs.State.{Text, Variables, Memory, get, with_value, witho
 use Rattle.rehearse.specs.Commands.{changed_by, deletions}
 use Rattle.rehearse.specs.Execution.{remember}
 use Rattle.rehearse_machine.specs.MovesShown.{Keeps, Changes, Changed}
-use Rattle.rehearse_machine.proofs.Coming.{keeps_both, keeps_change}
+use Rattle.rehearse_machine.proofs.StoreMoves.{keeps_both, keeps_change}
 
 -- the first i of the names are deleted, with this status
 pub record AreDeleted (names : List (Vec ℕ Global)) (i status : ℕ) (old now : Record) : Type 0 where

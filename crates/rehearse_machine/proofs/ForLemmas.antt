@@ -3,9 +3,7 @@ use Rattle.std.proofs.Common.{ℕ, suc, true, false, List, [], ◌∷◌, length
 use Rattle.std.specs.Prelude.{Vec}
 use Rattle.std.proofs.Math.Dec.{eqb, eqb-suc-zero}
 use Rattle.std.specs.declared.alloc.Global.{Global}
-use Rattle.hushlang.specs.Tree.{Script}
 use Rattle.bootstore.specs.declared.frame.At.{At}
-use Rattle.bootstore.specs.declared.frame.FrameKind.{FrameKind}
 use Rattle.bootstore.specs.declared.frame.FrameKind.TheVariants as kinds
 use Rattle.bootstore.specs.declared.store.StoreError.{StoreError}
 use Rattle.bootstore.specs.Moment.{RunningFrame}
@@ -14,9 +12,9 @@ use Rattle.text.specs.TextsShown.{bytes_of_words}
 use Rattle.rehearse.specs.State.{Text, State}
 use Rattle.rehearse.specs.Execution.{set_status}
 use Rattle.rehearse_machine.specs.declared.ask.Step.{Step}
-use Rattle.rehearse_machine.specs.Places.{GoOn, place, moved_to, behind, values_frame, for_begins}
+use Rattle.rehearse_machine.specs.Places.{GoOn, place, moved_to, values_frame, for_begins}
 use Rattle.rehearse_machine.specs.MovesShown.{Comes, under}
-use Rattle.rehearse_machine.proofs.Coming.{comes_as}
+use Rattle.rehearse_machine.proofs.StoreMoves.{comes_as}
 
 pub no_words : (items : List (Vec ℕ Global)) → true ≡ eqb (length items) 0 → bytes_of_words items ≡ []
 no_words [] e = refl

@@ -24,7 +24,7 @@ use Rattle.rehearse_machine.specs.AskingCommand.{command_in_front, words_of, wor
 use Rattle.rehearse_machine.specs.Variables.{parameters_at}
 use Rattle.rehearse_machine.specs.MovesShown.{Does}
 use Rattle.rehearse_machine.proofs.CommandLemmas.{says_if, says_loop, says_assign, says_for, Kind, AsSimple, AsAssign, AsIf, AsLoop, AsFor, kind_of}
-use Rattle.rehearse_machine.proofs.Settings.{same_parameters}
+use Rattle.rehearse_machine.proofs.ParameterLemmas.{same_parameters}
 use Rattle.rehearse_machine.proofs.ListLemmas.{back}
 use Rattle.rehearse_machine.proofs.Beginnings.{chosen, passed}
 

@@ -23,7 +23,7 @@ use Rattle.rehearse_machine.specs.Places.{PlaceNext, GoOn, StopOn, place, moved_
 use Rattle.rehearse_machine.specs.MovesShown.{under, Keeps, Does, Comes}
 use Rattle.rehearse_machine.specs.declared.ask.Step.{Step}
 use Rattle.rehearse_machine.specs.declared.ask.Step.TheVariants as steps
-use Rattle.rehearse_machine.proofs.Coming.{comes_at, comes_as, comes_after, keeps_change}
+use Rattle.rehearse_machine.proofs.StoreMoves.{comes_at, comes_as, comes_after, keeps_change}
 use Rattle.hushlang.proofs.ViewLemmas.{script_out}
 
 no_lists : (items : List ListCode) (s : State) → true ≡ eqb (length items) 0 → set_status 0 s ≡ begun_text (view.runs (map view.list items)) s

@@ -18,7 +18,7 @@ use Rattle.rehearse_machine.specs.declared.ask.Step.{Step}
 use Rattle.rehearse_machine.specs.declared.ask.Step.TheVariants as steps
 use Rattle.rehearse_machine.specs.Places.{GoOn, StopOn, place_boot, place_answered}
 use Rattle.rehearse_machine.specs.MovesShown.{Keeps, Changes, Does, next_shown}
-use Rattle.rehearse_machine.proofs.Coming.{keeps_both, keeps_change}
+use Rattle.rehearse_machine.proofs.StoreMoves.{keeps_both, keeps_change}
 
 -- one setting of a call, and then the others
 set_cons : (words : List Text) (set : says.Setting) (sets : List says.Setting) (environment : Variables)

@@ -23,9 +23,9 @@ use Rattle.rehearse_machine.specs.Meaning.{comes_to, IsProperNext, AreProperFram
 use Rattle.rehearse_machine.specs.MovesShown.{next_shown, request_shown, Keeps, Does}
 use Rattle.rehearse_machine.specs.Turning.{to_come, step_comes, IsSound, IsSoundStep, Drives}
 use Rattle.rehearse_machine.specs.Machine.{Asking, IsAsking, asked_at, Stops}
-use Rattle.rehearse_machine.proofs.Moves.{continue-dry}
+use Rattle.rehearse_machine.proofs.MoveMeaning.{continue-dry}
 use Rattle.rehearse_machine.proofs.PlaceMoves.{place_answered-is}
-use Rattle.rehearse_machine.proofs.Standing.{answered-is}
+use Rattle.rehearse_machine.proofs.RunSoFar.{answered-is}
 
 -- ---- where the machine stops
 

@@ -22,7 +22,7 @@ use Rattle.rehearse_machine.specs.Came.{Over, settled}
 use Rattle.rehearse_machine.specs.Meaning.{continue, with, AreProperFrames}
 use Rattle.rehearse_machine.specs.Turning.{IsSound, to_come}
 use Rattle.rehearse_machine.proofs.PlaceMoves.{text_begins}
-use Rattle.rehearse_machine.proofs.Standing.{begins}
+use Rattle.rehearse_machine.proofs.RunSoFar.{begins}
 
 begun_start : (t : Script) (environment : Variables) (w : OutcomeWord) → with w (begun_text t (start environment [])) ≡ start environment w
 begun_start tree.Empty environment w = refl

@@ -17,7 +17,7 @@ use Rattle.bootstore.proofs.StateLemmas.{stored_changes}
 use Rattle.rehearse_machine.specs.declared.ask.Step.{Step}
 use Rattle.rehearse_machine.specs.Places.{GoOn, place, moved_to, block_frame, for_turn}
 use Rattle.rehearse_machine.specs.MovesShown.{Comes, Keeps, under}
-use Rattle.rehearse_machine.proofs.Coming.{comes_at, comes_after, keeps_change}
+use Rattle.rehearse_machine.proofs.StoreMoves.{comes_at, comes_after, keeps_change}
 
 abbrev items_of : Vec ℕ Global → Text
 items_of v = v.items

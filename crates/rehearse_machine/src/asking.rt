@@ -6,7 +6,7 @@ ghost use Rattle.rehearse_machine.specs.MovesShown.{Comes, IsTop, limits_of, und
 
 use crate::ask::Step;
 use crate::halt::Halt;
-use crate::parts::command_of;
+use crate::list_commands::command_of;
 use crate::simple::run_fields;
 use crate::steps::expanded;
 use bootstore::{Frame, Store, StoreError};

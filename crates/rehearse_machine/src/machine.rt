@@ -7,10 +7,10 @@ ghost use Rattle.rehearse_machine.specs.Turning.{IsSound, Turns, Drives};
 
 use crate::ask::Step;
 use crate::assigns::begin_assign;
+use crate::frame_moves::{move_for, move_run, next_of};
 use crate::frames::{behind, block, enter, finish, go_on, leave};
 use crate::halt::Halt;
 use crate::next_move::Next;
-use crate::running::{move_for, move_run, next_of};
 use crate::simple::{begin_for, call};
 use crate::steps::expanded;
 use bootstore::{Frame, Store, StoreError};
@@ -43,7 +43,16 @@ fn proceed<'d, S: Store>(
         Next::Calls(words) => {
             let fit = expanded(fields, store, words)?;
             let after = behind(frame.at());
-            call(alloc, store, frame.script(), after, devices, bounds, fit, fields.as_slice())
+            call(
+                alloc,
+                store,
+                frame.script(),
+                after,
+                devices,
+                bounds,
+                fit,
+                fields.as_slice(),
+            )
         }
         Next::Assigns(values) => begin_assign(alloc, store, frame, bounds, values),
         Next::Loops(words) => begin_for(alloc, store, fields, frame, bounds, words),
@@ -80,7 +89,16 @@ pub(crate) fn step<'d, S: Store>(
             let fit = expanded(fields, store, words)?;
             let script = top.script().clone()?;
             let after = behind(top.at());
-            return call(alloc, store, &script, after, devices, bounds, fit, fields.as_slice());
+            return call(
+                alloc,
+                store,
+                &script,
+                after,
+                devices,
+                bounds,
+                fit,
+                fields.as_slice(),
+            );
         }
         _ => {}
     }

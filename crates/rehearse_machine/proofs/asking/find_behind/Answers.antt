@@ -1,6 +1,4 @@
-use Rattle.std.proofs.Common.{Bool, ap, ◌∙◌, subst, List, ℕ, map, Option}
-use Rattle.std.specs.Prelude.{Vec}
-use Rattle.std.specs.declared.alloc.Global.{Global}
+use Rattle.std.proofs.Common.{Bool, ap, ◌∙◌, subst, List, ℕ, map}
 use Rattle.hushlang.specs.TreesShown as view
 use Rattle.hushlang.specs.Tree.{Script}
 use Rattle.hushlang.specs.Expansion.{fields}
@@ -12,7 +10,7 @@ use Rattle.rehearse_machine.specs.Places.{StopOn, place_fields}
 use Rattle.rehearse.specs.Execution.{End}
 use Rattle.rehearse_machine.specs.Variables.{parameters_at}
 use Rattle.rehearse_machine.specs.MovesShown.{limits_of, under, IsExpanded}
-use Rattle.rehearse_machine.proofs.Coming.{comes_at}
+use Rattle.rehearse_machine.proofs.StoreMoves.{comes_at}
 use Rattle.rehearse_machine.proofs.FoundAgain.{nothing_again, too_long_again, fields_found}
 use Rattle.rehearse_machine.proofs.asking.find_behind.Goals as goal
 

@@ -1,4 +1,4 @@
-use Rattle.rehearse_machine.proofs.Coming.{entered_does}
+use Rattle.rehearse_machine.proofs.StoreMoves.{entered_does}
 use Rattle.rehearse_machine.proofs.frames.enter.Goals as goal
 
 pub returns : goal.returns

@@ -1,4 +1,4 @@
-use Rattle.rehearse_machine.proofs.Coming.{finished_does}
+use Rattle.rehearse_machine.proofs.StoreMoves.{finished_does}
 use Rattle.rehearse_machine.proofs.frames.finish.Goals as goal
 
 pub returns : goal.returns

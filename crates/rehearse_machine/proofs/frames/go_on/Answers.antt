@@ -1,4 +1,4 @@
-use Rattle.rehearse_machine.proofs.Coming.{advanced_does}
+use Rattle.rehearse_machine.proofs.StoreMoves.{advanced_does}
 use Rattle.rehearse_machine.proofs.frames.go_on.Goals as goal
 
 pub returns : goal.returns

@@ -1,4 +1,4 @@
-use Rattle.rehearse_machine.proofs.Coming.{popped_does}
+use Rattle.rehearse_machine.proofs.StoreMoves.{popped_does}
 use Rattle.rehearse_machine.proofs.frames.leave.Goals as goal
 
 pub returns : goal.returns

@@ -2,7 +2,7 @@ use Rattle.std.proofs.Common.{sym, ◌∙◌, subst, arith}
 use Rattle.rehearse_machine.specs.declared.ask.Step.{Step}
 use Rattle.rehearse_machine.specs.MovesShown.{limits_of}
 use Rattle.rehearse_machine.specs.Turning.{Drives}
-use Rattle.rehearse_machine.proofs.Turning.{driven, came_on, further_steps}
+use Rattle.rehearse_machine.proofs.TurnLemmas.{driven, came_on, further_steps}
 use Rattle.rehearse_machine.proofs.machine.drive.Goals as goal
 
 pub turns-smaller : goal.turns-smaller

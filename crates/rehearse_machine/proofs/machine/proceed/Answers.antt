@@ -2,15 +2,15 @@ use Rattle.std.proofs.Common.{ap, ◌∙◌, sym, subst, suc, List, ◌∷◌, m
 use Rattle.hushlang.specs.TreesShown as view
 use Rattle.hushlang.specs.Expansion.{fields}
 use Rattle.hushlang.specs.declared.tree.Script.{Script as Code}
-use Rattle.rehearse.specs.State.{Text, State}
+use Rattle.rehearse.specs.State.{Text}
 use Rattle.bootstore.specs.Moment.{RunningFrame}
 use Rattle.bootstore.specs.declared.frame.At.{At}
 use Rattle.rehearse_machine.specs.declared.next_move.Next.TheVariants as nexts
 use Rattle.rehearse_machine.specs.Places.{GoOn, place, block_frame, moved_to}
 use Rattle.rehearse_machine.specs.Variables.{parameters_at}
 use Rattle.rehearse_machine.specs.MovesShown.{limits_of, under, IsExpanded}
-use Rattle.rehearse_machine.proofs.Coming.{comes_as}
-use Rattle.rehearse_machine.proofs.MakingLemmas.{proceeds}
+use Rattle.rehearse_machine.proofs.StoreMoves.{comes_as}
+use Rattle.rehearse_machine.proofs.NextMoveLemmas.{proceeds}
 use Rattle.rehearse_machine.proofs.machine.proceed.Goals as goal
 
 pub returns-in-Goes : goal.returns-in-Goes

@@ -2,7 +2,7 @@ use Rattle.std.proofs.Common.{subst, sym, ◌∙◌}
 use Rattle.rehearse_machine.specs.declared.ask.Step.{Step}
 use Rattle.rehearse_machine.specs.MovesShown.{limits_of}
 use Rattle.rehearse_machine.specs.Turning.{Turns}
-use Rattle.rehearse_machine.proofs.Turning.{turned, waited, fewer}
+use Rattle.rehearse_machine.proofs.TurnLemmas.{turned, waited, fewer}
 use Rattle.rehearse_machine.proofs.machine.turn.Goals as goal
 
 pub returns-then-steps-before : goal.returns-then-steps-before

@@ -1,4 +1,4 @@
-use Rattle.std.proofs.Common.{◌∷◌, ap, ◌∙◌, List, sym, ℕ, map}
+use Rattle.std.proofs.Common.{ap, ◌∙◌, List, sym, ℕ, map}
 use Rattle.hushlang.specs.TreesShown as view
 use Rattle.hushlang.specs.Tree as tree
 use Rattle.hushlang.specs.Tree.{Command}

@@ -1,6 +1,4 @@
-use Rattle.std.proofs.Common.{◌∙◌, ap, ℕ, map, refl, subst, Bool, Option}
-use Rattle.std.specs.Prelude.{Vec}
-use Rattle.std.specs.declared.alloc.Global.{Global}
+use Rattle.std.proofs.Common.{◌∙◌, ap, map, refl, subst, Bool}
 use Rattle.hushlang.specs.TreesShown as view
 use Rattle.hushlang.specs.Expansion.{fields}
 use Rattle.text.specs.TextsShown.{bytes_of_words}

@@ -9,8 +9,8 @@ use Rattle.hushlang.specs.Expansion.{fields}
 use Rattle.rehearse_machine.specs.Variables.{parameters_at}
 use Rattle.rehearse_machine.specs.MovesShown.{limits_of, under, Keeps, IsCounted, IsExpanded}
 use Rattle.rehearse_machine.specs.Places.{place_fields, behind}
-use Rattle.rehearse_machine.proofs.Coming.{keeps_change}
-use Rattle.rehearse_machine.proofs.MakingLemmas.{found_before}
+use Rattle.rehearse_machine.proofs.StoreMoves.{keeps_change}
+use Rattle.rehearse_machine.proofs.NextMoveLemmas.{found_before}
 use Rattle.rehearse_machine.proofs.Beginnings.{too_long, comes_with, behind_top}
 use Rattle.rehearse_machine.proofs.simple.call.Goals as goal
 

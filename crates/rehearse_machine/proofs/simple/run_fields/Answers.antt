@@ -1,17 +1,14 @@
-use Rattle.std.proofs.Common.{◌≡◌, Some, None, ap, sym, refl, ◌∙◌, ◌∷◌, List, ℕ, Ok}
-use Rattle.std.specs.Prelude.{Vec}
-use Rattle.std.specs.declared.alloc.Global.{Global}
+use Rattle.std.proofs.Common.{◌≡◌, Some, ap, sym, refl, ◌∙◌, ◌∷◌, Ok}
 use Rattle.hushlang.specs.TreesShown as view
 use Rattle.text.specs.TextsShown.{bytes_of_words}
-use Rattle.rehearse.specs.Commands.{Called, carried, called_by_name, called_by}
+use Rattle.rehearse.specs.Commands.{carried, called_by}
 use Rattle.rehearse.specs.ComputedShown.{computed_shown, call_shown}
 use Rattle.rehearse.specs.DeviceList.{computed_by}
 use Rattle.rehearse_machine.specs.declared.ask.Step.TheVariants as steps
 use Rattle.rehearse_machine.specs.MovesShown.{limits_of}
 use Rattle.rehearse_machine.specs.Places.{place_called}
-use Rattle.rehearse_machine.specs.CalledShown.{called_shown}
-use Rattle.rehearse_machine.proofs.Coming.{comes_as}
-use Rattle.rehearse_machine.proofs.CommandMoves.{fields_named, called_computed, called_named, change_does}
+use Rattle.rehearse_machine.proofs.StoreMoves.{comes_as}
+use Rattle.rehearse_machine.proofs.CommandMoves.{fields_named, called_computed, change_does}
 use Rattle.rehearse_machine.proofs.simple.run_fields.Goals as goal
 
 pub returns-in-Some-computed : goal.returns-in-Some-computed

@@ -1,4 +1,4 @@
-use Rattle.std.proofs.Common.{sym, ap, ◌∙◌, refl, Bool, [], false}
+use Rattle.std.proofs.Common.{sym, ap, refl, Bool, [], false}
 use Rattle.text.specs.TextsShown.{bytes_of_words}
 use Rattle.rehearse.specs.Commands as says
 use Rattle.rehearse.specs.Commands.{asks_device}

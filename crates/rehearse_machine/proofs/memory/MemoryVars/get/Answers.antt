@@ -1,6 +1,6 @@
 use Rattle.std.proofs.Common.{sym, ap, ◌∙◌}
 use Rattle.text.specs.TextsShown.{option_bytes}
-use Rattle.rehearse_machine.proofs.Settings.{copied_bytes, from_environment, from_locals}
+use Rattle.rehearse_machine.proofs.ParameterLemmas.{copied_bytes, from_environment, from_locals}
 use Rattle.rehearse_machine.proofs.memory.MemoryVars.get.Goals as goal
 
 pub returns-in-Some : goal.returns-in-Some

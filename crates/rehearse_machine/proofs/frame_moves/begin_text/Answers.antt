@@ -7,7 +7,7 @@ use Rattle.bootstore.specs.Record.{Record}
 use Rattle.rehearse_machine.specs.MovesShown.{IsTop}
 use Rattle.rehearse_machine.specs.Places.{place}
 use Rattle.rehearse_machine.proofs.NameLemmas.{text_goes, text_empty}
-use Rattle.rehearse_machine.proofs.running.begin_text.Goals as goal
+use Rattle.rehearse_machine.proofs.frame_moves.begin_text.Goals as goal
 
 pub returns-then-is_empty : goal.returns-then-is_empty
 returns-then-is_empty g c =

@@ -4,7 +4,7 @@ use Rattle.bootstore.specs.declared.frame.At.{At}
 use Rattle.bootstore.proofs.Tables.{clone_text}
 use Rattle.rehearse_machine.proofs.WordLemmas.{word_some}
 use Rattle.rehearse_machine.proofs.NameLemmas.{unset_found, no_script_found, text_found_comes}
-use Rattle.rehearse_machine.proofs.running.next_name.Goals as goal
+use Rattle.rehearse_machine.proofs.frame_moves.next_name.Goals as goal
 
 pub returns-in_ok-set_status-in-Unset : goal.returns-in_ok-set_status-in-Unset
 returns-in_ok-set_status-in-Unset g c =

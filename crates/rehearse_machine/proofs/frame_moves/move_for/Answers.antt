@@ -4,9 +4,9 @@ use Rattle.hushlang.specs.TreesShown as view
 use Rattle.hushlang.specs.Tree.{AndOr, Command}
 use Rattle.rehearse_machine.specs.Places.{GoOn, command_at, for_move, for_turn}
 use Rattle.rehearse_machine.specs.MovesShown.{under}
-use Rattle.rehearse_machine.proofs.Coming.{comes_as}
+use Rattle.rehearse_machine.proofs.StoreMoves.{comes_as}
 use Rattle.rehearse_machine.proofs.PartLemmas.{list_found, list_missing, command_there, for_goes, no_for}
-use Rattle.rehearse_machine.proofs.running.move_for.Goals as goal
+use Rattle.rehearse_machine.proofs.frame_moves.move_for.Goals as goal
 
 pub returns-in_default : goal.returns-in_default
 returns-in_default g c =

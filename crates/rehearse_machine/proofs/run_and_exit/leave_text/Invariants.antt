@@ -3,7 +3,7 @@ use Rattle.rehearse.specs.Outcomes.{OutcomeWord}
 use Rattle.bootstore.specs.StoredState.{state_at}
 use Rattle.rehearse_machine.specs.Places.{to_run}
 use Rattle.rehearse_machine.specs.MovesShown.{Keeps}
-use Rattle.rehearse_machine.proofs.texts.leave_text.Given as goal
+use Rattle.rehearse_machine.proofs.run_and_exit.leave_text.Given as goal
 
 abbrev pub invariant-frames : goal.invariant-frames
 invariant-frames g l = (to_run (g.S.Store.record_of l.store).present.frames ≡ to_run (g.S.Store.record_of l.initial.store).present.frames) × ((w : OutcomeWord) → state_at (g.S.Store.record_of l.store).present w ≡ state_at (g.S.Store.record_of l.initial.store).present w) × Keeps (g.S.Store.record_of l.initial.store) (g.S.Store.record_of l.store)

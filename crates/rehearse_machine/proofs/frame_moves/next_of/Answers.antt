@@ -1,7 +1,7 @@
 use Rattle.std.proofs.Common.{ap, ◌∙◌, sym}
 use Rattle.bootstore.specs.declared.frame.FrameKind.{FrameKind}
 use Rattle.rehearse_machine.specs.Places.{place_by}
-use Rattle.rehearse_machine.proofs.running.next_of.Goals as goal
+use Rattle.rehearse_machine.proofs.frame_moves.next_of.Goals as goal
 
 pub returns-in-Text-clause-next : goal.returns-in-Text-clause-next
 returns-in-Text-clause-next c limits fs s e =

@@ -17,7 +17,7 @@ use Rattle.rehearse_machine.specs.Places.{PlaceNext, place_by, place_move}
 use Rattle.rehearse_machine.specs.Variables.{parameters_at}
 use Rattle.rehearse_machine.specs.MovesShown.{Comes, IsExpanded, IsTop, under}
 use Rattle.rehearse_machine.specs.NextMoves.{continued, ContinuesAt, HasRoom}
-use Rattle.rehearse_machine.proofs.Coming.{comes_at}
+use Rattle.rehearse_machine.proofs.StoreMoves.{comes_at}
 
 -- the innermost frame, as it was read
 pub is_top : (frames : List RunningFrame) (f : RunningFrame) → Some f ≡ slice_get frames 0 → frames ≡ f ∷ without_first frames

@@ -6,9 +6,9 @@ use Rattle.bootstore.specs.Record.{Record}
 use Rattle.rehearse.specs.State.{Text}
 use Rattle.rehearse_machine.specs.Places.{GoOn, for_turn, place, block_frame}
 use Rattle.rehearse_machine.specs.MovesShown.{under, IsTop}
-use Rattle.rehearse_machine.proofs.Coming.{comes_as}
+use Rattle.rehearse_machine.proofs.StoreMoves.{comes_as}
 use Rattle.rehearse_machine.proofs.WordLemmas.{word_none, word_some, turn_begins}
-use Rattle.rehearse_machine.proofs.names.next_turn.Goals as goal
+use Rattle.rehearse_machine.proofs.for_turn.next_turn.Goals as goal
 
 pub returns-in_default : goal.returns-in_default
 returns-in_default g c =

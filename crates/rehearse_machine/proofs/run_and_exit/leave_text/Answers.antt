@@ -2,12 +2,12 @@ use Rattle.std.proofs.Common.{ap, sym, ◌∙◌, refl, subst, ℕ}
 use Rattle.bootstore.specs.Record.{Record, without_frame}
 use Rattle.rehearse.specs.Execution.{End}
 use Rattle.rehearse_machine.specs.MovesShown.{Keeps}
-use Rattle.rehearse_machine.proofs.Coming.{keeps_both, keeps_change}
+use Rattle.rehearse_machine.proofs.StoreMoves.{keeps_both, keeps_change}
 use Rattle.rehearse.specs.State.{State}
 use Rattle.bootstore.specs.StoredState.{state_at}
 use Rattle.rehearse_machine.specs.Places.{left, to_run, StopOn}
 use Rattle.rehearse_machine.proofs.PlaceMoves.{stops_at_run, goes_below, ends_at_none}
-use Rattle.rehearse_machine.proofs.texts.leave_text.Goals as goal
+use Rattle.rehearse_machine.proofs.run_and_exit.leave_text.Goals as goal
 
 pub returns-in-Run : goal.returns-in-Run
 returns-in-Run g c =

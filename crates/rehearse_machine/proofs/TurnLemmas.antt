@@ -18,10 +18,10 @@ use Rattle.rehearse_machine.specs.AskingCommand.{AsksAgain}
 use Rattle.rehearse_machine.proofs.AskingLemmas.{asks_again}
 use Rattle.rehearse_machine.specs.Turning.{to_come, step_comes, IsSound, IsSoundStep, IsFurtherOn, IsWithin, moves_left, Turns, Waits, Drives, Comes_on}
 use Rattle.rehearse_machine.proofs.PlaceMoves.{place_move-is}
-use Rattle.rehearse_machine.proofs.Moves.{move-is}
+use Rattle.rehearse_machine.proofs.MoveMeaning.{move-is}
 use Rattle.rehearse_machine.proofs.ProperMoves.{move-proper}
-use Rattle.rehearse_machine.proofs.Ends.{Progress, IsFurther, move_progress}
-use Rattle.rehearse_machine.proofs.Coming.{keeps_both}
+use Rattle.rehearse_machine.proofs.ProgressLemmas.{Progress, IsFurther, move_progress}
+use Rattle.rehearse_machine.proofs.StoreMoves.{keeps_both}
 
 module _ (limits : Limits) (step : Step) (mid new : Record) (does : Does step mid new (place_move limits mid.present.frames)) (sound : IsSound mid.present) where
   moved : (w : OutcomeWord) → next_of (next_shown step new.present w) ≡ move limits (frames_of mid.present.frames) (state_at mid.present w)

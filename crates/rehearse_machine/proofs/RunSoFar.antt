@@ -13,8 +13,8 @@ use Rattle.rehearse.proofs.ProperLemmas.{trees_are_proper}
 use Rattle.rehearse_machine.specs.Frames.{Frame, Lists, Next, Go, Ask, Stop, move, boot_next, answered, begun_text}
 use Rattle.rehearse_machine.specs.Came.{settled}
 use Rattle.rehearse_machine.specs.Meaning.{with, full, continue, comes_to, AreProperFrames, StandsAt, AsksAt, AfterMove}
-use Rattle.rehearse_machine.proofs.Fuel.{closed_exec, tree_answer}
-use Rattle.rehearse_machine.proofs.Moves.{continue-ended, move-is}
+use Rattle.rehearse_machine.proofs.StepBoundLemmas.{closed_exec, tree_answer}
+use Rattle.rehearse_machine.proofs.MoveMeaning.{continue-ended, move-is}
 
 module _ (task : Task) where
   pub after-is : (p : OutcomeWord) (next : Next) → ((w : OutcomeWord) → settled (run_on task (p ++ w)) ≡ comes_to task.limits w next) → AfterMove task p next

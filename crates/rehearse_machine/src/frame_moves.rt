@@ -7,12 +7,12 @@ ghost use Rattle.rehearse_machine.specs.MovesShown.{Comes, IsTop, under};
 ghost use Rattle.rehearse_machine.specs.NextMoves.{ContinuesAt, HasRoom};
 
 use crate::ask::Step;
+use crate::for_turn::next_turn;
 use crate::frames::{enter, in_turn, leave, place, text};
 use crate::halt::Halt;
+use crate::list_commands::command_of;
 use crate::lists::begin_in_list;
 use crate::next_move::Next;
-use crate::names::next_turn;
-use crate::parts::command_of;
 use crate::scripts::end_block;
 use bootstore::{Frame, FrameKind, Store, StoreError, TextFound};
 use hushlang::tree::{Command, Script};

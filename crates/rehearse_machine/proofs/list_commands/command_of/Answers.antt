@@ -1,5 +1,5 @@
 use Rattle.rehearse_machine.proofs.PartLemmas.{first_command, later_command, no_command}
-use Rattle.rehearse_machine.proofs.parts.command_of.Goals as goal
+use Rattle.rehearse_machine.proofs.list_commands.command_of.Goals as goal
 
 pub returns-then-command-eq0-clause-value : goal.returns-then-command-eq0-clause-value
 returns-then-command-eq0-clause-value c = first_command c.args.list.now c.args.command c.if-command-eq0.true

@@ -11,7 +11,7 @@ use Rattle.rehearse.specs.Execution.{Limits, Answer, Normal, Exit, Ended, Dry, C
 use Rattle.rehearse.proofs.Growing.{AtLeast, Grew, AtLeast-track, Grew-block}
 use Rattle.rehearse.proofs.Keeping.{KeepsAll, after_condition, Keeps-script, Keeps-list, Keeps-one, Keeps-exec, Keeps-text}
 use Rattle.rehearse.proofs.ProperLemmas.{trees_are_proper}
-use Rattle.rehearse_machine.proofs.Cutting.{Cut-block, Cut-turns}
+use Rattle.rehearse_machine.proofs.BoundLemmas.{Cut-block, Cut-turns}
 
 pub block_proper : (a : Script) → HoldsCommand a → IsProper a
 block_proper tree.Empty p = tt
