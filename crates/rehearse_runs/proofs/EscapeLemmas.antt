@@ -1,10 +1,13 @@
 -- Bytes that print as they are are written together, and other bytes one by one.
 use Rattle.std.proofs.Common.{◌≡◌, ℕ, zero, suc, ◌+◌, ◌<◌, Bool, true, false, not, List, [], ◌∷◌, ◌++◌, length, get_or, take, drop, Result, None, Some, refl, sym, ap, ◌∙◌, append_assoc, arith, add-one, inl, inr}
+use Rattle.std.specs.Prelude.{nat_eq}
+use Rattle.std.specs.Bool.{OnTrue}
 use Rattle.std.specs.List.{flat_map, position, list_any}
 use Rattle.std.proofs.lemmas.Bool.Decides.{nat_tests}
 use Rattle.std.proofs.lemmas.Bool.{false≢true, cases_Bool}
 use Rattle.std.proofs.lemmas.List.Quantifiers.{position-Some}
 use Rattle.output.specs.Sink.{Sink, BrokeOff}
+use Rattle.text.specs.Escapes.{escaped, text_form, word_escaped, word_form}
 use Rattle.text.proofs.SearchLemmas.{position-none}
 use Rattle.rehearse_runs.specs.LinePieces.{form_of, stands}
 use Rattle.rehearse_runs.specs.declared.line_pieces.Form.{Form}
@@ -86,3 +89,14 @@ module _ (f : ℕ → List ℕ) (is_other : ℕ → Bool) (same : (b : ℕ) → 
 pub as_it_is : (form : Form) (b : ℕ) → not (stands form b) ≡ false → form_of form b ≡ b ∷ []
 as_it_is AsText b h = grind (arith, nat_tests)
 as_it_is AsWord b h = grind (arith, nat_tests)
+
+-- bytes without one that is printed otherwise are printed as they are
+pub plain_text : (other : Bool) (bytes : List ℕ) → other ≡ list_any (λ b. not (stands AsText b)) bytes → OnTrue (not other) (text_form bytes ≡ bytes)
+plain_text true bytes e = tt
+plain_text false bytes e = all_same escaped (λ b. not (stands AsText b)) (as_it_is AsText) bytes (sym e)
+
+-- and so are words that are not empty
+pub plain_word : (other : Bool) (bytes : List ℕ) → nat_eq (length bytes) 0 ≡ false → other ≡ list_any (λ b. not (stands AsWord b)) bytes → OnTrue (not other) (word_form bytes ≡ bytes)
+plain_word true bytes h e = tt
+plain_word false [] h e = absurd (let f = h in cc)
+plain_word false (b ∷ bytes) h e = all_same word_escaped (λ c. not (stands AsWord c)) (as_it_is AsWord) (b ∷ bytes) (sym e)

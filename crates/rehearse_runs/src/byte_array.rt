@@ -40,6 +40,13 @@ impl<const N: usize> Bytes<N> {
         self.len
     }
 
+    /// How many more there is room for.
+    pub(crate) fn room(&self) -> usize
+        ensures { result + length self.now.items ≡ N }
+    {
+        N - self.len
+    }
+
     /// All of them.
     pub(crate) fn as_slice(&self) -> &[u8]
         ensures { result.now ≡ self.now.items }

@@ -1,7 +1,8 @@
 //! The pieces of a line of a listing.
 ghost use Rattle.std.specs.Prelude.{◌≡◌, ◌<◌, length, not, position, IfSome};
 ghost use Rattle.std.specs.List.{flat_map, list_any};
-ghost use Rattle.text.specs.Escapes.{bytes_of, word_form};
+ghost use Rattle.std.specs.Bool.{OnTrue};
+ghost use Rattle.text.specs.Escapes.{bytes_of, text_form, word_form};
 ghost use Rattle.rehearse_runs.specs.Paging.{Puts};
 ghost use Rattle.rehearse_runs.specs.LinePieces.{form_of, least_of, piece_text, stands};
 
@@ -66,6 +67,20 @@ fn has_escaped(form: Form, bytes: &[u8]) -> bool
         found = found | (*byte < least) | (*byte > b'~') | (*byte == b'\\');
     }
     found
+}
+
+/// Whether all bytes are printed in a text as they are.
+pub(crate) fn is_plain_text(bytes: &[u8]) -> bool
+    ensures { OnTrue result (text_form bytes.now ≡ bytes.now) }
+{
+    !has_escaped(Form::Text, bytes)
+}
+
+/// Whether bytes are printed in a word as they are.
+pub(crate) fn is_plain_word(bytes: &[u8]) -> bool
+    ensures { OnTrue result (word_form bytes.now ≡ bytes.now) }
+{
+    !bytes.is_empty() && !has_escaped(Form::Word, bytes)
 }
 
 /// Puts a byte as it is printed.

@@ -1,5 +1,5 @@
 //! The record of a run.
-ghost use Rattle.std.specs.Prelude.{◌≡◌, ◌++◌, [], map, codes};
+ghost use Rattle.std.specs.Prelude.{◌≡◌, ◌++◌, [], map, codes, MatchBool};
 ghost use Rattle.std.specs.List.{flat_map, join_with_byte};
 ghost use Rattle.std.specs.FinMap.{entries};
 ghost use Rattle.text.specs.Bytes as ascii;
@@ -13,7 +13,7 @@ ghost use Rattle.rehearse_runs.specs.Recording.{printed, spaced, entry_line, set
 ghost use Rattle.rehearse_runs.specs.RunViewShown.{shown_word, shown_moment, shown_ending};
 ghost use Rattle.rehearse_machine.specs.EndingsShown.{ending_shown};
 
-use crate::line_pieces::{Piece, put_pieces, put_word};
+use crate::line_pieces::{Piece, is_plain_text, is_plain_word, put_pieces, put_word};
 use crate::page::{Page, flush, put};
 use crate::run_view::RunView;
 use bootstore::{LogEntry, Store, Variables};
@@ -112,6 +112,27 @@ fn put_printed<O: Out>(out: &mut O, page: &mut Page, text: &[u8]) -> Result<(), 
     )
 }
 
+/// Puts the line of a variable that is set, if all of its bytes are printed as they are and fit the
+/// page. Returns whether it did; if not, nothing changes.
+fn put_set_at_once(page: &mut Page, name: &[u8], value: &[u8]) -> bool
+    ensures { MatchBool result (page.new.items ≡ page.old.items ++ set_line (name.now, value.now))
+        (page.new.items ≡ page.old.items) }
+{
+    let room = page.room();
+    if room < 6 || name.len() > room - 6 || value.len() > room - 6 - name.len() {
+        return false;
+    }
+    if !is_plain_word(name) || !is_plain_text(value) {
+        return false;
+    }
+    let _begun = page.extend(b"var ");
+    let _named = page.extend(name);
+    page.push(b'=');
+    let _set = page.extend(value);
+    page.push(b'\n');
+    true
+}
+
 /// Puts the line of a variable that is set.
 fn put_set<'x, O: Out>(
     out: &mut O,
@@ -122,6 +143,9 @@ fn put_set<'x, O: Out>(
     ensures { Puts result (O.sink out.old) (O.sink out.new) page.old.items page.new.items
         (set_line (name.now, value.now)) }
 {
+    if put_set_at_once(page, name, value) {
+        return Ok(());
+    }
     put_pieces(
         out,
         page,
