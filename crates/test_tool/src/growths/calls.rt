@@ -101,30 +101,51 @@ fn begin(alloc: Global) -> Result<Env, EnvError> {
     Env::from_data(alloc, b"a=0\0bootcmd=load a || load b\0\0")
 }
 
-/// Makes the calls in their order.
-pub(crate) fn run(rt: &HostRuntime) -> io::Result<()> {
-    let Ok(mut env) = begin(rt.alloc()) else {
-        return println!(rt; "no memory to begin with");
-    };
-    print!(rt; "New:")?;
-    print_state(rt, &env)?;
-    for call in ROW {
-        if make_told(rt, &mut env, call)? != Ok(true) {
-            return println!(rt; "given up");
-        }
+/// Makes a call. If memory ran out, prints what is left, and makes it again. The answer is whether it gives what it
+/// should.
+fn make_told(rt: &HostRuntime, env: &mut Env, call: Call) -> io::Result<bool> {
+    match make(rt.alloc(), env, call) {
+        Ok(is_right) => Ok(is_right),
+        Err(Trouble::Memory) => make_again(rt, env, call),
+        Err(Trouble::Other) => Ok(false),
+    }
+}
+
+/// Prints what a refused call left, and makes the call again.
+fn make_again(rt: &HostRuntime, env: &mut Env, call: Call) -> io::Result<bool> {
+    print!(rt; "refused {call:?}:")?;
+    print_state(rt, env)?;
+    Ok(make(rt.alloc(), env, call).unwrap_or(false))
+}
+
+/// Makes a call and prints the state after it, or says that it is given up. The answer is whether to go on.
+fn step(rt: &HostRuntime, env: &mut Env, call: Call) -> io::Result<bool> {
+    let is_right = make_told(rt, env, call)?;
+    if is_right {
         print!(rt; "{call:?}:")?;
-        print_state(rt, &env)?;
+        print_state(rt, env)?;
+    } else {
+        println!(rt; "given up")?;
+    }
+    Ok(is_right)
+}
+
+/// Makes the calls in their order.
+fn run_row(rt: &HostRuntime, env: &mut Env) -> io::Result<()> {
+    print!(rt; "New:")?;
+    print_state(rt, env)?;
+    for call in ROW {
+        if !step(rt, env, call)? {
+            break;
+        }
     }
     Ok(())
 }
 
-/// Makes a call. If memory ran out, prints what is left, and makes it again.
-fn make_told(rt: &HostRuntime, env: &mut Env, call: Call) -> io::Result<Result<bool, Trouble>> {
-    let made = make(rt.alloc(), env, call);
-    if made != Err(Trouble::Memory) {
-        return Ok(made);
+/// Makes the calls on the environment to begin with.
+pub(crate) fn run(rt: &HostRuntime) -> io::Result<()> {
+    match begin(rt.alloc()) {
+        Ok(mut env) => run_row(rt, &mut env),
+        Err(_) => println!(rt; "no memory to begin with"),
     }
-    print!(rt; "refused {call:?}:")?;
-    print_state(rt, env)?;
-    Ok(make(rt.alloc(), env, call))
 }

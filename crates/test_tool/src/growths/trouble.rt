@@ -1,7 +1,7 @@
 //! Want of memory, told apart from other refusals.
 
 /// Why a call did not do what it should.
-#[derive(Clone, Copy, Debug, PartialEq, Eq)]
+#[derive(Clone, Copy, Debug)]
 pub(crate) enum Trouble {
     /// A growth was refused.
     Memory,
