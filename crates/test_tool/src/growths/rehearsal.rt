@@ -19,10 +19,10 @@ struct Script {
 }
 
 impl Script {
-    /// A text that asks two device commands, or 1,000 commands and then seven device commands.
-    fn new(alloc: Global, is_long: bool) -> Option<Self> {
+    /// A text of so many commands that ask nothing, and then these.
+    fn new(alloc: Global, before: u32, commands: &[u8]) -> Option<Self> {
         let bounds = Bounds::new(7, 10_000)?;
-        let env = environment(alloc, is_long)?;
+        let env = environment(alloc, before, commands)?;
         let devices = devices(alloc)?;
         Some(Script {
             env,
@@ -33,21 +33,17 @@ impl Script {
 }
 
 /// The text of `bootcmd`.
-fn text_of(alloc: Global, is_long: bool) -> Result<Vec<u8>, AllocError> {
+fn text_of(alloc: Global, before: u32, commands: &[u8]) -> Result<Vec<u8>, AllocError> {
     let mut text = Vec::new(alloc);
-    if is_long {
-        for _ in 0..1000u32 {
-            text.extend_from_slice(b"true;")?;
-        }
-        text.extend_from_slice(b"load; load; load; load; load; load; load")?;
-    } else {
-        text.extend_from_slice(b"load a || load b; echo $?")?;
+    for _ in 0..before {
+        text.extend_from_slice(b"true;")?;
     }
+    text.extend_from_slice(commands)?;
     Ok(text)
 }
 
-fn environment(alloc: Global, is_long: bool) -> Option<Env> {
-    let text = text_of(alloc, is_long).ok()?;
+fn environment(alloc: Global, before: u32, commands: &[u8]) -> Option<Env> {
+    let text = text_of(alloc, before, commands).ok()?;
     let mut env = Env::new(alloc);
     env.set(b"bootcmd", &text).ok()?;
     Some(env)
@@ -107,6 +103,23 @@ fn has_failed<S: Store>(runs: &mut Runs<'_, S>) -> bool {
     matches!(runs.next(), Err(RehearseError::Failed))
 }
 
+/// Writes that memory was refused, and keeps the word of the last run that was given. The answer is that the listing is
+/// not whole.
+fn write_refused<S: Store, O: Out>(
+    runs: &mut Runs<'_, S>,
+    last: &mut Last,
+    out: &mut O,
+) -> Option<bool> {
+    write_all(out, b"refused\n").ok()?;
+    if !has_failed(runs) {
+        return None;
+    }
+    if let Some(word) = runs.given() {
+        last.keep(word);
+    }
+    Some(false)
+}
+
 /// Writes the listing of some runs, and answers whether it is whole. If memory ran out, it keeps the word of the last
 /// run that was given.
 fn write_runs<S: Store, O: Out>(
@@ -115,17 +128,10 @@ fn write_runs<S: Store, O: Out>(
     out: &mut O,
 ) -> Option<bool> {
     match write_listing(runs, &[], None, out) {
-        Ok(_) => return Some(true),
-        Err(RehearseError::Memory) => write_all(out, b"refused\n").ok()?,
-        Err(_) => return None,
+        Ok(_) => Some(true),
+        Err(RehearseError::Memory) => write_refused(runs, last, out),
+        Err(_) => None,
     }
-    if !has_failed(runs) {
-        return None;
-    }
-    if let Some(word) = runs.given() {
-        last.keep(word);
-    }
-    Some(false)
 }
 
 /// Writes the listing after the last run that was given, and says whether it is whole.
@@ -173,27 +179,44 @@ fn count<S: Store>(alloc: Global, script: &Script) -> Option<(u32, u64)> {
     Some((found, runs.work()))
 }
 
+/// Says how many runs a script has over a store, and how many steps were begun for them.
+fn print_count<S: Store>(rt: &HostRuntime, store: &str, script: &Script) -> io::Result<()> {
+    let (runs, steps) = count::<S>(rt.alloc(), script).unwrap_or((0, 0));
+    println!(rt; "{store}: {runs} runs, {steps} steps")
+}
+
 /// Writes the listing over both stores.
+fn list_both<O: Out>(alloc: Global, script: &Script, out: &mut O) {
+    let plain = list::<Plain, O>(alloc, script, out);
+    let trail = list::<Trail, O>(alloc, script, out);
+    if plain.is_none() || trail.is_none() {
+        let _ = write_all(out, b"given up\n");
+    }
+}
+
+/// Writes the listing of a text that asks two device commands.
 pub(crate) fn run(rt: &HostRuntime) -> io::Result<()> {
-    let Some(script) = Script::new(rt.alloc(), false) else {
+    let Some(script) = Script::new(rt.alloc(), 0, b"load a || load b; echo $?") else {
         return println!(rt; "no memory to begin with");
     };
-    let mut out = Over::new(io::writer(rt));
-    let plain = list::<Plain, _>(rt.alloc(), &script, &mut out);
-    let trail = list::<Trail, _>(rt.alloc(), &script, &mut out);
-    if plain.is_none() || trail.is_none() {
-        let _ = write_all(&mut out, b"given up\n");
-    }
+    list_both(rt.alloc(), &script, &mut Over::new(io::writer(rt)));
     Ok(())
 }
 
-/// Says how many runs the longer script has over both stores, and how many steps were begun for them.
+/// Counts the runs of a script over both stores.
+fn count_both(rt: &HostRuntime, script: &Script) -> io::Result<()> {
+    print_count::<Plain>(rt, "plain", script)?;
+    print_count::<Trail>(rt, "trail", script)
+}
+
+/// Counts the runs of 1,000 commands and then seven device commands.
 pub(crate) fn run_long(rt: &HostRuntime) -> io::Result<()> {
-    let Some(script) = Script::new(rt.alloc(), true) else {
-        return println!(rt; "no memory to begin with");
-    };
-    let plain = count::<Plain>(rt.alloc(), &script).unwrap_or((0, 0));
-    let trail = count::<Trail>(rt.alloc(), &script).unwrap_or((0, 0));
-    println!(rt; "plain: {} runs, {} steps", plain.0, plain.1)?;
-    println!(rt; "trail: {} runs, {} steps", trail.0, trail.1)
+    match Script::new(
+        rt.alloc(),
+        1000,
+        b"load; load; load; load; load; load; load",
+    ) {
+        Some(script) => count_both(rt, &script),
+        None => println!(rt; "no memory to begin with"),
+    }
 }
