@@ -20,16 +20,22 @@ fn pattern(alloc: Global) -> Result<Vec<u8>, AllocError> {
     Ok(bytes)
 }
 
-/// Writes the checksum, and on the error output the nanoseconds of the fastest turn.
-pub(crate) fn run(rt: &HostRuntime) -> io::Result<()> {
-    let bytes = pattern(rt.alloc())?;
+/// The checksum of bytes, and the nanoseconds of the fastest turn.
+fn fastest(rt: &HostRuntime, bytes: &[u8]) -> io::Result<(u32, u128)> {
     let mut best = u128::MAX;
     let mut crc = 0;
     for _ in 0..TURNS {
         let start = Instant::now(rt)?;
-        crc = crc32(&bytes);
+        crc = crc32(bytes);
         best = best.min(start.elapsed(rt)?.as_nanos());
     }
+    Ok((crc, best))
+}
+
+/// Writes the checksum, and on the error output the nanoseconds of the fastest turn.
+pub(crate) fn run(rt: &HostRuntime) -> io::Result<()> {
+    let bytes = pattern(rt.alloc())?;
+    let (crc, best) = fastest(rt, &bytes)?;
     println!(rt; "crc32 of the pattern: {crc:08x}")?;
     eprintln!(rt; "{best}")
 }
