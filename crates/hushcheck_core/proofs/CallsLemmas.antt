@@ -9,6 +9,7 @@ use Rattle.hushlang.specs.TreesShown as view
 use Rattle.hushlang.specs.declared.tree.Op.{Op}
 use Rattle.hushlang.specs.declared.tree.Word.{Word}
 use Rattle.hushlang.specs.declared.tree.AndOr.{AndOr}
+use Rattle.hushlang.specs.declared.call.Call.{Call}
 use Rattle.hushlang.specs.declared.tree.Command.{Command, Simple, Assign, If, Loop, For}
 use Rattle.hushlang.specs.declared.tree.Script.{Script, out-Script}
 use Rattle.hushlang.proofs.ViewLemmas.{script_out, list_of, command_simple, command_assign, command_loop, command_for, command_if}
@@ -54,8 +55,8 @@ read_joins r (p ∷ rest) = read_joins (after_command r (view.command p.1)) rest
 pub by_commands : (r : Reading) (l : AndOr) (rest : List (Op × Command)) → rest ≡ l.rest.items → fold (λ q p. after_command q (view.command p.1)) (after_command r (view.command l.first)) rest ≡ after_list r (view.list l)
 by_commands r l rest e = sym (ap (after_list r) (list_of l.first l.rest) ∙ ap (λ ps. after_joined (after_command r (view.command l.first)) (view.joins (map view.joined ps))) (sym e) ∙ read_joins (after_command r (view.command l.first)) rest)
 
-pub by_words : (r : Reading) (c : Command) (words : Vec Word Global) (all : List Word) → c ≡ Simple words → all ≡ words.items → after_words r (map view.word all) ≡ after_command r (view.command c)
-by_words r c words all e is = ap (λ ws. after_words r (map view.word ws)) is ∙ sym (ap (λ x. after_command r (view.command x)) e ∙ ap (after_command r) (command_simple words))
+pub by_words : (r : Reading) (c : Command) (call : Call) (all : List Word) → c ≡ Simple call → map view.word all ≡ view.call call → after_words r (map view.word all) ≡ after_command r (view.command c)
+by_words r c call all e is = ap (after_words r) is ∙ sym (ap (λ x. after_command r (view.command x)) e ∙ ap (after_command r) (command_simple call))
 
 as_many : {X Y : Type 0} (g : X → Y) (xs : List X) → length (map g xs) ≡ length xs
 as_many g [] = refl

@@ -10,6 +10,7 @@ use Rattle.hushlang.specs.TreesShown as view
 use Rattle.hushlang.specs.declared.tree.Op.{Op}
 use Rattle.hushlang.specs.declared.tree.Word.{Word}
 use Rattle.hushlang.specs.declared.tree.AndOr.{AndOr}
+use Rattle.hushlang.specs.declared.call.Call.{Call}
 use Rattle.hushlang.specs.declared.tree.Command.{Command, Simple, Assign, If, Loop, For}
 use Rattle.hushlang.specs.declared.tree.Script.{Script, out-Script}
 use Rattle.hushlang.proofs.ViewLemmas.{script_out, list_of, command_simple, command_assign, command_loop, command_for, command_if}
@@ -33,8 +34,8 @@ run_by_joins (p ∷ rest) = ap (λ ns. run_by_command (view.command p.1) ++ ns) 
 pub by_commands : (l : AndOr) (rest : List (Op × Command)) → rest ≡ l.rest.items → run_by_command (view.command l.first) ++ flat_map (λ p. run_by_command (view.command p.1)) rest ≡ run_by_list (view.list l)
 by_commands l rest e = sym (ap run_by_list (list_of l.first l.rest) ∙ ap (λ ns. run_by_command (view.command l.first) ++ ns) (ap (λ r. run_by_joined (view.joins (map view.joined r))) (sym e) ∙ run_by_joins rest))
 
-pub by_words : (c : Command) (words : Vec Word Global) (all : List Word) → c ≡ Simple words → all ≡ words.items → run_by_words (map view.word all) ≡ run_by_command (view.command c)
-by_words c words all e is = ap (λ ws. run_by_words (map view.word ws)) is ∙ sym (ap (λ x. run_by_command (view.command x)) e ∙ ap run_by_command (command_simple words))
+pub by_words : (c : Command) (call : Call) (all : List Word) → c ≡ Simple call → map view.word all ≡ view.call call → run_by_words (map view.word all) ≡ run_by_command (view.command c)
+by_words c call all e is = ap run_by_words is ∙ sym (ap (λ x. run_by_command (view.command x)) e ∙ ap run_by_command (command_simple call))
 
 pub by_values : (c : Command) (values : Vec (Vec ℕ Global × Word) Global) → c ≡ Assign values → [] ≡ run_by_command (view.command c)
 by_values c values e = sym (ap (λ x. run_by_command (view.command x)) e ∙ ap run_by_command (command_assign values))

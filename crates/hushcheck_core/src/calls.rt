@@ -107,7 +107,7 @@ fn read_command(
         ≡ spec.after_command reading.old (view.command command.now)) }
 {
     match command {
-        Command::Simple(words) => read_words(alloc, words, reading),
+        Command::Simple(call) => read_words(alloc, call.words(), reading),
         Command::Assign(values) => {
             reading.skip(values.len());
             Ok(())

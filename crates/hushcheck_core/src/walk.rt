@@ -107,7 +107,7 @@ fn add_command(alloc: Global, command: &Command, names: &mut Names) -> Result<()
         (spec.run_by_command (view.command command.now))) }
 {
     match command {
-        Command::Simple(words) => add_simple(alloc, words, names),
+        Command::Simple(call) => add_simple(alloc, call.words(), names),
         Command::Assign(_) => Ok(()),
         Command::If { arms, other } => {
             add_arms(alloc, arms, names)?;

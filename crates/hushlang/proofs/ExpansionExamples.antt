@@ -4,6 +4,7 @@ use Rattle.std.proofs.Common.{refl, bytes_eq}
 use Rattle.std.specs.Fmt.{digits}
 use Rattle.hushlang.specs.Tree.{Word, Piece, Bytes, Mark, Var, Status}
 use Rattle.hushlang.specs.Expansion.{Parameters, atoms, fields, joined}
+use Rattle.hushlang.specs.KnownFields.{known_fields}
 
 -- one variable alone is set
 abbrev pub only : List ℕ → List ℕ → ℕ → Parameters
@@ -82,3 +83,26 @@ greatest_status = refl
 no_status : joined (only [] [] 0) (Status ∷ []) ≡ codes "0"
 unfolding joined atoms digits
 no_status = refl
+
+-- ---- fields that are known before a command runs
+
+known_load : known_fields load_words ≡ Some (codes "load" ∷ codes "a b" ∷ [] ∷ (92 ∷ []) ∷ [])
+unfolding fields atoms load_words
+known_load = refl
+
+-- `echo $x "$x" ''`
+unknown_echo : known_fields echo_words ≡ None
+unfolding fields atoms echo_words
+unknown_echo = refl
+
+-- `echo "$x"`
+unknown_value : known_fields ((text (codes "echo") ∷ []) ∷ (Mark ∷ Var (codes "x") false ∷ []) ∷ []) ≡ None
+unknown_value = refl
+
+-- `echo $?`
+unknown_status : known_fields ((text (codes "echo") ∷ []) ∷ (Status ∷ []) ∷ []) ≡ None
+unknown_status = refl
+
+known_nothing : known_fields [] ≡ Some []
+unfolding fields
+known_nothing = refl

@@ -30,6 +30,7 @@ pub mod ParserAnswerLemmas
 mod ScriptExamples
 pub mod NextToken
 pub mod ExpandLemmas
+pub mod KnownFieldLemmas
 pub mod Shortening
 pub mod ShortValues
 mod ExpansionExamples

@@ -3,6 +3,7 @@ pub mod Token
 pub mod Spelling
 pub mod Tokenizing
 pub mod Tree
+pub mod WordsShown
 pub mod TreesShown
 pub mod Words
 pub mod WordPieces
@@ -17,4 +18,5 @@ pub mod Texts
 pub mod CursorShown
 pub mod AfterCompound
 pub mod Expansion
+pub mod KnownFields
 pub mod Splitting

@@ -6,9 +6,9 @@ use Rattle.std.specs.declared.alloc.Global.{Global}
 use Rattle.std.specs.declared.rc.Rc.{Rc}
 use Rattle.std.specs.declared.vec.Vec.{Vec}
 use Rattle.hushlang.specs.declared.tree.Op.{Op}
-use Rattle.hushlang.specs.declared.tree.Piece.{Piece}
-use Rattle.hushlang.specs.declared.tree.Piece.TheVariants as pieces
 use Rattle.hushlang.specs.declared.tree.Word.{Word}
+use Rattle.hushlang.specs.declared.call.Call.{Call}
+pub use Rattle.hushlang.specs.WordsShown.{piece, word, fields_in, known}
 use Rattle.hushlang.specs.declared.tree.Command.{Command-F, fold-Command}
 use Rattle.hushlang.specs.declared.tree.Command as code
 use Rattle.hushlang.specs.declared.tree.Command.TheOpen as open_command
@@ -17,14 +17,9 @@ use Rattle.hushlang.specs.declared.tree.AndOr as code_list
 use Rattle.hushlang.specs.declared.tree.Script.{Script-F, fold-Script}
 use Rattle.hushlang.specs.declared.tree.Script as code_script
 
-abbrev pub piece : Piece → tree.Piece
-piece (pieces.Bytes bytes) = tree.Bytes bytes.items
-piece pieces.Mark = tree.Mark
-piece (pieces.Var name split) = tree.Var name.items split
-piece pieces.Status = tree.Status
-
-abbrev pub word : Word → tree.Word
-word w = map piece w.pieces.items
+-- the words of a simple command
+abbrev pub call : Call → List tree.Word
+call c = map word c.words.items
 
 abbrev pub runs : List AndOr → Script
 runs [] = tree.Empty
@@ -45,7 +40,7 @@ shared (Some body) = Some body.value
 
 -- one level
 abbrev pub command_level : Command-F Command AndOr Script → Command
-command_level (open_command.Simple words) = tree.Simple (map word words.items)
+command_level (open_command.Simple c) = tree.Simple (call c)
 command_level (open_command.Assign values) = tree.Assign (map (λ v. (v.0.items, word v.1)) values.items)
 command_level (open_command.If all other) =
     tree.If (arms (map (λ arm. (arm.0.value, arm.1.value)) all.items) (shared other))

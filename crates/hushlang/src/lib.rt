@@ -3,8 +3,10 @@
 
 pub mod after_compound;
 mod byte_classes;
+pub mod call;
 mod cursor;
 pub mod expand;
+mod known_fields;
 pub mod laws;
 pub mod lexer;
 pub mod parse;

@@ -12,6 +12,7 @@ ghost use Rattle.hushlang.specs.RefusalPlaces.{place_of};
 ghost use Rattle.hushlang.specs.Texts.{IsTreeOf, HasNoTree, IsPlaced, IsFaultIf, IsFaultOf, AnswersFault, fault_place};
 ghost use Rattle.hushlang.specs.declared.token.SyntaxError.TheVariants.{Memory};
 
+use crate::call::Call;
 use crate::cursor::Tokens;
 use crate::token::{SyntaxError, Token};
 use crate::tree::{AndOr, Command, Op, Script, Word};
@@ -84,7 +85,7 @@ fn simple(alloc: Global, tokens: &mut Tokens<'_>) -> Result<Command, SyntaxError
     if tokens.at_assignment() {
         Ok(Command::Assign(assignments(alloc, tokens)?))
     } else {
-        Ok(Command::Simple(word_list(alloc, tokens)?))
+        Ok(Command::Simple(Call::new(alloc, word_list(alloc, tokens)?)?))
     }
 }
 

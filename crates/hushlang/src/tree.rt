@@ -1,5 +1,6 @@
 //! The syntax tree of a script.
 
+use crate::call::Call;
 use std::rc::Rc;
 
 /// What joins two commands.
@@ -53,8 +54,8 @@ pub struct AndOr {
 #[cycle(tree)]
 #[derive(Debug, Drop)]
 pub enum Command {
-    /// The words of a simple command.
-    Simple(Vec<Word>),
+    /// A simple command.
+    Simple(Call),
     /// Names of shell variables with their values, in order.
     Assign(Vec<(Vec<u8>, Word)>),
     /// Conditions with their blocks, in order, and the block after `else`.

@@ -12,6 +12,7 @@ use Rattle.hushlang.specs.TreesShown as view
 use Rattle.hushlang.specs.declared.tree.Op.{Op}
 use Rattle.hushlang.specs.declared.tree.Word.{Word}
 use Rattle.hushlang.specs.declared.tree.AndOr.{AndOr}
+use Rattle.hushlang.specs.declared.call.Call.{Call}
 use Rattle.hushlang.specs.declared.tree.Command.{Command, Command-F, Simple, Assign, If, Loop, For, out-Command, roll-Command, roll-out-Command}
 use Rattle.hushlang.specs.declared.tree.Command.TheVariants.{rolls-Simple, rolls-Assign, rolls-If, rolls-Loop, rolls-For}
 use Rattle.hushlang.specs.declared.tree.Command.TheOpen as open_command
@@ -86,9 +87,9 @@ same_flag false false e = refl
 pub same_value : (x y : Vec ℕ Global × Word) → x.0.items ≡ y.0.items → view.word x.1 ≡ view.word y.1 → view.value x ≡ view.value y
 same_value x y e f = ap (λ (n : List ℕ). (n, view.word x.1)) e ∙ ap (λ (w : tree.Word). (y.0.items, w)) f
 
-pub same_simple : (a b : Command) (ws vs : Vec Word Global) (xs ys : List Word) → a ≡ Simple ws → b ≡ Simple vs → xs ≡ ws.items → ys ≡ vs.items → map view.word xs ≡ map view.word ys → view.command a ≡ view.command b
-same_simple a b ws vs xs ys e f is js h =
-    ap view.command e ∙ command_simple ws ∙ ap tree.Simple (sym (ap (map view.word) is) ∙ h ∙ ap (map view.word) js) ∙ sym (command_simple vs) ∙ sym (ap view.command f)
+pub same_simple : (a b : Command) (m n : Call) (xs ys : List Word) → a ≡ Simple m → b ≡ Simple n → map view.word xs ≡ view.call m → map view.word ys ≡ view.call n → map view.word xs ≡ map view.word ys → view.command a ≡ view.command b
+same_simple a b m n xs ys e f is js h =
+    ap view.command e ∙ command_simple m ∙ ap tree.Simple (sym is ∙ h ∙ js) ∙ sym (command_simple n) ∙ sym (ap view.command f)
 
 pub same_assign : (a b : Command) (ws vs : Vec (Vec ℕ Global × Word) Global) (xs ys : List (Vec ℕ Global × Word)) → a ≡ Assign ws → b ≡ Assign vs → xs ≡ ws.items → ys ≡ vs.items → map view.value xs ≡ map view.value ys → view.command a ≡ view.command b
 same_assign a b ws vs xs ys e f is js h =
@@ -223,11 +224,11 @@ arms_in_if v w e = cc
 both_say : (a b : Command) (x y : tree.Command) → view.command a ≡ x → view.command b ≡ y → view.command a ≡ view.command b → x ≡ y
 both_say a b x y e f h = sym e ∙ h ∙ f
 
-pub told_simple : (a b : Command) (ws vs : Vec Word Global) (xs ys : List Word) → a ≡ Simple ws → b ≡ Simple vs → xs ≡ ws.items → ys ≡ vs.items → view.command a ≡ view.command b → map view.word xs ≡ map view.word ys
-told_simple a b ws vs xs ys e f is js h =
-    ap (map view.word) is
-    ∙ words_in_simple (map view.word ws.items) (map view.word vs.items) (both_say a b (tree.Simple (map view.word ws.items)) (tree.Simple (map view.word vs.items)) (ap view.command e ∙ command_simple ws) (ap view.command f ∙ command_simple vs) h)
-    ∙ sym (ap (map view.word) js)
+pub told_simple : (a b : Command) (m n : Call) (xs ys : List Word) → a ≡ Simple m → b ≡ Simple n → map view.word xs ≡ view.call m → map view.word ys ≡ view.call n → view.command a ≡ view.command b → map view.word xs ≡ map view.word ys
+told_simple a b m n xs ys e f is js h =
+    is
+    ∙ words_in_simple (view.call m) (view.call n) (both_say a b (tree.Simple (view.call m)) (tree.Simple (view.call n)) (ap view.command e ∙ command_simple m) (ap view.command f ∙ command_simple n) h)
+    ∙ sym js
 
 pub told_assign : (a b : Command) (ws vs : Vec (Vec ℕ Global × Word) Global) (xs ys : List (Vec ℕ Global × Word)) → a ≡ Assign ws → b ≡ Assign vs → xs ≡ ws.items → ys ≡ vs.items → view.command a ≡ view.command b → map view.value xs ≡ map view.value ys
 told_assign a b ws vs xs ys e f is js h =
@@ -254,14 +255,14 @@ told_if a b ws vs o o' e f h =
 -- ---- what a command is, by what it says
 
 pub data Kind (b : Command) : Type 0 where
-  is_simple : (ws : Vec Word Global) → b ≡ Simple ws → Kind b
+  is_simple : (m : Call) → b ≡ Simple m → Kind b
   is_assign : (ws : Vec (Vec ℕ Global × Word) Global) → b ≡ Assign ws → Kind b
   is_if : (ws : Vec (Rc Script Global × Rc Script Global) Global) (o : Option (Rc Script Global)) → b ≡ If ws o → Kind b
   is_loop : (p : Bool) (c d : Rc Script Global) → b ≡ Loop p c d → Kind b
   is_for : (n : Vec ℕ Global) (ws : Vec Word Global) (d : Rc Script Global) → b ≡ For n ws d → Kind b
 
 kind_at : (l : Command-F Command AndOr Script) (b : Command) → roll-Command l ≡ b → Kind b
-kind_at (open_command.Simple ws) b e = is_simple ws (sym e ∙ rolls-Simple ws)
+kind_at (open_command.Simple m) b e = is_simple m (sym e ∙ rolls-Simple m)
 kind_at (open_command.Assign ws) b e = is_assign ws (sym e ∙ rolls-Assign ws)
 kind_at (open_command.If ws o) b e = is_if ws o (sym e ∙ rolls-If ws o)
 kind_at (open_command.Loop p c d) b e = is_loop p c d (sym e ∙ rolls-Loop p c d)
@@ -278,14 +279,14 @@ number (tree.Loop p c d) = 3
 number (tree.For n ws d) = 4
 
 abbrev number_at : {b : Command} → Kind b → ℕ
-number_at (is_simple ws e) = 0
+number_at (is_simple m e) = 0
 number_at (is_assign ws e) = 1
 number_at (is_if ws o e) = 2
 number_at (is_loop p c d e) = 3
 number_at (is_for n ws d e) = 4
 
 says_number : (b : Command) (k : Kind b) → number (view.command b) ≡ number_at k
-says_number b (is_simple ws e) = ap (λ x. number (view.command x)) e ∙ ap number (command_simple ws)
+says_number b (is_simple m e) = ap (λ x. number (view.command x)) e ∙ ap number (command_simple m)
 says_number b (is_assign ws e) = ap (λ x. number (view.command x)) e ∙ ap number (command_assign ws)
 says_number b (is_if ws o e) = ap (λ x. number (view.command x)) e ∙ ap number (command_if ws o)
 says_number b (is_loop p c d e) = ap (λ x. number (view.command x)) e ∙ ap number (command_loop p c d)
@@ -294,7 +295,7 @@ says_number b (is_for n ws d e) = ap (λ x. number (view.command x)) e ∙ ap nu
 same_number : (a b : Command) (k : Kind a) (l : Kind b) → view.command a ≡ view.command b → number_at k ≡ number_at l
 same_number a b k l h = sym (says_number a k) ∙ ap number h ∙ says_number b l
 
-pub other_simple : (a b : Command) (ws : Vec Word Global) → a ≡ Simple ws → ((ws : Vec Word Global) → b ≡ Simple ws → ⊥) → (l : Kind b) → view.command a ≡ view.command b → ⊥
+pub other_simple : (a b : Command) (ws : Call) → a ≡ Simple ws → ((ws : Call) → b ≡ Simple ws → ⊥) → (l : Kind b) → view.command a ≡ view.command b → ⊥
 other_simple a b ws e apart (is_simple ws' f) h = apart ws' f
 other_simple a b ws e apart (is_assign ws' f) h = absurd (let m = same_number a b (is_simple ws e) (is_assign ws' f) h in omega (arith, m))
 other_simple a b ws e apart (is_if ws' o' f) h = absurd (let m = same_number a b (is_simple ws e) (is_if ws' o' f) h in omega (arith, m))

@@ -3,6 +3,7 @@ use Rattle.std.proofs.Common.{ℕ, zero, suc, Bool, List, ◌∷◌, map, Option
 use Rattle.std.specs.declared.alloc.Global.{Global}
 use Rattle.std.specs.declared.rc.Rc.{Rc}
 use Rattle.std.specs.declared.vec.Vec.{Vec}
+use Rattle.hushlang.specs.declared.call.Call.{Call}
 use Rattle.hushlang.specs.declared.tree.Script.{Script as Code}
 use Rattle.hushlang.specs.declared.tree.Word.{Word}
 use Rattle.hushlang.specs.declared.tree.AndOr.{AndOr as ListCode}
@@ -25,8 +26,8 @@ says_if c arms o e = ap view.command e ∙ command_if arms o
 abbrev pub says_loop : (c : CommandCode) (until : Bool) (cond body : Rc Code Global) → c ≡ Loop until cond body → view.command c ≡ tree.Loop until (view.script cond.value) (view.script body.value)
 says_loop c until cond body e = ap view.command e ∙ command_loop until cond body
 
-abbrev pub says_simple : (c : CommandCode) (words : Vec Word Global) → c ≡ Simple words → view.command c ≡ tree.Simple (map view.word words.items)
-says_simple c words e = ap view.command e ∙ command_simple words
+abbrev pub says_simple : (c : CommandCode) (call : Call) → c ≡ Simple call → view.command c ≡ tree.Simple (view.call call)
+says_simple c call e = ap view.command e ∙ command_simple call
 
 abbrev pub says_assign : (c : CommandCode) (values : Vec (Vec ℕ Global × Word) Global) → c ≡ Assign values → view.command c ≡ tree.Assign (view.values_in values)
 says_assign c values e = ap view.command e ∙ command_assign values
@@ -36,14 +37,14 @@ says_for c name words body e = ap view.command e ∙ command_for name words body
 
 -- which kind of command it is, with what it says
 pub data Kind (c : CommandCode) : Type 0 where
-  AsSimple : (words : Vec Word Global) → c ≡ Simple words → Kind c
+  AsSimple : (call : Call) → c ≡ Simple call → Kind c
   AsAssign : (values : Vec (Vec ℕ Global × Word) Global) → c ≡ Assign values → Kind c
   AsIf : (arms : Vec Arm Global) → (other : Option (Rc Code Global)) → c ≡ If arms other → Kind c
   AsLoop : (until : Bool) → (cond body : Rc Code Global) → c ≡ Loop until cond body → Kind c
   AsFor : (name : Vec ℕ Global) → (words : Vec Word Global) → (body : Rc Code Global) → c ≡ For name words body → Kind c
 
 kind_at : (c : CommandCode) (k : Command-F CommandCode ListCode Code) → c ≡ roll-Command k → Kind c
-kind_at c (open_command.Simple words) e = AsSimple words (e ∙ rolls-Simple words)
+kind_at c (open_command.Simple call) e = AsSimple call (e ∙ rolls-Simple call)
 kind_at c (open_command.Assign values) e = AsAssign values (e ∙ rolls-Assign values)
 kind_at c (open_command.If arms other) e = AsIf arms other (e ∙ rolls-If arms other)
 kind_at c (open_command.Loop until cond body) e = AsLoop until cond body (e ∙ rolls-Loop until cond body)
@@ -68,8 +69,8 @@ module _ (c : CommandCode) (turn : ℕ) (f : RunningFrame) (fs : List RunningFra
       ap (λ (n : ℕ). GoOn (block_frame (view.script cond.value) ∷ in_turn 1 n f ∷ fs) s) l ∙ again turn t until (view.script cond.value) (view.script body.value)
       ∙ sym (ap (λ (x : Command). phase_move (Some x) turn f fs s) (says_loop c until cond body e))
 
-  pub no_block_simple : (words : Vec Word Global) (at : At) → c ≡ Simple words → at ≡ place f.place.list (suc f.place.command) 0 0 → GoOn (moved_to at f ∷ fs) s ≡ phase_move (Some (view.command c)) turn f fs s
-  no_block_simple words at e k = ap (λ (x : At). GoOn (moved_to x f ∷ fs) s) k ∙ sym (ap (λ (x : Command). phase_move (Some x) turn f fs s) (says_simple c words e))
+  pub no_block_simple : (call : Call) (at : At) → c ≡ Simple call → at ≡ place f.place.list (suc f.place.command) 0 0 → GoOn (moved_to at f ∷ fs) s ≡ phase_move (Some (view.command c)) turn f fs s
+  no_block_simple call at e k = ap (λ (x : At). GoOn (moved_to x f ∷ fs) s) k ∙ sym (ap (λ (x : Command). phase_move (Some x) turn f fs s) (says_simple c call e))
 
   pub no_block_assign : (values : Vec (Vec ℕ Global × Word) Global) (at : At) → c ≡ Assign values → at ≡ place f.place.list (suc f.place.command) 0 0 → GoOn (moved_to at f ∷ fs) s ≡ phase_move (Some (view.command c)) turn f fs s
   no_block_assign values at e k = ap (λ (x : At). GoOn (moved_to x f ∷ fs) s) k ∙ sym (ap (λ (x : Command). phase_move (Some x) turn f fs s) (says_assign c values e))

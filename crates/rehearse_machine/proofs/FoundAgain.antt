@@ -3,10 +3,8 @@ use Rattle.std.proofs.Common.{ℕ, ◌-◌, true, false, List, ◌∷◌, Option
 use Rattle.hushlang.specs.Tree as tree
 use Rattle.hushlang.specs.Tree.{AndOr, Command}
 use Rattle.hushlang.specs.TreesShown as view
-use Rattle.std.specs.declared.alloc.Global.{Global}
-use Rattle.std.specs.declared.vec.Vec.{Vec}
 use Rattle.hushlang.specs.declared.tree.AndOr.{AndOr as ListCode}
-use Rattle.hushlang.specs.declared.tree.Word.{Word}
+use Rattle.hushlang.specs.declared.call.Call.{Call}
 use Rattle.hushlang.specs.declared.tree.Command.{Command as CommandCode, Simple}
 use Rattle.hushlang.specs.Expansion as expansion
 use Rattle.hushlang.specs.Expansion.{fields, size, most_bytes}
@@ -46,14 +44,14 @@ module _ (at : At) (f : RunningFrame) (here : at ≡ f.place) where
 
 -- only a simple command has words
 module _ (c : CommandCode) where
-  wordless-at : Kind c → ((words : Vec Word Global) → c ≡ Simple words → ⊥) → None ≡ words_of (Some (view.command c))
-  wordless-at (AsSimple words e) other = absurd (other words e)
+  wordless-at : Kind c → ((call : Call) → c ≡ Simple call → ⊥) → None ≡ words_of (Some (view.command c))
+  wordless-at (AsSimple call e) other = absurd (other call e)
   wordless-at (AsAssign values e) other = sym (ap (λ (k : Command). words_of (Some k)) (says_assign c values e))
   wordless-at (AsIf arms rest e) other = sym (ap (λ (k : Command). words_of (Some k)) (says_if c arms rest e))
   wordless-at (AsLoop until cond body e) other = sym (ap (λ (k : Command). words_of (Some k)) (says_loop c until cond body e))
   wordless-at (AsFor name words body e) other = sym (ap (λ (k : Command). words_of (Some k)) (says_for c name words body e))
 
-  pub wordless : ((words : Vec Word Global) → c ≡ Simple words → ⊥) → None ≡ words_of (Some (view.command c))
+  pub wordless : ((call : Call) → c ≡ Simple call → ⊥) → None ≡ words_of (Some (view.command c))
   wordless = wordless-at (kind_of c)
 
 -- ---- what its words come to

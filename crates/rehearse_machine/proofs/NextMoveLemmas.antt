@@ -1,8 +1,8 @@
 -- What a frame does next, in other words.
-use Rattle.std.proofs.Common.{ℕ, Bool, List, [], ◌∷◌, ◌+◌, ◌^◌, ◌<◌, Some, Result, ◌∙◌, ◌≡◌, sym, ap, subst}
+use Rattle.std.proofs.Common.{ℕ, Bool, true, nat_le, List, [], ◌∷◌, ◌+◌, ◌^◌, ◌<◌, Some, Result, ◌∙◌, ◌≡◌, sym, ap, subst}
 use Rattle.std.specs.Prelude.{slice_get}
 use Rattle.hushlang.specs.Tree as tree
-use Rattle.hushlang.specs.Expansion.{fields}
+use Rattle.hushlang.specs.Expansion.{fields, size, most_bytes}
 use Rattle.bootstore.specs.declared.store.StoreError.{StoreError}
 use Rattle.bootstore.specs.Moment.{Moment, RunningFrame}
 use Rattle.bootstore.specs.Record.{Record, stepped, without_first}
@@ -28,6 +28,10 @@ is_top (x ∷ xs) f e = let same : x ≡ f = (let g = e in cc) in ap (λ (y : Ru
 pub found_before : (fit : Bool) (found : List Text) (words : List tree.Word) (old mid : Record) → mid ≡ stepped old → IsExpanded fit found (fields (parameters_at old.present) words) → IsExpanded fit found (fields (parameters_at mid.present) words)
 found_before fit found words old mid e h = subst (λ (r : Record). IsExpanded fit found (fields (parameters_at r.present) words)) (sym e) h
 
+-- fields that are known are those that the words come to
+pub known_before : (found found_now : List Text) → found ≡ found_now → nat_le (size found) most_bytes ≡ true → IsExpanded true found found_now
+known_before found found_now e h = (e, ap (λ (x : List Text). nat_le (size x) most_bytes) (sym e) ∙ h)
+
 -- a move of the innermost frame is one of the machine
 pub top_moves : (limits : Limits) (m : Moment) (f : RunningFrame) (does : List RunningFrame → State → PlaceNext) → IsTop f m → ((w : OutcomeWord) → does (under m) (state_at m w) ≡ place_by limits f.kind f (under m) (state_at m w)) → (w : OutcomeWord) → does (under m) (state_at m w) ≡ place_move limits m.frames (state_at m w)
 top_moves limits m f does t e w = e w ∙ sym (ap (λ (fs : List RunningFrame). place_move limits fs (state_at m w)) t)
@@ -38,7 +42,7 @@ has_room nexts.Leaves f h = tt
 has_room (nexts.Goes at) f h = tt
 has_room (nexts.Finishes at status) f h = tt
 has_room (nexts.Enters at script) f h = tt
-has_room (nexts.Calls words) f h = h
+has_room (nexts.Calls call) f h = h
 has_room (nexts.Assigns values) f h = h
 has_room (nexts.Loops words) f h = h
 has_room nexts.Turns f h = tt

@@ -4,6 +4,7 @@ use Rattle.std.specs.Prelude.{Vec, slice_get}
 use Rattle.std.proofs.lemmas.Option.{slice_get_read, slice_get_past}
 use Rattle.std.specs.declared.alloc.Global.{Global}
 use Rattle.std.specs.declared.rc.Rc.{Rc}
+use Rattle.hushlang.specs.declared.call.Call.{Call}
 use Rattle.hushlang.specs.declared.tree.Word.{Word}
 use Rattle.hushlang.specs.declared.tree.AndOr.{AndOr as ListCode}
 use Rattle.hushlang.specs.declared.tree.Command.{Command as CommandCode, Simple, Assign, If, Loop, For}
@@ -90,8 +91,8 @@ module _ (o : Option Command) (c : CommandCode) (f : RunningFrame) (fs : List Ru
       ap (λ (x : Text). for_turn (slice_get f.words f.place.turn) x (view.script body.value) f fs s) n
       ∙ sym (goes (tree.For name.items (map view.word words.items) (view.script body.value)) (says_for c name words body e))
 
-  no_for_simple : (words : Vec Word Global) → c ≡ Simple words → GoOn fs s ≡ for_move o f fs s
-  no_for_simple words e = sym (goes (tree.Simple (map view.word words.items)) (says_simple c words e))
+  no_for_simple : (call : Call) → c ≡ Simple call → GoOn fs s ≡ for_move o f fs s
+  no_for_simple call e = sym (goes (tree.Simple (view.call call)) (says_simple c call e))
 
   no_for_assign : (values : Vec (Vec ℕ Global × Word) Global) → c ≡ Assign values → GoOn fs s ≡ for_move o f fs s
   no_for_assign values e = sym (goes (tree.Assign (view.values_in values)) (says_assign c values e))
@@ -103,7 +104,7 @@ module _ (o : Option Command) (c : CommandCode) (f : RunningFrame) (fs : List Ru
   no_for_loop until cond body e = sym (goes (tree.Loop until (view.script cond.value) (view.script body.value)) (says_loop c until cond body e))
 
   no_for-at : Kind c → ((name : Vec ℕ Global) (words : Vec Word Global) (body : Rc Code Global) → c ≡ For name words body → ⊥) → GoOn fs s ≡ for_move o f fs s
-  no_for-at (AsSimple words e) other = no_for_simple words e
+  no_for-at (AsSimple call e) other = no_for_simple call e
   no_for-at (AsAssign values e) other = no_for_assign values e
   no_for-at (AsIf arms rest e) other = no_for_if arms rest e
   no_for-at (AsLoop until cond body e) other = no_for_loop until cond body e

@@ -16,7 +16,7 @@ continued limits nexts.Leaves f fs s = GoOn fs s
 continued limits (nexts.Goes at) f fs s = GoOn (moved_to at f ∷ fs) s
 continued limits (nexts.Finishes at status) f fs s = GoOn (moved_to at f ∷ fs) (set_status status s)
 continued limits (nexts.Enters at script) f fs s = GoOn (block_frame (view.script script.now.value) ∷ moved_to at f ∷ fs) s
-continued limits (nexts.Calls words) f fs s = place_command limits (tree.Simple (map view.word words.now)) f fs s
+continued limits (nexts.Calls call) f fs s = place_command limits (tree.Simple (view.call call.now)) f fs s
 continued limits (nexts.Assigns values) f fs s = place_command limits (tree.Assign (map view.value values.now)) f fs s
 continued limits (nexts.Loops words) f fs s =
     place_counted limits (λ t.
@@ -40,7 +40,7 @@ HasRoom nexts.Leaves f = Unit {0}
 HasRoom (nexts.Goes at) f = Unit {0}
 HasRoom (nexts.Finishes at status) f = Unit {0}
 HasRoom (nexts.Enters at script) f = Unit {0}
-HasRoom (nexts.Calls words) f = f.place.command + 1 < 2 ^ 64
+HasRoom (nexts.Calls call) f = f.place.command + 1 < 2 ^ 64
 HasRoom (nexts.Assigns values) f = f.place.command + 1 < 2 ^ 64
 HasRoom (nexts.Loops words) f = f.place.command + 1 < 2 ^ 64
 HasRoom nexts.Turns f = Unit {0}

@@ -1,5 +1,5 @@
 //! Finds a device command that asks again.
-ghost use Rattle.std.specs.Prelude.{◌≡◌, map, option_map};
+ghost use Rattle.std.specs.Prelude.{◌≡◌, option_map};
 ghost use Rattle.hushlang.specs.TreesShown as view;
 ghost use Rattle.rehearse_machine.specs.AskingCommand as asking;
 ghost use Rattle.rehearse_machine.specs.MovesShown.{Comes, IsTop, limits_of, under};
@@ -10,15 +10,15 @@ use crate::list_commands::command_of;
 use crate::simple::run_fields;
 use crate::steps::expanded;
 use bootstore::{Frame, Store, StoreError};
+use hushlang::call::Call;
 use hushlang::expand::Fields;
-use hushlang::tree::{Command, Word};
+use hushlang::tree::Command;
 use rehearse::{Devices, RunBounds};
 use std::alloc::Global;
 
-/// The words of the simple command before the place of a frame.
-fn words_in_front(frame: &Frame) -> Option<&[Word]>
-    ensures { option_map (λ words. map view.word words.now) result
-        ≡ asking.words_in_front frame.now }
+/// The simple command before the place of a frame.
+fn call_in_front(frame: &Frame) -> Option<&Call>
+    ensures { option_map (λ call. view.call call.now) result ≡ asking.words_in_front frame.now }
 {
     let at = frame.at();
     if at.command == 0 {
@@ -31,10 +31,10 @@ fn words_in_front(frame: &Frame) -> Option<&[Word]>
     let Some(command) = command_of(list, at.command - 1) else {
         return None;
     };
-    let Command::Simple(words) = command else {
+    let Command::Simple(call) = command else {
         return None;
     };
-    Some(words)
+    Some(call)
 }
 
 /// Finds the device command before the place of the innermost frame.
@@ -51,21 +51,18 @@ fn find_behind<'d, S: Store>(
         (asking.fields_again (limits_of devices.now bounds) (asking.words_in_front frame.now)
         frame.now (under (S.record_of store.old).present)) }
 {
-    let Some(words) = words_in_front(frame) else {
+    let script = frame.script();
+    let Some(command) = call_in_front(frame) else {
         return Ok(Step::Ends(Halt::End(store.get_status())));
     };
-    let fit = expanded(fields, store, words)?;
+    if let Some(known) = command.fields() {
+        return run_fields(alloc, store, script, devices, bounds, known);
+    }
+    let fit = expanded(fields, store, command.words())?;
     if !fit {
         return Ok(Step::Ends(Halt::Size));
     }
-    run_fields(
-        alloc,
-        store,
-        frame.script(),
-        devices,
-        bounds,
-        fields.as_slice(),
-    )
+    run_fields(alloc, store, script, devices, bounds, fields.as_slice())
 }
 
 /// Finds the device command again that has begun and asks. It is before the place of the innermost

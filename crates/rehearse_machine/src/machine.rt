@@ -40,19 +40,15 @@ fn proceed<'d, S: Store>(
         Next::Goes(at) => go_on(store, at),
         Next::Finishes(at, status) => finish(store, at, status),
         Next::Enters(at, script) => enter(store, at, block(script.clone()?)),
-        Next::Calls(words) => {
-            let fit = expanded(fields, store, words)?;
+        Next::Calls(command) => {
             let after = behind(frame.at());
-            call(
-                alloc,
-                store,
-                frame.script(),
-                after,
-                devices,
-                bounds,
-                fit,
-                fields.as_slice(),
-            )
+            let script = frame.script();
+            if let Some(known) = command.fields() {
+                return call(alloc, store, script, after, devices, bounds, true, known);
+            }
+            let fit = expanded(fields, store, command.words())?;
+            let found = fields.as_slice();
+            call(alloc, store, script, after, devices, bounds, fit, found)
         }
         Next::Assigns(values) => begin_assign(alloc, store, frame, bounds, values),
         Next::Loops(words) => begin_for(alloc, store, fields, frame, bounds, words),
@@ -85,20 +81,16 @@ pub(crate) fn step<'d, S: Store>(
             let child = block(script.clone()?);
             return enter(store, at, child);
         }
-        Next::Calls(words) => {
-            let fit = expanded(fields, store, words)?;
-            let script = top.script().clone()?;
+        Next::Calls(command) => {
             let after = behind(top.at());
-            return call(
-                alloc,
-                store,
-                &script,
-                after,
-                devices,
-                bounds,
-                fit,
-                fields.as_slice(),
-            );
+            let script = top.script().clone()?;
+            if let Some(known) = command.fields() {
+                let known = known.clone()?;
+                return call(alloc, store, &script, after, devices, bounds, true, &known);
+            }
+            let fit = expanded(fields, store, command.words())?;
+            let found = fields.as_slice();
+            return call(alloc, store, &script, after, devices, bounds, fit, found);
         }
         _ => {}
     }

@@ -1,6 +1,7 @@
 //! What the innermost frame does next, as a value: it is found by looking at the frame, before the store changes.
 
 use bootstore::At;
+use hushlang::call::Call;
 use hushlang::tree::{Script, Word};
 use std::rc::Rc;
 
@@ -15,8 +16,8 @@ pub(crate) enum Next<'a> {
     Finishes(At, u8),
     /// It goes to a place, and a block starts above it.
     Enters(At, &'a Rc<Script>),
-    /// A simple command of these words begins.
-    Calls(&'a [Word]),
+    /// A simple command begins.
+    Calls(&'a Call),
     /// Assignments of these values begin.
     Assigns(&'a [(Vec<u8>, Word)]),
     /// A `for` over these words begins.

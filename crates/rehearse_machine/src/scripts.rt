@@ -45,7 +45,7 @@ pub(crate) fn begin_command<'c>(frame: &Frame, command: &'c Command) -> Next<'c>
     ensures room { HasRoom result frame.now }
 {
     match command {
-        Command::Simple(words) => Next::Calls(words),
+        Command::Simple(call) => Next::Calls(call),
         Command::Assign(values) => Next::Assigns(values),
         Command::If { arms, other } => begin_arms(frame, arms, other, 0),
         Command::Loop {

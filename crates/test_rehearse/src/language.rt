@@ -51,7 +51,7 @@ fn tokens(case: &Case, says: &str) -> anyhow::Result<String> {
 /// What a command is, and how many parts it has.
 fn kind_of(command: &Command) -> (&'static str, usize) {
     match command {
-        Command::Simple(words) => ("simple", words.len()),
+        Command::Simple(call) => ("simple", call.words().len()),
         Command::Assign(values) => ("assign", values.len()),
         Command::If { arms, other } => ("if", 2 * arms.len().min(9) + usize::from(other.is_some())),
         Command::Loop {
@@ -115,7 +115,7 @@ fn fields_of_command<V: Vars>(
 ) -> anyhow::Result<Vec<Vec<u8>>> {
     let mut fields = Vec::new(alloc);
     match command {
-        Command::Simple(words) => return Ok(fields_of(alloc, words, vars)?),
+        Command::Simple(call) => return Ok(fields_of(alloc, call.words(), vars)?),
         Command::Assign(values) => {
             for (_, word) in values {
                 fields.push(joined(alloc, word, vars)?)?;

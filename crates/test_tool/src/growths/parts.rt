@@ -43,7 +43,7 @@ fn first(script: &Script) -> Option<&Command> {
 pub(crate) fn expands(alloc: Global) -> Result<bool, Trouble> {
     let script = script_of(alloc, b"echo $x 'a b' \"$x\"")?;
     let words: &[Word] = match first(&script) {
-        Some(Command::Simple(words)) => words,
+        Some(Command::Simple(call)) => call.words(),
         _ => &[],
     };
     let fields = told_apart(expand(alloc, words, &variables()), ExpandError::Memory)?;

@@ -30,7 +30,7 @@ read_list-returns t c =
 
 pub read_command-returns-in-Simple : goal.read_command-returns-in-Simple
 read_command-returns-in-Simple t c =
-    ok_so c.read_words.result (λ so. so ∙ by_words c.args.reading.now c.args.command.now c.in-Simple.words c.deref.result.now c.in-Simple.is c.deref.ensures.value) c.read_words.ensures
+    ok_so c.read_words.result (λ so. so ∙ by_words c.args.reading.now c.args.command.now c.in-Simple.call c.words.result.now c.in-Simple.is c.words.ensures) c.read_words.ensures
 
 pub read_command-returns-in-Assign : goal.read_command-returns-in-Assign
 read_command-returns-in-Assign t c =

@@ -20,7 +20,7 @@ add_arms-returns t c =
 
 pub add_command-returns-in-Simple : goal.add_command-returns-in-Simple
 add_command-returns-in-Simple t c =
-    let e = by_words c.args.command.now c.in-Simple.words c.deref.result.now c.in-Simple.is c.deref.ensures.value in
+    let e = by_words c.args.command.now c.in-Simple.call c.words.result.now c.in-Simple.is c.words.ensures in
     ok_so c.add_simple.result (λ so. so ∙ ap (with_names c.args.names.now) e) c.add_simple.ensures
 
 pub add_command-returns-in-Assign : goal.add_command-returns-in-Assign

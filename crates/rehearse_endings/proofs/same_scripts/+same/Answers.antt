@@ -7,7 +7,7 @@ use Rattle.rehearse_endings.proofs.SameScriptLemmas.{same_simple, same_assign, s
 use Rattle.rehearse_endings.proofs.same_scripts.+same.Goals as goal
 
 pub same_command-returns-in-Simple-b-clause-same : goal.same_command-returns-in-Simple-b-clause-same
-same_command-returns-in-Simple-b-clause-same t c = λ h. same_simple c.args.a.now c.args.b.now c.in-Simple.words c.in-Simple-b.others c.deref.result.now c.deref-in-Simple-b.result.now c.in-Simple.is c.in-Simple-b.is c.deref.ensures.value c.deref-in-Simple-b.ensures.value (c.same_words.ensures.same h)
+same_command-returns-in-Simple-b-clause-same t c = λ h. same_simple c.args.a.now c.args.b.now c.in-Simple.call c.in-Simple-b.other c.words.result.now c.words-in-Simple-b.result.now c.in-Simple.is c.in-Simple-b.is c.words.ensures c.words-in-Simple-b.ensures (c.same_words.ensures.same h)
 
 pub same_command-returns-in-Assign-b-clause-same : goal.same_command-returns-in-Assign-b-clause-same
 same_command-returns-in-Assign-b-clause-same t c = λ h. same_assign c.args.a.now c.args.b.now c.in-Assign.values c.in-Assign-b.others c.deref-in-Assign-b.result.now c.deref-in-Assign-b-2.result.now c.in-Assign.is c.in-Assign-b.is c.deref-in-Assign-b.ensures.value c.deref-in-Assign-b-2.ensures.value (c.same_values.ensures.same h)
@@ -77,7 +77,7 @@ same_command-returns-then-ne-clause-told t c = λ h.
 
 pub same_command-returns-in-Simple-b-clause-told : goal.same_command-returns-in-Simple-b-clause-told
 same_command-returns-in-Simple-b-clause-told t c = λ h.
-    c.same_words.ensures.told (told_simple c.args.a.now c.args.b.now c.in-Simple.words c.in-Simple-b.others c.deref.result.now c.deref-in-Simple-b.result.now c.in-Simple.is c.in-Simple-b.is c.deref.ensures.value c.deref-in-Simple-b.ensures.value h)
+    c.same_words.ensures.told (told_simple c.args.a.now c.args.b.now c.in-Simple.call c.in-Simple-b.other c.words.result.now c.words-in-Simple-b.result.now c.in-Simple.is c.in-Simple-b.is c.words.ensures c.words-in-Simple-b.ensures h)
 
 pub same_command-returns-in-Assign-b-clause-told : goal.same_command-returns-in-Assign-b-clause-told
 same_command-returns-in-Assign-b-clause-told t c = λ h.
@@ -104,7 +104,7 @@ same_command-returns-else-not-same_words-clause-told t c = λ h.
     c.same_script-in-For-b.ensures.told (ap view.script c.deref-in-For-b.ensures ∙ (told_for c.args.a.now c.args.b.now c.in-For.name c.in-For-b.name_there c.in-For.words c.in-For-b.words_there c.in-For.body c.in-For-b.body_there c.in-For.is c.in-For-b.is h).2 ∙ sym (ap view.script c.deref-in-For-b-2.ensures))
 
 pub same_command-returns-in_default : goal.same_command-returns-in_default
-same_command-returns-in_default t c = record { same = λ e. absurd (let f = e in cc); told = λ h. absurd (other_simple c.args.a.now c.args.b.now c.in-Simple.words c.in-Simple.is c.in_default.not-Simple (kind c.args.b.now) h) }
+same_command-returns-in_default t c = record { same = λ e. absurd (let f = e in cc); told = λ h. absurd (other_simple c.args.a.now c.args.b.now c.in-Simple.call c.in-Simple.is c.in_default.not-Simple (kind c.args.b.now) h) }
 
 pub same_command-returns-in_default-b : goal.same_command-returns-in_default-b
 same_command-returns-in_default-b t c = record { same = λ e. absurd (let f = e in cc); told = λ h. absurd (other_assign c.args.a.now c.args.b.now c.in-Assign.values c.in-Assign.is c.in_default-b.not-Assign (kind c.args.b.now) h) }

@@ -1,6 +1,6 @@
-use Rattle.std.proofs.Common.{Bool, ap, ◌∙◌, subst, List, ℕ, map}
+use Rattle.std.proofs.Common.{Bool, ap, ◌∙◌, subst, List, ℕ, Vec, Global}
 use Rattle.hushlang.specs.TreesShown as view
-use Rattle.hushlang.specs.Tree.{Script}
+use Rattle.hushlang.specs.Tree.{Script, Word}
 use Rattle.hushlang.specs.Expansion.{fields}
 use Rattle.bootstore.specs.Moment.{RunningFrame}
 use Rattle.text.specs.TextsShown.{bytes_of_words}
@@ -10,6 +10,7 @@ use Rattle.rehearse_machine.specs.Places.{StopOn, place_fields}
 use Rattle.rehearse.specs.Execution.{End}
 use Rattle.rehearse_machine.specs.Variables.{parameters_at}
 use Rattle.rehearse_machine.specs.MovesShown.{limits_of, under, IsExpanded}
+use Rattle.rehearse_machine.proofs.NextMoveLemmas.{known_before}
 use Rattle.rehearse_machine.proofs.StoreMoves.{comes_at}
 use Rattle.rehearse_machine.proofs.FoundAgain.{nothing_again, too_long_again, fields_found}
 use Rattle.rehearse_machine.proofs.asking.find_behind.Goals as goal
@@ -20,11 +21,28 @@ returns-in_default g c =
     let nothing = nothing_again (limits_of c.args.devices.now c.args.bounds) old c.args.frame.now (under old.present) c.in_default.ensures in
     (λ w. ap (λ (n : ℕ). StopOn (End n) (state_at old.present w)) c.get_status.ensures ∙ nothing.0 w, nothing.1)
 
+pub returns-in-Some-fields : goal.returns-in-Some-fields
+returns-in-Some-fields g c =
+    let limits = limits_of c.args.devices.now c.args.bounds in
+    let old = g.S.Store.record_of c.args.store.now in
+    let f = c.args.frame.now in
+    let words = view.call c.in-Some.command.now in
+    let parameters = parameters_at old.present in
+    let list = bytes_of_words c.deref-in-Some-fields.result.now in
+    let shown = ap bytes_of_words c.deref-in-Some-fields.ensures.value ∙ ap (λ (x : Vec (Vec ℕ Global) Global). bytes_of_words x.items) c.deref.ensures in
+    let known = known_before (view.fields_in c.in-Some-fields.known.now) (fields parameters words) (c.in-Some-fields.ensures.fields parameters) c.in-Some-fields.ensures.within_limit in
+    comes_at c.run_fields.result old (g.S.Store.record_of c.run_fields.new.store) (place_fields limits list (view.script c.script-script.result.now.value) old.present.frames) (fields_again limits (words_in_front f) f (under old.present))
+    (λ w. ap (λ (x : Script). place_fields limits list x old.present.frames (state_at old.present w)) c.script-script.ensures
+    ∙ ap (λ (x : List RunningFrame). place_fields limits list f.script x (state_at old.present w)) c.requires
+    ∙ fields_found limits old f (under old.present) words c.in-Some.ensures list (shown ∙ known.0) known.1 w)
+    c.run_fields.ensures
+
 pub returns-then-not-fit : goal.returns-then-not-fit
 returns-then-not-fit g c =
     let old = g.S.Store.record_of c.args.store.now in
-    let words = map view.word c.in-Some.words.now in
-    let found = subst (λ (fit : Bool). IsExpanded fit c.expanded.new.fields (fields (parameters_at old.present) words)) c.if-not-fit.true c.in_ok-fit.ensures in
+    let words = view.call c.in-Some.command.now in
+    let expanded = subst (λ (x : List Word). IsExpanded c.in_ok-fit.fit c.expanded.new.fields (fields (parameters_at old.present) x)) c.words.ensures c.in_ok-fit.ensures in
+    let found = subst (λ (fit : Bool). IsExpanded fit c.expanded.new.fields (fields (parameters_at old.present) words)) c.if-not-fit.true expanded in
     too_long_again (limits_of c.args.devices.now c.args.bounds) old c.args.frame.now (under old.present) words c.in-Some.ensures found
 
 pub returns : goal.returns
@@ -32,12 +50,12 @@ returns g c =
     let limits = limits_of c.args.devices.now c.args.bounds in
     let old = g.S.Store.record_of c.args.store.now in
     let f = c.args.frame.now in
-    let fs = under old.present in
-    let words = map view.word c.in-Some.words.now in
+    let words = view.call c.in-Some.command.now in
     let list = bytes_of_words c.as_slice.result.now in
-    let found = subst (λ (fit : Bool). IsExpanded fit c.expanded.new.fields (fields (parameters_at old.present) words)) c.if-not-fit.false c.in_ok-fit.ensures in
-    comes_at c.run_fields.result old (g.S.Store.record_of c.run_fields.new.store) (place_fields limits list (view.script c.script.result.now.value) old.present.frames) (fields_again limits (words_in_front f) f fs)
-    (λ w. ap (λ (x : Script). place_fields limits list x old.present.frames (state_at old.present w)) c.script.ensures
+    let expanded = subst (λ (x : List Word). IsExpanded c.in_ok-fit.fit c.expanded.new.fields (fields (parameters_at old.present) x)) c.words.ensures c.in_ok-fit.ensures in
+    let found = subst (λ (fit : Bool). IsExpanded fit c.expanded.new.fields (fields (parameters_at old.present) words)) c.if-not-fit.false expanded in
+    comes_at c.run_fields-2.result old (g.S.Store.record_of c.run_fields-2.new.store) (place_fields limits list (view.script c.script-script.result.now.value) old.present.frames) (fields_again limits (words_in_front f) f (under old.present))
+    (λ w. ap (λ (x : Script). place_fields limits list x old.present.frames (state_at old.present w)) c.script-script.ensures
     ∙ ap (λ (x : List RunningFrame). place_fields limits list f.script x (state_at old.present w)) c.requires
-    ∙ fields_found limits old f fs words c.in-Some.ensures list (c.as_slice.ensures ∙ found.0) found.1 w)
-    c.run_fields.ensures
+    ∙ fields_found limits old f (under old.present) words c.in-Some.ensures list (c.as_slice.ensures ∙ found.0) found.1 w)
+    c.run_fields-2.ensures

@@ -1,6 +1,8 @@
-use Rattle.std.proofs.Common.{ap, ◌∙◌, sym, subst, suc, List, ◌∷◌, map}
+use Rattle.std.proofs.Common.{ap, ◌∙◌, sym, subst, suc, ℕ, List, ◌∷◌, true, Vec, Global}
 use Rattle.hushlang.specs.TreesShown as view
+use Rattle.text.specs.TextsShown.{bytes_of_words}
 use Rattle.hushlang.specs.Expansion.{fields}
+use Rattle.hushlang.specs.Tree.{Word}
 use Rattle.hushlang.specs.declared.tree.Script.{Script as Code}
 use Rattle.rehearse.specs.State.{Text}
 use Rattle.bootstore.specs.Moment.{RunningFrame}
@@ -10,7 +12,7 @@ use Rattle.rehearse_machine.specs.Places.{GoOn, place, block_frame, moved_to}
 use Rattle.rehearse_machine.specs.Variables.{parameters_at}
 use Rattle.rehearse_machine.specs.MovesShown.{limits_of, under, IsExpanded}
 use Rattle.rehearse_machine.proofs.StoreMoves.{comes_as}
-use Rattle.rehearse_machine.proofs.NextMoveLemmas.{proceeds}
+use Rattle.rehearse_machine.proofs.NextMoveLemmas.{proceeds, known_before}
 use Rattle.rehearse_machine.proofs.machine.proceed.Goals as goal
 
 pub returns-in-Goes : goal.returns-in-Goes
@@ -30,14 +32,27 @@ returns-in_ok-clone-in-Enters g c =
     (comes_as c.enter.result old (g.S.Store.record_of c.enter.new.store) (GoOn (c.block.result ∷ moved_to c.in-Enters.at f ∷ under old.present)) _
     (λ s. ap (λ (x : RunningFrame). GoOn (x ∷ moved_to c.in-Enters.at f ∷ under old.present) s) child) (c.enter.ensures f c.requires.top))
 
+pub returns-in-Some : goal.returns-in-Some
+returns-in-Some g c =
+    let old = g.S.Store.record_of c.args.store.now in
+    let f = c.args.frame.now in
+    let words = view.call c.in-Calls.command.now in
+    let parameters = parameters_at old.present in
+    let shown = ap bytes_of_words c.deref-in-Some.ensures.value ∙ ap (λ (x : Vec (Vec ℕ Global) Global). bytes_of_words x.items) c.deref.ensures in
+    let known = known_before (view.fields_in c.in-Some.known.now) (fields parameters words) (c.in-Some.ensures.fields parameters) c.in-Some.ensures.within_limit in
+    let found = subst (λ (x : List Text). IsExpanded true x (fields parameters words)) (sym shown) known in
+    proceeds (limits_of c.args.devices.now c.args.bounds) c.call.result old (g.S.Store.record_of c.call.new.store) (nexts.Calls c.in-Calls.command) c.args.next f c.in-Calls.is
+    (c.call.ensures f words c.requires.top (c.behind-after.ensures ∙ ap (λ (x : At). place x.list (suc x.command) 0 0) c.at.ensures) c.script-script.ensures found)
+
 pub returns-in_ok-fit-in-Calls : goal.returns-in_ok-fit-in-Calls
 returns-in_ok-fit-in-Calls g c =
     let old = g.S.Store.record_of c.args.store.now in
     let f = c.args.frame.now in
-    let words = map view.word c.in-Calls.words.now in
-    let found = subst (λ (x : List Text). IsExpanded c.in_ok-fit-in-Calls.fit x (fields (parameters_at old.present) words)) (sym c.as_slice.ensures) c.in_ok-fit-in-Calls.ensures in
-    proceeds (limits_of c.args.devices.now c.args.bounds) c.call.result old (g.S.Store.record_of c.call.new.store) (nexts.Calls c.in-Calls.words) c.args.next f c.in-Calls.is
-    (c.call.ensures f words c.requires.top (c.behind-after.ensures ∙ ap (λ (x : At). place x.list (suc x.command) 0 0) c.at.ensures) c.script.ensures found)
+    let words = view.call c.in-Calls.command.now in
+    let expanded = subst (λ (x : List Word). IsExpanded c.in_ok-fit-in-Calls.fit c.expanded.new.fields (fields (parameters_at old.present) x)) c.words.ensures c.in_ok-fit-in-Calls.ensures in
+    let found = subst (λ (x : List Text). IsExpanded c.in_ok-fit-in-Calls.fit x (fields (parameters_at old.present) words)) (sym c.as_slice-found.ensures) expanded in
+    proceeds (limits_of c.args.devices.now c.args.bounds) c.call-in-Calls.result old (g.S.Store.record_of c.call-in-Calls.new.store) (nexts.Calls c.in-Calls.command) c.args.next f c.in-Calls.is
+    (c.call-in-Calls.ensures f words c.requires.top (c.behind-after.ensures ∙ ap (λ (x : At). place x.list (suc x.command) 0 0) c.at.ensures) c.script-script.ensures found)
 
 pub returns-in-Assigns : goal.returns-in-Assigns
 returns-in-Assigns g c =

@@ -1,6 +1,8 @@
-use Rattle.std.proofs.Common.{ap, ◌∙◌, sym, subst, suc, List, ◌∷◌, map}
+use Rattle.std.proofs.Common.{ap, ◌∙◌, sym, subst, suc, ℕ, List, ◌∷◌, true, Vec, Global}
 use Rattle.hushlang.specs.TreesShown as view
+use Rattle.text.specs.TextsShown.{bytes_of_words}
 use Rattle.hushlang.specs.Expansion.{fields}
+use Rattle.hushlang.specs.Tree.{Word}
 use Rattle.hushlang.specs.declared.tree.Script.{Script as Code}
 use Rattle.rehearse.specs.State.{Text}
 use Rattle.bootstore.specs.Moment.{RunningFrame}
@@ -10,7 +12,7 @@ use Rattle.rehearse_machine.specs.Places.{GoOn, place, block_frame, moved_to}
 use Rattle.rehearse_machine.specs.Variables.{parameters_at}
 use Rattle.rehearse_machine.specs.MovesShown.{limits_of, under, IsExpanded}
 use Rattle.rehearse_machine.proofs.StoreMoves.{comes_as}
-use Rattle.rehearse_machine.proofs.NextMoveLemmas.{is_top, moves_on}
+use Rattle.rehearse_machine.proofs.NextMoveLemmas.{is_top, moves_on, known_before}
 use Rattle.rehearse_machine.proofs.machine.step.Goals as goal
 
 pub returns-in-Goes : goal.returns-in-Goes
@@ -40,13 +42,28 @@ returns-in-Enters g c =
     (comes_as c.enter.result old new (GoOn (c.block-child.result ∷ moved_to c.in-Enters.at f ∷ under old.present)) _
     (λ s. ap (λ (x : RunningFrame). GoOn (x ∷ moved_to c.in-Enters.at f ∷ under old.present) s) child) (c.enter.ensures f top))
 
+pub returns-in-Some-fields : goal.returns-in-Some-fields
+returns-in-Some-fields g c =
+    let old = g.S.Store.record_of c.args.store.now in
+    let f = c.in-Some.top.now in
+    let top = is_top old.present.frames f c.in-Some.ensures in
+    let words = view.call c.in-Calls.command.now in
+    let parameters = parameters_at old.present in
+    let shown = ap bytes_of_words c.deref-in-Some-fields.ensures.value ∙ ap (λ (x : Vec (Vec ℕ Global) Global). bytes_of_words x.items) (c.deref.ensures ∙ c.in_ok-known-in-Calls.ensures.cases) in
+    let known = known_before (view.fields_in c.in-Some-fields.known.now) (fields parameters words) (c.in-Some-fields.ensures.fields parameters) c.in-Some-fields.ensures.within_limit in
+    let found = subst (λ (x : List Text). IsExpanded true x (fields parameters words)) (sym shown) known in
+    let script = ap (λ (x : Code). view.script x) c.in_ok-script-in-Calls.ensures.cases ∙ c.script.ensures in
+    moves_on (limits_of c.args.devices.now c.args.bounds) c.call.result old (g.S.Store.record_of c.call.new.store) (nexts.Calls c.in-Calls.command) c.next_of.result c.get_status-status.result f c.in-Calls.is top (sym c.get_status-status.ensures) c.next_of.ensures.next
+    (c.call.ensures f words top (c.behind-after.ensures ∙ ap (λ (x : At). place x.list (suc x.command) 0 0) c.at.ensures) script found)
+
 pub returns-in-Calls : goal.returns-in-Calls
 returns-in-Calls g c =
     let old = g.S.Store.record_of c.args.store.now in
     let f = c.in-Some.top.now in
     let top = is_top old.present.frames f c.in-Some.ensures in
-    let words = map view.word c.in-Calls.words.now in
-    let found = subst (λ (x : List Text). IsExpanded c.in_ok-fit-in-Calls.fit x (fields (parameters_at old.present) words)) (sym c.as_slice.ensures) c.in_ok-fit-in-Calls.ensures in
+    let words = view.call c.in-Calls.command.now in
+    let expanded = subst (λ (x : List Word). IsExpanded c.in_ok-fit-in-Calls.fit c.expanded.new.fields (fields (parameters_at old.present) x)) c.words.ensures c.in_ok-fit-in-Calls.ensures in
+    let found = subst (λ (x : List Text). IsExpanded c.in_ok-fit-in-Calls.fit x (fields (parameters_at old.present) words)) (sym c.as_slice-found.ensures) expanded in
     let script = ap (λ (x : Code). view.script x) c.in_ok-script-in-Calls.ensures.cases ∙ c.script.ensures in
-    moves_on (limits_of c.args.devices.now c.args.bounds) c.call.result old (g.S.Store.record_of c.call.new.store) (nexts.Calls c.in-Calls.words) c.next_of.result c.get_status-status.result f c.in-Calls.is top (sym c.get_status-status.ensures) c.next_of.ensures.next
-    (c.call.ensures f words top (c.behind-after.ensures ∙ ap (λ (x : At). place x.list (suc x.command) 0 0) c.at.ensures) script found)
+    moves_on (limits_of c.args.devices.now c.args.bounds) c.call-in-Calls.result old (g.S.Store.record_of c.call-in-Calls.new.store) (nexts.Calls c.in-Calls.command) c.next_of.result c.get_status-status.result f c.in-Calls.is top (sym c.get_status-status.ensures) c.next_of.ensures.next
+    (c.call-in-Calls.ensures f words top (c.behind-after.ensures ∙ ap (λ (x : At). place x.list (suc x.command) 0 0) c.at.ensures) script found)

@@ -14,12 +14,11 @@ use Rattle.rehearse_machine.proofs.scripts.begin_command.Goals as goal
 
 pub returns-in-Simple-clause-next : goal.returns-in-Simple-clause-next
 returns-in-Simple-clause-next c limits fs s =
-    ap (λ (x : List Word). place_command limits (tree.Simple (map view.word x)) c.args.frame.now fs s) c.deref.ensures.value
-    ∙ sym (ap (λ (x : Command). place_command limits x c.args.frame.now fs s) (says_simple c.args.command.now c.in-Simple.words c.in-Simple.is))
+    sym (ap (λ (x : Command). place_command limits x c.args.frame.now fs s) (says_simple c.args.command.now c.in-Simple.call c.in-Simple.is))
 
 pub returns-in-Assign-clause-next : goal.returns-in-Assign-clause-next
 returns-in-Assign-clause-next c limits fs s =
-    ap (λ (x : List (Vec ℕ Global × Word)). place_command limits (tree.Assign (map view.value x)) c.args.frame.now fs s) c.deref-in-Assign.ensures.value
+    ap (λ (x : List (Vec ℕ Global × Word)). place_command limits (tree.Assign (map view.value x)) c.args.frame.now fs s) c.deref.ensures.value
     ∙ sym (ap (λ (x : Command). place_command limits x c.args.frame.now fs s) (says_assign c.args.command.now c.in-Assign.values c.in-Assign.is))
 
 pub returns-in-If-clause-next : goal.returns-in-If-clause-next

@@ -1,11 +1,11 @@
-use Rattle.std.proofs.Common.{ap, ◌∙◌, sym, map, Some, None}
+use Rattle.std.proofs.Common.{ap, ◌∙◌, sym, Some, None}
 use Rattle.hushlang.specs.Tree.{Command}
 use Rattle.hushlang.specs.TreesShown as view
 use Rattle.rehearse_machine.specs.AskingCommand.{words_of}
 use Rattle.rehearse_machine.proofs.CommandLemmas.{says_simple}
 use Rattle.rehearse_machine.proofs.PartLemmas.{list_found, list_missing}
 use Rattle.rehearse_machine.proofs.FoundAgain.{no_list_in_front, command_there_in_front, wordless}
-use Rattle.rehearse_machine.proofs.asking.words_in_front.Goals as goal
+use Rattle.rehearse_machine.proofs.asking.call_in_front.Goals as goal
 
 pub returns-in_default : goal.returns-in_default
 returns-in_default c =
@@ -38,6 +38,5 @@ returns c =
     let l = c.in-Some.list.now in
     let found = list_found c.deref.result.now c.deref-2.result.now c.at-at.result f says c.deref-2.ensures.value c.at-at.ensures l c.in-Some.ensures.lookup.3.0 c.in-Some.ensures.lookup.1 in
     let code = c.in-Some-command_of.command.now in
-    ap (λ ws. Some (map view.word ws)) c.deref-3.ensures.value
-    ∙ sym (ap (λ (k : Command). words_of (Some k)) (says_simple code c.in-Simple.words c.in-Simple.is))
+    sym (ap (λ (k : Command). words_of (Some k)) (says_simple code c.in-Simple.call c.in-Simple.is))
     ∙ command_there_in_front c.at-at.result f c.at-at.ensures c.if-at-eq0.false l (Some (view.command code)) found c.in-Some-command_of.ensures.value
