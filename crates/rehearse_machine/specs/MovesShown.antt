@@ -60,6 +60,10 @@ abbrev pub Comes : Result Step StoreError → Record → Record → (State → P
 Comes (Ok step) old new next = Does step old new next
 Comes (Err e) old new next = Unit {0}
 
+-- a move of the innermost frame, f, that does this over the frames below it
+abbrev pub Moves : RunningFrame → Result Step StoreError → Record → Record → (List RunningFrame → State → PlaceNext) → Type 0
+Moves f result old new does = IsTop f old.present → Comes result old new (does (under old.present))
+
 -- a change of what a script reads and writes
 abbrev pub Changes : Record → Record → (Memory → Memory) → Type 0
 Changes old new change =

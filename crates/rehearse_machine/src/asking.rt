@@ -2,7 +2,7 @@
 ghost use Rattle.std.specs.Prelude.{◌≡◌, option_map};
 ghost use Rattle.hushlang.specs.TreesShown as view;
 ghost use Rattle.rehearse_machine.specs.AskingCommand as asking;
-ghost use Rattle.rehearse_machine.specs.MovesShown.{Comes, IsTop, limits_of, under};
+ghost use Rattle.rehearse_machine.specs.MovesShown.{Comes, Moves, limits_of};
 
 use crate::ask::Step;
 use crate::halt::Halt;
@@ -46,10 +46,9 @@ fn find_behind<'d, S: Store>(
     devices: &'d Devices,
     bounds: RunBounds,
 ) -> Result<Step<'d>, StoreError>
-    requires { IsTop frame.now (S.record_of store.old).present }
-    ensures { Comes result (S.record_of store.old) (S.record_of store.new)
+    ensures { Moves frame.now result (S.record_of store.old) (S.record_of store.new)
         (asking.fields_again (limits_of devices.now bounds) (asking.words_in_front frame.now)
-        frame.now (under (S.record_of store.old).present)) }
+        frame.now) }
 {
     let script = frame.script();
     let Some(command) = call_in_front(frame) else {

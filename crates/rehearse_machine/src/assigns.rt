@@ -4,7 +4,7 @@ ghost use Rattle.hushlang.specs.TreesShown as view;
 ghost use Rattle.hushlang.specs.Tree as tree;
 ghost use Rattle.rehearse.specs.DeviceList.{Devices as ListedDevices};
 ghost use Rattle.rehearse_machine.specs.Places as places;
-ghost use Rattle.rehearse_machine.specs.MovesShown.{Comes, IsTop, under, limits_of};
+ghost use Rattle.rehearse_machine.specs.MovesShown.{Moves, limits_of};
 
 use crate::ask::Step;
 use crate::frames::{behind, finish};
@@ -23,13 +23,12 @@ pub(crate) fn begin_assign<'d, S: Store>(
     bounds: RunBounds,
     values: &[(Vec<u8>, Word)],
 ) -> Result<Step<'d>, StoreError>
-    requires top { IsTop frame.now (S.record_of store.old).present }
     requires command { frame.now.place.command + 1 < 2 ^ 64 }
     requires begun { (S.record_of store.old).begun + 1 < 2 ^ 64 }
-    ensures { (devices : ListedDevices) → Comes result (S.record_of store.old)
+    ensures { (devices : ListedDevices) → Moves frame.now result (S.record_of store.old)
         (S.record_of store.new)
         (places.place_command (limits_of devices bounds) (tree.Assign (map view.value values.now))
-        frame.now (under (S.record_of store.old).present)) }
+        frame.now) }
 {
     let counted = count(store, bounds)?;
     if !counted {
@@ -46,11 +45,10 @@ fn assign<'d, S: Store>(
     frame: &Frame,
     values: &[(Vec<u8>, Word)],
 ) -> Result<Step<'d>, StoreError>
-    requires top { IsTop frame.now (S.record_of store.old).present }
-    requires command { frame.now.place.command + 1 < 2 ^ 64 }
-    ensures { Comes result (S.record_of store.old) (S.record_of store.new)
-        (places.place_assign (map view.value values.now)
-        (places.behind frame.now ∷ under (S.record_of store.old).present)) }
+    requires { frame.now.place.command + 1 < 2 ^ 64 }
+    ensures { Moves frame.now result (S.record_of store.old) (S.record_of store.new)
+        (λ fs. places.place_assign (map view.value values.now)
+        (places.behind frame.now ∷ fs)) }
 {
     for value in values {
         let Some(found) = expanded_one(alloc, store, &value.1)? else {

@@ -2,7 +2,7 @@
 ghost use Rattle.std.specs.Prelude.{slice_get};
 ghost use Rattle.hushlang.specs.TreesShown as view;
 ghost use Rattle.rehearse_machine.specs.Places.{for_turn};
-ghost use Rattle.rehearse_machine.specs.MovesShown.{Comes, IsTop, under};
+ghost use Rattle.rehearse_machine.specs.MovesShown.{Moves};
 
 use crate::ask::Step;
 use crate::frames::{block, enter, in_turn, leave};
@@ -18,10 +18,9 @@ pub fn next_turn<'d, S: Store>(
     name: &[u8],
     body: &Rc<Script>,
 ) -> Result<Step<'d>, StoreError>
-    requires { IsTop frame.now (S.record_of store.old).present }
-    ensures { Comes result (S.record_of store.old) (S.record_of store.new)
+    ensures { Moves frame.now result (S.record_of store.old) (S.record_of store.new)
         (for_turn (slice_get frame.now.words frame.now.place.turn) name.now
-        (view.script body.now.value) frame.now (under (S.record_of store.old).present)) }
+        (view.script body.now.value) frame.now) }
 {
     let at = frame.at();
     let Some(field) = frame.words().get(at.turn) else {

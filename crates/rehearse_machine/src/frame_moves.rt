@@ -3,7 +3,7 @@ ghost use Rattle.std.specs.Prelude.{◌∷◌, ◌+◌, ◌<◌, ◌^◌, suc, s
 ghost use Rattle.hushlang.specs.TreesShown as view;
 ghost use Rattle.rehearse_machine.specs.Frames.{begun_text};
 ghost use Rattle.rehearse_machine.specs.Places as places;
-ghost use Rattle.rehearse_machine.specs.MovesShown.{Comes, IsTop, under};
+ghost use Rattle.rehearse_machine.specs.MovesShown.{Moves};
 ghost use Rattle.rehearse_machine.specs.NextMoves.{ContinuesAt, HasRoom};
 
 use crate::ask::Step;
@@ -54,10 +54,9 @@ pub(crate) fn next_of(frame: &Frame, status: u8) -> Next<'_>
 
 /// Advances a `for` frame: its next turn.
 pub(crate) fn move_for<'d, S: Store>(store: &mut S, frame: &Frame) -> Result<Step<'d>, StoreError>
-    requires { IsTop frame.now (S.record_of store.old).present }
-    ensures { Comes result (S.record_of store.old) (S.record_of store.new)
+    ensures { Moves frame.now result (S.record_of store.old) (S.record_of store.new)
         (places.for_move (places.command_at (places.list_at frame.now.script frame.now.place.list)
-        frame.now.place.command) frame.now (under (S.record_of store.old).present)) }
+        frame.now.place.command) frame.now) }
 {
     let at = frame.at();
     let script = frame.script();
@@ -81,9 +80,8 @@ pub(crate) fn move_for<'d, S: Store>(store: &mut S, frame: &Frame) -> Result<Ste
 /// Advances a `run` frame: starts the next name if it is the first, or if the previous text ended
 /// with status 0. Else the `run` has ended.
 pub(crate) fn move_run<'d, S: Store>(store: &mut S, frame: &Frame) -> Result<Step<'d>, StoreError>
-    requires { IsTop frame.now (S.record_of store.old).present }
-    ensures { Comes result (S.record_of store.old) (S.record_of store.new)
-        (places.run_move frame.now (under (S.record_of store.old).present)) }
+    ensures { Moves frame.now result (S.record_of store.old) (S.record_of store.new)
+        (places.run_move frame.now) }
 {
     if frame.at().turn == 0 {
         return next_name(store, frame);
@@ -97,10 +95,8 @@ pub(crate) fn move_run<'d, S: Store>(store: &mut S, frame: &Frame) -> Result<Ste
 /// Starts the text of the next name of a `run`, or ends the `run` if no name is left. A name that
 /// is not set ends it with status 1. A text that is not a script ends the whole run.
 fn next_name<'d, S: Store>(store: &mut S, frame: &Frame) -> Result<Step<'d>, StoreError>
-    requires { IsTop frame.now (S.record_of store.old).present }
-    ensures { Comes result (S.record_of store.old) (S.record_of store.new)
-        (places.place_name (slice_get frame.now.words frame.now.place.turn) frame.now
-        (under (S.record_of store.old).present)) }
+    ensures { Moves frame.now result (S.record_of store.old) (S.record_of store.new)
+        (places.place_name (slice_get frame.now.words frame.now.place.turn) frame.now) }
 {
     let at = frame.at();
     let Some(name) = frame.words().get(at.turn) else {
@@ -123,12 +119,11 @@ fn begin_text<'d, S: Store>(
     frame: &Frame,
     script: Rc<Script>,
 ) -> Result<Step<'d>, StoreError>
-    requires top { IsTop frame.now (S.record_of store.old).present }
-    requires turn { frame.now.place.turn + 1 < 2 ^ 64 }
-    ensures { Comes result (S.record_of store.old) (S.record_of store.new)
-        (λ s. places.GoOn (places.text_frame (view.script script.value)
-        ∷ places.in_turn (suc frame.now.place.turn) 0 frame.now
-        ∷ under (S.record_of store.old).present) (begun_text (view.script script.value) s)) }
+    requires { frame.now.place.turn + 1 < 2 ^ 64 }
+    ensures { Moves frame.now result (S.record_of store.old) (S.record_of store.new)
+        (λ fs s. places.GoOn (places.text_frame (view.script script.value)
+        ∷ places.in_turn (suc frame.now.place.turn) 0 frame.now ∷ fs)
+        (begun_text (view.script script.value) s)) }
 {
     let at = frame.at();
     let is_empty = script.lists.as_slice().is_empty();

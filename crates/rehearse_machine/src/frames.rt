@@ -4,7 +4,7 @@ ghost use Rattle.hushlang.specs.TreesShown as view;
 ghost use Rattle.bootstore.specs.Moment.{RunningFrame};
 ghost use Rattle.rehearse.specs.Execution.{set_status};
 ghost use Rattle.rehearse_machine.specs.Places.{place, block_frame, text_frame, moved_to, GoOn};
-ghost use Rattle.rehearse_machine.specs.MovesShown.{Comes, IsTop, under};
+ghost use Rattle.rehearse_machine.specs.MovesShown.{Comes, Moves, under};
 
 use crate::ask::Step;
 use bootstore::{At, Frame, FrameKind, Store, StoreError};
@@ -68,9 +68,8 @@ pub(crate) fn enter<'d, S: Store>(
     at: At,
     child: Frame,
 ) -> Result<Step<'d>, StoreError>
-    ensures { (f : RunningFrame) → IsTop f (S.record_of store.old).present
-        → Comes result (S.record_of store.old) (S.record_of store.new)
-        (GoOn (child ∷ moved_to at f ∷ under (S.record_of store.old).present)) }
+    ensures { (f : RunningFrame) → Moves f result (S.record_of store.old) (S.record_of store.new)
+        (λ fs. GoOn (child ∷ moved_to at f ∷ fs)) }
 {
     store.advance(at)?;
     store.push(child)?;
@@ -83,10 +82,8 @@ pub(crate) fn finish<'d, S: Store>(
     at: At,
     status: u8,
 ) -> Result<Step<'d>, StoreError>
-    ensures { (f : RunningFrame) → IsTop f (S.record_of store.old).present
-        → Comes result (S.record_of store.old) (S.record_of store.new)
-        (λ s. GoOn (moved_to at f ∷ under (S.record_of store.old).present)
-        (set_status status s)) }
+    ensures { (f : RunningFrame) → Moves f result (S.record_of store.old) (S.record_of store.new)
+        (λ fs s. GoOn (moved_to at f ∷ fs) (set_status status s)) }
 {
     store.advance(at)?;
     store.set_status(status)?;
@@ -95,9 +92,8 @@ pub(crate) fn finish<'d, S: Store>(
 
 /// Moves the innermost frame to a place.
 pub(crate) fn go_on<'d, S: Store>(store: &mut S, at: At) -> Result<Step<'d>, StoreError>
-    ensures { (f : RunningFrame) → IsTop f (S.record_of store.old).present
-        → Comes result (S.record_of store.old) (S.record_of store.new)
-        (GoOn (moved_to at f ∷ under (S.record_of store.old).present)) }
+    ensures { (f : RunningFrame) → Moves f result (S.record_of store.old) (S.record_of store.new)
+        (λ fs. GoOn (moved_to at f ∷ fs)) }
 {
     store.advance(at)?;
     Ok(Step::Going)

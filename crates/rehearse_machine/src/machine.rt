@@ -1,7 +1,7 @@
 //! The machine: moves over a store, until an outcome is asked for or the run ends.
 ghost use Rattle.std.specs.Prelude.{◌+◌, ◌<◌, ◌≤◌, ◌^◌, IfOk};
 ghost use Rattle.rehearse_machine.specs.Places.{place_move};
-ghost use Rattle.rehearse_machine.specs.MovesShown.{Comes, IsTop, limits_of, under};
+ghost use Rattle.rehearse_machine.specs.MovesShown.{Comes, Moves, limits_of};
 ghost use Rattle.rehearse_machine.specs.NextMoves.{continued, HasRoom};
 ghost use Rattle.rehearse_machine.specs.Turning.{IsSound, Turns, Drives};
 
@@ -28,12 +28,10 @@ fn proceed<'d, S: Store>(
     bounds: RunBounds,
     next: Next<'_>,
 ) -> Result<Step<'d>, StoreError>
-    requires top { IsTop frame.now (S.record_of store.old).present }
     requires room { HasRoom next frame.now }
     requires begun { (S.record_of store.old).begun + 1 < 2 ^ 64 }
-    ensures { Comes result (S.record_of store.old) (S.record_of store.new)
-        (continued (limits_of devices.now bounds) next.entry frame.now
-        (under (S.record_of store.old).present)) }
+    ensures { Moves frame.now result (S.record_of store.old) (S.record_of store.new)
+        (continued (limits_of devices.now bounds) next.entry frame.now) }
 {
     match next {
         Next::Leaves => leave(store),

@@ -12,7 +12,7 @@ ghost use Rattle.rehearse_machine.specs.Places.{place_fields, place_called, plac
 ghost use Rattle.rehearse_machine.specs.Places.{behind as goes_behind};
 ghost use Rattle.bootstore.specs.Moment.{RunningFrame};
 ghost use Rattle.rehearse_machine.specs.Variables.{parameters_at};
-ghost use Rattle.rehearse_machine.specs.MovesShown.{Comes, IsExpanded, IsTop, under, limits_of};
+ghost use Rattle.rehearse_machine.specs.MovesShown.{Comes, IsExpanded, Moves, limits_of};
 ghost use Rattle.rehearse_machine.specs.CalledShown.{builtin_called, called_shown};
 
 use crate::ask::Step;
@@ -198,13 +198,11 @@ pub(crate) fn call<'d, S: Store>(
     fields: &[Vec<u8>],
 ) -> Result<Step<'d>, StoreError>
     requires { (S.record_of store.old).begun + 1 < 2 ^ 64 }
-    ensures { (f : RunningFrame) (words : List tree.Word) → IsTop f (S.record_of store.old).present
-        → after ≡ (goes_behind f).place → view.script script.now.value ≡ f.script
-        → IsExpanded fit (bytes_of_words fields.now)
+    ensures { (f : RunningFrame) (words : List tree.Word) → after ≡ (goes_behind f).place
+        → view.script script.now.value ≡ f.script → IsExpanded fit (bytes_of_words fields.now)
         (expansion.fields (parameters_at (S.record_of store.old).present) words)
-        → Comes result (S.record_of store.old) (S.record_of store.new)
-        (place_command (limits_of devices.now bounds) (tree.Simple words) f
-        (under (S.record_of store.old).present)) }
+        → Moves f result (S.record_of store.old) (S.record_of store.new)
+        (place_command (limits_of devices.now bounds) (tree.Simple words) f) }
 {
     let counted = count(store, bounds)?;
     if !counted {
@@ -226,15 +224,13 @@ pub(crate) fn begin_for<'d, S: Store>(
     bounds: RunBounds,
     words: &[Word],
 ) -> Result<Step<'d>, StoreError>
-    requires top { IsTop frame.now (S.record_of store.old).present }
     requires command { frame.now.place.command + 1 < 2 ^ 64 }
     requires begun { (S.record_of store.old).begun + 1 < 2 ^ 64 }
-    ensures { (devices : ListedDevices) → Comes result (S.record_of store.old)
+    ensures { (devices : ListedDevices) → Moves frame.now result (S.record_of store.old)
         (S.record_of store.new)
-        (place_counted (limits_of devices bounds)
+        (λ fs. place_counted (limits_of devices bounds)
         (λ t. place_fitting (expansion.fields (parameters_in t.memory)
-        (map view.word words.now))
-        (λ found. for_begins found frame.now (under (S.record_of store.old).present)) t)) }
+        (map view.word words.now)) (λ found. for_begins found frame.now fs) t)) }
 {
     let counted = count(store, bounds)?;
     if !counted {
@@ -254,10 +250,9 @@ fn begin_turns<'d, S: Store>(
     frame: &Frame,
     fields: &[Vec<u8>],
 ) -> Result<Step<'d>, StoreError>
-    requires top { IsTop frame.now (S.record_of store.old).present }
-    requires command { frame.now.place.command + 1 < 2 ^ 64 }
-    ensures { Comes result (S.record_of store.old) (S.record_of store.new)
-        (for_begins (bytes_of_words fields.now) frame.now (under (S.record_of store.old).present)) }
+    requires { frame.now.place.command + 1 < 2 ^ 64 }
+    ensures { Moves frame.now result (S.record_of store.old) (S.record_of store.new)
+        (for_begins (bytes_of_words fields.now) frame.now) }
 {
     let at = frame.at();
     if fields.is_empty() {

@@ -16,13 +16,13 @@ use Rattle.rehearse_machine.proofs.FoundAgain.{nothing_again, too_long_again, fi
 use Rattle.rehearse_machine.proofs.asking.find_behind.Goals as goal
 
 pub returns-in_default : goal.returns-in_default
-returns-in_default g c =
+returns-in_default g c top =
     let old = g.S.Store.record_of c.args.store.now in
     let nothing = nothing_again (limits_of c.args.devices.now c.args.bounds) old c.args.frame.now (under old.present) c.in_default.ensures in
     (λ w. ap (λ (n : ℕ). StopOn (End n) (state_at old.present w)) c.get_status.ensures ∙ nothing.0 w, nothing.1)
 
 pub returns-in-Some-fields : goal.returns-in-Some-fields
-returns-in-Some-fields g c =
+returns-in-Some-fields g c top =
     let limits = limits_of c.args.devices.now c.args.bounds in
     let old = g.S.Store.record_of c.args.store.now in
     let f = c.args.frame.now in
@@ -33,12 +33,12 @@ returns-in-Some-fields g c =
     let known = known_before (view.fields_in c.in-Some-fields.known.now) (fields parameters words) (c.in-Some-fields.ensures.fields parameters) c.in-Some-fields.ensures.within_limit in
     comes_at c.run_fields.result old (g.S.Store.record_of c.run_fields.new.store) (place_fields limits list (view.script c.script-script.result.now.value) old.present.frames) (fields_again limits (words_in_front f) f (under old.present))
     (λ w. ap (λ (x : Script). place_fields limits list x old.present.frames (state_at old.present w)) c.script-script.ensures
-    ∙ ap (λ (x : List RunningFrame). place_fields limits list f.script x (state_at old.present w)) c.requires
+    ∙ ap (λ (x : List RunningFrame). place_fields limits list f.script x (state_at old.present w)) top
     ∙ fields_found limits old f (under old.present) words c.in-Some.ensures list (shown ∙ known.0) known.1 w)
     c.run_fields.ensures
 
 pub returns-then-not-fit : goal.returns-then-not-fit
-returns-then-not-fit g c =
+returns-then-not-fit g c top =
     let old = g.S.Store.record_of c.args.store.now in
     let words = view.call c.in-Some.command.now in
     let expanded = subst (λ (x : List Word). IsExpanded c.in_ok-fit.fit c.expanded.new.fields (fields (parameters_at old.present) x)) c.words.ensures c.in_ok-fit.ensures in
@@ -46,7 +46,7 @@ returns-then-not-fit g c =
     too_long_again (limits_of c.args.devices.now c.args.bounds) old c.args.frame.now (under old.present) words c.in-Some.ensures found
 
 pub returns : goal.returns
-returns g c =
+returns g c top =
     let limits = limits_of c.args.devices.now c.args.bounds in
     let old = g.S.Store.record_of c.args.store.now in
     let f = c.args.frame.now in
@@ -56,6 +56,6 @@ returns g c =
     let found = subst (λ (fit : Bool). IsExpanded fit c.expanded.new.fields (fields (parameters_at old.present) words)) c.if-not-fit.false expanded in
     comes_at c.run_fields-2.result old (g.S.Store.record_of c.run_fields-2.new.store) (place_fields limits list (view.script c.script-script.result.now.value) old.present.frames) (fields_again limits (words_in_front f) f (under old.present))
     (λ w. ap (λ (x : Script). place_fields limits list x old.present.frames (state_at old.present w)) c.script-script.ensures
-    ∙ ap (λ (x : List RunningFrame). place_fields limits list f.script x (state_at old.present w)) c.requires
+    ∙ ap (λ (x : List RunningFrame). place_fields limits list f.script x (state_at old.present w)) top
     ∙ fields_found limits old f (under old.present) words c.in-Some.ensures list (c.as_slice.ensures ∙ found.0) found.1 w)
     c.run_fields-2.ensures

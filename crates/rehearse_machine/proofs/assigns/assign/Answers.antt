@@ -16,7 +16,7 @@ pub loop-value-init : goal.loop-value-init
 loop-value-init g c = none_assigned c.args.values.now (behind c.args.frame.now ∷ under (g.S.Store.record_of c.args.store.now).present) (g.S.Store.record_of c.args.store.now)
 
 pub returns-in_default : goal.returns-in_default
-returns-in_default g c =
+returns-in_default g c top =
     let old = g.S.Store.record_of c.args.store.now in
     let now = g.S.Store.record_of c.loop-value.store in
     let d = c.value-item.result in
@@ -33,10 +33,10 @@ loop-value-preserved g c =
     (g.S.Store.record_of c.set_local.new.self) c.deref.result.now c.deref-in-loop-value.result.now c.deref.ensures.value (c.deref-in-loop-value.ensures.value ∙ found.0) found.1 c.in_ok-set_local.ensures.ok
 
 pub returns : goal.returns
-returns g c =
+returns g c top =
     let old = g.S.Store.record_of c.args.store.now in
     let now = g.S.Store.record_of c.loop-value.store in
     let e = c.loop-value.invariant.frames in
-    let top = e ∙ c.requires.top ∙ sym (ap (λ (x : List RunningFrame). c.args.frame.now ∷ without_first x) e) in
+    let still = e ∙ top ∙ sym (ap (λ (x : List RunningFrame). c.args.frame.now ∷ without_first x) e) in
     all_assigned c.finish.result c.args.values.now c.loop-value.value-index c.args.frame.now old now (g.S.Store.record_of c.finish.new.store) c.behind.result c.loop-value-test.false c.loop-value.invariant
-    (c.behind.ensures ∙ ap (λ (x : At). place x.list (suc x.command) 0 0) c.at.ensures) (c.finish.ensures c.args.frame.now top)
+    (c.behind.ensures ∙ ap (λ (x : At). place x.list (suc x.command) 0 0) c.at.ensures) (c.finish.ensures c.args.frame.now still)

@@ -1,11 +1,12 @@
-use Rattle.std.proofs.Common.{subst, Bool}
-use Rattle.rehearse_machine.specs.MovesShown.{limits_of, IsCounted}
+use Rattle.std.proofs.Common.{subst, sym, Bool}
+use Rattle.bootstore.specs.Record.{Record}
+use Rattle.rehearse_machine.specs.MovesShown.{limits_of, IsCounted, IsTop}
 use Rattle.rehearse_machine.proofs.AssignLemmas.{assign_begins}
 use Rattle.rehearse_machine.proofs.assigns.begin_assign.Goals as goal
 
 pub returns : goal.returns
-returns g c devices =
+returns g c devices top =
     let old = g.S.Store.record_of c.args.store.now in
     let mid = g.S.Store.record_of c.count.new.store in
     let counted = subst (λ (b : Bool). IsCounted c.args.bounds b old mid) c.if-not-counted.false c.in_ok-counted.ensures in
-    assign_begins (limits_of devices c.args.bounds) c.assign.result c.args.values.now c.args.frame.now old mid (g.S.Store.record_of c.assign.new.store) counted.0 counted.1 c.assign.ensures
+    assign_begins (limits_of devices c.args.bounds) c.assign.result c.args.values.now c.args.frame.now old mid (g.S.Store.record_of c.assign.new.store) counted.0 counted.1 (c.assign.ensures (subst (λ (r : Record). IsTop c.args.frame.now r.present) (sym counted.1) top))

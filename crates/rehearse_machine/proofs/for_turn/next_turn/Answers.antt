@@ -11,14 +11,14 @@ use Rattle.rehearse_machine.proofs.WordLemmas.{word_none, word_some, turn_begins
 use Rattle.rehearse_machine.proofs.for_turn.next_turn.Goals as goal
 
 pub returns-in_default : goal.returns-in_default
-returns-in_default g c =
+returns-in_default g c top =
     let fs = under (g.S.Store.record_of c.args.store.now).present in
     let f = c.args.frame.now in
     let none = word_none c.words.result.now f.words c.at-at.result.turn f.place.turn c.words.ensures (ap (λ (x : At). x.turn) c.at-at.ensures) c.in_default.ensures.lookup.3 in
     comes_as c.leave.result _ _ (GoOn fs) _ (λ s. sym (ap (λ (o : Option Text). for_turn o c.args.name.now (view.script c.args.body.now.value) f fs s) none)) c.leave.ensures
 
 pub returns : goal.returns
-returns g c =
+returns g c top =
     let old = g.S.Store.record_of c.args.store.now in
     let mid = g.S.Store.record_of c.set_local.new.self in
     let new = g.S.Store.record_of c.enter.new.store in
@@ -27,4 +27,4 @@ returns g c =
     turn_begins c.enter.result old mid new c.args.name.now c.deref.result.now (view.script c.args.body.now.value) f c.block.result c.in_turn.result
     (some ∙ ap Some (sym c.deref.ensures.value)) (c.block.ensures ∙ ap (λ (x : Code). block_frame (view.script x)) c.in_ok-clone.ensures.cases)
     (c.in_turn.ensures ∙ ap (λ (x : At). place x.list x.command (suc x.turn) 0) c.at-at.ensures) c.in_ok-set_local.ensures.ok
-    (c.enter.ensures f (subst (λ (x : Record). IsTop f x.present) (sym c.in_ok-set_local.ensures.ok) c.requires))
+    (c.enter.ensures f (subst (λ (x : Record). IsTop f x.present) (sym c.in_ok-set_local.ensures.ok) top))

@@ -9,7 +9,7 @@ use Rattle.rehearse_machine.proofs.PartLemmas.{list_found, list_missing, command
 use Rattle.rehearse_machine.proofs.frame_moves.move_for.Goals as goal
 
 pub returns-in_default : goal.returns-in_default
-returns-in_default g c =
+returns-in_default g c top =
     let f = c.args.frame.now in
     let fs = under (g.S.Store.record_of c.args.store.now).present in
     let says = ap view.script c.deref.ensures ∙ c.script-script.ensures in
@@ -17,7 +17,7 @@ returns-in_default g c =
     comes_as c.leave.result _ _ (GoOn fs) _ (λ s. sym (ap (λ (o : Option AndOr). for_move (command_at o f.place.command) f fs s) none)) c.leave.ensures
 
 pub returns-in_default-command_of : goal.returns-in_default-command_of
-returns-in_default-command_of g c =
+returns-in_default-command_of g c top =
     let f = c.args.frame.now in
     let fs = under (g.S.Store.record_of c.args.store.now).present in
     let says = ap view.script c.deref.ensures ∙ c.script-script.ensures in
@@ -27,7 +27,7 @@ returns-in_default-command_of g c =
     comes_as c.leave-in_default-command_of.result _ _ (GoOn fs) _ (λ s. sym (ap (λ (o : Option Command). for_move o f fs s) none)) c.leave-in_default-command_of.ensures
 
 pub returns-in_default-command : goal.returns-in_default-command
-returns-in_default-command g c =
+returns-in_default-command g c top =
     let f = c.args.frame.now in
     let fs = under (g.S.Store.record_of c.args.store.now).present in
     let says = ap view.script c.deref.ensures ∙ c.script-script.ensures in
@@ -38,7 +38,7 @@ returns-in_default-command g c =
     comes_as c.leave-in_default-command.result _ _ (GoOn fs) _ (λ s. no_for _ code f fs s command c.in_default-command.not-For) c.leave-in_default-command.ensures
 
 pub returns : goal.returns
-returns g c =
+returns g c top =
     let f = c.args.frame.now in
     let fs = under (g.S.Store.record_of c.args.store.now).present in
     let says = ap view.script c.deref.ensures ∙ c.script-script.ensures in
@@ -47,4 +47,4 @@ returns g c =
     let code = c.in-Some-command_of.command.now in
     let command = command_there l _ c.at-at.result f found c.at-at.ensures (Some (view.command code)) c.in-Some-command_of.ensures.value in
     comes_as c.next_turn.result _ _ (for_turn (slice_get f.words f.place.turn) c.deref-3.result.now (view.script c.in-For.body.value) f fs) _
-    (λ s. for_goes _ code f fs s command c.in-For.name c.in-For.words c.in-For.body c.deref-3.result.now c.in-For.is c.deref-3.ensures.value) c.next_turn.ensures
+    (λ s. for_goes _ code f fs s command c.in-For.name c.in-For.words c.in-For.body c.deref-3.result.now c.in-For.is c.deref-3.ensures.value) (c.next_turn.ensures top)

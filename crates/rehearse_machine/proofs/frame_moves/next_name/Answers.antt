@@ -1,13 +1,15 @@
-use Rattle.std.proofs.Common.{ap, ◌∙◌, sym}
+use Rattle.std.proofs.Common.{ap, ◌∙◌, sym, subst}
+use Rattle.bootstore.specs.Record.{Record}
 use Rattle.bootstore.specs.Scripts.{text_found}
 use Rattle.bootstore.specs.declared.frame.At.{At}
 use Rattle.bootstore.proofs.Tables.{clone_text}
+use Rattle.rehearse_machine.specs.MovesShown.{IsTop}
 use Rattle.rehearse_machine.proofs.WordLemmas.{word_some}
 use Rattle.rehearse_machine.proofs.NameLemmas.{unset_found, no_script_found, text_found_comes}
 use Rattle.rehearse_machine.proofs.frame_moves.next_name.Goals as goal
 
 pub returns-in_ok-set_status-in-Unset : goal.returns-in_ok-set_status-in-Unset
-returns-in_ok-set_status-in-Unset g c =
+returns-in_ok-set_status-in-Unset g c top =
     let old = g.S.Store.record_of c.args.store.now in
     let f = c.args.frame.now in
     let found = word_some c.words.result.now f.words c.at-at.result.turn f.place.turn c.in-Some.name.now c.words.ensures (ap (λ (x : At). x.turn) c.at-at.ensures) c.in-Some.ensures.lookup.3.0 c.in-Some.ensures.lookup.1 in
@@ -16,7 +18,7 @@ returns-in_ok-set_status-in-Unset g c =
     (sym (ap text_found c.in-Unset.is) ∙ c.in_ok-text_of.ensures.found)
 
 pub returns-in_ok-clone-in-NoScript : goal.returns-in_ok-clone-in-NoScript
-returns-in_ok-clone-in-NoScript g c =
+returns-in_ok-clone-in-NoScript g c top =
     let old = g.S.Store.record_of c.args.store.now in
     let f = c.args.frame.now in
     let found = word_some c.words.result.now f.words c.at-at.result.turn f.place.turn c.in-Some.name.now c.words.ensures (ap (λ (x : At). x.turn) c.at-at.ensures) c.in-Some.ensures.lookup.3.0 c.in-Some.ensures.lookup.1 in
@@ -25,9 +27,9 @@ returns-in_ok-clone-in-NoScript g c =
     (sym (ap text_found c.in-NoScript.is) ∙ c.in_ok-text_of.ensures.found)
 
 pub returns-in-Script : goal.returns-in-Script
-returns-in-Script g c =
+returns-in-Script g c top =
     let old = g.S.Store.record_of c.args.store.now in
     let f = c.args.frame.now in
     let found = word_some c.words.result.now f.words c.at-at.result.turn f.place.turn c.in-Some.name.now c.words.ensures (ap (λ (x : At). x.turn) c.at-at.ensures) c.in-Some.ensures.lookup.3.0 c.in-Some.ensures.lookup.1 in
     text_found_comes old (g.S.Store.record_of c.text_of.new.self) c.in_ok-text_of.ensures.same f c.in-Some.name.now.items c.deref.result.now found c.deref.ensures.value
-    c.begin_text.result (g.S.Store.record_of c.begin_text.new.store) _ (sym (ap text_found c.in-Script.is) ∙ c.in_ok-text_of.ensures.found) c.begin_text.ensures
+    c.begin_text.result (g.S.Store.record_of c.begin_text.new.store) _ (sym (ap text_found c.in-Script.is) ∙ c.in_ok-text_of.ensures.found) (c.begin_text.ensures (subst (λ (r : Record). IsTop f r.present) (sym c.in_ok-text_of.ensures.same) top))

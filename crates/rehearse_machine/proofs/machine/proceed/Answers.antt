@@ -16,24 +16,24 @@ use Rattle.rehearse_machine.proofs.NextMoveLemmas.{proceeds, known_before}
 use Rattle.rehearse_machine.proofs.machine.proceed.Goals as goal
 
 pub returns-in-Goes : goal.returns-in-Goes
-returns-in-Goes g c =
-    proceeds (limits_of c.args.devices.now c.args.bounds) c.go_on.result _ _ (nexts.Goes c.in-Goes.at) c.args.next c.args.frame.now c.in-Goes.is (c.go_on.ensures c.args.frame.now c.requires.top)
+returns-in-Goes g c top =
+    proceeds (limits_of c.args.devices.now c.args.bounds) c.go_on.result _ _ (nexts.Goes c.in-Goes.at) c.args.next c.args.frame.now c.in-Goes.is (c.go_on.ensures c.args.frame.now top)
 
 pub returns-in-Finishes : goal.returns-in-Finishes
-returns-in-Finishes g c =
-    proceeds (limits_of c.args.devices.now c.args.bounds) c.finish.result _ _ (nexts.Finishes c.in-Finishes.at c.in-Finishes.status) c.args.next c.args.frame.now c.in-Finishes.is (c.finish.ensures c.args.frame.now c.requires.top)
+returns-in-Finishes g c top =
+    proceeds (limits_of c.args.devices.now c.args.bounds) c.finish.result _ _ (nexts.Finishes c.in-Finishes.at c.in-Finishes.status) c.args.next c.args.frame.now c.in-Finishes.is (c.finish.ensures c.args.frame.now top)
 
 pub returns-in_ok-clone-in-Enters : goal.returns-in_ok-clone-in-Enters
-returns-in_ok-clone-in-Enters g c =
+returns-in_ok-clone-in-Enters g c top =
     let old = g.S.Store.record_of c.args.store.now in
     let f = c.args.frame.now in
     let child = c.block.ensures ∙ ap (λ (x : Code). block_frame (view.script x)) c.in_ok-clone-in-Enters.ensures.cases in
     proceeds (limits_of c.args.devices.now c.args.bounds) c.enter.result old (g.S.Store.record_of c.enter.new.store) (nexts.Enters c.in-Enters.at c.in-Enters.script) c.args.next f c.in-Enters.is
     (comes_as c.enter.result old (g.S.Store.record_of c.enter.new.store) (GoOn (c.block.result ∷ moved_to c.in-Enters.at f ∷ under old.present)) _
-    (λ s. ap (λ (x : RunningFrame). GoOn (x ∷ moved_to c.in-Enters.at f ∷ under old.present) s) child) (c.enter.ensures f c.requires.top))
+    (λ s. ap (λ (x : RunningFrame). GoOn (x ∷ moved_to c.in-Enters.at f ∷ under old.present) s) child) (c.enter.ensures f top))
 
 pub returns-in-Some : goal.returns-in-Some
-returns-in-Some g c =
+returns-in-Some g c top =
     let old = g.S.Store.record_of c.args.store.now in
     let f = c.args.frame.now in
     let words = view.call c.in-Calls.command.now in
@@ -42,22 +42,22 @@ returns-in-Some g c =
     let known = known_before (view.fields_in c.in-Some.known.now) (fields parameters words) (c.in-Some.ensures.fields parameters) c.in-Some.ensures.within_limit in
     let found = subst (λ (x : List Text). IsExpanded true x (fields parameters words)) (sym shown) known in
     proceeds (limits_of c.args.devices.now c.args.bounds) c.call.result old (g.S.Store.record_of c.call.new.store) (nexts.Calls c.in-Calls.command) c.args.next f c.in-Calls.is
-    (c.call.ensures f words c.requires.top (c.behind-after.ensures ∙ ap (λ (x : At). place x.list (suc x.command) 0 0) c.at.ensures) c.script-script.ensures found)
+    (c.call.ensures f words (c.behind-after.ensures ∙ ap (λ (x : At). place x.list (suc x.command) 0 0) c.at.ensures) c.script-script.ensures found top)
 
 pub returns-in_ok-fit-in-Calls : goal.returns-in_ok-fit-in-Calls
-returns-in_ok-fit-in-Calls g c =
+returns-in_ok-fit-in-Calls g c top =
     let old = g.S.Store.record_of c.args.store.now in
     let f = c.args.frame.now in
     let words = view.call c.in-Calls.command.now in
     let expanded = subst (λ (x : List Word). IsExpanded c.in_ok-fit-in-Calls.fit c.expanded.new.fields (fields (parameters_at old.present) x)) c.words.ensures c.in_ok-fit-in-Calls.ensures in
     let found = subst (λ (x : List Text). IsExpanded c.in_ok-fit-in-Calls.fit x (fields (parameters_at old.present) words)) (sym c.as_slice-found.ensures) expanded in
     proceeds (limits_of c.args.devices.now c.args.bounds) c.call-in-Calls.result old (g.S.Store.record_of c.call-in-Calls.new.store) (nexts.Calls c.in-Calls.command) c.args.next f c.in-Calls.is
-    (c.call-in-Calls.ensures f words c.requires.top (c.behind-after.ensures ∙ ap (λ (x : At). place x.list (suc x.command) 0 0) c.at.ensures) c.script-script.ensures found)
+    (c.call-in-Calls.ensures f words (c.behind-after.ensures ∙ ap (λ (x : At). place x.list (suc x.command) 0 0) c.at.ensures) c.script-script.ensures found top)
 
 pub returns-in-Assigns : goal.returns-in-Assigns
-returns-in-Assigns g c =
-    proceeds (limits_of c.args.devices.now c.args.bounds) c.begin_assign.result _ _ (nexts.Assigns c.in-Assigns.values) c.args.next c.args.frame.now c.in-Assigns.is (c.begin_assign.ensures c.args.devices.now)
+returns-in-Assigns g c top =
+    proceeds (limits_of c.args.devices.now c.args.bounds) c.begin_assign.result _ _ (nexts.Assigns c.in-Assigns.values) c.args.next c.args.frame.now c.in-Assigns.is (c.begin_assign.ensures c.args.devices.now top)
 
 pub returns-in-Loops : goal.returns-in-Loops
-returns-in-Loops g c =
-    proceeds (limits_of c.args.devices.now c.args.bounds) c.begin_for.result _ _ (nexts.Loops c.in-Loops.words) c.args.next c.args.frame.now c.in-Loops.is (c.begin_for.ensures c.args.devices.now)
+returns-in-Loops g c top =
+    proceeds (limits_of c.args.devices.now c.args.bounds) c.begin_for.result _ _ (nexts.Loops c.in-Loops.words) c.args.next c.args.frame.now c.in-Loops.is (c.begin_for.ensures c.args.devices.now top)

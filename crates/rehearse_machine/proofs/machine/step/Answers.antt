@@ -54,7 +54,7 @@ returns-in-Some-fields g c =
     let found = subst (λ (x : List Text). IsExpanded true x (fields parameters words)) (sym shown) known in
     let script = ap (λ (x : Code). view.script x) c.in_ok-script-in-Calls.ensures.cases ∙ c.script.ensures in
     moves_on (limits_of c.args.devices.now c.args.bounds) c.call.result old (g.S.Store.record_of c.call.new.store) (nexts.Calls c.in-Calls.command) c.next_of.result c.get_status-status.result f c.in-Calls.is top (sym c.get_status-status.ensures) c.next_of.ensures.next
-    (c.call.ensures f words top (c.behind-after.ensures ∙ ap (λ (x : At). place x.list (suc x.command) 0 0) c.at.ensures) script found)
+    (c.call.ensures f words (c.behind-after.ensures ∙ ap (λ (x : At). place x.list (suc x.command) 0 0) c.at.ensures) script found top)
 
 pub returns-in-Calls : goal.returns-in-Calls
 returns-in-Calls g c =
@@ -66,4 +66,4 @@ returns-in-Calls g c =
     let found = subst (λ (x : List Text). IsExpanded c.in_ok-fit-in-Calls.fit x (fields (parameters_at old.present) words)) (sym c.as_slice-found.ensures) expanded in
     let script = ap (λ (x : Code). view.script x) c.in_ok-script-in-Calls.ensures.cases ∙ c.script.ensures in
     moves_on (limits_of c.args.devices.now c.args.bounds) c.call-in-Calls.result old (g.S.Store.record_of c.call-in-Calls.new.store) (nexts.Calls c.in-Calls.command) c.next_of.result c.get_status-status.result f c.in-Calls.is top (sym c.get_status-status.ensures) c.next_of.ensures.next
-    (c.call-in-Calls.ensures f words top (c.behind-after.ensures ∙ ap (λ (x : At). place x.list (suc x.command) 0 0) c.at.ensures) script found)
+    (c.call-in-Calls.ensures f words (c.behind-after.ensures ∙ ap (λ (x : At). place x.list (suc x.command) 0 0) c.at.ensures) script found top)

@@ -1,16 +1,16 @@
-use Rattle.std.proofs.Common.{◌∙◌, ap, map, refl, subst, Bool}
+use Rattle.std.proofs.Common.{◌∙◌, ap, map, refl, subst, sym, Bool}
 use Rattle.hushlang.specs.TreesShown as view
 use Rattle.hushlang.specs.Expansion.{fields}
 use Rattle.text.specs.TextsShown.{bytes_of_words}
 use Rattle.bootstore.specs.Record.{Record}
 use Rattle.rehearse_machine.specs.Variables.{parameters_at}
-use Rattle.rehearse_machine.specs.MovesShown.{limits_of, under, IsCounted, IsExpanded}
+use Rattle.rehearse_machine.specs.MovesShown.{limits_of, under, IsCounted, IsExpanded, IsTop}
 use Rattle.rehearse_machine.specs.Places.{for_begins}
 use Rattle.rehearse_machine.proofs.Beginnings.{too_long, comes_with}
 use Rattle.rehearse_machine.proofs.simple.begin_for.Goals as goal
 
 pub returns-then-not-fit : goal.returns-then-not-fit
-returns-then-not-fit g c devices =
+returns-then-not-fit g c devices top =
     let limits = limits_of devices c.args.bounds in
     let old = g.S.Store.record_of c.args.store.now in
     let mid = g.S.Store.record_of c.count.new.store in
@@ -22,7 +22,7 @@ returns-then-not-fit g c devices =
     too_long limits old mid words (λ found. for_begins found f fs) counted.0 counted.1 found
 
 pub returns : goal.returns
-returns g c devices =
+returns g c devices top =
     let limits = limits_of devices c.args.bounds in
     let old = g.S.Store.record_of c.args.store.now in
     let mid = g.S.Store.record_of c.count.new.store in
@@ -36,4 +36,4 @@ returns g c devices =
     comes_with limits old mid words (λ found. for_begins found f fs) counted.0 counted.1 c.begin_turns.result mid new list (for_begins list f (under mid.present)) (c.as_slice.ensures ∙ found.0) found.1
     (λ w. refl) (record { marked = refl; begun = refl })
     (λ s. ap (λ (r : Record). for_begins list f (under r.present) s) counted.1)
-    c.begin_turns.ensures
+    (c.begin_turns.ensures (subst (λ (r : Record). IsTop f r.present) (sym counted.1) top))

@@ -10,13 +10,13 @@ use Rattle.rehearse_machine.proofs.ForLemmas.{no_words, some_words, values_are, 
 use Rattle.rehearse_machine.proofs.simple.begin_turns.Goals as goal
 
 pub returns-then-is_empty : goal.returns-then-is_empty
-returns-then-is_empty g c =
+returns-then-is_empty g c top =
     let f = c.args.frame.now in
     let there = c.behind.ensures ∙ ap (λ (x : At). place x.list (suc x.command) 0 0) c.at-at.ensures in
-    for_ends c.finish.result (g.S.Store.record_of c.args.store.now) (g.S.Store.record_of c.finish.new.store) f c.behind.result there (bytes_of_words c.args.fields.now) (no_words c.args.fields.now c.if-is_empty.ensures) (c.finish.ensures f c.requires.top)
+    for_ends c.finish.result (g.S.Store.record_of c.args.store.now) (g.S.Store.record_of c.finish.new.store) f c.behind.result there (bytes_of_words c.args.fields.now) (no_words c.args.fields.now c.if-is_empty.ensures) (c.finish.ensures f top)
 
 pub returns : goal.returns
-returns g c =
+returns g c top =
     let f = c.args.frame.now in
     let there = c.behind-2.ensures ∙ ap (λ (x : At). place x.list (suc x.command) 0 0) c.at-at.ensures in
     let child = c.with_words-turns in
@@ -25,4 +25,4 @@ returns g c =
     (child.ensures.script ∙ ap (λ (x : Code). view.script x) c.in_ok-clone.ensures.cases ∙ c.script.ensures)
     (child.ensures.words ∙ copies)
     (child.ensures.place ∙ c.place.ensures ∙ ap (λ (x : At). place x.list x.command 0 0) c.at-at.ensures) in
-    for_turns c.enter.result (g.S.Store.record_of c.args.store.now) (g.S.Store.record_of c.enter.new.store) f c.behind-2.result there child.result (bytes_of_words c.args.fields.now) values (some_words c.args.fields.now c.if-is_empty.ensures) (c.enter.ensures f c.requires.top)
+    for_turns c.enter.result (g.S.Store.record_of c.args.store.now) (g.S.Store.record_of c.enter.new.store) f c.behind-2.result there child.result (bytes_of_words c.args.fields.now) values (some_words c.args.fields.now c.if-is_empty.ensures) (c.enter.ensures f top)

@@ -15,7 +15,7 @@ use Rattle.rehearse_machine.proofs.Beginnings.{too_long, comes_with, behind_top}
 use Rattle.rehearse_machine.proofs.simple.call.Goals as goal
 
 pub returns-then-not-fit : goal.returns-then-not-fit
-returns-then-not-fit g c f words top after script found =
+returns-then-not-fit g c f words after script found top =
     let limits = limits_of c.args.devices.now c.args.bounds in
     let old = g.S.Store.record_of c.args.store.now in
     let mid = g.S.Store.record_of c.count.new.store in
@@ -26,7 +26,7 @@ returns-then-not-fit g c f words top after script found =
     (subst (λ (fit : Bool). IsExpanded fit list (fields (parameters_at mid.present) words)) c.if-not-fit.true known)
 
 pub returns : goal.returns
-returns g c f words top after script found =
+returns g c f words after script found top =
     let limits = limits_of c.args.devices.now c.args.bounds in
     let old = g.S.Store.record_of c.args.store.now in
     let mid = g.S.Store.record_of c.count.new.store in
