@@ -39,7 +39,7 @@ read_command-returns-in-Assign t c =
 pub read_command-returns-after-other : goal.read_command-returns-after-other
 read_command-returns-after-other t c =
     let a = c.read_arms.new.reading in
-    let all = by_arms c.args.reading.now c.args.command.now c.in-If.arms c.in-If.other c.deref-in-If.result.now c.in-If.is c.deref-in-If.ensures.value in
+    let all = by_arms c.args.reading.now c.args.command.now c.in-If.arms c.in-If.other c.deref.result.now c.in-If.is c.deref.ensures.value in
     let arms = ap (λ q. skip 1 (after_other q (view.script_in c.in-If.other))) c.in_ok-read_arms-in-If.ensures in
     let so : c.match-other.reading ≡ after_other a (view.script_in c.in-If.other) = elim c.match-other.branch [
       | read_command-in-Some+in_ok-read_script-in-Some w ↦ w.reading-is ∙ with_other a w.skip-in-Some.new.self w.read_script.new.reading w.deref-in-Some.result.now w.in-Some.body c.in-If.other w.in-Some.is w.deref-in-Some.ensures w.skip-in-Some.ensures w.in_ok-read_script-in-Some.ensures

@@ -28,15 +28,15 @@ add_command-returns-in-Assign t c = ap (with_names c.args.names.now) (by_values 
 
 pub add_command-returns-in-Some : goal.add_command-returns-in-Some
 add_command-returns-in-Some t c =
-    let arms = flat_map run_by_arm (map view.arm c.deref-in-If.result.now) in
-    let e = by_arms c.args.command.now c.in-If.arms c.in-If.other c.deref-in-If.result.now c.in-If.is c.deref-in-If.ensures.value in
+    let arms = flat_map run_by_arm (map view.arm c.deref.result.now) in
+    let e = by_arms c.args.command.now c.in-If.arms c.in-If.other c.deref.result.now c.in-If.is c.deref.ensures.value in
     ok_so c.add_script.result (λ so. with_other c.args.names.now c.add_arms.new.names c.add_script.new.names arms c.deref-in-Some.result.now c.in-Some.body c.in-If.other c.in-Some.is c.deref-in-Some.ensures c.in_ok-add_arms-in-If.ensures so ∙ ap (with_names c.args.names.now) e) c.add_script.ensures
 
 pub add_command-returns-in-None : goal.add_command-returns-in-None
 add_command-returns-in-None t c =
-    let arms = flat_map run_by_arm (map view.arm c.deref-in-If.result.now) in
+    let arms = flat_map run_by_arm (map view.arm c.deref.result.now) in
     without_other c.args.names.now c.add_arms.new.names arms c.in-If.other c.in-None.is c.in_ok-add_arms-in-If.ensures
-    ∙ ap (with_names c.args.names.now) (by_arms c.args.command.now c.in-If.arms c.in-If.other c.deref-in-If.result.now c.in-If.is c.deref-in-If.ensures.value)
+    ∙ ap (with_names c.args.names.now) (by_arms c.args.command.now c.in-If.arms c.in-If.other c.deref.result.now c.in-If.is c.deref.ensures.value)
 
 pub add_command-returns-in_ok-add_script-in-Loop : goal.add_command-returns-in_ok-add_script-in-Loop
 add_command-returns-in_ok-add_script-in-Loop t c =

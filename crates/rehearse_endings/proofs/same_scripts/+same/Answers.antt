@@ -10,7 +10,7 @@ pub same_command-returns-in-Simple-b-clause-same : goal.same_command-returns-in-
 same_command-returns-in-Simple-b-clause-same t c = λ h. same_simple c.args.a.now c.args.b.now c.in-Simple.call c.in-Simple-b.other c.words.result.now c.words-in-Simple-b.result.now c.in-Simple.is c.in-Simple-b.is c.words.ensures c.words-in-Simple-b.ensures (c.same_words.ensures.same h)
 
 pub same_command-returns-in-Assign-b-clause-same : goal.same_command-returns-in-Assign-b-clause-same
-same_command-returns-in-Assign-b-clause-same t c = λ h. same_assign c.args.a.now c.args.b.now c.in-Assign.values c.in-Assign-b.others c.deref-in-Assign-b.result.now c.deref-in-Assign-b-2.result.now c.in-Assign.is c.in-Assign-b.is c.deref-in-Assign-b.ensures.value c.deref-in-Assign-b-2.ensures.value (c.same_values.ensures.same h)
+same_command-returns-in-Assign-b-clause-same t c = λ h. same_assign c.args.a.now c.args.b.now c.in-Assign.values c.in-Assign-b.others c.deref.result.now c.deref-in-Assign-b.result.now c.in-Assign.is c.in-Assign-b.is c.deref.ensures.value c.deref-in-Assign-b.ensures.value (c.same_values.ensures.same h)
 
 pub same_command-returns-in-Some-other_there-clause-same : goal.same_command-returns-in-Some-other_there-clause-same
 same_command-returns-in-Some-other_there-clause-same t c = λ h.
@@ -81,7 +81,7 @@ same_command-returns-in-Simple-b-clause-told t c = λ h.
 
 pub same_command-returns-in-Assign-b-clause-told : goal.same_command-returns-in-Assign-b-clause-told
 same_command-returns-in-Assign-b-clause-told t c = λ h.
-    c.same_values.ensures.told (told_assign c.args.a.now c.args.b.now c.in-Assign.values c.in-Assign-b.others c.deref-in-Assign-b.result.now c.deref-in-Assign-b-2.result.now c.in-Assign.is c.in-Assign-b.is c.deref-in-Assign-b.ensures.value c.deref-in-Assign-b-2.ensures.value h)
+    c.same_values.ensures.told (told_assign c.args.a.now c.args.b.now c.in-Assign.values c.in-Assign-b.others c.deref.result.now c.deref-in-Assign-b.result.now c.in-Assign.is c.in-Assign-b.is c.deref.ensures.value c.deref-in-Assign-b.ensures.value h)
 
 pub same_command-returns-in-Some-other_there-clause-told : goal.same_command-returns-in-Some-other_there-clause-told
 same_command-returns-in-Some-other_there-clause-told t c = λ h.
