@@ -1,8 +1,10 @@
 -- Bytes that print as they are are written together, and other bytes one by one.
-use Rattle.std.proofs.Common.{◌≡◌, ℕ, zero, suc, ◌+◌, ◌<◌, Bool, true, false, not, List, [], ◌∷◌, ◌++◌, length, get_or, take, drop, Result, None, Some, refl, sym, ap, ◌∙◌, append_assoc, arith, add-one, inl, inr}
+use Rattle.std.proofs.Common.{◌≡◌, ℕ, zero, suc, ◌+◌, ◌-◌, ◌<◌, Bool, ◌||◌, true, false, not, List, [], ◌∷◌, ◌++◌, length, get_or, take, drop, Result, None, Some, refl, sym, ap, ◌∙◌, append_assoc, arith, add-one, inl, inr}
 use Rattle.std.specs.Prelude.{nat_eq}
 use Rattle.std.specs.Bool.{OnTrue}
 use Rattle.std.specs.List.{flat_map, position, list_any}
+use Rattle.std.proofs.lemmas.List.{take-append-drop, drop-drop, length-drop}
+use Rattle.std.proofs.lemmas.List.Folds.{list_any-append}
 use Rattle.std.proofs.lemmas.Bool.Decides.{nat_tests}
 use Rattle.std.proofs.lemmas.Bool.{false≢true, cases_Bool}
 use Rattle.std.proofs.lemmas.List.Quantifiers.{position-Some}
@@ -100,3 +102,46 @@ pub plain_word : (other : Bool) (bytes : List ℕ) → nat_eq (length bytes) 0 �
 plain_word true bytes h e = tt
 plain_word false [] h e = absurd (let f = h in cc)
 plain_word false (b ∷ bytes) h e = all_same word_escaped (λ c. not (stands AsWord c)) (as_it_is AsWord) (b ∷ bytes) (sym e)
+
+-- whether one of some bytes passes a test, by blocks of them
+module _ (test : ℕ → Bool) where
+  pub any-cut : (bytes : List ℕ) (n : ℕ) → list_any test bytes ≡ (list_any test (take n bytes) || list_any test (drop n bytes))
+  any-cut bytes n = ap (list_any test) (sym (take-append-drop n bytes)) ∙ list_any-append test (take n bytes) (drop n bytes)
+
+  -- what stands in a rest stands in a longer one
+  any-longer : (bytes : List ℕ) (n : ℕ) → list_any test (drop n bytes) ≡ true → list_any test bytes ≡ true
+  any-longer bytes n h = any-cut bytes n ∙ (ap (λ t. list_any test (take n bytes) || t) h ∙ or-true (list_any test (take n bytes)))
+    where
+      or-true : (b : Bool) → (b || true) ≡ true
+      or-true true = refl
+      or-true false = refl
+
+  -- one block more
+  pub any-block : (found : Bool) (bytes rest : List ℕ) (n : ℕ) → list_any test bytes ≡ (found || list_any test rest)
+      → list_any test bytes ≡ ((found || list_any test (take n rest)) || list_any test (drop n rest))
+  any-block found bytes rest n h = h ∙ (ap (λ t. found || t) (any-cut rest n) ∙ or-again found (list_any test (take n rest)) (list_any test (drop n rest)))
+    where
+      or-again : (a b c : Bool) → (a || (b || c)) ≡ ((a || b) || c)
+      or-again true b c = refl
+      or-again false b c = refl
+
+  -- the last block has the rest in it
+  pub any-last : (found : Bool) (bytes : List ℕ) (k n : ℕ) → list_any test bytes ≡ (found || list_any test (drop k bytes)) → length (drop k bytes) < n
+      → (found || list_any test (drop (length bytes - n) bytes)) ≡ list_any test bytes
+  any-last true bytes k n h short = sym h
+  any-last false bytes k n h short =
+      let from = length bytes - n in
+      let dropped = length-drop k bytes in
+      let between : from + (k - from) ≡ k = omega (arith, dropped, short) in
+      let apart : drop (k - from) (drop from bytes) ≡ drop k bytes = drop-drop (k - from) from bytes ∙ ap (λ i. drop i bytes) between in
+      elim (cases_Bool (list_any test (drop from bytes))) [
+        | inl some ↦ some ∙ sym (any-longer bytes from some)
+        | inr none ↦ none ∙ sym (h ∙ rest-none (drop from bytes) (k - from) (drop k bytes) apart none)
+      ]
+    where
+      rest-none : (xs : List ℕ) (n : ℕ) (ys : List ℕ) → drop n xs ≡ ys → list_any test xs ≡ false → list_any test ys ≡ false
+      rest-none xs n ys e none =
+          elim (cases_Bool (list_any test ys)) [
+            | inl some ↦ absurd (false≢true (sym none ∙ any-longer xs n (ap (list_any test) e ∙ some)))
+            | inr stays ↦ stays
+          ]

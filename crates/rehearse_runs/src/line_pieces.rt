@@ -1,5 +1,5 @@
 //! The pieces of a line of a listing.
-ghost use Rattle.std.specs.Prelude.{◌≡◌, ◌<◌, length, not, position, IfSome};
+ghost use Rattle.std.specs.Prelude.{◌≡◌, ◌<◌, ◌≤◌, length, not, position, IfSome};
 ghost use Rattle.std.specs.List.{flat_map, list_any};
 ghost use Rattle.std.specs.Bool.{OnTrue};
 ghost use Rattle.text.specs.Escapes.{bytes_of, text_form, word_form};
@@ -57,8 +57,8 @@ fn first_escaped(form: Form, bytes: &[u8]) -> Option<usize>
     bytes.iter().position(|byte| !(least <= *byte && *byte <= b'~' && *byte != b'\\'))
 }
 
-/// Whether a byte is not printed as it is. All bytes are looked at, which a processor does several at a time.
-fn has_escaped(form: Form, bytes: &[u8]) -> bool
+/// Whether one of a few bytes is not printed as it is.
+fn few_have_escaped(form: Form, bytes: &[u8]) -> bool
     ensures { result ≡ list_any (λ b. not (stands form b)) bytes.now }
 {
     let least = least_of(form);
@@ -67,6 +67,55 @@ fn has_escaped(form: Form, bytes: &[u8]) -> bool
         found = found | (*byte < least) | (*byte > b'~') | (*byte == b'\\');
     }
     found
+}
+
+/// The same of a block, whose bytes a processor looks at together.
+#[inline(always)]
+fn block_has_escaped<const N: usize>(form: Form, block: &[u8; N]) -> bool
+    requires { N ≤ 16 }
+    ensures { result ≡ list_any (λ b. not (stands form b)) block.now }
+{
+    let least = least_of(form);
+    let mut found = false;
+    for byte in block.iter() {
+        found = found | (*byte < least) | (*byte > b'~') | (*byte == b'\\');
+    }
+    found
+}
+
+/// The same of any number of bytes, a block at a time. The last block may look at bytes again, so
+/// that none is left over.
+#[inline(always)]
+fn blocks_have_escaped<const N: usize>(form: Form, bytes: &[u8]) -> bool
+    requires some { 0 < N }
+    requires few { N ≤ 16 }
+    ensures { result ≡ list_any (λ b. not (stands form b)) bytes.now }
+{
+    let mut rest = bytes;
+    let mut found = false;
+    while let Some((block, others)) = rest.split_first_chunk::<N>() {
+        found = found | block_has_escaped(form, block);
+        rest = others;
+    }
+    match bytes.last_chunk::<N>() {
+        Some(block) => found | block_has_escaped(form, block),
+        None => few_have_escaped(form, bytes),
+    }
+}
+
+/// Whether a byte is not printed as it is. All bytes are looked at, in blocks that fit their count.
+fn has_escaped(form: Form, bytes: &[u8]) -> bool
+    ensures { result ≡ list_any (λ b. not (stands form b)) bytes.now }
+{
+    if bytes.len() >= 16 {
+        blocks_have_escaped::<16>(form, bytes)
+    } else if bytes.len() >= 8 {
+        blocks_have_escaped::<8>(form, bytes)
+    } else if bytes.len() >= 4 {
+        blocks_have_escaped::<4>(form, bytes)
+    } else {
+        few_have_escaped(form, bytes)
+    }
 }
 
 /// Whether all bytes are printed in a text as they are.
