@@ -116,20 +116,19 @@ module _ (test : ℕ → Bool) where
       or-true true = refl
       or-true false = refl
 
-  -- one block more
-  pub any-block : (found : Bool) (bytes rest : List ℕ) (n : ℕ) → list_any test bytes ≡ (found || list_any test rest)
-      → list_any test bytes ≡ ((found || list_any test (take n rest)) || list_any test (drop n rest))
-  any-block found bytes rest n h = h ∙ (ap (λ t. found || t) (any-cut rest n) ∙ or-again found (list_any test (take n rest)) (list_any test (drop n rest)))
-    where
-      or-again : (a b c : Bool) → (a || (b || c)) ≡ ((a || b) || c)
-      or-again true b c = refl
-      or-again false b c = refl
+  -- a block that has one
+  pub any-found : (bytes rest : List ℕ) (n : ℕ) → list_any test bytes ≡ list_any test rest → list_any test (take n rest) ≡ true → true ≡ list_any test bytes
+  any-found bytes rest n h some = sym (h ∙ (any-cut rest n ∙ ap (λ t. t || list_any test (drop n rest)) some))
+
+  -- and a block that has none
+  pub any-after : (bytes rest : List ℕ) (n : ℕ) → list_any test bytes ≡ list_any test rest → list_any test (take n rest) ≡ false
+      → list_any test bytes ≡ list_any test (drop n rest)
+  any-after bytes rest n h none = h ∙ (any-cut rest n ∙ ap (λ t. t || list_any test (drop n rest)) none)
 
   -- the last block has the rest in it
-  pub any-last : (found : Bool) (bytes : List ℕ) (k n : ℕ) → list_any test bytes ≡ (found || list_any test (drop k bytes)) → length (drop k bytes) < n
-      → (found || list_any test (drop (length bytes - n) bytes)) ≡ list_any test bytes
-  any-last true bytes k n h short = sym h
-  any-last false bytes k n h short =
+  pub any-last : (bytes : List ℕ) (k n : ℕ) → list_any test bytes ≡ list_any test (drop k bytes) → length (drop k bytes) < n
+      → list_any test (drop (length bytes - n) bytes) ≡ list_any test bytes
+  any-last bytes k n h short =
       let from = length bytes - n in
       let dropped = length-drop k bytes in
       let between : from + (k - from) ≡ k = omega (arith, dropped, short) in

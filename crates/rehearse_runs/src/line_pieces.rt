@@ -83,8 +83,8 @@ fn block_has_escaped<const N: usize>(form: Form, block: &[u8; N]) -> bool
     found
 }
 
-/// The same of any number of bytes, a block at a time. The last block may look at bytes again, so
-/// that none is left over.
+/// The same of any number of bytes, a block at a time, up to the first block that has one. The last
+/// block may look at bytes again, so that none is left over.
 #[inline(always)]
 fn blocks_have_escaped<const N: usize>(form: Form, bytes: &[u8]) -> bool
     requires some { 0 < N }
@@ -92,18 +92,20 @@ fn blocks_have_escaped<const N: usize>(form: Form, bytes: &[u8]) -> bool
     ensures { result ≡ list_any (λ b. not (stands form b)) bytes.now }
 {
     let mut rest = bytes;
-    let mut found = false;
     while let Some((block, others)) = rest.split_first_chunk::<N>() {
-        found = found | block_has_escaped(form, block);
+        if block_has_escaped(form, block) {
+            return true;
+        }
         rest = others;
     }
     match bytes.last_chunk::<N>() {
-        Some(block) => found | block_has_escaped(form, block),
+        Some(block) => block_has_escaped(form, block),
         None => few_have_escaped(form, bytes),
     }
 }
 
-/// Whether a byte is not printed as it is. All bytes are looked at, in blocks that fit their count.
+/// Whether a byte is not printed as it is. The bytes are looked at in blocks that fit their count.
+#[inline(always)]
 fn has_escaped(form: Form, bytes: &[u8]) -> bool
     ensures { result ≡ list_any (λ b. not (stands form b)) bytes.now }
 {
