@@ -1,5 +1,5 @@
 -- Bytes that print as they are are written together, and other bytes one by one.
-use Rattle.std.proofs.Common.{◌≡◌, ℕ, zero, suc, ◌+◌, ◌-◌, ◌<◌, Bool, ◌||◌, true, false, not, List, [], ◌∷◌, ◌++◌, length, get_or, take, drop, Result, None, Some, refl, sym, ap, ◌∙◌, append_assoc, arith, add-one, inl, inr}
+use Rattle.std.proofs.Common.{◌≡◌, ℕ, zero, suc, ◌+◌, ◌-◌, ◌<◌, ◌≤◌, Bool, ◌||◌, true, false, not, List, [], ◌∷◌, ◌++◌, length, get_or, take, drop, Result, None, Some, refl, sym, ap, ◌∙◌, append_assoc, arith, add-one, inl, inr}
 use Rattle.std.specs.Prelude.{nat_eq}
 use Rattle.std.specs.Bool.{OnTrue}
 use Rattle.std.specs.List.{flat_map, position, list_any}
@@ -126,7 +126,7 @@ module _ (test : ℕ → Bool) where
   any-after bytes rest n h none = h ∙ (any-cut rest n ∙ ap (λ t. t || list_any test (drop n rest)) none)
 
   -- the last block has the rest in it
-  pub any-last : (bytes : List ℕ) (k n : ℕ) → list_any test bytes ≡ list_any test (drop k bytes) → length (drop k bytes) < n
+  pub any-last : (bytes : List ℕ) (k n : ℕ) → list_any test bytes ≡ list_any test (drop k bytes) → length (drop k bytes) ≤ n
       → list_any test (drop (length bytes - n) bytes) ≡ list_any test bytes
   any-last bytes k n h short =
       let from = length bytes - n in
@@ -144,3 +144,15 @@ module _ (test : ℕ → Bool) where
             | inl some ↦ absurd (false≢true (sym none ∙ any-longer xs n (ap (list_any test) e ∙ some)))
             | inr stays ↦ stays
           ]
+
+  -- two blocks that have all bytes
+  pub any-ends : (bytes : List ℕ) (n : ℕ) → length bytes ≤ n + n
+      → (list_any test (take n bytes) || list_any test (drop (length bytes - n) bytes)) ≡ list_any test bytes
+  any-ends bytes n few =
+      elim (cases_Bool (list_any test (take n bytes))) [
+        | inl some ↦ ap (λ t. t || list_any test (drop (length bytes - n) bytes)) some ∙ sym (any-cut bytes n ∙ ap (λ t. t || list_any test (drop n bytes)) some)
+        | inr none ↦
+            let dropped = length-drop n bytes in
+            ap (λ t. t || list_any test (drop (length bytes - n) bytes)) none
+            ∙ any-last bytes n n (any-cut bytes n ∙ ap (λ t. t || list_any test (drop n bytes)) none) (omega (arith, dropped, few))
+      ]

@@ -1,5 +1,5 @@
 //! The pieces of a line of a listing.
-ghost use Rattle.std.specs.Prelude.{◌≡◌, ◌<◌, ◌≤◌, length, not, position, IfSome};
+ghost use Rattle.std.specs.Prelude.{◌≡◌, ◌+◌, ◌<◌, ◌≤◌, length, not, position, IfSome};
 ghost use Rattle.std.specs.List.{flat_map, list_any};
 ghost use Rattle.std.specs.Bool.{OnTrue};
 ghost use Rattle.text.specs.Escapes.{bytes_of, text_form, word_form};
@@ -104,19 +104,33 @@ fn blocks_have_escaped<const N: usize>(form: Form, bytes: &[u8]) -> bool
     }
 }
 
+/// The same of at most two blocks, which both may have the bytes in the middle.
+#[inline(always)]
+fn ends_have_escaped<const N: usize>(form: Form, bytes: &[u8]) -> bool
+    requires few { N ≤ 16 }
+    requires short { length bytes.now ≤ N + N }
+    ensures { result ≡ list_any (λ b. not (stands form b)) bytes.now }
+{
+    let Some(first) = bytes.first_chunk::<N>() else {
+        return few_have_escaped(form, bytes);
+    };
+    let Some(last) = bytes.last_chunk::<N>() else {
+        return few_have_escaped(form, bytes);
+    };
+    block_has_escaped(form, first) | block_has_escaped(form, last)
+}
+
 /// Whether a byte is not printed as it is. The bytes are looked at in blocks that fit their count.
 #[inline(always)]
 fn has_escaped(form: Form, bytes: &[u8]) -> bool
     ensures { result ≡ list_any (λ b. not (stands form b)) bytes.now }
 {
-    if bytes.len() >= 16 {
-        blocks_have_escaped::<16>(form, bytes)
-    } else if bytes.len() >= 8 {
-        blocks_have_escaped::<8>(form, bytes)
-    } else if bytes.len() >= 4 {
-        blocks_have_escaped::<4>(form, bytes)
-    } else {
-        few_have_escaped(form, bytes)
+    match bytes.len() {
+        0..=1 => few_have_escaped(form, bytes),
+        2..=3 => ends_have_escaped::<2>(form, bytes),
+        4..=7 => ends_have_escaped::<4>(form, bytes),
+        8..=15 => ends_have_escaped::<8>(form, bytes),
+        _ => blocks_have_escaped::<16>(form, bytes),
     }
 }
 

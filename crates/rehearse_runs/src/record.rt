@@ -140,6 +140,7 @@ fn put_printed<O: Out>(out: &mut O, page: &mut Page, text: &[u8]) -> Result<(), 
 
 /// Puts the line of a variable that is set, if all of its bytes are printed as they are and fit the
 /// page. Returns whether it did; if not, nothing changes.
+#[inline(always)]
 fn put_set_at_once(page: &mut Page, name: &[u8], value: &[u8]) -> bool
     ensures { MatchBool result (page.new.items ≡ page.old.items ++ set_line (name.now, value.now))
         (page.new.items ≡ page.old.items) }

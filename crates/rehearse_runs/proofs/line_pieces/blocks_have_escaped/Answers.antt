@@ -1,4 +1,4 @@
-use Rattle.std.proofs.Common.{◌≡◌, ◌+◌, ◌<◌, ℕ, List, not, drop, length, ap, sym, subst, ◌∙◌}
+use Rattle.std.proofs.Common.{◌≡◌, ◌+◌, ◌<◌, ℕ, List, not, drop, length, ap, arith, sym, subst, ◌∙◌}
 use Rattle.std.proofs.lemmas.List.{drop-drop}
 use Rattle.std.specs.List.{list_any}
 use Rattle.rehearse_runs.specs.LinePieces.{stands}
@@ -30,5 +30,6 @@ returns-in-Some-last_chunk g c =
     let so_far = c.loop-block.invariant in
     let P : List ℕ → Type 0 = λ rest. list_any test bytes ≡ list_any test rest in
     let Q : List ℕ → Type 0 = λ rest. length rest < g.row.N in
+    let short = subst Q so_far.1 c.in_default.ensures.cases in
     rw (c.block_has_escaped-in-Some-last_chunk.ensures, c.in-Some-last_chunk.ensures.cases.1.same)
-    (any-last test bytes so_far.0 g.row.N (subst P so_far.1 so_far.2) (subst Q so_far.1 c.in_default.ensures.cases))
+    (any-last test bytes so_far.0 g.row.N (subst P so_far.1 so_far.2) (omega (arith, short)))
