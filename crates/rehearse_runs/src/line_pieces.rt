@@ -8,7 +8,7 @@ ghost use Rattle.rehearse_runs.specs.LinePieces.{form_of, least_of, piece_text, 
 
 use crate::page::{Page, put};
 use output::{Out, OutFault};
-use text::Escaped;
+use text::{Escaped, find};
 
 /// A piece of a line.
 #[derive(Clone, Copy)]
@@ -46,15 +46,6 @@ fn least_of(form: Form) -> u8
         Form::Text => b' ',
         Form::Word => b'!',
     }
-}
-
-/// The place of the first byte that is not printed as it is.
-fn first_escaped(form: Form, bytes: &[u8]) -> Option<usize>
-    ensures first { result ≡ position (λ b. not (stands form b)) bytes.now }
-    ensures within { IfSome result (λ at. at < length bytes.now) }
-{
-    let least = least_of(form);
-    bytes.iter().position(|byte| !(least <= *byte && *byte <= b'~' && *byte != b'\\'))
 }
 
 /// Whether one of a few bytes is not printed as it is.
@@ -132,6 +123,27 @@ fn has_escaped(form: Form, bytes: &[u8]) -> bool
         8..=15 => ends_have_escaped::<8>(form, bytes),
         _ => blocks_have_escaped::<16>(form, bytes),
     }
+}
+
+/// The place of the first byte that is not printed as it is, by one byte after another.
+fn first_escaped_by_one(form: Form, bytes: &[u8]) -> Option<usize>
+    ensures { result ≡ position (λ b. not (stands form b)) bytes.now }
+{
+    let least = least_of(form);
+    bytes.iter().position(|byte| !(least <= *byte && *byte <= b'~' && *byte != b'\\'))
+}
+
+/// The place of the first byte that is not printed as it is. Mostly that is the end of a line.
+fn first_escaped(form: Form, bytes: &[u8]) -> Option<usize>
+    ensures first { result ≡ position (λ b. not (stands form b)) bytes.now }
+    ensures within { IfSome result (λ at. at < length bytes.now) }
+{
+    if let Some(at) = find(bytes, b'\n') {
+        if !has_escaped(form, &bytes[..at]) {
+            return Some(at);
+        }
+    }
+    first_escaped_by_one(form, bytes)
 }
 
 /// Whether all bytes are printed in a text as they are.
