@@ -60,7 +60,7 @@ fn few_have_escaped(form: Form, bytes: &[u8]) -> bool
     found
 }
 
-/// The same of a block, whose bytes a processor looks at together.
+/// Whether a byte of a block is not printed as it is. A processor looks at the bytes together.
 #[inline(always)]
 fn block_has_escaped<const N: usize>(form: Form, block: &[u8; N]) -> bool
     requires { N ≤ 16 }
@@ -74,8 +74,8 @@ fn block_has_escaped<const N: usize>(form: Form, block: &[u8; N]) -> bool
     found
 }
 
-/// The same of any number of bytes, a block at a time, up to the first block that has one. The last
-/// block may look at bytes again, so that none is left over.
+/// Whether a byte is not printed as it is. Looks at blocks of `N` bytes, up to the first that has
+/// one. The last block may overlap the one before, so that no bytes are left over.
 #[inline(always)]
 fn blocks_have_escaped<const N: usize>(form: Form, bytes: &[u8]) -> bool
     requires some { 0 < N }
@@ -95,7 +95,8 @@ fn blocks_have_escaped<const N: usize>(form: Form, bytes: &[u8]) -> bool
     }
 }
 
-/// The same of at most two blocks, which both may have the bytes in the middle.
+/// Whether one of at most 2 `N` bytes is not printed as it is. Looks at the first `N` and the last
+/// `N`, which may overlap.
 #[inline(always)]
 fn ends_have_escaped<const N: usize>(form: Form, bytes: &[u8]) -> bool
     requires few { N ≤ 16 }
@@ -111,7 +112,7 @@ fn ends_have_escaped<const N: usize>(form: Form, bytes: &[u8]) -> bool
     block_has_escaped(form, first) | block_has_escaped(form, last)
 }
 
-/// Whether a byte is not printed as it is. The bytes are looked at in blocks that fit their count.
+/// Whether a byte is not printed as it is. Looks at blocks of a size that fits the count of bytes.
 #[inline(always)]
 fn has_escaped(form: Form, bytes: &[u8]) -> bool
     ensures { result ≡ list_any (λ b. not (stands form b)) bytes.now }
@@ -125,7 +126,7 @@ fn has_escaped(form: Form, bytes: &[u8]) -> bool
     }
 }
 
-/// The place of the first byte that is not printed as it is, by one byte after another.
+/// The place of the first byte that is not printed as it is. Looks at one byte after another.
 fn first_escaped_by_one(form: Form, bytes: &[u8]) -> Option<usize>
     ensures { result ≡ position (λ b. not (stands form b)) bytes.now }
 {
