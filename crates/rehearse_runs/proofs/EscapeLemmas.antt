@@ -1,8 +1,10 @@
 -- Bytes that print as they are are written together, and other bytes one by one.
-use Rattle.std.proofs.Common.{◌≡◌, ℕ, zero, suc, ◌+◌, ◌<◌, Bool, true, false, not, List, [], ◌∷◌, ◌++◌, length, get_or, take, drop, Result, None, Some, refl, sym, ap, ◌∙◌, append_assoc, arith, add-one, inl, inr}
-use Rattle.std.specs.Prelude.{nat_eq}
+use Rattle.std.proofs.Common.{◌≡◌, ℕ, zero, suc, ◌+◌, ◌-◌, ◌<◌, ◌≤◌, Bool, ◌||◌, true, false, not, List, [], ◌∷◌, ◌++◌, length, get_or, take, drop, Result, None, Some, refl, sym, ap, ◌∙◌, append_assoc, arith, add-one, inl, inr}
+use Rattle.std.specs.Prelude.{nat_eq, ◌==◌}
 use Rattle.std.specs.Bool.{OnTrue}
-use Rattle.std.specs.List.{flat_map, position, list_any}
+use Rattle.std.specs.List.{flat_map, position, position_or_len, prefix_len, list_any}
+use Rattle.std.proofs.lemmas.List.{take-append-drop, drop-drop, length-drop}
+use Rattle.std.proofs.lemmas.List.Folds.{list_any-append}
 use Rattle.std.proofs.lemmas.Bool.Decides.{nat_tests}
 use Rattle.std.proofs.lemmas.Bool.{false≢true, cases_Bool}
 use Rattle.std.proofs.lemmas.List.Quantifiers.{position-Some}
@@ -100,3 +102,83 @@ pub plain_word : (other : Bool) (bytes : List ℕ) → nat_eq (length bytes) 0 �
 plain_word true bytes h e = tt
 plain_word false [] h e = absurd (let f = h in cc)
 plain_word false (b ∷ bytes) h e = all_same word_escaped (λ c. not (stands AsWord c)) (as_it_is AsWord) (b ∷ bytes) (sym e)
+
+-- whether one of some bytes passes a test, by blocks of them
+module _ (test : ℕ → Bool) where
+  pub any-cut : (bytes : List ℕ) (n : ℕ) → list_any test bytes ≡ (list_any test (take n bytes) || list_any test (drop n bytes))
+  any-cut bytes n = ap (list_any test) (sym (take-append-drop n bytes)) ∙ list_any-append test (take n bytes) (drop n bytes)
+
+  -- what stands in a rest stands in a longer one
+  any-longer : (bytes : List ℕ) (n : ℕ) → list_any test (drop n bytes) ≡ true → list_any test bytes ≡ true
+  any-longer bytes n h = any-cut bytes n ∙ (ap (λ t. list_any test (take n bytes) || t) h ∙ or-true (list_any test (take n bytes)))
+    where
+      or-true : (b : Bool) → (b || true) ≡ true
+      or-true true = refl
+      or-true false = refl
+
+  -- a block that has one
+  pub any-found : (bytes rest : List ℕ) (n : ℕ) → list_any test bytes ≡ list_any test rest → list_any test (take n rest) ≡ true → true ≡ list_any test bytes
+  any-found bytes rest n h some = sym (h ∙ (any-cut rest n ∙ ap (λ t. t || list_any test (drop n rest)) some))
+
+  -- and a block that has none
+  pub any-after : (bytes rest : List ℕ) (n : ℕ) → list_any test bytes ≡ list_any test rest → list_any test (take n rest) ≡ false
+      → list_any test bytes ≡ list_any test (drop n rest)
+  any-after bytes rest n h none = h ∙ (any-cut rest n ∙ ap (λ t. t || list_any test (drop n rest)) none)
+
+  -- the last block has the rest in it
+  pub any-last : (bytes : List ℕ) (k n : ℕ) → list_any test bytes ≡ list_any test (drop k bytes) → length (drop k bytes) ≤ n
+      → list_any test (drop (length bytes - n) bytes) ≡ list_any test bytes
+  any-last bytes k n h short =
+      let from = length bytes - n in
+      let dropped = length-drop k bytes in
+      let between : from + (k - from) ≡ k = omega (arith, dropped, short) in
+      let apart : drop (k - from) (drop from bytes) ≡ drop k bytes = drop-drop (k - from) from bytes ∙ ap (λ i. drop i bytes) between in
+      elim (cases_Bool (list_any test (drop from bytes))) [
+        | inl some ↦ some ∙ sym (any-longer bytes from some)
+        | inr none ↦ none ∙ sym (h ∙ rest-none (drop from bytes) (k - from) (drop k bytes) apart none)
+      ]
+    where
+      rest-none : (xs : List ℕ) (n : ℕ) (ys : List ℕ) → drop n xs ≡ ys → list_any test xs ≡ false → list_any test ys ≡ false
+      rest-none xs n ys e none =
+          elim (cases_Bool (list_any test ys)) [
+            | inl some ↦ absurd (false≢true (sym none ∙ any-longer xs n (ap (list_any test) e ∙ some)))
+            | inr stays ↦ stays
+          ]
+
+  -- two blocks that have all bytes
+  pub any-ends : (bytes : List ℕ) (n : ℕ) → length bytes ≤ n + n
+      → (list_any test (take n bytes) || list_any test (drop (length bytes - n) bytes)) ≡ list_any test bytes
+  any-ends bytes n few =
+      elim (cases_Bool (list_any test (take n bytes))) [
+        | inl some ↦ ap (λ t. t || list_any test (drop (length bytes - n) bytes)) some ∙ sym (any-cut bytes n ∙ ap (λ t. t || list_any test (drop n bytes)) some)
+        | inr none ↦
+            let dropped = length-drop n bytes in
+            ap (λ t. t || list_any test (drop (length bytes - n) bytes)) none
+            ∙ any-last bytes n n (any-cut bytes n ∙ ap (λ t. t || list_any test (drop n bytes)) none) (omega (arith, dropped, few))
+      ]
+
+  -- the first byte that passes is after bytes that do not
+  upto : (bytes : List ℕ) (at : ℕ) → list_any test (take at bytes) ≡ false → at < length bytes → test (get_or bytes at 0) ≡ true → position_or_len test bytes ≡ at
+  upto [] at none lt is = absurd (omega arith)
+  upto (b ∷ bytes) zero none lt is = rw is refl
+  upto (b ∷ bytes) (suc at) none lt is =
+      elim (cases_Bool (test b)) [
+        | inl some ↦ let t : list_any test (take (suc at) (b ∷ bytes)) ≡ true = rw some refl in absurd (false≢true (sym none ∙ t))
+        | inr other ↦ let t : list_any test (take at bytes) ≡ false = rw other at none in let e : prefix_len (λ x. not (test x)) bytes ≡ at = upto bytes at t (omega arith) is in rw other (omega (arith, e))
+      ]
+
+  pub first-after : (bytes : List ℕ) (at : ℕ) → list_any test (take at bytes) ≡ false → at < length bytes → test (get_or bytes at 0) ≡ true → position test bytes ≡ Some at
+  first-after bytes at none lt is =
+      let e = upto bytes at none lt is in
+      rw e (grind (arith, nat_tests, lt))
+
+-- the end of a line, after bytes that are printed as they are
+pub line_end : (form : Form) (bytes : List ℕ) (at : ℕ) → position (λ b. b == 10) bytes ≡ Some at → list_any (λ b. not (stands form b)) (take at bytes) ≡ false
+    → position (λ b. not (stands form b)) bytes ≡ Some at
+line_end form bytes at is none =
+    let found = position-Some (λ b. b == 10) bytes at 0 is in
+    first-after (λ b. not (stands form b)) bytes at none found.0 (escaped_end form (get_or bytes at 0) found.1)
+  where
+    escaped_end : (form : Form) (b : ℕ) → (b == 10) ≡ true → not (stands form b) ≡ true
+    escaped_end AsText b h = grind (arith, nat_tests)
+    escaped_end AsWord b h = grind (arith, nat_tests)

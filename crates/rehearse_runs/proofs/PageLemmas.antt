@@ -46,6 +46,17 @@ pub Puts-written : {T E : Type 0} {a b : Sink} {p : List ℕ} (c : Sink) (xs : L
 Puts-written {p = p} c xs (Ok v) m n = record { front = p ++ xs; whole = sym (append-nil (p ++ xs)); wrote = Wrote-append m n }
 Puts-written c xs (Err e) m n = BrokeOff-after m n
 
+-- the page was written, and a text was put on the empty page
+pub Puts-anew : {T E : Type 0} {a b : Sink} {p q : List ℕ} (c : Sink) (r xs : List ℕ) (result : Result T E) → q ≡ [] → Wrote a b p → Puts result b c q r xs → Puts result a c p r xs
+Puts-anew {b = b} {p} {q} c r xs (Ok v) e m n =
+    let P : List ℕ → Type 0 = λ t. Put b c t r xs in
+    let n' : P [] = subst P e n in
+    record { front = p ++ n'.front; whole = ap (λ t. p ++ t) n'.whole ∙ sym (append_assoc p n'.front r); wrote = Wrote-append m n'.wrote }
+Puts-anew {b = b} {p} {q} c r xs (Err f) e m n =
+    let P : List ℕ → Type 0 = λ t. BrokeOff b c (t ++ xs) in
+    let n' : P [] = subst P e n in
+    BrokeOff-after m n'
+
 -- one text after another, by the last call
 pub Puts-after : {T E : Type 0} {a b : Sink} {p q xs : List ℕ} (c : Sink) (r ys : List ℕ) (result : Result T E) → Put a b p q xs → Puts result b c q r ys → Puts result a c p r (xs ++ ys)
 Puts-after c r ys (Ok v) m n = Put-append m n

@@ -41,6 +41,7 @@ impl<const N: usize> Bytes<N> {
     }
 
     /// How many more there is room for.
+    #[inline(always)]
     pub(crate) fn room(&self) -> usize
         ensures { result + length self.now.items ≡ N }
     {
@@ -62,6 +63,7 @@ impl<const N: usize> Bytes<N> {
     }
 
     /// Adds a byte at the end.
+    #[inline(always)]
     pub(crate) fn push(&mut self, byte: u8)
         requires { length self.old.items < N }
         ensures { self.new.items ≡ self.old.items ++ byte ∷ [] }
@@ -85,6 +87,7 @@ impl<const N: usize> Bytes<N> {
 
     /// Adds bytes at the end, if there is room for them. Returns whether there was; if not, nothing
     /// changes.
+    #[inline(always)]
     pub(crate) fn extend(&mut self, bytes: &[u8]) -> bool
         ensures room { IsTrue result ↔ (length self.old.items + length bytes.now ≤ N) }
         ensures items { MatchBool result (self.new.items ≡ self.old.items ++ bytes.now)

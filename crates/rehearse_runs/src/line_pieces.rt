@@ -1,5 +1,5 @@
 //! The pieces of a line of a listing.
-ghost use Rattle.std.specs.Prelude.{◌≡◌, ◌<◌, length, not, position, IfSome};
+ghost use Rattle.std.specs.Prelude.{◌≡◌, ◌+◌, ◌<◌, ◌≤◌, length, not, position, IfSome};
 ghost use Rattle.std.specs.List.{flat_map, list_any};
 ghost use Rattle.std.specs.Bool.{OnTrue};
 ghost use Rattle.text.specs.Escapes.{bytes_of, text_form, word_form};
@@ -8,7 +8,7 @@ ghost use Rattle.rehearse_runs.specs.LinePieces.{form_of, least_of, piece_text, 
 
 use crate::page::{Page, put};
 use output::{Out, OutFault};
-use text::Escaped;
+use text::{Escaped, find};
 
 /// A piece of a line.
 #[derive(Clone, Copy)]
@@ -48,17 +48,8 @@ fn least_of(form: Form) -> u8
     }
 }
 
-/// The place of the first byte that is not printed as it is.
-fn first_escaped(form: Form, bytes: &[u8]) -> Option<usize>
-    ensures first { result ≡ position (λ b. not (stands form b)) bytes.now }
-    ensures within { IfSome result (λ at. at < length bytes.now) }
-{
-    let least = least_of(form);
-    bytes.iter().position(|byte| !(least <= *byte && *byte <= b'~' && *byte != b'\\'))
-}
-
-/// Whether a byte is not printed as it is. All bytes are looked at, which a processor does several at a time.
-fn has_escaped(form: Form, bytes: &[u8]) -> bool
+/// Whether one of a few bytes is not printed as it is.
+fn few_have_escaped(form: Form, bytes: &[u8]) -> bool
     ensures { result ≡ list_any (λ b. not (stands form b)) bytes.now }
 {
     let least = least_of(form);
@@ -67,6 +58,93 @@ fn has_escaped(form: Form, bytes: &[u8]) -> bool
         found = found | (*byte < least) | (*byte > b'~') | (*byte == b'\\');
     }
     found
+}
+
+/// Whether a byte of a block is not printed as it is. A processor looks at the bytes together.
+#[inline(always)]
+fn block_has_escaped<const N: usize>(form: Form, block: &[u8; N]) -> bool
+    requires { N ≤ 16 }
+    ensures { result ≡ list_any (λ b. not (stands form b)) block.now }
+{
+    let least = least_of(form);
+    let mut found = false;
+    for byte in block.iter() {
+        found = found | (*byte < least) | (*byte > b'~') | (*byte == b'\\');
+    }
+    found
+}
+
+/// Whether a byte is not printed as it is. Looks at blocks of `N` bytes, up to the first that has
+/// one. The last block may overlap the one before, so that no bytes are left over.
+#[inline(always)]
+fn blocks_have_escaped<const N: usize>(form: Form, bytes: &[u8]) -> bool
+    requires some { 0 < N }
+    requires few { N ≤ 16 }
+    ensures { result ≡ list_any (λ b. not (stands form b)) bytes.now }
+{
+    let mut rest = bytes;
+    while let Some((block, others)) = rest.split_first_chunk::<N>() {
+        if block_has_escaped(form, block) {
+            return true;
+        }
+        rest = others;
+    }
+    match bytes.last_chunk::<N>() {
+        Some(block) => block_has_escaped(form, block),
+        None => few_have_escaped(form, bytes),
+    }
+}
+
+/// Whether one of at most 2 `N` bytes is not printed as it is. Looks at the first `N` and the last
+/// `N`, which may overlap.
+#[inline(always)]
+fn ends_have_escaped<const N: usize>(form: Form, bytes: &[u8]) -> bool
+    requires few { N ≤ 16 }
+    requires short { length bytes.now ≤ N + N }
+    ensures { result ≡ list_any (λ b. not (stands form b)) bytes.now }
+{
+    let Some(first) = bytes.first_chunk::<N>() else {
+        return few_have_escaped(form, bytes);
+    };
+    let Some(last) = bytes.last_chunk::<N>() else {
+        return few_have_escaped(form, bytes);
+    };
+    block_has_escaped(form, first) | block_has_escaped(form, last)
+}
+
+/// Whether a byte is not printed as it is. Looks at blocks of a size that fits the count of bytes.
+#[inline(always)]
+fn has_escaped(form: Form, bytes: &[u8]) -> bool
+    ensures { result ≡ list_any (λ b. not (stands form b)) bytes.now }
+{
+    match bytes.len() {
+        0..=1 => few_have_escaped(form, bytes),
+        2..=3 => ends_have_escaped::<2>(form, bytes),
+        4..=7 => ends_have_escaped::<4>(form, bytes),
+        8..=15 => ends_have_escaped::<8>(form, bytes),
+        _ => blocks_have_escaped::<16>(form, bytes),
+    }
+}
+
+/// The place of the first byte that is not printed as it is. Looks at one byte after another.
+fn first_escaped_by_one(form: Form, bytes: &[u8]) -> Option<usize>
+    ensures { result ≡ position (λ b. not (stands form b)) bytes.now }
+{
+    let least = least_of(form);
+    bytes.iter().position(|byte| !(least <= *byte && *byte <= b'~' && *byte != b'\\'))
+}
+
+/// The place of the first byte that is not printed as it is. Mostly that is the end of a line.
+fn first_escaped(form: Form, bytes: &[u8]) -> Option<usize>
+    ensures first { result ≡ position (λ b. not (stands form b)) bytes.now }
+    ensures within { IfSome result (λ at. at < length bytes.now) }
+{
+    if let Some(at) = find(bytes, b'\n') {
+        if !has_escaped(form, &bytes[..at]) {
+            return Some(at);
+        }
+    }
+    first_escaped_by_one(form, bytes)
 }
 
 /// Whether all bytes are printed in a text as they are.

@@ -21,6 +21,7 @@ pub(crate) fn flush<O: Out>(out: &mut O, page: &mut Page) -> Result<(), OutFault
 }
 
 /// Writes all bytes of the page, and puts bytes on it.
+#[cold]
 fn put_anew<O: Out>(out: &mut O, page: &mut Page, bytes: &[u8]) -> Result<(), OutFault>
     ensures { Puts result (O.sink out.old) (O.sink out.new) page.old.items page.new.items
         bytes.now }
@@ -34,6 +35,7 @@ fn put_anew<O: Out>(out: &mut O, page: &mut Page, bytes: &[u8]) -> Result<(), Ou
 }
 
 /// Puts bytes after the bytes of the page. If they do not fit, all bytes are written.
+#[inline(always)]
 pub(crate) fn put<O: Out>(out: &mut O, page: &mut Page, bytes: &[u8]) -> Result<(), OutFault>
     ensures { Puts result (O.sink out.old) (O.sink out.new) page.old.items page.new.items
         bytes.now }

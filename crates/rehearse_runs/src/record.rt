@@ -1,5 +1,5 @@
 //! The record of a run.
-ghost use Rattle.std.specs.Prelude.{◌≡◌, ◌++◌, [], map, codes, MatchBool};
+ghost use Rattle.std.specs.Prelude.{◌≡◌, ◌++◌, ◌∷◌, [], map, codes, MatchBool};
 ghost use Rattle.std.specs.List.{flat_map, join_with_byte};
 ghost use Rattle.std.specs.FinMap.{entries};
 ghost use Rattle.text.specs.Bytes as ascii;
@@ -39,13 +39,39 @@ fn put_first<O: Out>(out: &mut O, page: &mut Page, word: &[u8]) -> Result<(), Ou
     )
 }
 
+/// Puts a space and a word, if all of its bytes are printed as they are and fit the page. Returns
+/// whether it did; if not, nothing changes.
+fn put_spaced_at_once(page: &mut Page, word: &[u8]) -> bool
+    ensures { MatchBool result
+        (page.new.items ≡ page.old.items ++ ascii.space ∷ word_form word.now)
+        (page.new.items ≡ page.old.items) }
+{
+    if word.len() >= page.room() || !is_plain_word(word) {
+        return false;
+    }
+    page.push(b' ');
+    let _put = page.extend(word);
+    true
+}
+
+/// Puts a space and a word in word form.
+fn put_one_spaced<O: Out>(out: &mut O, page: &mut Page, word: &[u8]) -> Result<(), OutFault>
+    ensures { Puts result (O.sink out.old) (O.sink out.new) page.old.items page.new.items
+        (ascii.space ∷ word_form word.now) }
+{
+    if put_spaced_at_once(page, word) {
+        return Ok(());
+    }
+    put_pieces(out, page, &[Piece::Plain(b" "), Piece::Word(word)])
+}
+
 /// Puts words in word form, a space before each.
 fn put_spaced<O: Out>(out: &mut O, page: &mut Page, words: &[Vec<u8>]) -> Result<(), OutFault>
     ensures { Puts result (O.sink out.old) (O.sink out.new) page.old.items page.new.items
         (flat_map spaced words.now) }
 {
     for word in words {
-        put_pieces(out, page, &[Piece::Plain(b" "), Piece::Word(word)])?;
+        put_one_spaced(out, page, word)?;
     }
     Ok(())
 }
@@ -114,6 +140,7 @@ fn put_printed<O: Out>(out: &mut O, page: &mut Page, text: &[u8]) -> Result<(), 
 
 /// Puts the line of a variable that is set, if all of its bytes are printed as they are and fit the
 /// page. Returns whether it did; if not, nothing changes.
+#[inline(always)]
 fn put_set_at_once(page: &mut Page, name: &[u8], value: &[u8]) -> bool
     ensures { MatchBool result (page.new.items ≡ page.old.items ++ set_line (name.now, value.now))
         (page.new.items ≡ page.old.items) }
@@ -133,8 +160,8 @@ fn put_set_at_once(page: &mut Page, name: &[u8], value: &[u8]) -> bool
     true
 }
 
-/// Puts the line of a variable that is set.
-fn put_set<'x, O: Out>(
+/// Puts the line of a variable that is set, at once or in pieces.
+fn put_set_in_pieces<'x, O: Out>(
     out: &mut O,
     page: &mut Page,
     name: &'x [u8],
@@ -157,6 +184,38 @@ fn put_set<'x, O: Out>(
             Piece::Plain(b"\n"),
         ],
     )
+}
+
+/// Writes all bytes of the page, and puts the line of a variable that is set.
+#[cold]
+fn put_set_anew<'x, O: Out>(
+    out: &mut O,
+    page: &mut Page,
+    name: &'x [u8],
+    value: &'x [u8],
+) -> Result<(), OutFault>
+    ensures { Puts result (O.sink out.old) (O.sink out.new) page.old.items page.new.items
+        (set_line (name.now, value.now)) }
+{
+    flush(out, page)?;
+    put_set_in_pieces(out, page, name, value)
+}
+
+/// Puts the line of a variable that is set.
+fn put_set<'x, O: Out>(
+    out: &mut O,
+    page: &mut Page,
+    name: &'x [u8],
+    value: &'x [u8],
+) -> Result<(), OutFault>
+    ensures { Puts result (O.sink out.old) (O.sink out.new) page.old.items page.new.items
+        (set_line (name.now, value.now)) }
+{
+    if put_set_at_once(page, name, value) {
+        Ok(())
+    } else {
+        put_set_anew(out, page, name, value)
+    }
 }
 
 /// Puts a line that ends with a word in word form.

@@ -1,4 +1,4 @@
-use Rattle.std.proofs.Common.{◌∷◌, ◌∙◌, ap, append-nil, List, ℕ}
+use Rattle.std.proofs.Common.{◌∷◌, ap, List, ℕ}
 use Rattle.std.proofs.lemmas.Result.{err_from_is_err_and}
 use Rattle.text.specs.Escapes.{word_form}
 use Rattle.rehearse_runs.specs.Recording.{spaced}
@@ -10,11 +10,11 @@ loop-word-init g c = Put-none _ _
 
 pub loop-word-preserved : goal.loop-word-preserved
 loop-word-preserved g c =
-    let e = ap (λ (t : List ℕ). 32 ∷ t) (append-nil (word_form c.deref.result.now) ∙ ap word_form c.deref.ensures.value) in
-    Put-found spaced _ _ c.args.words.now c.loop-word.word-index c.word-item.result c.word-item.is c.loop-word-test.true c.loop-word.invariant (Put-as (spaced c.word-item.result) e c.in_ok-put_pieces.ensures)
+    let e = ap (λ (t : List ℕ). 32 ∷ word_form t) c.deref.ensures.value in
+    Put-found spaced _ _ c.args.words.now c.loop-word.word-index c.word-item.result c.word-item.is c.loop-word-test.true c.loop-word.invariant (Put-as (spaced c.word-item.result) e c.in_ok-put_one_spaced.ensures)
 
-pub returns-in_err-put_pieces : goal.returns-in_err-put_pieces
-returns-in_err-put_pieces g c =
-    let e = ap (λ (t : List ℕ). 32 ∷ t) (append-nil (word_form c.deref.result.now) ∙ ap word_form c.deref.ensures.value) in
+pub returns-in_err-put_one_spaced : goal.returns-in_err-put_one_spaced
+returns-in_err-put_one_spaced g c =
+    let e = ap (λ (t : List ℕ). 32 ∷ word_form t) c.deref.ensures.value in
     let p = err_from_is_err_and c.from_residual.result c.from_residual.ensures.1 in
-    rw p.1 (Breaks-found spaced _ c.args.words.now c.loop-word.word-index c.word-item.result c.word-item.is c.loop-word-test.true c.loop-word.invariant (Breaks-as _ _ c.loop-word.page.items _ (spaced c.word-item.result) e c.in_err-put_pieces.ensures))
+    rw p.1 (Breaks-found spaced _ c.args.words.now c.loop-word.word-index c.word-item.result c.word-item.is c.loop-word-test.true c.loop-word.invariant (Breaks-as _ _ c.loop-word.page.items _ (spaced c.word-item.result) e c.in_err-put_one_spaced.ensures))
