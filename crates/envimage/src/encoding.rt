@@ -50,11 +50,16 @@ fn push_zeros(out: &mut Vec<u8>, count: usize) -> Result<(), AllocError>
     Ok(())
 }
 
-/// The entries of the pairs, a NUL, and zero bytes.
-fn data_of(alloc: Global, pairs: &[(&[u8], &[u8])], filling: usize) -> Result<Vec<u8>, AllocError>
+/// The entries of the pairs, a NUL, and zero bytes, in memory that has room for `size` bytes at once.
+fn data_of(
+    alloc: Global,
+    pairs: &[(&[u8], &[u8])],
+    filling: usize,
+    size: usize,
+) -> Result<Vec<u8>, AllocError>
     ensures { IfOk result (λ v. v.items ≡ data_bytes (map pair_at pairs.now) filling) }
 {
-    let mut out = Vec::new(alloc);
+    let mut out = Vec::with_capacity(alloc, size)?;
     for (name, value) in pairs {
         push_entry(&mut out, name, value)?;
     }
@@ -104,7 +109,7 @@ pub fn encode(
     if used > room {
         return Err(ImageError::TooLarge);
     }
-    let body = data_of(alloc, pairs, room - used)?;
+    let body = data_of(alloc, pairs, room - used, size)?;
     let mut image = Vec::with_capacity(alloc, size)?;
     image.extend_from_slice(&crc_bytes(crc32(&body), order))?;
     if let Some(flag) = flag {
