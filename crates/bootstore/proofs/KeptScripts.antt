@@ -14,7 +14,7 @@ use Rattle.rehearse.specs.Trees.{tree_of}
 use Rattle.bootstore.specs.Moment.{Bytes}
 use Rattle.bootstore.specs.Scripts.{AreOfTexts, script_shown}
 use Rattle.bootstore.specs.Table.{is_name}
-use Rattle.bootstore.proofs.Tables.{key_cmp, same_name, same_key}
+use Rattle.bootstore.proofs.TableLemmas.{key_cmp, same_name, same_key}
 
 abbrev Kept : Type 0
 Kept = Vec ℕ Global × Rc Code Global

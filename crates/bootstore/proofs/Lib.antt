@@ -1,5 +1,5 @@
 mod StoreExamples
-pub mod Tables
+pub mod TableLemmas
 pub mod KeptScripts
 pub mod TrailLemmas
 pub mod OneInversePerName

@@ -17,7 +17,7 @@ use Rattle.bootstore.specs.Moment.{Bytes, Moment, RunningFrame}
 use Rattle.bootstore.specs.Record.{assigned}
 use Rattle.bootstore.specs.Table.{AreEqual, IsWith, is_name, place_at, last_kept, kept_of, place_value, KeepsNothing}
 use Rattle.bootstore.specs.Inverse.{outermost, marked_before, last_left, local_last_left, is_of_environment, is_of_local, stands_as, is_kept, EachIsKept, tells_kept, all_tell_kept, up_to_mark, marks_tell, KeepsOnce}
-use Rattle.bootstore.proofs.Tables.{assigned-again, assigned-swap, same_name, compares_equal}
+use Rattle.bootstore.proofs.TableLemmas.{assigned-again, assigned-swap, same_name, compares_equal}
 
 or_map : (a b c : Bool) → (b ≡ true → c ≡ true) → a || b ≡ true → a || c ≡ true
 or_map true b c f h = refl

@@ -24,7 +24,7 @@ use Rattle.bootstore.specs.Record.{Record, assigned, moved, without_first, with_
 use Rattle.bootstore.specs.Present.{moment_of}
 use Rattle.bootstore.specs.Table.{Names, AreWithin, has_slot, names_before, stands_among, place_value}
 use Rattle.bootstore.specs.Inverse.{outermost, undone, at_mark, marked_before, names_left, local_names_left, finds_its_place, find_places, room_for, text_reach, log_reach, frame_reach, leaves, nested, begins_with_mark, LeadsBack, CanGoBack}
-use Rattle.bootstore.proofs.Tables.{assigned-again, assigned-same, same_name}
+use Rattle.bootstore.proofs.TableLemmas.{assigned-again, assigned-same, same_name}
 
 -- if nothing is marked, nothing is kept
 pub nothing_marked : (m : Moment) (kept : List Kept) → begins_with_mark kept ≡ true → marked_before m kept ≡ [] → kept ≡ []

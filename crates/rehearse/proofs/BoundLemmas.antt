@@ -12,8 +12,8 @@ use Rattle.hushlang.specs.Tree.{IsProper, IsProperList, IsProperJoined, IsProper
 use Rattle.rehearse.specs.Execution.{Limits, Answer, Normal, Exit, Ended, Dry, Ending, CutDevices, CutSteps, Syntax, Size, go_on, set_status, set_local, status_when, goes, holds, begin, take_outcome, with_outcome, outcome_when, told, told_again, tell_or_take, device, Request, test_effect, logged, set_environment, boot, text_end, run_text, run_all, command, simple, sized, assign, turns, for_each, exec_script, exec_list, exec_joined, exec_command, exec_arms, exec}
 use Rattle.rehearse.specs.Runs.{Task, run_on, state_of, steps}
 use Rattle.rehearse.proofs.ProperLemmas.{trees_are_proper}
-use Rattle.rehearse.proofs.Growing.{Grew, Grew-block}
-use Rattle.rehearse.proofs.Keeping.{Track, KeepsAll, Keeps-text, Keeps-script, Keeps-list, Keeps-one, Keeps-exec, Keeps-ended}
+use Rattle.rehearse.proofs.GrowingSteps.{Grew, Grew-block}
+use Rattle.rehearse.proofs.TakenOutcomes.{Track, KeepsAll, Keeps-text, Keeps-script, Keeps-list, Keeps-one, Keeps-exec, Keeps-ended}
 
 -- ---- no run goes past a bound
 

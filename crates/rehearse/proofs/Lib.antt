@@ -2,12 +2,12 @@ pub mod TreeLemmas
 pub mod ProperLemmas
 pub mod ChoiceTreeLemmas
 pub mod NextRunLemmas
-pub mod Keeping
+pub mod TakenOutcomes
 pub mod TaskChoices
 pub mod StepLemmas
 pub mod FewFailures
 pub mod OrderOfWords
-pub mod Growing
+pub mod GrowingSteps
 pub mod BoundLemmas
 pub mod Pages
 pub mod WholeRecordLemmas

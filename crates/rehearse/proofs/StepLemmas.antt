@@ -4,7 +4,7 @@ use Rattle.rehearse.specs.Outcomes.{OutcomeWord, Success, Failure, common_prefix
 use Rattle.rehearse.specs.State.{start}
 use Rattle.rehearse.specs.Execution.{Answer, Normal, Exit, Ended, Dry}
 use Rattle.rehearse.specs.Runs.{Task, run_on, state_of, steps, asked}
-use Rattle.rehearse.proofs.Keeping.{Extends}
+use Rattle.rehearse.proofs.TakenOutcomes.{Extends}
 use Rattle.rehearse.proofs.TaskChoices.{Keeps-run_on}
 
 steps-extend : (x : OutcomeWord) (a b : Answer) → Extends x a b → (state_of a).steps ≤ (state_of b).steps

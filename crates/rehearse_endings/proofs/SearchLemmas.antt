@@ -13,7 +13,7 @@ use Rattle.rehearse.specs.State.{State, LoggedCommand, asked_of, start}
 use Rattle.bootstore.specs.StoredState.{state_at}
 use Rattle.rehearse.specs.Execution.{Limits, Answer, Normal, Exit, Ended, Dry, Ending, succeeds}
 use Rattle.rehearse.specs.Runs.{Task, run_on, state_of, kind, kind_of, ending_of}
-use Rattle.rehearse.proofs.Keeping.{answers, GoesTo, Track-of}
+use Rattle.rehearse.proofs.TakenOutcomes.{answers, GoesTo, Track-of}
 use Rattle.rehearse.proofs.BoundLemmas.{devices_are_bounded}
 use Rattle.rehearse.proofs.TaskChoices.{Keeps-run_on, task_chooses}
 use Rattle.rehearse_machine.specs.Came.{Came, Wants, settled}

@@ -13,8 +13,8 @@ use Rattle.rehearse.specs.Execution.{Limits, Answer, Normal, Exit, Ended, Dry, E
 use Rattle.rehearse_machine.specs.Frames.{Frame, Lists, Linked, IfCondition, LoopCondition, LoopBody, ForBody, RunNames, RunText, Next, Go, Stop, tell_or_ask, boot_next, leave, begin_assign, begin_for, begin_arms, begin_tree, begin_text, begin_names, begin_exit, fitting, ask, begin_called, begin_fields, counted, begin_command, move}
 use Rattle.rehearse_machine.specs.Came.{Over, Wants}
 use Rattle.rehearse_machine.specs.Meaning.{with, full, script, one, joined_of, arms_of, again, resume, continue, comes_to, AreProperFrames}
-use Rattle.rehearse.proofs.Growing.{Grew, AtLeast-track, Grew-block}
-use Rattle.rehearse.proofs.Keeping.{KeepsAll, after_condition, Keeps-script, Keeps-exec}
+use Rattle.rehearse.proofs.GrowingSteps.{Grew, AtLeast-track, Grew-block}
+use Rattle.rehearse.proofs.TakenOutcomes.{KeepsAll, after_condition, Keeps-script, Keeps-exec}
 use Rattle.rehearse.proofs.ProperLemmas.{trees_are_proper}
 use Rattle.rehearse_machine.proofs.BoundLemmas.{Cut-block}
 use Rattle.rehearse_machine.proofs.StepBoundLemmas.{same_go_on, same_if, closed_exec, same_turns}

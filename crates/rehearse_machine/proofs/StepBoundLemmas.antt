@@ -8,8 +8,8 @@ use Rattle.rehearse.specs.State.{Text, get, State, parameters_in}
 use Rattle.rehearse.specs.Commands.{Called, ChangesVariables, WritesText, RunsTexts, Tests, Exits, BuiltIn, NoCommand, Device, called_by}
 use Rattle.hushlang.specs.Tree.{IsProper, IsProperList, IsProperJoined, IsProperCommand, AreProperArms, HoldsCommand}
 use Rattle.rehearse.specs.Execution.{Limits, Answer, Normal, Exit, Ended, Dry, CutSteps, Syntax, Size, go_on, set_status, set_local, goes, holds, begin, text_end, run_text, run_all, command, simple, sized, turns, for_each, exec_script, exec_list, exec_joined, exec_command, exec_arms, exec}
-use Rattle.rehearse.proofs.Growing.{AtLeast, Grew, AtLeast-track, Grew-block}
-use Rattle.rehearse.proofs.Keeping.{KeepsAll, after_condition, Keeps-script, Keeps-list, Keeps-one, Keeps-exec, Keeps-text}
+use Rattle.rehearse.proofs.GrowingSteps.{AtLeast, Grew, AtLeast-track, Grew-block}
+use Rattle.rehearse.proofs.TakenOutcomes.{KeepsAll, after_condition, Keeps-script, Keeps-list, Keeps-one, Keeps-exec, Keeps-text}
 use Rattle.rehearse.proofs.ProperLemmas.{trees_are_proper}
 use Rattle.rehearse_machine.proofs.BoundLemmas.{Cut-block, Cut-turns}
 

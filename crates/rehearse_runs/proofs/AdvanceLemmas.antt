@@ -7,7 +7,7 @@ use Rattle.std.proofs.lemmas.Grind.{pow_more}
 use Rattle.std.proofs.Math.Pow.{pow_mono}
 use Rattle.bootstore.specs.Record.{Record, fresh}
 use Rattle.std.proofs.lemmas.List.Sums.{count_by-le-length}
-use Rattle.rehearse.specs.Bounds.{BoundsShown, are_bounds, are_few, few_failures, most_devices, most_run_devices, most_steps}
+use Rattle.rehearse.specs.Bounds.{are_bounds, are_few, few_failures, most_devices, most_run_devices, most_steps}
 use Rattle.rehearse.specs.Outcomes.{OutcomeWord, Success, Failure, words, is_run_kind, is_within, few_of}
 use Rattle.rehearse.specs.State.{Text}
 use Rattle.rehearse.specs.Runs.{Task, kind, all_runs, runs, steps}
@@ -68,10 +68,6 @@ are_within task h = within_if task.limits.device_bound task.failures (fit task.l
 -- a task whose bounds are those of another
 pub bounds_in : (task other : Task) → task ≡ other → AreBounds other → AreBounds task
 bounds_in task other e h = subst AreBounds (sym e) h
-
--- of bounds that are the same
-pub bounds_as : (b c : BoundsShown) → c ≡ b → are_bounds b.devices b.steps b.failures ≡ true → are_bounds c.devices c.steps c.failures ≡ true
-bounds_as b c e h = subst (λ (x : BoundsShown). are_bounds x.devices x.steps x.failures ≡ true) (sym e) h
 
 few_less : (most : Option ℕ) (ws : List OutcomeWord) → length (few_of most ws) ≤ length ws
 few_less None ws = omega arith

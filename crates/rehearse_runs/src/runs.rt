@@ -1,8 +1,11 @@
 //! The runs of the text of a variable.
-ghost use Rattle.std.specs.Prelude.{◌≡◌, [], false, map, option_map};
+ghost use Rattle.std.specs.Prelude.{◌≡◌, [], false, true, map, option_map, IfSome, IsSome, None};
 ghost use Rattle.text.specs.TextsShown.{option_bytes};
+ghost use Rattle.rehearse.specs.Bounds.{are_bounds};
 ghost use Rattle.rehearse.specs.Listing.{outcome_digit};
 ghost use Rattle.rehearse.specs.Outcomes.{has_success};
+ghost use Rattle.envtools.specs.Environment.{value_of};
+ghost use Rattle.rehearse_machine.specs.Tasks.{task_in, task_set, task_shown};
 ghost use Rattle.rehearse_runs.specs.RunsShown.{has_words, last_given, outcomes, words_made, work_of};
 ghost use Rattle.std.specs.Borrow.{sem};
 
@@ -30,6 +33,26 @@ enum Phase {
     Over,
     /// Memory ran out.
     Failed,
+}
+
+/// The rehearsal of a variable whose runs are listed, if it is set.
+pub(crate) fn rehearsal_of<'a>(
+    alloc: Global,
+    env: &'a Env,
+    devices: &'a Devices,
+    name: &'a [u8],
+    bounds: Bounds,
+) -> Option<Rehearsal<'a>>
+    ensures set { option_map task_in result ≡ task_set env.now devices.now name.now bounds }
+    ensures shown { IfSome result
+        (λ r. task_in r ≡ task_shown env.now devices.now name.now bounds) }
+    ensures bounds { IfSome result
+        (λ r. are_bounds r.bounds.devices r.bounds.steps r.bounds.failures ≡ true) }
+    ensures there { IfSome result (λ _. IsSome (value_of env.now name.now)) }
+    ensures unset { result ≡ None → value_of env.now name.now ≡ None }
+{
+    let _bound = bounds.devices();
+    Rehearsal::of(alloc, env, devices, name, bounds.of_run())
 }
 
 /// The same digits.
@@ -88,9 +111,7 @@ impl<'a, S: Store> Model for Runs<'a, S> {
 
 impl<'a, S: Store> Runs<'a, S> {
     ghost use Rattle.rehearse_runs.specs.RunsShown.{RunsShown, new_runs};
-    ghost use Rattle.rehearse_machine.specs.Tasks.{task_shown, task_set};
-    ghost use Rattle.std.specs.Prelude.{IfOk, OnOk, IfErr, OnErr, IsSome, Some, None};
-    ghost use Rattle.envtools.specs.Environment.{value_of};
+    ghost use Rattle.std.specs.Prelude.{IfOk, OnOk, IfErr, OnErr, Some};
     ghost use Rattle.rehearse_runs.specs.declared.rehearse_error.RehearseError.TheVariants.{NoSuchVariable};
     ghost use Rattle.rehearse_runs.specs.Giving.{Advances, IsView, Lent};
     ghost use Rattle.rehearse_runs.specs.Behind.{GoesOnBehind, RefusesWord};
@@ -111,8 +132,7 @@ impl<'a, S: Store> Runs<'a, S> {
             (λ e. (e ≡ NoSuchVariable) × (value_of env.now name.now ≡ None)) }
         ensures unset { OnErr result (task_set env.now devices.now name.now bounds ≡ None) }
     {
-        let _bound = bounds.devices();
-        let Some(rehearsal) = Rehearsal::of(alloc, env, devices, name, bounds.of_run()) else {
+        let Some(rehearsal) = rehearsal_of(alloc, env, devices, name, bounds) else {
             return Err(RehearseError::NoSuchVariable);
         };
         Ok(Runs {
@@ -145,8 +165,7 @@ impl<'a, S: Store> Runs<'a, S> {
         ensures unset { IfErr result
             (λ e. e ≡ NoSuchVariable → task_set env.now devices.now name.now bounds ≡ None) }
     {
-        let _bound = bounds.devices();
-        let Some(rehearsal) = Rehearsal::of(alloc, env, devices, name, bounds.of_run()) else {
+        let Some(rehearsal) = rehearsal_of(alloc, env, devices, name, bounds) else {
             return Err(RehearseError::NoSuchVariable);
         };
         if !is_within(bounds.failures(), word) {

@@ -6,12 +6,12 @@ ghost use Rattle.rehearse_runs.specs.declared.rehearse_error.RehearseError.TheVa
 ghost use Rattle.rehearse_runs.specs.Behind.{kind_shown, HasKind, RefusesTry};
 
 use crate::rehearse_error::RehearseError;
+use crate::runs::rehearsal_of;
 use crate::searching::Digits;
 use crate::walking::{Walked, walk_to};
 use bootstore::Store;
 use envtools::Env;
 use rehearse::{Bounds, Devices};
-use rehearse_machine::Rehearsal;
 use std::alloc::Global;
 
 /// What kind of word a text is.
@@ -43,8 +43,7 @@ pub fn try_word<S: Store>(
     ensures unset { IfErr result
         (λ e. e ≡ NoSuchVariable → task_set env.now devices.now name.now bounds ≡ None) }
 {
-    let _bound = bounds.devices();
-    let Some(rehearsal) = Rehearsal::of(alloc, env, devices, name, bounds.of_run()) else {
+    let Some(rehearsal) = rehearsal_of(alloc, env, devices, name, bounds) else {
         return Err(RehearseError::NoSuchVariable);
     };
     let mut store = S::new(alloc);

@@ -1,6 +1,6 @@
 use Rattle.std.proofs.Common.{Some, ◌∙◌, ap, sym}
 use Rattle.text.specs.TextsShown.{option_items}
-use Rattle.bootstore.proofs.Tables.{clone_text}
+use Rattle.bootstore.proofs.TableLemmas.{clone_text}
 use Rattle.bootstore.proofs.table.copy_value.Goals as goal
 
 pub returns-in_ok-clone-in-Some : goal.returns-in_ok-clone-in-Some

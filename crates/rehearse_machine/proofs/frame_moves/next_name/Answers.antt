@@ -2,7 +2,7 @@ use Rattle.std.proofs.Common.{ap, ◌∙◌, sym, subst}
 use Rattle.bootstore.specs.Record.{Record}
 use Rattle.bootstore.specs.Scripts.{text_found}
 use Rattle.bootstore.specs.declared.frame.At.{At}
-use Rattle.bootstore.proofs.Tables.{clone_text}
+use Rattle.bootstore.proofs.TableLemmas.{clone_text}
 use Rattle.rehearse_machine.specs.MovesShown.{IsTop}
 use Rattle.rehearse_machine.proofs.WordLemmas.{word_some}
 use Rattle.rehearse_machine.proofs.NameLemmas.{unset_found, no_script_found, text_found_comes}

@@ -1,6 +1,6 @@
 use Rattle.std.proofs.Common.{refl, ap, sym, ◌∙◌, [], ◌∷◌, ◌≡◌, Bool, true, false, map, if◌then◌else◌}
 use Rattle.text.specs.TextsShown.{bytes_of_words}
-use Rattle.bootstore.proofs.Tables.{clone_text}
+use Rattle.bootstore.proofs.TableLemmas.{clone_text}
 use Rattle.rehearse.specs.Commands.{sets_in}
 use Rattle.rehearse.specs.DevicesShown.{setting_shown}
 use Rattle.rehearse.specs.State.{Text, LoggedCommand}

@@ -1,5 +1,5 @@
 use Rattle.std.proofs.Common.{◌∙◌, ap}
-use Rattle.bootstore.proofs.Tables.{clone_words, clone_text}
+use Rattle.bootstore.proofs.TableLemmas.{clone_words, clone_text}
 use Rattle.bootstore.proofs.log.LogEntry.copy.Goals as goal
 
 pub returns : goal.returns

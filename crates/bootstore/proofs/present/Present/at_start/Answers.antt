@@ -2,7 +2,7 @@ use Rattle.std.proofs.Common.{◌≡◌, ap, sym, Some}
 use Rattle.std.specs.List.{slice_get}
 use Rattle.bootstore.specs.Moment.{Moment}
 use Rattle.bootstore.specs.Table.{variables_of}
-use Rattle.bootstore.proofs.Tables.{set_next}
+use Rattle.bootstore.proofs.TableLemmas.{set_next}
 use Rattle.bootstore.proofs.OneInversePerName.{nothing_with}
 use Rattle.bootstore.proofs.present.Present.at_start.Goals as goal
 

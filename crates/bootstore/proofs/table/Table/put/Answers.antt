@@ -6,7 +6,7 @@ use Rattle.bootstore.specs.declared.table.Place.{Place}
 use Rattle.text.specs.TextsShown.{option_items}
 use Rattle.bootstore.specs.Record.{assigned}
 use Rattle.bootstore.specs.Table.{variables_of, last_kept}
-use Rattle.bootstore.proofs.Tables.{written, written_slots, written_kept, added, added_slots, added_kept, key_cmp}
+use Rattle.bootstore.proofs.TableLemmas.{written, written_slots, written_kept, added, added_slots, added_kept, key_cmp}
 use Rattle.bootstore.proofs.table.Table.put.Goals as goal
 
 pub returns-in-Some-clause-ok : goal.returns-in-Some-clause-ok

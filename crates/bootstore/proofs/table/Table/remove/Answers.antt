@@ -1,4 +1,4 @@
-use Rattle.bootstore.proofs.Tables.{removed, removed_slots, removed_kept}
+use Rattle.bootstore.proofs.TableLemmas.{removed, removed_slots, removed_kept}
 use Rattle.bootstore.proofs.table.Table.remove.Goals as goal
 
 pub returns-clause-removed : goal.returns-clause-removed

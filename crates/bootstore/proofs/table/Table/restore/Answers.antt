@@ -3,7 +3,7 @@ use Rattle.std.specs.Ordering.{nat_cmp, is_eq}
 use Rattle.std.specs.Cmp.Lexicographic.{slice_cmp}
 use Rattle.bootstore.specs.Record.{assigned}
 use Rattle.bootstore.specs.Table.{variables_of, has_slot, last_kept, kept_of, place_value, names_before}
-use Rattle.bootstore.proofs.Tables.{written, written_same_slots, written_kept}
+use Rattle.bootstore.proofs.TableLemmas.{written, written_same_slots, written_kept}
 use Rattle.bootstore.proofs.table.Table.restore.Goals as goal
 
 pub returns-in-Some-get_mut-clause-restored : goal.returns-in-Some-get_mut-clause-restored

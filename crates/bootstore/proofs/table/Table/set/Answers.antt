@@ -1,6 +1,6 @@
 use Rattle.std.proofs.Common.{◌∙◌, ap, refl, cond, false}
 use Rattle.bootstore.specs.Table.{has_slot}
-use Rattle.bootstore.proofs.Tables.{compares_equal}
+use Rattle.bootstore.proofs.TableLemmas.{compares_equal}
 use Rattle.bootstore.proofs.table.Table.set.Goals as goal
 
 pub returns-else-is_some-clause-gone : goal.returns-else-is_some-clause-gone

@@ -8,7 +8,7 @@ use Rattle.bootstore.specs.Table.{variables_of, place_value, IsWith, AreEqual, l
 use Rattle.bootstore.specs.Inverse.{CanGoBack, KeepsOnce, marked_before}
 use Rattle.bootstore.specs.Present.{moment_of}
 use Rattle.bootstore.specs.Trail.{record_of_trail}
-use Rattle.bootstore.proofs.Tables.{assigned-same, found}
+use Rattle.bootstore.proofs.TableLemmas.{assigned-same, found}
 use Rattle.bootstore.proofs.TrailLemmas.{can_environment, can_kept_environment, some_kept, no_bytes, kept_last, restored, same_record}
 use Rattle.bootstore.proofs.OneInversePerName.{once_equal_environment, once_kept_environment, marked_once_environment, on_either, with_same}
 use Rattle.bootstore.proofs.trail.TrailStore.set_env.Goals as goal

@@ -5,7 +5,7 @@ use Rattle.bootstore.specs.declared.inverse.Kept.TheVariants.{Change}
 use Rattle.bootstore.specs.Table.{variables_of, place_value, IsWith, AreEqual, last_kept}
 use Rattle.bootstore.specs.Inverse.{CanGoBack, KeepsOnce, marked_before}
 use Rattle.bootstore.specs.Present.{moment_of}
-use Rattle.bootstore.proofs.Tables.{found}
+use Rattle.bootstore.proofs.TableLemmas.{found}
 use Rattle.bootstore.proofs.TrailLemmas.{can_local, can_kept_local, some_kept, kept_last, restored, same_record}
 use Rattle.bootstore.proofs.OneInversePerName.{once_equal_local, once_kept_local, marked_once_local, on_either, with_same}
 use Rattle.bootstore.proofs.trail.TrailStore.set_local.Goals as goal

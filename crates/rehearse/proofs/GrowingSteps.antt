@@ -6,7 +6,7 @@ use Rattle.hushlang.specs.Expansion.{fields}
 use Rattle.rehearse.specs.State.{State, parameters_in}
 use Rattle.hushlang.specs.Tree.{IsProperList, IsProperCommand, HasArm, HoldsCommand}
 use Rattle.rehearse.specs.Execution.{Limits, Answer, Normal, Exit, Ended, Dry, CutSteps, go_on, simple, sized, assign, turns, for_each, exec_script, exec_list, exec_joined, exec_command, exec_arms}
-use Rattle.rehearse.proofs.Keeping.{Track, Keeps, KeepsAll, Keeps-sized, Keeps-simple, Keeps-assign, Keeps-for, Keeps-if, Keeps-turns, after_condition, Keeps-after_condition, Keeps-script, Keeps-joined, Keeps-arms}
+use Rattle.rehearse.proofs.TakenOutcomes.{Track, Keeps, KeepsAll, Keeps-sized, Keeps-simple, Keeps-assign, Keeps-for, Keeps-if, Keeps-turns, after_condition, Keeps-after_condition, Keeps-script, Keeps-joined, Keeps-arms}
 
 -- if the text or the run goes on, at least n steps were begun
 abbrev pub AtLeast : ℕ → Answer → Type 0

@@ -1,0 +1,16 @@
+use Rattle.std.proofs.Common.{◌≡◌, ap, subst}
+use Rattle.std.specs.Option.{IfSome}
+use Rattle.std.proofs.lemmas.Option.{IfSome_then}
+use Rattle.rehearse.specs.Bounds.{BoundsShown}
+use Rattle.rehearse_machine.specs.Tasks.{task_in, task_shown}
+use Rattle.rehearse_machine.specs.declared.rehearsal.Rehearsal.{Rehearsal}
+use Rattle.rehearse_runs.proofs.AdvanceLemmas.{bounds_in}
+use Rattle.rehearse_runs.proofs.runs.rehearsal_of.Goals as goal
+
+pub returns-clause-shown : goal.returns-clause-shown
+returns-clause-shown c =
+    subst (λ (b : BoundsShown). IfSome c.of.result (λ (r : Rehearsal). task_in r ≡ task_shown c.args.env.now c.args.devices.now c.args.name.now b)) c.of_run.ensures c.of.ensures.shown
+
+pub returns-clause-bounds : goal.returns-clause-bounds
+returns-clause-bounds c =
+    IfSome_then c.of.result (returns-clause-shown c) (λ r same. bounds_in (task_in r) _ same c.devices-bound.ensures.within)
