@@ -1,16 +1,18 @@
 -- The rows of a table, one after the other.
-use Rattle.std.proofs.Common.{◌≡◌, ◌∙◌, ◌++◌, ◌+◌, ◌<◌, ℕ, Bool, false, ◌||◌, List, [], ◌∷◌, Option, None, Some, Bor, map, take, length, get_or, refl, ap, ap₂, sym, append_assoc}
+use Rattle.std.proofs.Common.{◌≡◌, ◌∙◌, ◌++◌, ◌+◌, ◌<◌, ℕ, Bool, false, ◌||◌, List, [], ◌∷◌, Option, None, Some, Bor, map, take, length, get_or, refl, ap, ap₂, sym}
 use Rattle.std.proofs.lemmas.List.{map-append, take_more}
+use Rattle.std.proofs.lemmas.List.Sums.{fold-append}
 use Rattle.std.proofs.Math.Bool.{or-false}
+use Rattle.std.specs.List.{fold}
 use Rattle.std.specs.Option.{option_map_or}
 use Rattle.clap.specs.Words.{AddsAliases, AddsArg, AddsSubcommand, App, Rule, Text, app_of, rule_of, with_rule, with_subcommand}
 use Rattle.clap.specs.declared.builder.arg.Arg.{Arg}
 use Rattle.clap.specs.declared.builder.command.Command.{Command}
+use Rattle.clap.specs.declared.builder.command.Command.TheViews.{out-Command}
 use Rattle.command_line.specs.declared.argument.Argument.{Argument}
 use Rattle.command_line.specs.declared.argument.Form.{Form}
 use Rattle.command_line.specs.declared.argument.Form.TheVariants.{Flag, Number, Value, Word, Words}
-use Rattle.command_line.specs.declared.subcommand.Subcommand.{Subcommand}
-use Rattle.command_line.specs.Arguments.{AddsRules, AddsSubcommands, app_of_row, rule_of_form, rule_of_row, unaliased, with_subcommands}
+use Rattle.command_line.specs.Arguments.{Adds, rule_of_form, rule_of_row, unaliased}
 use Rattle.command_line.specs.Made.{IsMade}
 
 -- no form has a second long form by itself
@@ -41,37 +43,29 @@ whole_with row a b alias rule is adds =
     let same : rule_of b ≡ with_aliases (rule_of a) (map name b.aliases.items) = ap rule_of adds.0 in
     same ∙ ap₂ with_aliases rule (names ∙ ap listed (sym is))
 
--- a command with the arguments of the first i rows, with the next one too
-pub one_more : (rows : List Argument) (i : ℕ) (d : Argument) (first old new : Command) (a : Arg) → i < length rows → AddsRules first (map rule_of_row (take i rows)) old → rule_of a ≡ rule_of_row (get_or rows i d) → a.global ≡ false → AddsArg old a new
-    → AddsRules first (map rule_of_row (take (i + 1) rows)) new
-one_more rows i d first old new a within so_far rule local adds =
-    let app = app_of first in
-    let before = map rule_of_row (take i rows) in
-    let next : map rule_of_row (take (i + 1) rows) ≡ before ++ rule_of_row (get_or rows i d) ∷ [] =
-    ap (map rule_of_row) (take_more rows i d within) ∙ map-append rule_of_row (take i rows) _ in
-    let joined : app.top.rules ++ before ++ rule_of_row (get_or rows i d) ∷ [] ≡ app.top.rules ++ map rule_of_row (take (i + 1) rows) =
-    append_assoc app.top.rules before _ ∙ ap (λ rs. app.top.rules ++ rs) (sym next) in
-    record {
-      app_is = adds.shape local ∙ (ap₂ with_rule so_far.app_is rule ∙ ap (λ rules. record app { top = record app.top { rules = rules } }) joined);
-      globals = adds.globals ∙ (ap₂ (λ x y. x || y) so_far.globals local ∙ or-false _);
-    }
+-- one more argument
+pub adds_arg : (old new : Command) (a : Arg) (rule : Rule) → rule_of a ≡ rule → a.global ≡ false → AddsArg old a new → Adds with_rule old (rule ∷ []) new
+adds_arg old new a rule is local adds = record {
+  app_is = adds.shape local ∙ ap (with_rule (app_of old)) is;
+  globals = adds.globals ∙ (ap (λ b. (out-Command old).has_globals || b) local ∙ or-false _);
+}
 
--- a command with one more subcommand after some
-with_one_more : (app : App) (subs : List App) (sub : App) → with_subcommands app (subs ++ sub ∷ []) ≡ with_subcommand (with_subcommands app subs) sub.top
-with_one_more app [] sub = refl
-with_one_more app (first ∷ subs) sub = with_one_more (with_subcommand app first.top) subs sub
+-- one more subcommand
+pub adds_subcommand : (old sub new : Command) (app : App) → IsMade app sub → AddsSubcommand old sub new → Adds with_subcommand old (app.top ∷ []) new
+adds_subcommand old sub new app made adds = record {
+  app_is = adds.shape made.local ∙ ap (λ (a : App). with_subcommand (app_of old) a.top) made.app_is;
+  globals = adds.globals ∙ (ap (λ b. (out-Command old).has_globals || b) made.local ∙ or-false _);
+}
 
--- a command with the subcommands of the first i rows, with the next one too
-pub one_more_subcommand : (rows : List Subcommand) (i : ℕ) (d : Subcommand) (first old new sub : Command) → i < length rows → AddsSubcommands first (map app_of_row (take i rows)) old → IsMade (app_of_row (get_or rows i d)) sub → AddsSubcommand old sub new
-    → AddsSubcommands first (map app_of_row (take (i + 1) rows)) new
-one_more_subcommand rows i d first old new sub within so_far made adds =
-    let before = map app_of_row (take i rows) in
-    let row = app_of_row (get_or rows i d) in
-    let next : map app_of_row (take (i + 1) rows) ≡ before ++ row ∷ [] =
-    ap (map app_of_row) (take_more rows i d within) ∙ map-append app_of_row (take i rows) _ in
-    let added : app_of new ≡ with_subcommand (with_subcommands (app_of first) before) row.top =
-    adds.shape made.local ∙ ap₂ with_subcommand so_far.app_is (ap (λ (a : App). a.top) made.app_is) in
+-- a command with what the first i rows add, with the next one too
+pub one_more : {X Row : Type 0} (add : App → X → App) (said : Row → X) (rows : List Row) (i : ℕ) (d : Row) (first old new : Command) → i < length rows → Adds add first (map said (take i rows)) old → Adds add old (said (get_or rows i d) ∷ []) new
+    → Adds add first (map said (take (i + 1) rows)) new
+one_more add said rows i d first old new within so_far adds =
+    let before = map said (take i rows) in
+    let row = said (get_or rows i d) in
+    let next : map said (take (i + 1) rows) ≡ before ++ row ∷ [] =
+    ap (map said) (take_more rows i d within) ∙ map-append said (take i rows) _ in
     record {
-      app_is = added ∙ (sym (with_one_more (app_of first) before row) ∙ ap (with_subcommands (app_of first)) (sym next));
-      globals = adds.globals ∙ (ap₂ (λ x y. x || y) so_far.globals made.local ∙ or-false _);
+      app_is = adds.app_is ∙ (ap (λ app. add app row) so_far.app_is ∙ sym (ap (fold add (app_of first)) next ∙ fold-append add (app_of first) before (row ∷ [])));
+      globals = adds.globals ∙ so_far.globals;
     }

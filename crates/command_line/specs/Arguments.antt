@@ -1,8 +1,8 @@
 -- The arguments of a command by rows: what `clap` is told of each.
-use Rattle.std.specs.Prelude.{◌≡◌, ◌++◌, ℕ, List, [], ◌∷◌, Some, map, pos}
+use Rattle.std.specs.Prelude.{◌≡◌, ℕ, List, [], ◌∷◌, Some, map, pos}
+use Rattle.std.specs.List.{fold}
 use Rattle.std.specs.Option.{option_map_or}
-use Rattle.clap.specs.Words.{App, Rule, Shape, Text, app_of, new_app, new_rule, with_subcommand}
-use Rattle.clap.specs.Simple.{on_top}
+use Rattle.clap.specs.Words.{App, Rule, Shape, Text, app_of, new_app, new_rule, with_rule, with_subcommand}
 use Rattle.clap.specs.declared.builder.action.ArgAction.TheVariants.{Append, SetTrue}
 use Rattle.clap.specs.declared.builder.command.Command.{Command}
 use Rattle.clap.specs.declared.builder.command.Command.TheViews.{out-Command}
@@ -59,27 +59,24 @@ rule_of_row row = record (unaliased row) { aliases = option_map_or (λ alias. al
 
 -- a command with these arguments after its own
 abbrev pub with_rules : App → List Rule → App
-with_rules app rules = on_top (λ (s : Shape). record s { rules = s.rules ++ rules }) app
+with_rules = fold with_rule
 
 -- a command of this name with these arguments
 abbrev pub command : Text → List Rule → App
 command name rules = with_rules (new_app name) rules
 
--- `new` is `old` with these arguments after its own, and none of them is global
-pub record AddsRules (old : Command) (rules : List Rule) (new : Command) : Type 0 where
-  pub app_is : app_of new ≡ with_rules (app_of old) rules
-  pub globals : (out-Command new).has_globals ≡ (out-Command old).has_globals
-
 -- the subcommand of a row
 abbrev pub app_of_row : Subcommand → App
 app_of_row row = command row.name.now (map rule_of_row row.arguments.now)
 
+abbrev pub shape_of_row : Subcommand → Shape
+shape_of_row row = (app_of_row row).top
+
 -- a command with these subcommands after its own
 abbrev pub with_subcommands : App → List App → App
-with_subcommands app [] = app
-with_subcommands app (sub ∷ subs) = with_subcommands (with_subcommand app sub.top) subs
+with_subcommands app subs = fold with_subcommand app (map (λ (sub : App). sub.top) subs)
 
--- `new` is `old` with these subcommands after its own, and none of their arguments is global
-pub record AddsSubcommands (old : Command) (subs : List App) (new : Command) : Type 0 where
-  pub app_is : app_of new ≡ with_subcommands (app_of old) subs
+-- `new` is `old` with these added after its own, one by one, and none of their arguments is global
+pub record Adds {X : Type 0} (add : App → X → App) (old : Command) (xs : List X) (new : Command) : Type 0 where
+  pub app_is : app_of new ≡ fold add (app_of old) xs
   pub globals : (out-Command new).has_globals ≡ (out-Command old).has_globals

@@ -1,7 +1,7 @@
 //! Arguments by rows: a command's arguments are a table, and `clap` is given what the rows say.
 ghost use Rattle.std.specs.Prelude.{◌≡◌, IfOk, false, map};
-ghost use Rattle.clap.specs.Words.{rule_of};
-ghost use Rattle.command_line.specs.Arguments.{AddsRules, rule_of_form, rule_of_row, unaliased};
+ghost use Rattle.clap.specs.Words.{rule_of, with_rule};
+ghost use Rattle.command_line.specs.Arguments.{Adds, rule_of_form, rule_of_row, unaliased};
 
 use crate::kinds::{long_flag, long_option, many, number_option, one};
 use clap::{Arg, Command};
@@ -84,7 +84,7 @@ pub fn with_arguments<'a>(
     command: Command<'a>,
     rows: &[Argument<'a>],
 ) -> Result<Command<'a>, AllocError>
-    ensures { IfOk result (AddsRules command.entry (map rule_of_row rows.now)) }
+    ensures { IfOk result (Adds with_rule command.entry (map rule_of_row rows.now)) }
 {
     let mut command = command;
     for row in rows {

@@ -1,6 +1,7 @@
 //! Subcommands by rows.
 ghost use Rattle.std.specs.Prelude.{IfOk, map};
-ghost use Rattle.command_line.specs.Arguments.{AddsSubcommands, app_of_row};
+ghost use Rattle.clap.specs.Words.{with_subcommand};
+ghost use Rattle.command_line.specs.Arguments.{Adds, app_of_row, shape_of_row};
 ghost use Rattle.command_line.specs.Made.{IsMade};
 
 use crate::argument::{Argument, with_arguments};
@@ -36,7 +37,7 @@ pub(crate) fn with_subcommands<'a>(
     command: Command<'a>,
     rows: &[Subcommand<'a>],
 ) -> Result<Command<'a>, AllocError>
-    ensures { IfOk result (AddsSubcommands command.entry (map app_of_row rows.now)) }
+    ensures { IfOk result (Adds with_subcommand command.entry (map shape_of_row rows.now)) }
 {
     let mut command = command;
     for row in rows {

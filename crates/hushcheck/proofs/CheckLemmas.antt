@@ -17,7 +17,7 @@ use Rattle.locked_files.specs.CallOrder.{OnlyReads}
 use Rattle.locked_files.specs.Told.{Stored, Told, file_at}
 use Rattle.locked_files.specs.declared.files.Action.TheVariants.{ReadAll}
 use Rattle.whole_program.proofs.ReadingLemmas.{found-reads}
-use Rattle.whole_program.proofs.RehearseLemmas.{are-read}
+use Rattle.whole_program.proofs.SourceLemmas.{are-read}
 use Rattle.whole_program.specs.Images.{Copy, HasRead, ReadsImages}
 use Rattle.whole_program.specs.PrintingFiles.{FromImages}
 use Rattle.whole_program.specs.ReadingFiles.{IsTextFault}

@@ -51,13 +51,6 @@ given_by order found list names all = given (environment order found) (list_in l
 
 -- ---- one environment
 
--- the environment that was found, or why there is none
-abbrev pub Finds : Result (List Pair) ImageError → Result (List Pair) ToolError → Type 0
-Finds answer (Ok env) = answer ≡ Ok env
-Finds answer (Err (Image error)) = answer ≡ Err error
-Finds answer (Err Memory) = Unit {0}
-Finds answer (Err _) = ⊥
-
 -- the device list, or why there is none
 abbrev pub Lists : Result (Option Devices) DevicesError → Result (Option Devices) ToolError → Type 0
 Lists answer (Ok devices) = answer ≡ Ok devices

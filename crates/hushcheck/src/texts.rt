@@ -2,35 +2,21 @@
 ghost use Rattle.std.specs.Prelude.{Ok, map, option_map, string_bytes};
 ghost use Rattle.std.specs.Option.{option_copied};
 ghost use Rattle.hushcheck.specs.Asked.{asked_by};
-ghost use Rattle.hushcheck.specs.Checking.{ChecksFrom, ChecksText, Finds, IsReport, LeavesOutput, Lists, ReadsList, given, given_by, list_in};
-ghost use Rattle.image_tools.specs.PrintingImages.{environment_in};
+ghost use Rattle.hushcheck.specs.Checking.{ChecksFrom, ChecksText, IsReport, LeavesOutput, Lists, ReadsList, given, given_by, list_in};
 ghost use Rattle.locked_files.specs.Told.{IfTold};
 ghost use Rattle.whole_program.specs.Faults.{CountsTold};
 ghost use Rattle.whole_program.specs.Images.{copies};
 
 use crate::ask::CheckAsk;
-use envimage::{ByteOrder, load};
+use envimage::ByteOrder;
 use envtools::Env;
 use hushcheck_core::{Report, asked_names, check};
-use image_tools::{Fault, RehearseError, ToolError};
+use image_tools::{Fault, RehearseError, ToolError, env_of_image};
 use locked_files::Files;
 use output::{Out, write_all};
 use rehearse::{Devices, DevicesError};
 use std::alloc::Global;
 use whole_program::{Images, read_images, read_text, slices_of};
-
-/// The environment of an image, or of the current copy of a pair.
-fn environment(
-    alloc: Global,
-    first: &[u8],
-    second: Option<&[u8]>,
-    order: ByteOrder,
-) -> Result<Env, ToolError>
-    ensures { Finds (environment_in order first.now (option_copied second.entry)) result }
-{
-    let loaded = load(first, second, order)?;
-    Ok(Env::from_checked(alloc, loaded.body)?)
-}
 
 /// The device list of a text, if there is one.
 fn list_of(alloc: Global, text: Option<&[u8]>) -> Result<Option<Devices>, ToolError>
@@ -104,7 +90,7 @@ fn check_images<O: Out>(
         return Err(ToolError::Memory);
     };
     let second = images.second_bytes();
-    let env = environment(alloc, &images.first.bytes, second, order)?;
+    let env = env_of_image(alloc, &images.first.bytes, second, order)?;
     check_env(alloc, &env, list, &names, what.all, out)
 }
 

@@ -1,9 +1,10 @@
 -- From the rehearsal of an environment to the rehearsal of an image.
-use Rattle.std.proofs.Common.{◌≡◌, ℕ, refl, List, Option, Ok, inl, inr}
+use Rattle.std.proofs.Common.{◌≡◌, ℕ, refl, List, Option, Result, Ok, Err, inl, inr}
 use Rattle.envimage.specs.Data.{Pair, pairs_of}
 use Rattle.envimage.specs.Image.{LoadedShown, load_of}
 use Rattle.output.specs.Sink.{Sink}
 use Rattle.envimage.specs.declared.image.ByteOrder.{ByteOrder}
+use Rattle.envimage.specs.declared.image.ImageError.{ImageError}
 use Rattle.envtools.specs.Environment.{env_of}
 use Rattle.rehearse.specs.Asking.{Asking}
 use Rattle.rehearse.specs.State.{Text}
@@ -14,12 +15,24 @@ use Rattle.rehearse_runs.specs.declared.rehearse_error.RehearseError.TheVariants
 use Rattle.image_tools.specs.Errors.{rehearse_fault}
 use Rattle.image_tools.specs.Given.{given}
 use Rattle.image_tools.specs.Headline.{Rehearses}
-use Rattle.image_tools.specs.PrintingImages.{environment_in}
+use Rattle.image_tools.specs.PrintingImages.{Finds, environment_in}
 use Rattle.image_tools.specs.Refusing.{Refuses}
+use Rattle.image_tools.specs.declared.error.ToolError.{ToolError}
+use Rattle.image_tools.specs.declared.error.ToolError.TheVariants as tool
 
 pub image-env : (order : ByteOrder) (first : List ℕ) (second : Option (List ℕ)) (s : LoadedShown) (environment : List Pair) → load_of order first second ≡ Ok s → environment ≡ env_of (pairs_of s.body)
     → environment_in order first second ≡ Ok environment
 image-env order first second s environment e h = rw (e, h) refl
+
+-- what holds of the refusal of an image, and if memory runs out
+pub unfound : (answer : Result (List Pair) ImageError) (IsSo : ToolError → Type 0) → ((fault : ImageError) → answer ≡ Err fault → IsSo (tool.Image fault)) → ((env : List Pair) → answer ≡ Ok env → IsSo tool.Memory)
+    → (error : ToolError) → Finds answer (Err error) → IsSo error
+unfound answer IsSo refused memory (tool.Image fault) h = refused fault h
+unfound answer IsSo refused memory (tool.Env error) h = absurd h
+unfound answer IsSo refused memory (tool.Script error) h = absurd h
+unfound answer IsSo refused memory (tool.Rehearsal error) h = absurd h
+unfound answer IsSo refused memory tool.Write h = absurd h
+unfound answer IsSo refused memory tool.Memory h = memory h.0 h.1
 
 module _ (order : ByteOrder) (first : List ℕ) (second : Option (List ℕ)) (list : Text) (asking : Asking) (environment : List Pair) (old new : Sink) (image : environment_in order first second ≡ Ok environment) where
   pub rehearses-image : (finish : Finish) → below.WithDevices list (λ devices. below.Rehearses (below.task_asked environment devices asking) asking old new finish) → Rehearses (given order first second list asking) old new finish

@@ -19,6 +19,13 @@ environment_in order first second = environment (load_of order first second)
     environment (Ok shown) = Ok (env_of (pairs_of shown.body))
     environment (Err e) = Err e
 
+-- the environment that was found, or why there is none
+abbrev pub Finds : Result (List Pair) ImageError → Result (List Pair) ToolError → Type 0
+Finds answer (Ok env) = answer ≡ Ok env
+Finds answer (Err (Image error)) = answer ≡ Err error
+Finds answer (Err Memory) = (env : List Pair) × (answer ≡ Ok env)
+Finds answer (Err _) = ⊥
+
 -- The environment was found, and all that it prints was written.
 pub record PrintsAll (answer : Result (List Pair) ImageError) (names : List (List ℕ)) (header : Bool) (s : Outputs)
     (found : Bool) : Type 0 where

@@ -4,9 +4,9 @@ ghost use Rattle.std.specs.Option.{option_copied};
 ghost use Rattle.image_tools.specs.EndingsOfImages.{RefusesEndings, TellsEndings, endings_given};
 
 use crate::error::ToolError;
+use crate::image_env::env_of_image;
 use bootstore::Trail;
-use envimage::{ByteOrder, load};
-use envtools::Env;
+use envimage::ByteOrder;
 use output::Out;
 use rehearse_endings::{EndingsAsk, endings_env};
 use std::alloc::Global;
@@ -34,8 +34,7 @@ pub fn endings_bytes<O: Out>(
         (λ e. RefusesEndings (endings_given order first.now (option_copied second.entry)
         devices_text.now ask.now) ask.now.flow ask.now.states (O.sink out.old) (O.sink out.new) e) }
 {
-    let loaded = load(first, second, order)?;
-    let env = Env::from_checked(alloc, loaded.body)?;
+    let env = env_of_image(alloc, first, second, order)?;
     endings_env::<Trail, O>(alloc, &env, devices_text, ask, out)?;
     Ok(())
 }

@@ -8,9 +8,9 @@ ghost use Rattle.image_tools.specs.Headline.{Rehearses};
 ghost use Rattle.image_tools.specs.Refusing.{Refuses};
 
 use crate::error::ToolError;
+use crate::image_env::env_of_image;
 use bootstore::Trail;
-use envimage::{ByteOrder, load};
-use envtools::Env;
+use envimage::ByteOrder;
 use output::Out;
 use rehearse_runs::{Ask, Finish, rehearse_env};
 use std::alloc::Global;
@@ -39,7 +39,6 @@ pub fn rehearse_bytes<O: Out>(
         (λ e. Refuses (given order first.now (option_copied second.entry) devices_text.now
         (asking_of ask.now)) (O.sink out.old) (O.sink out.new) e) }
 {
-    let loaded = load(first, second, order)?;
-    let env = Env::from_checked(alloc, loaded.body)?;
+    let env = env_of_image(alloc, first, second, order)?;
     Ok(rehearse_env::<Trail, O>(alloc, &env, devices_text, ask, out)?)
 }

@@ -5,6 +5,7 @@ pub mod SetLemmas
 pub mod InputLemmas
 pub mod AskLemmas
 pub mod RunLemmas
+pub mod SourceLemmas
 pub mod RehearseLemmas
 pub mod EndingsLemmas
 mod LockExamples

@@ -1,6 +1,6 @@
 -- How all runs of the images of a configuration end, from files whose contents are known. The order of work is that of
 -- a rehearsal. Ours.
-use Rattle.std.specs.Prelude.{◌≡◌, ◌⊎◌, ℕ, Bool, true, List, Result, Ok, Err, string_bytes}
+use Rattle.std.specs.Prelude.{◌≡◌, ℕ, Bool, true, List, Result, Ok, Err, string_bytes}
 use Rattle.output.specs.Sink.{Sink}
 use Rattle.envimage.specs.declared.image.ByteOrder.{ByteOrder}
 use Rattle.requests.specs.declared.ask.EndingsAsk.{EndingsAsk}
@@ -15,9 +15,9 @@ use Rattle.image_tools.specs.declared.fault.Fault.{Fault}
 use Rattle.image_tools.specs.declared.fault.Fault.TheVariants.{Memory, NoSuchVariable, Tool}
 use Rattle.locked_files.specs.CallOrder.{OnlyReads}
 use Rattle.locked_files.specs.Told.{Told}
-use Rattle.whole_program.specs.Images.{Copy, IsImagesFault}
+use Rattle.whole_program.specs.Images.{Copy}
 use Rattle.whole_program.specs.PrintingFiles.{first_bytes, second_bytes}
-use Rattle.whole_program.specs.RehearsingFiles.{AreRead, IsUnlisted}
+use Rattle.whole_program.specs.RehearsingFiles.{AreRead, IsUnread}
 
 -- what is rehearsed: the bytes of these copies, by the text of the device list, in all runs
 abbrev pub endings_of : ByteOrder → List Copy → (device_list : List ℕ) → EndingsAsk → Given
@@ -53,5 +53,4 @@ TellsFrom order config device_list what out out' old new (Err (Tool error)) =
 TellsFrom order config device_list what out out' old new (Err (NoSuchVariable name)) =
     (name ≡ path_form what.name) × FromFiles order config device_list what old new (λ g.
     RefusesEndings g what.flow what.states out out' (tool.Rehearsal rehearsal.NoSuchVariable))
-TellsFrom order config device_list what out out' old new (Err fault) =
-    OnlyReads old new × (IsImagesFault config old.stored fault ⊎ IsUnlisted config device_list old fault)
+TellsFrom order config device_list what out out' old new (Err fault) = IsUnread config device_list old new fault

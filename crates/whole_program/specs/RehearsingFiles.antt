@@ -1,5 +1,5 @@
 -- What rehearsing the images of a configuration does, from files whose contents are known. The order of work is ours.
-use Rattle.std.specs.Prelude.{◌≡◌, ◌⊎◌, ℕ, Bool, true, List, map, Option, Some, None, option_map, Result, Ok, Err, string_bytes, String}
+use Rattle.std.specs.Prelude.{◌≡◌, ◌⊎◌, ℕ, Bool, true, List, Option, Some, None, option_map, Result, Ok, Err, String}
 use Rattle.std.specs.declared.alloc.Global.{Global}
 use Rattle.output.specs.Sink.{Sink, counted}
 use Rattle.envimage.specs.declared.image.ByteOrder.{ByteOrder}
@@ -21,9 +21,10 @@ use Rattle.image_tools.specs.declared.error.ToolError.TheVariants as tool
 use Rattle.image_tools.specs.declared.fault.Fault.{Fault}
 use Rattle.image_tools.specs.declared.fault.Fault.TheVariants.{Memory, NoSuchVariable, NotARun, Tool}
 use Rattle.locked_files.specs.declared.files.Action.TheVariants.{ReadAll}
-use Rattle.whole_program.specs.Images.{Copy, HasRead, IsImagesFault}
+use Rattle.whole_program.specs.Images.{Copy, HasRead, IsImagesFault, copies}
 use Rattle.whole_program.specs.PrintingFiles.{first_bytes, second_bytes}
 use Rattle.whole_program.specs.ReadingFiles.{IsTextFault, Reads}
+use Rattle.whole_program.specs.declared.sources.Sources.{Sources}
 
 -- what a rehearsal is given: the bytes of these copies, the text of the device list, and what the words ask for
 abbrev pub rehearsal_of : ByteOrder → List Copy → (device_list : List ℕ) → RehearseAsk → Given
@@ -78,6 +79,17 @@ pub record IsUnlisted (config device_list : List ℕ) (old : Told) (fault : Faul
   pub read : HasRead config old after_images found
   pub refused : IsTextFault device_list (file_at device_list old.stored) fault
 
+-- why the images and the device list are not both read: files were only read
+abbrev pub IsUnread : (config device_list : List ℕ) → (old new : Told) → Fault → Type 0
+IsUnread config device_list old new fault =
+    OnlyReads old new × (IsImagesFault config old.stored fault ⊎ IsUnlisted config device_list old fault)
+
+-- each answer to the reading of both
+abbrev pub ReadsSources : (config device_list : List ℕ) → (old new : Told) → Result Sources Fault → Type 0
+ReadsSources config device_list old new (Ok sources) = AreRead config device_list old new (λ found text.
+    (found ≡ copies sources.images) × (text ≡ sources.device_list.items))
+ReadsSources config device_list old new (Err fault) = IsUnread config device_list old new fault
+
 -- The images and the device list were read, and the whole listing was written; or the rehearsal is refused, and the
 -- fault names what the words said; or a read is refused, and files were only read. If memory runs out while they are
 -- read, nothing is written; if it runs out later, whole records may be written.
@@ -97,8 +109,7 @@ RehearsesFrom order config device_list what out out' old new (Err (NoSuchVariabl
 RehearsesFrom order config device_list what out out' old new (Err (NotARun word)) =
     (Some word ≡ option_map path_form (word_of what.wanted))
     × FromFiles order config device_list what old new (λ g. Refuses g out out' (tool.Rehearsal rehearsal.NotARun))
-RehearsesFrom order config device_list what out out' old new (Err fault) =
-    OnlyReads old new × (IsImagesFault config old.stored fault ⊎ IsUnlisted config device_list old fault)
+RehearsesFrom order config device_list what out out' old new (Err fault) = IsUnread config device_list old new fault
 
 -- over any files: a reported failure of the output is counted, and any refusal but this and memory leaves the output as
 -- it was

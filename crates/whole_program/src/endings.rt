@@ -6,8 +6,8 @@ ghost use Rattle.whole_program.specs.Faults.{CountsTold};
 ghost use Rattle.whole_program.specs.Images.{copies};
 ghost use Rattle.whole_program.specs.RehearsingFiles.{LeavesOutput};
 
-use crate::images::{Images, read_images};
-use crate::read::read_text;
+use crate::images::Images;
+use crate::sources::read_sources;
 use envimage::ByteOrder;
 use image_tools::{Fault, RehearseError, ToolError, WordForm, endings_bytes};
 use locked_files::Files;
@@ -75,9 +75,15 @@ pub fn endings<F: Files, O: Out>(
         (O.sink out.new) old new result) }
     ensures output { LeavesOutput result (O.sink out.old) (O.sink out.new) }
 {
-    let images = read_images(alloc, files, config)?;
-    let device_list = read_text(alloc, files, device_list)?;
-    match endings_of_images(alloc, &images, order, &device_list, &what, out) {
+    let sources = read_sources(alloc, files, config, device_list)?;
+    match endings_of_images(
+        alloc,
+        &sources.images,
+        order,
+        &sources.device_list,
+        &what,
+        out,
+    ) {
         Ok(()) => Ok(true),
         Err(error) => Err(refusal_of(error, what)),
     }

@@ -11,6 +11,7 @@ mod read;
 mod rehearsing;
 mod set;
 mod showing;
+mod sources;
 mod starting;
 mod telling;
 mod tool;

@@ -8,9 +8,9 @@ ghost use Rattle.whole_program.specs.RehearsingFiles.{LeavesOutput, RehearsesCop
 ghost use Rattle.rehearse_runs.specs.AskShown as bytes;
 ghost use Rattle.requests.specs.WantedShown.{bounds_of, wanted_of};
 
-use crate::images::{Images, read_images};
+use crate::images::Images;
 use crate::print::slices_of;
-use crate::read::read_text;
+use crate::sources::read_sources;
 use envimage::ByteOrder;
 use image_tools::{Fault, Finish, RehearseError, ToolError, WordForm, rehearse_bytes};
 use locked_files::Files;
@@ -125,9 +125,15 @@ pub fn rehearse<F: Files, O: Out>(
         (O.sink out.new) old new result) }
     ensures output { LeavesOutput result (O.sink out.old) (O.sink out.new) }
 {
-    let images = read_images(alloc, files, config)?;
-    let device_list = read_text(alloc, files, device_list)?;
-    match rehearse_images(alloc, &images, order, &device_list, &what, out) {
+    let sources = read_sources(alloc, files, config, device_list)?;
+    match rehearse_images(
+        alloc,
+        &sources.images,
+        order,
+        &sources.device_list,
+        &what,
+        out,
+    ) {
         Ok(_) => Ok(true),
         Err(error) => Err(refusal_of(error, what)),
     }

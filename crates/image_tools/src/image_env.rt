@@ -1,0 +1,21 @@
+//! The environment of an image.
+ghost use Rattle.std.specs.Option.{option_copied};
+ghost use Rattle.image_tools.specs.PrintingImages.{Finds, environment_in};
+
+use crate::error::ToolError;
+use envimage::{ByteOrder, load};
+use envtools::Env;
+use std::alloc::Global;
+
+/// The environment of an image, or of the current copy of a pair. Errors: `Image`, `Memory`.
+pub fn env_of_image(
+    alloc: Global,
+    first: &[u8],
+    second: Option<&[u8]>,
+    order: ByteOrder,
+) -> Result<Env, ToolError>
+    ensures { Finds (environment_in order first.now (option_copied second.entry)) result }
+{
+    let loaded = load(first, second, order)?;
+    Ok(Env::from_checked(alloc, loaded.body)?)
+}
