@@ -1,10 +1,11 @@
 //! The image of a list of variables.
-ghost use Rattle.std.specs.Prelude.{◌≡◌, ◌+◌, ◌<◌, ◌-◌, ◌^◌, min, ◌++◌, ◌↔◌, length, map, replicate, true, false, OnOk, IfOk, IfErr, Err};
+ghost use Rattle.std.specs.Prelude.{◌≡◌, ◌+◌, ◌<◌, ◌≤◌, ◌-◌, ◌^◌, min, ◌++◌, ◌↔◌, length, drop, map, replicate, true, false, OnOk, IfOk, IfErr, Err};
 ghost use Rattle.std.specs.List.{flat_map, AllByRecursion};
+ghost use Rattle.envimage.specs.Crc.{crc};
 ghost use Rattle.envimage.specs.Data.{entry, IsVariable};
 ghost use Rattle.envimage.specs.Entries.{pair_at};
 ghost use Rattle.envimage.specs.Image.{stored_bytes};
-ghost use Rattle.envimage.specs.Encoding.{is_image_size, needed, data_bytes, image_of, ReadsBack, IsEncodeRefusal};
+ghost use Rattle.envimage.specs.Encoding.{is_image_size, header_len, needed, data_bytes, with_header, image_of, ReadsBack, IsEncodeRefusal};
 
 use crate::crc::crc32;
 use crate::image::{ByteOrder, COPY_HEADER, ImageError, SINGLE_HEADER, is_size};
@@ -31,6 +32,9 @@ const DATA_END: u8 = 0;
 
 const FILLING: u8 = 0;
 
+/// What stands in the place of the checksum until the rest of an image is there.
+const NO_CHECKSUM: [u8; 4] = [0; 4];
+
 fn push_entry(out: &mut Vec<u8>, name: &[u8], value: &[u8]) -> Result<(), AllocError>
     ensures { OnOk result (out.new.items ≡ out.old.items ++ entry (name.now, value.now)) }
 {
@@ -50,22 +54,25 @@ fn push_zeros(out: &mut Vec<u8>, count: usize) -> Result<(), AllocError>
     Ok(())
 }
 
-/// The entries of the pairs, a NUL, and zero bytes, in memory that has room for `size` bytes at once.
-fn data_of(
-    alloc: Global,
-    pairs: &[(&[u8], &[u8])],
-    filling: usize,
-    size: usize,
-) -> Result<Vec<u8>, AllocError>
-    ensures { IfOk result (λ v. v.items ≡ data_bytes (map pair_at pairs.now) filling) }
+/// Adds the entries of the pairs.
+fn push_entries(out: &mut Vec<u8>, pairs: &[(&[u8], &[u8])]) -> Result<(), AllocError>
+    ensures { OnOk result
+        (out.new.items ≡ out.old.items ++ flat_map entry (map pair_at pairs.now)) }
 {
-    let mut out = Vec::with_capacity(alloc, size)?;
     for (name, value) in pairs {
-        push_entry(&mut out, name, value)?;
+        push_entry(out, name, value)?;
     }
+    Ok(())
+}
+
+/// Adds the entries of the pairs, a NUL, and zero bytes.
+fn push_data(out: &mut Vec<u8>, pairs: &[(&[u8], &[u8])], filling: usize) -> Result<(), AllocError>
+    ensures { OnOk result
+        (out.new.items ≡ out.old.items ++ data_bytes (map pair_at pairs.now) filling) }
+{
+    push_entries(out, pairs)?;
     out.push(DATA_END)?;
-    push_zeros(&mut out, filling)?;
-    Ok(out)
+    push_zeros(out, filling)
 }
 
 fn crc_bytes(crc: u32, order: ByteOrder) -> [u8; 4]
@@ -75,6 +82,48 @@ fn crc_bytes(crc: u32, order: ByteOrder) -> [u8; 4]
         ByteOrder::Little => crc.to_le_bytes(),
         ByteOrder::Big => crc.to_be_bytes(),
     }
+}
+
+/// Writes the checksum of what is behind the header into the first four bytes.
+fn seal(image: &mut [u8], header: usize, order: ByteOrder)
+    requires header { 4 ≤ header }
+    requires room { header ≤ length image.old }
+    ensures { image.new ≡ stored_bytes order (crc (drop header image.old)) ++ drop 4 image.old }
+{
+    let checksum = crc_bytes(crc32(&image[header..]), order);
+    image[..4].copy_from_slice(&checksum);
+}
+
+/// The length of the header of an image with this flag.
+fn header_of(flag: Option<u8>) -> usize
+    ensures { result ≡ header_len flag }
+{
+    match flag {
+        Some(_) => COPY_HEADER,
+        None => SINGLE_HEADER,
+    }
+}
+
+/// An image whose body is the entries of the pairs, a NUL and zero bytes, in memory for `size` bytes.
+fn sealed(
+    alloc: Global,
+    pairs: &[(&[u8], &[u8])],
+    size: usize,
+    flag: Option<u8>,
+    order: ByteOrder,
+    filling: usize,
+) -> Result<Vec<u8>, AllocError>
+    ensures { IfOk result (λ v. v.items
+        ≡ with_header order flag (data_bytes (map pair_at pairs.now) filling)) }
+{
+    let mut image = Vec::with_capacity(alloc, size)?;
+    image.extend_from_slice(&NO_CHECKSUM)?;
+    if let Some(flag) = flag {
+        image.push(flag)?;
+    }
+    push_data(&mut image, pairs, filling)?;
+    seal(&mut image, header_of(flag), order);
+    Ok(image)
 }
 
 /// Makes the image of these variables, of this size in bytes with its header: the checksum in its
@@ -96,11 +145,7 @@ pub fn encode(
     ensures ok { IfOk result (λ v. v.items ≡ image_of order flag size (map pair_at pairs.now)) }
     ensures back { IfOk result (λ v. ReadsBack order flag v.items (map pair_at pairs.now)) }
 {
-    let header = if flag.is_some() {
-        COPY_HEADER
-    } else {
-        SINGLE_HEADER
-    };
+    let header = header_of(flag);
     if !is_size(size, header + 1) {
         return Err(ImageError::WrongSize);
     }
@@ -109,12 +154,5 @@ pub fn encode(
     if used > room {
         return Err(ImageError::TooLarge);
     }
-    let body = data_of(alloc, pairs, room - used, size)?;
-    let mut image = Vec::with_capacity(alloc, size)?;
-    image.extend_from_slice(&crc_bytes(crc32(&body), order))?;
-    if let Some(flag) = flag {
-        image.push(flag)?;
-    }
-    image.extend_from_slice(&body)?;
-    Ok(image)
+    Ok(sealed(alloc, pairs, size, flag, order, room - used)?)
 }

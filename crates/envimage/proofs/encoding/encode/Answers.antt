@@ -11,6 +11,6 @@ returns-clause-back c =
     let pairs : List Pair = map pair_at c.args.pairs.now in
     let in_range : is_image_size c.args.flag c.args.size ≡ true = search rules in
     let fits : needed c.args.flag pairs ≤ c.args.size = grind (arith, common_steps) in
-    let items : c.extend_from_slice-2.new.self.items ≡ image_of c.args.order c.args.flag c.args.size pairs = search rules in
+    let items : c.in_ok-sealed.field-0.items ≡ image_of c.args.order c.args.flag c.args.size pairs = search rules in
     let P : List ℕ → Type 0 = λ image. ReadsBack c.args.order c.args.flag image pairs in
     subst P (sym items) (reads_back c.args.order c.args.flag c.args.size pairs c.requires in_range fits)
