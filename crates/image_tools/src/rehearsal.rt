@@ -2,7 +2,8 @@
 ghost use Rattle.std.specs.Prelude.{◌≢◌, Some, IfOk, IfErr};
 ghost use Rattle.std.specs.Option.{option_copied};
 ghost use Rattle.rehearse.specs.Asking.{limit_of};
-ghost use Rattle.rehearse_runs.specs.AskShown.{asking_of, wanted_of};
+ghost use Rattle.rehearse.specs.WantedShown.{wanted_slices};
+ghost use Rattle.rehearse_runs.specs.AskShown.{asking_of};
 ghost use Rattle.image_tools.specs.Given.{given};
 ghost use Rattle.image_tools.specs.Headline.{Rehearses};
 ghost use Rattle.image_tools.specs.Refusing.{Refuses};
@@ -31,7 +32,7 @@ pub fn rehearse_bytes<O: Out>(
     ask: &Ask<'_>,
     out: &mut O,
 ) -> Result<Finish, ToolError>
-    requires { limit_of (wanted_of ask.now.wanted) ≢ Some 0 }
+    requires { limit_of (wanted_slices ask.now.wanted) ≢ Some 0 }
     ensures ok { IfOk result (λ finish. Rehearses
         (given order first.now (option_copied second.entry) devices_text.now (asking_of ask.now))
         (O.sink out.old) (O.sink out.new) finish) }

@@ -17,6 +17,7 @@ pub mod Asking
 pub mod Laws
 pub mod Bounds
 pub mod CommandsShown
+pub mod WantedShown
 pub mod DeviceLaws
 pub mod DevicesShown
 pub mod PlainList

@@ -16,6 +16,7 @@ mod run_bounds;
 mod setexpr;
 mod setting;
 mod truth;
+mod wanted;
 
 pub use bounds::{Bounds, DEVICES_MAX, STEPS_MAX};
 pub use builtins::{Builtin, builtin_of};
@@ -26,3 +27,4 @@ pub use run_bounds::{RUN_DEVICES_MAX, RunBounds};
 pub use setexpr::is_bad_name;
 pub use setting::{LeftSide, Setting};
 pub use truth::verdict;
+pub use wanted::Wanted;

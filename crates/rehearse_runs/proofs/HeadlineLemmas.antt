@@ -1,11 +1,12 @@
 -- The runs that are asked for.
 use Rattle.std.proofs.Common.{◌≡◌, ◌==◌, ◌∙◌, arith, ℕ, Bool, true, false, List, [], ◌∷◌, ◌++◌, map, get_or, Option, Some, None, Result, Ok, Err, IfErr, inl, inr, refl, sym, ap, subst, append-nil}
 use Rattle.std.specs.Prelude.{IfOk, OnOk, if◌then◌else◌, codes}
+use Rattle.std.specs.Borrow.{Bor}
 use Rattle.std.specs.List.{flat_map}
 use Rattle.std.proofs.lemmas.Bool.{eqb-true}
 use Rattle.output.specs.Sink.{Sink, Wrote, BrokeOff}
 use Rattle.envtools.specs.Environment.{value_of}
-use Rattle.rehearse.specs.Asking.{Asking, AreToCome, GivesNoRun, Listed, SpellsNoRun}
+use Rattle.rehearse.specs.Asking.{Alone, Asking, AreToCome, GivesNoRun, Listed, SpellsNoRun}
 use Rattle.rehearse.specs.Listing.{outcome_digit, spelled, record_of, line}
 use Rattle.rehearse.specs.Outcomes.{Outcome, OutcomeWord, Success, Failure}
 use Rattle.rehearse.specs.State.{Text}
@@ -13,7 +14,7 @@ use Rattle.rehearse.specs.DeviceList.{Devices, listed}
 use Rattle.rehearse.specs.Runs.{Task}
 use Rattle.rehearse_machine.specs.Tasks.{task_shown, task_set}
 use Rattle.rehearse.specs.Bounds.{BoundsShown}
-use Rattle.rehearse_runs.specs.AskShown.{asking_alone, asking_by, asking_listed, asking_of}
+use Rattle.rehearse_runs.specs.AskShown.{asking_by, asking_for, asking_of}
 use Rattle.rehearse_runs.specs.Behind.{GoesOnBehind, IsNoRun, IsNotListed, RefusesWord}
 use Rattle.rehearse_runs.specs.RehearsedEnvironment.{Begins, Refuses, RefusesAsk, RefusesRuns, Rehearsed, Rehearses, WithDevices, task_asked}
 use Rattle.rehearse_runs.specs.ListingRuns.{Breaks, Lists}
@@ -21,7 +22,7 @@ use Rattle.rehearse_runs.specs.RunAlone.{BreaksAlone, WritesAlone}
 use Rattle.rehearse_runs.specs.RunsShown.{RunsShown}
 use Rattle.rehearse_runs.specs.StartWord.{digits_in}
 use Rattle.rehearse_runs.specs.declared.ask.Ask.{Ask}
-use Rattle.rehearse_runs.specs.declared.ask.Wanted.{Wanted}
+use Rattle.rehearse.specs.declared.wanted.Wanted.{Wanted}
 use Rattle.rehearse_runs.specs.declared.listing.Finish.{Finish}
 use Rattle.rehearse_runs.specs.declared.listing.Finish.TheVariants.{Done}
 use Rattle.rehearse_runs.specs.declared.rehearse_error.RehearseError.{RehearseError}
@@ -114,7 +115,7 @@ no_run_within task (Some text) limit h = h
 
 module _ (env : List (Text × Text)) (devices : Devices) (name : Text) (bounds : BoundsShown) (after : Option Text) (limit : Option ℕ) (names : List Text) where
   -- its runs do not begin
-  pub unstarted : (s : Sink) (e : RehearseError) → RefusesRuns env devices name bounds after e → Refuses (task_set env devices name bounds) (asking_listed name bounds after limit names) s s e
+  pub unstarted : (s : Sink) (e : RehearseError) → RefusesRuns env devices name bounds after e → Refuses (task_set env devices name bounds) (asking_for name bounds (Listed after limit) names) s s e
   unstarted s (DeviceList fault) h = h
   unstarted s NoSuchVariable h = (h, refl)
   unstarted s NotARun h = (record { task = h.task; task_is = h.task_is; no_run = no_run_within h.task after limit h.no_run }, refl)
@@ -128,11 +129,11 @@ module _ (env : List (Text × Text)) (devices : Devices) (name : Text) (bounds :
 
   -- it is written
   pub written : (result : Result Finish RehearseError) (old new : Sink) (r r' : RunsShown) → Begins env devices name bounds after r → IfOk result (λ finish. Lists old new r r' names limit finish)
-      → IfOk result (λ finish. Rehearses (task_set env devices name bounds) (asking_listed name bounds after limit names) old new finish)
+      → IfOk result (λ finish. Rehearses (task_set env devices name bounds) (asking_for name bounds (Listed after limit) names) old new finish)
   written (Ok finish) old new r r' b h = record { task = r.task; words = r.to_come; rehearsed = begun r b; wrote = h.wrote; finish_is = h.finish_is }
   written (Err e) old new r r' b h = tt
 
-  broken : (old new : Sink) (r r' : RunsShown) (e : RehearseError) → Begins env devices name bounds after r → Breaks old new r r' names limit e → Refuses (task_set env devices name bounds) (asking_listed name bounds after limit names) old new e
+  broken : (old new : Sink) (r r' : RunsShown) (e : RehearseError) → Begins env devices name bounds after r → Breaks old new r r' names limit e → Refuses (task_set env devices name bounds) (asking_for name bounds (Listed after limit) names) old new e
   broken old new r r' (DeviceList fault) b h = h
   broken old new r r' NoSuchVariable b h = absurd h
   broken old new r r' NotARun b h = absurd h
@@ -143,7 +144,7 @@ module _ (env : List (Text × Text)) (devices : Devices) (name : Text) (bounds :
 
   -- or it breaks off
   pub unwritten : (result : Result Finish RehearseError) (old new : Sink) (r r' : RunsShown) → Begins env devices name bounds after r → IfErr result (λ e. Breaks old new r r' names limit e)
-      → IfErr result (λ e. Refuses (task_set env devices name bounds) (asking_listed name bounds after limit names) old new e)
+      → IfErr result (λ e. Refuses (task_set env devices name bounds) (asking_for name bounds (Listed after limit) names) old new e)
   unwritten (Ok finish) old new r r' b h = tt
   unwritten (Err e) old new r r' b h = broken old new r r' e b h
 
@@ -153,7 +154,7 @@ listed_alone : (f : OutcomeWord → Text) (w : OutcomeWord) (last : Text) → f 
 listed_alone f w last = ap (λ (t : Text). t ++ last) (sym (append-nil (f w)))
 
 pub writes_alone : (env : List (Text × Text)) (devices : Devices) (name : Text) (bounds : BoundsShown) (printed : Text) (names : List Text) (old new : Sink) → task_set env devices name bounds ≡ Some (task_shown env devices name bounds)
-    → WritesAlone (task_shown env devices name bounds) printed names old new → Rehearses (task_set env devices name bounds) (asking_alone name bounds printed names) old new Done
+    → WritesAlone (task_shown env devices name bounds) printed names old new → Rehearses (task_set env devices name bounds) (asking_for name bounds (Alone printed) names) old new Done
 writes_alone env devices name bounds printed names old new set h =
     let task = task_shown env devices name bounds in
     let w = h.is_run.word in
@@ -167,7 +168,7 @@ writes_alone env devices name bounds printed names old new set h =
     }
 
 pub breaks_alone : (env : List (Text × Text)) (devices : Devices) (name : Text) (bounds : BoundsShown) (printed : Text) (names : List Text) (old new : Sink) (e : RehearseError) → task_set env devices name bounds ≡ Some (task_shown env devices name bounds)
-    → BreaksAlone (task_shown env devices name bounds) printed names old new e → Refuses (task_set env devices name bounds) (asking_alone name bounds printed names) old new e
+    → BreaksAlone (task_shown env devices name bounds) printed names old new e → Refuses (task_set env devices name bounds) (asking_for name bounds (Alone printed) names) old new e
 breaks_alone env devices name bounds printed names old new (DeviceList fault) set h = absurd h
 breaks_alone env devices name bounds printed names old new NoSuchVariable set h = absurd h
 breaks_alone env devices name bounds printed names old new NotARun set h = (record { task = task_shown env devices name bounds; task_is = set; no_run = h.0 }, h.1)
@@ -187,10 +188,10 @@ breaks_alone env devices name bounds printed names old new Failed set h = absurd
 
 -- ---- with the device list
 
-asked_as : (ask : Ask) (wanted : Wanted) → ask.wanted ≡ wanted → asking_by ask.name.now wanted (map (λ n. n.now) ask.names.now) ≡ asking_of ask
-asked_as ask wanted is = ap (λ (w : Wanted). asking_by ask.name.now w (map (λ n. n.now) ask.names.now)) (sym is)
+asked_as : (ask : Ask) (wanted : Wanted (Bor (List ℕ))) → ask.wanted ≡ wanted → asking_by ask.name.now wanted (map (λ n. n.now) ask.names.now) ≡ asking_of ask
+asked_as ask wanted is = ap (λ (w : Wanted (Bor (List ℕ))). asking_by ask.name.now w (map (λ n. n.now) ask.names.now)) (sym is)
 
-pub rehearses_with : (result : Result Finish RehearseError) (env : List (Text × Text)) (text : Text) (devices : Devices) (ask : Ask) (wanted : Wanted) (old new : Sink) → listed text ≡ Ok devices → ask.wanted ≡ wanted
+pub rehearses_with : (result : Result Finish RehearseError) (env : List (Text × Text)) (text : Text) (devices : Devices) (ask : Ask) (wanted : Wanted (Bor (List ℕ))) (old new : Sink) → listed text ≡ Ok devices → ask.wanted ≡ wanted
     → IfOk result (λ finish. Rehearses (task_asked env devices (asking_by ask.name.now wanted (map (λ n. n.now) ask.names.now))) (asking_by ask.name.now wanted (map (λ n. n.now) ask.names.now)) old new finish)
     → IfOk result (λ finish. WithDevices text (λ devices. Rehearses (task_asked env devices (asking_of ask)) (asking_of ask) old new finish))
 rehearses_with (Ok finish) env text devices ask wanted old new l is h =
@@ -208,7 +209,7 @@ refuses_with env text devices asking old new Write l h = record { devices = devi
 refuses_with env text devices asking old new Memory l (inl same) = inl same
 refuses_with env text devices asking old new Memory l (inr h) = inr (record { devices = devices; listed_as = l; so = h })
 
-pub refused_with : {T : Type 0} (result : Result T RehearseError) (env : List (Text × Text)) (text : Text) (devices : Devices) (ask : Ask) (wanted : Wanted) (old new : Sink) → listed text ≡ Ok devices → ask.wanted ≡ wanted
+pub refused_with : {T : Type 0} (result : Result T RehearseError) (env : List (Text × Text)) (text : Text) (devices : Devices) (ask : Ask) (wanted : Wanted (Bor (List ℕ))) (old new : Sink) → listed text ≡ Ok devices → ask.wanted ≡ wanted
     → IfErr result (λ e. Refuses (task_asked env devices (asking_by ask.name.now wanted (map (λ n. n.now) ask.names.now))) (asking_by ask.name.now wanted (map (λ n. n.now) ask.names.now)) old new e)
     → IfErr result (λ e. RefusesAsk env text (asking_of ask) old new e)
 refused_with (Ok x) env text devices ask wanted old new l is h = tt

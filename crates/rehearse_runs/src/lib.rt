@@ -18,7 +18,7 @@ mod searching;
 mod trying;
 mod walking;
 
-pub use ask::{Ask, Wanted};
+pub use ask::Ask;
 pub use listing::{Finish, write_listing};
 pub use record::write_record;
 pub use rehearse_error::RehearseError;

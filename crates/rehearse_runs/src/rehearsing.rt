@@ -1,11 +1,12 @@
 //! The rehearsal of an environment, from the text of its device list to the listing.
 ghost use Rattle.std.specs.Prelude.{◌≡◌, ◌≢◌, Some, IfOk, IfErr, map};
 ghost use Rattle.text.specs.TextsShown.{option_bytes};
-ghost use Rattle.rehearse.specs.Asking.{limit_of};
-ghost use Rattle.rehearse_runs.specs.AskShown.{asking_of, asking_alone, asking_listed, wanted_of};
+ghost use Rattle.rehearse.specs.Asking.{Alone, Listed, limit_of};
+ghost use Rattle.rehearse.specs.WantedShown.{wanted_slices};
+ghost use Rattle.rehearse_runs.specs.AskShown.{asking_for, asking_of};
 ghost use Rattle.rehearse_runs.specs.RehearsedEnvironment.{Begins, Refuses, RefusesAsk, RefusesRuns, Rehearses, WithDevices, task_asked};
 
-use crate::ask::{Ask, Wanted, digits_of};
+use crate::ask::{Ask, digits_of};
 use crate::listing::{Finish, write_listing};
 use crate::one_run::write_run;
 use crate::rehearse_error::RehearseError;
@@ -13,7 +14,7 @@ use crate::runs::Runs;
 use bootstore::Store;
 use envtools::Env;
 use output::Out;
-use rehearse::{Bounds, Devices, DevicesError, RunBounds};
+use rehearse::{Bounds, Devices, DevicesError, RunBounds, Wanted};
 use rehearse_machine::Rehearsal;
 use std::alloc::Global;
 
@@ -50,12 +51,12 @@ fn list_runs<'x, S: Store, O: Out>(
     out: &mut O,
 ) -> Result<Finish, RehearseError>
     requires { limit ≢ Some 0 }
-    ensures ok { let asking = asking_listed name.now bounds (option_bytes after.entry) limit
-        (map (λ n. n.now) names.now) in
+    ensures ok { let asking = asking_for name.now bounds
+        (Listed (option_bytes after.entry) limit) (map (λ n. n.now) names.now) in
         IfOk result (λ finish. Rehearses (task_asked env.now devices.now asking) asking
         (O.sink out.old) (O.sink out.new) finish) }
-    ensures err { let asking = asking_listed name.now bounds (option_bytes after.entry) limit
-        (map (λ n. n.now) names.now) in
+    ensures err { let asking = asking_for name.now bounds
+        (Listed (option_bytes after.entry) limit) (map (λ n. n.now) names.now) in
         IfErr result (λ e. Refuses (task_asked env.now devices.now asking) asking
         (O.sink out.old) (O.sink out.new) e) }
 {
@@ -74,10 +75,12 @@ fn list_one<S: Store, O: Out>(
     names: &[&[u8]],
     out: &mut O,
 ) -> Result<Finish, RehearseError>
-    ensures ok { let asking = asking_alone name.now bounds word.now (map (λ n. n.now) names.now) in
+    ensures ok { let asking = asking_for name.now bounds (Alone word.now)
+        (map (λ n. n.now) names.now) in
         IfOk result (λ finish. Rehearses (task_asked env.now devices.now asking) asking
         (O.sink out.old) (O.sink out.new) finish) }
-    ensures err { let asking = asking_alone name.now bounds word.now (map (λ n. n.now) names.now) in
+    ensures err { let asking = asking_for name.now bounds (Alone word.now)
+        (map (λ n. n.now) names.now) in
         IfErr result (λ e. Refuses (task_asked env.now devices.now asking) asking
         (O.sink out.old) (O.sink out.new) e) }
 {
@@ -100,7 +103,7 @@ pub fn rehearse_env<'x, S: Store, O: Out>(
     ask: &Ask<'x>,
     out: &mut O,
 ) -> Result<Finish, RehearseError>
-    requires { limit_of (wanted_of ask.now.wanted) ≢ Some 0 }
+    requires { limit_of (wanted_slices ask.now.wanted) ≢ Some 0 }
     ensures ok { let asking = asking_of ask.now in
         IfOk result (λ finish. WithDevices devices_text.now (λ devices.
         Rehearses (task_asked env.now devices asking) asking (O.sink out.old)

@@ -1,6 +1,7 @@
 -- What an answer of the reader of words says, and when each refusal comes. The refusals are ours.
 use Rattle.std.specs.Prelude.{◌≡◌, ◌≢◌, ◌⊎◌, List, [], map, Option, Some, None}
-use Rattle.std.specs.Prelude.{Result, Ok, Err, option_map, option_and_then, string_bytes}
+use Rattle.std.specs.Prelude.{Result, Ok, Err, option_map, option_and_then, string_bytes, String}
+use Rattle.std.specs.declared.alloc.Global.{Global}
 use Rattle.clap.specs.Words.{App, IsAmong, Text, fault_of, subcommand_of}
 use Rattle.clap.specs.declared.error.kind.ErrorKind.{ErrorKind}
 use Rattle.clap.specs.declared.error.kind.ErrorKind.TheVariants.{DisplayHelp, DisplayVersion}
@@ -14,7 +15,7 @@ use Rattle.requests.specs.declared.ask.EndingsAsk.{EndingsAsk}
 use Rattle.requests.specs.declared.called.CalledAs.{CalledAs}
 use Rattle.requests.specs.declared.ask.RehearseAsk.{RehearseAsk}
 use Rattle.requests.specs.declared.ask.UseError.{UseError}
-use Rattle.requests.specs.declared.ask.Wanted.{Wanted}
+use Rattle.rehearse.specs.declared.wanted.Wanted.{Wanted}
 use Rattle.requests.specs.declared.ask.UseError.TheVariants.{Line, NeedName, ScriptAndName}
 use Rattle.requests.specs.declared.ask.UseError.TheVariants.{HeaderNeedsOne, Memory, TooManyDevices, WordAlone}
 use Rattle.requests.specs.Asked as what
@@ -22,14 +23,14 @@ use Rattle.requests.specs.Asked.{Asked, WantedAsked, asked_of, ending, input_scr
 use Rattle.requests.specs.Asked.{scripted, rehearsing, needs_name, script_and_name}
 use Rattle.requests.specs.Asked.{header_needs_one, too_many_devices, word_alone}
 use Rattle.command_line.specs.CommandLine.{ubtool}
-use Rattle.requests.specs.WantedShown.{bounds_of, wanted_of}
+use Rattle.rehearse.specs.WantedShown.{wanted_bounds, wanted_strings}
 use Rattle.rehearse.specs.Asking.{Asking}
 
 abbrev pub asking_of : RehearseAsk → Asking
 asking_of r = record {
   variable = string_bytes r.name;
-  bounds = bounds_of r.wanted;
-  wanted = wanted_of r.wanted;
+  bounds = wanted_bounds r.wanted;
+  wanted = wanted_strings r.wanted;
   names = map string_bytes r.names.items;
 }
 
@@ -102,8 +103,8 @@ Says a (Err (Line text)) = None ≡ a
 Says a (Err Memory) = Unit {0}
 
 -- the same for the runs that `rehearse` is to list
-abbrev pub SaysWanted : Option WantedAsked → Result Wanted UseError → Type 0
-SaysWanted a (Ok wanted) = Some (Ok (bounds_of wanted, wanted_of wanted)) ≡ a
+abbrev pub SaysWanted : Option WantedAsked → Result (Wanted (String Global)) UseError → Type 0
+SaysWanted a (Ok wanted) = Some (Ok (wanted_bounds wanted, wanted_strings wanted)) ≡ a
 SaysWanted a (Err WordAlone) = Some (Err word_alone) ≡ a
 SaysWanted a (Err TooManyDevices) = Some (Err too_many_devices) ≡ a
 SaysWanted a (Err (Line text)) = None ≡ a

@@ -2,10 +2,10 @@
 ghost use Rattle.std.specs.Prelude.{◌<◌};
 ghost use Rattle.std.specs.Option.{ForSome};
 ghost use Rattle.rehearse.specs.Asking.{limit_of};
-ghost use Rattle.requests.specs.WantedShown.{wanted_of};
+ghost use Rattle.rehearse.specs.WantedShown.{wanted_strings};
 
 use envimage::ByteOrder;
-use rehearse::{Bounds, RunBounds};
+use rehearse::{RunBounds, Wanted};
 use thiserror::Error;
 
 /// The configuration that is read if a call names none.
@@ -99,38 +99,16 @@ pub enum Change {
     Input,
 }
 
-/// Which runs `rehearse` is to list. A word is written as a listing prints it: `.` is the empty
-/// one.
-#[derive(Debug, Drop)]
-pub enum Wanted {
-    /// The runs of a listing.
-    Listing {
-        /// How far each run may go.
-        bounds: Bounds,
-        /// The listing starts after the run of this word.
-        after: Option<String>,
-        /// The most records to list.
-        limit: Option<u32>,
-    },
-    /// Only the run of a word.
-    Word {
-        /// How far it may go.
-        bounds: RunBounds,
-        /// Its word.
-        word: String,
-    },
-}
-
 /// What `rehearse` is to list.
 #[derive(Debug, Drop)]
 pub struct RehearseAsk {
     /// The variable whose text is run.
     pub name: String,
     /// The runs to list.
-    pub wanted: Wanted,
+    pub wanted: Wanted<String>,
     /// The variables to list after each run, in this order; none for all.
     pub names: Vec<String>,
-    pub ghost limit_above_zero: { ForSome (limit_of (wanted_of wanted)) (λ n. 0 < n) },
+    pub ghost limit_above_zero: { ForSome (limit_of (wanted_strings wanted)) (λ n. 0 < n) },
 }
 
 /// What `endings` is to write.

@@ -5,21 +5,20 @@ ghost use Rattle.rehearse.specs.Asking.{limit_of};
 ghost use Rattle.clap.specs.Words.{Text, first_of, found_of, kind_of, rows_of, subcommand_rows_of};
 ghost use Rattle.envimage.specs.declared.image.ByteOrder.{ByteOrder as Order};
 ghost use Rattle.requests.specs.Asked.{asked_of, bounds_or, config_of, endings_asked, is_set, lock_of, number_given, number_within, order_of, print_asked, rehearse_asked, script_asked, set_asked, values_of, variable_of, wanted_asked, wanted_by};
-ghost use Rattle.requests.specs.WantedShown.{wanted_of};
+ghost use Rattle.rehearse.specs.WantedShown.{wanted_strings};
 ghost use Rattle.requests.specs.declared.ask.UseError.TheVariants.{Memory};
 ghost use Rattle.requests.specs.CommandAnswers.{Answers, IsUnread, NamesLock, Reports, Says, SaysWanted, change_of};
 
 use crate::ask::{
     Ask, Change, DEFAULT_CONFIG, DEFAULT_DEVICES, DEFAULT_RUN_DEVICES, DEFAULT_RUN_STEPS,
     DEFAULT_STATES, DEFAULT_STEPS, DEFAULT_VARIABLE, EndingsAsk, PrintAsk, RehearseAsk, UseError,
-    Wanted,
 };
 use crate::called::CalledAs;
 use clap::ArgMatches;
 use clap::error::ErrorKind;
 use command_line::{FAILURES_MAX, ubtool};
 use envimage::ByteOrder;
-use rehearse::{Bounds, RUN_DEVICES_MAX, RunBounds, STEPS_MAX};
+use rehearse::{Bounds, RUN_DEVICES_MAX, RunBounds, STEPS_MAX, Wanted};
 use std::alloc::{AllocError, Global};
 use std::convert::AsStr;
 
@@ -207,12 +206,12 @@ fn listing(
     matches: &ArgMatches<'_>,
     limit: Option<u32>,
     failures: Option<u32>,
-) -> Result<Wanted, UseError>
+) -> Result<Wanted<String>, UseError>
     requires { ForSome limit (λ n. 0 < n) }
     ensures says { SaysWanted
         (wanted_by None (first_of (codes "after") (rows_of (found_of matches.now))) limit failures
         (rows_of (found_of matches.now))) result }
-    ensures limit { IfOk result (λ w. ForSome (limit_of (wanted_of w)) (λ n. 0 < n)) }
+    ensures limit { IfOk result (λ w. ForSome (limit_of (wanted_strings w)) (λ n. 0 < n)) }
 {
     let Some(wide) = bounds_or(matches, DEFAULT_DEVICES, DEFAULT_STEPS) else {
         return Err(unread(alloc));
@@ -234,13 +233,13 @@ fn word(
     word: String,
     limit: Option<u32>,
     failures: Option<u32>,
-) -> Result<Wanted, UseError>
+) -> Result<Wanted<String>, UseError>
     requires { ForSome limit (λ n. 0 < n) }
     ensures says { SaysWanted
         (wanted_by (Some (string_bytes word))
         (first_of (codes "after") (rows_of (found_of matches.now))) limit failures
         (rows_of (found_of matches.now))) result }
-    ensures limit { IfOk result (λ w. ForSome (limit_of (wanted_of w)) (λ n. 0 < n)) }
+    ensures limit { IfOk result (λ w. ForSome (limit_of (wanted_strings w)) (λ n. 0 < n)) }
 {
     let Some(bounds) = bounds_or(matches, DEFAULT_RUN_DEVICES, DEFAULT_RUN_STEPS) else {
         return Err(unread(alloc));
@@ -261,11 +260,11 @@ fn wanted(
     matches: &ArgMatches<'_>,
     limit: Option<u32>,
     failures: Option<u32>,
-) -> Result<Wanted, UseError>
+) -> Result<Wanted<String>, UseError>
     requires { ForSome limit (λ n. 0 < n) }
     ensures says { SaysWanted (wanted_asked limit failures (rows_of (found_of matches.now)))
         result }
-    ensures limit { IfOk result (λ w. ForSome (limit_of (wanted_of w)) (λ n. 0 < n)) }
+    ensures limit { IfOk result (λ w. ForSome (limit_of (wanted_strings w)) (λ n. 0 < n)) }
 {
     match text_of(alloc, matches, "word")? {
         Some(text) => word(alloc, matches, text, limit, failures),

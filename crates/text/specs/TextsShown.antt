@@ -1,5 +1,5 @@
 -- The texts that values of the program hold.
-use Rattle.std.specs.Prelude.{ℕ, List, map, Option, Some, None}
+use Rattle.std.specs.Prelude.{ℕ, List, map, Option, Some, None, option_map}
 use Rattle.std.specs.Borrow.{Bor}
 use Rattle.std.specs.declared.alloc.Global.{Global}
 use Rattle.std.specs.declared.vec.Vec.{Vec}
@@ -16,5 +16,4 @@ option_items (Some v) = Some v.items
 
 -- the text of an optional reference
 abbrev pub option_bytes : Option (Bor (List ℕ)) → Option Text
-option_bytes None = None
-option_bytes (Some b) = Some b.now
+option_bytes = option_map (λ b. b.now)

@@ -1,5 +1,5 @@
 -- Reporting how the runs of what was read end.
-use Rattle.std.proofs.Common.{◌≡◌, ◌∙◌, ℕ, Bool, refl, sym, List, IfOk, IfErr, Option, Ok, Err}
+use Rattle.std.proofs.Common.{ap, ◌≡◌, ◌∙◌, ℕ, Bool, refl, sym, List, IfOk, IfErr, Option, Ok, Err}
 use Rattle.std.specs.Prelude.{Result, option_map, string_bytes}
 use Rattle.output.specs.Sink.{Sink}
 use Rattle.envimage.specs.declared.image.ByteOrder.{ByteOrder}
@@ -46,10 +46,11 @@ made : (order : ByteOrder) (first first' : List ℕ) (second second' : Option (L
     → given_all order first second list variable what.bounds ≡ given_all order first' second' list variable' what.bounds
 made order first first' second second' list variable variable' what e f v = rw (e, f, v) refl
 
-pub endings-given : (order : ByteOrder) (images : Images) (list : List ℕ) (what : EndingsAsk) (first : List ℕ) (second : Option (List ℕ)) (variable : List ℕ)
-    → first ≡ images.first.bytes.items → second ≡ option_map (λ copy. copy.bytes.items) images.second → variable ≡ string_bytes what.name
-    → given_all order first second list variable what.bounds ≡ endings_of order (copies images) list what
-endings-given order images list what first second variable e f v = made order _ _ _ _ list _ _ what (e ∙ first-bytes images) (f ∙ sym (image-bytes images)) v
+pub endings-given : (order : ByteOrder) (images : Images) (list : List ℕ) (what : EndingsAsk) (first : List ℕ) (second : Option (List ℕ)) (given_list : List ℕ) (variable : List ℕ)
+    → first ≡ images.first.bytes.items → second ≡ option_map (λ copy. copy.bytes.items) images.second → given_list ≡ list → variable ≡ string_bytes what.name
+    → given_all order first second given_list variable what.bounds ≡ endings_of order (copies images) list what
+endings-given order images list what first second given_list variable e f l v =
+    ap (λ (x : List ℕ). given_all order first second x variable what.bounds) l ∙ made order _ _ _ _ list _ _ what (e ∙ first-bytes images) (f ∙ sym (image-bytes images)) v
 
 pub copies-told : (g : Given) (flow : Bool) (states : ℕ) (out out' : Sink) (r : Result (Unit {0}) ToolError) → IfOk r (λ done. TellsEndings g flow states out out') → IfErr r (λ e. RefusesEndings g flow states out out' e) → TellsCopies g flow states out out' r
 copies-told g flow states out out' (Ok done) ok err = ok

@@ -24,7 +24,8 @@ use Rattle.whole_program.specs.PrintingFiles.{first_bytes}
 use Rattle.whole_program.specs.declared.images.Images.{Images}
 use Rattle.whole_program.specs.declared.read.StoredCopy.{StoredCopy}
 use Rattle.whole_program.specs.declared.sources.Sources.{Sources}
-use Rattle.whole_program.specs.RehearsingFiles.{FromFiles, ReadsSources, RehearsesCopies, RehearsesFrom, RunsOut, no_run_of, refusal_of, rehearsal_of, word_of}
+use Rattle.whole_program.specs.RehearsingFiles.{FromFiles, ReadsSources, RehearsesCopies, RehearsesFrom, RunsOut, no_run_of, refusal_of, rehearsal_of}
+use Rattle.rehearse.specs.WantedShown.{wanted_word}
 
 abbrev pub asking_made : (variable : List ℕ) → BoundsShown → Wanted → (names : List (List ℕ)) → Asking
 asking_made variable bounds wanted names = record { variable = variable; bounds = bounds; wanted = wanted; names = names }
@@ -38,7 +39,7 @@ module _ (order : ByteOrder) (config list : List ℕ) (what : RehearseAsk) (out 
   pub rehearses-found : (finish : Finish) → RehearsesCopies (rehearsal_of order (copies sources.images) sources.device_list.items what) out out' (Ok finish) → RehearsesFrom order config list what out out' x z (Ok true)
   rehearses-found finish h = (refl, from-files (λ g. (f : Finish) × Rehearses g out out' f) (finish, h))
 
-  no-run : (given : Option (String Global)) → word_of what.wanted ≡ given
+  no-run : (given : Option (String Global)) → wanted_word what.wanted ≡ given
       → FromFiles order config list what x z (λ g. Refuses g out out' (tool.Rehearsal rehearsal.NotARun)) → RehearsesFrom order config list what out out' x z (Err (no_run_of given))
   no-run None is h = h
   no-run (Some word) is h = (ap (option_map path_form) (sym is), h)
@@ -54,7 +55,7 @@ module _ (order : ByteOrder) (config list : List ℕ) (what : RehearseAsk) (out 
   rehearses-refused (tool.Rehearsal rehearsal.Write) h = absurd h
   rehearses-refused (tool.Rehearsal rehearsal.Memory) h = absurd h
   rehearses-refused (tool.Rehearsal rehearsal.Failed) h = absurd h
-  rehearses-refused (tool.Rehearsal rehearsal.NotARun) h = no-run (word_of what.wanted) refl (from-files (λ g. Refuses g out out' (tool.Rehearsal rehearsal.NotARun)) h)
+  rehearses-refused (tool.Rehearsal rehearsal.NotARun) h = no-run (wanted_word what.wanted) refl (from-files (λ g. Refuses g out out' (tool.Rehearsal rehearsal.NotARun)) h)
   rehearses-refused tool.Write h = from-files (λ g. Refuses g out out' tool.Write) h
   rehearses-refused tool.Memory h = inr (from-files (λ g. RunsOut g out out') h)
 
@@ -67,12 +68,12 @@ first-bytes images = by images.first images.second
     by x None = refl
     by x (Some y) = refl
 
-pub given-copies : (order : ByteOrder) (images : Images) (list : List ℕ) (what : RehearseAsk) (first : List ℕ) (second : Option (List ℕ)) (asking : Asking)
-    → first ≡ images.first.bytes.items → second ≡ option_map (λ copy. copy.bytes.items) images.second → asking ≡ asking_of what → given order first second list asking ≡ rehearsal_of order (copies images) list what
-given-copies order images list what first second asking e f a =
+pub given-copies : (order : ByteOrder) (images : Images) (list : List ℕ) (what : RehearseAsk) (first : List ℕ) (second : Option (List ℕ)) (given_list : List ℕ) (asking : Asking)
+    → first ≡ images.first.bytes.items → second ≡ option_map (λ copy. copy.bytes.items) images.second → given_list ≡ list → asking ≡ asking_of what → given order first second given_list asking ≡ rehearsal_of order (copies images) list what
+given-copies order images list what first second given_list asking e f l a =
     let e' = e ∙ first-bytes images in
     let f' = f ∙ sym (image-bytes images) in
-    rw (e', f', a) refl
+    rw (e', f', l, a) refl
 
 -- what is asked, from its parts
 pub same-asking : (variable variable' : List ℕ) (bounds bounds' : BoundsShown) (wanted wanted' : Wanted) (names names' : List (List ℕ)) → variable ≡ variable' → bounds ≡ bounds' → wanted ≡ wanted' → names ≡ names'

@@ -6,8 +6,7 @@ use Rattle.envimage.specs.declared.image.ByteOrder.{ByteOrder}
 use Rattle.rehearse_runs.specs.declared.listing.Finish.{Finish}
 use Rattle.requests.specs.CommandAnswers.{asking_of}
 use Rattle.requests.specs.declared.ask.RehearseAsk.{RehearseAsk}
-use Rattle.requests.specs.declared.ask.Wanted.{Wanted}
-use Rattle.requests.specs.declared.ask.Wanted.TheVariants.{Listing, Word}
+use Rattle.rehearse.specs.WantedShown.{wanted_word}
 use Rattle.image_tools.specs.Errors.{tool_fault}
 use Rattle.image_tools.specs.FileFaults.{path_form}
 use Rattle.image_tools.specs.Given.{Given, given}
@@ -31,11 +30,6 @@ abbrev pub rehearsal_of : ByteOrder → List Copy → (device_list : List ℕ) �
 rehearsal_of order found device_list what =
     given order (first_bytes found) (second_bytes found) device_list (asking_of what)
 
--- the word of the one run that is asked for, if there is one
-abbrev pub word_of : Wanted → Option (String Global)
-word_of (Listing bounds after limit) = after
-word_of (Word bounds word) = Some word
-
 -- how a refusal is reported: a variable that is not set by its name, and a word that spells no run as it was given
 abbrev pub no_run_of : Option (String Global) → Fault
 no_run_of None = Tool (tool.Rehearsal rehearsal.NotARun)
@@ -43,7 +37,7 @@ no_run_of (Some word) = NotARun (path_form word)
 
 abbrev pub refusal_of : RehearseAsk → ToolError → Fault
 refusal_of what (tool.Rehearsal rehearsal.NoSuchVariable) = NoSuchVariable (path_form what.name)
-refusal_of what (tool.Rehearsal rehearsal.NotARun) = no_run_of (word_of what.wanted)
+refusal_of what (tool.Rehearsal rehearsal.NotARun) = no_run_of (wanted_word what.wanted)
 refusal_of what error = tool_fault error
 
 -- running out of memory leaves the output as it was, or whole records of the listing
@@ -107,7 +101,7 @@ RehearsesFrom order config device_list what out out' old new (Err (NoSuchVariabl
     (name ≡ path_form what.name)
     × FromFiles order config device_list what old new (λ g. Refuses g out out' (tool.Rehearsal rehearsal.NoSuchVariable))
 RehearsesFrom order config device_list what out out' old new (Err (NotARun word)) =
-    (Some word ≡ option_map path_form (word_of what.wanted))
+    (Some word ≡ option_map path_form (wanted_word what.wanted))
     × FromFiles order config device_list what old new (λ g. Refuses g out out' (tool.Rehearsal rehearsal.NotARun))
 RehearsesFrom order config device_list what out out' old new (Err fault) = IsUnread config device_list old new fault
 

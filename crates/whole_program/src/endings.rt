@@ -6,8 +6,7 @@ ghost use Rattle.whole_program.specs.Faults.{CountsTold};
 ghost use Rattle.whole_program.specs.Images.{copies};
 ghost use Rattle.whole_program.specs.RehearsingFiles.{LeavesOutput};
 
-use crate::images::Images;
-use crate::sources::read_sources;
+use crate::sources::{Sources, read_sources};
 use envimage::ByteOrder;
 use image_tools::{Fault, RehearseError, ToolError, WordForm, endings_bytes};
 use locked_files::Files;
@@ -27,17 +26,17 @@ fn refusal_of(error: ToolError, what: EndingsAsk) -> Fault
     }
 }
 
-/// Reports how the runs of a variable of images end.
-fn endings_of_images<O: Out>(
+/// Reports how the runs of a variable of what was read end.
+fn endings_of_sources<O: Out>(
     alloc: Global,
-    images: &Images,
+    sources: &Sources,
     order: ByteOrder,
-    device_list: &[u8],
     what: &EndingsAsk,
     out: &mut O,
 ) -> Result<(), ToolError>
-    ensures { TellsCopies (endings_of order (copies images.now) device_list.now what.now)
-        what.now.flow what.now.states (O.sink out.old) (O.sink out.new) result }
+    ensures { TellsCopies (endings_of order (copies sources.now.images)
+        sources.now.device_list.items what.now) what.now.flow what.now.states (O.sink out.old)
+        (O.sink out.new) result }
 {
     let ask = image_tools::EndingsAsk {
         name: what.name.as_bytes(),
@@ -45,13 +44,14 @@ fn endings_of_images<O: Out>(
         states: what.states,
         flow: what.flow,
     };
+    let images = &sources.images;
     let second = images.second_bytes();
     endings_bytes(
         alloc,
         &images.first.bytes,
         second,
         order,
-        device_list,
+        &sources.device_list,
         &ask,
         out,
     )
@@ -76,14 +76,7 @@ pub fn endings<F: Files, O: Out>(
     ensures output { LeavesOutput result (O.sink out.old) (O.sink out.new) }
 {
     let sources = read_sources(alloc, files, config, device_list)?;
-    match endings_of_images(
-        alloc,
-        &sources.images,
-        order,
-        &sources.device_list,
-        &what,
-        out,
-    ) {
+    match endings_of_sources(alloc, &sources, order, &what, out) {
         Ok(()) => Ok(true),
         Err(error) => Err(refusal_of(error, what)),
     }

@@ -1,38 +1,24 @@
 //! `rehearse`, from files to the listing.
-ghost use Rattle.std.specs.Prelude.{◌≡◌, option_map, string_bytes};
-ghost use Rattle.text.specs.TextsShown.{option_bytes};
+ghost use Rattle.std.specs.Prelude.{◌≡◌, string_bytes};
 ghost use Rattle.locked_files.specs.Told.{IfTold};
 ghost use Rattle.whole_program.specs.Faults.{CountsTold};
 ghost use Rattle.whole_program.specs.Images.{copies};
-ghost use Rattle.whole_program.specs.RehearsingFiles.{LeavesOutput, RehearsesCopies, RehearsesFrom, refusal_of, rehearsal_of, word_of};
-ghost use Rattle.rehearse_runs.specs.AskShown as bytes;
-ghost use Rattle.requests.specs.WantedShown.{bounds_of, wanted_of};
+ghost use Rattle.whole_program.specs.RehearsingFiles.{LeavesOutput, RehearsesCopies, RehearsesFrom, refusal_of, rehearsal_of};
 
-use crate::images::Images;
 use crate::print::slices_of;
-use crate::sources::read_sources;
+use crate::sources::{Sources, read_sources};
 use envimage::ByteOrder;
 use image_tools::{Fault, Finish, RehearseError, ToolError, WordForm, rehearse_bytes};
 use locked_files::Files;
 use output::Out;
-use requests::{RehearseAsk, Wanted};
+use requests::RehearseAsk;
 use std::alloc::Global;
-
-/// The word of the one run that is asked for, if there is one.
-fn word_of(wanted: Wanted) -> Option<String>
-    ensures { result ≡ word_of wanted }
-{
-    match wanted {
-        Wanted::Listing { after, .. } => after,
-        Wanted::Word { word, .. } => Some(word),
-    }
-}
 
 /// How a refusal of a rehearsal is reported.
 fn refusal_of(error: ToolError, what: RehearseAsk) -> Fault
     ensures { result ≡ refusal_of what error }
 {
-    match (error, word_of(what.wanted)) {
+    match (error, what.wanted.into_word()) {
         (ToolError::Rehearsal(RehearseError::NoSuchVariable), _) => {
             Fault::NoSuchVariable(WordForm(what.name))
         }
@@ -43,65 +29,33 @@ fn refusal_of(error: ToolError, what: RehearseAsk) -> Fault
     }
 }
 
-/// The bytes of an optional text.
-fn bytes_if(text: &Option<String>) -> Option<&[u8]>
-    ensures { option_bytes result ≡ option_map string_bytes text.now }
-{
-    match text {
-        Some(text) => Some(text.as_bytes()),
-        None => None,
-    }
-}
-
-/// The wanted runs, as the rehearsal takes them.
-fn wanted_bytes(wanted: &Wanted) -> image_tools::Wanted<'_>
-    ensures bounds { bytes.bounds_of result ≡ bounds_of wanted.now }
-    ensures wanted { bytes.wanted_of result ≡ wanted_of wanted.now }
-{
-    match wanted {
-        Wanted::Listing {
-            bounds,
-            after,
-            limit,
-        } => image_tools::Wanted::Listing {
-            bounds: *bounds,
-            after: bytes_if(after),
-            limit: *limit,
-        },
-        Wanted::Word { bounds, word } => image_tools::Wanted::Word {
-            bounds: *bounds,
-            word: word.as_bytes(),
-        },
-    }
-}
-
-/// Rehearses a variable of images.
-fn rehearse_images<O: Out>(
+/// Rehearses a variable of what was read.
+fn rehearse_sources<O: Out>(
     alloc: Global,
-    images: &Images,
+    sources: &Sources,
     order: ByteOrder,
-    device_list: &[u8],
     what: &RehearseAsk,
     out: &mut O,
 ) -> Result<Finish, ToolError>
-    ensures { RehearsesCopies (rehearsal_of order (copies images.now) device_list.now what.now)
-        (O.sink out.old) (O.sink out.new) result }
+    ensures { RehearsesCopies (rehearsal_of order (copies sources.now.images)
+        sources.now.device_list.items what.now) (O.sink out.old) (O.sink out.new) result }
 {
     let Ok(names) = slices_of(alloc, &what.names) else {
         return Err(ToolError::Memory);
     };
     let ask = image_tools::RehearseAsk {
         name: what.name.as_bytes(),
-        wanted: wanted_bytes(&what.wanted),
+        wanted: what.wanted.as_bytes(),
         names: &names,
     };
+    let images = &sources.images;
     let second = images.second_bytes();
     rehearse_bytes(
         alloc,
         &images.first.bytes,
         second,
         order,
-        device_list,
+        &sources.device_list,
         &ask,
         out,
     )
@@ -126,14 +80,7 @@ pub fn rehearse<F: Files, O: Out>(
     ensures output { LeavesOutput result (O.sink out.old) (O.sink out.new) }
 {
     let sources = read_sources(alloc, files, config, device_list)?;
-    match rehearse_images(
-        alloc,
-        &sources.images,
-        order,
-        &sources.device_list,
-        &what,
-        out,
-    ) {
+    match rehearse_sources(alloc, &sources, order, &what, out) {
         Ok(_) => Ok(true),
         Err(error) => Err(refusal_of(error, what)),
     }

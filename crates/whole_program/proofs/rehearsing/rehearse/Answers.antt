@@ -1,8 +1,7 @@
-use Rattle.std.proofs.Common.{sym, subst, string_bytes, Ok, Err, List, ℕ}
+use Rattle.std.proofs.Common.{sym, subst, string_bytes, Err}
 use Rattle.locked_files.specs.Told.{IfTold}
 use Rattle.image_tools.specs.declared.fault.Fault.{Fault}
-use Rattle.whole_program.specs.Images.{copies}
-use Rattle.whole_program.specs.RehearsingFiles.{RehearsesCopies, RehearsesFrom, rehearsal_of}
+use Rattle.whole_program.specs.RehearsingFiles.{RehearsesFrom}
 use Rattle.whole_program.proofs.RehearseLemmas.{rehearses-found, rehearses-refused}
 use Rattle.whole_program.proofs.SourceLemmas.{IfTold-weaker}
 use Rattle.whole_program.proofs.rehearsing.rehearse.Goals as goal
@@ -12,23 +11,19 @@ returns-in-Err-clause-told g c =
     let a = g.F.Files.told c.args.files.now in
     let b = g.F.Files.told c.read_sources.new.files in
     let out = g.O.Out.sink c.args.out.now in
-    let out' = g.O.Out.sink c.rehearse_images.new.out in
+    let out' = g.O.Out.sink c.rehearse_sources.new.out in
     let config = string_bytes c.args.config in
     let list = string_bytes c.args.device_list in
     let sources = c.in_ok-sources.sources in
-    let Q : List ℕ → Type 0 = λ t. RehearsesCopies (rehearsal_of c.args.order (copies sources.images) t c.args.what) out out' (Err c.in-Err.error) in
-    let refused : Q sources.device_list.items = subst Q c.deref.ensures.value c.in-Err.ensures in
     let P : Fault → Type 0 = λ f. IfTold a b (λ old new. RehearsesFrom c.args.order config list c.args.what out out' old new (Err f)) in
     subst P (sym c.refusal_of.ensures)
-    (IfTold-weaker a b (λ x z read. rehearses-refused c.args.order config list c.args.what out out' sources x z read c.in-Err.error refused) c.in_ok-sources.ensures.told)
+    (IfTold-weaker a b (λ x z read. rehearses-refused c.args.order config list c.args.what out out' sources x z read c.in-Err.error c.in-Err.ensures) c.in_ok-sources.ensures.told)
 
 pub returns-in-Ok-clause-told : goal.returns-in-Ok-clause-told
 returns-in-Ok-clause-told g c =
     let a = g.F.Files.told c.args.files.now in
     let b = g.F.Files.told c.read_sources.new.files in
     let out = g.O.Out.sink c.args.out.now in
-    let out' = g.O.Out.sink c.rehearse_images.new.out in
+    let out' = g.O.Out.sink c.rehearse_sources.new.out in
     let sources = c.in_ok-sources.sources in
-    let Q : List ℕ → Type 0 = λ t. RehearsesCopies (rehearsal_of c.args.order (copies sources.images) t c.args.what) out out' (Ok c.in-Ok.field-0) in
-    let done : Q sources.device_list.items = subst Q c.deref.ensures.value c.in-Ok.ensures in
-    IfTold-weaker a b (λ x z read. rehearses-found c.args.order (string_bytes c.args.config) (string_bytes c.args.device_list) c.args.what out out' sources x z read c.in-Ok.field-0 done) c.in_ok-sources.ensures.told
+    IfTold-weaker a b (λ x z read. rehearses-found c.args.order (string_bytes c.args.config) (string_bytes c.args.device_list) c.args.what out out' sources x z read c.in-Ok.field-0 c.in-Ok.ensures) c.in_ok-sources.ensures.told

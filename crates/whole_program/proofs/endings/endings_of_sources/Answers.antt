@@ -3,7 +3,7 @@ use Rattle.std.specs.Option.{option_copied}
 use Rattle.image_tools.specs.Given.{Given, given_all}
 use Rattle.whole_program.specs.EndingsOfFiles.{TellsCopies}
 use Rattle.whole_program.proofs.EndingsLemmas.{copies-told, endings-given}
-use Rattle.whole_program.proofs.endings.endings_of_images.Goals as goal
+use Rattle.whole_program.proofs.endings.endings_of_sources.Goals as goal
 
 pub returns : goal.returns
 returns g c =
@@ -11,6 +11,6 @@ returns g c =
     let out' = g.O.Out.sink c.endings_bytes.new.out in
     let what = c.args.what.now in
     let second = option_copied c.second_bytes-second.result in
-    let same = endings-given c.args.order c.args.images.now c.args.device_list.now what c.deref.result.now second c.as_bytes.result.now c.deref.ensures.value c.second_bytes-second.ensures c.as_bytes.ensures.value in
-    let made = given_all c.args.order c.deref.result.now second c.args.device_list.now c.as_bytes.result.now what.bounds in
+    let same = endings-given c.args.order c.args.sources.now.images c.args.sources.now.device_list.items what c.deref.result.now second c.deref-2.result.now c.as_bytes.result.now c.deref.ensures.value c.second_bytes-second.ensures c.deref-2.ensures.value c.as_bytes.ensures.value in
+    let made = given_all c.args.order c.deref.result.now second c.deref-2.result.now c.as_bytes.result.now what.bounds in
     subst (λ (x : Given). TellsCopies x what.flow what.states out out' c.endings_bytes.result) same (copies-told made what.flow what.states out out' c.endings_bytes.result c.endings_bytes.ensures.ok c.endings_bytes.ensures.err)

@@ -4,7 +4,7 @@ use Rattle.std.specs.Option.{option_copied}
 use Rattle.image_tools.specs.Given.{Given}
 use Rattle.whole_program.specs.RehearsingFiles.{RehearsesCopies}
 use Rattle.whole_program.proofs.RehearseLemmas.{copies-rehearsed, given-copies, same-asking}
-use Rattle.whole_program.proofs.rehearsing.rehearse_images.Goals as goal
+use Rattle.whole_program.proofs.rehearsing.rehearse_sources.Goals as goal
 
 pub returns : goal.returns
 returns g c =
@@ -15,6 +15,6 @@ returns g c =
     let shown : List (List ℕ) = map (λ (n : Bor (List ℕ)). n.now) c.deref-2.result.now in
     let names : shown ≡ map string_bytes what.names.items =
     ap (map (λ (n : Bor (List ℕ)). n.now)) c.deref-2.ensures.value ∙ c.in-Ok.ensures.slices ∙ ap (map string_bytes) c.deref.ensures.value in
-    let asking = same-asking _ _ _ _ _ _ _ _ c.as_bytes.ensures.value c.wanted_bytes.ensures.bounds c.wanted_bytes.ensures.wanted names in
-    let same = given-copies c.args.order c.args.images.now c.args.device_list.now what c.deref-3.result.now second _ c.deref-3.ensures.value c.second_bytes-second.ensures asking in
+    let asking = same-asking _ _ _ _ _ _ _ _ c.as_bytes.ensures.value c.as_bytes-2.ensures.bounds c.as_bytes-2.ensures.runs names in
+    let same = given-copies c.args.order c.args.sources.now.images c.args.sources.now.device_list.items what c.deref-3.result.now second c.deref-4.result.now _ c.deref-3.ensures.value c.second_bytes-second.ensures c.deref-4.ensures.value asking in
     subst (λ (x : Given). RehearsesCopies x out out' c.rehearse_bytes.result) same (copies-rehearsed _ out out' c.rehearse_bytes.result c.rehearse_bytes.ensures.ok c.rehearse_bytes.ensures.err)
