@@ -5,9 +5,10 @@ ghost use Rattle.hushcheck_core.specs.Calls as spec;
 
 use crate::lines::push_at;
 use crate::shown::push_name;
+use hushlang::builtins::is_built_in;
 use hushlang::lexer::Lexer;
 use hushlang::token::Kind;
-use rehearse::{Devices, builtin_of};
+use rehearse::Devices;
 use std::alloc::{AllocError, Global};
 use std::marker::Model;
 
@@ -32,9 +33,7 @@ fn is_lacking(devices: Option<&Devices>, name: &[u8]) -> bool
         ≡ spec.is_lacking (option_map (λ d. d.now) devices.entry) name.now }
 {
     match devices {
-        Some(devices) => {
-            !(builtin_of(name).is_some() || devices.has(name) || devices.is_known(name))
-        }
+        Some(devices) => !(is_built_in(name) || devices.has(name) || devices.is_known(name)),
         None => false,
     }
 }

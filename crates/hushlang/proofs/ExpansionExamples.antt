@@ -4,6 +4,7 @@ use Rattle.std.proofs.Common.{refl, bytes_eq}
 use Rattle.std.specs.Fmt.{digits}
 use Rattle.hushlang.specs.Tree.{Word, Piece, Bytes, Mark, Var, Status}
 use Rattle.hushlang.specs.Expansion.{Parameters, atoms, fields, joined}
+use Rattle.hushlang.specs.Builtins.{Echo, known_builtin}
 use Rattle.hushlang.specs.KnownFields.{known_fields}
 
 -- one variable alone is set
@@ -106,3 +107,23 @@ unknown_status = refl
 known_nothing : known_fields [] ≡ Some []
 unfolding fields
 known_nothing = refl
+
+-- ---- the built-in command that such fields name
+
+-- `echo ''`
+names_echo : known_builtin ((text (codes "echo") ∷ []) ∷ (Mark ∷ []) ∷ []) ≡ Some Echo
+unfolding fields atoms
+names_echo = refl
+
+-- `load echo`: only the first field counts
+names_none : known_builtin ((text (codes "load") ∷ []) ∷ (text (codes "echo") ∷ []) ∷ []) ≡ None
+unfolding fields atoms
+names_none = refl
+
+-- `echo $?`: no field is known
+names_unknown : known_builtin ((text (codes "echo") ∷ []) ∷ (Status ∷ []) ∷ []) ≡ None
+names_unknown = refl
+
+no_field_names : known_builtin [] ≡ None
+unfolding fields
+no_field_names = refl

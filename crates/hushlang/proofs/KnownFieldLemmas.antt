@@ -1,6 +1,7 @@
 -- Words that nothing can change have the same fields always.
 use Rattle.std.proofs.Common.{◌≡◌, ◌∙◌, refl, sym, ap, ℕ, Bool, true, false, ◌&&◌, cond, List, [], ◌∷◌, ◌++◌, map, nat_le, Option, Some, None, option_map, IfSome, if◌then◌else◌, Bor, Vec, Global}
 use Rattle.std.specs.List.{flat_map, filter, list_all}
+use Rattle.std.proofs.lemmas.Bool.{and_parts}
 use Rattle.std.proofs.lemmas.List.Folds.{list_all-map}
 use Rattle.std.specs.Option.{option_copied}
 use Rattle.std.specs.declared.rc.Rc.{Rc}
@@ -10,17 +11,13 @@ use Rattle.hushlang.specs.TreesShown as view
 use Rattle.hushlang.specs.declared.tree.Word.{Word as Code}
 use Rattle.hushlang.specs.declared.tree.Piece.{Piece as CodePiece}
 use Rattle.hushlang.specs.Expansion.{Atom, Parameters, atoms_of_piece, atoms, cut, is_field, kept_bytes, fields_of_word, fields, size, most_bytes}
-use Rattle.hushlang.specs.KnownFields.{is_constant, is_constant_word, are_constant, nothing_set, known_fields, AreFieldsByAll}
+use Rattle.hushlang.specs.KnownFields.{is_constant, is_constant_word, are_constant, nothing_set, known_fields}
 
 pub all_pieces : (pieces : List CodePiece) → list_all is_constant (map view.piece pieces) ≡ list_all (λ p. is_constant (view.piece p)) pieces
 all_pieces pieces = list_all-map is_constant view.piece pieces
 
 pub all_words : (words : List Code) → list_all is_constant_word (map view.word words) ≡ list_all (λ w. is_constant_word (view.word w)) words
 all_words words = list_all-map is_constant_word view.word words
-
-pub both : (a b : Bool) → (a && b) ≡ true → (a ≡ true) × (b ≡ true)
-both true b e = (refl, e)
-both false b e = absurd (cc)
 
 same_atoms : (p : Parameters) (piece : Piece) → is_constant piece ≡ true → atoms_of_piece p piece ≡ atoms_of_piece nothing_set piece
 same_atoms p (tree.Bytes bytes) e = refl
@@ -31,14 +28,14 @@ same_atoms p tree.Status e = absurd (cc)
 same_word : (p : Parameters) (word : Word) → is_constant_word word ≡ true → flat_map (atoms_of_piece p) word ≡ flat_map (atoms_of_piece nothing_set) word
 same_word p [] e = refl
 same_word p (piece ∷ word) e =
-    let parts = both (is_constant piece) (is_constant_word word) e in
+    let parts = and_parts (is_constant piece) (is_constant_word word) e in
     ap (λ a. a ++ flat_map (atoms_of_piece p) word) (same_atoms p piece parts.0) ∙ ap (λ a. atoms_of_piece nothing_set piece ++ a) (same_word p word parts.1)
 
 same_fields : (p : Parameters) (words : List Word) → are_constant words ≡ true → flat_map (fields_of_word p) words ≡ flat_map (fields_of_word nothing_set) words
 unfolding atoms
 same_fields p [] e = refl
 same_fields p (word ∷ words) e =
-    let parts = both (is_constant_word word) (are_constant words) e in
+    let parts = and_parts (is_constant_word word) (are_constant words) e in
     ap (λ a. map kept_bytes (filter is_field (cut a)) ++ flat_map (fields_of_word p) words) (same_word p word parts.0)
     ∙ ap (λ a. fields_of_word nothing_set word ++ a) (same_fields p words parts.1)
 
@@ -50,10 +47,12 @@ if_known : (b : Bool) (all found : List (List ℕ)) → (if b then Some all else
 if_known true all found e = (refl, cc)
 if_known false all found e = absurd (cc)
 
-pub fields_by_all : AreFieldsByAll
+-- fields that are known are those by any variables and status
+pub fields_by_all : (p : Parameters) (words : List Word) (found : List (List ℕ)) → known_fields words ≡ Some found
+    → (found ≡ fields p words) × (nat_le (size found) most_bytes ≡ true)
 fields_by_all p words found e =
     let known = if_known (are_constant words && nat_le (size (fields nothing_set words)) most_bytes) (fields nothing_set words) found e in
-    let parts = both (are_constant words) (nat_le (size (fields nothing_set words)) most_bytes) known.0 in
+    let parts = and_parts (are_constant words) (nat_le (size (fields nothing_set words)) most_bytes) known.0 in
     (sym known.1 ∙ sym (constant_fields p words parts.0), ap (λ f. nat_le (size f) most_bytes) (sym known.1) ∙ parts.1)
 
 pub by_any : {A : Type 0} (shown : A → List (List ℕ)) (p : Parameters) (words : List Word) (o : Option A) → option_map shown o ≡ known_fields words → IfSome o (λ a. shown a ≡ fields p words)

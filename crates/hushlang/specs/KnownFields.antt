@@ -1,5 +1,5 @@
 -- Fields that are known before a command runs. Ours.
-use Rattle.std.specs.Prelude.{◌≡◌, ℕ, Bool, true, false, ◌&&◌, List, nat_le, if◌then◌else◌, Option, Some, None}
+use Rattle.std.specs.Prelude.{ℕ, Bool, true, false, ◌&&◌, List, nat_le, if◌then◌else◌, Option, Some, None}
 use Rattle.std.specs.List.{list_all}
 use Rattle.hushlang.specs.Tree as tree
 use Rattle.hushlang.specs.Tree.{Word, Piece}
@@ -27,8 +27,3 @@ abbrev pub known_fields : List Word → Option (List (List ℕ))
 known_fields words =
     if are_constant words && nat_le (size (fields nothing_set words)) most_bytes
     then Some (fields nothing_set words) else None
-
--- fields that are known are those by any variables and status
-abbrev pub AreFieldsByAll : Type 0
-AreFieldsByAll = (p : Parameters) (words : List Word) (found : List (List ℕ)) → known_fields words ≡ Some found
-    → (found ≡ fields p words) × (nat_le (size found) most_bytes ≡ true)

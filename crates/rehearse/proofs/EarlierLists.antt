@@ -8,7 +8,7 @@ use Rattle.std.specs.Str.{bytes_eq}
 use Rattle.text.specs.Lines.{numbered_lines}
 use Rattle.text.specs.Words.{is_equals}
 use Rattle.rehearse.specs.Verdict.{Text}
-use Rattle.rehearse.specs.Builtins.{is_built_in}
+use Rattle.hushlang.specs.Builtins.{is_built_in}
 use Rattle.rehearse.specs.Commands.{sets_in}
 use Rattle.rehearse.specs.DeviceList.{Setting, Effect, Devices, DeviceLine, is_variable, variable, left_side, setting, settings, named, call_of, line_of, line_with, begins_comment, device_words, joint, joint_behind, joined_in, changed_at, only, with_line}
 use Rattle.rehearse.specs.KnownList.{known_heading}

@@ -8,9 +8,10 @@ use Rattle.rehearse.specs.Outcomes.{OutcomeWord}
 use Rattle.rehearse.specs.State.{Text, Variables, State, get, start, answer_in, parameters_in}
 use Rattle.std.specs.List.{list_any}
 use Rattle.std.specs.Str.{bytes_eq}
-use Rattle.rehearse.specs.Builtins.{Builtin, Known, known_of, builtin_of}
+use Rattle.hushlang.specs.Builtins.{Builtin, builtin_of}
+use Rattle.rehearse.specs.KnownCommands.{Known, known_of}
 use Rattle.rehearse.specs.Computed.{Computed, computes}
-use Rattle.rehearse.specs.Commands.{Deed, ChangesVariables, WritesText, RunsTexts, Tests, Exits, Called, BuiltIn, deed_of, carried, listed_by, asks_device, called_by}
+use Rattle.rehearse.specs.Commands.{Deed, ChangesVariables, WritesText, RunsTexts, Tests, Exits, Called, BuiltIn, deed_of, carried, listed_by, other_called, asks_device, called_by}
 use Rattle.rehearse.specs.Verdict.{verdict}
 use Rattle.rehearse.specs.DeviceList.{Devices, computed_by}
 use Rattle.rehearse.specs.Execution.{Limits, Answer, Normal, Ended, CutDevices, CutSteps, Request, tell_or_take, device, go_on, set_status, status_when, goes, begin, command, simple, sized, turns, for_each, text_end, run_text, run_all, exec_script, exec_list, exec_joined, exec_command, exec_arms, exec}
@@ -36,13 +37,6 @@ module _ (here there : Limits) (f g : Script → Does) (same : f ≡ g) where
 -- the bounds, with these device commands
 abbrev limits : Limits → Devices → Limits
 limits bounds devices = record bounds { devices = devices }
-
--- what a command is that is not built in: its call is computed, or it goes by the list
-abbrev pub other_called : Devices → (name : Text) → (words : List Text) → Called
-other_called devices name words = elim (computed_by devices name words) [
-  | Some computed ↦ BuiltIn (ChangesVariables (λ ws. carried computed))
-  | None ↦ listed_by devices name words
-]
 
 -- in each script, a command that is not built in does what is given
 abbrev pub AreGiven : Limits → Devices → Others → Type 0
@@ -79,7 +73,7 @@ chosen devices name words o b = elim o [
   | None ↦ elim b [ Some builtin ↦ BuiltIn (deed_of builtin) | None ↦ listed_by devices name words ]
 ]
 
-called_apart : (devices : Devices) (name : Text) (words : List Text)
+pub called_apart : (devices : Devices) (name : Text) (words : List Text)
     → called_by devices name words ≡ elim (builtin_of name) [ Some builtin ↦ BuiltIn (deed_of builtin) | None ↦ other_called devices name words ]
 called_apart devices name words = by (builtin_of name) refl
   where

@@ -11,7 +11,8 @@ use Rattle.std.specs.Str.{bytes_eq}
 use Rattle.text.specs.Lines.{numbered_lines}
 use Rattle.text.specs.Words.{is_equals}
 use Rattle.rehearse.specs.Verdict.{Text}
-use Rattle.rehearse.specs.Builtins.{known_of, is_built_in}
+use Rattle.hushlang.specs.Builtins.{is_built_in}
+use Rattle.rehearse.specs.KnownCommands.{known_of}
 use Rattle.rehearse.specs.DeviceList.{Effect, Effects, Devices, Setting, DeviceLine, Heading, effect_in, effect_at, effect_of, joint, joint_behind, joined_behind, joined_by, changed_at, only, device_words, begins_comment, named, call_of, steady_of, heading_of, settings, setting, left_side, line_with, line_of, known_named, with_known, is_steady_test, after_known, after_words, after_line, listed_lines}
 use Rattle.rehearse.specs.KnownList.{known_heading, known_words, known_line, known_lines, KnownListsStand, KnownListsAsk}
 use Rattle.rehearse.specs.declared.devices_error.DevicesError.{DevicesError}

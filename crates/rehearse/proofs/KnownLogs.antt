@@ -4,7 +4,7 @@ use Rattle.std.proofs.lemmas.List.Elements.{filter-append}
 use Rattle.hushlang.specs.Tree as tree
 use Rattle.hushlang.specs.Tree.{Script, AndOr, Joined, Command, Arms}
 use Rattle.hushlang.specs.Expansion.{fields, joined, size, most_bytes}
-use Rattle.rehearse.specs.Builtins.{Builtin, builtin_of}
+use Rattle.hushlang.specs.Builtins.{Builtin, builtin_of}
 use Rattle.rehearse.specs.Computed.{Computed}
 use Rattle.rehearse.specs.Commands.{Called, ChangesVariables, WritesText, RunsTexts, Tests, Exits, BuiltIn, Device, NoCommand, called_by, carried, deed_of, sets_in, asks_device, exit_status}
 use Rattle.rehearse.specs.DeviceList.{Effect, computed_by, effect_of}

@@ -8,7 +8,7 @@ use Rattle.std.specs.Str.{bytes_eq}
 use Rattle.text.specs.Lines.{numbered_lines}
 use Rattle.text.specs.Words.{is_blank, is_space, cut_front, onto_line, cut_behind, trimmed}
 use Rattle.rehearse.specs.Verdict.{Text}
-use Rattle.rehearse.specs.Builtins.{is_built_in}
+use Rattle.hushlang.specs.Builtins.{is_built_in}
 use Rattle.rehearse.specs.DeviceList.{Effects, Devices, joined_in, only, with_line}
 use Rattle.rehearse.specs.CallList.{call_words, call_line, call_lines}
 use Rattle.rehearse.specs.DeviceLaws.{quiet}

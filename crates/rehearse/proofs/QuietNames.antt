@@ -6,7 +6,7 @@ use Rattle.std.proofs.lemmas.Bool.{and_parts}
 use Rattle.std.proofs.lemmas.Bool.Decides.{nat_tests}
 use Rattle.text.specs.Lines.{numbered_lines}
 use Rattle.rehearse.specs.Verdict.{Text}
-use Rattle.rehearse.specs.Builtins.{is_built_in}
+use Rattle.hushlang.specs.Builtins.{is_built_in}
 use Rattle.rehearse.specs.DeviceList.{Effect, Effects, Devices, effect_in, effect_of, joint, joined_in, only, device_words, begins_comment, with_line, after_words, after_line, listed_lines}
 use Rattle.rehearse.specs.DeviceLaws.{quiet, is_name_alone, NamesAreQuiet}
 use Rattle.rehearse.specs.declared.devices_error.DevicesError.{DevicesError}

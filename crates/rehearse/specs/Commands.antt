@@ -4,7 +4,7 @@ use Rattle.std.specs.Prelude.{ℕ, ◌+◌, ◌-◌, ◌*◌, nat_le, nat_eq, Bo
 use Rattle.std.specs.List.{join_with_byte, list_all}
 use Rattle.std.specs.Fmt.{digits}
 use Rattle.text.specs.Bytes as ascii
-use Rattle.rehearse.specs.Builtins.{Builtin, SetEnv, Run, Test, Echo, True, False, Leave, builtin_of}
+use Rattle.hushlang.specs.Builtins.{Builtin, SetEnv, Run, Test, Echo, True, False, Leave, builtin_of}
 use Rattle.rehearse.specs.Computed.{Computed, Gives, Exists, Sets, Deletes, SetsNumber}
 use Rattle.rehearse.specs.DeviceList.{LeftSide, Variable, WordAt, LastWord, Setting, Effect, Devices, effect_of, computed_by}
 use Rattle.rehearse.specs.State.{Text, Variables, Memory, get, with_value, without}
@@ -139,4 +139,12 @@ called_by devices name words =
     elim (computed_by devices name words) [
       | Some computed ↦ BuiltIn (ChangesVariables (λ ws. carried computed))
       | None ↦ called_by_name devices name words
+    ]
+
+-- what a call is that is not of a built-in command: it is computed, or it goes by the list
+abbrev pub other_called : Devices → (name : Text) → (words : List Text) → Called
+other_called devices name words =
+    elim (computed_by devices name words) [
+      | Some computed ↦ BuiltIn (ChangesVariables (λ ws. carried computed))
+      | None ↦ listed_by devices name words
     ]

@@ -8,7 +8,7 @@ use Rattle.std.specs.List.{list_all}
 use Rattle.std.specs.Map.{lookup}
 use Rattle.text.specs.Bytes as ascii
 use Rattle.rehearse.specs.Verdict.{Text}
-use Rattle.rehearse.specs.Builtins.{Known, Env, Itest, SetExpr}
+use Rattle.rehearse.specs.KnownCommands.{Known, Env, Itest, SetExpr}
 use Rattle.rehearse.specs.Hexadecimal.{in_word, hexadecimal}
 use Rattle.rehearse.specs.State.{is_bad_name}
 

@@ -8,7 +8,8 @@ use Rattle.text.specs.Lines.{numbered_lines}
 use Rattle.text.specs.Numbers.{digit_of, value_in}
 use Rattle.text.specs.Words.{is_equals, is_space, trimmed}
 use Rattle.rehearse.specs.Verdict.{Text}
-use Rattle.rehearse.specs.Builtins.{is_built_in, known_of}
+use Rattle.hushlang.specs.Builtins.{is_built_in}
+use Rattle.rehearse.specs.KnownCommands.{known_of}
 use Rattle.rehearse.specs.Computed.{Computed, computes}
 use Rattle.rehearse.specs.declared.devices_error.DevicesError.{DevicesError}
 use Rattle.rehearse.specs.declared.devices_error.DevicesError.TheVariants.{BadLine, BuiltIn}

@@ -7,7 +7,7 @@ use Rattle.text.specs.Bytes as ascii
 use Rattle.text.specs.Lines.{numbered_lines}
 use Rattle.text.specs.Words.{is_equals}
 use Rattle.rehearse.specs.Verdict.{Text}
-use Rattle.rehearse.specs.Builtins.{is_built_in}
+use Rattle.hushlang.specs.Builtins.{is_built_in}
 use Rattle.rehearse.specs.Commands.{sets_in}
 use Rattle.rehearse.specs.DeviceList.{Variable, Setting, Effect, Effects, effect_in, effect_of, only, device_words, is_variable, begins_comment, changed_at, listed}
 use Rattle.rehearse.specs.declared.devices_error.DevicesError.{DevicesError}

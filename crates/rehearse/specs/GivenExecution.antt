@@ -6,7 +6,7 @@ use Rattle.hushlang.specs.Tree.{Script, AndOr, Joined, Command, Arms}
 use Rattle.hushlang.specs.Expansion.{fields}
 use Rattle.rehearse.specs.Outcomes.{OutcomeWord}
 use Rattle.rehearse.specs.State.{Text, Variables, State, start, parameters_in}
-use Rattle.rehearse.specs.Builtins.{builtin_of}
+use Rattle.hushlang.specs.Builtins.{builtin_of}
 use Rattle.rehearse.specs.Verdict.{verdict}
 use Rattle.rehearse.specs.Commands.{Deed, Tests, BuiltIn, deed_of, asks_device}
 use Rattle.rehearse.specs.DeviceLaws.{quiet}

@@ -3,8 +3,8 @@ pub mod Trees
 pub mod State
 pub mod DeviceList
 pub mod Verdict
-pub mod Builtins
-pub mod BuiltinsShown
+pub mod KnownCommands
+pub mod KnownCommandsShown
 pub mod Hexadecimal
 pub mod Computed
 pub mod ComputedShown

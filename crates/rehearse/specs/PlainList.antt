@@ -6,7 +6,7 @@ use Rattle.text.specs.Bytes as ascii
 use Rattle.text.specs.Lines.{numbered_lines}
 use Rattle.text.specs.Words.{is_space, trimmed}
 use Rattle.rehearse.specs.Verdict.{Text}
-use Rattle.rehearse.specs.Builtins.{is_built_in}
+use Rattle.hushlang.specs.Builtins.{is_built_in}
 use Rattle.rehearse.specs.DeviceList.{only, listed}
 use Rattle.rehearse.specs.DeviceLaws.{quiet}
 use Rattle.rehearse.specs.declared.devices_error.DevicesError.{DevicesError}

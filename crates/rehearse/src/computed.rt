@@ -2,14 +2,14 @@
 ghost use Rattle.std.specs.Prelude.{◌≡◌, ◌==◌, option_map};
 ghost use Rattle.std.specs.List.{list_all};
 ghost use Rattle.text.specs.Bytes as ascii;
-ghost use Rattle.rehearse.specs.BuiltinsShown.{known_shown};
+ghost use Rattle.rehearse.specs.KnownCommandsShown.{known_shown};
 ghost use Rattle.rehearse.specs.Computed as says;
 ghost use Rattle.rehearse.specs.ComputedShown.{computed_shown, call_shown};
 ghost use Rattle.rehearse.specs.TextsShown.{texts};
 
-use crate::builtins::Known;
 use crate::hexadecimal::hexadecimal;
 use crate::itest::itest;
+use crate::known_commands::Known;
 use crate::setexpr::setexpr;
 
 /// What a computed call comes to.

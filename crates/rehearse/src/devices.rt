@@ -6,13 +6,14 @@ ghost use Rattle.std.specs.List.{list_any};
 ghost use Rattle.std.specs.Str.{bytes_eq};
 ghost use Rattle.rehearse.specs.TextsShown.{texts};
 
-use crate::builtins::{is_built_in, known_of};
 use crate::computed::{Computed, computes};
 use crate::device_line::{
     begins_comment, device_words, has_nul, heading_of, is_steady_test, known_named,
 };
 use crate::devices_error::DevicesError;
+use crate::known_commands::known_of;
 use crate::setting::{Setting, settings};
+use hushlang::builtins::is_built_in;
 use indexmap::IndexMap;
 use std::alloc::{AllocError, Global};
 use std::marker::Model;

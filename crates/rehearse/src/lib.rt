@@ -2,7 +2,6 @@
 #![tactic(auto)]
 
 mod bounds;
-mod builtins;
 mod computed;
 pub mod device_laws;
 mod device_line;
@@ -10,6 +9,7 @@ mod devices;
 mod devices_error;
 mod hexadecimal;
 mod itest;
+mod known_commands;
 pub mod laws;
 mod number;
 mod run_bounds;
@@ -19,7 +19,6 @@ mod truth;
 mod wanted;
 
 pub use bounds::{Bounds, DEVICES_MAX, STEPS_MAX};
-pub use builtins::{Builtin, builtin_of};
 pub use computed::Computed;
 pub use devices::{Devices, Effect};
 pub use devices_error::DevicesError;

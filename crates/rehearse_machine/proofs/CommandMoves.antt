@@ -13,11 +13,13 @@ use Rattle.hushlang.specs.Tree.{Script}
 use Rattle.rehearse.specs.Outcomes.{OutcomeWord}
 use Rattle.rehearse.specs.State.{Text, Variables, State, with_value, without}
 use Rattle.bootstore.specs.StoredState.{state_at}
-use Rattle.rehearse.specs.Commands.{Called, ChangesVariables, WritesText, Tests, BuiltIn, Device, carried, called_by_name, called_by, asks_device, is_bad_name, setenv, variables_changed, text_written, is_digit, decimal_from}
+use Rattle.hushlang.specs.Builtins.{Builtin, builtin_named, builtin_of}
+use Rattle.rehearse.proofs.GivenRuns.{called_apart}
+use Rattle.rehearse.specs.Commands.{Called, ChangesVariables, WritesText, Tests, BuiltIn, Device, NoCommand, carried, deed_of, listed_by, other_called, asks_device, is_bad_name, setenv, variables_changed, text_written, is_digit, decimal_from}
 use Rattle.rehearse.specs.Execution.{Limits, Request, test_effect, remember, set_status, status_when}
 use Rattle.rehearse.specs.Verdict.{verdict}
 use Rattle.rehearse.specs.Computed.{Computed}
-use Rattle.rehearse.specs.DeviceList.{Effect, Devices, computed_by}
+use Rattle.rehearse.specs.DeviceList.{Effect, Devices, computed_by, effect_of}
 use Rattle.bootstore.proofs.StateLemmas.{stored_changes, stored_deletions}
 use Rattle.rehearse_machine.specs.declared.ask.Step.{Step}
 use Rattle.rehearse_machine.specs.declared.ask.Step.TheVariants as steps
@@ -119,17 +121,26 @@ module _ (limits : Limits) (old new : Record) (name : Text) (words : List Text) 
   )
   test_comes (Err x) b effect e d t h = tt
 
--- a call that is computed, and one that is not
-pub called_computed : (devices : Devices) (name : Text) (words : List Text) (computed : Computed) → computed_by devices name words ≡ Some computed → called_by devices name words ≡ BuiltIn (ChangesVariables (λ ws. carried computed))
-called_computed devices name words computed e =
-    ap (λ (o : Option Computed). let c : Called = elim o [ Some computed ↦ BuiltIn (ChangesVariables (λ ws. carried computed)) | None ↦ called_by_name devices name words ] in c) e
+-- a call that is computed, and one that goes by the list
+pub other_computed : (devices : Devices) (name : Text) (words : List Text) (computed : Computed) → computed_by devices name words ≡ Some computed → other_called devices name words ≡ BuiltIn (ChangesVariables (λ ws. carried computed))
+other_computed devices name words computed e =
+    ap (λ (o : Option Computed). let c : Called = elim o [ Some computed ↦ BuiltIn (ChangesVariables (λ ws. carried computed)) | None ↦ listed_by devices name words ] in c) e
 
-pub called_named : (devices : Devices) (name : Text) (words : List Text) → computed_by devices name words ≡ None → called_by devices name words ≡ called_by_name devices name words
-called_named devices name words e =
-    ap (λ (o : Option Computed). let c : Called = elim o [ Some computed ↦ BuiltIn (ChangesVariables (λ ws. carried computed)) | None ↦ called_by_name devices name words ] in c) e
+pub other_listed : (devices : Devices) (name : Text) (words : List Text) (o : Option Effect) → computed_by devices name words ≡ None → o ≡ effect_of devices name words → other_called devices name words ≡ elim o [ Some effect ↦ Device effect | None ↦ NoCommand ]
+other_listed devices name words o none is =
+    ap (λ (o : Option Computed). let c : Called = elim o [ Some computed ↦ BuiltIn (ChangesVariables (λ ws. carried computed)) | None ↦ listed_by devices name words ] in c) none
+    ∙ ap (λ (o : Option Effect). let c : Called = elim o [ Some effect ↦ Device effect | None ↦ NoCommand ] in c) (sym is)
 
-pub fields_named : (limits : Limits) (fields : List (Vec ℕ Global)) (name : Vec ℕ Global) (rest : List (Vec ℕ Global)) (script : Script) (ps : List RunningFrame) (s : State) → fields ≡ name ∷ rest → place_called limits (called_by limits.devices name.items (bytes_of_words rest)) name.items (bytes_of_words rest) script ps s ≡ place_fields limits (bytes_of_words fields) script ps s
-fields_named limits fields name rest script ps s e = sym (ap (λ (x : List (Vec ℕ Global)). place_fields limits (bytes_of_words x) script ps s) e)
+-- what the built-in command of the first field does, or the call if it is of none, the fields do
+pub fields_called : (limits : Limits) (fields : List (Vec ℕ Global)) (name : Vec ℕ Global) (rest : List (Vec ℕ Global)) (o : Option Builtin) (script : Script) (r : Result Step StoreError) (old new : Record) → fields ≡ name ∷ rest → o ≡ builtin_named (bytes_of_words fields)
+    → Comes r old new (place_called limits (elim o [ Some builtin ↦ BuiltIn (deed_of builtin) | None ↦ other_called limits.devices name.items (bytes_of_words rest) ]) name.items (bytes_of_words rest) script old.present.frames)
+    → Comes r old new (place_fields limits (bytes_of_words fields) script old.present.frames)
+fields_called limits fields name rest o script r old new all is h =
+    let words = bytes_of_words rest in
+    let named : o ≡ builtin_of name.items = is ∙ ap (λ (x : List (Vec ℕ Global)). builtin_named (bytes_of_words x)) all in
+    let called = ap (λ (o : Option Builtin). let c : Called = elim o [ Some builtin ↦ BuiltIn (deed_of builtin) | None ↦ other_called limits.devices name.items words ] in c) named ∙ sym (called_apart limits.devices name.items words) in
+    subst (λ (x : List (Vec ℕ Global)). Comes r old new (place_fields limits (bytes_of_words x) script old.present.frames)) (sym all)
+    (subst (λ (x : Called). Comes r old new (place_called limits x name.items words script old.present.frames)) called h)
 
 pub empty_rest : (ys : List (Vec ℕ Global)) → true ≡ eqb (length ys) 0 → ys ≡ []
 empty_rest [] e = refl

@@ -10,6 +10,7 @@ use crate::list_commands::command_of;
 use crate::simple::run_fields;
 use crate::steps::expanded;
 use bootstore::{Frame, Store, StoreError};
+use hushlang::builtins::builtin_named;
 use hushlang::call::Call;
 use hushlang::expand::Fields;
 use hushlang::tree::Command;
@@ -55,13 +56,16 @@ fn find_behind<'d, S: Store>(
         return Ok(Step::Ends(Halt::End(store.get_status())));
     };
     if let Some(known) = command.fields() {
-        return run_fields(alloc, store, script, devices, bounds, known);
+        let builtin = command.builtin();
+        return run_fields(alloc, store, script, devices, bounds, builtin, known);
     }
     let fit = expanded(fields, store, command.words())?;
     if !fit {
         return Ok(Step::Ends(Halt::Size));
     }
-    run_fields(alloc, store, script, devices, bounds, fields.as_slice())
+    let found = fields.as_slice();
+    let builtin = builtin_named(found);
+    run_fields(alloc, store, script, devices, bounds, builtin, found)
 }
 
 /// Finds the device command again that has begun and asks. It is before the place of the innermost

@@ -1,38 +1,15 @@
-//! What a name calls, and the commands that need no frame: `setenv` and `echo` over a store, the
-//! status of `exit`, and whether `test` asks a device.
+//! The commands that need no frame: `setenv` and `echo` over a store, the status of `exit`, and
+//! whether `test` asks a device.
 ghost use Rattle.std.specs.Prelude.{◌≡◌, ◌∷◌, [], IfOk};
 ghost use Rattle.std.specs.List.{join_with_byte, list_all};
 ghost use Rattle.text.specs.Bytes as ascii;
 ghost use Rattle.text.specs.TextsShown.{bytes_of_words};
 ghost use Rattle.rehearse.specs.Commands as says;
 ghost use Rattle.rehearse_machine.specs.MovesShown.{Changed};
-ghost use Rattle.rehearse_machine.specs.CalledShown.{called_shown};
 
 use bootstore::{Store, StoreError};
-use rehearse::{Builtin, Devices, Effect, builtin_of, is_bad_name};
+use rehearse::is_bad_name;
 use std::alloc::{AllocError, Global};
-
-/// What the fields of a command call.
-#[derive(Clone, Copy)]
-pub(crate) enum Called<'a> {
-    BuiltIn(Builtin),
-    Device(Effect<'a>),
-    NoCommand,
-}
-
-/// What a name and its words call if nothing is computed: a built-in command, else a call of one of the device list.
-pub(crate) fn called_by_name<'a>(devices: &'a Devices, name: &[u8], words: &[Vec<u8>]) -> Called<'a>
-    ensures { called_shown result ≡ says.called_by_name devices.now name.now
-        (bytes_of_words words.now) }
-{
-    if let Some(builtin) = builtin_of(name) {
-        return Called::BuiltIn(builtin);
-    }
-    match devices.effect(name, words) {
-        Some(effect) => Called::Device(effect),
-        None => Called::NoCommand,
-    }
-}
 
 /// Copies of the words. Errors: memory ran out.
 pub(crate) fn copied(alloc: Global, words: &[Vec<u8>]) -> Result<Vec<Vec<u8>>, AllocError>

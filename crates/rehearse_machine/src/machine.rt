@@ -14,6 +14,7 @@ use crate::next_move::Next;
 use crate::simple::{begin_for, call};
 use crate::steps::expanded;
 use bootstore::{Frame, Store, StoreError};
+use hushlang::builtins::builtin_named;
 use hushlang::expand::Fields;
 use rehearse::{Devices, RunBounds};
 use std::alloc::Global;
@@ -42,11 +43,17 @@ fn proceed<'d, S: Store>(
             let after = behind(frame.at());
             let script = frame.script();
             if let Some(known) = command.fields() {
-                return call(alloc, store, script, after, devices, bounds, true, known);
+                let builtin = command.builtin();
+                return call(
+                    alloc, store, script, after, devices, bounds, true, builtin, known,
+                );
             }
             let fit = expanded(fields, store, command.words())?;
             let found = fields.as_slice();
-            call(alloc, store, script, after, devices, bounds, fit, found)
+            let builtin = builtin_named(found);
+            call(
+                alloc, store, script, after, devices, bounds, fit, builtin, found,
+            )
         }
         Next::Assigns(values) => begin_assign(alloc, store, frame, bounds, values),
         Next::Loops(words) => begin_for(alloc, store, fields, frame, bounds, words),
@@ -84,11 +91,17 @@ pub(crate) fn step<'d, S: Store>(
             let script = top.script().clone()?;
             if let Some(known) = command.fields() {
                 let known = known.clone()?;
-                return call(alloc, store, &script, after, devices, bounds, true, &known);
+                let builtin = command.builtin();
+                return call(
+                    alloc, store, &script, after, devices, bounds, true, builtin, &known,
+                );
             }
             let fit = expanded(fields, store, command.words())?;
             let found = fields.as_slice();
-            return call(alloc, store, &script, after, devices, bounds, fit, found);
+            let builtin = builtin_named(found);
+            return call(
+                alloc, store, &script, after, devices, bounds, fit, builtin, found,
+            );
         }
         _ => {}
     }

@@ -1,5 +1,7 @@
 //! Simple commands.
-ghost use Rattle.std.specs.Prelude.{◌≡◌, ◌+◌, ◌<◌, ◌^◌, List, map};
+ghost use Rattle.std.specs.Prelude.{◌≡◌, ◌+◌, ◌<◌, ◌^◌, List, map, option_map};
+ghost use Rattle.hushlang.specs.Builtins.{builtin_named};
+ghost use Rattle.hushlang.specs.BuiltinsShown.{builtin_shown};
 ghost use Rattle.hushlang.specs.TreesShown as view;
 ghost use Rattle.hushlang.specs.Tree as tree;
 ghost use Rattle.hushlang.specs.Expansion as expansion;
@@ -13,10 +15,10 @@ ghost use Rattle.rehearse_machine.specs.Places.{behind as goes_behind};
 ghost use Rattle.bootstore.specs.Moment.{RunningFrame};
 ghost use Rattle.rehearse_machine.specs.Variables.{parameters_at};
 ghost use Rattle.rehearse_machine.specs.MovesShown.{Comes, IsExpanded, Moves, limits_of};
-ghost use Rattle.rehearse_machine.specs.CalledShown.{builtin_called, called_shown};
+ghost use Rattle.rehearse_machine.specs.CalledShown.{builtin_called};
 
 use crate::ask::Step;
-use crate::commands::{Called, asks_device, called_by_name, copied, echo, exit_status, setenv};
+use crate::commands::{asks_device, copied, echo, exit_status, setenv};
 use crate::computed::carry_out;
 use crate::frames::{behind, enter, finish, place};
 use crate::halt::Halt;
@@ -24,9 +26,10 @@ use crate::outcomes::ask;
 use crate::run_and_exit::{begin_run, leave_text};
 use crate::steps::{count, expanded};
 use bootstore::{At, Frame, FrameKind, Store, StoreError};
+use hushlang::builtins::Builtin;
 use hushlang::expand::Fields;
 use hushlang::tree::{Script, Word};
-use rehearse::{Builtin, Devices, Effect, RunBounds, verdict};
+use rehearse::{Devices, Effect, RunBounds, verdict};
 use std::alloc::Global;
 use std::rc::Rc;
 
@@ -135,40 +138,43 @@ fn run_builtin<'d, S: Store>(
     }
 }
 
-/// Runs what a name calls: a built-in command or a device command. An unknown name ends the run.
-fn run_called<'d, S: Store>(
+/// Runs a command that is not built in: its call is computed, or it is a device command. An unknown
+/// name ends the run.
+fn run_other<'d, S: Store>(
     alloc: Global,
     store: &mut S,
-    script: &Rc<Script>,
     devices: &'d Devices,
     bounds: RunBounds,
-    called: Called<'d>,
     name: &[u8],
     words: &[Vec<u8>],
 ) -> Result<Step<'d>, StoreError>
-    ensures { Comes result (S.record_of store.old) (S.record_of store.new)
-        (place_called (limits_of devices.now bounds) (called_shown called.entry) name.now
-        (bytes_of_words words.now) (view.script script.now.value)
-        (S.record_of store.old).present.frames) }
+    ensures { (script : tree.Script) → Comes result (S.record_of store.old) (S.record_of store.new)
+        (place_called (limits_of devices.now bounds)
+        (says.other_called devices.now name.now (bytes_of_words words.now)) name.now
+        (bytes_of_words words.now) script (S.record_of store.old).present.frames) }
 {
-    match called {
-        Called::BuiltIn(builtin) => {
-            run_builtin(alloc, store, script, devices, bounds, builtin, name, words)
-        }
-        Called::Device(effect) => ask(alloc, store, bounds, name, words, effect),
-        Called::NoCommand => Ok(Step::Ends(Halt::Unknown(Vec::from_slice(alloc, name)?))),
+    if let Some(computed) = devices.computed(name, words) {
+        carry_out(alloc, store, computed)?;
+        return Ok(Step::Going);
+    }
+    match devices.effect(name, words) {
+        Some(effect) => ask(alloc, store, bounds, name, words, effect),
+        None => Ok(Step::Ends(Halt::Unknown(Vec::from_slice(alloc, name)?))),
     }
 }
 
-/// Runs the command that fields name.
+/// Runs the command that fields name. `builtin` is the built-in command that they name, if they name
+/// one.
 pub(crate) fn run_fields<'d, S: Store>(
     alloc: Global,
     store: &mut S,
     script: &Rc<Script>,
     devices: &'d Devices,
     bounds: RunBounds,
+    builtin: Option<Builtin>,
     fields: &[Vec<u8>],
 ) -> Result<Step<'d>, StoreError>
+    requires { option_map builtin_shown builtin ≡ builtin_named (bytes_of_words fields.now) }
     ensures { Comes result (S.record_of store.old) (S.record_of store.new)
         (place_fields (limits_of devices.now bounds) (bytes_of_words fields.now)
         (view.script script.now.value) (S.record_of store.old).present.frames) }
@@ -176,17 +182,15 @@ pub(crate) fn run_fields<'d, S: Store>(
     let Some((name, words)) = fields.split_first() else {
         return done(store, 0);
     };
-    if let Some(computed) = devices.computed(name, words) {
-        carry_out(alloc, store, computed)?;
-        return Ok(Step::Going);
+    match builtin {
+        Some(builtin) => run_builtin(alloc, store, script, devices, bounds, builtin, name, words),
+        None => run_other(alloc, store, devices, bounds, name, words),
     }
-    let called = called_by_name(devices, name, words);
-    run_called(alloc, store, script, devices, bounds, called, name, words)
 }
 
 /// Begins a step for a simple command whose fields were found, moves its frame to the place after
-/// it, and runs the command that the fields name. `fit` says whether they hold no more bytes than
-/// allowed.
+/// it, and runs the command that the fields name. `builtin` is the built-in command that they name,
+/// if they name one; `fit` says whether they hold no more bytes than allowed.
 pub(crate) fn call<'d, S: Store>(
     alloc: Global,
     store: &mut S,
@@ -195,9 +199,11 @@ pub(crate) fn call<'d, S: Store>(
     devices: &'d Devices,
     bounds: RunBounds,
     fit: bool,
+    builtin: Option<Builtin>,
     fields: &[Vec<u8>],
 ) -> Result<Step<'d>, StoreError>
-    requires { (S.record_of store.old).begun + 1 < 2 ^ 64 }
+    requires begun { (S.record_of store.old).begun + 1 < 2 ^ 64 }
+    requires builtin { option_map builtin_shown builtin ≡ builtin_named (bytes_of_words fields.now) }
     ensures { (f : RunningFrame) (words : List tree.Word) → after ≡ (goes_behind f).place
         → view.script script.now.value ≡ f.script → IsExpanded fit (bytes_of_words fields.now)
         (expansion.fields (parameters_at (S.record_of store.old).present) words)
@@ -212,7 +218,7 @@ pub(crate) fn call<'d, S: Store>(
         return Ok(Step::Ends(Halt::Size));
     }
     store.advance(after)?;
-    run_fields(alloc, store, script, devices, bounds, fields)
+    run_fields(alloc, store, script, devices, bounds, builtin, fields)
 }
 
 /// Begins a step for a `for`, and expands its words. Without a field the status is 0.

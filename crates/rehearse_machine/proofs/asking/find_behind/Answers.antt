@@ -51,11 +51,11 @@ returns g c top =
     let old = g.S.Store.record_of c.args.store.now in
     let f = c.args.frame.now in
     let words = view.call c.in-Some.command.now in
-    let list = bytes_of_words c.as_slice.result.now in
+    let list = bytes_of_words c.as_slice-found.result.now in
     let expanded = subst (λ (x : List Word). IsExpanded c.in_ok-fit.fit c.expanded.new.fields (fields (parameters_at old.present) x)) c.words.ensures c.in_ok-fit.ensures in
     let found = subst (λ (fit : Bool). IsExpanded fit c.expanded.new.fields (fields (parameters_at old.present) words)) c.if-not-fit.false expanded in
     comes_at c.run_fields-2.result old (g.S.Store.record_of c.run_fields-2.new.store) (place_fields limits list (view.script c.script-script.result.now.value) old.present.frames) (fields_again limits (words_in_front f) f (under old.present))
     (λ w. ap (λ (x : Script). place_fields limits list x old.present.frames (state_at old.present w)) c.script-script.ensures
     ∙ ap (λ (x : List RunningFrame). place_fields limits list f.script x (state_at old.present w)) top
-    ∙ fields_found limits old f (under old.present) words c.in-Some.ensures list (c.as_slice.ensures ∙ found.0) found.1 w)
+    ∙ fields_found limits old f (under old.present) words c.in-Some.ensures list (c.as_slice-found.ensures ∙ found.0) found.1 w)
     c.run_fields-2.ensures

@@ -1,8 +1,8 @@
-//! The built-in commands, and the commands that a device list may have computed: the one list of
-//! their names.
+//! The built-in commands: the one list of their names.
 ghost use Rattle.std.specs.Prelude.{◌≡◌, option_map};
-ghost use Rattle.rehearse.specs.Builtins as says;
-ghost use Rattle.rehearse.specs.BuiltinsShown.{builtin_shown, known_shown};
+ghost use Rattle.text.specs.TextsShown.{bytes_of_words};
+ghost use Rattle.hushlang.specs.Builtins as says;
+ghost use Rattle.hushlang.specs.BuiltinsShown.{builtin_shown};
 
 /// A built-in command.
 #[derive(Clone, Copy, Debug)]
@@ -40,32 +40,19 @@ pub fn builtin_of(name: &[u8]) -> Option<Builtin>
     }
 }
 
-/// Whether a name is a built-in command's, which a device list must not name.
-pub(crate) fn is_built_in(name: &[u8]) -> bool
+/// Whether a name is a built-in command's.
+pub fn is_built_in(name: &[u8]) -> bool
     ensures { result ≡ says.is_built_in name.now }
 {
     builtin_of(name).is_some()
 }
 
-/// A command that a device list may have computed.
-#[derive(Clone, Copy, Debug)]
-pub(crate) enum Known {
-    Env,
-    Itest,
-    SetExpr,
-}
-
-/// The command of a name, if a device list may have it computed.
-pub(crate) fn known_of(name: &[u8]) -> Option<Known>
-    ensures { option_map known_shown result ≡ says.known_of name.now }
+/// The built-in command that the first of fields names, if one does.
+pub fn builtin_named(fields: &[Vec<u8>]) -> Option<Builtin>
+    ensures { option_map builtin_shown result ≡ says.builtin_named (bytes_of_words fields.now) }
 {
-    if name == b"env".as_slice() {
-        Some(Known::Env)
-    } else if name == b"itest".as_slice() {
-        Some(Known::Itest)
-    } else if name == b"setexpr".as_slice() {
-        Some(Known::SetExpr)
-    } else {
-        None
+    match fields {
+        [] => None,
+        [name, ..] => builtin_of(name),
     }
 }

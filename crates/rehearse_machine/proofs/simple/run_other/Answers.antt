@@ -1,0 +1,30 @@
+use Rattle.std.proofs.Common.{◌≡◌, Some, None, option_map, ap, sym, refl, ◌∙◌}
+use Rattle.text.specs.TextsShown.{bytes_of_words}
+use Rattle.rehearse.specs.Commands.{carried, other_called}
+use Rattle.rehearse.specs.CommandsShown.{lent_effect}
+use Rattle.rehearse.specs.ComputedShown.{computed_shown, call_shown}
+use Rattle.rehearse.specs.DeviceList.{computed_by, effect_of}
+use Rattle.rehearse_machine.specs.MovesShown.{limits_of}
+use Rattle.rehearse_machine.proofs.CommandMoves.{change_does, device_comes, other_computed, other_listed}
+use Rattle.rehearse_machine.proofs.simple.run_other.Goals as goal
+
+pub returns-in-Some : goal.returns-in-Some
+returns-in-Some g c script =
+    let devices = c.args.devices.now in
+    let name = c.args.name.now in
+    let words = bytes_of_words c.args.words.now in
+    let does = computed_shown c.in-Some.computed in
+    let is : computed_by devices name words ≡ Some does = sym c.computed.ensures ∙ ap call_shown c.in-Some.is in
+    change_does (limits_of devices c.args.bounds) (g.S.Store.record_of c.args.store.now) (g.S.Store.record_of c.carry_out.new.store) name words script (other_called devices name words) words (λ ws. carried does)
+    (other_computed devices name words does is) refl c.in_ok-carry_out.ensures
+
+pub returns-in-Some-effect : goal.returns-in-Some-effect
+returns-in-Some-effect g c script =
+    let devices = c.args.devices.now in
+    let name = c.args.name.now in
+    let words = bytes_of_words c.args.words.now in
+    let effect = lent_effect c.in-Some-effect.effect in
+    let none : computed_by devices name words ≡ None = sym c.computed.ensures ∙ ap call_shown c.in_default.is in
+    let listed : Some effect ≡ effect_of devices name words = sym (ap (option_map lent_effect) c.in-Some-effect.is) ∙ c.effect.ensures in
+    device_comes (limits_of devices c.args.bounds) (g.S.Store.record_of c.args.store.now) (g.S.Store.record_of c.ask.new.store) name words script c.ask.result (other_called devices name words) effect
+    (other_listed devices name words (Some effect) none listed) (c.ask.ensures devices)
