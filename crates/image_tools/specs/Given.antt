@@ -3,6 +3,7 @@ use Rattle.std.specs.Prelude.{ℕ, List, [], Option, None}
 use Rattle.envimage.specs.declared.image.ByteOrder.{ByteOrder}
 use Rattle.rehearse.specs.Asking.{Asking, Listed}
 use Rattle.rehearse.specs.Bounds.{BoundsShown}
+use Rattle.rehearse.specs.Listing.{whole_page}
 use Rattle.rehearse.specs.State.{Text}
 
 pub record Given : Type 0 where
@@ -23,4 +24,4 @@ given order first second device_list asking =
 abbrev pub given_all : ByteOrder → List ℕ → Option (List ℕ) → Text → (variable : Text) → BoundsShown → Given
 given_all order first second device_list variable bounds =
     given order first second device_list
-    (record { variable = variable; bounds = bounds; wanted = Listed None None; names = [] })
+    (record { variable = variable; bounds = bounds; wanted = Listed None whole_page; names = [] })

@@ -18,7 +18,7 @@ pub use fault::{Fault, write_fault, write_fault_of};
 pub use image_env::env_of_image;
 pub use print::{PrintAsk, print_bytes};
 pub use rehearsal::rehearse_bytes;
-pub use rehearse::{Bounds, RunBounds, Wanted};
+pub use rehearse::{Bounds, Page, RunBounds, Wanted};
 pub use rehearse_endings::EndingsAsk;
 pub use rehearse_runs::{Ask as RehearseAsk, Finish, RehearseError};
 pub use standard_input::run_input;

@@ -1,7 +1,8 @@
 //! The rehearsal, from the bytes of an image to the bytes of the listing.
-ghost use Rattle.std.specs.Prelude.{◌≢◌, Some, IfOk, IfErr};
+ghost use Rattle.std.specs.Prelude.{IfOk, IfErr};
 ghost use Rattle.std.specs.Option.{option_copied};
-ghost use Rattle.rehearse.specs.Asking.{limit_of};
+ghost use Rattle.rehearse.specs.Asking.{page_of};
+ghost use Rattle.rehearse.specs.Listing.{HasRoom};
 ghost use Rattle.rehearse.specs.WantedShown.{wanted_slices};
 ghost use Rattle.rehearse_runs.specs.AskShown.{asking_of};
 ghost use Rattle.image_tools.specs.Given.{given};
@@ -32,7 +33,7 @@ pub fn rehearse_bytes<O: Out>(
     ask: &Ask<'_>,
     out: &mut O,
 ) -> Result<Finish, ToolError>
-    requires { limit_of (wanted_slices ask.now.wanted) ≢ Some 0 }
+    requires { HasRoom (page_of (wanted_slices ask.now.wanted)) }
     ensures ok { IfOk result (λ finish. Rehearses
         (given order first.now (option_copied second.entry) devices_text.now (asking_of ask.now))
         (O.sink out.old) (O.sink out.new) finish) }

@@ -11,12 +11,12 @@ use Rattle.rehearse.specs.declared.wanted.Wanted.TheVariants.{Listing, Word}
 
 -- how far each run may go
 abbrev pub wanted_bounds : {T : Type 0} → Wanted T → BoundsShown
-wanted_bounds (Listing bounds after limit) = bounds
+wanted_bounds (Listing bounds after page) = bounds
 wanted_bounds (Word bounds word) = bounds
 
 -- which runs they are, by what a word is
 abbrev pub wanted_by : {T : Type 0} → (T → Text) → Wanted T → spec.Wanted
-wanted_by text_of (Listing bounds after limit) = Listed (option_map text_of after) limit
+wanted_by text_of (Listing bounds after page) = Listed (option_map text_of after) page
 wanted_by text_of (Word bounds word) = Alone (text_of word)
 
 abbrev pub wanted_strings : Wanted (String Global) → spec.Wanted
@@ -27,5 +27,5 @@ wanted_slices = wanted_by (λ word. word.now)
 
 -- the word that is named, if one is
 abbrev pub wanted_word : {T : Type 0} → Wanted T → Option T
-wanted_word (Listing bounds after limit) = after
+wanted_word (Listing bounds after page) = after
 wanted_word (Word bounds word) = Some word

@@ -26,4 +26,4 @@ pub use run_bounds::{RUN_DEVICES_MAX, RunBounds};
 pub use setexpr::is_bad_name;
 pub use setting::{LeftSide, Setting};
 pub use truth::verdict;
-pub use wanted::Wanted;
+pub use wanted::{Page, Wanted};

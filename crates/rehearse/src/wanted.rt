@@ -5,6 +5,13 @@ ghost use Rattle.rehearse.specs.WantedShown.{wanted_bounds, wanted_slices, wante
 use crate::bounds::Bounds;
 use crate::run_bounds::RunBounds;
 
+/// How much of a listing is written at one time.
+#[derive(Clone, Copy, Debug)]
+pub struct Page {
+    /// The most records that are written.
+    pub limit: Option<u32>,
+}
+
 /// Which runs are wanted. A word is written as a listing prints it: `.` is the empty one.
 #[derive(Clone, Copy, Debug, Drop)]
 pub enum Wanted<T> {
@@ -14,8 +21,8 @@ pub enum Wanted<T> {
         bounds: Bounds,
         /// The listing starts after the run of this word.
         after: Option<T>,
-        /// The most records that are written.
-        limit: Option<u32>,
+        /// How much of it is written.
+        page: Page,
     },
     /// Only the run of a word.
     Word {
@@ -36,14 +43,14 @@ impl Wanted<String> {
             Wanted::Listing {
                 bounds,
                 after,
-                limit,
+                page,
             } => Wanted::Listing {
                 bounds: *bounds,
                 after: match after {
                     Some(word) => Some(word.as_bytes()),
                     None => None,
                 },
-                limit: *limit,
+                page: *page,
             },
             Wanted::Word { bounds, word } => Wanted::Word {
                 bounds: *bounds,

@@ -7,7 +7,7 @@ use Rattle.std.proofs.lemmas.Bool.{eqb-true}
 use Rattle.output.specs.Sink.{Sink, Wrote, BrokeOff}
 use Rattle.envtools.specs.Environment.{value_of}
 use Rattle.rehearse.specs.Asking.{Alone, Asking, AreToCome, GivesNoRun, Listed, SpellsNoRun}
-use Rattle.rehearse.specs.Listing.{outcome_digit, spelled, record_of, line}
+use Rattle.rehearse.specs.Listing.{outcome_digit, spelled, record_of, line, whole_page}
 use Rattle.rehearse.specs.Outcomes.{Outcome, OutcomeWord, Success, Failure}
 use Rattle.rehearse.specs.State.{Text}
 use Rattle.rehearse.specs.DeviceList.{Devices, listed}
@@ -22,6 +22,7 @@ use Rattle.rehearse_runs.specs.RunAlone.{BreaksAlone, WritesAlone}
 use Rattle.rehearse_runs.specs.RunsShown.{RunsShown}
 use Rattle.rehearse_runs.specs.StartWord.{digits_in}
 use Rattle.rehearse_runs.specs.declared.ask.Ask.{Ask}
+use Rattle.rehearse.specs.declared.wanted.Page.{Page}
 use Rattle.rehearse.specs.declared.wanted.Wanted.{Wanted}
 use Rattle.rehearse_runs.specs.declared.listing.Finish.{Finish}
 use Rattle.rehearse_runs.specs.declared.listing.Finish.TheVariants.{Done}
@@ -59,7 +60,7 @@ pub spells_no_run : (task : Task) (printed digits : Text) → digits ≡ digits_
 spells_no_run task printed digits is h = λ w e. h w (is ∙ ap digits_in e ∙ spelled-digits w)
 
 -- and so of the runs of a listing
-gives_no_run : (task : Task) (printed digits : Text) → digits ≡ digits_in printed → IsNotListed task digits → GivesNoRun task (Listed (Some printed) None)
+gives_no_run : (task : Task) (printed digits : Text) → digits ≡ digits_in printed → IsNotListed task digits → GivesNoRun task (Listed (Some printed) whole_page)
 gives_no_run task printed digits is h = λ w e. h w (is ∙ ap digits_in e ∙ spelled-digits w)
 
 -- ---- the runs of a listing
@@ -105,35 +106,35 @@ refused_behind (Err e) env devices name bounds after printed digits s is h u =
 
 -- ---- a listing, by its runs
 
-to_come_within : (task : Task) (after : Option Text) (limit : Option ℕ) (words : List OutcomeWord) → AreToCome task (Listed after None) words → AreToCome task (Listed after limit) words
-to_come_within task None limit words h = h
-to_come_within task (Some text) limit words h = h
+to_come_within : (task : Task) (after : Option Text) (page : Page) (words : List OutcomeWord) → AreToCome task (Listed after whole_page) words → AreToCome task (Listed after page) words
+to_come_within task None page words h = h
+to_come_within task (Some text) page words h = h
 
-no_run_within : (task : Task) (after : Option Text) (limit : Option ℕ) → GivesNoRun task (Listed after None) → GivesNoRun task (Listed after limit)
-no_run_within task None limit h = h
-no_run_within task (Some text) limit h = h
+no_run_within : (task : Task) (after : Option Text) (page : Page) → GivesNoRun task (Listed after whole_page) → GivesNoRun task (Listed after page)
+no_run_within task None page h = h
+no_run_within task (Some text) page h = h
 
-module _ (env : List (Text × Text)) (devices : Devices) (name : Text) (bounds : BoundsShown) (after : Option Text) (limit : Option ℕ) (names : List Text) where
+module _ (env : List (Text × Text)) (devices : Devices) (name : Text) (bounds : BoundsShown) (after : Option Text) (page : Page) (names : List Text) where
   -- its runs do not begin
-  pub unstarted : (s : Sink) (e : RehearseError) → RefusesRuns env devices name bounds after e → Refuses (task_set env devices name bounds) (asking_for name bounds (Listed after limit) names) s s e
+  pub unstarted : (s : Sink) (e : RehearseError) → RefusesRuns env devices name bounds after e → Refuses (task_set env devices name bounds) (asking_for name bounds (Listed after page) names) s s e
   unstarted s (DeviceList fault) h = h
   unstarted s NoSuchVariable h = (h, refl)
-  unstarted s NotARun h = (record { task = h.task; task_is = h.task_is; no_run = no_run_within h.task after limit h.no_run }, refl)
+  unstarted s NotARun h = (record { task = h.task; task_is = h.task_is; no_run = no_run_within h.task after page h.no_run }, refl)
   unstarted s States h = h
   unstarted s Write h = absurd h
   unstarted s Memory h = inl refl
   unstarted s Failed h = h
 
-  begun : (r : RunsShown) → Begins env devices name bounds after r → Rehearsed (task_set env devices name bounds) (Listed after limit) r.task r.to_come
-  begun r b = record { task_is = b.task_is; to_come = to_come_within r.task after limit r.to_come b.to_come }
+  begun : (r : RunsShown) → Begins env devices name bounds after r → Rehearsed (task_set env devices name bounds) (Listed after page) r.task r.to_come
+  begun r b = record { task_is = b.task_is; to_come = to_come_within r.task after page r.to_come b.to_come }
 
   -- it is written
-  pub written : (result : Result Finish RehearseError) (old new : Sink) (r r' : RunsShown) → Begins env devices name bounds after r → IfOk result (λ finish. Lists old new r r' names limit finish)
-      → IfOk result (λ finish. Rehearses (task_set env devices name bounds) (asking_for name bounds (Listed after limit) names) old new finish)
+  pub written : (result : Result Finish RehearseError) (old new : Sink) (r r' : RunsShown) → Begins env devices name bounds after r → IfOk result (λ finish. Lists old new r r' names page finish)
+      → IfOk result (λ finish. Rehearses (task_set env devices name bounds) (asking_for name bounds (Listed after page) names) old new finish)
   written (Ok finish) old new r r' b h = record { task = r.task; words = r.to_come; rehearsed = begun r b; wrote = h.wrote; finish_is = h.finish_is }
   written (Err e) old new r r' b h = tt
 
-  broken : (old new : Sink) (r r' : RunsShown) (e : RehearseError) → Begins env devices name bounds after r → Breaks old new r r' names limit e → Refuses (task_set env devices name bounds) (asking_for name bounds (Listed after limit) names) old new e
+  broken : (old new : Sink) (r r' : RunsShown) (e : RehearseError) → Begins env devices name bounds after r → Breaks old new r r' names page e → Refuses (task_set env devices name bounds) (asking_for name bounds (Listed after page) names) old new e
   broken old new r r' (DeviceList fault) b h = h
   broken old new r r' NoSuchVariable b h = absurd h
   broken old new r r' NotARun b h = absurd h
@@ -143,8 +144,8 @@ module _ (env : List (Text × Text)) (devices : Devices) (name : Text) (bounds :
   broken old new r r' Failed b h = let f = h.failed in let s = b.sound in absurd cc
 
   -- or it breaks off
-  pub unwritten : (result : Result Finish RehearseError) (old new : Sink) (r r' : RunsShown) → Begins env devices name bounds after r → IfErr result (λ e. Breaks old new r r' names limit e)
-      → IfErr result (λ e. Refuses (task_set env devices name bounds) (asking_for name bounds (Listed after limit) names) old new e)
+  pub unwritten : (result : Result Finish RehearseError) (old new : Sink) (r r' : RunsShown) → Begins env devices name bounds after r → IfErr result (λ e. Breaks old new r r' names page e)
+      → IfErr result (λ e. Refuses (task_set env devices name bounds) (asking_for name bounds (Listed after page) names) old new e)
   unwritten (Ok finish) old new r r' b h = tt
   unwritten (Err e) old new r r' b h = broken old new r r' e b h
 

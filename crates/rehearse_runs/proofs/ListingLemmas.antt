@@ -11,7 +11,8 @@ use Rattle.rehearse.specs.State.{Text, State}
 use Rattle.bootstore.specs.StoredState.{state_at}
 use Rattle.rehearse.specs.Execution.{Ending}
 use Rattle.rehearse.specs.Runs.{Task, run_on, state_of, ending_of}
-use Rattle.rehearse.specs.Listing.{outcome_digit, record_text, record_of, words_listed, closing, listing, last_of, line, spelled}
+use Rattle.rehearse.specs.Listing.{outcome_digit, record_text, record_of, words_listed, closing, listing, last_of, line, spelled, HasRoom, page_words, page_closing, page_text}
+use Rattle.rehearse.specs.declared.wanted.Page.{Page}
 use Rattle.rehearse_runs.specs.Recording.{recorded, printed}
 use Rattle.rehearse_runs.specs.RunsShown.{RunsShown, last_given, last_answer, has_words}
 use Rattle.rehearse_runs.proofs.WorkLemmas.{last_some, last_more}
@@ -25,7 +26,7 @@ use Rattle.rehearse_runs.specs.declared.rehearse_error.RehearseError.{RehearseEr
 use Rattle.rehearse_runs.specs.declared.rehearse_error.RehearseError.TheVariants.{DeviceList, NoSuchVariable, NotARun, States, Write, Memory, Failed}
 use Rattle.rehearse_runs.specs.declared.listing.Finish.{Finish}
 use Rattle.rehearse_runs.specs.declared.listing.Finish.TheVariants.{Done, More}
-use Rattle.rehearse_runs.specs.ListingRuns.{Breaks, Lists, left_out, finish_of, IsLeft, Takes, Recorded, WroteRecords, LacksMemory, BreaksOff, reached, lowered}
+use Rattle.rehearse_runs.specs.ListingRuns.{Breaks, Lists, left_out, finish_at, finish_of, IsLeft, Takes, Recorded, WroteRecords, LacksMemory, BreaksOff, reached, lowered}
 use Rattle.rehearse_runs.specs.declared.run_view.RunView.{RunView}
 
 recorded_spelled : (w : OutcomeWord) (s : State) (e : Ending) (names : List Text) → recorded (map outcome_digit w) (record s { word = [] }) e names ≡ record_text w s e names
@@ -111,11 +112,11 @@ recorded_same {start} {now} {old} {mid} {new} {names} {limit} {left} {ws} r e =
     subst (λ (n : RunsShown). Recorded start now old n names limit left ws) (sym e) same
 
 -- no further word
-pub wrote_to_end : {start now : Sink} {old mid new : RunsShown} {names : List Text} {limit left : Option ℕ} {ws : List OutcomeWord} → Recorded start now old mid names limit left ws → GivesNone mid new → WroteRecords start now old new names limit
+pub wrote_to_end : {start now : Sink} {old mid new : RunsShown} {names : List Text} {page : Page} {left : Option ℕ} {ws : List OutcomeWord} → Recorded start now old mid names page.limit left ws → GivesNone mid new → WroteRecords start now old new names page
 wrote_to_end {left = left} {ws = ws} r m = record { left = left; ws = ws; recorded = recorded_same r m.same; over = λ _. ap (λ (n : RunsShown). n.to_come) m.same ∙ m.none }
 
 -- the limit
-pub wrote_to_limit : {start now : Sink} {old new : RunsShown} {names : List Text} {limit left : Option ℕ} {ws : List OutcomeWord} → Recorded start now old new names limit left ws → reached left ≡ true → WroteRecords start now old new names limit
+pub wrote_to_limit : {start now : Sink} {old new : RunsShown} {names : List Text} {page : Page} {left : Option ℕ} {ws : List OutcomeWord} → Recorded start now old new names page.limit left ws → reached left ≡ true → WroteRecords start now old new names page
 wrote_to_limit {left = left} {ws = ws} r e = record { left = left; ws = ws; recorded = r; over = λ h. absurd cc }
 
 take_past : (ws rest : List OutcomeWord) (n k : ℕ) → n ≡ length ws + k → take n (ws ++ rest) ≡ ws ++ take k rest
@@ -137,12 +138,12 @@ takes_failed {old} {mid} {new} {ws} t m =
     record { words = t.words; answers = t.answers; given = t.given; task = t.task; start = t.start; sound = t.sound } in
     subst P (sym m.failed) same
 
-pub lacked : {start now : Sink} {old mid new : RunsShown} {names : List Text} {limit left : Option ℕ} {ws : List OutcomeWord} → Recorded start now old mid names limit left ws → giving.LacksMemory mid new → LacksMemory start now old new names limit
-lacked {start} {now} {old} {mid} {new} {names} {limit} {left} {ws} r m = record {
+pub lacked : {start now : Sink} {old mid new : RunsShown} {names : List Text} {page : Page} {left : Option ℕ} {ws : List OutcomeWord} → Recorded start now old mid names page.limit left ws → giving.LacksMemory mid new → LacksMemory start now old new names page
+lacked {start} {now} {old} {mid} {new} {names} {page} {left} {ws} r m = record {
   ws = ws;
   us = words_listed mid.to_come left;
   takes = takes_failed r.takes m;
-  front = ap (λ (vs : List OutcomeWord). words_listed vs limit) r.takes.words ∙ shown_past limit left ws mid.to_come r.count;
+  front = ap (λ (vs : List OutcomeWord). page_words vs page) r.takes.words ∙ shown_past page.limit left ws mid.to_come r.count;
   wrote = r.wrote;
   failed = ap (λ (n : RunsShown). n.failed) m.failed;
 }
@@ -153,15 +154,15 @@ shown_next (Some zero) w rest h = absurd cc
 shown_next (Some (suc k)) w rest h = let e : k ≡ suc k - 1 = omega arith in ap (λ (i : ℕ). w ∷ take i rest) e
 
 -- the output failed inside a record
-pub broke_record : {start now : Sink} {old mid : RunsShown} {names : List Text} {limit left : Option ℕ} {ws : List OutcomeWord} (end : Sink) (new : RunsShown)
-    → Recorded start now old mid names limit left ws → reached left ≡ false → GivesWord mid new → BrokeOff now end (record_of old.task names (last_given new)) → BreaksOff start end old new names limit
-broke_record {start} {now} {old} {mid} {names} {limit} {left} {ws} end new r n m q =
+pub broke_record : {start now : Sink} {old mid : RunsShown} {names : List Text} {page : Page} {left : Option ℕ} {ws : List OutcomeWord} (end : Sink) (new : RunsShown)
+    → Recorded start now old mid names page.limit left ws → reached left ≡ false → GivesWord mid new → BrokeOff now end (record_of old.task names (last_given new)) → BreaksOff start end old new names page
+broke_record {start} {now} {old} {mid} {names} {page} {left} {ws} end new r n m q =
     let w = last_given new in
     let f = record_of old.task names in
     let us = words_listed new.to_come (lowered left) in
-    let z = line (closing old.to_come limit) in
-    let e : words_listed old.to_come limit ≡ ws ++ (w ∷ us) = ap (λ (vs : List OutcomeWord). words_listed vs limit) r.takes.words ∙ shown_past limit left ws mid.to_come r.count ∙ ap (λ (vs : List OutcomeWord). ws ++ words_listed vs left) m.first ∙ ap (λ (vs : List OutcomeWord). ws ++ vs) (shown_next left w new.to_come n) in
-    let whole : flat_map f ws ++ (f w ++ (flat_map f us ++ z)) ≡ listing f old.to_come limit =
+    let z = line (page_closing old.to_come page) in
+    let e : page_words old.to_come page ≡ ws ++ (w ∷ us) = ap (λ (vs : List OutcomeWord). page_words vs page) r.takes.words ∙ shown_past page.limit left ws mid.to_come r.count ∙ ap (λ (vs : List OutcomeWord). ws ++ words_listed vs left) m.first ∙ ap (λ (vs : List OutcomeWord). ws ++ vs) (shown_next left w new.to_come n) in
+    let whole : flat_map f ws ++ (f w ++ (flat_map f us ++ z)) ≡ page_text f old.to_come page =
     ap (λ (t : Text). flat_map f ws ++ t) (sym (append_assoc (f w) (flat_map f us) z)) ∙ sym (append_assoc (flat_map f ws) (f w ++ flat_map f us) z) ∙ ap (λ (t : Text). t ++ z) (sym (flat_map-append f ws (w ∷ us))) ∙ ap (λ (vs : List OutcomeWord). flat_map f vs ++ z) (sym e) in
     record {
       place = inl (record {
@@ -177,7 +178,7 @@ broke_record {start} {now} {old} {mid} {names} {limit} {left} {ws} end new r n m
     }
 
 -- a call of `next` that refuses
-pub refused : {start now : Sink} {old mid : RunsShown} {names : List Text} {limit left : Option ℕ} {ws : List OutcomeWord} (new : RunsShown) (e : RehearseError) → giving.Refuses mid e new → Recorded start now old mid names limit left ws → Breaks start now old new names limit e
+pub refused : {start now : Sink} {old mid : RunsShown} {names : List Text} {page : Page} {left : Option ℕ} {ws : List OutcomeWord} (new : RunsShown) (e : RehearseError) → giving.Refuses mid e new → Recorded start now old mid names page.limit left ws → Breaks start now old new names page e
 refused new (DeviceList fault) h r = absurd h
 refused new NoSuchVariable h r = absurd h
 refused new NotARun h r = absurd h
@@ -187,7 +188,7 @@ refused new Memory h r = lacked r h
 refused new Failed h r = let t = h.failed in let s = r.still in absurd cc
 
 module _ {S : Type 0} (g : Ghosts S) where
-  pub refused_by : {start now : Sink} {old mid : RunsShown} {names : List Text} {limit left : Option ℕ} {ws : List OutcomeWord} (new : RunsShown) (result : Result (Option (RunView S)) RehearseError) (e : RehearseError) → result ≡ Err e → Gives g mid result new → Recorded start now old mid names limit left ws → Breaks start now old new names limit e
+  pub refused_by : {start now : Sink} {old mid : RunsShown} {names : List Text} {page : Page} {left : Option ℕ} {ws : List OutcomeWord} (new : RunsShown) (result : Result (Option (RunView S)) RehearseError) (e : RehearseError) → result ≡ Err e → Gives g mid result new → Recorded start now old mid names page.limit left ws → Breaks start now old new names page e
   refused_by {mid = mid} new result e is h r = refused new e (subst (λ (o : Result (Option (RunView S)) RehearseError). Gives g mid o new) is h) r
 
   pub given_by : (mid new : RunsShown) (result : Result (Option (RunView S)) RehearseError) (o : Option (RunView S)) (v : RunView S) → result ≡ Ok o → o ≡ Some v → Gives g mid result new → GivesWord mid new × ShowsRun g new.task (last_given new) v
@@ -217,7 +218,7 @@ finish_by b = elim b [ true ↦ Done | false ↦ More ]
 record EndsBehind (all : List OutcomeWord) (limit : Option ℕ) (ws rest : List OutcomeWord) (last : Text) (finish : Finish) : Type 0 where
   pub shown_is : words_listed all limit ≡ ws
   pub closing_is : closing all limit ≡ last
-  pub finish_is : finish ≡ finish_of all limit
+  pub finish_is : finish ≡ finish_at all limit
   pub rest_is : rest ≡ left_out all limit
 
 drop_past : (ws rest : List OutcomeWord) (n : ℕ) → n ≡ length ws → drop n (ws ++ rest) ≡ rest
@@ -272,42 +273,42 @@ ends_as : (f : OutcomeWord → Text) (all : List OutcomeWord) (limit : Option �
 ends_as f all limit ws rest last finish e = ap (λ (vs : List OutcomeWord). flat_map f vs ++ line last) (sym e.shown_is) ∙ ap (λ (t : Text). flat_map f (words_listed all limit) ++ line t) (sym e.closing_is)
 
 -- the words that were taken are the wanted ones
-takes_wanted : {old new : RunsShown} {ws : List OutcomeWord} (limit : Option ℕ) → words_listed (ws ++ new.to_come) limit ≡ ws → Takes old new ws → Takes old new (words_listed old.to_come limit)
-takes_wanted {old} {new} {ws} limit e t =
-    let whole : words_listed old.to_come limit ≡ ws = ap (λ (vs : List OutcomeWord). words_listed vs limit) t.words ∙ e in
+takes_wanted : {old new : RunsShown} {ws : List OutcomeWord} (page : Page) → page_words (ws ++ new.to_come) page ≡ ws → Takes old new ws → Takes old new (page_words old.to_come page)
+takes_wanted {old} {new} {ws} page e t =
+    let whole : page_words old.to_come page ≡ ws = ap (λ (vs : List OutcomeWord). page_words vs page) t.words ∙ e in
     subst (λ (vs : List OutcomeWord). Takes old new vs) (sym whole) t
 
 -- the line after the records was written
-listed : {start now : Sink} {old new : RunsShown} {names : List Text} {limit left : Option ℕ} {ws : List OutcomeWord} (end : Sink) (last : Text) (finish : Finish)
-    → Recorded start now old new names limit left ws → EndsBehind (ws ++ new.to_come) limit ws new.to_come last finish → Wrote now end (line last) → Lists start end old new names limit finish
-listed {start} {now} {old} {new} {names} {limit} {left} {ws} end last finish r e q =
+listed : {start now : Sink} {old new : RunsShown} {names : List Text} {page : Page} {left : Option ℕ} {ws : List OutcomeWord} (end : Sink) (last : Text) (finish : Finish)
+    → Recorded start now old new names page.limit left ws → EndsBehind (ws ++ new.to_come) page.limit ws new.to_come last finish → Wrote now end (line last) → Lists start end old new names page finish
+listed {start} {now} {old} {new} {names} {page} {left} {ws} end last finish r e q =
     let all = sym r.takes.words in
     record {
-      wrote = subst (λ (vs : List OutcomeWord). Wrote start end (listing (record_of old.task names) vs limit)) all (Wrote-as start end _ _ (ends_as (record_of old.task names) (ws ++ new.to_come) limit ws new.to_come last finish e) (Wrote-append r.wrote q));
-      finish_is = subst (λ (vs : List OutcomeWord). finish ≡ finish_of vs limit) all e.finish_is;
-      takes = takes_wanted limit e.shown_is r.takes;
-      rest = subst (λ (vs : List OutcomeWord). new.to_come ≡ left_out vs limit) all e.rest_is;
+      wrote = subst (λ (vs : List OutcomeWord). Wrote start end (page_text (record_of old.task names) vs page)) all (Wrote-as start end _ _ (ends_as (record_of old.task names) (ws ++ new.to_come) page.limit ws new.to_come last finish e) (Wrote-append r.wrote q));
+      finish_is = subst (λ (vs : List OutcomeWord). finish ≡ finish_of vs page) all e.finish_is;
+      takes = takes_wanted page e.shown_is r.takes;
+      rest = subst (λ (vs : List OutcomeWord). new.to_come ≡ left_out vs page.limit) all e.rest_is;
       still = r.still;
     }
 
 -- and it broke off
-unlisted : {start now : Sink} {old new : RunsShown} {names : List Text} {limit left : Option ℕ} {ws : List OutcomeWord} (end : Sink) (last : Text) (finish : Finish)
-    → Recorded start now old new names limit left ws → EndsBehind (ws ++ new.to_come) limit ws new.to_come last finish → BrokeOff now end (line last) → BreaksOff start end old new names limit
-unlisted {start} {now} {old} {new} {names} {limit} {left} {ws} end last finish r e q =
+unlisted : {start now : Sink} {old new : RunsShown} {names : List Text} {page : Page} {left : Option ℕ} {ws : List OutcomeWord} (end : Sink) (last : Text) (finish : Finish)
+    → Recorded start now old new names page.limit left ws → EndsBehind (ws ++ new.to_come) page.limit ws new.to_come last finish → BrokeOff now end (line last) → BreaksOff start end old new names page
+unlisted {start} {now} {old} {new} {names} {page} {left} {ws} end last finish r e q =
     let f = record_of old.task names in
     let all = sym r.takes.words in
-    let wanted : ws ≡ words_listed old.to_come limit = sym e.shown_is ∙ ap (λ (vs : List OutcomeWord). words_listed vs limit) all in
-    let last_is : last ≡ closing old.to_come limit = sym e.closing_is ∙ ap (λ (vs : List OutcomeWord). closing vs limit) all in
+    let wanted : ws ≡ page_words old.to_come page = sym e.shown_is ∙ ap (λ (vs : List OutcomeWord). page_words vs page) all in
+    let last_is : last ≡ page_closing old.to_come page = sym e.closing_is ∙ ap (λ (vs : List OutcomeWord). page_closing vs page) all in
     record {
       place = inr (record {
-        takes = takes_wanted limit e.shown_is r.takes;
+        takes = takes_wanted page e.shown_is r.takes;
         breaks = record {
           between = now;
           wrote = subst (λ (vs : List OutcomeWord). Wrote start now (flat_map f vs)) wanted r.wrote;
           broke = BrokeOff-as now end _ _ (ap line last_is) q;
         };
       });
-      wrote = subst (λ (vs : List OutcomeWord). BrokeOff start end (listing f vs limit)) all (BrokeOff-as start end _ _ (ends_as f (ws ++ new.to_come) limit ws new.to_come last finish e) (BrokeOff-after r.wrote q));
+      wrote = subst (λ (vs : List OutcomeWord). BrokeOff start end (page_text f vs page)) all (BrokeOff-as start end _ _ (ends_as f (ws ++ new.to_come) page.limit ws new.to_come last finish e) (BrokeOff-after r.wrote q));
       still = r.still;
     }
 
@@ -333,21 +334,21 @@ last_some_of before [] n = absurd (n refl)
 last_some_of before (w ∷ ws) n = last_some w ws
 
 -- the digits of the last word, if words are left out
-last_line_is : {start now : Sink} {old new : RunsShown} {names : List Text} {limit : Option ℕ} (digits : Text) (r : WroteRecords start now old new names limit) → limit ≢ Some 0 → has_words new.to_come ≡ true → digits ≡ map outcome_digit (last_given new) → line (codes "more " ++ printed digits) ≡ line (codes "more " ++ spelled (last_of [] r.ws))
-last_line_is {old = old} {new = new} {limit = limit} digits r n h d =
-    let some = some_left limit r.left r.ws new.to_come n r.recorded.count r.over h in
+last_line_is : {start now : Sink} {old new : RunsShown} {names : List Text} {page : Page} (digits : Text) (r : WroteRecords start now old new names page) → HasRoom page → has_words new.to_come ≡ true → digits ≡ map outcome_digit (last_given new) → line (codes "more " ++ printed digits) ≡ line (codes "more " ++ spelled (last_of [] r.ws))
+last_line_is {old = old} {new = new} {page = page} digits r n h d =
+    let some = some_left page.limit r.left r.ws new.to_come n r.recorded.count r.over h in
     let given : last_given new ≡ last_of [] r.ws = ap (λ (o : Option OutcomeWord). unwrap_or o []) (r.recorded.takes.given ∙ last_some_of old.given r.ws some) in
     ap (λ (t : Text). line (codes "more " ++ printed t)) (d ∙ ap (map outcome_digit) given) ∙ ap (λ (t : Text). line (codes "more " ++ t)) (printed_spelled (last_of [] r.ws))
 
-module _ {start now : Sink} {old new : RunsShown} {names : List Text} {limit : Option ℕ} (end : Sink) (r : WroteRecords start now old new names limit) where
-  pub listed_more : (digits : Text) → limit ≢ Some 0 → has_words new.to_come ≡ true → digits ≡ map outcome_digit (last_given new) → Wrote now end (line (codes "more " ++ printed digits)) → Lists start end old new names limit More
-  listed_more digits n h d q = listed end (codes "more " ++ spelled (last_of [] r.ws)) More r.recorded (at_limit limit r.left r.ws new.to_come r.recorded.count r.over h) (Wrote-as now end _ _ (last_line_is digits r n h d) q)
+module _ {start now : Sink} {old new : RunsShown} {names : List Text} {page : Page} (end : Sink) (r : WroteRecords start now old new names page) where
+  pub listed_more : (digits : Text) → HasRoom page → has_words new.to_come ≡ true → digits ≡ map outcome_digit (last_given new) → Wrote now end (line (codes "more " ++ printed digits)) → Lists start end old new names page More
+  listed_more digits n h d q = listed end (codes "more " ++ spelled (last_of [] r.ws)) More r.recorded (at_limit page.limit r.left r.ws new.to_come r.recorded.count r.over h) (Wrote-as now end _ _ (last_line_is digits r n h d) q)
 
-  pub unlisted_more : (digits : Text) → limit ≢ Some 0 → has_words new.to_come ≡ true → digits ≡ map outcome_digit (last_given new) → BrokeOff now end (line (codes "more " ++ printed digits)) → BreaksOff start end old new names limit
-  unlisted_more digits n h d q = unlisted end (codes "more " ++ spelled (last_of [] r.ws)) More r.recorded (at_limit limit r.left r.ws new.to_come r.recorded.count r.over h) (BrokeOff-as now end _ _ (last_line_is digits r n h d) q)
+  pub unlisted_more : (digits : Text) → HasRoom page → has_words new.to_come ≡ true → digits ≡ map outcome_digit (last_given new) → BrokeOff now end (line (codes "more " ++ printed digits)) → BreaksOff start end old new names page
+  unlisted_more digits n h d q = unlisted end (codes "more " ++ spelled (last_of [] r.ws)) More r.recorded (at_limit page.limit r.left r.ws new.to_come r.recorded.count r.over h) (BrokeOff-as now end _ _ (last_line_is digits r n h d) q)
 
-  pub listed_done : has_words new.to_come ≡ false → Wrote now end (codes "done\n") → Lists start end old new names limit Done
-  listed_done h q = listed end (codes "done") Done r.recorded (at_end limit r.left r.ws new.to_come r.recorded.count (no_words new.to_come h)) q
+  pub listed_done : has_words new.to_come ≡ false → Wrote now end (codes "done\n") → Lists start end old new names page Done
+  listed_done h q = listed end (codes "done") Done r.recorded (at_end page.limit r.left r.ws new.to_come r.recorded.count (no_words new.to_come h)) q
 
-  pub unlisted_done : has_words new.to_come ≡ false → BrokeOff now end (codes "done\n") → BreaksOff start end old new names limit
-  unlisted_done h q = unlisted end (codes "done") Done r.recorded (at_end limit r.left r.ws new.to_come r.recorded.count (no_words new.to_come h)) q
+  pub unlisted_done : has_words new.to_come ≡ false → BrokeOff now end (codes "done\n") → BreaksOff start end old new names page
+  unlisted_done h q = unlisted end (codes "done") Done r.recorded (at_end page.limit r.left r.ws new.to_come r.recorded.count (no_words new.to_come h)) q

@@ -4,7 +4,8 @@ use Rattle.std.specs.List.{flat_map}
 use Rattle.output.specs.Sink.{Sink, Wrote, BrokeOff}
 use Rattle.rehearse.specs.Outcomes.{OutcomeWord}
 use Rattle.rehearse.specs.State.{Text}
-use Rattle.rehearse.specs.Listing.{line, record_of, words_listed, closing, listing}
+use Rattle.rehearse.specs.Listing.{line, record_of, page_words, page_closing, page_text}
+use Rattle.rehearse.specs.declared.wanted.Page.{Page}
 use Rattle.rehearse_runs.specs.RunsShown.{RunsShown, last_answer}
 use Rattle.rehearse_runs.specs.declared.rehearse_error.RehearseError.{RehearseError}
 use Rattle.rehearse_runs.specs.declared.rehearse_error.RehearseError.TheVariants.{Memory, Write, Failed}
@@ -47,10 +48,10 @@ pub record Recorded (start now : Sink) (old new : RunsShown) (names : List Text)
   pub still : new.failed ≡ false
 
 -- all records that are wanted were written
-pub record WroteRecords (start now : Sink) (old new : RunsShown) (names : List Text) (limit : Option ℕ) : Type 0 where
+pub record WroteRecords (start now : Sink) (old new : RunsShown) (names : List Text) (page : Page) : Type 0 where
   pub left : Option ℕ
   pub ws : List OutcomeWord
-  pub recorded : Recorded start now old new names limit left ws
+  pub recorded : Recorded start now old new names page.limit left ws
   pub over : (reached left ≡ false) → new.to_come ≡ []
 
 -- the words that are left out
@@ -59,25 +60,28 @@ left_out ws None = []
 left_out ws (Some limit) = drop limit ws
 
 -- how a listing finishes, as its last line says
-abbrev pub finish_of : List OutcomeWord → Option ℕ → Finish
-finish_of ws None = Done
-finish_of ws (Some limit) = elim (nat_le (length ws) limit) [ true ↦ Done | false ↦ More ]
+abbrev pub finish_at : List OutcomeWord → Option ℕ → Finish
+finish_at ws None = Done
+finish_at ws (Some limit) = elim (nat_le (length ws) limit) [ true ↦ Done | false ↦ More ]
+
+abbrev pub finish_of : List OutcomeWord → Page → Finish
+finish_of ws page = finish_at ws page.limit
 
 -- the listing was written
-pub record Lists (start now : Sink) (old new : RunsShown) (names : List Text) (limit : Option ℕ) (finish : Finish) :
+pub record Lists (start now : Sink) (old new : RunsShown) (names : List Text) (page : Page) (finish : Finish) :
     Type 0 where
-  pub wrote : Wrote start now (listing (record_of old.task names) old.to_come limit)
-  pub finish_is : finish ≡ finish_of old.to_come limit
-  pub takes : Takes old new (words_listed old.to_come limit)
-  pub rest : new.to_come ≡ left_out old.to_come limit
+  pub wrote : Wrote start now (page_text (record_of old.task names) old.to_come page)
+  pub finish_is : finish ≡ finish_of old.to_come page
+  pub takes : Takes old new (page_words old.to_come page)
+  pub rest : new.to_come ≡ left_out old.to_come page.limit
   pub still : new.failed ≡ false
 
 -- memory ran out: the whole records of the words that were taken are written
-pub record LacksMemory (start now : Sink) (old new : RunsShown) (names : List Text) (limit : Option ℕ) : Type 0 where
+pub record LacksMemory (start now : Sink) (old new : RunsShown) (names : List Text) (page : Page) : Type 0 where
   pub ws : List OutcomeWord
   pub us : List OutcomeWord
   pub takes : Takes old new ws
-  pub front : words_listed old.to_come limit ≡ ws ++ us
+  pub front : page_words old.to_come page ≡ ws ++ us
   pub wrote : Wrote start now (flat_map (record_of old.task names) ws)
   pub failed : new.failed ≡ true
 
@@ -89,26 +93,26 @@ pub record BreaksBehind (start now : Sink) (written : OutcomeWord → Text) (ws 
   pub broke : BrokeOff between now text
 
 -- it failed inside the record of the last word that was taken
-pub record BreaksInRecord (start now : Sink) (old new : RunsShown) (names : List Text) (limit : Option ℕ) :
+pub record BreaksInRecord (start now : Sink) (old new : RunsShown) (names : List Text) (page : Page) :
     Type 0 where
   pub ws : List OutcomeWord
   pub w : OutcomeWord
   pub us : List OutcomeWord
-  pub wanted : words_listed old.to_come limit ≡ ws ++ w ∷ us
+  pub wanted : page_words old.to_come page ≡ ws ++ w ∷ us
   pub takes : Takes old new (ws ++ w ∷ [])
   pub breaks : BreaksBehind start now (record_of old.task names) ws (record_of old.task names w)
 
 -- it failed inside the closing line: all words that are wanted were taken
-pub record BreaksInClosing (start now : Sink) (old new : RunsShown) (names : List Text) (limit : Option ℕ) :
+pub record BreaksInClosing (start now : Sink) (old new : RunsShown) (names : List Text) (page : Page) :
     Type 0 where
-  pub takes : Takes old new (words_listed old.to_come limit)
-  pub breaks : BreaksBehind start now (record_of old.task names) (words_listed old.to_come limit)
-      (line (closing old.to_come limit))
+  pub takes : Takes old new (page_words old.to_come page)
+  pub breaks : BreaksBehind start now (record_of old.task names) (page_words old.to_come page)
+      (line (page_closing old.to_come page))
 
 -- the output failed: a prefix of the listing is written, and the words that were taken are not given again
-pub record BreaksOff (start now : Sink) (old new : RunsShown) (names : List Text) (limit : Option ℕ) : Type 0 where
-  pub place : BreaksInRecord start now old new names limit ⊎ BreaksInClosing start now old new names limit
-  pub wrote : BrokeOff start now (listing (record_of old.task names) old.to_come limit)
+pub record BreaksOff (start now : Sink) (old new : RunsShown) (names : List Text) (page : Page) : Type 0 where
+  pub place : BreaksInRecord start now old new names page ⊎ BreaksInClosing start now old new names page
+  pub wrote : BrokeOff start now (page_text (record_of old.task names) old.to_come page)
   pub still : new.failed ≡ false
 
 -- memory had run out before: nothing is written
@@ -117,9 +121,9 @@ pub record HadFailed (start now : Sink) (old new : RunsShown) : Type 0 where
   pub same : new ≡ old
   pub nothing : now ≡ start
 
-abbrev pub Breaks : (start now : Sink) (old new : RunsShown) (names : List Text) (limit : Option ℕ) →
+abbrev pub Breaks : (start now : Sink) (old new : RunsShown) (names : List Text) (page : Page) →
     RehearseError → Type 0
-Breaks start now old new names limit Memory = LacksMemory start now old new names limit
-Breaks start now old new names limit Write = BreaksOff start now old new names limit
-Breaks start now old new names limit Failed = HadFailed start now old new
-Breaks start now old new names limit _ = ⊥
+Breaks start now old new names page Memory = LacksMemory start now old new names page
+Breaks start now old new names page Write = BreaksOff start now old new names page
+Breaks start now old new names page Failed = HadFailed start now old new
+Breaks start now old new names page _ = ⊥

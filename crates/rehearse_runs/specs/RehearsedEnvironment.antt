@@ -3,10 +3,10 @@
 use Rattle.std.specs.Prelude.{◌≡◌, ◌⊎◌, ◌++◌, false, List, Option, Some, None, Ok, Err}
 use Rattle.std.specs.List.{flat_map}
 use Rattle.output.specs.Sink.{Sink, Wrote, BrokeOff}
-use Rattle.rehearse.specs.Asking.{Asking, AreToCome, GivesNoRun, Listed, Wanted, limit_of}
+use Rattle.rehearse.specs.Asking.{Asking, AreToCome, GivesNoRun, Listed, Wanted, page_of}
 use Rattle.rehearse.specs.Bounds.{BoundsShown}
 use Rattle.rehearse.specs.DeviceList.{Devices, listed}
-use Rattle.rehearse.specs.Listing.{record_of, listing, words_listed}
+use Rattle.rehearse.specs.Listing.{record_of, page_text, page_words, whole_page}
 use Rattle.rehearse.specs.Outcomes.{OutcomeWord}
 use Rattle.rehearse.specs.Runs.{Task}
 use Rattle.rehearse.specs.State.{Text}
@@ -30,7 +30,7 @@ pub record Rehearsed (found : Option Task) (wanted : Wanted) (task : Task) (word
 
 -- "the records": what the run on a word did, its last line saying how it ended, "runs that meet a bound marked cut"
 abbrev pub text_asked : Asking → Task → List OutcomeWord → Text
-text_asked asking task words = listing (record_of task asking.names) words (limit_of asking.wanted)
+text_asked asking task words = page_text (record_of task asking.names) words (page_of asking.wanted)
 
 -- "the rehearsal writes": the whole listing is written, and the answer is the one that its last line gives
 pub record Rehearses (found : Option Task) (asking : Asking) (old new : Sink) (finish : Finish) : Type 0 where
@@ -38,7 +38,7 @@ pub record Rehearses (found : Option Task) (asking : Asking) (old new : Sink) (f
   pub words : List OutcomeWord
   pub rehearsed : Rehearsed found asking.wanted task words
   pub wrote : Wrote old new (text_asked asking task words)
-  pub finish_is : finish ≡ finish_of words (limit_of asking.wanted)
+  pub finish_is : finish ≡ finish_of words (page_of asking.wanted)
 
 -- the word that was given is not in the listing, or no run has it
 pub record LacksRun (found : Option Task) (wanted : Wanted) : Type 0 where
@@ -60,7 +60,7 @@ pub record LacksMemory (found : Option Task) (asking : Asking) (old new : Sink) 
   pub rehearsed : Rehearsed found asking.wanted task words
   pub front : List OutcomeWord
   pub left : List OutcomeWord
-  pub parts : words_listed words (limit_of asking.wanted) ≡ front ++ left
+  pub parts : page_words words (page_of asking.wanted) ≡ front ++ left
   pub wrote : Wrote old new (flat_map (record_of task asking.names) front)
 
 -- why it is refused
@@ -88,7 +88,7 @@ RefusesAsk environment devices_text asking old new error =
 pub record Begins (environment : List (Text × Text)) (devices : Devices) (name : Text) (bounds : BoundsShown)
     (after : Option Text) (r : RunsShown) : Type 0 where
   pub task_is : task_set environment devices name bounds ≡ Some r.task
-  pub to_come : AreToCome r.task (Listed after None) r.to_come
+  pub to_come : AreToCome r.task (Listed after whole_page) r.to_come
   pub sound : r.failed ≡ false
 
 -- why a listing does not start
@@ -97,5 +97,5 @@ abbrev pub RefusesRuns : List (Text × Text) → Devices → Text → BoundsShow
 RefusesRuns environment devices name bounds after NoSuchVariable = task_set environment devices name bounds ≡ None
 RefusesRuns environment devices name bounds after Memory = Unit {0}
 RefusesRuns environment devices name bounds after NotARun =
-    LacksRun (task_set environment devices name bounds) (Listed after None)
+    LacksRun (task_set environment devices name bounds) (Listed after whole_page)
 RefusesRuns environment devices name bounds after _ = ⊥

@@ -1,7 +1,7 @@
 //! The listing of runs.
-ghost use Rattle.std.specs.Prelude.{◌≡◌, ◌≢◌, map, codes, ◌++◌, false, Some, IfOk, OnOk, IfErr};
+ghost use Rattle.std.specs.Prelude.{◌≡◌, map, codes, ◌++◌, false, IfOk, OnOk, IfErr};
 ghost use Rattle.output.specs.Sink.{Prints};
-ghost use Rattle.rehearse.specs.Listing.{line};
+ghost use Rattle.rehearse.specs.Listing.{HasRoom, line};
 ghost use Rattle.rehearse_runs.specs.Recording.{printed};
 ghost use Rattle.rehearse_runs.specs.ListingRuns.{reached, lowered, WroteRecords, Lists, Breaks};
 
@@ -10,6 +10,7 @@ use crate::rehearse_error::RehearseError;
 use crate::runs::Runs;
 use bootstore::Store;
 use output::{Out, OutFault, write_all, write_parts};
+use rehearse::Page;
 
 /// How a listing finishes.
 #[derive(Clone, Copy, Debug, PartialEq, Eq)]
@@ -40,21 +41,21 @@ fn lower(left: Option<u32>) -> Option<u32>
     }
 }
 
-/// Writes the records of the next runs, up to the limit. Errors: `Memory`, `Write`, `Failed`.
+/// Writes the records of the next runs, up to the limit of the page. Errors: `Memory`, `Write`, `Failed`.
 fn write_records<S: Store, O: Out>(
     runs: &mut Runs<'_, S>,
     names: &[&[u8]],
-    limit: Option<u32>,
+    page: Page,
     out: &mut O,
 ) -> Result<(), RehearseError>
     requires { runs.old.failed ≡ false }
     ensures ok { OnOk result (WroteRecords (O.sink out.old) (O.sink out.new) runs.old runs.new
-        (map (λ n. n.now) names.now) limit) }
+        (map (λ n. n.now) names.now) page) }
     ensures err { IfErr result
         (λ e. Breaks (O.sink out.old) (O.sink out.new) runs.old runs.new
-        (map (λ n. n.now) names.now) limit e) }
+        (map (λ n. n.now) names.now) page e) }
 {
-    let mut left = limit;
+    let mut left = page.limit;
     while !is_reached(left) {
         let Some(view) = runs.next()? else {
             return Ok(());
@@ -79,26 +80,26 @@ fn write_more<O: Out>(out: &mut O, digits: &[u8]) -> Result<(), OutFault>
 }
 
 /// Writes the listing of the words still to come: their records, and `done`. If more words are to
-/// come than the limit allows, writes that many records, and `more` with the last word. Only the
+/// come than the page allows, writes that many records, and `more` with the last word. Only the
 /// runs take memory. Errors: `Memory`, with whole records written; `Write`, with a prefix of the
 /// listing written; `Failed` if an earlier call ran out of memory.
 pub fn write_listing<S: Store, O: Out>(
     runs: &mut Runs<'_, S>,
     names: &[&[u8]],
-    limit: Option<u32>,
+    page: Page,
     out: &mut O,
 ) -> Result<Finish, RehearseError>
-    requires { limit ≢ Some 0 }
+    requires { HasRoom page }
     ensures ok { IfOk result (λ finish. Lists (O.sink out.old) (O.sink out.new) runs.old runs.new
-        (map (λ n. n.now) names.now) limit finish) }
+        (map (λ n. n.now) names.now) page finish) }
     ensures err { IfErr result
         (λ e. Breaks (O.sink out.old) (O.sink out.new) runs.old runs.new
-        (map (λ n. n.now) names.now) limit e) }
+        (map (λ n. n.now) names.now) page e) }
 {
     if runs.has_failed() {
         return Err(RehearseError::Failed);
     }
-    write_records(runs, names, limit, out)?;
+    write_records(runs, names, page, out)?;
     if runs.has_more() {
         write_more(out, runs.last_digits())?;
         Ok(Finish::More)

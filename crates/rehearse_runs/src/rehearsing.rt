@@ -1,7 +1,8 @@
 //! The rehearsal of an environment, from the text of its device list to the listing.
-ghost use Rattle.std.specs.Prelude.{◌≡◌, ◌≢◌, Some, IfOk, IfErr, map};
+ghost use Rattle.std.specs.Prelude.{◌≡◌, IfOk, IfErr, map};
 ghost use Rattle.text.specs.TextsShown.{option_bytes};
-ghost use Rattle.rehearse.specs.Asking.{Alone, Listed, limit_of};
+ghost use Rattle.rehearse.specs.Asking.{Alone, Listed, page_of};
+ghost use Rattle.rehearse.specs.Listing.{HasRoom};
 ghost use Rattle.rehearse.specs.WantedShown.{wanted_slices};
 ghost use Rattle.rehearse_runs.specs.AskShown.{asking_for, asking_of};
 ghost use Rattle.rehearse_runs.specs.RehearsedEnvironment.{Begins, Refuses, RefusesAsk, RefusesRuns, Rehearses, WithDevices, task_asked};
@@ -14,7 +15,7 @@ use crate::runs::Runs;
 use bootstore::Store;
 use envtools::Env;
 use output::Out;
-use rehearse::{Bounds, Devices, DevicesError, RunBounds, Wanted};
+use rehearse::{Bounds, Devices, DevicesError, Page, RunBounds, Wanted};
 use rehearse_machine::Rehearsal;
 use std::alloc::Global;
 
@@ -46,22 +47,22 @@ fn list_runs<'x, S: Store, O: Out>(
     name: &'x [u8],
     bounds: Bounds,
     after: Option<&[u8]>,
-    limit: Option<u32>,
+    page: Page,
     names: &[&[u8]],
     out: &mut O,
 ) -> Result<Finish, RehearseError>
-    requires { limit ≢ Some 0 }
+    requires { HasRoom page }
     ensures ok { let asking = asking_for name.now bounds
-        (Listed (option_bytes after.entry) limit) (map (λ n. n.now) names.now) in
+        (Listed (option_bytes after.entry) page) (map (λ n. n.now) names.now) in
         IfOk result (λ finish. Rehearses (task_asked env.now devices.now asking) asking
         (O.sink out.old) (O.sink out.new) finish) }
     ensures err { let asking = asking_for name.now bounds
-        (Listed (option_bytes after.entry) limit) (map (λ n. n.now) names.now) in
+        (Listed (option_bytes after.entry) page) (map (λ n. n.now) names.now) in
         IfErr result (λ e. Refuses (task_asked env.now devices.now asking) asking
         (O.sink out.old) (O.sink out.new) e) }
 {
     let mut runs = begin_runs::<S>(alloc, env, devices, name, bounds, after)?;
-    write_listing(&mut runs, names, limit, out)
+    write_listing(&mut runs, names, page, out)
 }
 
 /// Writes the run of a word, and `done`. Errors: `NoSuchVariable`, `NotARun`, `Memory`, `Write`.
@@ -103,7 +104,7 @@ pub fn rehearse_env<'x, S: Store, O: Out>(
     ask: &Ask<'x>,
     out: &mut O,
 ) -> Result<Finish, RehearseError>
-    requires { limit_of (wanted_slices ask.now.wanted) ≢ Some 0 }
+    requires { HasRoom (page_of (wanted_slices ask.now.wanted)) }
     ensures ok { let asking = asking_of ask.now in
         IfOk result (λ finish. WithDevices devices_text.now (λ devices.
         Rehearses (task_asked env.now devices asking) asking (O.sink out.old)
@@ -120,9 +121,9 @@ pub fn rehearse_env<'x, S: Store, O: Out>(
         Wanted::Listing {
             bounds,
             after,
-            limit,
+            page,
         } => list_runs::<S, O>(
-            alloc, env, &devices, ask.name, bounds, after, limit, ask.names, out,
+            alloc, env, &devices, ask.name, bounds, after, page, ask.names, out,
         ),
         Wanted::Word { bounds, word } => {
             list_one::<S, O>(alloc, env, &devices, ask.name, bounds, word, ask.names, out)

@@ -7,8 +7,9 @@ use Rattle.envimage.specs.declared.image.ByteOrder.TheVariants.{Big, Little}
 use Rattle.requests.specs.CommandAnswers.{IsAccepted, asked}
 use Rattle.requests.specs.declared.called.CalledAs.{CalledAs}
 use Rattle.requests.specs.declared.called.CalledAs.TheVariants.{FwTool, Ubtool}
-use Rattle.requests.specs.Asked.{Asked, ending, header_needs_one, input_scripted, lock_of, needs_name, printing, rehearsing, script_and_name, scripted, setting, too_many_devices, word_alone}
+use Rattle.requests.specs.Asked.{Asked, ending, header_needs_one, input_scripted, lock_of, needs_name, page_with, printing, rehearsing, script_and_name, scripted, setting, too_many_devices, word_alone}
 use Rattle.rehearse.specs.Asking.{Alone, Listed}
+use Rattle.rehearse.specs.Listing.{whole_page}
 use Rattle.command_line.specs.CommandLine.{ubtool}
 
 -- the words are accepted and ask for this
@@ -29,7 +30,7 @@ rehearsal : AsksFor
     (rehearsing (codes "/etc/fw_env.config") (codes "d.txt") (record {
       variable = codes "bootcmd";
       bounds = record { devices = 16; steps = 10000; failures = None };
-      wanted = Listed None (Some 1);
+      wanted = Listed None (page_with (Some 1));
       names = codes "z" ∷ [];
     }) Little)
 unfolding clap_on_literals ubtool
@@ -119,7 +120,7 @@ bounded : AsksFor
     (rehearsing (codes "/etc/fw_env.config") (codes "d") (record {
       variable = codes "bootcmd";
       bounds = record { devices = 32; steps = 0; failures = None };
-      wanted = Listed (Some (codes ".")) None;
+      wanted = Listed (Some (codes ".")) whole_page;
       names = [];
     }) Big)
 unfolding clap_on_literals ubtool
@@ -161,7 +162,7 @@ few_failures : AsksFor (codes "rehearse" ∷ codes "-d" ∷ codes "d" ∷ codes 
     (rehearsing (codes "/etc/fw_env.config") (codes "d") (record {
       variable = codes "bootcmd";
       bounds = record { devices = 1000; steps = 10000; failures = Some 3 };
-      wanted = Listed None None;
+      wanted = Listed None whole_page;
       names = [];
     }) Little)
 unfolding clap_on_literals ubtool

@@ -6,6 +6,7 @@ use Rattle.clap.proofs.OnLiterals.{clap_on_literals}
 use Rattle.envimage.specs.declared.image.ByteOrder.TheVariants.{Little}
 use Rattle.requests.specs.Asked.{printing, rehearsing, scripted}
 use Rattle.rehearse.specs.Asking.{Listed}
+use Rattle.rehearse.specs.Listing.{whole_page}
 use Rattle.command_line.specs.CommandLine.{ubtool}
 use Rattle.requests.proofs.CommandLineExamples.{AsksFor}
 
@@ -36,7 +37,7 @@ long_rehearsal : AsksFor (codes "rehearse" ∷ codes "--device-list" ∷ codes "
     (rehearsing (codes "/etc/fw_env.config") (codes "d") (record {
       variable = codes "q";
       bounds = record { devices = 16; steps = 10000; failures = None };
-      wanted = Listed None None;
+      wanted = Listed None whole_page;
       names = [];
     }) Little)
 unfolding clap_on_literals ubtool

@@ -1,7 +1,7 @@
 -- What the words of a call ask for, from the subcommand and the entries that `clap` finds in them.
 -- What the options mean is ours; `printenv` and `setenv` follow fw_printenv and fw_setenv, and the
 -- configuration's default path is theirs (U-Boot, tools/env README).
-use Rattle.std.specs.Prelude.{◌==◌, ◌&&◌, ℕ, Bool, true, false, not, List, [], length}
+use Rattle.std.specs.Prelude.{◌==◌, ◌&&◌, ◌||◌, is_some, ℕ, Bool, true, false, not, List, [], length}
 use Rattle.std.specs.Prelude.{Option, Some, None, Result, Ok, Err, codes, unwrap_or, option_map, ◌^◌}
 use Rattle.std.specs.Prelude.{option_and_then, if◌then◌else◌, nat_le, nat_lt}
 use Rattle.std.specs.Str.{bytes_eq}
@@ -14,6 +14,7 @@ use Rattle.envimage.specs.declared.image.ByteOrder.TheVariants.{Big, Little}
 use Rattle.requests.specs.declared.called.CalledAs.{CalledAs}
 use Rattle.requests.specs.declared.called.CalledAs.TheVariants.{FwTool, Ubtool}
 use Rattle.rehearse.specs.Asking.{Asking, Wanted, Listed, Alone}
+use Rattle.rehearse.specs.declared.wanted.Page.{Page}
 use Rattle.rehearse.specs.Bounds.{BoundsShown, bounds_of, run_bounds_of, most_run_devices, most_steps}
 use Rattle.command_line.specs.CommandLine.{most_failures, most_records, most_states}
 
@@ -139,29 +140,35 @@ run_bounds_asked rows = bounds_or most_run_devices most_steps rows
 abbrev pub WantedAsked : Type 0
 WantedAsked = Result (BoundsShown × Wanted) Asked
 
+-- how much of a listing is written: the limit is at least 1
+abbrev pub page_with : (limit : Option ℕ) → Page
+page_with limit = record { limit = limit }
+
+abbrev pub page_asked : List Row → Option Page
+page_asked rows = option_map page_with (number_within 1 most_records (codes "limit") rows)
+
 -- of a listing: at most 32 device commands, or 1,000 if few of them may fail
-abbrev pub listing_asked : (after : Option Text) → (limit failures : Option ℕ) → BoundsShown → WantedAsked
-listing_asked after limit failures bounds =
+abbrev pub listing_asked : (after : Option Text) → Page → (failures : Option ℕ) → BoundsShown → WantedAsked
+listing_asked after page failures bounds =
     elim (bounds_of bounds.devices bounds.steps failures) [
-      | Some narrow ↦ Ok (narrow, Listed after limit)
+      | Some narrow ↦ Ok (narrow, Listed after page)
       | None ↦ Err too_many_devices
     ]
 
 -- of a word, which takes no `--after`, no `--limit` and no `--failures`
-abbrev pub word_asked : (word : Text) → (after : Option Text) → (limit failures : Option ℕ) → BoundsShown → WantedAsked
-word_asked word None None None bounds = Ok (bounds, Alone word)
-word_asked word (Some after) limit failures bounds = Err word_alone
-word_asked word None (Some limit) failures bounds = Err word_alone
-word_asked word None None (Some failures) bounds = Err word_alone
+abbrev pub word_asked : (word : Text) → (after : Option Text) → Page → (failures : Option ℕ) → BoundsShown → WantedAsked
+word_asked word after page failures bounds =
+    if is_some after || is_some page.limit || is_some failures then Err word_alone
+    else Ok (bounds, Alone word)
 
-abbrev pub wanted_by : (word after : Option Text) → (limit failures : Option ℕ) → List Row → Option WantedAsked
-wanted_by None after limit failures rows = option_map (listing_asked after limit failures) (bounds_asked rows)
-wanted_by (Some word) after limit failures rows =
-    option_map (word_asked word after limit failures) (run_bounds_asked rows)
+abbrev pub wanted_by : (word after : Option Text) → Page → (failures : Option ℕ) → List Row → Option WantedAsked
+wanted_by None after page failures rows = option_map (listing_asked after page failures) (bounds_asked rows)
+wanted_by (Some word) after page failures rows =
+    option_map (word_asked word after page failures) (run_bounds_asked rows)
 
-abbrev pub wanted_asked : (limit failures : Option ℕ) → List Row → Option WantedAsked
-wanted_asked limit failures rows =
-    wanted_by (first_of (codes "word") rows) (first_of (codes "after") rows) limit failures rows
+abbrev pub wanted_asked : Page → (failures : Option ℕ) → List Row → Option WantedAsked
+wanted_asked page failures rows =
+    wanted_by (first_of (codes "word") rows) (first_of (codes "after") rows) page failures rows
 
 abbrev pub rehearsal_of : (device_list : Text) → List Row → WantedAsked → Asked
 rehearsal_of device_list rows (Ok within) =
@@ -173,19 +180,19 @@ rehearsal_of device_list rows (Ok within) =
     }) (order_of rows)
 rehearsal_of device_list rows (Err refusal) = refusal
 
--- with a device list, a limit, a number of failures and bounds that can be read
-abbrev pub rehearsal_with : (device_list : Option Text) → (limit failures : Option (Option ℕ)) → List Row →
+-- with a device list, a page, a number of failures and bounds that can be read
+abbrev pub rehearsal_with : (device_list : Option Text) → Option Page → (failures : Option (Option ℕ)) → List Row →
     Option Asked
-rehearsal_with (Some device_list) (Some limit) (Some failures) rows =
-    option_map (rehearsal_of device_list rows) (wanted_asked limit failures rows)
-rehearsal_with None limit failures rows = None
+rehearsal_with (Some device_list) (Some page) (Some failures) rows =
+    option_map (rehearsal_of device_list rows) (wanted_asked page failures rows)
+rehearsal_with None page failures rows = None
 rehearsal_with (Some device_list) None failures rows = None
-rehearsal_with (Some device_list) (Some limit) None rows = None
+rehearsal_with (Some device_list) (Some page) None rows = None
 
--- the limit is at least 1, and the failures are at most 32
+-- the failures are at most 32
 abbrev pub rehearse_asked : List Row → Option Asked
 rehearse_asked rows =
-    rehearsal_with (first_of (codes "device-list") rows) (number_within 1 most_records (codes "limit") rows)
+    rehearsal_with (first_of (codes "device-list") rows) (page_asked rows)
     (number_within 0 most_failures (codes "failures") rows) rows
 
 -- the states if none are given

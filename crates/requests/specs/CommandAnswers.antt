@@ -1,6 +1,6 @@
 -- What an answer of the reader of words says, and when each refusal comes. The refusals are ours.
 use Rattle.std.specs.Prelude.{◌≡◌, ◌≢◌, ◌⊎◌, List, [], map, Option, Some, None}
-use Rattle.std.specs.Prelude.{Result, Ok, Err, option_map, option_and_then, string_bytes, String}
+use Rattle.std.specs.Prelude.{Result, Ok, Err, option_and_then, string_bytes, String}
 use Rattle.std.specs.declared.alloc.Global.{Global}
 use Rattle.clap.specs.Words.{App, IsAmong, Text, fault_of, subcommand_of}
 use Rattle.clap.specs.declared.error.kind.ErrorKind.{ErrorKind}

@@ -1,7 +1,6 @@
 //! What a call asks for, and why its words are refused.
-ghost use Rattle.std.specs.Prelude.{◌<◌};
-ghost use Rattle.std.specs.Option.{ForSome};
-ghost use Rattle.rehearse.specs.Asking.{limit_of};
+ghost use Rattle.rehearse.specs.Asking.{page_of};
+ghost use Rattle.rehearse.specs.Listing.{HasRoom};
 ghost use Rattle.rehearse.specs.WantedShown.{wanted_strings};
 
 use envimage::ByteOrder;
@@ -108,7 +107,7 @@ pub struct RehearseAsk {
     pub wanted: Wanted<String>,
     /// The variables to list after each run, in this order; none for all.
     pub names: Vec<String>,
-    pub ghost limit_above_zero: { ForSome (limit_of (wanted_strings wanted)) (λ n. 0 < n) },
+    pub ghost page_has_room: { HasRoom (page_of (wanted_strings wanted)) },
 }
 
 /// What `endings` is to write.

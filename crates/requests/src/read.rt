@@ -1,10 +1,10 @@
 //! Reads the words of a call.
-ghost use Rattle.std.specs.Prelude.{◌≡◌, ◌<◌, ◌≤◌, Some, None, codes, IfOk, IfSome, map, option_map, option_and_then, string_bytes};
-ghost use Rattle.std.specs.Option.{ForSome};
-ghost use Rattle.rehearse.specs.Asking.{limit_of};
+ghost use Rattle.std.specs.Prelude.{◌≡◌, ◌≤◌, Some, None, codes, IfOk, IfSome, map, option_map, option_and_then, string_bytes};
+ghost use Rattle.rehearse.specs.Asking.{page_of};
+ghost use Rattle.rehearse.specs.Listing.{HasRoom};
 ghost use Rattle.clap.specs.Words.{Text, first_of, found_of, kind_of, rows_of, subcommand_rows_of};
 ghost use Rattle.envimage.specs.declared.image.ByteOrder.{ByteOrder as Order};
-ghost use Rattle.requests.specs.Asked.{asked_of, bounds_or, config_of, endings_asked, is_set, lock_of, number_given, number_within, order_of, print_asked, rehearse_asked, script_asked, set_asked, values_of, variable_of, wanted_asked, wanted_by};
+ghost use Rattle.requests.specs.Asked.{asked_of, bounds_or, config_of, endings_asked, is_set, lock_of, number_given, number_within, order_of, page_asked, print_asked, rehearse_asked, script_asked, set_asked, values_of, variable_of, wanted_asked, wanted_by};
 ghost use Rattle.rehearse.specs.WantedShown.{wanted_strings};
 ghost use Rattle.requests.specs.declared.ask.UseError.TheVariants.{Memory};
 ghost use Rattle.requests.specs.CommandAnswers.{Answers, IsUnread, NamesLock, Reports, Says, SaysWanted, change_of};
@@ -18,7 +18,7 @@ use clap::ArgMatches;
 use clap::error::ErrorKind;
 use command_line::{FAILURES_MAX, ubtool};
 use envimage::ByteOrder;
-use rehearse::{Bounds, RUN_DEVICES_MAX, RunBounds, STEPS_MAX, Wanted};
+use rehearse::{Bounds, Page, RUN_DEVICES_MAX, RunBounds, STEPS_MAX, Wanted};
 use std::alloc::{AllocError, Global};
 use std::convert::AsStr;
 
@@ -200,18 +200,27 @@ fn bounds_or(matches: &ArgMatches<'_>, devices: u32, steps: u32) -> Option<RunBo
     )
 }
 
+/// How much of a listing is written; `None` if its limit is not a number from 1.
+fn page_asked(matches: &ArgMatches<'_>) -> Option<Page>
+    ensures page { result ≡ page_asked (rows_of (found_of matches.now)) }
+    ensures room { IfSome result (λ page. HasRoom page) }
+{
+    let limit = number_within(matches, "limit", 1, u32::MAX)?;
+    Some(Page { limit })
+}
+
 /// The runs of a listing.
 fn listing(
     alloc: Global,
     matches: &ArgMatches<'_>,
-    limit: Option<u32>,
+    page: Page,
     failures: Option<u32>,
 ) -> Result<Wanted<String>, UseError>
-    requires { ForSome limit (λ n. 0 < n) }
+    requires { HasRoom page }
     ensures says { SaysWanted
-        (wanted_by None (first_of (codes "after") (rows_of (found_of matches.now))) limit failures
+        (wanted_by None (first_of (codes "after") (rows_of (found_of matches.now))) page failures
         (rows_of (found_of matches.now))) result }
-    ensures limit { IfOk result (λ w. ForSome (limit_of (wanted_strings w)) (λ n. 0 < n)) }
+    ensures room { IfOk result (λ w. HasRoom (page_of (wanted_strings w))) }
 {
     let Some(wide) = bounds_or(matches, DEFAULT_DEVICES, DEFAULT_STEPS) else {
         return Err(unread(alloc));
@@ -222,7 +231,7 @@ fn listing(
     Ok(Wanted::Listing {
         bounds,
         after: text_of(alloc, matches, "after")?,
-        limit,
+        page,
     })
 }
 
@@ -231,26 +240,24 @@ fn word(
     alloc: Global,
     matches: &ArgMatches<'_>,
     word: String,
-    limit: Option<u32>,
+    page: Page,
     failures: Option<u32>,
 ) -> Result<Wanted<String>, UseError>
-    requires { ForSome limit (λ n. 0 < n) }
+    requires { HasRoom page }
     ensures says { SaysWanted
         (wanted_by (Some (string_bytes word))
-        (first_of (codes "after") (rows_of (found_of matches.now))) limit failures
+        (first_of (codes "after") (rows_of (found_of matches.now))) page failures
         (rows_of (found_of matches.now))) result }
-    ensures limit { IfOk result (λ w. ForSome (limit_of (wanted_strings w)) (λ n. 0 < n)) }
+    ensures room { IfOk result (λ w. HasRoom (page_of (wanted_strings w))) }
 {
     let Some(bounds) = bounds_or(matches, DEFAULT_RUN_DEVICES, DEFAULT_RUN_STEPS) else {
         return Err(unread(alloc));
     };
     let after = text_of(alloc, matches, "after")?;
-    match (after, limit, failures) {
-        (Some(_), _, _) => Err(UseError::WordAlone),
-        (None, Some(_), _) => Err(UseError::WordAlone),
-        (None, None, Some(_)) => Err(UseError::WordAlone),
-        (None, None, None) => Ok(Wanted::Word { bounds, word }),
+    if after.is_some() || page.limit.is_some() || failures.is_some() {
+        return Err(UseError::WordAlone);
     }
+    Ok(Wanted::Word { bounds, word })
 }
 
 /// The runs that are to be listed. Errors: `WordAlone`, `TooManyDevices`, the refusal of `unread`,
@@ -258,17 +265,17 @@ fn word(
 fn wanted(
     alloc: Global,
     matches: &ArgMatches<'_>,
-    limit: Option<u32>,
+    page: Page,
     failures: Option<u32>,
 ) -> Result<Wanted<String>, UseError>
-    requires { ForSome limit (λ n. 0 < n) }
-    ensures says { SaysWanted (wanted_asked limit failures (rows_of (found_of matches.now)))
+    requires { HasRoom page }
+    ensures says { SaysWanted (wanted_asked page failures (rows_of (found_of matches.now)))
         result }
-    ensures limit { IfOk result (λ w. ForSome (limit_of (wanted_strings w)) (λ n. 0 < n)) }
+    ensures room { IfOk result (λ w. HasRoom (page_of (wanted_strings w))) }
 {
     match text_of(alloc, matches, "word")? {
-        Some(text) => word(alloc, matches, text, limit, failures),
-        None => listing(alloc, matches, limit, failures),
+        Some(text) => word(alloc, matches, text, page, failures),
+        None => listing(alloc, matches, page, failures),
     }
 }
 
@@ -276,12 +283,12 @@ fn rehearse_ask(alloc: Global, matches: &ArgMatches<'_>) -> Result<Ask, UseError
     ensures { Says (rehearse_asked (rows_of (found_of matches.now))) result }
 {
     let list = text_of(alloc, matches, "device-list")?;
-    let limit = number_within(matches, "limit", 1, u32::MAX);
+    let page = page_asked(matches);
     let failures = number_within(matches, "failures", 0, FAILURES_MAX);
-    let (Some(devices_file), Some(limit), Some(failures)) = (list, limit, failures) else {
+    let (Some(devices_file), Some(page), Some(failures)) = (list, page, failures) else {
         return Err(unread(alloc));
     };
-    let wanted = match wanted(alloc, matches, limit, failures) {
+    let wanted = match wanted(alloc, matches, page, failures) {
         Ok(wanted) => wanted,
         Err(error) => return Err(error),
     };

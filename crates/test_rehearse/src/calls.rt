@@ -10,7 +10,7 @@ use hushlang::parse::parse;
 use hushlang::token::{SyntaxError, Token};
 use hushlang::tree::{Script, Word};
 use output::{Out, Over};
-use rehearse::{Bounds, Devices, DevicesError, RunBounds};
+use rehearse::{Bounds, Devices, DevicesError, Page, RunBounds};
 use rehearse_endings::{EndingsAsk, endings_env};
 use rehearse_runs::{Finish, RehearseError, Runs, WordKind, resume_point, try_word, write_listing};
 use std::alloc::Global;
@@ -117,7 +117,7 @@ pub(crate) fn list<S: Store, O: Out>(
     out: &mut O,
 ) -> Result<Finish, RehearseError> {
     let limit = if limit == 0 { None } else { Some(limit) };
-    write_listing(runs, names, limit, out)
+    write_listing(runs, names, Page { limit }, out)
 }
 
 /// The word after which a listing goes on that was broken off, and how many bytes of it stand. Before the end of the

@@ -9,7 +9,7 @@ use envimage::{
 };
 use envtools::{Env, EnvError, ScriptError, apply_script};
 use image_tools::{
-    Bounds, Edit, Finish, PrintAsk, RehearseAsk, ToolError, Wanted, print_bytes, rehearse_bytes,
+    Bounds, Edit, Finish, Page, PrintAsk, RehearseAsk, ToolError, Wanted, print_bytes, rehearse_bytes,
     run_input, set_bytes,
 };
 use locked_files::MemoryFiles;
@@ -104,7 +104,7 @@ pub(crate) fn rehearse(
         wanted: Wanted::Listing {
             bounds,
             after: None,
-            limit: None,
+            page: Page { limit: None },
         },
         names: &[b"z"],
     };

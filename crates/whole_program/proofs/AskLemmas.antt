@@ -2,15 +2,16 @@
 use Rattle.std.proofs.Common.{◌≡◌, ◌==◌, ℕ, Bool, true, false, not, refl, sym, subst, ◌∙◌, List, length, Option, Some, None, Ok, Err}
 use Rattle.std.proofs.lemmas.Bool.{eqb-true}
 use Rattle.std.proofs.lemmas.List.{length-map}
-use Rattle.std.specs.Prelude.{option_and_then, option_map, if◌then◌else◌, ◌&&◌, codes, string_bytes}
+use Rattle.std.specs.Prelude.{is_some, ◌||◌, option_and_then, option_map, if◌then◌else◌, ◌&&◌, codes, string_bytes}
 use Rattle.std.specs.Str.{bytes_eq}
 use Rattle.clap.specs.Words.{Row, Text, first_of, subcommand_of}
 use Rattle.envimage.specs.declared.image.ByteOrder.{ByteOrder}
-use Rattle.rehearse.specs.Asking.{Listed}
+use Rattle.rehearse.specs.Asking.{Alone, Listed}
+use Rattle.rehearse.specs.declared.wanted.Page.{Page}
 use Rattle.rehearse.specs.Bounds.{BoundsShown, bounds_of}
 use Rattle.requests.specs.CommandAnswers.{Answers, asked, meaning_of}
-use Rattle.requests.specs.Asked.{Asked, asked_of, bounds_asked, endings_asked, endings_with, run_bounds_asked, change_asked, config_of, header_needs_one, input_scripted, is_set, listing_asked, number_within, order_of, print_asked, printing, rehearsal_of, rehearsal_with, rehearse_asked, scripted, set_asked, too_many_devices, values_of, wanted_by, word_asked}
-use Rattle.command_line.specs.CommandLine.{most_failures, most_records, most_states, ubtool}
+use Rattle.requests.specs.Asked.{Asked, asked_of, bounds_asked, endings_asked, endings_with, run_bounds_asked, change_asked, config_of, header_needs_one, input_scripted, is_set, listing_asked, number_within, order_of, page_asked, print_asked, printing, rehearsal_of, rehearsal_with, rehearse_asked, scripted, set_asked, too_many_devices, values_of, wanted_by, word_alone, word_asked}
+use Rattle.command_line.specs.CommandLine.{most_failures, most_states, ubtool}
 use Rattle.requests.specs.declared.called.CalledAs.{CalledAs}
 use Rattle.requests.specs.declared.called.CalledAs.TheVariants.{FwTool, Ubtool}
 use Rattle.requests.specs.declared.ask.Ask.{Ask}
@@ -44,31 +45,32 @@ set-fit called (Some script) (Some name) rows = tt
 set-fit called None (Some name) rows = tt
 set-fit called None None rows = tt
 
-listing-fit : (list : Text) (rows : List Row) (after : Option Text) (limit : Option ℕ) (narrow : Option BoundsShown)
-    → IsFit (Some (rehearsal_of list rows (elim narrow [ Some within ↦ Ok (within, Listed after limit) | None ↦ Err too_many_devices ])))
-listing-fit list rows after limit (Some within) = tt
-listing-fit list rows after limit None = tt
+listing-fit : (list : Text) (rows : List Row) (after : Option Text) (page : Page) (narrow : Option BoundsShown)
+    → IsFit (Some (rehearsal_of list rows (elim narrow [ Some within ↦ Ok (within, Listed after page) | None ↦ Err too_many_devices ])))
+listing-fit list rows after page (Some within) = tt
+listing-fit list rows after page None = tt
 
-narrow-fit : (list : Text) (rows : List Row) (after : Option Text) (limit failures : Option ℕ) (bounds : Option BoundsShown) → IsFit (option_map (rehearsal_of list rows) (option_map (listing_asked after limit failures) bounds))
-narrow-fit list rows after limit failures (Some bounds) = listing-fit list rows after limit (bounds_of bounds.devices bounds.steps failures)
-narrow-fit list rows after limit failures None = tt
+narrow-fit : (list : Text) (rows : List Row) (after : Option Text) (page : Page) (failures : Option ℕ) (bounds : Option BoundsShown) → IsFit (option_map (rehearsal_of list rows) (option_map (listing_asked after page failures) bounds))
+narrow-fit list rows after page failures (Some bounds) = listing-fit list rows after page (bounds_of bounds.devices bounds.steps failures)
+narrow-fit list rows after page failures None = tt
 
-wide-fit : (list : Text) (rows : List Row) (word : Text) (after : Option Text) (limit failures : Option ℕ) (bounds : Option BoundsShown) → IsFit (option_map (rehearsal_of list rows) (option_map (word_asked word after limit failures) bounds))
-wide-fit list rows word None None None (Some bounds) = tt
-wide-fit list rows word (Some after) limit failures (Some bounds) = tt
-wide-fit list rows word None (Some limit) failures (Some bounds) = tt
-wide-fit list rows word None None (Some failures) (Some bounds) = tt
-wide-fit list rows word after limit failures None = tt
+word-fit : (list : Text) (rows : List Row) (word : Text) (bounds : BoundsShown) (beside : Bool) → IsFit (Some (rehearsal_of list rows (if beside then Err word_alone else Ok (bounds, Alone word))))
+word-fit list rows word bounds true = tt
+word-fit list rows word bounds false = tt
 
-wanted-fit : (list : Text) (word after : Option Text) (limit failures : Option ℕ) (rows : List Row) → IsFit (option_map (rehearsal_of list rows) (wanted_by word after limit failures rows))
-wanted-fit list None after limit failures rows = narrow-fit list rows after limit failures (bounds_asked rows)
-wanted-fit list (Some word) after limit failures rows = wide-fit list rows word after limit failures (run_bounds_asked rows)
+wide-fit : (list : Text) (rows : List Row) (word : Text) (after : Option Text) (page : Page) (failures : Option ℕ) (bounds : Option BoundsShown) → IsFit (option_map (rehearsal_of list rows) (option_map (word_asked word after page failures) bounds))
+wide-fit list rows word after page failures (Some bounds) = word-fit list rows word bounds (is_some after || is_some page.limit || is_some failures)
+wide-fit list rows word after page failures None = tt
 
-rehearse-fit : (list : Option Text) (limit failures : Option (Option ℕ)) (rows : List Row) → IsFit (rehearsal_with list limit failures rows)
-rehearse-fit (Some list) (Some limit) (Some failures) rows = wanted-fit list (first_of (codes "word") rows) (first_of (codes "after") rows) limit failures rows
-rehearse-fit None limit failures rows = tt
+wanted-fit : (list : Text) (word after : Option Text) (page : Page) (failures : Option ℕ) (rows : List Row) → IsFit (option_map (rehearsal_of list rows) (wanted_by word after page failures rows))
+wanted-fit list None after page failures rows = narrow-fit list rows after page failures (bounds_asked rows)
+wanted-fit list (Some word) after page failures rows = wide-fit list rows word after page failures (run_bounds_asked rows)
+
+rehearse-fit : (list : Option Text) (page : Option Page) (failures : Option (Option ℕ)) (rows : List Row) → IsFit (rehearsal_with list page failures rows)
+rehearse-fit (Some list) (Some page) (Some failures) rows = wanted-fit list (first_of (codes "word") rows) (first_of (codes "after") rows) page failures rows
+rehearse-fit None page failures rows = tt
 rehearse-fit (Some list) None failures rows = tt
-rehearse-fit (Some list) (Some limit) None rows = tt
+rehearse-fit (Some list) (Some page) None rows = tt
 
 endings-fit : (list : Option Text) (bounds : Option BoundsShown) (states : Option (Option ℕ)) (rows : List Row) → IsFit (endings_with list bounds states rows)
 endings-fit (Some list) (Some bounds) (Some states) rows = tt
@@ -84,7 +86,7 @@ asked-fit called words = by (subcommand_of ubtool words)
         let names = values_of (codes "names") rows in
         let printed = print-fit (is_set (codes "noheader") rows) (length names == 1) (config_of rows) names (order_of rows) refl in
         let set = set-fit called (first_of (codes "script") rows) (first_of (codes "name") rows) rows in
-        let rehearsed = rehearse-fit (first_of (codes "device-list") rows) (number_within 1 most_records (codes "limit") rows) (number_within 0 most_failures (codes "failures") rows) rows in
+        let rehearsed = rehearse-fit (first_of (codes "device-list") rows) (page_asked rows) (number_within 0 most_failures (codes "failures") rows) rows in
         let ended = endings-fit (first_of (codes "device-list") rows) (run_bounds_asked rows) (number_within 0 most_states (codes "states") rows) rows in
         let last = either (bytes_eq name (codes "endings")) (endings_asked rows) None ended tt in
         let two = either (bytes_eq name (codes "rehearse")) (rehearse_asked rows) (if bytes_eq name (codes "endings") then endings_asked rows else None) rehearsed last in

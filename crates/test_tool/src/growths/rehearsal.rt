@@ -5,7 +5,7 @@
 use bootstore::{Plain, Store, Trail};
 use envtools::Env;
 use output::{Out, Over, write_all};
-use rehearse::{Bounds, Devices};
+use rehearse::{Bounds, Devices, Page};
 use rehearse_runs::{RehearseError, Runs, write_listing};
 use std::alloc::{AllocError, Global};
 use std::io;
@@ -127,7 +127,7 @@ fn write_runs<S: Store, O: Out>(
     last: &mut Last,
     out: &mut O,
 ) -> Option<bool> {
-    match write_listing(runs, &[], None, out) {
+    match write_listing(runs, &[], Page { limit: None }, out) {
         Ok(_) => Some(true),
         Err(RehearseError::Memory) => write_refused(runs, last, out),
         Err(_) => None,

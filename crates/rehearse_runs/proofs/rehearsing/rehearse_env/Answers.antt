@@ -6,7 +6,7 @@ pub returns-in-Listing : goal.returns-in-Listing
 returns-in-Listing g c =
     let old = g.O.Out.sink c.args.out.now in
     let new = g.O.Out.sink c.list_runs.new.out in
-    let wanted = Listing c.in-Listing.bounds c.in-Listing.after c.in-Listing.limit in
+    let wanted = Listing c.in-Listing.bounds c.in-Listing.after c.in-Listing.page in
     record {
       ok = rehearses_with c.list_runs.result c.args.env.now c.args.devices_text.now _ c.args.ask.now wanted old new c.in-Ok.ensures c.in-Listing.is c.list_runs.ensures.ok;
       err = refused_with c.list_runs.result c.args.env.now c.args.devices_text.now _ c.args.ask.now wanted old new c.in-Ok.ensures c.in-Listing.is c.list_runs.ensures.err;
