@@ -18,7 +18,7 @@ use Rattle.rehearse.proofs.KnownLists.{known_was_bad, test_is_built_in}
 use Rattle.rehearse.specs.DeviceLaws.{line_said, with_said, lines_said, lines_at, same_word, whole_effect, LinesAreJoined}
 use Rattle.rehearse.specs.declared.devices_error.DevicesError.{DevicesError}
 use Rattle.rehearse.specs.declared.devices_error.DevicesError.TheVariants.{BadLine}
-use Rattle.rehearse.proofs.MapLemmas.{in_sub}
+use Rattle.rehearse.specs.NamedPlaces.{in_sub}
 
 -- ---- a table after a change at a name
 

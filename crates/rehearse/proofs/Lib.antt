@@ -26,6 +26,7 @@ pub mod KnownLists
 pub mod CallLists
 pub mod JoinedLines
 pub mod MapLemmas
+pub mod PlaceLemmas
 pub mod QuietNames
 pub mod PlainLists
 pub mod EarlierLists

@@ -7,10 +7,10 @@ use Rattle.std.specs.Map.{lookup, set_value}
 use Rattle.std.proofs.lemmas.List.{map-append}
 use Rattle.indexmap.specs.IndexMap.{IndexMap, insert_entry}
 use Rattle.rehearse.specs.Verdict.{Text}
-use Rattle.rehearse.specs.DeviceList.{Effect, Effects, Devices, effect_in, is_listed, joint, changed_at}
+use Rattle.rehearse.specs.DeviceList.{Devices, is_listed, joint, changed_at}
 use Rattle.rehearse.specs.DevicesShown.{Bytes, setting_shown}
 use Rattle.rehearse.specs.CommandsShown.{listed_shown, found_shown, commands_shown, table_shown, subs_shown}
-use Rattle.rehearse.specs.declared.devices.Listed.{Listed}
+use Rattle.rehearse.specs.declared.device_tables.Listed.{Listed}
 
 abbrev pub is_key : Text → Bytes → Bool
 is_key name key = bytes_eq name key.items
@@ -25,10 +25,6 @@ is_some-shown shown (Some l) = refl
 pub copied-shown : (found : Option (Bor Listed)) → option_map found_shown found ≡ option_map listed_shown (option_copied found)
 copied-shown None = refl
 copied-shown (Some l) = refl
-
--- what the table of a name says of a first word
-abbrev pub in_sub : Option Effects → Text → Option Effect
-in_sub o word = elim o [ None ↦ None | Some effects ↦ effect_in effects word ]
 
 module _ {V S : Type 0} (shown : V → S) where
   -- the table that the entries of a map are

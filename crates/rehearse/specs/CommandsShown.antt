@@ -5,8 +5,8 @@ use Rattle.indexmap.specs.IndexMap.{IndexMap}
 use Rattle.rehearse.specs.Verdict.{Text}
 use Rattle.rehearse.specs.DeviceList.{Effect, Effects}
 use Rattle.rehearse.specs.DevicesShown.{Bytes, setting_shown, settings_shown}
-use Rattle.rehearse.specs.declared.devices.Effect.{Effect as LentEffect}
-use Rattle.rehearse.specs.declared.devices.Listed.{Listed}
+use Rattle.rehearse.specs.declared.device_tables.Effect.{Effect as LentEffect}
+use Rattle.rehearse.specs.declared.device_tables.Listed.{Listed}
 
 abbrev pub listed_shown : Listed → Effect
 listed_shown l = record { ends = l.ends; stays = l.stays; sets = settings_shown l.sets }

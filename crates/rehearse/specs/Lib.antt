@@ -31,3 +31,4 @@ pub mod CallList
 pub mod CallExecution
 pub mod DeviceListAnswers
 pub mod TextsShown
+pub mod NamedPlaces

@@ -1,150 +1,41 @@
 //! The device list: which commands are device commands, and what each does on success.
-ghost use Rattle.std.specs.Prelude.{◌≡◌, [], OnOk, Some, option_map};
-ghost use Rattle.rehearse.specs.DeviceList.{only, changed_at, joined_in, joined_behind, joined_by, effect_at, sub_effect, effect_of, computed_by, with_known, is_listed};
-ghost use Rattle.rehearse.specs.CommandsShown.{commands_shown, subs_shown, listed_shown, found_shown};
+ghost use Rattle.std.specs.Prelude.{◌≡◌, IfSome, option_map};
 ghost use Rattle.std.specs.List.{list_any};
 ghost use Rattle.std.specs.Str.{bytes_eq};
+ghost use Rattle.rehearse.specs.DeviceList.{effect_of, computed_by, is_listed};
+ghost use Rattle.rehearse.specs.DeviceListAnswers.{IsListed};
+ghost use Rattle.rehearse.specs.CommandsShown.{lent_effect};
+ghost use Rattle.rehearse.specs.ComputedShown.{call_shown};
+ghost use Rattle.rehearse.specs.NamedPlaces.{IsPlaced};
 ghost use Rattle.rehearse.specs.TextsShown.{texts};
 
-use crate::computed::{Computed, computes};
-use crate::device_line::{
-    begins_comment, device_words, has_nul, heading_of, is_steady_test, known_named,
-};
+use crate::computed::Computed;
+use crate::device_tables::{DeviceTables, Effect, Places};
 use crate::devices_error::DevicesError;
-use crate::known_commands::known_of;
-use crate::setting::{Setting, settings};
-use hushlang::builtins::is_built_in;
 use indexmap::IndexMap;
-use std::alloc::{AllocError, Global};
+use std::alloc::Global;
 use std::marker::Model;
-use text::Lines;
-
-/// What a device command does on success, and whether its answers stay.
-#[derive(Clone, Copy, Debug)]
-pub struct Effect<'a> {
-    /// Whether it ends the run.
-    pub ends: bool,
-    /// Whether it answers as before if it is asked again with the same words in one run.
-    pub stays: bool,
-    /// What it sets in the environment, in order.
-    pub sets: &'a [Setting],
-}
-
-/// What a device command of the list does on success, and whether its answers stay.
-#[derive(Drop)]
-struct Listed {
-    ends: bool,
-    stays: bool,
-    sets: Vec<Setting>,
-}
-
-/// What the list says of each name.
-type Table = IndexMap<Vec<u8>, Listed>;
-
-/// Joins one more `sub` line to the earlier ones with its name and its first word. Errors: memory
-/// ran out.
-fn join_sub(
-    alloc: Global,
-    subs: &mut IndexMap<Vec<u8>, Table>,
-    name: &[u8],
-    word: &[u8],
-    more: Listed,
-) -> Result<(), AllocError>
-    ensures { OnOk result (subs_shown subs.new.entries
-        ≡ changed_at (joined_behind word.now (listed_shown more)) (subs_shown subs.old.entries)
-        name.now) }
-{
-    if let Some(table) = subs.get_mut(name) {
-        join(alloc, table, word, more)?;
-        return Ok(());
-    }
-    let mut table = IndexMap::new(alloc);
-    join(alloc, &mut table, word, more)?;
-    let name = Vec::from_slice(alloc, name)?;
-    subs.insert(name, table)?;
-    Ok(())
-}
-
-impl Listed {
-    ghost use Rattle.rehearse.specs.CommandsShown.{lent_effect};
-
-    /// The same, borrowed.
-    fn effect(&self) -> Effect<'_>
-        ensures { lent_effect result ≡ listed_shown self.now }
-    {
-        Effect {
-            ends: self.ends,
-            stays: self.stays,
-            sets: &self.sets,
-        }
-    }
-}
 
 /// The device commands of a device list, each with what its calls do on success.
 #[derive(Drop)]
 pub struct Devices {
-    alloc: Global,
-    /// By their names.
-    commands: Table,
-    /// By the name, and then by the first word of a call.
-    subs: IndexMap<Vec<u8>, Table>,
-    /// The names of the commands that are computed, each once.
-    known: Vec<Vec<u8>>,
-    /// Whether the answers of `test -e` stay.
-    test_stays: bool,
-}
-
-/// Joins one more line to the earlier ones with its name. Errors: memory ran out.
-fn join(alloc: Global, table: &mut Table, name: &[u8], mut more: Listed) -> Result<(), AllocError>
-    ensures { OnOk result (commands_shown table.new.entries
-        ≡ joined_in (commands_shown table.old.entries) name.now (listed_shown more)) }
-{
-    if let Some(listed) = table.get_mut(name) {
-        listed.sets.append(&mut more.sets)?;
-        listed.ends |= more.ends;
-        listed.stays |= more.stays;
-        return Ok(());
-    }
-    let name = Vec::from_slice(alloc, name)?;
-    table.insert(name, more)?;
-    Ok(())
-}
-
-/// Whether a name is one of these.
-fn is_among(names: &[Vec<u8>], name: &[u8]) -> bool
-    ensures { result ≡ list_any (λ one. bytes_eq name.now one.items) names.now }
-{
-    names.iter().any(|one| name == one.as_slice())
+    tables: DeviceTables,
+    /// Names of the tables, each with where these have it.
+    names: IndexMap<Vec<u8>, Places>,
 }
 
 impl Model for Devices {
     ghost use Rattle.rehearse.specs.DeviceList as spec;
-    ghost use Rattle.rehearse.specs.CommandsShown.{commands_shown, subs_shown};
-    ghost use Rattle.rehearse.specs.TextsShown.{texts};
+    ghost use Rattle.rehearse.specs.NamedPlaces.{ArePlaced};
 
     ghost Value = { spec.Devices };
 
-    ghost view = { λ d. record { commands = commands_shown d.commands.entries; subs = subs_shown d.subs.entries; known = texts d.known.items; test_stays = d.test_stays } };
+    ghost view = { λ d. d.tables };
+
+    ghost invariant = { λ d. ArePlaced d.tables d.names.entries };
 }
 
 impl Devices {
-    ghost use Rattle.rehearse.specs.CommandsShown.{lent_effect};
-    ghost use Rattle.rehearse.specs.ComputedShown.{call_shown};
-    ghost use Rattle.rehearse.specs.DeviceListAnswers.{AddsLine, IsListed};
-
-    /// A list of no command. Takes no memory.
-    fn new(alloc: Global) -> Self
-        ensures { result ≡ only [] }
-    {
-        Devices {
-            alloc,
-            commands: IndexMap::new(alloc),
-            subs: IndexMap::new(alloc),
-            known: Vec::new(alloc),
-            test_stays: false,
-        }
-    }
-
     /// The commands of a device list, a line each: `NAME SETTINGS`, or `final NAME SETTINGS` for one
     /// that ends the run; `sub NAME WORD SETTINGS` and `final sub NAME WORD SETTINGS` speak of the calls
     /// of NAME whose first word is WORD. `steady`, before all of that or after `final`, has the answers
@@ -164,18 +55,16 @@ impl Devices {
     pub fn parse(alloc: Global, text: &[u8]) -> Result<Self, DevicesError>
         ensures { IsListed text.now result }
     {
-        let mut devices = Devices::new(alloc);
-        for (number, line) in Lines::new(text) {
-            devices.add_line(number, line)?;
-        }
-        Ok(devices)
+        let tables = DeviceTables::parse(alloc, text)?;
+        let names = tables.names()?;
+        Ok(Devices { tables, names })
     }
 
     /// Whether a line names a command. Takes no memory.
     pub fn has(&self, name: &[u8]) -> bool
         ensures { result ≡ is_listed self.now name.now }
     {
-        self.commands.contains_key(name) || self.subs.contains_key(name)
+        self.tables.has(name)
     }
 
     /// What a call of a command does on success, if it is listed: what the `sub` lines of its first
@@ -183,11 +72,26 @@ impl Devices {
     pub fn effect(&self, name: &[u8], words: &[Vec<u8>]) -> Option<Effect<'_>>
         ensures { option_map lent_effect result ≡ effect_of self.now name.now (texts words.now) }
     {
-        if let Some(listed) = self.sub_listed(name, words) {
-            return Some(listed.effect());
+        self.tables.effect(name, words)
+    }
+
+    /// The same. The name is looked up only if it is not at the place that is given. Takes no memory.
+    pub fn effect_near(&self, name: &[u8], words: &[Vec<u8>], place: usize) -> Option<Effect<'_>>
+        ensures { option_map lent_effect result ≡ effect_of self.now name.now (texts words.now) }
+    {
+        match self.places_at(place, name) {
+            Some(places) => self.tables.placed_effect(places, words),
+            None => self.tables.effect(name, words),
         }
-        let listed = self.commands.get(name)?;
-        Some(listed.effect())
+    }
+
+    /// The place of a name among those of the list, or any number if the list does not have it. It is
+    /// looked up only if the name is not at the place that is given. It takes no memory.
+    pub fn place_near(&self, name: &[u8], place: usize) -> usize {
+        if self.places_at(place, name).is_some() {
+            return place;
+        }
+        self.names.get_index_of(name).unwrap_or(place)
     }
 
     /// What a call comes to, if the list has its command computed and its words can be. It takes no
@@ -195,101 +99,32 @@ impl Devices {
     pub fn computed<'w>(&self, name: &[u8], words: &'w [Vec<u8>]) -> Option<Computed<'w>>
         ensures { call_shown result ≡ computed_by self.now name.now (texts words.now) }
     {
-        let known = known_of(name)?;
-        if !self.is_known(name) {
-            return None;
-        }
-        computes(known, words)
+        self.tables.computed(name, words)
     }
 
     /// Whether the answers of `test -e` stay.
     pub fn test_stays(&self) -> bool
         ensures { result ≡ (self.now).test_stays }
     {
-        self.test_stays
+        self.tables.test_stays()
     }
 
     /// Whether the list has a command computed. Takes no memory.
     pub fn is_known(&self, name: &[u8]) -> bool
         ensures { result ≡ list_any (bytes_eq name.now) (self.now).known }
     {
-        is_among(&self.known, name)
+        self.tables.is_known(name)
     }
 
-    /// What the `sub` lines of a call's name and first word say.
-    fn sub_listed(&self, name: &[u8], words: &[Vec<u8>]) -> Option<&Listed>
-        ensures { option_map found_shown result ≡ sub_effect self.now name.now (texts words.now) }
+    /// Where the tables have the name at a place, if it is this name.
+    fn places_at(&self, place: usize, name: &[u8]) -> Option<Places>
+        ensures { IfSome result (IsPlaced self.now name.now) }
     {
-        match words {
-            [] => None,
-            [first, ..] => self.listed_at(name, first),
+        let (found, places) = self.names.get_index(place)?;
+        if found.as_slice() == name {
+            Some(*places)
+        } else {
+            None
         }
-    }
-
-    /// What the `sub` lines of a name and a first word say.
-    fn listed_at(&self, name: &[u8], word: &[u8]) -> Option<&Listed>
-        ensures { option_map found_shown result ≡ effect_at self.now name.now (Some word.now) }
-    {
-        let table = self.subs.get(name)?;
-        table.get(word)
-    }
-
-    /// Reads one more line. Errors: `BadLine`, `BuiltIn`, `Memory`.
-    fn add_line(&mut self, number: usize, line: &[u8]) -> Result<(), DevicesError>
-        ensures { AddsLine self.old number line.now self.new result }
-    {
-        let words = device_words(self.alloc, line)?;
-        let [first, behind @ ..] = words.as_slice() else {
-            return Ok(());
-        };
-        if begins_comment(first) {
-            return Ok(());
-        }
-        if has_nul(line) {
-            return Err(DevicesError::BadLine(number));
-        }
-        if let Some(name) = known_named(first, behind) {
-            self.add_known(name)?;
-            return Ok(());
-        }
-        if is_steady_test(first, behind) {
-            self.test_stays = true;
-            return Ok(());
-        }
-        let heading = heading_of(first, behind);
-        let Some(sets) = settings(self.alloc, heading.words, heading.word.is_some())? else {
-            return Err(DevicesError::BadLine(number));
-        };
-        if is_built_in(heading.name) {
-            return Err(DevicesError::BuiltIn(number));
-        }
-        let (ends, stays) = (heading.ends, heading.stays);
-        self.add(heading.name, heading.word, Listed { ends, stays, sets })?;
-        Ok(())
-    }
-
-    /// One more command is computed. Its name is kept once.
-    fn add_known(&mut self, name: &[u8]) -> Result<(), AllocError>
-        ensures { OnOk result (self.new ≡ with_known self.old name.now) }
-    {
-        if self.is_known(name) {
-            return Ok(());
-        }
-        let name = Vec::from_slice(self.alloc, name)?;
-        self.known.push(name)?;
-        Ok(())
-    }
-
-    /// Joins one more line to the earlier ones; for a `sub` line with its first word. Errors:
-    /// `Memory`.
-    fn add(&mut self, name: &[u8], word: Option<&[u8]>, more: Listed) -> Result<(), AllocError>
-        ensures { OnOk result (self.new ≡ joined_by self.old name.now
-            (option_map (λ w. w.now) word.entry) (listed_shown more)) }
-    {
-        match word {
-            Some(word) => join_sub(self.alloc, &mut self.subs, name, word, more)?,
-            None => join(self.alloc, &mut self.commands, name, more)?,
-        }
-        Ok(())
     }
 }

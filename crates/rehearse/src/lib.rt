@@ -5,6 +5,7 @@ mod bounds;
 mod computed;
 pub mod device_laws;
 mod device_line;
+mod device_tables;
 mod devices;
 mod devices_error;
 mod hexadecimal;
@@ -20,7 +21,8 @@ mod wanted;
 
 pub use bounds::{Bounds, DEVICES_MAX, STEPS_MAX};
 pub use computed::Computed;
-pub use devices::{Devices, Effect};
+pub use device_tables::Effect;
+pub use devices::Devices;
 pub use devices_error::DevicesError;
 pub use run_bounds::{RUN_DEVICES_MAX, RunBounds};
 pub use setexpr::is_bad_name;

@@ -2,8 +2,9 @@ use Rattle.std.proofs.Common.{ap, sym, ◌∙◌, Some, None}
 use Rattle.std.specs.Option.{option_copied}
 use Rattle.rehearse.specs.DeviceList.{Devices, effect_at}
 use Rattle.rehearse.specs.CommandsShown.{listed_shown, table_shown}
-use Rattle.rehearse.proofs.MapLemmas.{looked_up, copied-shown, in_sub}
-use Rattle.rehearse.proofs.devices.Devices.listed_at.Goals as goal
+use Rattle.rehearse.specs.NamedPlaces.{in_sub}
+use Rattle.rehearse.proofs.MapLemmas.{looked_up, copied-shown}
+use Rattle.rehearse.proofs.device_tables.DeviceTables.listed_at.Goals as goal
 
 pub returns-in_err-table : goal.returns-in_err-table
 returns-in_err-table c =

@@ -2,9 +2,9 @@ use Rattle.std.proofs.Common.{◌||◌, ◌∙◌, ap, sym, refl}
 use Rattle.indexmap.specs.IndexMap.{insert_entry}
 use Rattle.rehearse.specs.DeviceList.{joint_behind}
 use Rattle.rehearse.specs.CommandsShown.{listed_shown, commands_shown}
-use Rattle.rehearse.specs.declared.devices.Listed.{Listed}
+use Rattle.rehearse.specs.declared.device_tables.Listed.{Listed}
 use Rattle.rehearse.proofs.MapLemmas.{listed-joined, changed-present, changed-inserted, same_key}
-use Rattle.rehearse.proofs.devices.join.Goals as goal
+use Rattle.rehearse.proofs.device_tables.join.Goals as goal
 
 pub returns-in-Some : goal.returns-in-Some
 returns-in-Some c =

@@ -1,7 +1,7 @@
 use Rattle.std.proofs.Common.{sym, ◌∙◌, refl, true, false}
 use Rattle.rehearse.specs.TextsShown.{texts}
 use Rattle.rehearse.proofs.MapLemmas.{has-either}
-use Rattle.rehearse.proofs.devices.Devices.has.Goals as goal
+use Rattle.rehearse.proofs.device_tables.DeviceTables.has.Goals as goal
 
 pub returns-then-contains_key : goal.returns-then-contains_key
 returns-then-contains_key c =

@@ -5,7 +5,7 @@ use Rattle.std.specs.Str.{bytes_eq}
 use Rattle.std.specs.declared.alloc.Global.{Global}
 use Rattle.rehearse.specs.DeviceList.{Devices}
 use Rattle.rehearse.proofs.ComputedLemmas.{any_text}
-use Rattle.rehearse.proofs.devices.Devices.is_known.Goals as goal
+use Rattle.rehearse.proofs.device_tables.DeviceTables.is_known.Goals as goal
 
 pub returns : goal.returns
 returns c =

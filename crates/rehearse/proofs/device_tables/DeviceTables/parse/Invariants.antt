@@ -1,7 +1,7 @@
 use Rattle.std.proofs.Common.{◌≡◌}
 use Rattle.text.specs.Lines.{lines_left}
 use Rattle.rehearse.specs.DeviceList.{listed, listed_lines}
-use Rattle.rehearse.proofs.devices.Devices.parse.Given as goal
+use Rattle.rehearse.proofs.device_tables.DeviceTables.parse.Given as goal
 
 -- the lines so far make this list, and none of them is faulty
 abbrev pub invariant-loop-number : goal.invariant-loop-number

@@ -4,7 +4,7 @@ use Rattle.rehearse.specs.DeviceList.{Effect, Devices, sub_effect, effect_at}
 use Rattle.rehearse.specs.TextsShown.{texts}
 use Rattle.rehearse.specs.CommandsShown.{listed_shown, found_shown}
 use Rattle.rehearse.proofs.MapLemmas.{looked_up}
-use Rattle.rehearse.proofs.devices.Devices.effect.Goals as goal
+use Rattle.rehearse.proofs.device_tables.DeviceTables.effect.Goals as goal
 
 pub returns-in-Some : goal.returns-in-Some
 returns-in-Some c =

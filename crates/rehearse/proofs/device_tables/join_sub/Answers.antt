@@ -3,7 +3,7 @@ use Rattle.indexmap.specs.IndexMap.{insert_entry}
 use Rattle.rehearse.specs.DeviceList.{joined_in, joined_behind}
 use Rattle.rehearse.specs.CommandsShown.{listed_shown, commands_shown, table_shown, subs_shown}
 use Rattle.rehearse.proofs.MapLemmas.{changed-present, changed-inserted, same_key}
-use Rattle.rehearse.proofs.devices.join_sub.Goals as goal
+use Rattle.rehearse.proofs.device_tables.join_sub.Goals as goal
 
 pub returns-in-Some : goal.returns-in-Some
 returns-in-Some c =
