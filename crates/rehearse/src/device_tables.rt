@@ -40,7 +40,7 @@ struct Listed {
 }
 
 /// Where the tables have a name, if they have it.
-#[derive(Clone, Copy, Debug)]
+#[derive(Clone, Copy)]
 pub struct Places {
     /// Among the commands.
     command: Option<usize>,
