@@ -4,8 +4,8 @@ use Rattle.std.proofs.Common.{refl, bytes_eq}
 use Rattle.std.specs.Fmt.{digits}
 use Rattle.hushlang.specs.Tree.{Word, Piece, Bytes, Mark, Var, Status}
 use Rattle.hushlang.specs.Expansion.{Parameters, atoms, fields, joined}
-use Rattle.hushlang.specs.Builtins.{Echo, known_builtin}
-use Rattle.hushlang.specs.KnownFields.{known_fields}
+use Rattle.hushlang.specs.Builtins.{Echo, SetEnv, known_builtin}
+use Rattle.hushlang.specs.KnownFields.{known_fields, known_name}
 
 -- one variable alone is set
 abbrev pub only : List ℕ → List ℕ → ℕ → Parameters
@@ -108,7 +108,31 @@ known_nothing : known_fields [] ≡ Some []
 unfolding fields
 known_nothing = refl
 
--- ---- the built-in command that such fields name
+-- ---- the name that words begin with
+
+-- `echo $x "$x" ''`: what is behind the name does not matter
+known_name_echo : known_name echo_words ≡ Some (codes "echo")
+unfolding fields atoms echo_words
+known_name_echo = refl
+
+-- `$x load`
+unknown_name : known_name ((x ∷ []) ∷ (text (codes "load") ∷ []) ∷ []) ≡ None
+unknown_name = refl
+
+-- `ec$x`
+unknown_end : known_name ((text (codes "ec") ∷ x ∷ []) ∷ []) ≡ None
+unknown_end = refl
+
+-- `'' $x`: an empty field
+empty_name : known_name ((Mark ∷ []) ∷ (x ∷ []) ∷ []) ≡ Some []
+unfolding fields atoms
+empty_name = refl
+
+no_name : known_name [] ≡ None
+unfolding fields
+no_name = refl
+
+-- ---- the built-in command of that name
 
 -- `echo ''`
 names_echo : known_builtin ((text (codes "echo") ∷ []) ∷ (Mark ∷ []) ∷ []) ≡ Some Echo
@@ -120,8 +144,13 @@ names_none : known_builtin ((text (codes "load") ∷ []) ∷ (text (codes "echo"
 unfolding fields atoms
 names_none = refl
 
--- `echo $?`: no field is known
-names_unknown : known_builtin ((text (codes "echo") ∷ []) ∷ (Status ∷ []) ∷ []) ≡ None
+-- `setenv $?`: the name is enough
+names_setenv : known_builtin ((text (codes "setenv") ∷ []) ∷ (Status ∷ []) ∷ []) ≡ Some SetEnv
+unfolding fields atoms
+names_setenv = refl
+
+-- `$x echo`
+names_unknown : known_builtin ((x ∷ []) ∷ (text (codes "echo") ∷ []) ∷ []) ≡ None
 names_unknown = refl
 
 no_field_names : known_builtin [] ≡ None

@@ -2,7 +2,7 @@
 use Rattle.std.specs.Prelude.{ℕ, Bool, List, [], ◌∷◌, Option, None, codes, is_some, option_and_then}
 use Rattle.std.specs.Str.{bytes_eq}
 use Rattle.std.specs.Map.{lookup}
-use Rattle.hushlang.specs.KnownFields.{known_fields}
+use Rattle.hushlang.specs.KnownFields.{known_name}
 use Rattle.hushlang.specs.Tree.{Word}
 
 pub data Builtin : Type 0 where
@@ -32,6 +32,6 @@ abbrev pub builtin_named : List (List ℕ) → Option Builtin
 builtin_named [] = None
 builtin_named (name ∷ words) = builtin_of name
 
--- the same of the words of a simple command, if their fields are known before it runs
+-- the built-in command of the name that words begin with, if that name is known before they are expanded
 abbrev pub known_builtin : List Word → Option Builtin
-known_builtin words = option_and_then builtin_named (known_fields words)
+known_builtin words = option_and_then builtin_of (known_name words)

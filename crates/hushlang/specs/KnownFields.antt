@@ -1,6 +1,7 @@
 -- Fields that are known before a command runs. Ours.
-use Rattle.std.specs.Prelude.{ℕ, Bool, true, false, ◌&&◌, List, nat_le, if◌then◌else◌, Option, Some, None}
+use Rattle.std.specs.Prelude.{ℕ, Bool, true, false, ◌&&◌, List, [], ◌∷◌, nat_le, if◌then◌else◌, Option, Some, None, option_and_then}
 use Rattle.std.specs.List.{list_all}
+use Rattle.std.specs.Option.{option_or}
 use Rattle.hushlang.specs.Tree as tree
 use Rattle.hushlang.specs.Tree.{Word, Piece}
 use Rattle.hushlang.specs.Expansion.{Parameters, fields, size, most_bytes}
@@ -27,3 +28,16 @@ abbrev pub known_fields : List Word → Option (List (List ℕ))
 known_fields words =
     if are_constant words && nat_le (size (fields nothing_set words)) most_bytes
     then Some (fields nothing_set words) else None
+
+-- the fields of the first word, if no piece of it can change and they fit the limit
+abbrev pub known_of_first : List Word → Option (List (List ℕ))
+known_of_first [] = None
+known_of_first (word ∷ words) = known_fields (word ∷ [])
+
+abbrev pub first_field : List (List ℕ) → Option (List ℕ)
+first_field [] = None
+first_field (name ∷ more) = Some name
+
+-- the name that words begin with: their first field, if all their fields are known, or those of the first word alone
+abbrev pub known_name : List Word → Option (List ℕ)
+known_name words = option_and_then first_field (option_or (known_fields words) (known_of_first words))

@@ -1,36 +1,51 @@
 //! A simple command. What no variable can change of it is found once, when it is read: its fields,
-//! and the built-in command that they name.
-ghost use Rattle.std.specs.Prelude.{◌≡◌, map, option_and_then, option_map};
-ghost use Rattle.hushlang.specs.Builtins.{builtin_named};
+//! and the built-in command that its name is.
+ghost use Rattle.std.specs.Prelude.{◌≡◌, map, option_map};
+ghost use Rattle.hushlang.specs.Builtins.{builtin_of};
 ghost use Rattle.hushlang.specs.BuiltinsShown.{builtin_shown};
-ghost use Rattle.hushlang.specs.KnownFields.{known_fields};
-ghost use Rattle.hushlang.specs.WordsShown.{word, known};
+ghost use Rattle.hushlang.specs.KnownFields.{first_field, known_fields, known_name};
+ghost use Rattle.hushlang.specs.WordsShown.{word, known, fields_in};
 
-use crate::builtins::{Builtin, builtin_named};
-use crate::known_fields::known_fields;
+use crate::builtins::{Builtin, builtin_named, builtin_of};
+use crate::known_fields::{known_fields, known_of_first};
 use crate::token::SyntaxError;
 use crate::tree::Word;
 use std::alloc::Global;
+use std::cell::Cell;
+use std::fmt;
 use std::rc::Rc;
 
-/// A simple command: its words, and if these are known before it runs, their fields and the
-/// built-in command that the first field names.
-#[derive(Debug, Drop)]
+/// A simple command: its words, and if these are known before it runs, their fields. If the first
+/// field is known, whether it names a built-in command, and which.
+#[derive(Drop)]
 pub struct Call {
     words: Vec<Word>,
     fields: Option<Rc<Vec<Vec<u8>>>>,
-    builtin: Option<Builtin>,
+    named: Option<Option<Builtin>>,
+    /// Where its name was found in a list when it was looked up last.
+    place: Cell<usize>,
     ghost prepared: { known fields ≡ known_fields (map word words.items) },
-    ghost named: { option_map builtin_shown builtin ≡ option_and_then builtin_named (known fields) },
+    ghost named_first: { option_map (option_map builtin_shown) named
+        ≡ option_map builtin_of (known_name (map word words.items)) },
+}
+
+/// Whether the first of fields names a built-in command, and which, if there is a field.
+fn named_by(fields: &Rc<Vec<Vec<u8>>>) -> Option<Option<Builtin>>
+    ensures { option_map (option_map builtin_shown) result
+        ≡ option_map builtin_of (first_field (fields_in fields.now)) }
+{
+    let name = fields.first()?;
+    Some(builtin_of(name))
 }
 
 impl Call {
-    ghost use Rattle.std.specs.Prelude.{◌≡◌, map, length, nat_le, true, option_map, IfOk, IfErr, IfSome};
+    ghost use Rattle.std.specs.Prelude.{◌≡◌, map, length, nat_le, true, is_some, option_map, IfOk, IfErr, IfSome};
     ghost use Rattle.hushlang.specs.Expansion as spec;
-    ghost use Rattle.hushlang.specs.Builtins.{known_builtin};
+    ghost use Rattle.hushlang.specs.Builtins.{builtin_named, known_builtin};
     ghost use Rattle.hushlang.specs.BuiltinsShown.{builtin_shown};
-    ghost use Rattle.hushlang.specs.KnownFields.{known_fields};
+    ghost use Rattle.hushlang.specs.KnownFields.{known_fields, known_name};
     ghost use Rattle.hushlang.specs.TreesShown as view;
+    ghost use Rattle.text.specs.TextsShown.{bytes_of_words};
     ghost use Rattle.hushlang.specs.declared.token.SyntaxError.TheVariants.{Memory};
 
     /// A simple command of these words. Errors: `Memory`.
@@ -39,14 +54,18 @@ impl Call {
         ensures err { IfErr result (λ error. error ≡ Memory) }
     {
         let fields = known_fields(alloc, &words)?;
-        let builtin = match &fields {
-            Some(found) => builtin_named(found),
-            None => None,
+        let named = match &fields {
+            Some(found) => named_by(found),
+            None => match &known_of_first(alloc, &words)? {
+                Some(front) => named_by(front),
+                None => None,
+            },
         };
         Ok(Call {
             words,
             fields,
-            builtin,
+            named,
+            place: Cell::new(usize::MAX),
         })
     }
 
@@ -70,11 +89,52 @@ impl Call {
         self.fields.as_ref()
     }
 
-    /// The built-in command that the first of its fields names, if the fields are known and it
-    /// names one.
+    /// Whether its name, the first of its fields, is the same whatever the variables and the status
+    /// are: all its fields are known, or those of the first word alone.
+    pub fn has_known_name(&self) -> bool
+        ensures { result ≡ is_some (known_name (view.call self.now)) }
+    {
+        self.named.is_some()
+    }
+
+    /// The built-in command that its name is, if its name is known and is one.
     pub fn builtin(&self) -> Option<Builtin>
         ensures { option_map builtin_shown result ≡ known_builtin (view.call self.now) }
     {
-        self.builtin
+        self.named?
+    }
+
+    /// The built-in command that its fields name, if they name one. The fields are those by some
+    /// variables and a status; their name is looked up only if it was not known before.
+    pub fn builtin_in(&self, fields: &[Vec<u8>]) -> Option<Builtin>
+        ensures { (p : spec.Parameters)
+            → bytes_of_words fields.now ≡ spec.fields p (view.call self.now)
+            → option_map builtin_shown result ≡ builtin_named (bytes_of_words fields.now) }
+    {
+        match self.named {
+            Some(builtin) => builtin,
+            None => builtin_named(fields),
+        }
+    }
+
+    /// Where its name was found in a list when it was looked up last: a place to look at first.
+    /// Nothing is promised of it.
+    pub fn place(&self) -> usize {
+        self.place.get()
+    }
+
+    /// Its name was found at a place in a list.
+    pub fn note_place(&self, place: usize) {
+        self.place.set(place);
+    }
+}
+
+impl fmt::Debug for Call {
+    fn fmt<W: fmt::Write>(&self, f: &mut fmt::Formatter<W>) -> fmt::Result {
+        f.debug_struct("Call")
+            .field("words", &self.words)
+            .field("fields", &self.fields)
+            .field("builtin", &self.builtin())
+            .finish()
     }
 }

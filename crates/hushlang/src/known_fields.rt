@@ -81,3 +81,19 @@ pub(crate) fn known_fields(
         Err(ExpandError::Memory) => Err(SyntaxError::Memory),
     }
 }
+
+/// The fields of the first word, if no variable and no status can change it and they fit the limit.
+/// Errors: `Memory`.
+pub(crate) fn known_of_first(
+    alloc: Global,
+    words: &[Word],
+) -> Result<Option<Rc<Vec<Vec<u8>>>>, SyntaxError>
+    ensures fields { IfOk result (λ found. view.known found
+        ≡ spec.known_of_first (map view.word words.now)) }
+    ensures err { IfErr result (λ error. error ≡ Memory) }
+{
+    match words {
+        [] => Ok(None),
+        [_, ..] => known_fields(alloc, &words[..1]),
+    }
+}
