@@ -52,7 +52,12 @@ impl Model for Frame {
 
     ghost coded = { coded_frame };
 
-    ghost view = { λ f. record { kind = f.kind; script = says.script f.script.value; words = shared_words f.words; place = f.at } };
+    ghost view = { λ f. record {
+      kind = f.kind;
+      script = says.script f.script.value;
+      words = shared_words f.words;
+      place = f.at;
+    } };
 }
 
 impl Frame {

@@ -37,9 +37,11 @@ impl Model for Draft {
     ghost use Rattle.indexmap.specs.IndexMap.{spare};
     ghost use Rattle.envtools.specs.Drafting.{place_of, held, IsDraft};
 
-    ghost view = { λ d. held (place_of d.places.entries) 0 (map (λ p. (p.0.items, p.1.items)) d.written.items) };
+    ghost view = { λ d. held (place_of d.places.entries) 0
+        (map (λ p. (p.0.items, p.1.items)) d.written.items) };
 
-    ghost invariant = { λ d. IsDraft (place_of d.places.entries) (map (λ p. (p.0.items, p.1.items)) d.written.items)
+    ghost invariant = { λ d. IsDraft (place_of d.places.entries)
+        (map (λ p. (p.0.items, p.1.items)) d.written.items)
         × (d.room.entries ≡ []) × (length d.written.items ≤ spare d.room) };
 }
 

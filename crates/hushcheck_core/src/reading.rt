@@ -61,7 +61,14 @@ impl<'a> Model for Reading<'a> {
 
     ghost Value = { spec.Reading };
 
-    ghost view = { λ r. record { name = r.name.now; text = r.text.now; devices = option_map (λ d. d.now) r.devices; left = r.left.now; told = r.told.items; lacks = r.lacks } };
+    ghost view = { λ r. record {
+      name = r.name.now;
+      text = r.text.now;
+      devices = option_map (λ d. d.now) r.devices;
+      left = r.left.now;
+      told = r.told.items;
+      lacks = r.lacks;
+    } };
 }
 
 impl<'a> Reading<'a> {

@@ -29,7 +29,8 @@ impl<'a> Model for Lexer<'a> {
 
     ghost view = { λ l. record { source = l.text.now; at = l.at } };
 
-    ghost invariant = { λ l. (l.at ≤ length l.text.now) × IsKnown l.fault record { source = l.text.now; at = l.at } };
+    ghost invariant = { λ l. (l.at ≤ length l.text.now)
+        × IsKnown l.fault record { source = l.text.now; at = l.at } };
 }
 
 /// What is at a place of a text, and where it stops.

@@ -20,7 +20,7 @@ abbrev pub given : ByteOrder → List ℕ → Option (List ℕ) → Text → Ask
 given order first second device_list asking =
     record { order = order; first = first; second = second; device_list = device_list; asking = asking }
 
--- all runs of a variable: no start word and no limit, and no name asked for
+-- all runs of a variable: no start word, the whole page, and no name asked for
 abbrev pub given_all : ByteOrder → List ℕ → Option (List ℕ) → Text → (variable : Text) → BoundsShown → Given
 given_all order first second device_list variable bounds =
     given order first second device_list

@@ -1,3 +1,4 @@
+//! Changes, from the bytes of an image to those of the copy that is written.
 ghost use Rattle.std.specs.Prelude.{◌≡◌, true, None, Ok, map, IfOk};
 ghost use Rattle.std.specs.Option.{option_copied};
 ghost use Rattle.envimage.specs.Data.{data_fault, pairs_of};

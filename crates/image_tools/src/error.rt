@@ -1,3 +1,5 @@
+//! Why a call from bytes to bytes is refused.
+
 use envimage::ImageError;
 use envtools::{EnvError, PrintDataError, PrintError, ScriptError};
 use rehearse_runs::RehearseError;

@@ -1,3 +1,4 @@
+//! `printenv`, from the bytes of an image to both outputs.
 ghost use Rattle.std.specs.Prelude.{◌≡◌, map, length, false};
 ghost use Rattle.std.specs.Option.{option_copied};
 ghost use Rattle.image_tools.specs.PrintingImages.{Prints, environment_in};

@@ -18,8 +18,8 @@ use rehearse_runs::{Ask, Finish, rehearse_env};
 use std::alloc::Global;
 
 /// Rehearses a variable of an image, or of the current copy of a pair, and writes the listing of
-/// its runs: all of them in order, or the runs after a word, up to the limit; or the record of the
-/// run of one word, and `done`. Returns `More` if runs are left out at the end, else `Done`.
+/// its runs: a page of all of them in order, or of the runs after a word; or the record of the run
+/// of one word, and `done`. Returns `More` if runs are left out at the end, else `Done`.
 ///
 /// Refusals in order: the image, the device list, `NoSuchVariable`, `NotARun`, with nothing
 /// written; then `Write` during the listing, and `Memory` wherever a growth is made. After these

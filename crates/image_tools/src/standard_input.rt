@@ -1,3 +1,4 @@
+//! The variables of an image on an input, printed.
 ghost use Rattle.std.specs.Prelude.{◌≡◌, ◌⊎◌, IfErr, OnOk, []};
 ghost use Rattle.output.specs.Sink.{Wrote};
 ghost use Rattle.image_tools.specs.Input.{PrintsInput, RefusesInput};

@@ -142,7 +142,12 @@ impl Model for DeviceTables {
 
     ghost Value = { spec.Devices };
 
-    ghost view = { λ d. record { commands = commands_shown d.commands.entries; subs = subs_shown d.subs.entries; known = texts d.known.items; test_stays = d.test_stays } };
+    ghost view = { λ d. record {
+      commands = commands_shown d.commands.entries;
+      subs = subs_shown d.subs.entries;
+      known = texts d.known.items;
+      test_stays = d.test_stays;
+    } };
 }
 
 impl DeviceTables {

@@ -1,3 +1,5 @@
+//! Why a device list is refused.
+
 use std::alloc::AllocError;
 use thiserror::Error;
 

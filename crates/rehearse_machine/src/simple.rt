@@ -203,7 +203,8 @@ pub(crate) fn call<'d, S: Store>(
     fields: &[Vec<u8>],
 ) -> Result<Step<'d>, StoreError>
     requires begun { (S.record_of store.old).begun + 1 < 2 ^ 64 }
-    requires builtin { option_map builtin_shown builtin ≡ builtin_named (bytes_of_words fields.now) }
+    requires builtin { option_map builtin_shown builtin
+        ≡ builtin_named (bytes_of_words fields.now) }
     ensures { (f : RunningFrame) (words : List tree.Word) → after ≡ (goes_behind f).place
         → view.script script.now.value ≡ f.script → IsExpanded fit (bytes_of_words fields.now)
         (expansion.fields (parameters_at (S.record_of store.old).present) words)

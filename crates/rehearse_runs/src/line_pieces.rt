@@ -6,7 +6,7 @@ ghost use Rattle.text.specs.Escapes.{bytes_of, text_form, word_form};
 ghost use Rattle.rehearse_runs.specs.Paging.{Puts};
 ghost use Rattle.rehearse_runs.specs.LinePieces.{form_of, least_of, piece_text, stands};
 
-use crate::page::{Page, put};
+use crate::page::{BytePage, put};
 use output::{Out, OutFault};
 use text::{Escaped, find};
 
@@ -162,7 +162,7 @@ pub(crate) fn is_plain_word(bytes: &[u8]) -> bool
 }
 
 /// Puts a byte as it is printed.
-fn put_byte<O: Out>(out: &mut O, page: &mut Page, form: Form, byte: u8) -> Result<(), OutFault>
+fn put_byte<O: Out>(out: &mut O, page: &mut BytePage, form: Form, byte: u8) -> Result<(), OutFault>
     ensures { Puts result (O.sink out.old) (O.sink out.new) page.old.items page.new.items
         (form_of form byte) }
 {
@@ -170,7 +170,12 @@ fn put_byte<O: Out>(out: &mut O, page: &mut Page, form: Form, byte: u8) -> Resul
 }
 
 /// Puts bytes as they are printed. Bytes that are printed as they are go on the page together.
-fn put_bytes<O: Out>(out: &mut O, page: &mut Page, form: Form, bytes: &[u8]) -> Result<(), OutFault>
+fn put_bytes<O: Out>(
+    out: &mut O,
+    page: &mut BytePage,
+    form: Form,
+    bytes: &[u8],
+) -> Result<(), OutFault>
     ensures { Puts result (O.sink out.old) (O.sink out.new) page.old.items page.new.items
         (flat_map (form_of form) bytes.now) }
 {
@@ -187,7 +192,11 @@ fn put_bytes<O: Out>(out: &mut O, page: &mut Page, form: Form, bytes: &[u8]) -> 
 }
 
 /// Puts bytes in word form.
-pub(crate) fn put_word<O: Out>(out: &mut O, page: &mut Page, bytes: &[u8]) -> Result<(), OutFault>
+pub(crate) fn put_word<O: Out>(
+    out: &mut O,
+    page: &mut BytePage,
+    bytes: &[u8],
+) -> Result<(), OutFault>
     ensures { Puts result (O.sink out.old) (O.sink out.new) page.old.items page.new.items
         (word_form bytes.now) }
 {
@@ -199,7 +208,7 @@ pub(crate) fn put_word<O: Out>(out: &mut O, page: &mut Page, bytes: &[u8]) -> Re
 }
 
 /// Puts a piece.
-fn put_piece<O: Out>(out: &mut O, page: &mut Page, piece: Piece<'_>) -> Result<(), OutFault>
+fn put_piece<O: Out>(out: &mut O, page: &mut BytePage, piece: Piece<'_>) -> Result<(), OutFault>
     ensures { Puts result (O.sink out.old) (O.sink out.new) page.old.items page.new.items
         (piece_text piece.entry) }
 {
@@ -213,7 +222,7 @@ fn put_piece<O: Out>(out: &mut O, page: &mut Page, piece: Piece<'_>) -> Result<(
 /// Puts pieces, one after another.
 pub(crate) fn put_pieces<O: Out>(
     out: &mut O,
-    page: &mut Page,
+    page: &mut BytePage,
     pieces: &[Piece<'_>],
 ) -> Result<(), OutFault>
     ensures { Puts result (O.sink out.old) (O.sink out.new) page.old.items page.new.items

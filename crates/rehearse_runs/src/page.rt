@@ -8,10 +8,10 @@ use crate::byte_array::Bytes;
 use output::{Out, OutFault, write_all};
 
 /// The bytes that are not written yet.
-pub(crate) type Page = Bytes<1024>;
+pub(crate) type BytePage = Bytes<1024>;
 
 /// Writes all bytes of the page.
-pub(crate) fn flush<O: Out>(out: &mut O, page: &mut Page) -> Result<(), OutFault>
+pub(crate) fn flush<O: Out>(out: &mut O, page: &mut BytePage) -> Result<(), OutFault>
     ensures empty { OnOk result (page.new.items ≡ []) }
     ensures written { Prints result (O.sink out.old) (O.sink out.new) page.old.items }
 {
@@ -22,7 +22,7 @@ pub(crate) fn flush<O: Out>(out: &mut O, page: &mut Page) -> Result<(), OutFault
 
 /// Writes all bytes of the page, and puts bytes on it.
 #[cold]
-fn put_anew<O: Out>(out: &mut O, page: &mut Page, bytes: &[u8]) -> Result<(), OutFault>
+fn put_anew<O: Out>(out: &mut O, page: &mut BytePage, bytes: &[u8]) -> Result<(), OutFault>
     ensures { Puts result (O.sink out.old) (O.sink out.new) page.old.items page.new.items
         bytes.now }
 {
@@ -36,7 +36,7 @@ fn put_anew<O: Out>(out: &mut O, page: &mut Page, bytes: &[u8]) -> Result<(), Ou
 
 /// Puts bytes after the bytes of the page. If they do not fit, all bytes are written.
 #[inline(always)]
-pub(crate) fn put<O: Out>(out: &mut O, page: &mut Page, bytes: &[u8]) -> Result<(), OutFault>
+pub(crate) fn put<O: Out>(out: &mut O, page: &mut BytePage, bytes: &[u8]) -> Result<(), OutFault>
     ensures { Puts result (O.sink out.old) (O.sink out.new) page.old.items page.new.items
         bytes.now }
 {

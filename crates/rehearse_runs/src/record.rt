@@ -14,14 +14,14 @@ ghost use Rattle.rehearse_runs.specs.RunViewShown.{shown_word, shown_moment, sho
 ghost use Rattle.rehearse_machine.specs.EndingsShown.{ending_shown};
 
 use crate::line_pieces::{Piece, is_plain_text, is_plain_word, put_pieces, put_word};
-use crate::page::{Page, flush, put};
+use crate::page::{BytePage, flush, put};
 use crate::run_view::RunView;
 use bootstore::{LogEntry, Store, Variables};
 use output::{Out, OutFault};
 use rehearse_machine::Ending;
 
 /// Puts the first line of a record, with the digits of its word.
-fn put_first<O: Out>(out: &mut O, page: &mut Page, word: &[u8]) -> Result<(), OutFault>
+fn put_first<O: Out>(out: &mut O, page: &mut BytePage, word: &[u8]) -> Result<(), OutFault>
     ensures { Puts result (O.sink out.old) (O.sink out.new) page.old.items page.new.items
         (line (codes "run " ++ printed word.now)) }
 {
@@ -41,7 +41,7 @@ fn put_first<O: Out>(out: &mut O, page: &mut Page, word: &[u8]) -> Result<(), Ou
 
 /// Puts a space and a word, if all of its bytes are printed as they are and fit the page. Returns
 /// whether it did; if not, nothing changes.
-fn put_spaced_at_once(page: &mut Page, word: &[u8]) -> bool
+fn put_spaced_at_once(page: &mut BytePage, word: &[u8]) -> bool
     ensures { MatchBool result
         (page.new.items ≡ page.old.items ++ ascii.space ∷ word_form word.now)
         (page.new.items ≡ page.old.items) }
@@ -55,7 +55,7 @@ fn put_spaced_at_once(page: &mut Page, word: &[u8]) -> bool
 }
 
 /// Puts a space and a word in word form.
-fn put_one_spaced<O: Out>(out: &mut O, page: &mut Page, word: &[u8]) -> Result<(), OutFault>
+fn put_one_spaced<O: Out>(out: &mut O, page: &mut BytePage, word: &[u8]) -> Result<(), OutFault>
     ensures { Puts result (O.sink out.old) (O.sink out.new) page.old.items page.new.items
         (ascii.space ∷ word_form word.now) }
 {
@@ -66,7 +66,7 @@ fn put_one_spaced<O: Out>(out: &mut O, page: &mut Page, word: &[u8]) -> Result<(
 }
 
 /// Puts words in word form, a space before each.
-fn put_spaced<O: Out>(out: &mut O, page: &mut Page, words: &[Vec<u8>]) -> Result<(), OutFault>
+fn put_spaced<O: Out>(out: &mut O, page: &mut BytePage, words: &[Vec<u8>]) -> Result<(), OutFault>
     ensures { Puts result (O.sink out.old) (O.sink out.new) page.old.items page.new.items
         (flat_map spaced words.now) }
 {
@@ -77,7 +77,7 @@ fn put_spaced<O: Out>(out: &mut O, page: &mut Page, words: &[Vec<u8>]) -> Result
 }
 
 /// Puts words in word form, separated by spaces.
-fn put_words<O: Out>(out: &mut O, page: &mut Page, words: &[Vec<u8>]) -> Result<(), OutFault>
+fn put_words<O: Out>(out: &mut O, page: &mut BytePage, words: &[Vec<u8>]) -> Result<(), OutFault>
     ensures { Puts result (O.sink out.old) (O.sink out.new) page.old.items page.new.items
         (join_with_byte ascii.space (map word_form (bytes_of_words words.now))) }
 {
@@ -98,7 +98,7 @@ fn outcome_digit(success: bool) -> u8
 }
 
 /// Puts the line of a device command.
-fn put_entry<O: Out>(out: &mut O, page: &mut Page, entry: &LogEntry) -> Result<(), OutFault>
+fn put_entry<O: Out>(out: &mut O, page: &mut BytePage, entry: &LogEntry) -> Result<(), OutFault>
     ensures { Puts result (O.sink out.old) (O.sink out.new) page.old.items page.new.items
         (entry_line entry.now) }
 {
@@ -109,7 +109,7 @@ fn put_entry<O: Out>(out: &mut O, page: &mut Page, entry: &LogEntry) -> Result<(
 }
 
 /// Puts the lines of device commands.
-fn put_log<O: Out>(out: &mut O, page: &mut Page, log: &[LogEntry]) -> Result<(), OutFault>
+fn put_log<O: Out>(out: &mut O, page: &mut BytePage, log: &[LogEntry]) -> Result<(), OutFault>
     ensures { Puts result (O.sink out.old) (O.sink out.new) page.old.items page.new.items
         (flat_map entry_line log.now) }
 {
@@ -120,7 +120,7 @@ fn put_log<O: Out>(out: &mut O, page: &mut Page, log: &[LogEntry]) -> Result<(),
 }
 
 /// Puts the line of what was printed, if it is not empty.
-fn put_printed<O: Out>(out: &mut O, page: &mut Page, text: &[u8]) -> Result<(), OutFault>
+fn put_printed<O: Out>(out: &mut O, page: &mut BytePage, text: &[u8]) -> Result<(), OutFault>
     ensures { Puts result (O.sink out.old) (O.sink out.new) page.old.items page.new.items
         (flat_map line (text_lines text.now)) }
 {
@@ -141,7 +141,7 @@ fn put_printed<O: Out>(out: &mut O, page: &mut Page, text: &[u8]) -> Result<(), 
 /// Puts the line of a variable that is set, if all of its bytes are printed as they are and fit the
 /// page. Returns whether it did; if not, nothing changes.
 #[inline(always)]
-fn put_set_at_once(page: &mut Page, name: &[u8], value: &[u8]) -> bool
+fn put_set_at_once(page: &mut BytePage, name: &[u8], value: &[u8]) -> bool
     ensures { MatchBool result (page.new.items ≡ page.old.items ++ set_line (name.now, value.now))
         (page.new.items ≡ page.old.items) }
 {
@@ -163,7 +163,7 @@ fn put_set_at_once(page: &mut Page, name: &[u8], value: &[u8]) -> bool
 /// Puts the line of a variable that is set, at once or in pieces.
 fn put_set_in_pieces<'x, O: Out>(
     out: &mut O,
-    page: &mut Page,
+    page: &mut BytePage,
     name: &'x [u8],
     value: &'x [u8],
 ) -> Result<(), OutFault>
@@ -190,7 +190,7 @@ fn put_set_in_pieces<'x, O: Out>(
 #[cold]
 fn put_set_anew<'x, O: Out>(
     out: &mut O,
-    page: &mut Page,
+    page: &mut BytePage,
     name: &'x [u8],
     value: &'x [u8],
 ) -> Result<(), OutFault>
@@ -204,7 +204,7 @@ fn put_set_anew<'x, O: Out>(
 /// Puts the line of a variable that is set.
 fn put_set<'x, O: Out>(
     out: &mut O,
-    page: &mut Page,
+    page: &mut BytePage,
     name: &'x [u8],
     value: &'x [u8],
 ) -> Result<(), OutFault>
@@ -221,7 +221,7 @@ fn put_set<'x, O: Out>(
 /// Puts a line that ends with a word in word form.
 fn put_word_line<'x, O: Out>(
     out: &mut O,
-    page: &mut Page,
+    page: &mut BytePage,
     before: &'x [u8],
     word: &'x [u8],
 ) -> Result<(), OutFault>
@@ -236,7 +236,11 @@ fn put_word_line<'x, O: Out>(
 }
 
 /// Puts the lines of all variables.
-fn put_all<O: Out>(out: &mut O, page: &mut Page, variables: Variables<'_>) -> Result<(), OutFault>
+fn put_all<O: Out>(
+    out: &mut O,
+    page: &mut BytePage,
+    variables: Variables<'_>,
+) -> Result<(), OutFault>
     ensures { Puts result (O.sink out.old) (O.sink out.new) page.old.items page.new.items
         (flat_map set_line variables.entry) }
 {
@@ -250,7 +254,7 @@ fn put_all<O: Out>(out: &mut O, page: &mut Page, variables: Variables<'_>) -> Re
 /// Puts the line of a variable that is asked for.
 fn put_asked<S: Store, O: Out>(
     out: &mut O,
-    page: &mut Page,
+    page: &mut BytePage,
     view: &RunView<'_, S>,
     name: &[u8],
 ) -> Result<(), OutFault>
@@ -266,7 +270,7 @@ fn put_asked<S: Store, O: Out>(
 /// Puts the lines of the variables that are asked for.
 fn put_named<S: Store, O: Out>(
     out: &mut O,
-    page: &mut Page,
+    page: &mut BytePage,
     view: &RunView<'_, S>,
     names: &[&[u8]],
 ) -> Result<(), OutFault>
@@ -283,7 +287,7 @@ fn put_named<S: Store, O: Out>(
 /// Puts the lines of all variables, or of the variables that are asked for.
 fn put_variables<S: Store, O: Out>(
     out: &mut O,
-    page: &mut Page,
+    page: &mut BytePage,
     view: &RunView<'_, S>,
     names: &[&[u8]],
 ) -> Result<(), OutFault>
@@ -299,7 +303,7 @@ fn put_variables<S: Store, O: Out>(
 }
 
 /// Puts the last line of a record.
-fn put_last<O: Out>(out: &mut O, page: &mut Page, ending: Ending<'_>) -> Result<(), OutFault>
+fn put_last<O: Out>(out: &mut O, page: &mut BytePage, ending: Ending<'_>) -> Result<(), OutFault>
     ensures { Puts result (O.sink out.old) (O.sink out.new) page.old.items page.new.items
         (line (last_line (ending_shown ending.entry))) }
 {
@@ -326,58 +330,10 @@ fn put_last<O: Out>(out: &mut O, page: &mut Page, ending: Ending<'_>) -> Result<
     }
 }
 
-/// Puts the first line of the record of a run.
-fn put_word_of<S: Store, O: Out>(
-    out: &mut O,
-    page: &mut Page,
-    view: &RunView<'_, S>,
-) -> Result<(), OutFault>
-    ensures { Puts result (O.sink out.old) (O.sink out.new) page.old.items page.new.items
-        (line (codes "run " ++ printed (shown_word view.now))) }
-{
-    put_first(out, page, view.word())
-}
-
-/// Puts the lines of its device commands.
-fn put_log_of<S: Store, O: Out>(
-    out: &mut O,
-    page: &mut Page,
-    view: &RunView<'_, S>,
-) -> Result<(), OutFault>
-    ensures { Puts result (O.sink out.old) (O.sink out.new) page.old.items page.new.items
-        (flat_map entry_line (shown_moment S.Store view.now).log) }
-{
-    put_log(out, page, view.log())
-}
-
-/// Puts the line of what it printed.
-fn put_text_of<S: Store, O: Out>(
-    out: &mut O,
-    page: &mut Page,
-    view: &RunView<'_, S>,
-) -> Result<(), OutFault>
-    ensures { Puts result (O.sink out.old) (O.sink out.new) page.old.items page.new.items
-        (flat_map line (text_lines (shown_moment S.Store view.now).text)) }
-{
-    put_printed(out, page, view.text())
-}
-
-/// Puts its last line.
-fn put_ending_of<S: Store, O: Out>(
-    out: &mut O,
-    page: &mut Page,
-    view: &RunView<'_, S>,
-) -> Result<(), OutFault>
-    ensures { Puts result (O.sink out.old) (O.sink out.new) page.old.items page.new.items
-        (line (last_line (shown_ending view.now))) }
-{
-    put_last(out, page, view.ending())
-}
-
 /// Puts the record of a run.
 fn put_record<S: Store, O: Out>(
     out: &mut O,
-    page: &mut Page,
+    page: &mut BytePage,
     view: &RunView<'_, S>,
     names: &[&[u8]],
 ) -> Result<(), OutFault>
@@ -385,11 +341,11 @@ fn put_record<S: Store, O: Out>(
         (recorded (shown_word view.now) (state_at (shown_moment S.Store view.now) [])
         (shown_ending view.now) (map (λ n. n.now) names.now)) }
 {
-    put_word_of(out, page, view)?;
-    put_log_of(out, page, view)?;
-    put_text_of(out, page, view)?;
+    put_first(out, page, view.word())?;
+    put_log(out, page, view.log())?;
+    put_printed(out, page, view.text())?;
     put_variables(out, page, view, names)?;
-    put_ending_of(out, page, view)
+    put_last(out, page, view.ending())
 }
 
 /// Writes the record of a run. Takes no memory. Errors: `Failed`, with a prefix of the record
@@ -403,7 +359,7 @@ pub fn write_record<S: Store, O: Out>(
         (recorded (shown_word view.now) (state_at (shown_moment S.Store view.now) [])
         (shown_ending view.now) (map (λ n. n.now) names.now)) }
 {
-    let mut page = Page::new();
+    let mut page = BytePage::new();
     put_record(out, &mut page, view, names)?;
     flush(out, &mut page)
 }

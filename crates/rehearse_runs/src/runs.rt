@@ -99,13 +99,18 @@ impl<'a, S: Store> Model for Runs<'a, S> {
     ghost use Rattle.rehearse_machine.specs.Tasks.{task_in};
     ghost use Rattle.rehearse_runs.specs.Phases.{shown_at, start_of, StandsAt, AreDigits, IsRunIf, HasBegunIf};
 
-    ghost view = { λ r. shown_at (task_in r.rehearsal) (start_of r.start) r.has_given (outcomes r.word.items) (S.record_of r.store).begun r.phase };
+    ghost view = { λ r. shown_at (task_in r.rehearsal) (start_of r.start) r.has_given
+        (outcomes r.word.items) (S.record_of r.store).begun r.phase };
 
     ghost invariant = { λ r.
         AreDigits r.word.items
         × IsRunIf r.has_given (task_in r.rehearsal) (outcomes r.word.items)
-        × StandsAt (task_in r.rehearsal) r.has_given (outcomes r.word.items) (S.record_of r.store) r.phase
-        × HasBegunIf r.phase (task_in r.rehearsal) (start_of r.start) (given_if r.has_given (outcomes r.word.items)) (to_come_after r.has_given (task_in r.rehearsal) (outcomes r.word.items)) (S.record_of r.store).begun
+        × StandsAt (task_in r.rehearsal) r.has_given (outcomes r.word.items)
+        (S.record_of r.store) r.phase
+        × HasBegunIf r.phase (task_in r.rehearsal) (start_of r.start)
+        (given_if r.has_given (outcomes r.word.items))
+        (to_come_after r.has_given (task_in r.rehearsal) (outcomes r.word.items))
+        (S.record_of r.store).begun
         × (task_in r.rehearsal).limits.device_bound ≤ most_run_devices };
 }
 

@@ -13,7 +13,8 @@ pub(crate) struct With<'a, V: Vars + Drop> {
 impl<V: Vars + Drop> Vars for With<'_, V> {
     ghost use Rattle.hushlang.specs.Expansion.{with_variable};
 
-    ghost parameters = { λ with. with_variable (V.parameters with.others) with.name.now with.value.now };
+    ghost parameters = { λ with.
+        with_variable (V.parameters with.others) with.name.now with.value.now };
 
     fn get(&self, name: &[u8]) -> Option<&[u8]> {
         if name.cmp(&self.name).is_eq() {

@@ -17,7 +17,8 @@ impl Vars for OneVariable<'_> {
     ghost use Rattle.std.specs.FinMap.{empty, insert};
     ghost use Rattle.hushlang.specs.Expansion.{parameters_of};
 
-    ghost parameters = { λ one. parameters_of (insert empty one.name.now one.value.now) one.status };
+    ghost parameters = { λ one.
+        parameters_of (insert empty one.name.now one.value.now) one.status };
 
     fn get(&self, name: &[u8]) -> Option<&[u8]> {
         if name.cmp(&self.name).is_eq() {

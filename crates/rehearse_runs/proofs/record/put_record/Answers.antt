@@ -10,8 +10,8 @@ use Rattle.rehearse_runs.proofs.RecordParts.{record_parts}
 use Rattle.rehearse_runs.proofs.PageLemmas.{Breaks-before, Breaks-after, Breaks-as, Puts-as, Puts-after}
 use Rattle.rehearse_runs.proofs.record.put_record.Goals as goal
 
-pub returns-in_err-put_word_of : goal.returns-in_err-put_word_of
-returns-in_err-put_word_of g c =
+pub returns-in_err-put_first : goal.returns-in_err-put_first
+returns-in_err-put_first g c =
     let v = c.args.view.now in
     let s = state_at (shown_moment g.S.Store v) [] in
     let names = map (λ (n : Bor (List ℕ)). n.now) c.args.names.now in
@@ -23,10 +23,10 @@ returns-in_err-put_word_of g c =
     let e = record_parts (shown_word v) s (shown_ending v) names in
     let page = c.args.page.now.items in
     let p = err_from_is_err_and c.from_residual.result c.from_residual.ensures.1 in
-    rw p.1 (Breaks-as _ _ page _ _ e (Breaks-before page f (a ++ (b ++ (u ++ z))) c.in_err-put_word_of.ensures))
+    rw p.1 (Breaks-as _ _ page _ _ e (Breaks-before page f (a ++ (b ++ (u ++ z))) (rw c.word.ensures at c.in_err-put_first.ensures)))
 
-pub returns-in_err-put_log_of : goal.returns-in_err-put_log_of
-returns-in_err-put_log_of g c =
+pub returns-in_err-put_log : goal.returns-in_err-put_log
+returns-in_err-put_log g c =
     let v = c.args.view.now in
     let s = state_at (shown_moment g.S.Store v) [] in
     let names = map (λ (n : Bor (List ℕ)). n.now) c.args.names.now in
@@ -37,11 +37,11 @@ returns-in_err-put_log_of g c =
     let z = line (last_line (shown_ending v)) in
     let e = record_parts (shown_word v) s (shown_ending v) names in
     let page = c.args.page.now.items in
-    let p = err_from_is_err_and c.from_residual-in_err-put_log_of.result c.from_residual-in_err-put_log_of.ensures.1 in
-    rw p.1 (Breaks-as _ _ page _ _ e (Breaks-after (a ++ (b ++ (u ++ z))) c.in_ok-put_word_of.ensures (Breaks-before c.put_word_of.new.page.items a (b ++ (u ++ z)) c.in_err-put_log_of.ensures)))
+    let p = err_from_is_err_and c.from_residual-in_err-put_log.result c.from_residual-in_err-put_log.ensures.1 in
+    rw p.1 (Breaks-as _ _ page _ _ e (Breaks-after (a ++ (b ++ (u ++ z))) (rw c.word.ensures at c.in_ok-put_first.ensures) (Breaks-before c.put_first.new.page.items a (b ++ (u ++ z)) (rw c.log.ensures at c.in_err-put_log.ensures))))
 
-pub returns-in_err-put_text_of : goal.returns-in_err-put_text_of
-returns-in_err-put_text_of g c =
+pub returns-in_err-put_printed : goal.returns-in_err-put_printed
+returns-in_err-put_printed g c =
     let v = c.args.view.now in
     let s = state_at (shown_moment g.S.Store v) [] in
     let names = map (λ (n : Bor (List ℕ)). n.now) c.args.names.now in
@@ -52,8 +52,8 @@ returns-in_err-put_text_of g c =
     let z = line (last_line (shown_ending v)) in
     let e = record_parts (shown_word v) s (shown_ending v) names in
     let page = c.args.page.now.items in
-    let p = err_from_is_err_and c.from_residual-in_err-put_text_of.result c.from_residual-in_err-put_text_of.ensures.1 in
-    rw p.1 (Breaks-as _ _ page _ _ e (Breaks-after (a ++ (b ++ (u ++ z))) c.in_ok-put_word_of.ensures (Breaks-after (b ++ (u ++ z)) c.in_ok-put_log_of.ensures (Breaks-before c.put_log_of.new.page.items b (u ++ z) c.in_err-put_text_of.ensures))))
+    let p = err_from_is_err_and c.from_residual-in_err-put_printed.result c.from_residual-in_err-put_printed.ensures.1 in
+    rw p.1 (Breaks-as _ _ page _ _ e (Breaks-after (a ++ (b ++ (u ++ z))) (rw c.word.ensures at c.in_ok-put_first.ensures) (Breaks-after (b ++ (u ++ z)) (rw c.log.ensures at c.in_ok-put_log.ensures) (Breaks-before c.put_log.new.page.items b (u ++ z) (rw c.text.ensures at c.in_err-put_printed.ensures)))))
 
 pub returns-in_err-put_variables : goal.returns-in_err-put_variables
 returns-in_err-put_variables g c =
@@ -68,7 +68,7 @@ returns-in_err-put_variables g c =
     let e = record_parts (shown_word v) s (shown_ending v) names in
     let page = c.args.page.now.items in
     let p = err_from_is_err_and c.from_residual-in_err-put_variables.result c.from_residual-in_err-put_variables.ensures.1 in
-    rw p.1 (Breaks-as _ _ page _ _ e (Breaks-after (a ++ (b ++ (u ++ z))) c.in_ok-put_word_of.ensures (Breaks-after (b ++ (u ++ z)) c.in_ok-put_log_of.ensures (Breaks-after (u ++ z) c.in_ok-put_text_of.ensures (Breaks-before c.put_text_of.new.page.items u z c.in_err-put_variables.ensures)))))
+    rw p.1 (Breaks-as _ _ page _ _ e (Breaks-after (a ++ (b ++ (u ++ z))) (rw c.word.ensures at c.in_ok-put_first.ensures) (Breaks-after (b ++ (u ++ z)) (rw c.log.ensures at c.in_ok-put_log.ensures) (Breaks-after (u ++ z) (rw c.text.ensures at c.in_ok-put_printed.ensures) (Breaks-before c.put_printed.new.page.items u z c.in_err-put_variables.ensures)))))
 
 pub returns : goal.returns
 returns g c =
@@ -82,5 +82,5 @@ returns g c =
     let z = line (last_line (shown_ending v)) in
     let e = record_parts (shown_word v) s (shown_ending v) names in
     let page = c.args.page.now.items in
-    let r = c.put_ending_of.result in
-    Puts-as _ _ _ _ _ _ r e (Puts-after _ _ (a ++ (b ++ (u ++ z))) r c.in_ok-put_word_of.ensures (Puts-after _ _ (b ++ (u ++ z)) r c.in_ok-put_log_of.ensures (Puts-after _ _ (u ++ z) r c.in_ok-put_text_of.ensures (Puts-after _ _ z r c.in_ok-put_variables.ensures c.put_ending_of.ensures))))
+    let r = c.put_last.result in
+    Puts-as _ _ _ _ _ _ r e (Puts-after _ _ (a ++ (b ++ (u ++ z))) r (rw c.word.ensures at c.in_ok-put_first.ensures) (Puts-after _ _ (b ++ (u ++ z)) r (rw c.log.ensures at c.in_ok-put_log.ensures) (Puts-after _ _ (u ++ z) r (rw c.text.ensures at c.in_ok-put_printed.ensures) (Puts-after _ _ z r c.in_ok-put_variables.ensures (rw c.ending.ensures at c.put_last.ensures)))))
