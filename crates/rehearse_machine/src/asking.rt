@@ -7,10 +7,10 @@ ghost use Rattle.rehearse_machine.specs.MovesShown.{Comes, Moves, limits_of};
 use crate::ask::Step;
 use crate::halt::Halt;
 use crate::list_commands::command_of;
+use crate::named::look_up;
 use crate::simple::run_fields;
 use crate::steps::expanded;
 use bootstore::{Frame, Store, StoreError};
-use hushlang::builtins::builtin_named;
 use hushlang::call::Call;
 use hushlang::expand::Fields;
 use hushlang::tree::Command;
@@ -56,16 +56,17 @@ fn find_behind<'d, S: Store>(
         return Ok(Step::Ends(Halt::End(store.get_status())));
     };
     if let Some(known) = command.fields() {
-        let builtin = command.builtin();
-        return run_fields(alloc, store, script, devices, bounds, builtin, known);
+        let known = known.as_slice();
+        let named = look_up(command, devices, known);
+        return run_fields(alloc, store, script, devices, bounds, named, known);
     }
     let fit = expanded(fields, store, command.words())?;
     if !fit {
         return Ok(Step::Ends(Halt::Size));
     }
     let found = fields.as_slice();
-    let builtin = builtin_named(found);
-    run_fields(alloc, store, script, devices, bounds, builtin, found)
+    let named = look_up(command, devices, found);
+    run_fields(alloc, store, script, devices, bounds, named, found)
 }
 
 /// Finds the device command again that has begun and asks. It is before the place of the innermost

@@ -16,6 +16,7 @@ mod list_commands;
 mod lists;
 mod machine;
 mod memory;
+mod named;
 mod next_move;
 mod outcomes;
 mod rehearsal;

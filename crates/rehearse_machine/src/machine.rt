@@ -10,11 +10,11 @@ use crate::assigns::begin_assign;
 use crate::frame_moves::{move_for, move_run, next_of};
 use crate::frames::{behind, block, enter, finish, go_on, leave};
 use crate::halt::Halt;
+use crate::named::look_up;
 use crate::next_move::Next;
 use crate::simple::{begin_for, call};
 use crate::steps::expanded;
 use bootstore::{Frame, Store, StoreError};
-use hushlang::builtins::builtin_named;
 use hushlang::expand::Fields;
 use rehearse::{Devices, RunBounds};
 use std::alloc::Global;
@@ -43,16 +43,17 @@ fn proceed<'d, S: Store>(
             let after = behind(frame.at());
             let script = frame.script();
             if let Some(known) = command.fields() {
-                let builtin = command.builtin();
+                let known = known.as_slice();
+                let named = look_up(command, devices, known);
                 return call(
-                    alloc, store, script, after, devices, bounds, true, builtin, known,
+                    alloc, store, script, after, devices, bounds, true, named, known,
                 );
             }
             let fit = expanded(fields, store, command.words())?;
             let found = fields.as_slice();
-            let builtin = builtin_named(found);
+            let named = look_up(command, devices, found);
             call(
-                alloc, store, script, after, devices, bounds, fit, builtin, found,
+                alloc, store, script, after, devices, bounds, fit, named, found,
             )
         }
         Next::Assigns(values) => begin_assign(alloc, store, frame, bounds, values),
@@ -91,16 +92,17 @@ pub(crate) fn step<'d, S: Store>(
             let script = top.script().clone()?;
             if let Some(known) = command.fields() {
                 let known = known.clone()?;
-                let builtin = command.builtin();
+                let known = known.as_slice();
+                let named = look_up(command, devices, known);
                 return call(
-                    alloc, store, &script, after, devices, bounds, true, builtin, &known,
+                    alloc, store, &script, after, devices, bounds, true, named, known,
                 );
             }
             let fit = expanded(fields, store, command.words())?;
             let found = fields.as_slice();
-            let builtin = builtin_named(found);
+            let named = look_up(command, devices, found);
             return call(
-                alloc, store, &script, after, devices, bounds, fit, builtin, found,
+                alloc, store, &script, after, devices, bounds, fit, named, found,
             );
         }
         _ => {}

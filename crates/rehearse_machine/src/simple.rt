@@ -1,5 +1,5 @@
 //! Simple commands.
-ghost use Rattle.std.specs.Prelude.{◌≡◌, ◌+◌, ◌<◌, ◌^◌, List, map, option_map};
+ghost use Rattle.std.specs.Prelude.{◌≡◌, ◌+◌, ◌<◌, ◌^◌, List, true, map, option_map};
 ghost use Rattle.hushlang.specs.Builtins.{builtin_named};
 ghost use Rattle.hushlang.specs.BuiltinsShown.{builtin_shown};
 ghost use Rattle.hushlang.specs.TreesShown as view;
@@ -22,6 +22,7 @@ use crate::commands::{asks_device, copied, echo, exit_status, setenv};
 use crate::computed::carry_out;
 use crate::frames::{behind, enter, finish, place};
 use crate::halt::Halt;
+use crate::named::Named;
 use crate::outcomes::ask;
 use crate::run_and_exit::{begin_run, leave_text};
 use crate::steps::{count, expanded};
@@ -139,12 +140,13 @@ fn run_builtin<'d, S: Store>(
 }
 
 /// Runs a command that is not built in: its call is computed, or it is a device command. An unknown
-/// name ends the run.
+/// name ends the run. The device list is looked at first at `place`.
 fn run_other<'d, S: Store>(
     alloc: Global,
     store: &mut S,
     devices: &'d Devices,
     bounds: RunBounds,
+    place: usize,
     name: &[u8],
     words: &[Vec<u8>],
 ) -> Result<Step<'d>, StoreError>
@@ -157,24 +159,24 @@ fn run_other<'d, S: Store>(
         carry_out(alloc, store, computed)?;
         return Ok(Step::Going);
     }
-    match devices.effect(name, words) {
+    match devices.effect_near(name, words, place) {
         Some(effect) => ask(alloc, store, bounds, name, words, effect),
         None => Ok(Step::Ends(Halt::Unknown(Vec::from_slice(alloc, name)?))),
     }
 }
 
-/// Runs the command that fields name. `builtin` is the built-in command that they name, if they name
-/// one.
+/// Runs the command that fields name. `named` says what they name.
 pub(crate) fn run_fields<'d, S: Store>(
     alloc: Global,
     store: &mut S,
     script: &Rc<Script>,
     devices: &'d Devices,
     bounds: RunBounds,
-    builtin: Option<Builtin>,
+    named: Named,
     fields: &[Vec<u8>],
 ) -> Result<Step<'d>, StoreError>
-    requires { option_map builtin_shown builtin ≡ builtin_named (bytes_of_words fields.now) }
+    requires { option_map builtin_shown named.builtin
+        ≡ builtin_named (bytes_of_words fields.now) }
     ensures { Comes result (S.record_of store.old) (S.record_of store.new)
         (place_fields (limits_of devices.now bounds) (bytes_of_words fields.now)
         (view.script script.now.value) (S.record_of store.old).present.frames) }
@@ -182,15 +184,15 @@ pub(crate) fn run_fields<'d, S: Store>(
     let Some((name, words)) = fields.split_first() else {
         return done(store, 0);
     };
-    match builtin {
+    match named.builtin {
         Some(builtin) => run_builtin(alloc, store, script, devices, bounds, builtin, name, words),
-        None => run_other(alloc, store, devices, bounds, name, words),
+        None => run_other(alloc, store, devices, bounds, named.place, name, words),
     }
 }
 
 /// Begins a step for a simple command whose fields were found, moves its frame to the place after
-/// it, and runs the command that the fields name. `builtin` is the built-in command that they name,
-/// if they name one; `fit` says whether they hold no more bytes than allowed.
+/// it, and runs the command that the fields name. `fit` says whether they hold no more bytes than
+/// allowed, and `named` what they name, if they fit.
 pub(crate) fn call<'d, S: Store>(
     alloc: Global,
     store: &mut S,
@@ -199,11 +201,11 @@ pub(crate) fn call<'d, S: Store>(
     devices: &'d Devices,
     bounds: RunBounds,
     fit: bool,
-    builtin: Option<Builtin>,
+    named: Named,
     fields: &[Vec<u8>],
 ) -> Result<Step<'d>, StoreError>
     requires begun { (S.record_of store.old).begun + 1 < 2 ^ 64 }
-    requires builtin { option_map builtin_shown builtin
+    requires named { fit ≡ true → option_map builtin_shown named.builtin
         ≡ builtin_named (bytes_of_words fields.now) }
     ensures { (f : RunningFrame) (words : List tree.Word) → after ≡ (goes_behind f).place
         → view.script script.now.value ≡ f.script → IsExpanded fit (bytes_of_words fields.now)
@@ -219,7 +221,7 @@ pub(crate) fn call<'d, S: Store>(
         return Ok(Step::Ends(Halt::Size));
     }
     store.advance(after)?;
-    run_fields(alloc, store, script, devices, bounds, builtin, fields)
+    run_fields(alloc, store, script, devices, bounds, named, fields)
 }
 
 /// Begins a step for a `for`, and expands its words. Without a field the status is 0.

@@ -28,8 +28,8 @@ returns-in-Some-fields g c top =
     let f = c.args.frame.now in
     let words = view.call c.in-Some.command.now in
     let parameters = parameters_at old.present in
-    let list = bytes_of_words c.deref-in-Some-fields.result.now in
-    let shown = ap bytes_of_words c.deref-in-Some-fields.ensures.value ∙ ap (λ (x : Vec (Vec ℕ Global) Global). bytes_of_words x.items) c.deref.ensures in
+    let list = bytes_of_words c.as_slice-known.result.now in
+    let shown = ap bytes_of_words c.as_slice-known.ensures.value ∙ ap (λ (x : Vec (Vec ℕ Global) Global). bytes_of_words x.items) c.deref.ensures in
     let known = known_before (view.fields_in c.in-Some-fields.known.now) (fields parameters words) (c.in-Some-fields.ensures.fields parameters) c.in-Some-fields.ensures.within_limit in
     comes_at c.run_fields.result old (g.S.Store.record_of c.run_fields.new.store) (place_fields limits list (view.script c.script-script.result.now.value) old.present.frames) (fields_again limits (words_in_front f) f (under old.present))
     (λ w. ap (λ (x : Script). place_fields limits list x old.present.frames (state_at old.present w)) c.script-script.ensures

@@ -38,7 +38,7 @@ returns-in-Some g c top =
     let f = c.args.frame.now in
     let words = view.call c.in-Calls.command.now in
     let parameters = parameters_at old.present in
-    let shown = ap bytes_of_words c.deref-in-Some.ensures.value ∙ ap (λ (x : Vec (Vec ℕ Global) Global). bytes_of_words x.items) c.deref.ensures in
+    let shown = ap bytes_of_words c.as_slice-known.ensures.value ∙ ap (λ (x : Vec (Vec ℕ Global) Global). bytes_of_words x.items) c.deref.ensures in
     let known = known_before (view.fields_in c.in-Some.known.now) (fields parameters words) (c.in-Some.ensures.fields parameters) c.in-Some.ensures.within_limit in
     let found = subst (λ (x : List Text). IsExpanded true x (fields parameters words)) (sym shown) known in
     proceeds (limits_of c.args.devices.now c.args.bounds) c.call.result old (g.S.Store.record_of c.call.new.store) (nexts.Calls c.in-Calls.command) c.args.next f c.in-Calls.is

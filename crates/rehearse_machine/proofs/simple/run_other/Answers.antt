@@ -18,13 +18,13 @@ returns-in-Some g c script =
     change_does (limits_of devices c.args.bounds) (g.S.Store.record_of c.args.store.now) (g.S.Store.record_of c.carry_out.new.store) name words script (other_called devices name words) words (λ ws. carried does)
     (other_computed devices name words does is) refl c.in_ok-carry_out.ensures
 
-pub returns-in-Some-effect : goal.returns-in-Some-effect
-returns-in-Some-effect g c script =
+pub returns-in-Some-effect_near : goal.returns-in-Some-effect_near
+returns-in-Some-effect_near g c script =
     let devices = c.args.devices.now in
     let name = c.args.name.now in
     let words = bytes_of_words c.args.words.now in
-    let effect = lent_effect c.in-Some-effect.effect in
+    let effect = lent_effect c.in-Some-effect_near.effect in
     let none : computed_by devices name words ≡ None = sym c.computed.ensures ∙ ap call_shown c.in_default.is in
-    let listed : Some effect ≡ effect_of devices name words = sym (ap (option_map lent_effect) c.in-Some-effect.is) ∙ c.effect.ensures in
+    let listed : Some effect ≡ effect_of devices name words = sym (ap (option_map lent_effect) c.in-Some-effect_near.is) ∙ c.effect_near.ensures in
     device_comes (limits_of devices c.args.bounds) (g.S.Store.record_of c.args.store.now) (g.S.Store.record_of c.ask.new.store) name words script c.ask.result (other_called devices name words) effect
     (other_listed devices name words (Some effect) none listed) (c.ask.ensures devices)

@@ -1,0 +1,43 @@
+//! What the fields of a simple command name. It is looked up before the command is called, while
+//! the tree is at hand, since the tree keeps what was found.
+ghost use Rattle.std.specs.Prelude.{◌≡◌, option_map};
+ghost use Rattle.hushlang.specs.Builtins.{builtin_named};
+ghost use Rattle.hushlang.specs.BuiltinsShown.{builtin_shown};
+ghost use Rattle.hushlang.specs.Expansion as expansion;
+ghost use Rattle.hushlang.specs.TreesShown as view;
+ghost use Rattle.text.specs.TextsShown.{bytes_of_words};
+
+use hushlang::builtins::Builtin;
+use hushlang::call::Call;
+use rehearse::Devices;
+
+/// What fields name.
+#[derive(Clone, Copy)]
+pub(crate) struct Named {
+    /// The built-in command, if they name one.
+    pub(crate) builtin: Option<Builtin>,
+    /// Where a device list is looked at first for another name.
+    pub(crate) place: usize,
+}
+
+/// What the fields of a command name.
+pub(crate) fn look_up(command: &Call, devices: &Devices, fields: &[Vec<u8>]) -> Named
+    ensures { (p : expansion.Parameters)
+        → bytes_of_words fields.now ≡ expansion.fields p (view.call command.now)
+        → option_map builtin_shown result.builtin ≡ builtin_named (bytes_of_words fields.now) }
+{
+    let builtin = command.builtin_in(fields);
+    let place = match (builtin, fields.first()) {
+        (None, Some(name)) => near(command, devices, name),
+        _ => usize::MAX,
+    };
+    Named { builtin, place }
+}
+
+/// Where a device list is looked at first for the name of a command: a place that was found from
+/// the one that was found last, and that the command keeps.
+fn near(command: &Call, devices: &Devices, name: &[u8]) -> usize {
+    let place = devices.place_near(name, command.place());
+    command.note_place(place);
+    place
+}
