@@ -19,6 +19,7 @@ IsPlaced devices name places =
     (at_place devices.commands places.command ≡ effect_in devices.commands name)
     × (at_place devices.subs places.sub ≡ lookup (bytes_eq name) devices.subs)
 
+-- so for each of these names
 abbrev pub ArePlaced : Devices → List (Bytes × Places) → Type 0
 ArePlaced devices = All (λ n. IsPlaced devices n.0.items n.1)
 

@@ -75,11 +75,12 @@ impl Devices {
         self.tables.effect(name, words)
     }
 
-    /// The same. The name is looked up only if it is not at the place that is given. Takes no memory.
+    /// What `effect` says. The name is looked up only if it is not at the place that is given. Takes no
+    /// memory.
     pub fn effect_near(&self, name: &[u8], words: &[Vec<u8>], place: usize) -> Option<Effect<'_>>
         ensures { option_map lent_effect result ≡ effect_of self.now name.now (texts words.now) }
     {
-        match self.places_at(place, name) {
+        match self.places_at(name, place) {
             Some(places) => self.tables.placed_effect(places, words),
             None => self.tables.effect(name, words),
         }
@@ -88,7 +89,7 @@ impl Devices {
     /// The place of a name among those of the list, or any number if the list does not have it. It is
     /// looked up only if the name is not at the place that is given. It takes no memory.
     pub fn place_near(&self, name: &[u8], place: usize) -> usize {
-        if self.places_at(place, name).is_some() {
+        if self.places_at(name, place).is_some() {
             return place;
         }
         self.names.get_index_of(name).unwrap_or(place)
@@ -117,7 +118,7 @@ impl Devices {
     }
 
     /// Where the tables have the name at a place, if it is this name.
-    fn places_at(&self, place: usize, name: &[u8]) -> Option<Places>
+    fn places_at(&self, name: &[u8], place: usize) -> Option<Places>
         ensures { IfSome result (IsPlaced self.now name.now) }
     {
         let (found, places) = self.names.get_index(place)?;
