@@ -41,7 +41,7 @@ fn lower(left: Option<u32>) -> Option<u32>
     }
 }
 
-/// Writes the records of the next runs, up to the limit of the page. Errors: `Memory`, `Write`, `Failed`.
+/// Writes the records of the page's runs. Errors: `Memory`, `Write`, `Failed`.
 fn write_records<S: Store, O: Out>(
     runs: &mut Runs<'_, S>,
     names: &[&[u8]],
