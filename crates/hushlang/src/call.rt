@@ -39,11 +39,11 @@ fn named_by(fields: &Rc<Vec<Vec<u8>>>) -> Option<Option<Builtin>>
 }
 
 impl Call {
-    ghost use Rattle.std.specs.Prelude.{◌≡◌, map, length, nat_le, true, is_some, option_map, IfOk, IfErr, IfSome};
+    ghost use Rattle.std.specs.Prelude.{◌≡◌, map, length, nat_le, true, option_map, IfOk, IfErr, IfSome};
     ghost use Rattle.hushlang.specs.Expansion as spec;
     ghost use Rattle.hushlang.specs.Builtins.{builtin_named, known_builtin};
     ghost use Rattle.hushlang.specs.BuiltinsShown.{builtin_shown};
-    ghost use Rattle.hushlang.specs.KnownFields.{known_fields, known_name};
+    ghost use Rattle.hushlang.specs.KnownFields.{known_fields};
     ghost use Rattle.hushlang.specs.TreesShown as view;
     ghost use Rattle.text.specs.TextsShown.{bytes_of_words};
     ghost use Rattle.hushlang.specs.declared.token.SyntaxError.TheVariants.{Memory};
@@ -87,14 +87,6 @@ impl Call {
             nat_le (spec.size (view.fields_in found.now)) spec.most_bytes ≡ true) }
     {
         self.fields.as_ref()
-    }
-
-    /// Whether its name, the first of its fields, is the same whatever the variables and the status
-    /// are: all its fields are known, or those of the first word alone.
-    pub fn has_known_name(&self) -> bool
-        ensures { result ≡ is_some (known_name (view.call self.now)) }
-    {
-        self.named.is_some()
     }
 
     /// The built-in command that its name is, if its name is known and is one.
