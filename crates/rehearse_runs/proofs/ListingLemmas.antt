@@ -178,18 +178,18 @@ broke_record {start} {now} {old} {mid} {names} {page} {left} {ws} end new r n m 
     }
 
 -- a call of `next` that refuses
-pub refused : {start now : Sink} {old mid : RunsShown} {names : List Text} {page : Page} {left : Option ℕ} {ws : List OutcomeWord} (new : RunsShown) (e : RehearseError) → giving.Refuses mid e new → Recorded start now old mid names page.limit left ws → Breaks start now old new names page e
-refused new (DeviceList fault) h r = absurd h
-refused new NoSuchVariable h r = absurd h
-refused new NotARun h r = absurd h
-refused new States h r = absurd h
-refused new Write h r = absurd h
-refused new Memory h r = lacked r h
-refused new Failed h r = let t = h.failed in let s = r.still in absurd cc
+pub refused : {start now : Sink} {old mid : RunsShown} {names : List Text} {left : Option ℕ} {ws : List OutcomeWord} (page : Page) (new : RunsShown) (e : RehearseError) → giving.Refuses mid e new → Recorded start now old mid names page.limit left ws → Breaks start now old new names page e
+refused page new (DeviceList fault) h r = absurd h
+refused page new NoSuchVariable h r = absurd h
+refused page new NotARun h r = absurd h
+refused page new States h r = absurd h
+refused page new Write h r = absurd h
+refused page new Memory h r = lacked r h
+refused page new Failed h r = let t = h.failed in let s = r.still in absurd cc
 
 module _ {S : Type 0} (g : Ghosts S) where
-  pub refused_by : {start now : Sink} {old mid : RunsShown} {names : List Text} {page : Page} {left : Option ℕ} {ws : List OutcomeWord} (new : RunsShown) (result : Result (Option (RunView S)) RehearseError) (e : RehearseError) → result ≡ Err e → Gives g mid result new → Recorded start now old mid names page.limit left ws → Breaks start now old new names page e
-  refused_by {mid = mid} new result e is h r = refused new e (subst (λ (o : Result (Option (RunView S)) RehearseError). Gives g mid o new) is h) r
+  pub refused_by : {start now : Sink} {old mid : RunsShown} {names : List Text} {left : Option ℕ} {ws : List OutcomeWord} (page : Page) (new : RunsShown) (result : Result (Option (RunView S)) RehearseError) (e : RehearseError) → result ≡ Err e → Gives g mid result new → Recorded start now old mid names page.limit left ws → Breaks start now old new names page e
+  refused_by {mid = mid} page new result e is h r = refused page new e (subst (λ (o : Result (Option (RunView S)) RehearseError). Gives g mid o new) is h) r
 
   pub given_by : (mid new : RunsShown) (result : Result (Option (RunView S)) RehearseError) (o : Option (RunView S)) (v : RunView S) → result ≡ Ok o → o ≡ Some v → Gives g mid result new → GivesWord mid new × ShowsRun g new.task (last_given new) v
   given_by mid new result o v is some h = subst (λ (r : Result (Option (RunView S)) RehearseError). Gives g mid r new) (is ∙ ap (λ (p : Option (RunView S)). Ok p) some) h

@@ -8,7 +8,7 @@ use Rattle.rehearse_runs.proofs.listing.write_records.Goals as goal
 pub returns-in_err-view-clause-err : goal.returns-in_err-view-clause-err
 returns-in_err-view-clause-err g c =
     let p = err_from_is_err_and c.from_residual.result c.from_residual.ensures.1 in
-    rw (p.1, p.2) (refused_by g.S.Store _ c.next.result _ c.in_err-view.was c.next.follows.holds-at-none c.loop-left.invariant.1)
+    rw (p.1, p.2) (refused_by g.S.Store c.args.page _ c.next.result _ c.in_err-view.was c.next.follows.holds-at-none c.loop-left.invariant.1)
 
 pub returns-in_err-write_record-clause-err : goal.returns-in_err-write_record-clause-err
 returns-in_err-write_record-clause-err g c =
