@@ -33,9 +33,9 @@ abbrev pub Rehearses : Given → (old new : Sink) → Finish → Type 0
 Rehearses g old new finish = HasDevices g (λ found. below.Rehearses found g.asking old new finish)
 
 -- "want of memory .. leaves a prefix"
-abbrev pub LacksMemory : Given → (old new : Sink) → Type 0
-LacksMemory g old new = HasDevices g (λ found. below.LacksMemory found g.asking old new)
+abbrev pub LeavesRecords : Given → (old new : Sink) → Type 0
+LeavesRecords g old new = HasDevices g (λ found. below.LeavesRecords found g.asking old new)
 
 -- "or a failing writer leaves a prefix"
-abbrev pub BreaksOff : Given → (old new : Sink) → Type 0
-BreaksOff g old new = HasDevices g (λ found. below.BreaksOff found g.asking old new)
+abbrev pub LeavesPrefix : Given → (old new : Sink) → Type 0
+LeavesPrefix g old new = HasDevices g (λ found. below.LeavesPrefix found g.asking old new)

@@ -36,8 +36,8 @@ pub record PrintsAll (answer : Result (List Pair) ImageError) (names : List (Lis
   pub errors : Wrote s.err s.err' (printed_errors env names)
 
 -- The environment was found, and one output failed inside what it prints.
-pub record BreaksOff (answer : Result (List Pair) ImageError) (names : List (List ℕ)) (header : Bool) (s : Outputs) :
-    Type 0 where
+pub record BreaksInPrinting (answer : Result (List Pair) ImageError) (names : List (List ℕ)) (header : Bool)
+    (s : Outputs) : Type 0 where
   pub env : List Pair
   pub there : answer ≡ Ok env
   pub broken : BreaksEither s.out s.out' s.err s.err' (printed_output env names header) (printed_errors env names)
@@ -46,6 +46,6 @@ pub record BreaksOff (answer : Result (List Pair) ImageError) (names : List (Lis
 abbrev pub Prints : Result (List Pair) ImageError → List (List ℕ) → Bool → Outputs → Result Bool ToolError → Type 0
 Prints answer names header s (Ok found) = PrintsAll answer names header s found
 Prints answer names header s (Err (Image e)) = (answer ≡ Err e) × (AreUnchanged s)
-Prints answer names header s (Err Write) = BreaksOff answer names header s
+Prints answer names header s (Err Write) = BreaksInPrinting answer names header s
 Prints answer names header s (Err Memory) = ((env : List Pair) × (answer ≡ Ok env)) × (AreUnchanged s)
 Prints answer names header s (Err _) = ⊥

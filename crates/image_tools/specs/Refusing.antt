@@ -7,7 +7,7 @@ use Rattle.rehearse.specs.DeviceList.{listed}
 use Rattle.rehearse_runs.specs.RehearsedEnvironment.{LacksRun}
 use Rattle.rehearse_runs.specs.declared.rehearse_error.RehearseError.TheVariants.{DeviceList, NoSuchVariable, NotARun}
 use Rattle.image_tools.specs.Given.{Given}
-use Rattle.image_tools.specs.Headline.{HasDevices, LacksMemory, BreaksOff}
+use Rattle.image_tools.specs.Headline.{HasDevices, LeavesRecords, LeavesPrefix}
 use Rattle.image_tools.specs.PrintingImages.{environment_in}
 use Rattle.image_tools.specs.declared.error.ToolError.{ToolError}
 use Rattle.image_tools.specs.declared.error.ToolError.TheVariants.{Image, Rehearsal, Write, Memory}
@@ -23,6 +23,6 @@ Refuses g old new (Rehearsal (DeviceList fault)) = HasImage g × (listed g.devic
 Refuses g old new (Rehearsal NoSuchVariable) = HasDevices g (λ found. found ≡ None) × (new ≡ old)
 Refuses g old new (Rehearsal NotARun) =
     HasDevices g (λ found. LacksRun found g.asking.wanted) × (new ≡ old)
-Refuses g old new Write = BreaksOff g old new
-Refuses g old new Memory = (HasImage g × (new ≡ old)) ⊎ LacksMemory g old new
+Refuses g old new Write = LeavesPrefix g old new
+Refuses g old new Memory = (HasImage g × (new ≡ old)) ⊎ LeavesRecords g old new
 Refuses g old new _ = ⊥

@@ -16,7 +16,7 @@ use Rattle.rehearse_machine.specs.Tasks.{task_shown, task_set}
 use Rattle.rehearse.specs.Bounds.{BoundsShown}
 use Rattle.rehearse_runs.specs.AskShown.{asking_by, asking_for, asking_of}
 use Rattle.rehearse_runs.specs.Behind.{GoesOnBehind, IsNoRun, IsNotListed, RefusesWord}
-use Rattle.rehearse_runs.specs.RehearsedEnvironment.{Begins, Refuses, RefusesAsk, RefusesRuns, Rehearsed, Rehearses, WithDevices, task_asked}
+use Rattle.rehearse_runs.specs.RehearsedEnvironment.{Begins, Refuses, RefusesAsk, RefusesRuns, Rehearses, WithDevices, WithRuns, task_asked}
 use Rattle.rehearse_runs.specs.ListingRuns.{Breaks, Lists}
 use Rattle.rehearse_runs.specs.RunAlone.{BreaksAlone, WritesAlone}
 use Rattle.rehearse_runs.specs.RunsShown.{RunsShown}
@@ -125,13 +125,13 @@ module _ (env : List (Text × Text)) (devices : Devices) (name : Text) (bounds :
   unstarted s Memory h = inl refl
   unstarted s Failed h = h
 
-  begun : (r : RunsShown) → Begins env devices name bounds after r → Rehearsed (task_set env devices name bounds) (Listed after page) r.task r.to_come
-  begun r b = record { task_is = b.task_is; to_come = to_come_within r.task after page r.to_come b.to_come }
+  begun : (r : RunsShown) (IsSo : Task → List OutcomeWord → Type 0) → Begins env devices name bounds after r → IsSo r.task r.to_come → WithRuns (task_set env devices name bounds) (Listed after page) IsSo
+  begun r IsSo b so = record { task = r.task; task_is = b.task_is; words = r.to_come; to_come = to_come_within r.task after page r.to_come b.to_come; so = so }
 
   -- it is written
   pub written : (result : Result Finish RehearseError) (old new : Sink) (r r' : RunsShown) → Begins env devices name bounds after r → IfOk result (λ finish. Lists old new r r' names page finish)
       → IfOk result (λ finish. Rehearses (task_set env devices name bounds) (asking_for name bounds (Listed after page) names) old new finish)
-  written (Ok finish) old new r r' b h = record { task = r.task; words = r.to_come; rehearsed = begun r b; wrote = h.wrote; finish_is = h.finish_is }
+  written (Ok finish) old new r r' b h = begun r _ b (h.wrote, h.finish_is)
   written (Err e) old new r r' b h = tt
 
   broken : (old new : Sink) (r r' : RunsShown) (e : RehearseError) → Begins env devices name bounds after r → Breaks old new r r' names page e → Refuses (task_set env devices name bounds) (asking_for name bounds (Listed after page) names) old new e
@@ -139,8 +139,8 @@ module _ (env : List (Text × Text)) (devices : Devices) (name : Text) (bounds :
   broken old new r r' NoSuchVariable b h = absurd h
   broken old new r r' NotARun b h = absurd h
   broken old new r r' States b h = h
-  broken old new r r' Write b h = record { task = r.task; words = r.to_come; rehearsed = begun r b; broke = h.wrote }
-  broken old new r r' Memory b h = inr (record { task = r.task; words = r.to_come; rehearsed = begun r b; front = h.ws; left = h.us; parts = h.front; wrote = h.wrote })
+  broken old new r r' Write b h = begun r _ b h.breaks
+  broken old new r r' Memory b h = inr (begun r _ b h.lacks)
   broken old new r r' Failed b h = let f = h.failed in let s = b.sound in absurd cc
 
   -- or it breaks off
@@ -162,10 +162,10 @@ writes_alone env devices name bounds printed names old new set h =
     let P : Text → Type 0 = λ t. Wrote old new t in
     record {
       task = task;
+      task_is = set;
       words = w ∷ [];
-      rehearsed = record { task_is = set; to_come = (w, h.is_run.spells, h.is_run.run, refl) };
-      wrote = subst P (listed_alone (record_of task names) w (line (codes "done"))) h.wrote;
-      finish_is = refl;
+      to_come = (w, h.is_run.spells, h.is_run.run, refl);
+      so = (subst P (listed_alone (record_of task names) w (line (codes "done"))) h.wrote, refl);
     }
 
 pub breaks_alone : (env : List (Text × Text)) (devices : Devices) (name : Text) (bounds : BoundsShown) (printed : Text) (names : List Text) (old new : Sink) (e : RehearseError) → task_set env devices name bounds ≡ Some (task_shown env devices name bounds)
@@ -179,9 +179,10 @@ breaks_alone env devices name bounds printed names old new Write set h =
     let P : Text → Type 0 = λ t. BrokeOff old new t in
     record {
       task = task;
+      task_is = set;
       words = w ∷ [];
-      rehearsed = record { task_is = set; to_come = (w, h.is_run.spells, h.is_run.run, refl) };
-      broke = subst P (listed_alone (record_of task names) w (line (codes "done"))) h.broke;
+      to_come = (w, h.is_run.spells, h.is_run.run, refl);
+      so = subst P (listed_alone (record_of task names) w (line (codes "done"))) h.broke;
     }
 breaks_alone env devices name bounds printed names old new Memory set h = inl h
 breaks_alone env devices name bounds printed names old new States set h = absurd h

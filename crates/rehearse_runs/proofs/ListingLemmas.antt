@@ -20,13 +20,13 @@ use Rattle.rehearse_runs.specs.RunViewShown.{shown_word, shown_moment, shown_end
 use Rattle.std.proofs.Common.{Result, Ok, Err, ◌≤◌, length-append}
 use Rattle.std.proofs.Math.Dec.{eqb-suc-zero}
 use Rattle.std.proofs.lemmas.Bool.{lt-leb, le-leb}
-use Rattle.rehearse_runs.specs.Giving.{ShowsRun, GivesWord, GivesNone, Gives}
+use Rattle.rehearse_runs.specs.Giving.{ShowsRun, GivesWord, GivesNone, GivesUp, Gives}
 use Rattle.rehearse_runs.specs.Giving as giving
 use Rattle.rehearse_runs.specs.declared.rehearse_error.RehearseError.{RehearseError}
 use Rattle.rehearse_runs.specs.declared.rehearse_error.RehearseError.TheVariants.{DeviceList, NoSuchVariable, NotARun, States, Write, Memory, Failed}
 use Rattle.rehearse_runs.specs.declared.listing.Finish.{Finish}
 use Rattle.rehearse_runs.specs.declared.listing.Finish.TheVariants.{Done, More}
-use Rattle.rehearse_runs.specs.ListingRuns.{Breaks, Lists, left_out, finish_at, finish_of, IsLeft, Takes, Recorded, WroteRecords, LacksMemory, BreaksOff, reached, lowered}
+use Rattle.rehearse_runs.specs.ListingRuns.{Breaks, Lists, left_out, finish_at, finish_of, IsLeft, Takes, Recorded, WroteRecords, FailsInListing, BreaksInListing, reached, lowered}
 use Rattle.rehearse_runs.specs.declared.run_view.RunView.{RunView}
 
 recorded_spelled : (w : OutcomeWord) (s : State) (e : Ending) (names : List Text) → recorded (map outcome_digit w) (record s { word = [] }) e names ≡ record_text w s e names
@@ -131,20 +131,22 @@ shown_past (Some l) None ws rest h = absurd h
 shown_past (Some l) (Some k) ws rest h = take_past ws rest l k h
 
 -- memory ran out
-takes_failed : {old mid new : RunsShown} {ws : List OutcomeWord} → Takes old mid ws → giving.LacksMemory mid new → Takes old new ws
+takes_failed : {old mid new : RunsShown} {ws : List OutcomeWord} → Takes old mid ws → GivesUp mid new → Takes old new ws
 takes_failed {old} {mid} {new} {ws} t m =
     let P : RunsShown → Type 0 = λ (n : RunsShown). Takes old n ws in
     let same : Takes old (record mid { failed = true; shows = false; work = new.work }) ws =
     record { words = t.words; answers = t.answers; given = t.given; task = t.task; start = t.start; sound = t.sound } in
     subst P (sym m.failed) same
 
-pub lacked : {start now : Sink} {old mid new : RunsShown} {names : List Text} {page : Page} {left : Option ℕ} {ws : List OutcomeWord} → Recorded start now old mid names page.limit left ws → giving.LacksMemory mid new → LacksMemory start now old new names page
+pub lacked : {start now : Sink} {old mid new : RunsShown} {names : List Text} {page : Page} {left : Option ℕ} {ws : List OutcomeWord} → Recorded start now old mid names page.limit left ws → GivesUp mid new → FailsInListing start now old new names page
 lacked {start} {now} {old} {mid} {new} {names} {page} {left} {ws} r m = record {
-  ws = ws;
-  us = words_listed mid.to_come left;
+  lacks = record {
+    front = ws;
+    left = words_listed mid.to_come left;
+    parts = ap (λ (vs : List OutcomeWord). page_words vs page) r.takes.words ∙ shown_past page.limit left ws mid.to_come r.count;
+    wrote = r.wrote;
+  };
   takes = takes_failed r.takes m;
-  front = ap (λ (vs : List OutcomeWord). page_words vs page) r.takes.words ∙ shown_past page.limit left ws mid.to_come r.count;
-  wrote = r.wrote;
   failed = ap (λ (n : RunsShown). n.failed) m.failed;
 }
 
@@ -155,7 +157,7 @@ shown_next (Some (suc k)) w rest h = let e : k ≡ suc k - 1 = omega arith in ap
 
 -- the output failed inside a record
 pub broke_record : {start now : Sink} {old mid : RunsShown} {names : List Text} {page : Page} {left : Option ℕ} {ws : List OutcomeWord} (end : Sink) (new : RunsShown)
-    → Recorded start now old mid names page.limit left ws → reached left ≡ false → GivesWord mid new → BrokeOff now end (record_of old.task names (last_given new)) → BreaksOff start end old new names page
+    → Recorded start now old mid names page.limit left ws → reached left ≡ false → GivesWord mid new → BrokeOff now end (record_of old.task names (last_given new)) → BreaksInListing start end old new names page
 broke_record {start} {now} {old} {mid} {names} {page} {left} {ws} end new r n m q =
     let w = last_given new in
     let f = record_of old.task names in
@@ -173,7 +175,7 @@ broke_record {start} {now} {old} {mid} {names} {page} {left} {ws} end new r n m 
         takes = takes_more new r.takes m;
         breaks = record { between = now; wrote = r.wrote; broke = q };
       });
-      wrote = subst (λ (t : Text). BrokeOff start end t) whole (BrokeOff-after r.wrote (BrokeOff-before (flat_map f us ++ z) q));
+      breaks = subst (λ (t : Text). BrokeOff start end t) whole (BrokeOff-after r.wrote (BrokeOff-before (flat_map f us ++ z) q));
       still = m.still;
     }
 
@@ -293,7 +295,7 @@ listed {start} {now} {old} {new} {names} {page} {left} {ws} end last finish r e 
 
 -- and it broke off
 unlisted : {start now : Sink} {old new : RunsShown} {names : List Text} {page : Page} {left : Option ℕ} {ws : List OutcomeWord} (end : Sink) (last : Text) (finish : Finish)
-    → Recorded start now old new names page.limit left ws → EndsBehind (ws ++ new.to_come) page.limit ws new.to_come last finish → BrokeOff now end (line last) → BreaksOff start end old new names page
+    → Recorded start now old new names page.limit left ws → EndsBehind (ws ++ new.to_come) page.limit ws new.to_come last finish → BrokeOff now end (line last) → BreaksInListing start end old new names page
 unlisted {start} {now} {old} {new} {names} {page} {left} {ws} end last finish r e q =
     let f = record_of old.task names in
     let all = sym r.takes.words in
@@ -308,7 +310,7 @@ unlisted {start} {now} {old} {new} {names} {page} {left} {ws} end last finish r 
           broke = BrokeOff-as now end _ _ (ap line last_is) q;
         };
       });
-      wrote = subst (λ (vs : List OutcomeWord). BrokeOff start end (page_text f vs page)) all (BrokeOff-as start end _ _ (ends_as f (ws ++ new.to_come) page.limit ws new.to_come last finish e) (BrokeOff-after r.wrote q));
+      breaks = subst (λ (vs : List OutcomeWord). BrokeOff start end (page_text f vs page)) all (BrokeOff-as start end _ _ (ends_as f (ws ++ new.to_come) page.limit ws new.to_come last finish e) (BrokeOff-after r.wrote q));
       still = r.still;
     }
 
@@ -344,11 +346,11 @@ module _ {start now : Sink} {old new : RunsShown} {names : List Text} {page : Pa
   pub listed_more : (digits : Text) → HasRoom page → has_words new.to_come ≡ true → digits ≡ map outcome_digit (last_given new) → Wrote now end (line (codes "more " ++ printed digits)) → Lists start end old new names page More
   listed_more digits n h d q = listed end (codes "more " ++ spelled (last_of [] r.ws)) More r.recorded (at_limit page.limit r.left r.ws new.to_come r.recorded.count r.over h) (Wrote-as now end _ _ (last_line_is digits r n h d) q)
 
-  pub unlisted_more : (digits : Text) → HasRoom page → has_words new.to_come ≡ true → digits ≡ map outcome_digit (last_given new) → BrokeOff now end (line (codes "more " ++ printed digits)) → BreaksOff start end old new names page
+  pub unlisted_more : (digits : Text) → HasRoom page → has_words new.to_come ≡ true → digits ≡ map outcome_digit (last_given new) → BrokeOff now end (line (codes "more " ++ printed digits)) → BreaksInListing start end old new names page
   unlisted_more digits n h d q = unlisted end (codes "more " ++ spelled (last_of [] r.ws)) More r.recorded (at_limit page.limit r.left r.ws new.to_come r.recorded.count r.over h) (BrokeOff-as now end _ _ (last_line_is digits r n h d) q)
 
   pub listed_done : has_words new.to_come ≡ false → Wrote now end (codes "done\n") → Lists start end old new names page Done
   listed_done h q = listed end (codes "done") Done r.recorded (at_end page.limit r.left r.ws new.to_come r.recorded.count (no_words new.to_come h)) q
 
-  pub unlisted_done : has_words new.to_come ≡ false → BrokeOff now end (codes "done\n") → BreaksOff start end old new names page
+  pub unlisted_done : has_words new.to_come ≡ false → BrokeOff now end (codes "done\n") → BreaksInListing start end old new names page
   unlisted_done h q = unlisted end (codes "done") Done r.recorded (at_end page.limit r.left r.ws new.to_come r.recorded.count (no_words new.to_come h)) q

@@ -35,7 +35,7 @@ pub record GivesNone (old new : RunsShown) : Type 0 where
   pub same : new ≡ record old { shows = false }
 
 -- memory ran out: nothing is given, and all later calls fail
-pub record LacksMemory (old new : RunsShown) : Type 0 where
+pub record GivesUp (old new : RunsShown) : Type 0 where
   pub sound : old.failed ≡ false
   pub failed : new ≡ record old { failed = true; shows = false; work = new.work }
 
@@ -45,7 +45,7 @@ pub record HasFailed (old new : RunsShown) : Type 0 where
   pub same : new ≡ old
 
 abbrev pub Refuses : RunsShown → RehearseError → RunsShown → Type 0
-Refuses old Memory new = LacksMemory old new
+Refuses old Memory new = GivesUp old new
 Refuses old Failed new = HasFailed old new
 Refuses old _ new = ⊥
 

@@ -7,6 +7,7 @@ pub mod Recording
 pub mod RunsShown
 pub mod Phases
 pub mod Giving
+pub mod UnfinishedListings
 pub mod ListingRuns
 pub mod Searching
 pub mod Walking

@@ -7,6 +7,7 @@ use Rattle.rehearse.specs.State.{Text}
 use Rattle.rehearse.specs.Listing.{line, record_of, page_words, page_closing, page_text}
 use Rattle.rehearse.specs.declared.wanted.Page.{Page}
 use Rattle.rehearse_runs.specs.RunsShown.{RunsShown, last_answer}
+use Rattle.rehearse_runs.specs.UnfinishedListings.{BreaksOff, LacksMemory}
 use Rattle.rehearse_runs.specs.declared.rehearse_error.RehearseError.{RehearseError}
 use Rattle.rehearse_runs.specs.declared.rehearse_error.RehearseError.TheVariants.{Memory, Write, Failed}
 use Rattle.rehearse_runs.specs.declared.listing.Finish.{Finish}
@@ -76,13 +77,10 @@ pub record Lists (start now : Sink) (old new : RunsShown) (names : List Text) (p
   pub rest : new.to_come ≡ left_out old.to_come page.limit
   pub still : new.failed ≡ false
 
--- memory ran out: the whole records of the words that were taken are written
-pub record LacksMemory (start now : Sink) (old new : RunsShown) (names : List Text) (page : Page) : Type 0 where
-  pub ws : List OutcomeWord
-  pub us : List OutcomeWord
-  pub takes : Takes old new ws
-  pub front : page_words old.to_come page ≡ ws ++ us
-  pub wrote : Wrote start now (flat_map (record_of old.task names) ws)
+-- memory ran out: the words that were taken are those whose records are written, and all later calls fail
+pub record FailsInListing (start now : Sink) (old new : RunsShown) (names : List Text) (page : Page) : Type 0 where
+  pub lacks : LacksMemory old.task names old.to_come page start now
+  pub takes : Takes old new lacks.front
   pub failed : new.failed ≡ true
 
 -- the records of these words are written, and the output failed inside the text after them
@@ -110,9 +108,9 @@ pub record BreaksInClosing (start now : Sink) (old new : RunsShown) (names : Lis
       (line (page_closing old.to_come page))
 
 -- the output failed: a prefix of the listing is written, and the words that were taken are not given again
-pub record BreaksOff (start now : Sink) (old new : RunsShown) (names : List Text) (page : Page) : Type 0 where
+pub record BreaksInListing (start now : Sink) (old new : RunsShown) (names : List Text) (page : Page) : Type 0 where
   pub place : BreaksInRecord start now old new names page ⊎ BreaksInClosing start now old new names page
-  pub wrote : BrokeOff start now (page_text (record_of old.task names) old.to_come page)
+  pub breaks : BreaksOff old.task names old.to_come page start now
   pub still : new.failed ≡ false
 
 -- memory had run out before: nothing is written
@@ -123,7 +121,7 @@ pub record HadFailed (start now : Sink) (old new : RunsShown) : Type 0 where
 
 abbrev pub Breaks : (start now : Sink) (old new : RunsShown) (names : List Text) (page : Page) →
     RehearseError → Type 0
-Breaks start now old new names page Memory = LacksMemory start now old new names page
-Breaks start now old new names page Write = BreaksOff start now old new names page
+Breaks start now old new names page Memory = FailsInListing start now old new names page
+Breaks start now old new names page Write = BreaksInListing start now old new names page
 Breaks start now old new names page Failed = HadFailed start now old new
 Breaks start now old new names page _ = ⊥

@@ -1,18 +1,18 @@
 -- What a rehearsal of an environment writes. Ours. The words in quotation marks are those of the headline
 -- (image_tools/specs/Headline.antt), and each is explained at its line.
-use Rattle.std.specs.Prelude.{◌≡◌, ◌⊎◌, ◌++◌, false, List, Option, Some, None, Ok, Err}
-use Rattle.std.specs.List.{flat_map}
-use Rattle.output.specs.Sink.{Sink, Wrote, BrokeOff}
+use Rattle.std.specs.Prelude.{◌≡◌, ◌⊎◌, false, List, Option, Some, None, Ok, Err}
+use Rattle.output.specs.Sink.{Sink, Wrote}
 use Rattle.rehearse.specs.Asking.{Asking, AreToCome, GivesNoRun, Listed, Wanted, page_of}
 use Rattle.rehearse.specs.Bounds.{BoundsShown}
 use Rattle.rehearse.specs.DeviceList.{Devices, listed}
-use Rattle.rehearse.specs.Listing.{record_of, page_text, page_words, whole_page}
+use Rattle.rehearse.specs.Listing.{record_of, page_text, whole_page}
 use Rattle.rehearse.specs.Outcomes.{OutcomeWord}
 use Rattle.rehearse.specs.Runs.{Task}
 use Rattle.rehearse.specs.State.{Text}
 use Rattle.rehearse_machine.specs.Tasks.{task_set}
 use Rattle.rehearse_runs.specs.ListingRuns.{finish_of}
 use Rattle.rehearse_runs.specs.RunsShown.{RunsShown}
+use Rattle.rehearse_runs.specs.UnfinishedListings.{BreaksOff, LacksMemory}
 use Rattle.rehearse_runs.specs.declared.listing.Finish.{Finish}
 use Rattle.rehearse_runs.specs.declared.rehearse_error.RehearseError.{RehearseError}
 use Rattle.rehearse_runs.specs.declared.rehearse_error.RehearseError.TheVariants.{DeviceList, NoSuchVariable, NotARun, Write, Memory}
@@ -21,24 +21,24 @@ use Rattle.rehearse_runs.specs.declared.rehearse_error.RehearseError.TheVariants
 abbrev pub task_asked : List (Text × Text) → Devices → Asking → Option Task
 task_asked environment devices asking = task_set environment devices asking.variable asking.bounds
 
--- what is rehearsed, if a rehearsal was found: "exactly the runs .., each once, in dictionary order": all of them, or
--- those in which no more device commands fail than the bounds say; "started after any run's word": those that follow
--- that run; or the run of a word alone
-pub record Rehearsed (found : Option Task) (wanted : Wanted) (task : Task) (words : List OutcomeWord) : Type 0 where
+-- a rehearsal was found, and this holds of it and of the words of its runs
+pub record WithRuns (found : Option Task) (wanted : Wanted) (IsSo : Task → List OutcomeWord → Type 0) : Type 0 where
+  pub task : Task
   pub task_is : found ≡ Some task
+  pub words : List OutcomeWord
+  -- "exactly the runs .., each once, in dictionary order": all of them, or those in which no more device commands fail
+  -- than the bounds say; "started after any run's word": those that follow that run; or the run of a word alone
   pub to_come : AreToCome task wanted words
+  pub so : IsSo task words
 
 -- "the records": what the run on a word did, its last line saying how it ended, "runs that meet a bound marked cut"
 abbrev pub text_asked : Asking → Task → List OutcomeWord → Text
 text_asked asking task words = page_text (record_of task asking.names) words (page_of asking.wanted)
 
 -- "the rehearsal writes": the whole listing is written, and the answer is the one that its last line gives
-pub record Rehearses (found : Option Task) (asking : Asking) (old new : Sink) (finish : Finish) : Type 0 where
-  pub task : Task
-  pub words : List OutcomeWord
-  pub rehearsed : Rehearsed found asking.wanted task words
-  pub wrote : Wrote old new (text_asked asking task words)
-  pub finish_is : finish ≡ finish_of words (page_of asking.wanted)
+abbrev pub Rehearses : (found : Option Task) → Asking → (old new : Sink) → Finish → Type 0
+Rehearses found asking old new finish = WithRuns found asking.wanted (λ task words.
+    Wrote old new (text_asked asking task words) × (finish ≡ finish_of words (page_of asking.wanted)))
 
 -- the word that was given is not in the listing, or no run has it
 pub record LacksRun (found : Option Task) (wanted : Wanted) : Type 0 where
@@ -47,28 +47,21 @@ pub record LacksRun (found : Option Task) (wanted : Wanted) : Type 0 where
   pub no_run : GivesNoRun task wanted
 
 -- "or a failing writer leaves a prefix": a prefix of the listing, and one write failed
-pub record BreaksOff (found : Option Task) (asking : Asking) (old new : Sink) : Type 0 where
-  pub task : Task
-  pub words : List OutcomeWord
-  pub rehearsed : Rehearsed found asking.wanted task words
-  pub broke : BrokeOff old new (text_asked asking task words)
+abbrev pub LeavesPrefix : (found : Option Task) → Asking → (old new : Sink) → Type 0
+LeavesPrefix found asking old new = WithRuns found asking.wanted (λ task words.
+    BreaksOff task asking.names words (page_of asking.wanted) old new)
 
 -- "want of memory .. leaves a prefix": whole records of the listing, starting with its first
-pub record LacksMemory (found : Option Task) (asking : Asking) (old new : Sink) : Type 0 where
-  pub task : Task
-  pub words : List OutcomeWord
-  pub rehearsed : Rehearsed found asking.wanted task words
-  pub front : List OutcomeWord
-  pub left : List OutcomeWord
-  pub parts : page_words words (page_of asking.wanted) ≡ front ++ left
-  pub wrote : Wrote old new (flat_map (record_of task asking.names) front)
+abbrev pub LeavesRecords : (found : Option Task) → Asking → (old new : Sink) → Type 0
+LeavesRecords found asking old new = WithRuns found asking.wanted (λ task words.
+    LacksMemory task asking.names words (page_of asking.wanted) old new)
 
 -- why it is refused
 abbrev pub Refuses : (found : Option Task) → Asking → (old new : Sink) → RehearseError → Type 0
 Refuses found asking old new NoSuchVariable = (found ≡ None) × (new ≡ old)
 Refuses found asking old new NotARun = LacksRun found asking.wanted × (new ≡ old)
-Refuses found asking old new Write = BreaksOff found asking old new
-Refuses found asking old new Memory = (new ≡ old) ⊎ LacksMemory found asking old new
+Refuses found asking old new Write = LeavesPrefix found asking old new
+Refuses found asking old new Memory = (new ≡ old) ⊎ LeavesRecords found asking old new
 Refuses found asking old new _ = ⊥
 
 -- the device list is right, and this holds of it
@@ -80,7 +73,7 @@ pub record WithDevices (devices_text : Text) (IsSo : Devices → Type 0) : Type 
 abbrev pub RefusesAsk : List (Text × Text) → Text → Asking → (old new : Sink) → RehearseError → Type 0
 RefusesAsk environment devices_text asking old new (DeviceList fault) = (listed devices_text ≡ Err fault) × (new ≡ old)
 RefusesAsk environment devices_text asking old new Memory =
-    (new ≡ old) ⊎ WithDevices devices_text (λ devices. LacksMemory (task_asked environment devices asking) asking old new)
+    (new ≡ old) ⊎ WithDevices devices_text (λ devices. LeavesRecords (task_asked environment devices asking) asking old new)
 RefusesAsk environment devices_text asking old new error =
     WithDevices devices_text (λ devices. Refuses (task_asked environment devices asking) asking old new error)
 

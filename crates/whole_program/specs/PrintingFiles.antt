@@ -5,7 +5,7 @@ use Rattle.envimage.specs.Data.{Pair}
 use Rattle.envimage.specs.declared.image.ByteOrder.{ByteOrder}
 use Rattle.envimage.specs.declared.image.ImageError.{ImageError}
 use Rattle.locked_files.specs.CallOrder.{OnlyReads}
-use Rattle.image_tools.specs.PrintingImages.{BreaksOff, PrintsAll, environment_in}
+use Rattle.image_tools.specs.PrintingImages.{BreaksInPrinting, PrintsAll, environment_in}
 use Rattle.output.specs.Outputs.{AreUnchanged, Outputs}
 use Rattle.locked_files.specs.Told.{Told}
 use Rattle.image_tools.specs.declared.error.ToolError.TheVariants.{Image, Write}
@@ -32,7 +32,7 @@ PrintsCopies order found names header outputs (Ok all) = PrintsAll (environment 
 PrintsCopies order found names header outputs (Err (Tool (Image error))) =
     (environment order found ≡ Err error) × AreUnchanged outputs
 PrintsCopies order found names header outputs (Err (Tool Write)) =
-    BreaksOff (environment order found) names header outputs
+    BreaksInPrinting (environment order found) names header outputs
 PrintsCopies order found names header outputs (Err Memory) = AreUnchanged outputs
 PrintsCopies order found names header outputs (Err fault) = ⊥
 
@@ -49,7 +49,7 @@ PrintsFrom order config names header outputs old new (Ok all) =
 PrintsFrom order config names header outputs old new (Err (Tool (Image error))) =
     FromImages config old new (λ found. environment order found ≡ Err error)
 PrintsFrom order config names header outputs old new (Err (Tool Write)) =
-    FromImages config old new (λ found. BreaksOff (environment order found) names header outputs)
+    FromImages config old new (λ found. BreaksInPrinting (environment order found) names header outputs)
 PrintsFrom order config names header outputs old new (Err fault) = OnlyReads old new
     × IsImagesFault config old.stored fault
 

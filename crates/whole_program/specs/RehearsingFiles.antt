@@ -10,7 +10,7 @@ use Rattle.rehearse.specs.WantedShown.{wanted_word}
 use Rattle.image_tools.specs.Errors.{tool_fault}
 use Rattle.image_tools.specs.FileFaults.{path_form}
 use Rattle.image_tools.specs.Given.{Given, given}
-use Rattle.image_tools.specs.Headline.{LacksMemory, Rehearses}
+use Rattle.image_tools.specs.Headline.{LeavesRecords, Rehearses}
 use Rattle.locked_files.specs.CallOrder.{OnlyReads}
 use Rattle.image_tools.specs.Refusing.{Refuses}
 use Rattle.locked_files.specs.Told.{Told, file_at}
@@ -42,7 +42,7 @@ refusal_of what error = tool_fault error
 
 -- running out of memory leaves the output as it was, or whole records of the listing
 abbrev pub RunsOut : Given → (old new : Sink) → Type 0
-RunsOut g old new = (new ≡ old) ⊎ LacksMemory g old new
+RunsOut g old new = (new ≡ old) ⊎ LeavesRecords g old new
 
 -- each answer to the rehearsal of copies
 abbrev pub RehearsesCopies : Given → (old new : Sink) → Result Finish ToolError → Type 0
