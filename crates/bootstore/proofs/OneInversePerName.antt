@@ -9,14 +9,17 @@ use Rattle.bootstore.specs.declared.table.Table.{Table}
 use Rattle.bootstore.specs.declared.table.Place.{Place}
 use Rattle.bootstore.specs.declared.inverse.Marked.{Marked}
 use Rattle.bootstore.specs.declared.inverse.Inverse.{Inverse}
-use Rattle.bootstore.specs.declared.inverse.Inverse.TheVariants.{Environment, Local, Touched}
+use Rattle.bootstore.specs.declared.inverse.Inverse.TheVariants.{Variable, Touched}
 use Rattle.bootstore.specs.declared.inverse.Kept.{Kept}
 use Rattle.bootstore.specs.declared.inverse.Kept.TheVariants.{Mark, Change}
 use Rattle.bootstore.specs.declared.present.Present.{Present}
+use Rattle.bootstore.specs.declared.present.Scope.{Scope}
+use Rattle.bootstore.specs.declared.present.Scope.TheVariants.{Environment, Local}
 use Rattle.bootstore.specs.Moment.{Bytes, Moment, RunningFrame}
 use Rattle.bootstore.specs.Record.{assigned}
-use Rattle.bootstore.specs.Table.{AreEqual, IsWith, is_name, place_at, last_kept, kept_of, place_value, KeepsNothing}
-use Rattle.bootstore.specs.Inverse.{outermost, marked_before, last_left, local_last_left, is_of_environment, is_of_local, stands_as, is_kept, EachIsKept, tells_kept, all_tell_kept, up_to_mark, marks_tell, KeepsOnce}
+use Rattle.bootstore.specs.Scopes.{chosen, table_of, with_table, with_variable}
+use Rattle.bootstore.specs.Table.{AreEqual, IsWith, place_at, last_kept, kept_of, place_value, KeepsNothing}
+use Rattle.bootstore.specs.Inverse.{undone, marked_before, last_left, is_of, stands_as, is_kept, EachIsKept, tells_kept, all_tell_kept, up_to_mark, marks_tell, KeepsOnce}
 use Rattle.bootstore.proofs.TableLemmas.{assigned-again, assigned-swap, same_name, compares_equal}
 
 or_map : (a b c : Bool) → (b ≡ true → c ≡ true) → a || b ≡ true → a || c ≡ true
@@ -67,42 +70,45 @@ stands_there test count kept some = at (eqb count 0) refl
     at true t h = absurd (let e = eqb-true count 0 t in omega arith)
     at false t h = h
 
+-- the inverse of a variable names it
+pub same_variable : (scope other : Scope) (name : Bytes) (key : Vec ℕ Global) (before : Option Place) → is_of scope name (Variable other key before) ≡ true → is_of other key.items ≡ is_of scope name
+same_variable Environment Environment name key before t = ap (is_of Environment) (sym (same_name name key.items t))
+same_variable Environment Local name key before t = absurd (let e : false ≡ true = t in cc)
+same_variable Local Environment name key before t = absurd (let e : false ≡ true = t in cc)
+same_variable Local Local name key before t = ap (is_of Local) (sym (same_name name key.items t))
+
+is_of_itself : (scope : Scope) (name : Bytes) (key : Vec ℕ Global) (before : Option Place) → key.items ≡ name → is_of scope name (Variable scope key before) ≡ true
+is_of_itself Environment name key before same = compares_equal name key.items (sym same)
+is_of_itself Local name key before same = compares_equal name key.items (sym same)
+
 -- After the last inverse was taken, each count still names a kept inverse.
-left_environment : (last new : Bytes → ℕ) (i : Inverse) (kept : List Kept) → EachIsKept is_of_environment last (Change i ∷ kept) → tells_kept i kept ≡ true → AreEqual (last_left i last) new → EachIsKept is_of_environment new kept
-left_environment last new (Environment key before) kept h tells e = λ name. subst (λ k. is_kept (is_of_environment name) k kept ≡ true) (sym (e name)) (at name (is_name name key) refl)
+left : (scope : Scope) (last new : Bytes → ℕ) (i : Inverse) (kept : List Kept) → EachIsKept (is_of scope) last (Change i ∷ kept) → tells_kept i kept ≡ true → AreEqual (last_left scope i last) new → EachIsKept (is_of scope) new kept
+left scope last new (Variable other key before) kept h tells e = λ name. subst (λ k. is_kept (is_of scope name) k kept ≡ true) (sym (e name)) (at name (is_of scope name (Variable other key before)) refl)
   where
-    at : (name : Bytes) (b : Bool) → is_name name key ≡ b → is_kept (is_of_environment name) (cond b (kept_of before) (last name)) kept ≡ true
-    at name true t = subst (λ n. is_kept (is_of_environment n) (kept_of before) kept ≡ true) (sym (same_name name key.items t)) tells
-    at name false t = kept_less (is_of_environment name) (last name) (Environment key before) kept t (h name)
-left_environment last new (Local key before) kept h tells e = λ name. subst (λ k. is_kept (is_of_environment name) k kept ≡ true) (sym (e name)) (kept_less (is_of_environment name) (last name) (Local key before) kept refl (h name))
-left_environment last new (Touched below frame) kept h tells e = λ name. subst (λ k. is_kept (is_of_environment name) k kept ≡ true) (sym (e name)) (kept_less (is_of_environment name) (last name) (Touched below frame) kept refl (h name))
+    at : (name : Bytes) (b : Bool) → is_of scope name (Variable other key before) ≡ b → is_kept (is_of scope name) (cond b (kept_of before) (last name)) kept ≡ true
+    at name true t = subst (λ test. is_kept test (kept_of before) kept ≡ true) (same_variable scope other name key before t) tells
+    at name false t = kept_less (is_of scope name) (last name) (Variable other key before) kept t (h name)
+left scope last new (Touched below frame) kept h tells e = λ name. subst (λ k. is_kept (is_of scope name) k kept ≡ true) (sym (e name)) (kept_less (is_of scope name) (last name) (Touched below frame) kept refl (h name))
 
-left_local : (last new : Bytes → ℕ) (i : Inverse) (kept : List Kept) → EachIsKept is_of_local last (Change i ∷ kept) → tells_kept i kept ≡ true → AreEqual (local_last_left i last) new → EachIsKept is_of_local new kept
-left_local last new (Local key before) kept h tells e = λ name. subst (λ k. is_kept (is_of_local name) k kept ≡ true) (sym (e name)) (at name (is_name name key) refl)
-  where
-    at : (name : Bytes) (b : Bool) → is_name name key ≡ b → is_kept (is_of_local name) (cond b (kept_of before) (last name)) kept ≡ true
-    at name true t = subst (λ n. is_kept (is_of_local n) (kept_of before) kept ≡ true) (sym (same_name name key.items t)) tells
-    at name false t = kept_less (is_of_local name) (last name) (Local key before) kept t (h name)
-left_local last new (Environment key before) kept h tells e = λ name. subst (λ k. is_kept (is_of_local name) k kept ≡ true) (sym (e name)) (kept_less (is_of_local name) (last name) (Environment key before) kept refl (h name))
-left_local last new (Touched below frame) kept h tells e = λ name. subst (λ k. is_kept (is_of_local name) k kept ≡ true) (sym (e name)) (kept_less (is_of_local name) (last name) (Touched below frame) kept refl (h name))
-
-pub once_after : (p q : Present) (u : ℕ) (i : Inverse) (kept : List Kept) → KeepsOnce p u (Change i ∷ kept) → AreEqual (last_left i (last_kept p.environment)) (last_kept q.environment) → AreEqual (local_last_left i (last_kept p.locals)) (last_kept q.locals) → KeepsOnce q u kept
+pub once_after : (p q : Present) (u : ℕ) (i : Inverse) (kept : List Kept) → KeepsOnce p u (Change i ∷ kept) → AreEqual (last_left Environment i (last_kept p.environment)) (last_kept q.environment) → AreEqual (last_left Local i (last_kept p.locals)) (last_kept q.locals) → KeepsOnce q u kept
 once_after p q u i kept h environment locals =
     let parts = and_parts (tells_kept i kept) (all_tell_kept kept) h.before in
     record {
-      environment = left_environment (last_kept p.environment) (last_kept q.environment) i kept h.environment parts.0 environment;
-      locals = left_local (last_kept p.locals) (last_kept q.locals) i kept h.locals parts.0 locals;
+      variables = λ scope. left scope (last_kept (table_of p scope)) (last_kept (table_of q scope)) i kept (h.variables scope) parts.0 (both scope);
       before = parts.1;
       last_mark = h.last_mark;
       marks = h.marks;
     }
+  where
+    both : (scope : Scope) → AreEqual (last_left scope i (last_kept (table_of p scope))) (last_kept (table_of q scope))
+    both Environment = environment
+    both Local = locals
 
 pub once_at_mark : (p q : Present) (u : ℕ) (mark : Marked) (kept : List Kept) → KeepsOnce p u (Mark mark ∷ kept) → q.environment ≡ p.environment → q.locals ≡ p.locals → KeepsOnce q mark.before.kept kept
 once_at_mark p q u mark kept h environment locals =
     let parts = and_parts (eqb (up_to_mark kept) mark.before.kept) (marks_tell kept) h.marks in
     record {
-      environment = λ name. ap (λ t. is_kept (is_of_environment name) (last_kept t name) kept) environment ∙ h.environment name;
-      locals = λ name. ap (λ t. is_kept (is_of_local name) (last_kept t name) kept) locals ∙ h.locals name;
+      variables = λ scope name. ap (λ t. is_kept (is_of scope name) (last_kept t name) kept) (λ i. chosen scope (environment i) (locals i)) ∙ h.variables scope name;
       before = h.before;
       last_mark = eqb-true (up_to_mark kept) mark.before.kept parts.0;
       marks = parts.1;
@@ -110,8 +116,7 @@ once_at_mark p q u mark kept h environment locals =
 
 pub once_from_mark : (p : Present) (n : ℕ) (mark : Marked) (kept : List Kept) → KeepsOnce p mark.before.kept kept → length kept + 1 ≡ n → KeepsOnce p n (Mark mark ∷ kept)
 once_from_mark p n mark kept h count = record {
-  environment = h.environment;
-  locals = h.locals;
+  variables = h.variables;
   before = h.before;
   last_mark = count;
   marks = and_from (eqb (up_to_mark kept) mark.before.kept) (marks_tell kept) (eq-eqb (up_to_mark kept) mark.before.kept h.last_mark) h.marks;
@@ -119,8 +124,7 @@ once_from_mark p n mark kept h count = record {
 
 pub once_touched : (p : Present) (u below : ℕ) (frame : RunningFrame) (kept : List Kept) → KeepsOnce p u kept → KeepsOnce p u (Change (Touched below frame) ∷ kept)
 once_touched p u below frame kept h = record {
-  environment = λ name. kept_more (is_of_environment name) (last_kept p.environment name) (Change (Touched below frame)) kept (h.environment name);
-  locals = λ name. kept_more (is_of_local name) (last_kept p.locals name) (Change (Touched below frame)) kept (h.locals name);
+  variables = λ scope name. kept_more (is_of scope name) (last_kept (table_of p scope) name) (Change (Touched below frame)) kept (h.variables scope name);
   before = h.before;
   last_mark = h.last_mark;
   marks = h.marks;
@@ -148,88 +152,65 @@ with_here test last new name i kept is_one e h = λ q. subst (λ k. is_kept (tes
     at q true t = kept_here (test q) i kept (subst (λ n. test n i ≡ true) (sym (same_name q name t)) is_one)
     at q false t = kept_more (test q) (last q) (Change i) kept (h q)
 
-module _ (p : Present) (t : Table) (u : ℕ) (kept : List Kept) (once : KeepsOnce p u kept) where
-  pub once_equal_environment : AreEqual (last_kept p.environment) (last_kept t) → KeepsOnce (record p { environment = t }) u kept
-  once_equal_environment e = record { environment = λ q. subst (λ k. is_kept (is_of_environment q) k kept ≡ true) (sym (e q)) (once.environment q); locals = once.locals; before = once.before; last_mark = once.last_mark; marks = once.marks }
+-- what is known of each table is known of each after a change of one
+each_table : (P : Scope → (Bytes → ℕ) → Type 0) (p : Present) (t : Table) (scope : Scope) → P scope (last_kept t) → ((s : Scope) → P s (last_kept (table_of p s))) → (s : Scope) → P s (last_kept (table_of (with_table p scope t) s))
+each_table P p t Environment here there Environment = here
+each_table P p t Environment here there Local = there Local
+each_table P p t Local here there Environment = there Environment
+each_table P p t Local here there Local = here
 
-  pub once_equal_local : AreEqual (last_kept p.locals) (last_kept t) → KeepsOnce (record p { locals = t }) u kept
-  once_equal_local e = record { environment = once.environment; locals = λ q. subst (λ k. is_kept (is_of_local q) k kept ≡ true) (sym (e q)) (once.locals q); before = once.before; last_mark = once.last_mark; marks = once.marks }
+module _ (p : Present) (t : Table) (u : ℕ) (kept : List Kept) (once : KeepsOnce p u kept) (scope : Scope) where
+  pub once_equal : AreEqual (last_kept (table_of p scope)) (last_kept t) → KeepsOnce (with_table p scope t) u kept
+  once_equal e = record { variables = each_table (λ s last. EachIsKept (is_of s) last kept) p t scope (λ q. subst (λ k. is_kept (is_of scope q) k kept ≡ true) (sym (e q)) (once.variables scope q)) once.variables; before = once.before; last_mark = once.last_mark; marks = once.marks }
 
-  module _ (name : Bytes) where
-    pub once_set_environment : IsWith (last_kept p.environment) name 0 (last_kept t) → KeepsOnce (record p { environment = t }) u kept
-    once_set_environment e = record { environment = with_none is_of_environment (last_kept p.environment) (last_kept t) name kept e once.environment; locals = once.locals; before = once.before; last_mark = once.last_mark; marks = once.marks }
+  pub once_set : (name : Bytes) → IsWith (last_kept (table_of p scope)) name 0 (last_kept t) → KeepsOnce (with_table p scope t) u kept
+  once_set name e = record { variables = each_table (λ s last. EachIsKept (is_of s) last kept) p t scope (with_none (is_of scope) (last_kept (table_of p scope)) (last_kept t) name kept e (once.variables scope)) once.variables; before = once.before; last_mark = once.last_mark; marks = once.marks }
 
-    pub once_set_local : IsWith (last_kept p.locals) name 0 (last_kept t) → KeepsOnce (record p { locals = t }) u kept
-    once_set_local e = record { environment = once.environment; locals = with_none is_of_local (last_kept p.locals) (last_kept t) name kept e once.locals; before = once.before; last_mark = once.last_mark; marks = once.marks }
-
-    module _ (key : Vec ℕ Global) (before : Option Place) (same : key.items ≡ name) where
-      pub once_kept_environment : before ≡ place_at p.environment name → IsWith (last_kept p.environment) name (length kept + 1) (last_kept t) → KeepsOnce (record p { environment = t }) u (Change (Environment key before) ∷ kept)
-      once_kept_environment was e =
-          let told : is_kept (is_of_environment key.items) (kept_of before) kept ≡ true = ap (λ n. is_kept (is_of_environment n) (kept_of before) kept) same ∙ ap (λ b. is_kept (is_of_environment name) (kept_of b) kept) was ∙ once.environment name in
-          record {
-            environment = with_here is_of_environment (last_kept p.environment) (last_kept t) name (Environment key before) kept (compares_equal name key.items (sym same)) e once.environment;
-            locals = λ q. kept_more (is_of_local q) (last_kept p.locals q) (Change (Environment key before)) kept (once.locals q);
-            before = and_from (tells_kept (Environment key before) kept) (all_tell_kept kept) told once.before;
-            last_mark = once.last_mark;
-            marks = once.marks;
-          }
-
-      pub once_kept_local : before ≡ place_at p.locals name → IsWith (last_kept p.locals) name (length kept + 1) (last_kept t) → KeepsOnce (record p { locals = t }) u (Change (Local key before) ∷ kept)
-      once_kept_local was e =
-          let told : is_kept (is_of_local key.items) (kept_of before) kept ≡ true = ap (λ n. is_kept (is_of_local n) (kept_of before) kept) same ∙ ap (λ b. is_kept (is_of_local name) (kept_of b) kept) was ∙ once.locals name in
-          record {
-            environment = λ q. kept_more (is_of_environment q) (last_kept p.environment q) (Change (Local key before)) kept (once.environment q);
-            locals = with_here is_of_local (last_kept p.locals) (last_kept t) name (Local key before) kept (compares_equal name key.items (sym same)) e once.locals;
-            before = and_from (tells_kept (Local key before) kept) (all_tell_kept kept) told once.before;
-            last_mark = once.last_mark;
-            marks = once.marks;
-          }
+  pub once_kept : (name : Bytes) (key : Vec ℕ Global) (before : Option Place) → key.items ≡ name → before ≡ place_at (table_of p scope) name → IsWith (last_kept (table_of p scope)) name (length kept + 1) (last_kept t) → KeepsOnce (with_table p scope t) u (Change (Variable scope key before) ∷ kept)
+  once_kept name key before same was e =
+      let told : is_kept (is_of scope key.items) (kept_of before) kept ≡ true = ap (λ n. is_kept (is_of scope n) (kept_of before) kept) same ∙ ap (λ b. is_kept (is_of scope name) (kept_of b) kept) was ∙ once.variables scope name in
+      record {
+        variables = each_table (λ s last. EachIsKept (is_of s) last (Change (Variable scope key before) ∷ kept)) p t scope
+            (with_here (is_of scope) (last_kept (table_of p scope)) (last_kept t) name (Variable scope key before) kept (is_of_itself scope name key before same) e (once.variables scope))
+            (λ s q. kept_more (is_of s q) (last_kept (table_of p s) q) (Change (Variable scope key before)) kept (once.variables s q));
+        before = and_from (tells_kept (Variable scope key before) kept) (all_tell_kept kept) told once.before;
+        last_mark = once.last_mark;
+        marks = once.marks;
+      }
 
 -- Setting a name again after the mark changes no marked moment.
-marked_again_environment : (kept : List Kept) (m : Moment) (name : Bytes) (o : Option Bytes) (count : ℕ) → stands_as (is_of_environment name) count kept ≡ true → up_to_mark kept < count → marked_before (record m { environment = assigned m.environment name o }) kept ≡ marked_before m kept
-marked_again_environment [] m name o count h later = cc
-marked_again_environment (Mark mark ∷ kept) m name o count h later = absurd (let less = stands_within (is_of_environment name) count kept h in omega arith)
-marked_again_environment (Change (Environment key before) ∷ kept) m name o count h later = at (λ k. marked_again_environment kept (record m { environment = assigned m.environment key.items (place_value before) }) name o count k later) (is_name name key) refl
+undone_again : (scope : Scope) (i : Inverse) (m : Moment) (name : Bytes) (o : Option Bytes) → is_of scope name i ≡ true → undone i (with_variable scope name o m) ≡ undone i m
+undone_again Environment (Variable Environment key before) m name o t =
+    ap (λ v. record m { environment = v }) (ap (λ n. assigned (assigned m.environment n o) key.items (place_value before)) (same_name name key.items t) ∙ assigned-again m.environment key.items o (place_value before))
+undone_again Local (Variable Local key before) m name o t =
+    ap (λ v. record m { locals = v }) (ap (λ n. assigned (assigned m.locals n o) key.items (place_value before)) (same_name name key.items t) ∙ assigned-again m.locals key.items o (place_value before))
+undone_again Environment (Variable Local key before) m name o t = absurd (let e : false ≡ true = t in cc)
+undone_again Local (Variable Environment key before) m name o t = absurd (let e : false ≡ true = t in cc)
+undone_again scope (Touched below frame) m name o t = absurd (let e : false ≡ true = t in cc)
+
+undone_apart : (scope : Scope) (i : Inverse) (m : Moment) (name : Bytes) (o : Option Bytes) → is_of scope name i ≡ false → undone i (with_variable scope name o m) ≡ with_variable scope name o (undone i m)
+undone_apart Environment (Variable Environment key before) m name o t =
+    ap (λ v. record m { environment = v }) (assigned-swap m.environment key.items name (place_value before) o (λ s. let alike = compares_equal name key.items (sym s) in cc))
+undone_apart Local (Variable Local key before) m name o t =
+    ap (λ v. record m { locals = v }) (assigned-swap m.locals key.items name (place_value before) o (λ s. let alike = compares_equal name key.items (sym s) in cc))
+undone_apart Environment (Variable Local key before) m name o t = refl
+undone_apart Local (Variable Environment key before) m name o t = refl
+undone_apart scope (Touched below frame) m name o t = refl
+
+marked_again : (scope : Scope) (kept : List Kept) (m : Moment) (name : Bytes) (o : Option Bytes) (count : ℕ) → stands_as (is_of scope name) count kept ≡ true → up_to_mark kept < count → marked_before (with_variable scope name o m) kept ≡ marked_before m kept
+marked_again scope [] m name o count h later = absurd (let e : false ≡ true = h in cc)
+marked_again scope (Mark mark ∷ kept) m name o count h later = absurd (let less = stands_within (is_of scope name) count kept h in omega arith)
+marked_again scope (Change i ∷ kept) m name o count h later = at (λ k. marked_again scope kept (undone i m) name o count k later) (is_of scope name i) refl
   where
-    at : (stands_as (is_of_environment name) count kept ≡ true → marked_before (record m { environment = assigned (assigned m.environment key.items (place_value before)) name o }) kept ≡ marked_before (record m { environment = assigned m.environment key.items (place_value before) }) kept)
-        → (b : Bool) → is_name name key ≡ b → marked_before (record m { environment = assigned (assigned m.environment name o) key.items (place_value before) }) kept ≡ marked_before (record m { environment = assigned m.environment key.items (place_value before) }) kept
-    at rest true t = ap (λ v. marked_before (record m { environment = v }) kept)
-        (ap (λ n. assigned (assigned m.environment n o) key.items (place_value before)) (same_name name key.items t) ∙ assigned-again m.environment key.items o (place_value before))
-    at rest false t =
-        ap (λ v. marked_before (record m { environment = v }) kept) (assigned-swap m.environment key.items name (place_value before) o (λ s. let alike = compares_equal name key.items (sym s) in cc))
-        ∙ rest (stands_less (is_of_environment name) count (Environment key before) kept t h)
-marked_again_environment (Change (Local key before) ∷ kept) m name o count h later =
-    marked_again_environment kept (record m { locals = assigned m.locals key.items (place_value before) }) name o count (stands_less (is_of_environment name) count (Local key before) kept refl h) later
-marked_again_environment (Change (Touched below frame) ∷ kept) m name o count h later =
-    marked_again_environment kept (record m { frames = frame ∷ outermost below m.frames }) name o count (stands_less (is_of_environment name) count (Touched below frame) kept refl h) later
+    at : (stands_as (is_of scope name) count kept ≡ true → marked_before (with_variable scope name o (undone i m)) kept ≡ marked_before (undone i m) kept)
+        → (b : Bool) → is_of scope name i ≡ b → marked_before (undone i (with_variable scope name o m)) kept ≡ marked_before (undone i m) kept
+    at rest true t = ap (λ n. marked_before n kept) (undone_again scope i m name o t)
+    at rest false t = ap (λ n. marked_before n kept) (undone_apart scope i m name o t) ∙ rest (stands_less (is_of scope name) count i kept t h)
 
-marked_again_local : (kept : List Kept) (m : Moment) (name : Bytes) (o : Option Bytes) (count : ℕ) → stands_as (is_of_local name) count kept ≡ true → up_to_mark kept < count → marked_before (record m { locals = assigned m.locals name o }) kept ≡ marked_before m kept
-marked_again_local [] m name o count h later = cc
-marked_again_local (Mark mark ∷ kept) m name o count h later = absurd (let less = stands_within (is_of_local name) count kept h in omega arith)
-marked_again_local (Change (Local key before) ∷ kept) m name o count h later = at (λ k. marked_again_local kept (record m { locals = assigned m.locals key.items (place_value before) }) name o count k later) (is_name name key) refl
-  where
-    at : (stands_as (is_of_local name) count kept ≡ true → marked_before (record m { locals = assigned (assigned m.locals key.items (place_value before)) name o }) kept ≡ marked_before (record m { locals = assigned m.locals key.items (place_value before) }) kept)
-        → (b : Bool) → is_name name key ≡ b → marked_before (record m { locals = assigned (assigned m.locals name o) key.items (place_value before) }) kept ≡ marked_before (record m { locals = assigned m.locals key.items (place_value before) }) kept
-    at rest true t = ap (λ v. marked_before (record m { locals = v }) kept)
-        (ap (λ n. assigned (assigned m.locals n o) key.items (place_value before)) (same_name name key.items t) ∙ assigned-again m.locals key.items o (place_value before))
-    at rest false t =
-        ap (λ v. marked_before (record m { locals = v }) kept) (assigned-swap m.locals key.items name (place_value before) o (λ s. let alike = compares_equal name key.items (sym s) in cc))
-        ∙ rest (stands_less (is_of_local name) count (Local key before) kept t h)
-marked_again_local (Change (Environment key before) ∷ kept) m name o count h later =
-    marked_again_local kept (record m { environment = assigned m.environment key.items (place_value before) }) name o count (stands_less (is_of_local name) count (Environment key before) kept refl h) later
-marked_again_local (Change (Touched below frame) ∷ kept) m name o count h later =
-    marked_again_local kept (record m { frames = frame ∷ outermost below m.frames }) name o count (stands_less (is_of_local name) count (Touched below frame) kept refl h) later
-
-module _ (p : Present) (u : ℕ) (kept : List Kept) (once : KeepsOnce p u kept) (m : Moment) (name : Bytes) (o : Option Bytes) (count : ℕ) (later : u < count) where
-  pub marked_once_environment : count ≡ last_kept p.environment name → marked_before (record m { environment = assigned m.environment name o }) kept ≡ marked_before m kept
-  marked_once_environment told =
-      let there = stands_there (is_of_environment name) count kept (omega arith) (ap (λ k. is_kept (is_of_environment name) k kept) told ∙ once.environment name) in
-      marked_again_environment kept m name o count there (omega (arith, once.last_mark))
-
-  pub marked_once_local : count ≡ last_kept p.locals name → marked_before (record m { locals = assigned m.locals name o }) kept ≡ marked_before m kept
-  marked_once_local told =
-      let there = stands_there (is_of_local name) count kept (omega arith) (ap (λ k. is_kept (is_of_local name) k kept) told ∙ once.locals name) in
-      marked_again_local kept m name o count there (omega (arith, once.last_mark))
+pub marked_once : (scope : Scope) (p : Present) (u : ℕ) (kept : List Kept) → KeepsOnce p u kept → (m : Moment) (name : Bytes) (o : Option Bytes) (count : ℕ) → u < count → count ≡ last_kept (table_of p scope) name → marked_before (with_variable scope name o m) kept ≡ marked_before m kept
+marked_once scope p u kept once m name o count later told =
+    let there = stands_there (is_of scope name) count kept (omega arith) (ap (λ k. is_kept (is_of scope name) k kept) told ∙ once.variables scope name) in
+    marked_again scope kept m name o count there (omega (arith, once.last_mark))
 
 -- what holds after a success and after a refusal holds
 pub on_either : {A E : Type 0} (r : Result A E) (P Q R : Type 0) → OnOk r P → OnErr r Q → (P → R) → (Q → R) → R
@@ -246,9 +227,12 @@ nothing_with old new name none e = λ q. e q ∙ at q (is_eq (slice_cmp nat_cmp 
 
 pub once_nothing : (p : Present) (kept : List Kept) → kept ≡ [] → KeepsNothing p.environment → KeepsNothing p.locals → KeepsOnce p 0 kept
 once_nothing p kept none environment locals = subst (KeepsOnce p 0) (sym none) (record {
-  environment = λ q. ap (λ k. is_kept (is_of_environment q) k []) (environment q);
-  locals = λ q. ap (λ k. is_kept (is_of_local q) k []) (locals q);
+  variables = λ scope q. ap (λ k. is_kept (is_of scope q) k []) (at scope q);
   before = refl;
   last_mark = refl;
   marks = refl;
 })
+  where
+    at : (scope : Scope) → KeepsNothing (table_of p scope)
+    at Environment = environment
+    at Local = locals

@@ -12,17 +12,20 @@ use Rattle.bootstore.specs.declared.table.Table.{Table}
 use Rattle.bootstore.specs.declared.table.Place.{Place}
 use Rattle.bootstore.specs.declared.inverse.Marked.{Marked}
 use Rattle.bootstore.specs.declared.inverse.Inverse.{Inverse}
-use Rattle.bootstore.specs.declared.inverse.Inverse.TheVariants.{Environment, Local, Touched}
+use Rattle.bootstore.specs.declared.inverse.Inverse.TheVariants.{Variable, Touched}
 use Rattle.bootstore.specs.declared.inverse.Kept.{Kept}
 use Rattle.bootstore.specs.declared.inverse.Kept.TheVariants.{Mark, Change}
 use Rattle.bootstore.specs.declared.present.Present.{Present}
+use Rattle.bootstore.specs.declared.present.Scope.{Scope}
+use Rattle.bootstore.specs.declared.present.Scope.TheVariants.{Environment, Local}
 use Rattle.bootstore.specs.declared.frame.At.{At}
 use Rattle.bootstore.specs.Moment.{Bytes, Variables, Moment, RunningFrame}
 use Rattle.rehearse.specs.State.{LoggedCommand}
 use Rattle.text.specs.TextsShown.{option_bytes}
 use Rattle.bootstore.specs.Record.{Record, assigned, moved, without_first, with_place, without_frame, with_frame, with_echo, with_device}
 use Rattle.bootstore.specs.Present.{moment_of}
-use Rattle.bootstore.specs.Table.{Names, AreWithin, has_slot, names_before, stands_among, place_value}
+use Rattle.bootstore.specs.Scopes.{chosen, table_of, with_table, with_variable}
+use Rattle.bootstore.specs.Table.{Names, AreWithin, has_slot, names_before, stands_among, place_value, variables_of}
 use Rattle.bootstore.specs.Inverse.{outermost, undone, at_mark, marked_before, names_left, local_names_left, finds_its_place, find_places, room_for, text_reach, log_reach, frame_reach, leaves, nested, begins_with_mark, LeadsBack, CanGoBack}
 use Rattle.bootstore.proofs.TableLemmas.{assigned-again, assigned-same, same_name}
 
@@ -90,8 +93,13 @@ marked_alike [] m n h = refl
 marked_alike (Mark mark ∷ kept) m n h =
     let same : at_mark mark m ≡ at_mark mark n = λ i. record { environment = h.environment i; locals = h.locals i; status = mark.status; text = h.text i; log = h.log i; steps = mark.steps; frames = h.frames i } in
     ap (λ k. k ∷ marked_before k kept) same
-marked_alike (Change (Environment name before) ∷ kept) m n h = marked_alike kept _ _ (record { environment = ap (λ v. assigned v name.items (place_value before)) h.environment; locals = h.locals; text = h.text; log = h.log; frames = h.frames })
-marked_alike (Change (Local name before) ∷ kept) m n h = marked_alike kept _ _ (record { environment = h.environment; locals = ap (λ v. assigned v name.items (place_value before)) h.locals; text = h.text; log = h.log; frames = h.frames })
+marked_alike (Change (Variable scope name before) ∷ kept) m n h = marked_alike kept _ _ (record {
+  environment = ap (λ v. chosen scope (assigned v name.items (place_value before)) v) h.environment;
+  locals = ap (λ v. chosen scope v (assigned v name.items (place_value before))) h.locals;
+  text = h.text;
+  log = h.log;
+  frames = h.frames;
+})
 marked_alike (Change (Touched below frame) ∷ kept) m n h = marked_alike kept _ _ (record { environment = h.environment; locals = h.locals; text = h.text; log = h.log; frames = ap (λ fs. outermost (frame_reach kept) (frame ∷ fs)) h.frames })
 
 -- what marks keep themselves may change, and so may what they do not reach
@@ -137,10 +145,10 @@ stands_more few more h name (Some value) k = h name k
 pub find_more : (kept : List Kept) (e f l k : Names) → AreWithin e f → AreWithin l k → find_places e l kept ≡ true → find_places f k kept ≡ true
 find_more [] e f l k he hl h = refl
 find_more (Mark mark ∷ kept) e f l k he hl h = find_more kept e f l k he hl h
-find_more (Change (Environment name before) ∷ kept) e f l k he hl h =
+find_more (Change (Variable Environment name before) ∷ kept) e f l k he hl h =
     let parts = and_parts (stands_among e name.items before) (find_places (names_before name.items before e) l kept) h in
     and_from _ _ (stands_more e f he name.items before parts.0) (find_more kept _ _ l k (before_more e f he name.items before) hl parts.1)
-find_more (Change (Local name before) ∷ kept) e f l k he hl h =
+find_more (Change (Variable Local name before) ∷ kept) e f l k he hl h =
     let parts = and_parts (stands_among l name.items before) (find_places e (names_before name.items before l) kept) h in
     and_from _ _ (stands_more l k hl name.items before parts.0) (find_more kept e f _ _ he (before_more l k hl name.items before) parts.1)
 find_more (Change (Touched below frame) ∷ kept) e f l k he hl h = find_more kept e f l k he hl h
@@ -150,8 +158,7 @@ pub can_last : (p : Present) (u : ℕ) (i : Inverse) (kept : List Kept) → CanG
 can_last p u i kept can = record { place = (and_parts (finds_its_place (has_slot p.environment) (has_slot p.locals) i) _ can.places).0; room = omega (arith, can.room) }
 
 leads_on : (m : Moment) (u : ℕ) (i : Inverse) (kept : List Kept) → LeadsBack m u (Change i ∷ kept) → LeadsBack (undone i m) (frame_reach kept) kept
-leads_on m u (Environment name before) kept h = record { text = h.text; log = h.log; frames = refl; untouched_frames = omega (arith, h.frames, h.untouched_frames); nested = h.nested; rooted = rooted_rest (Change (Environment name before)) kept h.rooted }
-leads_on m u (Local name before) kept h = record { text = h.text; log = h.log; frames = refl; untouched_frames = omega (arith, h.frames, h.untouched_frames); nested = h.nested; rooted = rooted_rest (Change (Local name before)) kept h.rooted }
+leads_on m u (Variable scope name before) kept h = record { text = h.text; log = h.log; frames = refl; untouched_frames = omega (arith, h.frames, h.untouched_frames); nested = h.nested; rooted = rooted_rest (Change (Variable scope name before)) kept h.rooted }
 leads_on m u (Touched below frame) kept h =
     let parts = and_parts (leaves (Touched below frame) (frame_reach kept)) (nested kept) h.nested in
     let there : below ≤ length m.frames = omega (arith, h.frames, h.untouched_frames) in
@@ -264,36 +271,35 @@ stands_put old new name key (Some value) more there same = ap new same ∙ more 
 stands_put old new name key None more there same = refl
 
 module _ (p : Present) (t : Table) (u : ℕ) (kept : List Kept) (can : CanGoBack p u kept) where
-  pub can_environment : AreWithin (has_slot p.environment) (has_slot t) → CanGoBack (record p { environment = t }) u kept
-  can_environment more = record {
+  within_table : (scope : Scope) → AreWithin (has_slot (table_of p scope)) (has_slot t) → AreWithin (has_slot p.environment) (has_slot (with_table p scope t).environment) × AreWithin (has_slot p.locals) (has_slot (with_table p scope t).locals)
+  within_table Environment more = (more, λ q h. h)
+  within_table Local more = ((λ q h. h), more)
+
+  pub can_set : (scope : Scope) → AreWithin (has_slot (table_of p scope)) (has_slot t) → CanGoBack (with_table p scope t) u kept
+  can_set scope more = record {
     leads = record { text = can.leads.text; log = can.leads.log; frames = can.leads.frames; untouched_frames = can.leads.untouched_frames; nested = can.leads.nested; rooted = can.leads.rooted };
-    places = find_more kept (has_slot p.environment) (has_slot t) (has_slot p.locals) (has_slot p.locals) more (λ q h. h) can.places;
+    places = find_more kept _ _ _ _ (within_table scope more).0 (within_table scope more).1 can.places;
     room = can.room;
   }
 
-  pub can_local : AreWithin (has_slot p.locals) (has_slot t) → CanGoBack (record p { locals = t }) u kept
-  can_local more = record {
+  pub can_set_unmarked : (scope : Scope) → kept ≡ [] → CanGoBack (with_table p scope t) u kept
+  can_set_unmarked scope none = record {
     leads = record { text = can.leads.text; log = can.leads.log; frames = can.leads.frames; untouched_frames = can.leads.untouched_frames; nested = can.leads.nested; rooted = can.leads.rooted };
-    places = find_more kept (has_slot p.environment) (has_slot p.environment) (has_slot p.locals) (has_slot t) (λ q h. h) more can.places;
+    places = ap (find_places _ _) none;
     room = can.room;
   }
 
-  module _ (name : Bytes) (key : Vec ℕ Global) (before : Option Place) (some : kept ≡ [] → ⊥) (same : key.items ≡ name) where
-    pub can_kept_environment : AreWithin (has_slot p.environment) (has_slot t) → has_slot p.environment name ≡ is_some before → CanGoBack (record p { environment = t }) u (Change (Environment key before) ∷ kept)
-    can_kept_environment more there = record {
-      leads = record { text = can.leads.text; log = can.leads.log; frames = can.leads.frames; untouched_frames = can.leads.untouched_frames; nested = can.leads.nested; rooted = rooted_more (Change (Environment key before)) kept some can.leads.rooted };
-      places = and_from (stands_among (has_slot t) key.items before) _ (stands_put (has_slot p.environment) (has_slot t) name key.items before more there same)
-          (find_more kept (has_slot p.environment) (names_before key.items before (has_slot t)) (has_slot p.locals) (has_slot p.locals) (within_put (has_slot p.environment) (has_slot t) name key.items before more there same) (λ q h. h) can.places);
-      room = omega (arith, can.room);
-    }
-
-    pub can_kept_local : AreWithin (has_slot p.locals) (has_slot t) → has_slot p.locals name ≡ is_some before → CanGoBack (record p { locals = t }) u (Change (Local key before) ∷ kept)
-    can_kept_local more there = record {
-      leads = record { text = can.leads.text; log = can.leads.log; frames = can.leads.frames; untouched_frames = can.leads.untouched_frames; nested = can.leads.nested; rooted = rooted_more (Change (Local key before)) kept some can.leads.rooted };
-      places = and_from (stands_among (has_slot t) key.items before) _ (stands_put (has_slot p.locals) (has_slot t) name key.items before more there same)
-          (find_more kept (has_slot p.environment) (has_slot p.environment) (has_slot p.locals) (names_before key.items before (has_slot t)) (λ q h. h) (within_put (has_slot p.locals) (has_slot t) name key.items before more there same) can.places);
-      room = omega (arith, can.room);
-    }
+  pub can_kept : (scope : Scope) (name : Bytes) (key : Vec ℕ Global) (before : Option Place) → (kept ≡ [] → ⊥) → key.items ≡ name → AreWithin (has_slot (table_of p scope)) (has_slot t) → has_slot (table_of p scope) name ≡ is_some before → CanGoBack (with_table p scope t) u (Change (Variable scope key before) ∷ kept)
+  can_kept scope name key before some same more there = record {
+    leads = record { text = can.leads.text; log = can.leads.log; frames = can.leads.frames; untouched_frames = can.leads.untouched_frames; nested = can.leads.nested; rooted = rooted_more (Change (Variable scope key before)) kept some can.leads.rooted };
+    places = at scope (stands_put (has_slot (table_of p scope)) (has_slot t) name key.items before more there same) (within_put (has_slot (table_of p scope)) (has_slot t) name key.items before more there same);
+    room = omega (arith, can.room);
+  }
+    where
+      at : (s : Scope) → stands_among (has_slot t) key.items before ≡ true → AreWithin (has_slot (table_of p s)) (names_before key.items before (has_slot t))
+          → find_places (has_slot (with_table p s t).environment) (has_slot (with_table p s t).locals) (Change (Variable s key before) ∷ kept) ≡ true
+      at Environment stands within = and_from (stands_among (has_slot t) key.items before) _ stands (find_more kept _ _ _ _ within (λ q h. h) can.places)
+      at Local stands within = and_from (stands_among (has_slot t) key.items before) _ stands (find_more kept _ _ _ _ (λ q h. h) within can.places)
 
 -- an option without bytes
 pub no_bytes : (o : Option (Bor (List ℕ))) → is_some o ≡ false → option_bytes o ≡ None
@@ -308,10 +314,22 @@ some_kept v b test unlike none = let h = eq-eqb (vec_len v) 0 (none_of_reversed 
 pub kept_last : (old roomy new : Vec Kept Global) (one : Kept) → roomy.items ≡ old.items → new.items ≡ roomy.items ++ one ∷ [] → reverse new.items ≡ one ∷ reverse old.items
 kept_last old roomy new one same e = reverse_last new.items roomy.items one e ∙ ap (λ ks. one ∷ reverse ks) same
 
+-- what a table says of a variable, its moment says
+pub table_set : (p : Present) (t : Table) (scope : Scope) (name : Bytes) (o : Option Bytes) → variables_of t ≡ assigned (variables_of (table_of p scope)) name o → moment_of (with_table p scope t) ≡ with_variable scope name o (moment_of p)
+table_set p t Environment name o e = ap (λ v. record (moment_of p) { environment = v }) e
+table_set p t Local name o e = ap (λ v. record (moment_of p) { locals = v }) e
+
+pub table_same : (p : Present) (t : Table) (scope : Scope) → variables_of t ≡ variables_of (table_of p scope) → moment_of (with_table p scope t) ≡ moment_of p
+table_same p t Environment e = ap (λ v. record (moment_of p) { environment = v }) e
+table_same p t Local e = ap (λ v. record (moment_of p) { locals = v }) e
+
 -- a value that was set goes back to the one before
-pub restored : (old new : Variables) (name key : Bytes) (o before : Option Bytes) → new ≡ assigned old name o → before ≡ get old name → key ≡ name → assigned new key before ≡ old
-restored old new name key o before set was same =
-    ap (λ n. assigned new n before) same ∙ ap (λ v. assigned v name before) set ∙ assigned-again old name o before ∙ assigned-same old name before (sym was)
+restored : (old : Variables) (name key : Bytes) (o before : Option Bytes) → before ≡ get old name → key ≡ name → assigned (assigned old name o) key before ≡ old
+restored old name key o before was same = ap (λ n. assigned (assigned old name o) n before) same ∙ assigned-again old name o before ∙ assigned-same old name before (sym was)
+
+pub set_back : (p : Present) (scope : Scope) (name key : Bytes) (o before : Option Bytes) → before ≡ get (variables_of (table_of p scope)) name → key ≡ name → with_variable scope key before (with_variable scope name o (moment_of p)) ≡ moment_of p
+set_back p Environment name key o before was same = ap (λ v. record (moment_of p) { environment = v }) (restored (variables_of p.environment) name key o before was same)
+set_back p Local name key o before was same = ap (λ v. record (moment_of p) { locals = v }) (restored (variables_of p.locals) name key o before was same)
 
 pub same_record : (m n : Moment) (ms ns : List Moment) (k : ℕ) → m ≡ n → ms ≡ ns → (let a : Record = record { present = m; marked = ms; begun = k } in let b : Record = record { present = n; marked = ns; begun = k } in a ≡ b)
 same_record m n ms ns k e f = λ i. record { present = e i; marked = f i; begun = k }

@@ -2,13 +2,15 @@
 use Rattle.std.specs.Prelude.{◌≡◌, ℕ, ◌+◌, ◌≤◌, max, List, [], ◌∷◌, length, take, reverse, Bool, true, false, cond, ◌&&◌, ◌||◌, nat_le, nat_eq, vec_capacity}
 use Rattle.bootstore.specs.declared.inverse.Marked.{Marked}
 use Rattle.bootstore.specs.declared.inverse.Inverse.{Inverse}
-use Rattle.bootstore.specs.declared.inverse.Inverse.TheVariants.{Environment, Local, Touched}
+use Rattle.bootstore.specs.declared.inverse.Inverse.TheVariants.{Variable, Touched}
 use Rattle.bootstore.specs.declared.inverse.Kept.{Kept}
 use Rattle.bootstore.specs.declared.inverse.Kept.TheVariants.{Mark, Change}
 use Rattle.bootstore.specs.declared.present.Present.{Present}
+use Rattle.bootstore.specs.declared.present.Scope.{Scope}
 use Rattle.bootstore.specs.Moment.{Bytes, Moment, RunningFrame}
-use Rattle.bootstore.specs.Record.{Record, assigned}
+use Rattle.bootstore.specs.Record.{Record}
 use Rattle.bootstore.specs.Present.{moment_of}
+use Rattle.bootstore.specs.Scopes.{chosen, table_of, with_variable}
 use Rattle.bootstore.specs.Table.{Names, has_slot, names_before, place_value, stands_among, last_kept, kept_of, is_name}
 
 -- this many of the frames, the outermost ones
@@ -17,8 +19,7 @@ outermost count frames = reverse (take count (reverse frames))
 
 -- the moment before the change that the inverse takes back
 abbrev pub undone : Inverse → Moment → Moment
-undone (Environment name before) m = record m { environment = assigned m.environment name.items (place_value before) }
-undone (Local name before) m = record m { locals = assigned m.locals name.items (place_value before) }
+undone (Variable scope name before) m = with_variable scope name.items (place_value before) m
 undone (Touched below frame) m = record m { frames = frame ∷ outermost below m.frames }
 
 -- the moment with what a mark keeps itself
@@ -42,19 +43,17 @@ marked_before m (Change inverse ∷ kept) = marked_before (undone inverse m) kep
 
 -- the names that have a place in the environment after the inverse was taken, and the names of shell variables that do
 abbrev pub names_left : Inverse → Names → Names
-names_left (Environment name before) names = names_before name.items before names
-names_left (Local name before) names = names
+names_left (Variable scope name before) names = chosen scope (names_before name.items before names) names
 names_left (Touched below frame) names = names
 
 abbrev pub local_names_left : Inverse → Names → Names
-local_names_left (Environment name before) names = names
-local_names_left (Local name before) names = names_before name.items before names
+local_names_left (Variable scope name before) names = chosen scope names (names_before name.items before names)
 local_names_left (Touched below frame) names = names
 
 -- a value that comes back finds the place of its name
 abbrev pub finds_its_place : Names → Names → Inverse → Bool
-finds_its_place environment locals (Environment name before) = stands_among environment name.items before
-finds_its_place environment locals (Local name before) = stands_among locals name.items before
+finds_its_place environment locals (Variable scope name before) =
+    stands_among (chosen scope environment locals) name.items before
 finds_its_place environment locals (Touched below frame) = true
 
 -- each value finds its place when it comes back
@@ -67,8 +66,7 @@ find_places environment locals (Change inverse ∷ kept) =
 
 -- the room that the frames need to come back
 abbrev pub room_for : Inverse → ℕ
-room_for (Environment name before) = 0
-room_for (Local name before) = 0
+room_for (Variable scope name before) = 0
 room_for (Touched below frame) = below + 1
 
 abbrev pub HasRoom : ℕ → Inverse → Type 0
@@ -91,8 +89,7 @@ log_reach (Mark mark ∷ kept) = mark.log
 log_reach (Change inverse ∷ kept) = log_reach kept
 
 abbrev pub reach_of : Inverse → ℕ → ℕ
-reach_of (Environment name before) rest = rest
-reach_of (Local name before) rest = rest
+reach_of (Variable scope name before) rest = rest
 reach_of (Touched below frame) rest = below
 
 abbrev pub frame_reach : List Kept → ℕ
@@ -102,8 +99,7 @@ frame_reach (Change inverse ∷ kept) = reach_of inverse (frame_reach kept)
 
 -- what comes back leaves what the rest of the way needs
 abbrev pub leaves : Inverse → ℕ → Bool
-leaves (Environment name before) rest = true
-leaves (Local name before) rest = true
+leaves (Variable scope name before) rest = true
 leaves (Touched below frame) rest = nat_le rest (below + 1)
 
 abbrev pub nested : List Kept → Bool
@@ -138,27 +134,17 @@ pub record CanGoBack (p : Present) (untouched : ℕ) (kept : List Kept) : Type 0
 abbrev pub record_with : Present → List Kept → ℕ → Record
 record_with p kept begun = record { present = moment_of p; marked = marked_before (moment_of p) kept; begun = begun }
 
--- the count of each name after the inverse was taken, and the count of each shell variable
-abbrev pub last_left : Inverse → (Bytes → ℕ) → Bytes → ℕ
-last_left (Environment name before) last other = cond (is_name other name) (kept_of before) (last other)
-last_left (Local name before) last other = last other
-last_left (Touched below frame) last other = last other
+-- whether the inverse is one of this variable
+abbrev pub is_of : Scope → Bytes → Inverse → Bool
+is_of scope name (Variable other key before) =
+    chosen scope (chosen other (is_name name key) false) (chosen other false (is_name name key))
+is_of scope name (Touched below frame) = false
 
-abbrev pub local_last_left : Inverse → (Bytes → ℕ) → Bytes → ℕ
-local_last_left (Environment name before) last other = last other
-local_last_left (Local name before) last other = cond (is_name other name) (kept_of before) (last other)
-local_last_left (Touched below frame) last other = last other
-
--- whether the inverse is one of this environment variable, or of this shell variable
-abbrev pub is_of_environment : Bytes → Inverse → Bool
-is_of_environment name (Environment key before) = is_name name key
-is_of_environment name (Local key before) = false
-is_of_environment name (Touched below frame) = false
-
-abbrev pub is_of_local : Bytes → Inverse → Bool
-is_of_local name (Environment key before) = false
-is_of_local name (Local key before) = is_name name key
-is_of_local name (Touched below frame) = false
+-- the count of each variable after the inverse was taken
+abbrev pub last_left : Scope → Inverse → (Bytes → ℕ) → Bytes → ℕ
+last_left scope (Variable other key before) last name =
+    cond (is_of scope name (Variable other key before)) (kept_of before) (last name)
+last_left scope (Touched below frame) last name = last name
 
 -- whether the count-th kept thing, counted from the first on, is such an inverse
 abbrev pub stands_as : (Inverse → Bool) → ℕ → List Kept → Bool
@@ -176,8 +162,7 @@ EachIsKept test last kept = (name : Bytes) → is_kept (test name) (last name) k
 
 -- the place that comes back has a count that is right
 abbrev pub tells_kept : Inverse → List Kept → Bool
-tells_kept (Environment key before) kept = is_kept (is_of_environment key.items) (kept_of before) kept
-tells_kept (Local key before) kept = is_kept (is_of_local key.items) (kept_of before) kept
+tells_kept (Variable scope key before) kept = is_kept (is_of scope key.items) (kept_of before) kept
 tells_kept (Touched below frame) kept = true
 
 abbrev pub all_tell_kept : List Kept → Bool
@@ -198,8 +183,7 @@ marks_tell (Change inverse ∷ kept) = marks_tell kept
 
 -- if the count of a place is above the count at the last mark, an inverse of it is kept, and another change needs none
 pub record KeepsOnce (p : Present) (up_to : ℕ) (kept : List Kept) : Type 0 where
-  pub environment : EachIsKept is_of_environment (last_kept p.environment) kept
-  pub locals : EachIsKept is_of_local (last_kept p.locals) kept
+  pub variables : (scope : Scope) → EachIsKept (is_of scope) (last_kept (table_of p scope)) kept
   pub before : all_tell_kept kept ≡ true
   pub last_mark : up_to_mark kept ≡ up_to
   pub marks : marks_tell kept ≡ true

@@ -3,6 +3,7 @@ pub mod Moment
 pub mod Record
 pub mod Slots
 pub mod Table
+pub mod Scopes
 pub mod Scripts
 pub mod Present
 pub mod Plain

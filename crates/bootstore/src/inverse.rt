@@ -1,12 +1,13 @@
 //! What takes a run back to its marked states.
 ghost use Rattle.std.specs.Prelude.{◌≡◌, ◌<◌, ◌≤◌, true, reverse, vec_capacity};
-ghost use Rattle.bootstore.specs.Inverse.{undone, at_mark, finds_its_place, HasRoom, names_left, local_names_left, CanGoBack, KeepsOnce, frame_reach, up_to_mark, last_left, local_last_left, record_with};
+ghost use Rattle.bootstore.specs.Inverse.{undone, at_mark, finds_its_place, HasRoom, names_left, local_names_left, CanGoBack, KeepsOnce, frame_reach, up_to_mark, last_left, record_with};
 ghost use Rattle.bootstore.specs.Record.{gone_back};
 ghost use Rattle.bootstore.specs.Present.{moment_of};
 ghost use Rattle.bootstore.specs.Table.{has_slot, AreWithin, AreEqual, last_kept};
+ghost use Rattle.bootstore.specs.declared.present.Scope.TheVariants.{Environment, Local};
 
 use crate::frame::Frame;
-use crate::present::Present;
+use crate::present::{Present, Scope};
 use crate::table::Place;
 
 /// What is known of the time since the last mark.
@@ -38,10 +39,8 @@ pub struct Marked {
 /// What takes a change back.
 #[derive(Drop)]
 pub enum Inverse {
-    /// What was at the place of an environment variable before the change, if it had a place.
-    Environment(Vec<u8>, Option<Place>),
-    /// What was at the place of a shell variable before the change, if it had a place.
-    Local(Vec<u8>, Option<Place>),
+    /// What was at the place of a variable before the change, if it had a place.
+    Variable(Scope, Vec<u8>, Option<Place>),
     /// A frame as it was, and how many frames were below it.
     Touched(usize, Frame),
 }
@@ -61,9 +60,9 @@ pub fn undo(present: &mut Present, inverse: Inverse)
         (has_slot present.old.locals) inverse ≡ true }
     requires room { HasRoom (vec_capacity present.old.frames) inverse }
     ensures undone { moment_of present.new ≡ undone inverse (moment_of present.old) }
-    ensures kept { AreEqual (last_left inverse (last_kept present.old.environment))
+    ensures kept { AreEqual (last_left Environment inverse (last_kept present.old.environment))
         (last_kept present.new.environment) }
-    ensures kept_locals { AreEqual (local_last_left inverse (last_kept present.old.locals))
+    ensures kept_locals { AreEqual (last_left Local inverse (last_kept present.old.locals))
         (last_kept present.new.locals) }
     ensures environment { AreWithin (names_left inverse (has_slot present.old.environment))
         (has_slot present.new.environment) }
@@ -72,8 +71,10 @@ pub fn undo(present: &mut Present, inverse: Inverse)
     ensures capacity { vec_capacity present.old.frames ≤ vec_capacity present.new.frames }
 {
     match inverse {
-        Inverse::Environment(name, before) => present.environment.restore(&name, before),
-        Inverse::Local(name, before) => present.locals.restore(&name, before),
+        Inverse::Variable(Scope::Environment, name, before) => {
+            present.environment.restore(&name, before);
+        }
+        Inverse::Variable(Scope::Local, name, before) => present.locals.restore(&name, before),
         Inverse::Touched(below, frame) => {
             present.frames.truncate(below);
             present.frames.push_reserved(frame);

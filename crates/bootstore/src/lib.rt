@@ -15,7 +15,7 @@ mod trail;
 pub use frame::{At, Frame, FrameKind};
 pub use log::LogEntry;
 pub use plain::Plain;
-pub use present::Present;
+pub use present::{Present, Scope};
 pub use scripts::{TextFound, read_script};
 pub use store::{Store, StoreError};
 pub use table::Variables;

@@ -1,11 +1,21 @@
 //! The present state of a run.
 ghost use Rattle.std.specs.Prelude.{◌≡◌, IfOk, Some, option_map, slice_get, vec_len, vec_capacity};
+ghost use Rattle.std.specs.Borrow.{sem};
 
 use crate::frame::{At, Frame};
 use crate::log::LogEntry;
 use crate::table::Table;
 use envtools::Env;
 use std::alloc::{AllocError, Global};
+
+/// Where a variable is known.
+#[derive(Clone, Copy)]
+pub enum Scope {
+    /// In the environment.
+    Environment,
+    /// In the shell.
+    Local,
+}
 
 /// The state of a script, and its frames, the innermost last.
 #[derive(Drop)]
@@ -25,6 +35,7 @@ impl Present {
     ghost use Rattle.bootstore.specs.Present.{moment_of};
     ghost use Rattle.bootstore.specs.Moment.{environment_of};
     ghost use Rattle.bootstore.specs.Table.{KeepsNothing};
+    ghost use Rattle.bootstore.specs.Scopes.{table_of, LendsTable};
 
     /// Everything is empty or 0.
     pub fn new(alloc: Global) -> Self
@@ -78,6 +89,27 @@ impl Present {
             steps: self.steps,
             frames,
         })
+    }
+
+    /// The variables of a scope.
+    pub fn table(&self, scope: Scope) -> &Table
+        ensures { result.now ≡ table_of self.now scope }
+    {
+        match scope {
+            Scope::Environment => &self.environment,
+            Scope::Local => &self.locals,
+        }
+    }
+
+    /// The variables of a scope, to change them.
+    pub fn table_mut(&mut self, scope: Scope) -> &mut Table
+        ensures* lends { sem 𝓛 (LendsTable self.entry scope result) }
+        ensures value { result.now ≡ table_of self.old scope }
+    {
+        match scope {
+            Scope::Environment => &mut self.environment,
+            Scope::Local => &mut self.locals,
+        }
     }
 
     /// The innermost frame.

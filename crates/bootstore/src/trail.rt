@@ -5,7 +5,7 @@ ghost use Rattle.bootstore.specs.Inverse.{CanGoBack, KeepsOnce};
 use crate::frame::{At, Frame};
 use crate::inverse::{Inverse, Kept, Marked, Since, undo_to_mark};
 use crate::log::LogEntry;
-use crate::present::Present;
+use crate::present::{Present, Scope};
 use crate::scripts::{Scripts, TextFound};
 use crate::store::{Store, StoreError};
 use envtools::Env;
@@ -26,8 +26,11 @@ pub struct Trail {
 }
 
 impl Trail {
-    ghost use Rattle.std.specs.Prelude.{◌≡◌, ◌<◌, ◌⊎◌, OnOk, length};
+    ghost use Rattle.std.specs.Prelude.{◌≡◌, ◌<◌, ◌⊎◌, OnOk, OnErr, length};
     ghost use Rattle.bootstore.specs.Trail.{record_of_trail};
+    ghost use Rattle.bootstore.specs.Record.{changed};
+    ghost use Rattle.bootstore.specs.Scopes.{with_variable};
+    ghost use Rattle.text.specs.TextsShown.{option_bytes};
 
     /// Keeps the innermost frame as it is, if it has not changed since the last mark. Errors:
     /// `Memory`.
@@ -46,6 +49,39 @@ impl Trail {
         let touched = Inverse::Touched(count - 1, frame);
         self.kept.push_reserved(Kept::Change(touched));
         self.since.untouched = count - 1;
+        Ok(())
+    }
+
+    /// Sets a variable to a value, or deletes it if no value is given. Errors: `Memory`.
+    fn set(&mut self, scope: Scope, name: &[u8], value: Option<&[u8]>) -> Result<(), StoreError>
+        ensures ok { OnOk result (record_of_trail self.new ≡ changed (with_variable scope name.now
+            (option_bytes value.entry)) (record_of_trail self.old)) }
+        ensures err { OnErr result (record_of_trail self.new ≡ record_of_trail self.old) }
+    {
+        if self.kept.is_empty() {
+            self.present.table_mut(scope).set(self.alloc, name, value)?;
+            return Ok(());
+        }
+        let table = self.present.table(scope);
+        if value.is_none() && table.get(name).is_none() {
+            return Ok(());
+        }
+        let kept_at = table.kept_at(name);
+        if kept_at > self.since.kept {
+            self.present
+                .table_mut(scope)
+                .put(self.alloc, name, value, kept_at)?;
+            return Ok(());
+        }
+        self.kept.reserve(1)?;
+        let key = Vec::from_slice(self.alloc, name)?;
+        let kept_at = self.kept.len() + 1;
+        let before = self
+            .present
+            .table_mut(scope)
+            .put(self.alloc, name, value, kept_at)?;
+        let inverse = Inverse::Variable(scope, key, before);
+        self.kept.push_reserved(Kept::Change(inverse));
         Ok(())
     }
 }
@@ -81,54 +117,11 @@ impl Store for Trail {
     }
 
     fn set_env(&mut self, name: &[u8], value: Option<&[u8]>) -> Result<(), StoreError> {
-        if self.kept.is_empty() {
-            self.present.environment.set(self.alloc, name, value)?;
-            return Ok(());
-        }
-        if value.is_none() && self.present.environment.get(name).is_none() {
-            return Ok(());
-        }
-        let kept_at = self.present.environment.kept_at(name);
-        if kept_at > self.since.kept {
-            self.present
-                .environment
-                .put(self.alloc, name, value, kept_at)?;
-            return Ok(());
-        }
-        self.kept.reserve(1)?;
-        let key = Vec::from_slice(self.alloc, name)?;
-        let kept_at = self.kept.len() + 1;
-        let before = self
-            .present
-            .environment
-            .put(self.alloc, name, value, kept_at)?;
-        let inverse = Inverse::Environment(key, before);
-        self.kept.push_reserved(Kept::Change(inverse));
-        Ok(())
+        self.set(Scope::Environment, name, value)
     }
 
     fn set_local(&mut self, name: &[u8], value: &[u8]) -> Result<(), StoreError> {
-        if self.kept.is_empty() {
-            self.present.locals.set(self.alloc, name, Some(value))?;
-            return Ok(());
-        }
-        let kept_at = self.present.locals.kept_at(name);
-        if kept_at > self.since.kept {
-            self.present
-                .locals
-                .put(self.alloc, name, Some(value), kept_at)?;
-            return Ok(());
-        }
-        self.kept.reserve(1)?;
-        let key = Vec::from_slice(self.alloc, name)?;
-        let kept_at = self.kept.len() + 1;
-        let before = self
-            .present
-            .locals
-            .put(self.alloc, name, Some(value), kept_at)?;
-        let inverse = Inverse::Local(key, before);
-        self.kept.push_reserved(Kept::Change(inverse));
-        Ok(())
+        self.set(Scope::Local, name, Some(value))
     }
 
     fn echo(&mut self, written: &[u8]) -> Result<(), StoreError> {
