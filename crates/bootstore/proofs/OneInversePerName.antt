@@ -15,9 +15,9 @@ use Rattle.bootstore.specs.declared.inverse.Kept.TheVariants.{Mark, Change}
 use Rattle.bootstore.specs.declared.present.Present.{Present}
 use Rattle.bootstore.specs.declared.present.Scope.{Scope}
 use Rattle.bootstore.specs.declared.present.Scope.TheVariants.{Environment, Local}
-use Rattle.bootstore.specs.Moment.{Bytes, Moment, RunningFrame}
+use Rattle.bootstore.specs.Moment.{Bytes, Moment, RunningFrame, Variables}
 use Rattle.bootstore.specs.Record.{assigned}
-use Rattle.bootstore.specs.Scopes.{chosen, table_of, with_table, with_variable}
+use Rattle.bootstore.specs.Present.{chosen, table_of, with_table, with_variable}
 use Rattle.bootstore.specs.Table.{AreEqual, IsWith, place_at, last_kept, kept_of, place_value, KeepsNothing}
 use Rattle.bootstore.specs.Inverse.{undone, marked_before, last_left, is_of, stands_as, is_kept, EachIsKept, tells_kept, all_tell_kept, up_to_mark, marks_tell, KeepsOnce}
 use Rattle.bootstore.proofs.TableLemmas.{assigned-again, assigned-swap, same_name, compares_equal}
@@ -138,7 +138,11 @@ with_same last new name k e same = λ q. e q ∙ at q (is_eq (slice_cmp nat_cmp 
     at q true t = same ∙ ap last (sym (same_name q name t))
     at q false t = refl
 
-with_none : (test : Bytes → Inverse → Bool) (last new : Bytes → ℕ) (name : Bytes) (kept : List Kept) → IsWith last name 0 new → EachIsKept test last kept → EachIsKept test new kept
+-- equal counts are kept, and so is the count 0
+pub kept_equal : (test : Bytes → Inverse → Bool) (last new : Bytes → ℕ) (kept : List Kept) → EachIsKept test last kept → AreEqual last new → EachIsKept test new kept
+kept_equal test last new kept h e = λ q. subst (λ k. is_kept (test q) k kept ≡ true) (sym (e q)) (h q)
+
+pub with_none : (test : Bytes → Inverse → Bool) (last new : Bytes → ℕ) (name : Bytes) (kept : List Kept) → IsWith last name 0 new → EachIsKept test last kept → EachIsKept test new kept
 with_none test last new name kept e h = λ q. subst (λ k. is_kept (test q) k kept ≡ true) (sym (e q)) (at q (is_eq (slice_cmp nat_cmp q name)))
   where
     at : (q : Bytes) (b : Bool) → is_kept (test q) (cond b 0 (last q)) kept ≡ true
@@ -160,11 +164,8 @@ each_table P p t Local here there Environment = there Environment
 each_table P p t Local here there Local = here
 
 module _ (p : Present) (t : Table) (u : ℕ) (kept : List Kept) (once : KeepsOnce p u kept) (scope : Scope) where
-  pub once_equal : AreEqual (last_kept (table_of p scope)) (last_kept t) → KeepsOnce (with_table p scope t) u kept
-  once_equal e = record { variables = each_table (λ s last. EachIsKept (is_of s) last kept) p t scope (λ q. subst (λ k. is_kept (is_of scope q) k kept ≡ true) (sym (e q)) (once.variables scope q)) once.variables; before = once.before; last_mark = once.last_mark; marks = once.marks }
-
-  pub once_set : (name : Bytes) → IsWith (last_kept (table_of p scope)) name 0 (last_kept t) → KeepsOnce (with_table p scope t) u kept
-  once_set name e = record { variables = each_table (λ s last. EachIsKept (is_of s) last kept) p t scope (with_none (is_of scope) (last_kept (table_of p scope)) (last_kept t) name kept e (once.variables scope)) once.variables; before = once.before; last_mark = once.last_mark; marks = once.marks }
+  pub once_set : EachIsKept (is_of scope) (last_kept t) kept → KeepsOnce (with_table p scope t) u kept
+  once_set h = record { variables = each_table (λ s last. EachIsKept (is_of s) last kept) p t scope h once.variables; before = once.before; last_mark = once.last_mark; marks = once.marks }
 
   pub once_kept : (name : Bytes) (key : Vec ℕ Global) (before : Option Place) → key.items ≡ name → before ≡ place_at (table_of p scope) name → IsWith (last_kept (table_of p scope)) name (length kept + 1) (last_kept t) → KeepsOnce (with_table p scope t) u (Change (Variable scope key before) ∷ kept)
   once_kept name key before same was e =
@@ -179,23 +180,17 @@ module _ (p : Present) (t : Table) (u : ℕ) (kept : List Kept) (once : KeepsOnc
       }
 
 -- Setting a name again after the mark changes no marked moment.
-undone_again : (scope : Scope) (i : Inverse) (m : Moment) (name : Bytes) (o : Option Bytes) → is_of scope name i ≡ true → undone i (with_variable scope name o m) ≡ undone i m
-undone_again Environment (Variable Environment key before) m name o t =
-    ap (λ v. record m { environment = v }) (ap (λ n. assigned (assigned m.environment n o) key.items (place_value before)) (same_name name key.items t) ∙ assigned-again m.environment key.items o (place_value before))
-undone_again Local (Variable Local key before) m name o t =
-    ap (λ v. record m { locals = v }) (ap (λ n. assigned (assigned m.locals n o) key.items (place_value before)) (same_name name key.items t) ∙ assigned-again m.locals key.items o (place_value before))
-undone_again Environment (Variable Local key before) m name o t = absurd (let e : false ≡ true = t in cc)
-undone_again Local (Variable Environment key before) m name o t = absurd (let e : false ≡ true = t in cc)
-undone_again scope (Touched below frame) m name o t = absurd (let e : false ≡ true = t in cc)
+set_undone : (v : Variables) (name key : Bytes) (o before : Option Bytes) (b : Bool) → is_eq (slice_cmp nat_cmp name key) ≡ b → assigned (assigned v name o) key before ≡ cond b (assigned v key before) (assigned (assigned v key before) name o)
+set_undone v name key o before true t = ap (λ n. assigned (assigned v n o) key before) (same_name name key t) ∙ assigned-again v key o before
+set_undone v name key o before false t = assigned-swap v key name before o (λ s. let alike = compares_equal name key (sym s) in cc)
 
-undone_apart : (scope : Scope) (i : Inverse) (m : Moment) (name : Bytes) (o : Option Bytes) → is_of scope name i ≡ false → undone i (with_variable scope name o m) ≡ with_variable scope name o (undone i m)
-undone_apart Environment (Variable Environment key before) m name o t =
-    ap (λ v. record m { environment = v }) (assigned-swap m.environment key.items name (place_value before) o (λ s. let alike = compares_equal name key.items (sym s) in cc))
-undone_apart Local (Variable Local key before) m name o t =
-    ap (λ v. record m { locals = v }) (assigned-swap m.locals key.items name (place_value before) o (λ s. let alike = compares_equal name key.items (sym s) in cc))
-undone_apart Environment (Variable Local key before) m name o t = refl
-undone_apart Local (Variable Environment key before) m name o t = refl
-undone_apart scope (Touched below frame) m name o t = refl
+undone_set : (scope : Scope) (i : Inverse) (m : Moment) (name : Bytes) (o : Option Bytes) (b : Bool) → is_of scope name i ≡ b → undone i (with_variable scope name o m) ≡ cond b (undone i m) (with_variable scope name o (undone i m))
+undone_set Environment (Variable Environment key before) m name o true t = ap (λ v. record m { environment = v }) (set_undone m.environment name key.items o (place_value before) true t)
+undone_set Environment (Variable Environment key before) m name o false t = ap (λ v. record m { environment = v }) (set_undone m.environment name key.items o (place_value before) false t)
+undone_set Local (Variable Local key before) m name o true t = ap (λ v. record m { locals = v }) (set_undone m.locals name key.items o (place_value before) true t)
+undone_set Local (Variable Local key before) m name o false t = ap (λ v. record m { locals = v }) (set_undone m.locals name key.items o (place_value before) false t)
+undone_set scope i m name o false t = refl
+undone_set scope i m name o true t = absurd (let e : false ≡ true = t in cc)
 
 marked_again : (scope : Scope) (kept : List Kept) (m : Moment) (name : Bytes) (o : Option Bytes) (count : ℕ) → stands_as (is_of scope name) count kept ≡ true → up_to_mark kept < count → marked_before (with_variable scope name o m) kept ≡ marked_before m kept
 marked_again scope [] m name o count h later = absurd (let e : false ≡ true = h in cc)
@@ -204,8 +199,8 @@ marked_again scope (Change i ∷ kept) m name o count h later = at (λ k. marked
   where
     at : (stands_as (is_of scope name) count kept ≡ true → marked_before (with_variable scope name o (undone i m)) kept ≡ marked_before (undone i m) kept)
         → (b : Bool) → is_of scope name i ≡ b → marked_before (undone i (with_variable scope name o m)) kept ≡ marked_before (undone i m) kept
-    at rest true t = ap (λ n. marked_before n kept) (undone_again scope i m name o t)
-    at rest false t = ap (λ n. marked_before n kept) (undone_apart scope i m name o t) ∙ rest (stands_less (is_of scope name) count i kept t h)
+    at rest true t = ap (λ n. marked_before n kept) (undone_set scope i m name o true t)
+    at rest false t = ap (λ n. marked_before n kept) (undone_set scope i m name o false t) ∙ rest (stands_less (is_of scope name) count i kept t h)
 
 pub marked_once : (scope : Scope) (p : Present) (u : ℕ) (kept : List Kept) → KeepsOnce p u kept → (m : Moment) (name : Bytes) (o : Option Bytes) (count : ℕ) → u < count → count ≡ last_kept (table_of p scope) name → marked_before (with_variable scope name o m) kept ≡ marked_before m kept
 marked_once scope p u kept once m name o count later told =

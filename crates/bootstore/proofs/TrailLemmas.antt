@@ -19,12 +19,11 @@ use Rattle.bootstore.specs.declared.present.Present.{Present}
 use Rattle.bootstore.specs.declared.present.Scope.{Scope}
 use Rattle.bootstore.specs.declared.present.Scope.TheVariants.{Environment, Local}
 use Rattle.bootstore.specs.declared.frame.At.{At}
-use Rattle.bootstore.specs.Moment.{Bytes, Variables, Moment, RunningFrame}
+use Rattle.bootstore.specs.Moment.{Bytes, Moment, RunningFrame}
 use Rattle.rehearse.specs.State.{LoggedCommand}
 use Rattle.text.specs.TextsShown.{option_bytes}
 use Rattle.bootstore.specs.Record.{Record, assigned, moved, without_first, with_place, without_frame, with_frame, with_echo, with_device}
-use Rattle.bootstore.specs.Present.{moment_of}
-use Rattle.bootstore.specs.Scopes.{chosen, table_of, with_table, with_variable}
+use Rattle.bootstore.specs.Present.{moment_of, chosen, table_of, with_table, with_variable}
 use Rattle.bootstore.specs.Table.{Names, AreWithin, has_slot, names_before, stands_among, place_value, variables_of}
 use Rattle.bootstore.specs.Inverse.{outermost, undone, at_mark, marked_before, names_left, local_names_left, finds_its_place, find_places, room_for, text_reach, log_reach, frame_reach, leaves, nested, begins_with_mark, LeadsBack, CanGoBack}
 use Rattle.bootstore.proofs.TableLemmas.{assigned-again, assigned-same, same_name}
@@ -271,21 +270,14 @@ stands_put old new name key (Some value) more there same = ap new same ∙ more 
 stands_put old new name key None more there same = refl
 
 module _ (p : Present) (t : Table) (u : ℕ) (kept : List Kept) (can : CanGoBack p u kept) where
-  within_table : (scope : Scope) → AreWithin (has_slot (table_of p scope)) (has_slot t) → AreWithin (has_slot p.environment) (has_slot (with_table p scope t).environment) × AreWithin (has_slot p.locals) (has_slot (with_table p scope t).locals)
-  within_table Environment more = (more, λ q h. h)
-  within_table Local more = ((λ q h. h), more)
+  pub still_find : (scope : Scope) → AreWithin (has_slot (table_of p scope)) (has_slot t) → find_places (has_slot (with_table p scope t).environment) (has_slot (with_table p scope t).locals) kept ≡ true
+  still_find Environment more = find_more kept _ _ _ _ more (λ q h. h) can.places
+  still_find Local more = find_more kept _ _ _ _ (λ q h. h) more can.places
 
-  pub can_set : (scope : Scope) → AreWithin (has_slot (table_of p scope)) (has_slot t) → CanGoBack (with_table p scope t) u kept
-  can_set scope more = record {
+  pub can_set : (scope : Scope) → find_places (has_slot (with_table p scope t).environment) (has_slot (with_table p scope t).locals) kept ≡ true → CanGoBack (with_table p scope t) u kept
+  can_set scope places = record {
     leads = record { text = can.leads.text; log = can.leads.log; frames = can.leads.frames; untouched_frames = can.leads.untouched_frames; nested = can.leads.nested; rooted = can.leads.rooted };
-    places = find_more kept _ _ _ _ (within_table scope more).0 (within_table scope more).1 can.places;
-    room = can.room;
-  }
-
-  pub can_set_unmarked : (scope : Scope) → kept ≡ [] → CanGoBack (with_table p scope t) u kept
-  can_set_unmarked scope none = record {
-    leads = record { text = can.leads.text; log = can.leads.log; frames = can.leads.frames; untouched_frames = can.leads.untouched_frames; nested = can.leads.nested; rooted = can.leads.rooted };
-    places = ap (find_places _ _) none;
+    places = places;
     room = can.room;
   }
 
@@ -319,17 +311,15 @@ pub table_set : (p : Present) (t : Table) (scope : Scope) (name : Bytes) (o : Op
 table_set p t Environment name o e = ap (λ v. record (moment_of p) { environment = v }) e
 table_set p t Local name o e = ap (λ v. record (moment_of p) { locals = v }) e
 
-pub table_same : (p : Present) (t : Table) (scope : Scope) → variables_of t ≡ variables_of (table_of p scope) → moment_of (with_table p scope t) ≡ moment_of p
-table_same p t Environment e = ap (λ v. record (moment_of p) { environment = v }) e
-table_same p t Local e = ap (λ v. record (moment_of p) { locals = v }) e
+-- a variable that is set twice has the second value
+pub set_twice : (m : Moment) (scope : Scope) (name : Bytes) (o second : Option Bytes) → with_variable scope name second (with_variable scope name o m) ≡ with_variable scope name second m
+set_twice m Environment name o second = ap (λ v. record m { environment = v }) (assigned-again m.environment name o second)
+set_twice m Local name o second = ap (λ v. record m { locals = v }) (assigned-again m.locals name o second)
 
--- a value that was set goes back to the one before
-restored : (old : Variables) (name key : Bytes) (o before : Option Bytes) → before ≡ get old name → key ≡ name → assigned (assigned old name o) key before ≡ old
-restored old name key o before was same = ap (λ n. assigned (assigned old name o) n before) same ∙ assigned-again old name o before ∙ assigned-same old name before (sym was)
-
-pub set_back : (p : Present) (scope : Scope) (name key : Bytes) (o before : Option Bytes) → before ≡ get (variables_of (table_of p scope)) name → key ≡ name → with_variable scope key before (with_variable scope name o (moment_of p)) ≡ moment_of p
-set_back p Environment name key o before was same = ap (λ v. record (moment_of p) { environment = v }) (restored (variables_of p.environment) name key o before was same)
-set_back p Local name key o before was same = ap (λ v. record (moment_of p) { locals = v }) (restored (variables_of p.locals) name key o before was same)
+-- the value that it has changes nothing
+pub set_same : (p : Present) (scope : Scope) (name : Bytes) (o : Option Bytes) → get (variables_of (table_of p scope)) name ≡ o → with_variable scope name o (moment_of p) ≡ moment_of p
+set_same p Environment name o e = ap (λ v. record (moment_of p) { environment = v }) (assigned-same (variables_of p.environment) name o e)
+set_same p Local name o e = ap (λ v. record (moment_of p) { locals = v }) (assigned-same (variables_of p.locals) name o e)
 
 pub same_record : (m n : Moment) (ms ns : List Moment) (k : ℕ) → m ≡ n → ms ≡ ns → (let a : Record = record { present = m; marked = ms; begun = k } in let b : Record = record { present = n; marked = ns; begun = k } in a ≡ b)
 same_record m n ms ns k e f = λ i. record { present = e i; marked = f i; begun = k }

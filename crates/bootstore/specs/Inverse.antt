@@ -9,8 +9,7 @@ use Rattle.bootstore.specs.declared.present.Present.{Present}
 use Rattle.bootstore.specs.declared.present.Scope.{Scope}
 use Rattle.bootstore.specs.Moment.{Bytes, Moment, RunningFrame}
 use Rattle.bootstore.specs.Record.{Record}
-use Rattle.bootstore.specs.Present.{moment_of}
-use Rattle.bootstore.specs.Scopes.{chosen, table_of, with_variable}
+use Rattle.bootstore.specs.Present.{moment_of, chosen, table_of, with_variable}
 use Rattle.bootstore.specs.Table.{Names, has_slot, names_before, place_value, stands_among, last_kept, kept_of, is_name}
 
 -- this many of the frames, the outermost ones

@@ -3,7 +3,6 @@ pub mod Moment
 pub mod Record
 pub mod Slots
 pub mod Table
-pub mod Scopes
 pub mod Scripts
 pub mod Present
 pub mod Plain

@@ -1,7 +1,14 @@
--- The moment that the parts of a running state make.
-use Rattle.std.specs.Prelude.{reverse}
+-- The moment that the parts of a running state make, and the variables of a scope in it.
+use Rattle.std.specs.Prelude.{Option, reverse}
+use Rattle.std.specs.Borrow.{Lends, MutBor, Fml}
 use Rattle.bootstore.specs.declared.present.Present.{Present}
-use Rattle.bootstore.specs.Moment.{Moment}
+use Rattle.bootstore.specs.declared.present.Scope.{Scope}
+use Rattle.bootstore.specs.declared.present.Scope.TheVariants.{Environment, Local}
+use Rattle.bootstore.specs.declared.table.Table.{Table}
+use Rattle.bootstore.specs.contracts.present.Present.{the_row}
+use Rattle.bootstore.specs.contracts.table.Table as table
+use Rattle.bootstore.specs.Moment.{Bytes, Moment}
+use Rattle.bootstore.specs.Record.{assigned}
 use Rattle.bootstore.specs.Table.{variables_of}
 
 -- the innermost frame was pushed last
@@ -16,3 +23,25 @@ moment_of p =
       steps = p.steps;
       frames = reverse p.frames.items;
     }
+
+-- the first of the two for the environment, the second for the shell
+abbrev pub chosen : {A : Type 0} → Scope → A → A → A
+chosen Environment environment locals = environment
+chosen Local environment locals = locals
+
+abbrev pub table_of : Present → Scope → Table
+table_of p scope = chosen scope p.environment p.locals
+
+abbrev pub with_table : Present → Scope → Table → Present
+with_table p scope t = record p { environment = chosen scope t p.environment; locals = chosen scope p.locals t }
+
+-- the state ends with the last value of the table
+abbrev pub LendsTable : MutBor Present → Scope → MutBor Table → Fml
+LendsTable p scope t = Lends the_row table.the_row p t (with_table p.now scope)
+
+-- the variable is set to the value, or deleted
+abbrev pub with_variable : Scope → Bytes → Option Bytes → Moment → Moment
+with_variable scope name o m = record m {
+  environment = chosen scope (assigned m.environment name o) m.environment;
+  locals = chosen scope m.locals (assigned m.locals name o);
+}

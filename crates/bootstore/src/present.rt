@@ -32,10 +32,9 @@ pub struct Present {
 impl Present {
     ghost use Rattle.std.specs.FinMap.{empty};
     ghost use Rattle.bootstore.specs.Record.{beginning, with_place};
-    ghost use Rattle.bootstore.specs.Present.{moment_of};
+    ghost use Rattle.bootstore.specs.Present.{moment_of, table_of, LendsTable};
     ghost use Rattle.bootstore.specs.Moment.{environment_of};
     ghost use Rattle.bootstore.specs.Table.{KeepsNothing};
-    ghost use Rattle.bootstore.specs.Scopes.{table_of, LendsTable};
 
     /// Everything is empty or 0.
     pub fn new(alloc: Global) -> Self

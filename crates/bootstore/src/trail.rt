@@ -29,7 +29,7 @@ impl Trail {
     ghost use Rattle.std.specs.Prelude.{◌≡◌, ◌<◌, ◌⊎◌, OnOk, OnErr, length};
     ghost use Rattle.bootstore.specs.Trail.{record_of_trail};
     ghost use Rattle.bootstore.specs.Record.{changed};
-    ghost use Rattle.bootstore.specs.Scopes.{with_variable};
+    ghost use Rattle.bootstore.specs.Present.{with_variable};
     ghost use Rattle.text.specs.TextsShown.{option_bytes};
 
     /// Keeps the innermost frame as it is, if it has not changed since the last mark. Errors:
