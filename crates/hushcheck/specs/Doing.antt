@@ -3,9 +3,10 @@ use Rattle.std.specs.Prelude.{◌≡◌, Bool, Option, Result, codes, string_byt
 use Rattle.hushcheck.specs.Asked.{asked_by}
 use Rattle.hushcheck.specs.Checking.{ChecksFrom, LeavesOutput}
 use Rattle.hushcheck.specs.declared.ask.Ask.{Ask}
-use Rattle.hushcheck.specs.declared.ask.Ask.TheVariants.{Check, Help, Version}
 use Rattle.output.specs.Outputs.{Outputs}
 use Rattle.locked_files.specs.Told.{IfTold, Told}
+use Rattle.requests.specs.declared.answer.Answer.{Answer}
+use Rattle.requests.specs.declared.answer.Answer.TheVariants.{Asks, Help, Version}
 use Rattle.image_tools.specs.declared.fault.Fault.{Fault}
 use Rattle.whole_program.specs.Builds.{version_line}
 use Rattle.whole_program.specs.declared.build.Build.{Build}
@@ -14,10 +15,10 @@ use Rattle.whole_program.specs.Performing.{Shows}
 -- What a program of this build does for it, with the files before and after, and on the outputs. With status 0 each
 -- text is well-formed, each name that was asked for is set and the device list lacks no command, or the help or the
 -- version was shown.
-abbrev pub Does : Build → Ask → Option Told → Option Told → Outputs → Result Bool Fault → Type 0
-Does build (Check config list what order) before after outputs result =
+abbrev pub Does : Build → Answer Ask → Option Told → Option Told → Outputs → Result Bool Fault → Type 0
+Does build (Asks ask) before after outputs result =
     IfTold before after (λ old new.
-    ChecksFrom (asked_by config list what order) outputs.out outputs.out' old new result)
+    ChecksFrom (asked_by ask.config ask.devices_file ask.what ask.order) outputs.out outputs.out' old new result)
     × LeavesOutput result outputs.out outputs.out'
     × (outputs.err' ≡ outputs.err)
 Does build (Help text) before after outputs result = Shows (string_bytes text) before after outputs result

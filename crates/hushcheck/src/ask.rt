@@ -2,24 +2,17 @@
 
 use envimage::ByteOrder;
 
-/// What the words of a call ask for.
+/// To check the texts of variables, and the texts that these run.
 #[derive(Debug, Drop)]
-pub enum Ask {
-    /// To check the texts of variables, and the texts that these run.
-    Check {
-        /// The path of the configuration.
-        config: String,
-        /// The path of the device list, if there is one.
-        devices_file: Option<String>,
-        /// What to check.
-        what: CheckAsk,
-        /// How the image's CRC is stored.
-        order: ByteOrder,
-    },
-    /// To read the help, which this text is.
-    Help(String),
-    /// To read the version.
-    Version,
+pub struct Ask {
+    /// The path of the configuration.
+    pub config: String,
+    /// The path of the device list, if there is one.
+    pub devices_file: Option<String>,
+    /// What to check.
+    pub what: CheckAsk,
+    /// How the image's CRC is stored.
+    pub order: ByteOrder,
 }
 
 /// The variables to check.

@@ -13,6 +13,7 @@ use crate::words::read_words;
 use image_tools::Fault;
 use locked_files::Files;
 use output::Out;
+use requests::Answer;
 use std::alloc::Global;
 use std::convert::AsStr;
 use whole_program::{Build, refuse, show_help, show_version, status_of};
@@ -25,7 +26,7 @@ pub const PROGRAM: &str = "hushcheck";
 fn perform<F: Files, O: Out>(
     alloc: Global,
     build: Build,
-    ask: Ask,
+    ask: Answer<Ask>,
     files: &mut F,
     out: &mut O,
 ) -> Result<bool, Fault>
@@ -34,14 +35,16 @@ fn perform<F: Files, O: Out>(
         (outputs (O.sink out.old) (O.sink out.new) err err) result }
 {
     match ask {
-        Ask::Check {
-            config,
-            devices_file,
-            what,
-            order,
-        } => check_files(alloc, files, config, devices_file, &what, order, out),
-        Ask::Help(text) => show_help(out, &text),
-        Ask::Version => show_version(out, PROGRAM, build),
+        Answer::Asks(
+            Ask {
+                config,
+                devices_file,
+                what,
+                order,
+            },
+        ) => check_files(alloc, files, config, devices_file, &what, order, out),
+        Answer::Help(text) => show_help(out, &text),
+        Answer::Version => show_version(out, PROGRAM, build),
     }
 }
 

@@ -1,15 +1,16 @@
 //! Reads the words of a call.
 ghost use Rattle.std.specs.Prelude.{◌≡◌, IfOk, codes, map, string_bytes};
-ghost use Rattle.clap.specs.Words.{found_of, kind_of, rows_of};
-ghost use Rattle.hushcheck.specs.CommandAnswers.{Answers, Reports, Says};
-ghost use Rattle.hushcheck.specs.Asked.{asked_of, or_bootcmd};
+ghost use Rattle.clap.specs.Words.{found_of, rows_of};
+ghost use Rattle.hushcheck.specs.CommandAnswers.{Answers};
+ghost use Rattle.hushcheck.specs.Asked.{asked_by, asked_of, or_bootcmd};
 ghost use Rattle.requests.specs.Asked.{values_of};
 
 use crate::ask::{Ask, CheckAsk};
 use crate::command::hushcheck;
 use clap::ArgMatches;
-use clap::error::ErrorKind;
-use requests::{DEFAULT_VARIABLE, UseError, config_of, is_set, order_of, text_of, texts_of};
+use requests::{
+    Answer, DEFAULT_VARIABLE, UseError, config_of, is_set, order_of, parse, text_of, texts_of,
+};
 use std::alloc::{AllocError, Global};
 use std::convert::AsStr;
 
@@ -27,11 +28,11 @@ fn names_of(alloc: Global, matches: &ArgMatches<'_>, all: bool) -> Result<Vec<St
 }
 
 /// What the entries ask for.
-fn ask_of(alloc: Global, matches: &ArgMatches<'_>) -> Result<Ask, UseError>
-    ensures { Says (asked_of (rows_of (found_of matches.now))) result }
+fn ask_of(alloc: Global, matches: &ArgMatches<'_>) -> Result<Ask, AllocError>
+    ensures { IfOk result (λ ask. asked_of (rows_of (found_of matches.now)) ≡ asked_by ask.config ask.devices_file ask.what ask.order) }
 {
     let all = is_set(matches, "all");
-    Ok(Ask::Check {
+    Ok(Ask {
         config: config_of(alloc, matches)?,
         devices_file: text_of(alloc, matches, "device-list")?,
         what: CheckAsk {
@@ -42,24 +43,14 @@ fn ask_of(alloc: Global, matches: &ArgMatches<'_>) -> Result<Ask, UseError>
     })
 }
 
-/// The answer if `clap` refuses the words, or shows its help or the version.
-fn report(alloc: Global, error: &clap::Error) -> Result<Ask, UseError>
-    ensures { Reports (kind_of error.now) result }
-{
-    match error.kind() {
-        ErrorKind::OutOfMemory => Err(UseError::Memory),
-        ErrorKind::DisplayHelp => Ok(Ask::Help(error.to_string(alloc)?)),
-        ErrorKind::DisplayVersion => Ok(Ask::Version),
-        _ => Err(UseError::Line(error.to_string(alloc)?)),
-    }
-}
-
 /// Reads the words after the program's name.
-pub fn read_words<S: AsStr>(alloc: Global, words: &[S]) -> Result<Ask, UseError>
+pub fn read_words<S: AsStr>(alloc: Global, words: &[S]) -> Result<Answer<Ask>, UseError>
     ensures { Answers (map S.text words.now) result }
 {
-    match hushcheck(alloc)?.try_get_matches_from(words) {
-        Ok(matches) => ask_of(alloc, &matches),
-        Err(error) => report(alloc, &error),
+    match parse(alloc, hushcheck(alloc)?, words) {
+        Ok(Answer::Asks(matches)) => Ok(Answer::Asks(ask_of(alloc, &matches)?)),
+        Ok(Answer::Help(text)) => Ok(Answer::Help(text)),
+        Ok(Answer::Version) => Ok(Answer::Version),
+        Err(error) => Err(error),
     }
 }

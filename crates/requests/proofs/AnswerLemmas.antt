@@ -11,12 +11,15 @@ use Rattle.clap.specs.declared.error.kind.ErrorKind.{ErrorKind}
 use Rattle.clap.specs.declared.error.kind.ErrorKind.TheVariants.{DisplayHelp, DisplayVersion, OutOfMemory}
 use Rattle.clap.proofs.OnLiterals.{clap_on_literals}
 use Rattle.requests.specs.declared.ask.Ask.{Ask}
-use Rattle.requests.specs.declared.ask.Ask.TheVariants.{Print, Setenv, Rehearse, Endings, Help, Version}
+use Rattle.requests.specs.declared.ask.Ask.TheVariants as ask
+use Rattle.requests.specs.declared.answer.Answer.{Answer}
+use Rattle.requests.specs.declared.answer.Answer.TheVariants.{Asks, Help, Version}
 use Rattle.requests.specs.declared.ask.UseError.{UseError}
 use Rattle.requests.specs.declared.called.CalledAs.{CalledAs}
 use Rattle.requests.specs.declared.ask.UseError.TheVariants.{Line, NeedName, ScriptAndName, HeaderNeedsOne, WordAlone, TooManyDevices, Memory}
 use Rattle.requests.specs.Asked.{Asked, asked_of, lock_of}
-use Rattle.requests.specs.CommandAnswers.{Answers, IsAccepted, NamesLock, Reports, Says, asked}
+use Rattle.requests.specs.CommandAnswers.{Answers, NamesLock, Says, asked}
+use Rattle.requests.specs.Answered.{AnswersBy, IsAccepted, Refuses, Reports}
 use Rattle.command_line.specs.CommandLine.{ubtool}
 
 pub ubtool_simple : is_simple ubtool ≡ true
@@ -29,12 +32,12 @@ ubtool_free = refl
 
 -- if the words are accepted
 pub accepted_answer : (called : CalledAs) (words : List Text) (a : Option Asked) (r : Result Ask UseError) → IsAccepted ubtool words → a ≡ asked called words → Says a r → Answers called words r
-accepted_answer called words a (Ok (Help text)) fine is says = absurd says
-accepted_answer called words a (Ok Version) fine is says = absurd says
-accepted_answer called words a (Ok (Print config what order)) fine is says = (fine, says ∙ is)
-accepted_answer called words a (Ok (Setenv config change order)) fine is says = (fine, says ∙ is)
-accepted_answer called words a (Ok (Rehearse config list what order)) fine is says = (fine, says ∙ is)
-accepted_answer called words a (Ok (Endings config list what order)) fine is says = (fine, says ∙ is)
+accepted_answer called words a (Ok (ask.Help text)) fine is says = absurd says
+accepted_answer called words a (Ok ask.Version) fine is says = absurd says
+accepted_answer called words a (Ok (ask.Print config what order)) fine is says = (fine, says ∙ is)
+accepted_answer called words a (Ok (ask.Setenv config change order)) fine is says = (fine, says ∙ is)
+accepted_answer called words a (Ok (ask.Rehearse config list what order)) fine is says = (fine, says ∙ is)
+accepted_answer called words a (Ok (ask.Endings config list what order)) fine is says = (fine, says ∙ is)
 accepted_answer called words a (Err NeedName) fine is says = (fine, says ∙ is)
 accepted_answer called words a (Err ScriptAndName) fine is says = (fine, says ∙ is)
 accepted_answer called words a (Err HeaderNeedsOne) fine is says = (fine, says ∙ is)
@@ -44,33 +47,40 @@ accepted_answer called words a (Err (Line text)) fine is says = inr (fine, says 
 accepted_answer called words a (Err Memory) fine is says = tt
 
 -- if they are not
-pub refused_answer : (called : CalledAs) (words : List Text) (k : ErrorKind) (r : Result Ask UseError) → (k ≡ OutOfMemory) ⊎ IsAmong k (fault_of ubtool words) → Reports k r → Answers called words r
-refused_answer called words k (Ok (Help text)) among is = elim among [
+pub refused_answer : (called : CalledAs) (words : List Text) (e : UseError) → Refuses ubtool words e → Answers called words (Err e)
+refused_answer called words (Line text) is = inl is
+refused_answer called words Memory is = tt
+refused_answer called words NeedName is = absurd is
+refused_answer called words ScriptAndName is = absurd is
+refused_answer called words HeaderNeedsOne is = absurd is
+refused_answer called words WordAlone is = absurd is
+refused_answer called words TooManyDevices is = absurd is
+
+-- an error of `clap`, for any program
+pub reported : {T : Type 0} (app : App) (words : List Text) (Means : T → Type 0) (k : ErrorKind) (r : Result (Answer T) UseError) → (k ≡ OutOfMemory) ⊎ IsAmong k (fault_of app words) → Reports k r → AnswersBy app words Means r
+reported app words Means k (Ok (Asks ask)) among is = absurd is
+reported app words Means k (Ok (Help text)) among is = elim among [
   | inl memory ↦
       let bad : DisplayHelp ≡ OutOfMemory = sym is ∙ memory in
       cc
-  | inr one ↦ subst (λ (x : ErrorKind). IsAmong x (fault_of ubtool words)) is one
+  | inr one ↦ subst (λ (x : ErrorKind). IsAmong x (fault_of app words)) is one
 ]
-refused_answer called words k (Ok Version) among is = elim among [
+reported app words Means k (Ok Version) among is = elim among [
   | inl memory ↦
       let bad : DisplayVersion ≡ OutOfMemory = sym is ∙ memory in
       cc
-  | inr one ↦ subst (λ (x : ErrorKind). IsAmong x (fault_of ubtool words)) is one
+  | inr one ↦ subst (λ (x : ErrorKind). IsAmong x (fault_of app words)) is one
 ]
-refused_answer called words k (Ok (Print config what order)) among is = absurd is
-refused_answer called words k (Ok (Setenv config change order)) among is = absurd is
-refused_answer called words k (Ok (Rehearse config list what order)) among is = absurd is
-refused_answer called words k (Ok (Endings config list what order)) among is = absurd is
-refused_answer called words k (Err NeedName) among is = absurd is
-refused_answer called words k (Err ScriptAndName) among is = absurd is
-refused_answer called words k (Err HeaderNeedsOne) among is = absurd is
-refused_answer called words k (Err WordAlone) among is = absurd is
-refused_answer called words k (Err TooManyDevices) among is = absurd is
-refused_answer called words k (Err (Line text)) among is = elim among [
+reported app words Means k (Err (Line text)) among is = elim among [
   | inl memory ↦ absurd (is.2 memory)
-  | inr one ↦ inl (k, one, is.0, is.1)
+  | inr one ↦ (k, one, is.0, is.1)
 ]
-refused_answer called words k (Err Memory) among is = tt
+reported app words Means k (Err Memory) among is = tt
+reported app words Means k (Err NeedName) among is = absurd is
+reported app words Means k (Err ScriptAndName) among is = absurd is
+reported app words Means k (Err HeaderNeedsOne) among is = absurd is
+reported app words Means k (Err WordAlone) among is = absurd is
+reported app words Means k (Err TooManyDevices) among is = absurd is
 
 -- the subcommand that a parse entered, from its name and its entries
 pub subcommand_met : (m : ArgMatches) (name : Text) (rows : List Row) → Some name ≡ subcommand_name_of m
@@ -83,18 +93,11 @@ subcommand_met m name rows = go (out-ArgMatches m).subcommand
     go (Some b) n r = ap₂ (λ x y. Some (x, y)) (sym (ap (λ o. unwrap_or o name) n)) (sym (ap (λ o. unwrap_or o rows) r))
 
 -- a parse that succeeds
-pub parsed_answer : (called : CalledAs) (app : App) (words : List Text) (m : ArgMatches) (r : Result Ask UseError) → app ≡ ubtool → HasMatchesOf app words m
-    → (is_simple_and_free app ≡ true → fault_of app words ≡ []) → Says (option_and_then (λ s. asked_of called s.0 s.1) (subcommand_rows_of m)) r → Answers called words r
-parsed_answer called app words m r is matches kinds says =
-    let fine : IsAccepted ubtool words = ap (λ (a : App). fault_of a words) (sym is) ∙ kinds (ap is_simple_and_free is ∙ ubtool_free) in
+pub parsed_answer : (called : CalledAs) (app : App) (words : List Text) (m : ArgMatches) (r : Result Ask UseError) → app ≡ ubtool → IsAccepted app words → HasMatchesOf app words m
+    → Says (option_and_then (λ s. asked_of called s.0 s.1) (subcommand_rows_of m)) r → Answers called words r
+parsed_answer called app words m r is fine matches says =
     let found = (matches (ap is_simple is ∙ ubtool_simple)).1 ∙ ap (λ (a : App). subcommand_of a words) is in
-    accepted_answer called words _ r fine (ap (option_and_then (λ s. asked_of called s.0 s.1)) found) says
-
--- a parse that fails
-pub failed_answer : (called : CalledAs) (app : App) (words : List Text) (e : Error) (r : Result Ask UseError) → app ≡ ubtool
-    → (is_simple_and_free app ≡ true → HasKind (fault_of app words) e) → Reports (kind_of e) r → Answers called words r
-failed_answer called app words e r is kinds reports =
-    refused_answer called words (kind_of e) r (subst (λ (a : App). HasKind (fault_of a words) e) is (kinds (ap is_simple_and_free is ∙ ubtool_free))) reports
+    accepted_answer called words _ r (subst (λ (a : App). IsAccepted a words) is fine) (ap (option_and_then (λ s. asked_of called s.0 s.1)) found) says
 
 -- the lock, if a parse succeeds
 pub parsed_lock : (app : App) (words : List Text) (m : ArgMatches) (folder : Option Text) → app ≡ ubtool → HasMatchesOf app words m

@@ -4,7 +4,8 @@ use Rattle.std.specs.Prelude.{nat_lt, option_and_then}
 use Rattle.clap.specs.Words.{Text, fault_of, subcommand_of}
 use Rattle.clap.proofs.OnLiterals.{clap_on_literals}
 use Rattle.envimage.specs.declared.image.ByteOrder.TheVariants.{Big, Little}
-use Rattle.requests.specs.CommandAnswers.{IsAccepted, asked}
+use Rattle.requests.specs.CommandAnswers.{asked}
+use Rattle.requests.specs.Answered.{IsAccepted}
 use Rattle.requests.specs.declared.called.CalledAs.{CalledAs}
 use Rattle.requests.specs.declared.called.CalledAs.TheVariants.{FwTool, Ubtool}
 use Rattle.requests.specs.Asked.{Asked, ending, header_needs_one, input_scripted, lock_of, needs_name, page_with, printing, rehearsing, script_and_name, scripted, setting, too_many_devices, word_alone}

@@ -1,11 +1,10 @@
 -- What an answer of the reader of words says, and when each refusal comes. The refusals are ours.
-use Rattle.std.specs.Prelude.{◌≡◌, ◌≢◌, ◌⊎◌, List, [], map, Option, Some, None}
+use Rattle.std.specs.Prelude.{◌≡◌, ◌⊎◌, List, map, Option, Some, None}
 use Rattle.std.specs.Prelude.{Result, Ok, Err, option_and_then, string_bytes, String}
 use Rattle.std.specs.declared.alloc.Global.{Global}
-use Rattle.clap.specs.Words.{App, IsAmong, Text, fault_of, subcommand_of}
+use Rattle.clap.specs.Words.{IsAmong, Text, fault_of, subcommand_of}
 use Rattle.clap.specs.declared.error.kind.ErrorKind.{ErrorKind}
 use Rattle.clap.specs.declared.error.kind.ErrorKind.TheVariants.{DisplayHelp, DisplayVersion}
-use Rattle.clap.specs.declared.error.kind.ErrorKind.TheVariants.{OutOfMemory}
 use Rattle.envimage.specs.declared.image.ByteOrder.{ByteOrder}
 use Rattle.requests.specs.declared.ask.Ask.{Ask}
 use Rattle.requests.specs.declared.ask.Ask.TheVariants.{Print, Setenv, Rehearse, Endings, Help, Version}
@@ -18,6 +17,7 @@ use Rattle.requests.specs.declared.ask.UseError.{UseError}
 use Rattle.rehearse.specs.declared.wanted.Wanted.{Wanted}
 use Rattle.requests.specs.declared.ask.UseError.TheVariants.{Line, NeedName, ScriptAndName}
 use Rattle.requests.specs.declared.ask.UseError.TheVariants.{HeaderNeedsOne, Memory, TooManyDevices, WordAlone}
+use Rattle.requests.specs.Answered.{IsAccepted, IsMistaken}
 use Rattle.requests.specs.Asked as what
 use Rattle.requests.specs.Asked.{Asked, WantedAsked, asked_of, ending, input_scripted, lock_of, printing, setting}
 use Rattle.requests.specs.Asked.{scripted, rehearsing, needs_name, script_and_name}
@@ -59,15 +59,6 @@ meaning_of Version = None
 -- what the words ask for, by the subcommand that `clap` finds in them and its entries
 abbrev pub asked : CalledAs → List Text → Option Asked
 asked called words = option_and_then (λ s. asked_of called s.0 s.1) (subcommand_of ubtool words)
-
--- `clap` finds no fault in the words
-abbrev pub IsAccepted : App → List Text → Type 0
-IsAccepted app words = fault_of app words ≡ []
-
--- `clap` refuses the words for some mistake, not to show the help or the version
-abbrev pub IsMistaken : App → List Text → Type 0
-IsMistaken app words = (k : ErrorKind) × IsAmong k (fault_of app words) × (k ≢ DisplayHelp)
-    × (k ≢ DisplayVersion)
 
 -- The answer to words. A line without a mistake would need an accepted `rehearse` or `endings` that has no device list
 -- or a number out of its range, and `clap` accepts neither.
@@ -116,11 +107,3 @@ abbrev pub IsUnread : UseError → Type 0
 IsUnread (Line text) = Unit {0}
 IsUnread Memory = Unit {0}
 IsUnread _ = ⊥
-
--- the answer to an error of `clap`
-abbrev pub Reports : ErrorKind → Result Ask UseError → Type 0
-Reports k (Ok (Help text)) = k ≡ DisplayHelp
-Reports k (Ok Version) = k ≡ DisplayVersion
-Reports k (Err (Line text)) = (k ≢ DisplayHelp) × (k ≢ DisplayVersion) × (k ≢ OutOfMemory)
-Reports k (Err Memory) = Unit {0}
-Reports k _ = ⊥

@@ -2,13 +2,14 @@
 ghost use Rattle.std.specs.Prelude.{◌≡◌, ◌≤◌, Some, None, codes, IfOk, IfSome, map, option_map, option_and_then, string_bytes};
 ghost use Rattle.rehearse.specs.Asking.{page_of};
 ghost use Rattle.rehearse.specs.Listing.{HasRoom};
-ghost use Rattle.clap.specs.Words.{Text, first_of, found_of, kind_of, rows_of, subcommand_rows_of};
+ghost use Rattle.clap.specs.Words.{Text, first_of, found_of, rows_of, subcommand_rows_of};
 ghost use Rattle.envimage.specs.declared.image.ByteOrder.{ByteOrder as Order};
 ghost use Rattle.requests.specs.Asked.{asked_of, bounds_or, config_of, endings_asked, is_set, lock_of, number_given, number_within, order_of, page_asked, print_asked, rehearse_asked, script_asked, set_asked, values_of, variable_of, wanted_asked, wanted_by};
 ghost use Rattle.rehearse.specs.WantedShown.{wanted_strings};
 ghost use Rattle.requests.specs.declared.ask.UseError.TheVariants.{Memory};
-ghost use Rattle.requests.specs.CommandAnswers.{Answers, IsUnread, NamesLock, Reports, Says, SaysWanted, change_of};
+ghost use Rattle.requests.specs.CommandAnswers.{Answers, IsUnread, NamesLock, Says, SaysWanted, change_of};
 
+use crate::answer::{Answer, parse};
 use crate::ask::{
     Ask, Change, DEFAULT_CONFIG, DEFAULT_DEVICES, DEFAULT_RUN_DEVICES, DEFAULT_RUN_STEPS,
     DEFAULT_STATES, DEFAULT_STEPS, DEFAULT_VARIABLE, EndingsAsk, PrintAsk, RehearseAsk, UseError,
@@ -342,18 +343,6 @@ fn ask_of(alloc: Global, called: CalledAs, matches: &ArgMatches<'_>) -> Result<A
     }
 }
 
-/// The answer if `clap` refuses the words, or shows its help or the version.
-fn report(alloc: Global, error: &clap::Error) -> Result<Ask, UseError>
-    ensures { Reports (kind_of error.now) result }
-{
-    match error.kind() {
-        ErrorKind::OutOfMemory => Err(UseError::Memory),
-        ErrorKind::DisplayHelp => Ok(Ask::Help(error.to_string(alloc)?)),
-        ErrorKind::DisplayVersion => Ok(Ask::Version),
-        _ => Err(UseError::Line(error.to_string(alloc)?)),
-    }
-}
-
 /// The folder of the lock that a subcommand's entries name, if they name one.
 fn lock_of(alloc: Global, matches: &ArgMatches<'_>) -> Result<Option<String>, AllocError>
     ensures { IfOk result (λ folder. option_map string_bytes folder
@@ -391,8 +380,10 @@ pub fn read_lock<S: AsStr>(alloc: Global, words: &[S]) -> Result<Option<String>,
 pub fn read_command<S: AsStr>(alloc: Global, called: CalledAs, words: &[S]) -> Result<Ask, UseError>
     ensures { Answers called (map S.text words.now) result }
 {
-    match ubtool(alloc)?.try_get_matches_from(words) {
-        Ok(matches) => ask_of(alloc, called, &matches),
-        Err(error) => report(alloc, &error),
+    match parse(alloc, ubtool(alloc)?, words) {
+        Ok(Answer::Asks(matches)) => ask_of(alloc, called, &matches),
+        Ok(Answer::Help(text)) => Ok(Ask::Help(text)),
+        Ok(Answer::Version) => Ok(Ask::Version),
+        Err(error) => Err(error),
     }
 }

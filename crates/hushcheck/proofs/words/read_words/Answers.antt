@@ -1,10 +1,21 @@
-use Rattle.hushcheck.proofs.AnswerLemmas.{parsed_answer, failed_answer}
+use Rattle.std.proofs.Common.{◌∙◌, ap, subst, map, sym}
+use Rattle.clap.specs.Words.{App, is_simple, is_simple_and_free, matches_of}
+use Rattle.hushcheck.specs.Asked.{asked_of}
+use Rattle.requests.specs.Answered.{IsAccepted, Refuses}
+use Rattle.hushcheck.proofs.AnswerLemmas.{hushcheck_free, hushcheck_simple}
 use Rattle.hushcheck.proofs.words.read_words.Goals as goal
 
-pub returns-in-Ok : goal.returns-in-Ok
-returns-in-Ok c c' =
-    parsed_answer _ _ _ _ c'.in_ok-hushcheck.ensures.app_is c'.in-Ok.ensures.matches c'.in-Ok.ensures.kinds c'.ask_of.ensures
+pub parse-requires : goal.parse-requires
+parse-requires g c = ap is_simple_and_free c.in_ok-hushcheck.ensures.app_is ∙ hushcheck_free
+
+pub returns-in-Ok-Asks : goal.returns-in-Ok-Asks
+returns-in-Ok-Asks g c =
+    let words = map g.S.AsStr.text c.args.words.now in
+    let is = c.in_ok-hushcheck.ensures.app_is in
+    let parsed = rw c.in-Ok-Asks.field-0-is at c.in-Ok-Asks.ensures in
+    let found = (parsed.1 (ap is_simple is ∙ hushcheck_simple)).0 ∙ ap (λ (a : App). matches_of a words) is in
+    (subst (λ (a : App). IsAccepted a words) is parsed.0, ap asked_of (sym found) ∙ c.in_ok-ask_of.ensures)
 
 pub returns-in-Err : goal.returns-in-Err
-returns-in-Err c c' =
-    failed_answer _ _ c'.in-Err.error _ c'.in_ok-hushcheck.ensures.app_is c'.in-Err.ensures.kinds c'.report.ensures
+returns-in-Err g c =
+    subst (λ (a : App). Refuses a (map g.S.AsStr.text c.args.words.now) c.in-Err.error) c.in_ok-hushcheck.ensures.app_is c.in-Err.ensures

@@ -1,10 +1,17 @@
-use Rattle.requests.proofs.AnswerLemmas.{parsed_answer, failed_answer}
+use Rattle.std.proofs.Common.{◌∙◌, ap, subst, map}
+use Rattle.clap.specs.Words.{App, is_simple_and_free}
+use Rattle.requests.specs.Answered.{Refuses}
+use Rattle.requests.proofs.AnswerLemmas.{parsed_answer, refused_answer, ubtool_free}
 use Rattle.requests.proofs.read.read_command.Goals as goal
 
-pub returns-in-Ok : goal.returns-in-Ok
-returns-in-Ok c c' =
-    parsed_answer _ _ _ _ _ c'.in_ok-ubtool.ensures.app_is c'.in-Ok.ensures.matches c'.in-Ok.ensures.kinds c'.ask_of.ensures
+pub parse-requires : goal.parse-requires
+parse-requires g c = ap is_simple_and_free c.in_ok-ubtool.ensures.app_is ∙ ubtool_free
+
+pub returns-in-Ok-Asks : goal.returns-in-Ok-Asks
+returns-in-Ok-Asks g c =
+    let parsed = rw c.in-Ok-Asks.field-0-is at c.in-Ok-Asks.ensures in
+    parsed_answer _ _ _ _ _ c.in_ok-ubtool.ensures.app_is parsed.0 parsed.1 c.ask_of.ensures
 
 pub returns-in-Err : goal.returns-in-Err
-returns-in-Err c c' =
-    failed_answer _ _ _ c'.in-Err.error _ c'.in_ok-ubtool.ensures.app_is c'.in-Err.ensures.kinds c'.report.ensures
+returns-in-Err g c =
+    refused_answer _ _ _ (subst (λ (a : App). Refuses a (map g.S.AsStr.text c.args.words.now) c.in-Err.error) c.in_ok-ubtool.ensures.app_is c.in-Err.ensures)
