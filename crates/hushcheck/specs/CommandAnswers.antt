@@ -10,4 +10,5 @@ use Rattle.requests.specs.declared.ask.UseError.{UseError}
 
 -- the answer to words, by the entries that `clap` finds in them
 abbrev pub Answers : List Text → Result (Answer Ask) UseError → Type 0
-Answers words = AnswersBy hushcheck words (λ ask. asked_of (matches_of hushcheck words) ≡ asked_by ask.config ask.devices_file ask.what ask.order)
+Answers words = AnswersBy hushcheck words (λ ask.
+    asked_of (matches_of hushcheck words) ≡ asked_by ask.config ask.devices_file ask.what ask.order)

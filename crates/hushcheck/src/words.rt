@@ -29,7 +29,8 @@ fn names_of(alloc: Global, matches: &ArgMatches<'_>, all: bool) -> Result<Vec<St
 
 /// What the entries ask for.
 fn ask_of(alloc: Global, matches: &ArgMatches<'_>) -> Result<Ask, AllocError>
-    ensures { IfOk result (λ ask. asked_of (rows_of (found_of matches.now)) ≡ asked_by ask.config ask.devices_file ask.what ask.order) }
+    ensures { IfOk result (λ ask. asked_of (rows_of (found_of matches.now))
+        ≡ asked_by ask.config ask.devices_file ask.what ask.order) }
 {
     let all = is_set(matches, "all");
     Ok(Ask {

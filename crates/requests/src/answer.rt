@@ -32,7 +32,8 @@ fn report<T>(alloc: Global, error: &clap::Error) -> Result<Answer<T>, UseError>
     }
 }
 
-/// Reads the words after a program's name. Refusals of `clap` are a `Line`. `Memory` is returned if a growth is refused.
+/// Reads the words after a program's name. Refusals of `clap` are a `Line`. `Memory` is returned if a
+/// growth is refused.
 pub fn parse<'a, S: AsStr>(
     alloc: Global,
     app: Command<'a>,

@@ -9,8 +9,8 @@ use envimage::{
 };
 use envtools::{Env, EnvError, ScriptError, apply_script};
 use image_tools::{
-    Bounds, Edit, Finish, Page, PrintAsk, RehearseAsk, ToolError, Wanted, print_bytes, rehearse_bytes,
-    run_input, set_bytes,
+    Bounds, Edit, Finish, Page, PrintAsk, RehearseAsk, ToolError, Wanted, print_bytes,
+    rehearse_bytes, run_input, set_bytes,
 };
 use locked_files::MemoryFiles;
 use requests::CalledAs;

@@ -8,13 +8,13 @@ use Rattle.hushcheck.proofs.words.read_words.Goals as goal
 pub parse-requires : goal.parse-requires
 parse-requires g c = ap is_simple_and_free c.in_ok-hushcheck.ensures.app_is ∙ hushcheck_free
 
-pub returns-in-Ok-Asks : goal.returns-in-Ok-Asks
-returns-in-Ok-Asks g c =
+pub returns-in_ok-ask_of-in-Ok-Asks : goal.returns-in_ok-ask_of-in-Ok-Asks
+returns-in_ok-ask_of-in-Ok-Asks g c =
     let words = map g.S.AsStr.text c.args.words.now in
     let is = c.in_ok-hushcheck.ensures.app_is in
     let parsed = rw c.in-Ok-Asks.field-0-is at c.in-Ok-Asks.ensures in
     let found = (parsed.1 (ap is_simple is ∙ hushcheck_simple)).0 ∙ ap (λ (a : App). matches_of a words) is in
-    (subst (λ (a : App). IsAccepted a words) is parsed.0, ap asked_of (sym found) ∙ c.in_ok-ask_of.ensures)
+    (subst (λ (a : App). IsAccepted a words) is parsed.0, ap asked_of (sym found) ∙ c.in_ok-ask_of-in-Ok-Asks.ensures)
 
 pub returns-in-Err : goal.returns-in-Err
 returns-in-Err g c =
