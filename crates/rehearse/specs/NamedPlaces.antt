@@ -1,4 +1,4 @@
--- Where the tables of a device list have a name.
+-- Where the tables of a device list have a name. Ours.
 use Rattle.std.specs.Prelude.{◌≡◌, ℕ, List, [], ◌∷◌, Option, Some, None, option_map, slice_get}
 use Rattle.std.specs.List.{All}
 use Rattle.std.specs.Map.{lookup}
