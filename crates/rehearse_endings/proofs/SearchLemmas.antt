@@ -274,6 +274,14 @@ pub back_there : (r₀ r r₁ r₂ back : Record) → r ≡ with_mark r₀ → r
 back_there r₀ r r₁ r₂ back e a b k =
     ap (λ (x : Record). x.present) k ∙ back_by r₀ r₂.present r₂.begun r₂.marked (b ∙ a ∙ ap (λ (x : Record). x.marked) e)
 
+marks_by : (r₀ : Record) (present : Moment) (begun : ℕ) (marked : List Moment) → marked ≡ r₀.present ∷ r₀.marked → (returned present begun marked).marked ≡ r₀.marked
+marks_by r₀ present begun marked e = ap (λ (ms : List Moment). (returned present begun ms).marked) e
+
+-- the marks are the same when both sides are searched
+pub marks_back : (r₀ r r₁ r₂ back r₃ r₄ : Record) → r ≡ with_mark r₀ → r₁.marked ≡ r.marked → r₂.marked ≡ r₁.marked → back ≡ gone_back r₂ → r₃.marked ≡ back.marked → r₄.marked ≡ r₃.marked → r₄.marked ≡ r₀.marked
+marks_back r₀ r r₁ r₂ back r₃ r₄ e a b k c d =
+    d ∙ c ∙ ap (λ (x : Record). x.marked) k ∙ marks_by r₀ r₂.present r₂.begun r₂.marked (b ∙ a ∙ ap (λ (x : Record). x.marked) e)
+
 pub lost_on : (task : Task) (m : Moment) (back r₁ : Record) (stop : Stop) → back.present ≡ m → Stops task.limits stop (λ w. asked_at task.limits back.present (outcome_when false ∷ w)) r₁.present → Stops task.limits stop (λ w. asked_at task.limits m (Failure ∷ w)) r₁.present
 lost_on task m back r₁ stop e h = subst (λ (x : Moment). Stops task.limits stop (λ w. asked_at task.limits x (Failure ∷ w)) r₁.present) e h
 
@@ -325,6 +333,19 @@ begun_lost r₀ r r₁ r₂ back r₃ v₀ v₁ v₂ marked on within room visit
     let c = begun_back r₂ back returns in
     let d = begun_on back r₃ lost within' in
     omega (arith, a, b, c, d, room, visited, grows)
+
+-- the steps of both sides, and of the state itself
+pub begun_sides : (r₀ r r₁ r₂ back r₃ r₄ : Record) (v₀ v₁ v₂ v₃ v₄ : ℕ) → r ≡ with_mark r₀ → r₁.begun + r.present.steps ≡ r.begun + r₁.present.steps → r₁.present.steps ≤ most_steps → v₁ ≡ v₀ + 1
+    → Grows r₁.begun r₂.begun v₁ v₂ → back ≡ gone_back r₂ → r₃.begun + back.present.steps ≡ back.begun + r₃.present.steps → r₃.present.steps ≤ most_steps → Grows r₃.begun r₄.begun v₂ v₃ → v₄ ≡ v₃ → Grows r₀.begun r₄.begun v₀ v₄
+begun_sides r₀ r r₁ r₂ back r₃ r₄ v₀ v₁ v₂ v₃ v₄ marked on within visited grows returns lost within' grows' kept =
+    let a = begun_marked r₀ r marked in
+    let b = begun_on r r₁ on within in
+    let c = begun_back r₂ back returns in
+    let d = begun_on back r₃ lost within' in
+    omega (arith, a, b, c, d, visited, grows, grows', kept)
+
+pub room_kept : (visited most visited' most' : ℕ) → visited' ≡ visited → most' ≡ most → visited ≤ most → visited' ≤ most'
+room_kept visited most visited' most' e f l = omega arith
 
 none_there : (limits : Limits) (nodes : List Node) (n : ℕ) (d : Entry) → n < 0 → IsEntry limits nodes (get_or [] n d)
 none_there limits nodes n d l = absurd (omega arith)

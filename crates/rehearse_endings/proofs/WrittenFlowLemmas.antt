@@ -1,6 +1,8 @@
 -- The flow that is written: the nodes from the last one made to the first, with new numbers.
-use Rattle.std.proofs.Common.{ℕ, zero, suc, ◌+◌, ◌-◌, ◌≤◌, List, [], ◌∷◌, ◌++◌, map, reverse, length, Option, Some, None, option_map, refl, sym, ap, subst, ◌∙◌, ◌≡◌, append_assoc, append-nil, arith}
+use Rattle.std.proofs.Common.{ℕ, zero, suc, ◌+◌, ◌-◌, ◌≤◌, List, [], ◌∷◌, ◌++◌, map, reverse, length, Option, Some, None, option_map, refl, sym, ap, subst, ◌∙◌, ◌≡◌, append_assoc, append-nil, length-append, arith}
 use Rattle.std.specs.List.{slice_get}
+use Rattle.std.specs.Prelude.{Vec}
+use Rattle.std.specs.declared.alloc.Global.{Global}
 use Rattle.std.proofs.lemmas.Grind.{reverse_onto}
 use Rattle.std.proofs.lemmas.List.{length-map, length-reverse}
 use Rattle.std.proofs.lemmas.Option.{slice_get-map}
@@ -18,9 +20,10 @@ use Rattle.rehearse_machine.specs.declared.rehearsal.Stop.{Stop}
 use Rattle.rehearse_machine.specs.declared.rehearsal.Stop.TheVariants as stops
 use Rattle.rehearse_endings.specs.Flow.{Node, Asks, Ends, next, behind, stands_at, goes_on, walk, numbered, asked_in, seen_of, IsFlow}
 use Rattle.rehearse_endings.specs.Futures.{came_log}
-use Rattle.rehearse_endings.specs.Drawing.{nodes_shown, seen_behind, seen_at, Draws, HasMore, words_in, renumbered}
+use Rattle.rehearse_endings.specs.Drawing.{node_shown, nodes_shown, seen_behind, seen_at, Draws, HasMore, words_in, renumbered}
 use Rattle.rehearse_endings.specs.Searching.{future, seen_from, IsReached, AreEntries}
 use Rattle.rehearse_endings.specs.declared.flow.Flow.{Flow}
+use Rattle.rehearse_endings.specs.declared.flow.Node as rt
 use Rattle.rehearse_endings.specs.declared.table.Table.{Table}
 use Rattle.rehearse_endings.proofs.AskingCommandLemmas.{asks_anew}
 use Rattle.rehearse_endings.proofs.DrawingLemmas.{draws_on, end_drawn, words_logged, asks_drawn}
@@ -77,6 +80,16 @@ more_nodes a b c more e f = (more, f ∙ e)
 
 pub no_more : (a b : List Node) → b ≡ a → HasMore a b
 no_more a b e = ([], e ∙ sym (append-nil a))
+
+-- a node that was made last
+pub last_made : (old asked new : Vec rt.Node Global) (node : Node) (place kept : ℕ) → place ≡ length old.items → nodes_shown asked ≡ nodes_shown old ++ node ∷ [] → new ≡ asked → kept ≡ place → kept + 1 ≡ length new.items
+last_made old asked new node place kept at made_so same kept_at =
+    let a = ap length made_so in
+    let b = length-append (nodes_shown old) (node ∷ []) in
+    let c = length-map asked.items node_shown in
+    let d = length-map old.items node_shown in
+    let e = ap (λ (v : Vec rt.Node Global). length v.items) same in
+    omega (arith, a, b, c, d, e, at, kept_at)
 
 -- the entries of a table, when a state is entered
 pub entered_as : (limits : Limits) (old new : Table) → new.entries.items ≡ old.entries.items → new.flow ≡ old.flow → AreEntries limits (nodes_shown old.flow.nodes) old.entries.items → AreEntries limits (nodes_shown new.flow.nodes) new.entries.items

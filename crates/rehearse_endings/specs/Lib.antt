@@ -8,6 +8,7 @@ pub mod Cores
 pub mod RowsShown
 pub mod Searching
 pub mod States
+pub mod Searched
 pub mod EndingLines
 pub mod TellingEndings
 pub mod Laws

@@ -1,15 +1,16 @@
 //! The search through the states in which device commands ask.
-ghost use Rattle.std.specs.Prelude.{◌≡◌, ◌+◌, ◌*◌, ◌≤◌, ◌<◌, ◌^◌, List, [], length, map, IfOk, IfErr, OnOk};
+ghost use Rattle.std.specs.Prelude.{◌≡◌, ◌+◌, ◌*◌, ◌≤◌, ◌<◌, ◌^◌, List, length, map, IfOk, IfErr};
 ghost use Rattle.rehearse.specs.Bounds.{most_steps};
 ghost use Rattle.rehearse.specs.Outcomes.{OutcomeWord};
 ghost use Rattle.rehearse_machine.specs.Tasks.{task_in};
 ghost use Rattle.rehearse_runs.specs.Searching.{StoppedAt};
-ghost use Rattle.rehearse_endings.specs.RowsShown.{Summed, summary_shown, rows_shown, saturated};
+ghost use Rattle.rehearse_endings.specs.RowsShown.{rows_shown, saturated};
 ghost use Rattle.rehearse_endings.specs.Endings.{endings};
 ghost use Rattle.rehearse_endings.specs.Flow.{IsFlow};
-ghost use Rattle.rehearse_endings.specs.Drawing.{Draws, HasMore, nodes_shown};
-ghost use Rattle.rehearse_endings.specs.Searching.{future, seen_from, IsReached, AreEntries};
-ghost use Rattle.rehearse_endings.specs.States.{Asked, HasStates, Entered, IsNewAt, HasEntered};
+ghost use Rattle.rehearse_endings.specs.Drawing.{nodes_shown};
+ghost use Rattle.rehearse_endings.specs.Searching.{IsReached, AreEntries};
+ghost use Rattle.rehearse_endings.specs.States.{Asked, HasStates, Entered, IsNewAt};
+ghost use Rattle.rehearse_endings.specs.Searched.{IsSearched};
 ghost use Rattle.rehearse_endings.specs.declared.sum_error.SumError.TheVariants.{States};
 
 use crate::flow::{Node, words_at};
@@ -58,28 +59,8 @@ fn summed<S: Store>(
     requires bound { (task_in rehearsal.now).limits.device_bound < 2 ^ 32 }
     requires begun { (S.record_of store.old).begun ≤ (2 * table.old.visited + 1) * most_steps }
     requires room { table.old.visited ≤ table.old.most }
-    ensures sums { IfOk result
-        (λ s. Summed (future (task_in rehearsal.now).limits stop (S.record_of store.old).present)
-        (summary_shown s)) }
-    ensures draws { IfOk result
-        (λ s. Draws (nodes_shown table.new.flow.nodes) s.place
-        (seen_from (task_in rehearsal.now).limits stop (S.record_of store.old).present)) }
-    ensures grows { OnOk result
-        (HasMore (nodes_shown table.old.flow.nodes) (nodes_shown table.new.flow.nodes)) }
-    ensures last { IfOk result (λ s. table.old.entries.items ≡ [] → table.old.flow.nodes.items ≡ []
-        → s.place + 1 ≡ length table.new.flow.nodes.items) }
-    ensures marks { OnOk result ((S.record_of store.new).marked ≡ (S.record_of store.old).marked) }
-    ensures table { OnOk result
-        (AreEntries (task_in rehearsal.now).limits (nodes_shown table.new.flow.nodes)
-        table.new.entries.items) }
-    ensures begun { OnOk result ((S.record_of store.new).begun + 2 * table.old.visited * most_steps
-        ≤ (S.record_of store.old).begun + 2 * table.new.visited * most_steps) }
-    ensures room { OnOk result (table.new.visited ≤ table.new.most) }
-    ensures most { OnOk result (table.new.most ≡ table.old.most) }
-    ensures entered { (p : OutcomeWord) (kept pending : List Asked)
-        → StoppedAt (task_in rehearsal.now) p stop (S.record_of store.old).present
-        → IsNewAt p kept pending → Entered (task_in rehearsal.now) kept pending table.old
-        → OnOk result (HasEntered (task_in rehearsal.now) p kept pending table.new) }
+    ensures searched { IfOk result (λ s. IsSearched (task_in rehearsal.now) stop
+        (S.record_of store.old) (S.record_of store.new) table.old table.new s) }
     ensures refused { (p : OutcomeWord) (kept pending : List Asked)
         → StoppedAt (task_in rehearsal.now) p stop (S.record_of store.old).present
         → IsNewAt p kept pending → Entered (task_in rehearsal.now) kept pending table.old

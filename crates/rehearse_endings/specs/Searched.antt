@@ -1,0 +1,27 @@
+-- What a search from a text that has stopped comes to. Ours.
+use Rattle.std.specs.Prelude.{◌≡◌, ◌+◌, ◌*◌, ◌≤◌, List, [], length}
+use Rattle.bootstore.specs.Record.{Record}
+use Rattle.rehearse.specs.Bounds.{most_steps}
+use Rattle.rehearse.specs.Outcomes.{OutcomeWord}
+use Rattle.rehearse.specs.Runs.{Task}
+use Rattle.rehearse_machine.specs.declared.rehearsal.Stop.{Stop}
+use Rattle.rehearse_runs.specs.Searching.{StoppedAt}
+use Rattle.rehearse_endings.specs.Drawing.{Draws, HasMore, nodes_shown}
+use Rattle.rehearse_endings.specs.RowsShown.{Summed, summary_shown}
+use Rattle.rehearse_endings.specs.Searching.{future, seen_from, AreEntries}
+use Rattle.rehearse_endings.specs.States.{Asked, Entered, IsNewAt, HasEntered}
+use Rattle.rehearse_endings.specs.declared.summary.Summary.{Summary}
+use Rattle.rehearse_endings.specs.declared.table.Table.{Table}
+
+-- everything after the stop is searched: the summary says what is to come, and the table has what was entered
+pub record IsSearched (task : Task) (stop : Stop) (old new : Record) (before after : Table) (s : Summary) : Type 0 where
+  pub sums : Summed (future task.limits stop old.present) (summary_shown s)
+  pub draws : Draws (nodes_shown after.flow.nodes) s.place (seen_from task.limits stop old.present)
+  pub grows : HasMore (nodes_shown before.flow.nodes) (nodes_shown after.flow.nodes)
+  pub last : before.entries.items ≡ [] → before.flow.nodes.items ≡ [] → s.place + 1 ≡ length after.flow.nodes.items
+  pub marks : new.marked ≡ old.marked
+  pub table : AreEntries task.limits (nodes_shown after.flow.nodes) after.entries.items
+  pub begun : new.begun + 2 * before.visited * most_steps ≤ old.begun + 2 * after.visited * most_steps
+  pub room : after.visited ≤ after.most
+  pub most : after.most ≡ before.most
+  pub entered : (p : OutcomeWord) (kept pending : List Asked) → StoppedAt task p stop old.present → IsNewAt p kept pending → Entered task kept pending before → HasEntered task p kept pending after
