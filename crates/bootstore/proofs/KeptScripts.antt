@@ -10,7 +10,7 @@ use Rattle.std.specs.declared.alloc.Global.{Global}
 use Rattle.std.specs.declared.rc.Rc.{Rc}
 use Rattle.std.specs.declared.vec.Vec.{Vec}
 use Rattle.hushlang.specs.declared.tree.Script.{Script as Code}
-use Rattle.rehearse.specs.Trees.{tree_of}
+use Rattle.hushlang.specs.Trees.{tree_of}
 use Rattle.bootstore.specs.Moment.{Bytes}
 use Rattle.bootstore.specs.Scripts.{AreOfTexts, script_shown}
 use Rattle.bootstore.specs.Table.{is_name}

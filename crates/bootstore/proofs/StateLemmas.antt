@@ -11,7 +11,7 @@ use Rattle.std.proofs.lemmas.Cmp.{nat_list_cmp_total}
 use Rattle.std.specs.Cmp.Lexicographic.{slice_cmp}
 use Rattle.std.proofs.lemmas.List.{nil_from_length}
 use Rattle.bootstore.specs.Moment as stored
-use Rattle.rehearse.specs.State.{Text, Variables, without}
+use Rattle.rehearse_terms.specs.State.{Text, Variables, without}
 use Rattle.bootstore.specs.StoredState.{StoredValues, StoredChanges, StoredDeletions, StoredStarts}
 
 abbrev by_bytes : Text → Text → Ordering

@@ -8,7 +8,7 @@ use Rattle.hushlang.specs.Tree.{Empty}
 use Rattle.bootstore.specs.declared.frame.At.{At}
 use Rattle.bootstore.specs.declared.frame.FrameKind.TheVariants.{Text}
 use Rattle.bootstore.specs.Moment.{RunningFrame}
-use Rattle.rehearse.specs.State.{LoggedCommand, answer_in}
+use Rattle.rehearse_terms.specs.State.{LoggedCommand, answer_in}
 use Rattle.bootstore.specs.Record.{Record, fresh, started, stepped, changed, with_environment, with_status, with_echo, with_device, with_frame, with_place, without_frame, with_mark, gone_back}
 
 abbrev start_place : At

@@ -20,7 +20,7 @@ use Rattle.bootstore.specs.declared.present.Scope.{Scope}
 use Rattle.bootstore.specs.declared.present.Scope.TheVariants.{Environment, Local}
 use Rattle.bootstore.specs.declared.frame.At.{At}
 use Rattle.bootstore.specs.Moment.{Bytes, Moment, RunningFrame}
-use Rattle.rehearse.specs.State.{LoggedCommand}
+use Rattle.rehearse_terms.specs.State.{LoggedCommand}
 use Rattle.text.specs.TextsShown.{option_bytes}
 use Rattle.bootstore.specs.Record.{Record, assigned, moved, without_first, with_place, without_frame, with_frame, with_echo, with_device}
 use Rattle.bootstore.specs.Present.{moment_of, chosen, table_of, with_table, with_variable}

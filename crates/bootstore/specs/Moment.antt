@@ -13,7 +13,7 @@ use Rattle.bootstore.specs.contracts.frame.FrameKind as kind_type
 use Rattle.bootstore.specs.contracts.frame.At as at_type
 use Rattle.text.specs.TextsShown.{bytes_of_words}
 use Rattle.hushlang.specs.Tree.{Script}
-use Rattle.rehearse.specs.State.{LoggedCommand}
+use Rattle.rehearse_terms.specs.State.{LoggedCommand}
 use Rattle.bootstore.specs.declared.frame.FrameKind.{FrameKind}
 use Rattle.bootstore.specs.declared.frame.At.{At}
 

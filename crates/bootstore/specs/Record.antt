@@ -4,7 +4,7 @@
 use Rattle.std.specs.Prelude.{ℕ, ◌+◌, List, [], ◌∷◌, ◌++◌, Option, Some, None}
 use Rattle.std.specs.FinMap.{empty, insert, remove}
 use Rattle.bootstore.specs.declared.frame.At.{At}
-use Rattle.rehearse.specs.State.{LoggedCommand}
+use Rattle.rehearse_terms.specs.State.{LoggedCommand}
 use Rattle.bootstore.specs.Moment.{Bytes, Variables, RunningFrame, Moment}
 
 -- the present moment; the marked ones, the last first; and how many steps were ever begun

@@ -8,7 +8,7 @@ use Rattle.std.specs.declared.vec.Vec.{Vec}
 use Rattle.hushlang.specs.Tree.{Script}
 use Rattle.hushlang.specs.TreesShown as view
 use Rattle.hushlang.specs.declared.tree.Script.{Script as Code}
-use Rattle.rehearse.specs.Trees.{tree_of}
+use Rattle.hushlang.specs.Trees.{tree_of}
 use Rattle.bootstore.specs.ScriptCode.{coded_script}
 use Rattle.bootstore.specs.declared.scripts.TextFound.{TextFound}
 use Rattle.bootstore.specs.declared.scripts.TextFound.TheVariants as found

@@ -2,8 +2,8 @@
 use Rattle.std.specs.Prelude.{◌≡◌}
 use Rattle.std.specs.FinMap as finite
 use Rattle.std.specs.FinMap.{entries}
-use Rattle.rehearse.specs.Outcomes.{OutcomeWord}
-use Rattle.rehearse.specs.State.{Text, get, with_value, without, State, start}
+use Rattle.rehearse_terms.specs.Outcomes.{OutcomeWord}
+use Rattle.rehearse_terms.specs.State.{Text, get, with_value, without, State, start}
 use Rattle.bootstore.specs.Moment.{Moment, Variables}
 use Rattle.bootstore.specs.Record.{beginning}
 

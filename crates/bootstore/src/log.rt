@@ -18,7 +18,7 @@ pub struct LogEntry {
 }
 
 impl Model for LogEntry {
-    ghost use Rattle.rehearse.specs.State.{LoggedCommand};
+    ghost use Rattle.rehearse_terms.specs.State.{LoggedCommand};
     ghost use Rattle.text.specs.TextsShown.{bytes_of_words};
 
     ghost Value = { LoggedCommand };

@@ -2,7 +2,7 @@
 ghost use Rattle.std.specs.Prelude.{◌≡◌, ◌+◌, ◌≤◌, Some, IfOk, option_map};
 ghost use Rattle.std.specs.FinMap.{get};
 ghost use Rattle.hushlang.specs.TreesShown as view;
-ghost use Rattle.rehearse.specs.Trees.{tree_of};
+ghost use Rattle.hushlang.specs.Trees.{tree_of};
 ghost use Rattle.bootstore.specs.Scripts.{AreOfTexts, most_kept, one_proof, script_shown, text_found};
 ghost use Rattle.bootstore.specs.Table.{variables_of};
 

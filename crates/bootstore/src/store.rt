@@ -6,8 +6,8 @@ ghost use Rattle.text.specs.TextsShown.{option_bytes};
 ghost use Rattle.bootstore.specs.Present.{moment_of};
 ghost use Rattle.bootstore.specs.Record.{Record, fresh, started, stepped, with_mark, gone_back, changed, with_environment, with_local, with_echo, with_device, with_status, with_frame, with_place, without_frame};
 ghost use Rattle.bootstore.specs.Scripts.{text_found};
-ghost use Rattle.rehearse.specs.Bounds.{most_steps};
-ghost use Rattle.rehearse.specs.Trees.{tree_of};
+ghost use Rattle.rehearse_terms.specs.Bounds.{most_steps};
+ghost use Rattle.hushlang.specs.Trees.{tree_of};
 
 use crate::frame::{At, Frame};
 use crate::log::LogEntry;

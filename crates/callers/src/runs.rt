@@ -1,13 +1,14 @@
 //! A caller of `rehearse_runs`.
 ghost use Rattle.std.specs.Prelude.{◌≡◌, [], IfOk, true};
-ghost use Rattle.rehearse.specs.Outcomes.{Run};
+ghost use Rattle.rehearse_terms.specs.Outcomes.{Run};
 ghost use Rattle.rehearse.specs.Runs.{kind};
 ghost use Rattle.rehearse_machine.specs.Tasks.{task_shown};
 
 use bootstore::Trail;
 use envtools::Env;
-use rehearse::{Bounds, Devices};
+use rehearse::Devices;
 use rehearse_runs::{RehearseError, WordKind, try_word};
+use rehearse_terms::Bounds;
 use std::alloc::Global;
 
 /// Whether the script of a variable ends and no device command is asked: the empty word is then its only run.

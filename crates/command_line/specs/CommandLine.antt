@@ -4,10 +4,9 @@
 use Rattle.std.specs.Prelude.{ℕ, [], ◌∷◌, true, codes}
 use Rattle.clap.specs.Words.{App, Rule, Shape, Text, new_app}
 use Rattle.clap.specs.Simple.{on_top}
-use Rattle.command_line.specs.Arguments.{command, lettered_flag, lettered_option, long_option, many}
-use Rattle.command_line.specs.Arguments.{number_option, one, with_subcommands}
+use Rattle.command_line.specs.Arguments.{command, lettered_flag, lettered_option, long_option, many, number_option, one, with_subcommands}
 pub use Rattle.command_line.specs.Arguments.{long_flag}
-use Rattle.rehearse.specs.Bounds.{most_run_devices, most_steps}
+use Rattle.rehearse_terms.specs.Bounds.{most_run_devices, most_steps}
 
 -- the byte of a letter
 abbrev letter : Text → ℕ

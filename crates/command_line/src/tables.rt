@@ -4,7 +4,7 @@ use crate::argument::{Argument, Form};
 use crate::notes::{ENDINGS_NOTES, PRINTENV_NOTES, REHEARSE_NOTES, SETENV_NOTES};
 use crate::shared::{BIG_ENDIAN, CONFIG, DEVICE_LIST, NAMES};
 use crate::subcommand::Subcommand;
-use rehearse::{RUN_DEVICES_MAX, STEPS_MAX};
+use rehearse_terms::{RUN_DEVICES_MAX, STEPS_MAX};
 
 /// The most device commands that may fail in a run that is listed.
 pub const FAILURES_MAX: u32 = 32;

@@ -6,7 +6,7 @@ use Rattle.output.specs.Sink.{Sink}
 use Rattle.hushcheck.specs.Asked.{Asked}
 use Rattle.hushcheck.specs.Checking.{AreFound, ChecksFrom, ChecksText, FromFiles, Given, IsUnread, LeavesOutput, ReadsList, given_by, TellsAll, IsBadList, BreaksOff}
 use Rattle.hushcheck_core.specs.Names.{Text}
-use Rattle.rehearse_runs.specs.declared.rehearse_error.RehearseError.TheVariants as rehearsal
+use Rattle.rehearse.specs.declared.rehearse_error.RehearseError.TheVariants as rehearsal
 use Rattle.image_tools.specs.Errors.{tool_fault}
 use Rattle.image_tools.specs.declared.error.ToolError.{ToolError}
 use Rattle.image_tools.specs.declared.error.ToolError.TheVariants as tool
@@ -16,11 +16,11 @@ use Rattle.locked_files.proofs.OrderLemmas.{OnlyReads-one, OnlyReads-then}
 use Rattle.locked_files.specs.CallOrder.{OnlyReads}
 use Rattle.locked_files.specs.Told.{Stored, Told, file_at}
 use Rattle.locked_files.specs.declared.files.Action.TheVariants.{ReadAll}
-use Rattle.whole_program.proofs.ReadingLemmas.{found-reads}
-use Rattle.whole_program.proofs.SourceLemmas.{are-read}
-use Rattle.whole_program.specs.Images.{Copy, HasRead, ReadsImages}
-use Rattle.whole_program.specs.PrintingFiles.{FromImages}
-use Rattle.whole_program.specs.ReadingFiles.{IsTextFault}
+use Rattle.file_tools.proofs.ReadingLemmas.{found-reads}
+use Rattle.file_tools.proofs.SourceLemmas.{are-read}
+use Rattle.file_tools.specs.Images.{Copy, HasRead, ReadsImages}
+use Rattle.file_tools.specs.PrintingFiles.{FromImages}
+use Rattle.file_tools.specs.ReadingFiles.{IsTextFault}
 
 -- the bytes of a text, if there is one
 abbrev pub bytes_if : Option (Vec ℕ Global) → Option Text

@@ -11,17 +11,17 @@ use Rattle.hushcheck_core.specs.Report.{Checks, asked_names}
 use Rattle.hushcheck_core.specs.declared.checking.Report.{Report}
 use Rattle.rehearse.specs.DeviceList.{Devices, listed}
 use Rattle.rehearse.specs.declared.devices_error.DevicesError.{DevicesError}
-use Rattle.rehearse_runs.specs.declared.rehearse_error.RehearseError.TheVariants.{DeviceList}
+use Rattle.rehearse.specs.declared.rehearse_error.RehearseError.TheVariants.{DeviceList}
 use Rattle.locked_files.specs.CallOrder.{OnlyReads}
 use Rattle.locked_files.specs.Told.{Told}
 use Rattle.image_tools.specs.declared.error.ToolError.{ToolError}
 use Rattle.image_tools.specs.declared.error.ToolError.TheVariants.{Image, Memory, Rehearsal, Write}
 use Rattle.image_tools.specs.declared.fault.Fault.{Fault}
 use Rattle.image_tools.specs.declared.fault.Fault.TheVariants.{Tool}
-use Rattle.whole_program.specs.Images.{Copy, IsImagesFault}
-use Rattle.whole_program.specs.PrintingFiles.{FromImages, environment}
-use Rattle.whole_program.specs.ReadingFiles.{ReadsText}
-use Rattle.whole_program.specs.RehearsingFiles.{AreRead, IsUnlisted}
+use Rattle.file_tools.specs.Images.{Copy, IsImagesFault}
+use Rattle.file_tools.specs.PrintingFiles.{FromImages, environment}
+use Rattle.file_tools.specs.ReadingFiles.{ReadsText}
+use Rattle.file_tools.specs.Sources.{AreRead, IsUnlisted}
 
 -- ---- what is checked
 

@@ -8,9 +8,9 @@ use Rattle.locked_files.specs.Told.{IfTold, Told}
 use Rattle.requests.specs.declared.answer.Answer.{Answer}
 use Rattle.requests.specs.declared.answer.Answer.TheVariants.{Asks, Help, Version}
 use Rattle.image_tools.specs.declared.fault.Fault.{Fault}
-use Rattle.whole_program.specs.Builds.{version_line}
-use Rattle.whole_program.specs.declared.build.Build.{Build}
-use Rattle.whole_program.specs.Performing.{Shows}
+use Rattle.file_tools.specs.Builds.{version_line}
+use Rattle.file_tools.specs.declared.build.Build.{Build}
+use Rattle.file_tools.specs.Showing.{Shows}
 
 -- What a program of this build does for it, with the files before and after, and on the outputs. With status 0 each
 -- text is well-formed, each name that was asked for is set and the device list lacks no command, or the help or the

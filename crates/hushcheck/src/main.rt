@@ -8,11 +8,11 @@ mod texts;
 mod words;
 
 use crate::program::{PROGRAM, run_check};
+use file_tools::{Build, StartError, Telling, buffered, end, finish, words_of_call};
 use locked_files::Machine;
 use output::{Out, Over, write_all};
 use std::io;
 use std::process::ExitCode;
-use whole_program::{Build, StartError, Telling, buffered, end, finish, words_of_call};
 
 /// What this program is built for. A build for another processor, or with another kind of linking,
 /// has another word here.

@@ -4,19 +4,19 @@ ghost use Rattle.output.specs.Sink.{Sink};
 ghost use Rattle.hushcheck.specs.CommandAnswers.{Answers};
 ghost use Rattle.hushcheck.specs.Doing.{Does};
 ghost use Rattle.output.specs.Outputs.{outputs};
-ghost use Rattle.whole_program.specs.Faults.{CountsTold};
-ghost use Rattle.whole_program.specs.Running.{HasDone, HasRefused, IsMisused, files_shown};
+ghost use Rattle.file_tools.specs.Faults.{CountsTold};
+ghost use Rattle.file_tools.specs.Running.{HasDone, HasRefused, IsMisused, files_shown};
 
 use crate::ask::Ask;
 use crate::texts::check_files;
 use crate::words::read_words;
+use file_tools::{Build, refuse, show_help, show_version, status_of};
 use image_tools::Fault;
 use locked_files::Files;
 use output::Out;
 use requests::Answer;
 use std::alloc::Global;
 use std::convert::AsStr;
-use whole_program::{Build, refuse, show_help, show_version, status_of};
 
 /// The name before the report of a refusal.
 pub const PROGRAM: &str = "hushcheck";

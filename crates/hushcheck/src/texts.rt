@@ -4,19 +4,19 @@ ghost use Rattle.std.specs.Option.{option_copied};
 ghost use Rattle.hushcheck.specs.Asked.{asked_by};
 ghost use Rattle.hushcheck.specs.Checking.{ChecksFrom, ChecksText, IsReport, LeavesOutput, Lists, ReadsList, given, given_by, list_in};
 ghost use Rattle.locked_files.specs.Told.{IfTold};
-ghost use Rattle.whole_program.specs.Faults.{CountsTold};
-ghost use Rattle.whole_program.specs.Images.{copies};
+ghost use Rattle.file_tools.specs.Faults.{CountsTold};
+ghost use Rattle.file_tools.specs.Images.{copies};
 
 use crate::ask::CheckAsk;
 use envimage::ByteOrder;
 use envtools::Env;
+use file_tools::{Images, read_images, read_text, slices_of};
 use hushcheck_core::{Report, asked_names, check};
 use image_tools::{Fault, RehearseError, ToolError, env_of_image};
 use locked_files::Files;
 use output::{Out, write_all};
 use rehearse::{Devices, DevicesError};
 use std::alloc::Global;
-use whole_program::{Images, read_images, read_text, slices_of};
 
 /// The device list of a text, if there is one.
 fn list_of(alloc: Global, text: Option<&[u8]>) -> Result<Option<Devices>, ToolError>

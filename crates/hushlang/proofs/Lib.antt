@@ -34,3 +34,5 @@ pub mod KnownFieldLemmas
 pub mod Shortening
 pub mod ShortValues
 mod ExpansionExamples
+pub mod TreeLemmas
+pub mod ProperLemmas

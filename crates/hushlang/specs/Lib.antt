@@ -22,3 +22,5 @@ pub mod KnownFields
 pub mod Builtins
 pub mod BuiltinsShown
 pub mod Splitting
+pub mod Trees
+pub mod TreeLaws

@@ -8,7 +8,7 @@ use crate::cursor::Tokens;
 use crate::words::Reserved;
 
 /// Where a token is.
-#[derive(Clone, Copy, Debug, PartialEq, Eq)]
+#[derive(Clone, Copy, PartialEq, Eq)]
 enum Stand {
     /// A command may start here.
     Begins,

@@ -18,7 +18,7 @@ use std::marker::Model;
 /// What a lexer gives next: a token with the reserved word that it is, or what refuses the text, or
 /// neither at its end. Only this place looks for the reserved word, since the rules ask for it
 /// again and again.
-#[derive(Clone, Copy, Debug)]
+#[derive(Clone, Copy)]
 struct Ahead<'a> {
     token: Option<Token<'a>>,
     reserved: Option<Reserved>,

@@ -6,6 +6,7 @@ ghost use Rattle.hushlang.specs.Laws.{BlocksHoldCommands, BlocksAreClosed, EachP
 ghost use Rattle.hushlang.specs.Laws.{EachProducedScriptIsDerived, EachDerivedScriptIsProduced};
 ghost use Rattle.hushlang.specs.Laws.{RefusalsArePlaced, FaultsAreAnswered};
 ghost use Rattle.hushlang.specs.Laws.{PrefixIsViable, FewTokensComplete, EachTextIsBlocked, OneBlockedPlace};
+ghost use Rattle.hushlang.specs.TreeLaws.{TreesAreRead, RefusedTexts, TreesAreProper};
 
 /// A text spells at most one row of tokens: the computed one.
 pub fn spelled_once()
@@ -37,6 +38,13 @@ pub fn one_tree()
 /// A text has at most one tree.
 pub fn one_tree_of_text()
     ensures { OneTreeOfText }
+{}
+
+/// The tree by which a text is executed is the one that the language gives it.
+pub fn trees_are_read()
+    ensures read { TreesAreRead }
+    ensures refused { RefusedTexts }
+    ensures proper { TreesAreProper }
 {}
 
 /// Each condition and each body holds a command, and ends with a separator or a compound command.

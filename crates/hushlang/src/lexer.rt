@@ -34,7 +34,7 @@ impl<'a> Model for Lexer<'a> {
 }
 
 /// What is at a place of a text, and where it stops.
-#[derive(Clone, Copy, Debug)]
+#[derive(Clone, Copy)]
 enum Front {
     Gap(usize),
     Token(Kind, usize),

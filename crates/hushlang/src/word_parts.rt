@@ -12,7 +12,7 @@ use crate::token::SyntaxError;
 use std::marker::Model;
 
 /// Where a reader of parts is: outside quotes, or inside quotes that were opened at a place.
-#[derive(Clone, Copy, Debug, PartialEq, Eq)]
+#[derive(Clone, Copy, PartialEq, Eq)]
 pub enum Mode {
     /// Outside quotes.
     Bare,
@@ -23,7 +23,7 @@ pub enum Mode {
 }
 
 /// A part of a word.
-#[derive(Clone, Copy, Debug)]
+#[derive(Clone, Copy)]
 pub enum Part<'a> {
     /// A byte that is outside quotes and has no backslash.
     Plain(u8),
@@ -38,7 +38,7 @@ pub enum Part<'a> {
 }
 
 /// What a look at the start of a text finds.
-#[derive(Clone, Copy, Debug)]
+#[derive(Clone, Copy)]
 pub enum Step<'a> {
     /// A part made of a byte and this many after it; reading goes on in this mode.
     Part(Part<'a>, usize, Mode),

@@ -19,7 +19,7 @@ use crate::word_parts::{Part, Parts};
 use std::alloc::Global;
 
 /// The words that the grammar reserves at places where a command may start.
-#[derive(Clone, Copy, Debug, PartialEq, Eq)]
+#[derive(Clone, Copy, PartialEq, Eq)]
 pub enum Reserved {
     /// `if`
     If,

@@ -1,5 +1,4 @@
 pub mod InputLemmas
 pub mod PrintingLemmas
 pub mod SettingLemmas
-pub mod RehearsalLemmas
-pub mod EndingsLemmas
+pub mod ImageLemmas

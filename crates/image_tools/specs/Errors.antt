@@ -7,8 +7,8 @@ use Rattle.envtools.specs.declared.print.PrintDataError.{PrintDataError}
 use Rattle.envtools.specs.declared.print.PrintDataError.TheVariants as print
 use Rattle.envtools.specs.declared.script.ScriptError.{ScriptError}
 use Rattle.envtools.specs.declared.script.ScriptError.TheVariants as script
-use Rattle.rehearse_runs.specs.declared.rehearse_error.RehearseError.{RehearseError}
-use Rattle.rehearse_runs.specs.declared.rehearse_error.RehearseError.TheVariants as rehearsal
+use Rattle.rehearse.specs.declared.rehearse_error.RehearseError.{RehearseError}
+use Rattle.rehearse.specs.declared.rehearse_error.RehearseError.TheVariants as rehearsal
 use Rattle.image_tools.specs.declared.error.ToolError.{ToolError}
 use Rattle.image_tools.specs.declared.error.ToolError.TheVariants.{Image, Env, Script, Rehearsal, Write, Memory}
 use Rattle.image_tools.specs.declared.fault.Fault.{Fault}

@@ -1,9 +1,5 @@
 pub mod Errors
 pub mod Input
 pub mod PrintingImages
-pub mod Given
-pub mod Headline
-pub mod Refusing
-pub mod EndingsOfImages
 pub mod ChangingImages
 pub mod FileFaults

@@ -2,7 +2,7 @@
 
 use envimage::ImageError;
 use envtools::{EnvError, PrintDataError, PrintError, ScriptError};
-use rehearse_runs::RehearseError;
+use rehearse::RehearseError;
 use std::alloc::AllocError;
 use thiserror::Error;
 

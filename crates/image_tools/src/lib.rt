@@ -2,24 +2,18 @@
 #![tactic(auto)]
 
 mod change;
-mod endings;
 mod error;
 mod fault;
 mod image_env;
 mod print;
-mod rehearsal;
 mod standard_input;
 mod word_form;
 
 pub use change::{Edit, set_bytes};
-pub use endings::endings_bytes;
 pub use error::ToolError;
 pub use fault::{Fault, write_fault, write_fault_of};
 pub use image_env::env_of_image;
 pub use print::{PrintAsk, print_bytes};
-pub use rehearsal::rehearse_bytes;
-pub use rehearse::{Bounds, Page, RunBounds, Wanted};
-pub use rehearse_endings::EndingsAsk;
-pub use rehearse_runs::{Ask as RehearseAsk, Finish, RehearseError};
+pub use rehearse::RehearseError;
 pub use standard_input::run_input;
 pub use word_form::WordForm;

@@ -1,17 +1,17 @@
 -- No run goes past a bound, and none is cut before it.
 use Rattle.std.proofs.Common.{ℕ, zero, suc, Bool, true, false, List, [], ◌∷◌, length, Option, Some, None, refl, subst, ◌≡◌, ◌<◌, ◌≤◌, length-append, arith, ◌+◌, nat_lt, nat_le, nat_eq, ltb-true, ltb-false}
 use Rattle.hushlang.specs.Tree as tree
-use Rattle.hushlang.specs.Tree.{Script, AndOr, Joined, Command, Arms}
+use Rattle.hushlang.specs.Tree.{Script, AndOr, Joined, Command, Arms, IsProper, IsProperList, IsProperJoined, IsProperCommand, HasArm, AreProperArms, HoldsCommand}
 use Rattle.hushlang.specs.Expansion.{fields, joined, size, most_bytes}
-use Rattle.rehearse.specs.Outcomes.{OutcomeWord, Outcome, Success, Failure}
-use Rattle.rehearse.specs.Trees.{tree_of}
-use Rattle.rehearse.specs.State.{Text, get, State, start, parameters_in}
+use Rattle.rehearse_terms.specs.Outcomes.{OutcomeWord, Outcome, Success, Failure}
+use Rattle.hushlang.specs.Trees.{tree_of}
+use Rattle.rehearse_terms.specs.State.{Text, get, State, start}
+use Rattle.rehearse.specs.Parameters.{parameters_in}
 use Rattle.rehearse.specs.Verdict.{verdict}
 use Rattle.rehearse.specs.Commands.{Called, ChangesVariables, WritesText, RunsTexts, Tests, Exits, BuiltIn, Device, NoCommand, called_by, sets_in, asks_device, exit_status}
-use Rattle.hushlang.specs.Tree.{IsProper, IsProperList, IsProperJoined, IsProperCommand, HasArm, AreProperArms, HoldsCommand}
 use Rattle.rehearse.specs.Execution.{Limits, Answer, Normal, Exit, Ended, Dry, Ending, CutDevices, CutSteps, Syntax, Size, go_on, set_status, set_local, status_when, goes, holds, begin, take_outcome, with_outcome, outcome_when, told, told_again, tell_or_take, device, Request, test_effect, logged, set_environment, boot, text_end, run_text, run_all, command, simple, sized, assign, turns, for_each, exec_script, exec_list, exec_joined, exec_command, exec_arms, exec}
 use Rattle.rehearse.specs.Runs.{Task, run_on, state_of, steps}
-use Rattle.rehearse.proofs.ProperLemmas.{trees_are_proper}
+use Rattle.hushlang.proofs.ProperLemmas.{trees_are_proper}
 use Rattle.rehearse.proofs.GrowingSteps.{Grew, Grew-block}
 use Rattle.rehearse.proofs.TakenOutcomes.{Track, KeepsAll, Keeps-text, Keeps-script, Keeps-list, Keeps-one, Keeps-exec, Keeps-ended}
 

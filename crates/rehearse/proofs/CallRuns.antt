@@ -1,7 +1,7 @@
 -- Runs over a device list in the form before a command could be computed.
 use Rattle.std.proofs.Common.{◌≡◌, false, List, Option, Some, None, refl}
-use Rattle.rehearse.specs.Outcomes.{OutcomeWord, runs_within, few_of, after}
-use Rattle.rehearse.specs.State.{Text}
+use Rattle.rehearse_terms.specs.Outcomes.{OutcomeWord, runs_within, few_of, after}
+use Rattle.rehearse_terms.specs.State.{Text}
 use Rattle.rehearse.specs.Commands.{Device, NoCommand}
 use Rattle.rehearse.specs.DeviceList.{Effect, effect_of}
 use Rattle.rehearse.specs.Execution.{Answer, Ended, Unknown, command}

@@ -4,7 +4,7 @@ use Rattle.std.specs.Prelude.{nat_le, nat_lt}
 use Rattle.std.proofs.Math.Dec.{leb-zero, leb-suc-zero, leb-suc-suc}
 use Rattle.std.proofs.lemmas.List.{map-append, length-map}
 use Rattle.std.proofs.lemmas.List.Elements.{filter-append}
-use Rattle.rehearse.specs.Outcomes.{OutcomeWord, Outcome, Success, Failure, WordKind, Run, Short, Long, is_run_kind, words, failures, is_within, few_of, allows, one_less, turned, beyond, runs_within, first_run, first_from, IsChoice}
+use Rattle.rehearse_terms.specs.Outcomes.{OutcomeWord, Outcome, Success, Failure, WordKind, Run, Short, Long, is_run_kind, words, failures, is_within, few_of, allows, one_less, turned, beyond, runs_within, first_run, first_from, IsChoice}
 
 abbrev pub Kinds : Type 0
 Kinds = OutcomeWord → WordKind

@@ -1,7 +1,7 @@
 -- Worked examples, computed: what the words of computed calls come to, and what that does.
 use Rattle.std.proofs.Common.{◌≡◌, ℕ, List, [], ◌∷◌, Option, Some, None, codes, refl, false}
 use Rattle.std.specs.Fmt.{digits}
-use Rattle.rehearse.specs.State.{Text, Variables}
+use Rattle.rehearse_terms.specs.State.{Text, Variables}
 use Rattle.rehearse.specs.KnownCommands.{Env, Itest, SetExpr}
 use Rattle.rehearse.specs.Computed.{Computed, Gives, Exists, Sets, Deletes, SetsNumber, computes}
 use Rattle.rehearse.specs.Commands.{carried, called_by, Device, NoCommand}

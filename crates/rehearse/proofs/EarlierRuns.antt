@@ -4,8 +4,8 @@ use Rattle.std.specs.Map.{lookup}
 use Rattle.std.specs.Option.{option_map}
 use Rattle.std.specs.Str.{bytes_eq}
 use Rattle.hushlang.specs.Tree.{Script}
-use Rattle.rehearse.specs.Outcomes.{OutcomeWord, Success, Failure, runs_within, after}
-use Rattle.rehearse.specs.State.{Text, State}
+use Rattle.rehearse_terms.specs.Outcomes.{OutcomeWord, Success, Failure, runs_within, after}
+use Rattle.rehearse_terms.specs.State.{Text, State}
 use Rattle.rehearse.specs.Commands.{Device, NoCommand}
 use Rattle.rehearse.specs.DeviceList.{Effect, Devices, effect_in, only}
 use Rattle.rehearse.specs.EarlierList.{EarlierEffect, EarlierDevices, now_effect, now_effects}

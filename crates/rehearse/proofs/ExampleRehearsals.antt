@@ -2,9 +2,9 @@
 use Rattle.std.proofs.Common.{◌≡◌, ℕ, zero, suc, ◌&&◌, Bool, true, false, List, [], ◌∷◌, ◌++◌, Option, Some, None, codes, refl, ap, ◌∙◌, map, take}
 use Rattle.std.specs.Fmt.{digits}
 use Rattle.hushlang.specs.Expansion.{fields, joined, atoms}
-use Rattle.rehearse.specs.Outcomes.{OutcomeWord, WordKind, Run, Short, Long, is_run_kind, is_within, turned, first_run, first_from}
-use Rattle.rehearse.specs.Trees.{tree_of}
-use Rattle.rehearse.specs.State.{Text, Variables}
+use Rattle.rehearse_terms.specs.Outcomes.{OutcomeWord, WordKind, Run, Short, Long, is_run_kind, is_within, turned, first_run, first_from}
+use Rattle.hushlang.specs.Trees.{tree_of}
+use Rattle.rehearse_terms.specs.State.{Text, Variables}
 use Rattle.rehearse.specs.DeviceList.{Devices, only}
 use Rattle.rehearse.specs.Execution.{Limits, Ending, End}
 use Rattle.rehearse.specs.DeviceLaws.{quiet}
@@ -19,6 +19,10 @@ only_load = only ((codes "load", quiet) ∷ [])
 abbrev pub limits : Devices → ℕ → ℕ → Limits
 limits devices device_bound step_bound = record { devices = devices; device_bound = device_bound; step_bound = step_bound }
 
+-- only `load` is listed, and both bounds are the usual ones
+abbrev pub usual : Limits
+usual = limits only_load 16 10000
+
 -- the rehearsal of a text as `bootcmd`, among other variables, which come before and after it in byte order
 abbrev pub bootcmd_among : Limits → Variables → Text → Task
 bootcmd_among s environment text = record { limits = s; environment = environment; name = codes "bootcmd"; text = text; failures = None }
@@ -29,6 +33,10 @@ bootcmd s text = bootcmd_among s ((codes "bootcmd", text) ∷ []) text
 -- a name that is not set
 abbrev pub z : List Text
 z = codes "z" ∷ []
+
+-- the listing of a run that is cut before it asks a device command
+abbrev pub cut_listing : Text
+cut_listing = codes "run .\nunset z\ncut steps\ndone\n"
 
 -- the whole listing
 unfoldable pub listed : Task → List Text → Option ℕ → Text

@@ -3,7 +3,7 @@ use Rattle.std.proofs.Common.{◌≡◌, ℕ, zero, suc, ◌+◌, ◌*◌, ◌^�
 use Rattle.std.proofs.Math.Dec.{leb-zero, leb-suc-suc}
 use Rattle.std.proofs.Math.Nat.{mul-le-mul, mul-le-mul_right, mul-suc, one-le-pow, pow-suc, pow-zero}
 use Rattle.std.proofs.lemmas.Bool.{le-leb, leb-true}
-use Rattle.rehearse.specs.Outcomes.{OutcomeWord, Success, Failure, Run, failures, is_within, few_of, allows, one_less, is_run_kind, words, IsChoice, first_run, beyond}
+use Rattle.rehearse_terms.specs.Outcomes.{OutcomeWord, Success, Failure, Run, failures, is_within, few_of, allows, one_less, is_run_kind, words, IsChoice, first_run, beyond}
 use Rattle.rehearse.specs.Runs.{Task, kind, all_runs, runs, rest, IsListed}
 use Rattle.rehearse.specs.Laws.{failing}
 use Rattle.rehearse.proofs.ChoiceTreeLemmas.{Kinds, few_within, few_here, few_beyond-length}

@@ -1,10 +1,10 @@
 -- A command begins a step, and so does each block: the steps only grow.
 use Rattle.std.proofs.Common.{ℕ, zero, suc, Bool, true, false, ◌<◌, ◌≤◌, arith, nat_lt, nat_eq}
 use Rattle.hushlang.specs.Tree as tree
-use Rattle.hushlang.specs.Tree.{Script, AndOr, Command, Arms}
+use Rattle.hushlang.specs.Tree.{Script, AndOr, Command, Arms, IsProperList, IsProperCommand, HasArm, HoldsCommand}
 use Rattle.hushlang.specs.Expansion.{fields}
-use Rattle.rehearse.specs.State.{State, parameters_in}
-use Rattle.hushlang.specs.Tree.{IsProperList, IsProperCommand, HasArm, HoldsCommand}
+use Rattle.rehearse_terms.specs.State.{State}
+use Rattle.rehearse.specs.Parameters.{parameters_in}
 use Rattle.rehearse.specs.Execution.{Limits, Answer, Normal, Exit, Ended, Dry, CutSteps, go_on, simple, sized, assign, turns, for_each, exec_script, exec_list, exec_joined, exec_command, exec_arms}
 use Rattle.rehearse.proofs.TakenOutcomes.{Track, Keeps, KeepsAll, Keeps-sized, Keeps-simple, Keeps-assign, Keeps-for, Keeps-if, Keeps-turns, after_condition, Keeps-after_condition, Keeps-script, Keeps-joined, Keeps-arms}
 

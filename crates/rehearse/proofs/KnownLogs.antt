@@ -11,10 +11,11 @@ use Rattle.rehearse.specs.DeviceList.{Effect, computed_by, effect_of}
 use Rattle.rehearse.specs.Execution.{Limits, Answer, Normal, Exit, Ended, Dry, CutDevices, CutSteps, Syntax, Size, Request, go_on, set_status, set_local, status_when, goes, holds, begin, take_outcome, device, test_effect, logged, set_environment, boot, text_end, run_text, run_all, command, simple, sized, assign, turns, for_each, exec_script, exec_list, exec_joined, exec_command, exec_arms, exec}
 use Rattle.rehearse.specs.KnownExecution.{KnownLogIsWord}
 use Rattle.rehearse.specs.KnownList.{AskEachTime}
-use Rattle.rehearse.specs.Outcomes.{OutcomeWord, Success, Failure}
+use Rattle.rehearse_terms.specs.Outcomes.{OutcomeWord, Success, Failure}
 use Rattle.rehearse.specs.Runs.{run_on, state_of}
-use Rattle.rehearse.specs.State.{Text, get, LoggedCommand, State, asked_of, parameters_in, start}
-use Rattle.rehearse.specs.Trees.{tree_of}
+use Rattle.rehearse_terms.specs.State.{Text, get, LoggedCommand, State, asked_of, start}
+use Rattle.rehearse.specs.Parameters.{parameters_in}
+use Rattle.hushlang.specs.Trees.{tree_of}
 use Rattle.rehearse.specs.Verdict.{verdict}
 use Rattle.rehearse.proofs.GivenRuns.{asks_anew}
 use Rattle.rehearse.proofs.KnownLists.{known_lists_ask}

@@ -1,7 +1,7 @@
 -- Runs over a device list in the form before a command could be steady.
 use Rattle.std.proofs.Common.{◌≡◌, List, Option, Some, None, refl}
-use Rattle.rehearse.specs.Outcomes.{OutcomeWord, runs_within, few_of, after}
-use Rattle.rehearse.specs.State.{Text}
+use Rattle.rehearse_terms.specs.Outcomes.{OutcomeWord, runs_within, few_of, after}
+use Rattle.rehearse_terms.specs.State.{Text}
 use Rattle.rehearse.specs.Computed.{Computed}
 use Rattle.rehearse.specs.Commands.{BuiltIn, ChangesVariables, carried, changed_by, listed_by}
 use Rattle.rehearse.specs.DeviceList.{computed_by}

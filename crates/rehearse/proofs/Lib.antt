@@ -1,5 +1,3 @@
-pub mod TreeLemmas
-pub mod ProperLemmas
 pub mod ChoiceTreeLemmas
 pub mod NextRunLemmas
 pub mod TakenOutcomes
@@ -14,11 +12,6 @@ pub mod WholeRecordLemmas
 pub mod RecordLines
 pub mod ResumedLemmas
 pub mod ExampleRehearsals
-mod ListingExamples
-mod ExecutionExamples
-mod BootingExamples
-mod SteadyExamples
-mod ResumingExamples
 pub mod DeviceLemmas
 pub mod ComputedLemmas
 mod DeviceListExamples
@@ -36,12 +29,6 @@ pub mod EarlierRuns
 pub mod CallRuns
 pub mod KnownRuns
 pub mod KnownLogs
-mod PlainExecutionExamples
 pub mod VerdictLemmas
 mod VerdictExamples
-mod ListedExamples
 mod ComputedExamples
-mod RunningExamples
-mod EdgeExamples
-mod BoundExamples
-mod FailuresExamples

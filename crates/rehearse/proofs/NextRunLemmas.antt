@@ -3,7 +3,7 @@ use Rattle.std.proofs.Common.{ℕ, zero, suc, Bool, true, false, cond, List, [],
 use Rattle.std.specs.Prelude.{⊤}
 use Rattle.std.proofs.Math.Dec.{leb-zero, leb-suc-suc}
 use Rattle.std.proofs.lemmas.Bool.{false≢true}
-use Rattle.rehearse.specs.Outcomes.{OutcomeWord, Outcome, Success, Failure, Run, Long, is_within, allows, one_less, word_eq, comes_before, after, common_prefix, Short, turned, has_success, beyond, first_run, first_from, IsChoice}
+use Rattle.rehearse_terms.specs.Outcomes.{OutcomeWord, Outcome, Success, Failure, Run, Long, is_within, allows, one_less, word_eq, comes_before, after, common_prefix, Short, turned, has_success, beyond, first_run, first_from, IsChoice}
 use Rattle.rehearse.proofs.OrderOfWords.{AreOrdered, Before, few_ordered}
 use Rattle.rehearse.proofs.ChoiceTreeLemmas.{Kinds, few_within, next_run, IsFollowed, followed_by, begins_with_first}
 

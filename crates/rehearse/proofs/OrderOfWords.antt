@@ -1,6 +1,6 @@
 -- The runs are in dictionary order.
 use Rattle.std.proofs.Common.{◌≡◌, ℕ, zero, suc, Bool, true, false, cond, List, [], ◌∷◌, ◌++◌, map, filter, Option, refl, sym, ◌∙◌, subst}
-use Rattle.rehearse.specs.Outcomes.{OutcomeWord, Outcome, Success, Failure, words, comes_before, is_run_kind, is_within, runs_within}
+use Rattle.rehearse_terms.specs.Outcomes.{OutcomeWord, Outcome, Success, Failure, words, comes_before, is_run_kind, is_within, runs_within}
 use Rattle.rehearse.specs.Runs.{Task, kind, all_runs, runs}
 use Rattle.rehearse.proofs.ChoiceTreeLemmas.{Kinds, few-is, few_within}
 

@@ -3,8 +3,8 @@ use Rattle.std.proofs.Common.{ℕ, zero, suc, Bool, true, false, List, [], ◌�
 use Rattle.std.specs.Prelude.{⊤}
 use Rattle.std.proofs.lemmas.List.{append_cancel_right}
 use Rattle.std.proofs.lemmas.List.Concat.{flat_map-append}
-use Rattle.rehearse.specs.Outcomes.{OutcomeWord, Success, Failure, after}
-use Rattle.rehearse.specs.State.{Text}
+use Rattle.rehearse_terms.specs.Outcomes.{OutcomeWord, Success, Failure, after}
+use Rattle.rehearse_terms.specs.State.{Text}
 use Rattle.rehearse.specs.Listing.{listing, record_of, line, last_of, spelled, outcome_digit}
 use Rattle.rehearse.specs.Runs.{Task, runs, rest}
 use Rattle.rehearse.proofs.NextRunLemmas.{AreDistinct, after_in, after_ends}

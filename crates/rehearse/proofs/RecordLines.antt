@@ -3,8 +3,8 @@ use Rattle.std.proofs.Common.{ℕ, zero, suc, Bool, true, false, cond, List, [],
 use Rattle.std.specs.Prelude.{⊤}
 use Rattle.std.specs.List.{join_with_byte}
 use Rattle.std.specs.Fmt.{digits, digits_onto, digit_glyph}
-use Rattle.rehearse.specs.Outcomes.{OutcomeWord, Success, Failure}
-use Rattle.rehearse.specs.State.{Text, Variables, get, State, LoggedCommand}
+use Rattle.rehearse_terms.specs.Outcomes.{OutcomeWord, Success, Failure}
+use Rattle.rehearse_terms.specs.State.{Text, Variables, get, State, LoggedCommand}
 use Rattle.rehearse.specs.Execution.{Ending, End, CutDevices, CutSteps, Unknown, Syntax, Size, Booted}
 use Rattle.text.specs.Escapes.{hex_digit, escaped, text_form, word_escaped, word_form}
 use Rattle.rehearse.specs.Listing.{digit_when, outcome_digit, spelled, line, device_line, text_lines, variable_line, asked_line, variable_lines, last_line, inner_lines, record_lines}

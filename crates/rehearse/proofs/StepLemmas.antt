@@ -1,7 +1,7 @@
 -- The steps that are begun before a device command asks are steps of each word that continues from there.
 use Rattle.std.proofs.Common.{[], ◌∷◌, ◌++◌, refl, sym, ap, subst, ◌≡◌, ◌≤◌, arith}
-use Rattle.rehearse.specs.Outcomes.{OutcomeWord, Success, Failure, common_prefix}
-use Rattle.rehearse.specs.State.{start}
+use Rattle.rehearse_terms.specs.Outcomes.{OutcomeWord, Success, Failure, common_prefix}
+use Rattle.rehearse_terms.specs.State.{start}
 use Rattle.rehearse.specs.Execution.{Answer, Normal, Exit, Ended, Dry}
 use Rattle.rehearse.specs.Runs.{Task, run_on, state_of, steps, asked}
 use Rattle.rehearse.proofs.TakenOutcomes.{Extends}

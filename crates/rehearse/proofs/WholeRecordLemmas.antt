@@ -3,8 +3,8 @@ use Rattle.std.proofs.Common.{ℕ, zero, suc, Bool, true, false, List, [], ◌�
 use Rattle.std.proofs.lemmas.List.Concat.{flat_map-append}
 use Rattle.std.specs.List.{starts_with}
 use Rattle.std.proofs.lemmas.Bool.{and_parts, and_from, and_right}
-use Rattle.rehearse.specs.Outcomes.{OutcomeWord}
-use Rattle.rehearse.specs.State.{Text}
+use Rattle.rehearse_terms.specs.Outcomes.{OutcomeWord}
+use Rattle.rehearse_terms.specs.State.{Text}
 use Rattle.rehearse.specs.Listing.{listing, line}
 use Rattle.rehearse.specs.Resuming.{whole, next_text}
 

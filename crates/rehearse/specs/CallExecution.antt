@@ -1,8 +1,8 @@
 -- Execution as it was when no command was computed (CallList.antt): a command that is not built in goes by the device list
 -- alone. All that it does not define is that of Execution.antt, over the tree as in GivenExecution.antt. Ours.
 use Rattle.std.specs.Prelude.{◌≡◌, ℕ, false, List, Option, Some, None, Ok}
-use Rattle.rehearse.specs.Outcomes.{OutcomeWord, runs_within, few_of, after}
-use Rattle.rehearse.specs.State.{Text, State}
+use Rattle.rehearse_terms.specs.Outcomes.{OutcomeWord, runs_within, few_of, after}
+use Rattle.rehearse_terms.specs.State.{Text, State}
 use Rattle.rehearse.specs.DeviceList.{effect_of}
 use Rattle.rehearse.specs.CallList.{call_listed}
 use Rattle.rehearse.specs.Execution.{Answer, Ended, Unknown}

@@ -7,8 +7,8 @@ use Rattle.text.specs.Bytes as ascii
 use Rattle.hushlang.specs.Builtins.{Builtin, SetEnv, Run, Test, Echo, True, False, Leave, builtin_of}
 use Rattle.rehearse.specs.Computed.{Computed, Gives, Exists, Sets, Deletes, SetsNumber}
 use Rattle.rehearse.specs.DeviceList.{LeftSide, Variable, WordAt, LastWord, Setting, Effect, Devices, effect_of, computed_by}
-use Rattle.rehearse.specs.State.{Text, Variables, Memory, get, with_value, without}
-pub use Rattle.rehearse.specs.State.{is_bad_name}
+use Rattle.rehearse_terms.specs.State.{Text, Variables, Memory, get, with_value, without}
+pub use Rattle.rehearse_terms.specs.State.{is_bad_name}
 
 -- what a built-in command does with its words
 pub data Deed : Type 0 where

@@ -10,7 +10,7 @@ use Rattle.text.specs.Bytes as ascii
 use Rattle.rehearse.specs.Verdict.{Text}
 use Rattle.rehearse.specs.KnownCommands.{Known, Env, Itest, SetExpr}
 use Rattle.rehearse.specs.Hexadecimal.{in_word, hexadecimal}
-use Rattle.rehearse.specs.State.{is_bad_name}
+use Rattle.rehearse_terms.specs.State.{is_bad_name}
 
 -- what the words of a call come to: `carried` in Commands.antt says what each does to the variables
 pub data Computed : Type 0 where

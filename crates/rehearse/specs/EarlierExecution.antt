@@ -4,8 +4,8 @@
 use Rattle.std.specs.Prelude.{◌≡◌, ℕ, nat_lt, true, false, List, [], ◌∷◌, ◌++◌, length, Option, Some, None, Ok}
 use Rattle.std.specs.Map.{lookup}
 use Rattle.std.specs.Str.{bytes_eq}
-use Rattle.rehearse.specs.Outcomes.{Outcome, Success, Failure, OutcomeWord, runs_within, after}
-use Rattle.rehearse.specs.State.{Text, Variables, State}
+use Rattle.rehearse_terms.specs.Outcomes.{Outcome, Success, Failure, OutcomeWord, runs_within, after}
+use Rattle.rehearse_terms.specs.State.{Text, Variables, State}
 use Rattle.rehearse.specs.DeviceList.{Devices, only, listed}
 use Rattle.rehearse.specs.EarlierList.{EarlierEffect, EarlierDevices, earlier_listed}
 use Rattle.rehearse.specs.Execution.{Limits, Answer, Normal, Ended, Dry, CutDevices, Unknown, set_status, status_when, succeeds, set_environment, boot}

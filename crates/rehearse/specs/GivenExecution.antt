@@ -4,8 +4,9 @@ use Rattle.std.specs.Prelude.{ℕ, zero, suc, nat_lt, nat_eq, true, false, List,
 use Rattle.hushlang.specs.Tree as tree
 use Rattle.hushlang.specs.Tree.{Script, AndOr, Joined, Command, Arms}
 use Rattle.hushlang.specs.Expansion.{fields}
-use Rattle.rehearse.specs.Outcomes.{OutcomeWord}
-use Rattle.rehearse.specs.State.{Text, Variables, State, start, parameters_in}
+use Rattle.rehearse_terms.specs.Outcomes.{OutcomeWord}
+use Rattle.rehearse_terms.specs.State.{Text, Variables, State, start}
+use Rattle.rehearse.specs.Parameters.{parameters_in}
 use Rattle.hushlang.specs.Builtins.{builtin_of}
 use Rattle.rehearse.specs.Verdict.{verdict}
 use Rattle.rehearse.specs.Commands.{Deed, Tests, BuiltIn, deed_of, asks_device}

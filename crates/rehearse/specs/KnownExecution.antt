@@ -1,8 +1,8 @@
 -- Execution as it was when no answer stayed (KnownList.antt): each device command takes the next outcome of the word. All
 -- that it does not define is that of Execution.antt, over the tree as in GivenExecution.antt. Ours.
 use Rattle.std.specs.Prelude.{◌≡◌, ℕ, false, List, map, Option, Some, None, Ok}
-use Rattle.rehearse.specs.Outcomes.{OutcomeWord, Run, runs_within, few_of, after}
-use Rattle.rehearse.specs.State.{Text, State}
+use Rattle.rehearse_terms.specs.Outcomes.{OutcomeWord, Run, runs_within, few_of, after}
+use Rattle.rehearse_terms.specs.State.{Text, State}
 use Rattle.rehearse.specs.Commands.{carried, changed_by}
 use Rattle.rehearse.specs.DeviceList.{effect_of, computed_by}
 use Rattle.rehearse.specs.KnownList.{known_listed}

@@ -1,29 +1,11 @@
 -- The laws of rehearsals, over the definitions alone. Ours.
 use Rattle.std.specs.Prelude.{ℕ, ◌+◌, ◌^◌, true, filter, List, [], ◌∷◌, ◌++◌, length, map, flat_map, take, drop, Option, Some, None, ◌≡◌, ◌≢◌, ◌↔◌, ◌≤◌, ◌<◌, codes}
-use Rattle.hushlang.specs.Tree.{Script}
-use Rattle.hushlang.specs.Texts.{IsTreeOf, HasNoTree}
-use Rattle.rehearse.specs.Outcomes.{OutcomeWord, Outcome, Run, Short, common_prefix, comes_before, has_success, turned, is_within, first_run, first_from}
-use Rattle.rehearse.specs.Trees.{tree_of}
-use Rattle.rehearse.specs.State.{Text, State, asked_of}
-use Rattle.hushlang.specs.Tree.{IsProper}
+use Rattle.rehearse_terms.specs.Outcomes.{OutcomeWord, Outcome, Run, Short, common_prefix, comes_before, has_success, turned, is_within, first_run, first_from}
+use Rattle.rehearse_terms.specs.State.{Text, State, asked_of}
 use Rattle.rehearse.specs.Execution.{Ended, Dry, CutSteps, CutDevices, succeeds}
 use Rattle.rehearse.specs.Runs.{Task, run_on, state_of, steps, asked, kind, all_runs, runs, IsListed, rest}
 use Rattle.rehearse.specs.Listing.{listing, line, spelled, record_of, words_listed, closing}
 use Rattle.rehearse.specs.Resuming.{whole, next_text, Point, resume_point_of, point_after}
-
--- ---- texts
-
--- the tree of a text that is computed is the one that the language gives it
-abbrev pub TreesAreRead : Type 0
-TreesAreRead = (text : Text) (tree : Script) → (tree_of text ≡ Some tree) ↔ IsTreeOf text tree
-
--- and a text has no tree if the language gives it none
-abbrev pub RefusedTexts : Type 0
-RefusedTexts = (text : Text) → (tree_of text ≡ None) ↔ HasNoTree text
-
--- its conditions and bodies hold commands, and its `if`s have conditions
-abbrev pub TreesAreProper : Type 0
-TreesAreProper = (text : Text) (tree : Script) → tree_of text ≡ Some tree → IsProper tree
 
 -- ---- words
 

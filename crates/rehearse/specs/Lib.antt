@@ -1,6 +1,3 @@
-pub mod Outcomes
-pub mod Trees
-pub mod State
 pub mod DeviceList
 pub mod Verdict
 pub mod KnownCommands
@@ -13,11 +10,8 @@ pub mod Execution
 pub mod Runs
 pub mod Listing
 pub mod Resuming
-pub mod Asking
 pub mod Laws
-pub mod Bounds
 pub mod CommandsShown
-pub mod WantedShown
 pub mod DeviceLaws
 pub mod DevicesShown
 pub mod PlainList
@@ -32,3 +26,5 @@ pub mod CallExecution
 pub mod DeviceListAnswers
 pub mod TextsShown
 pub mod NamedPlaces
+pub mod Parameters
+pub mod RunsToCome

@@ -1,13 +1,13 @@
 -- The text that a rehearsal writes. Ours.
-use Rattle.std.specs.Prelude.{◌≢◌, ℕ, nat_le, Bool, true, false, List, [], ◌∷◌, ◌++◌, map, flat_map, length, take, Option, Some, None, codes, decimal}
+use Rattle.std.specs.Prelude.{ℕ, nat_le, Bool, true, false, List, [], ◌∷◌, ◌++◌, map, flat_map, length, take, Option, Some, None, codes, decimal}
 use Rattle.std.specs.List.{join_with_byte}
 use Rattle.text.specs.Bytes as ascii
 use Rattle.text.specs.Escapes.{text_form, word_form}
-use Rattle.rehearse.specs.Outcomes.{Outcome, OutcomeWord}
-use Rattle.rehearse.specs.State.{Text, Variables, get, State, LoggedCommand}
+use Rattle.rehearse_terms.specs.Outcomes.{Outcome, OutcomeWord}
+use Rattle.rehearse_terms.specs.State.{Text, Variables, get, State, LoggedCommand}
 use Rattle.rehearse.specs.Execution.{Ending, End, CutDevices, CutSteps, Unknown, Syntax, Size, Booted, succeeds}
 use Rattle.rehearse.specs.Runs.{Task, run_on, state_of, ending_of}
-use Rattle.rehearse.specs.declared.wanted.Page.{Page}
+use Rattle.rehearse_terms.specs.declared.wanted.Page.{Page}
 
 -- ---- words
 
@@ -99,14 +99,6 @@ abbrev pub listing : (written : OutcomeWord → Text) → List OutcomeWord → (
 listing written ws limit = flat_map written (words_listed ws limit) ++ line (closing ws limit)
 
 -- ---- a page of it
-
--- all of the listing
-abbrev pub whole_page : Page
-whole_page = record { limit = None }
-
--- a page has room for a record
-abbrev pub HasRoom : Page → Type 0
-HasRoom page = page.limit ≢ Some 0
 
 -- the words whose records it has, the line after them, and its text
 abbrev pub page_words : List OutcomeWord → Page → List OutcomeWord

@@ -3,8 +3,8 @@
 use Rattle.std.specs.Prelude.{◌≡◌, ℕ, nat_lt, true, false, List, [], ◌∷◌, ◌++◌, length, Option, None, Ok}
 use Rattle.std.specs.List.{list_any}
 use Rattle.std.specs.Str.{bytes_eq}
-use Rattle.rehearse.specs.Outcomes.{OutcomeWord, runs_within, after}
-use Rattle.rehearse.specs.State.{Text, Variables, State}
+use Rattle.rehearse_terms.specs.Outcomes.{OutcomeWord, runs_within, after}
+use Rattle.rehearse_terms.specs.State.{Text, Variables, State}
 use Rattle.rehearse.specs.DeviceList.{Devices, only, listed}
 use Rattle.rehearse.specs.PlainList.{plain_names}
 use Rattle.rehearse.specs.Execution.{Limits, Answer, Normal, Ended, Dry, CutDevices, Unknown, set_status, status_when, succeeds}

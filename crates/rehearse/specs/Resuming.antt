@@ -2,8 +2,8 @@
 use Rattle.std.specs.Prelude.{ℕ, suc, ◌+◌, nat_eq, Bool, true, false, ◌||◌, option_map, List, [], ◌∷◌, ◌++◌, flat_map, length, drop, Option, Some, None, codes}
 use Rattle.std.specs.List.{starts_with}
 use Rattle.text.specs.Bytes as ascii
-use Rattle.rehearse.specs.Outcomes.{OutcomeWord}
-use Rattle.rehearse.specs.State.{Text}
+use Rattle.rehearse_terms.specs.Outcomes.{OutcomeWord}
+use Rattle.rehearse_terms.specs.State.{Text}
 use Rattle.rehearse.specs.Listing.{spelled, last_of}
 
 -- how many of these records, in their order, are whole at the start of a text

@@ -1,7 +1,7 @@
 -- The runs of the text of a variable. Ours.
 use Rattle.std.specs.Prelude.{◌≡◌, ℕ, ◌+◌, ◌-◌, true, List, [], ◌∷◌, Option, option_map}
-use Rattle.rehearse.specs.Outcomes.{OutcomeWord, WordKind, Run, Short, Long, runs_within, is_within, few_of, after, common_prefix}
-use Rattle.rehearse.specs.State.{Text, Variables, get, State, start}
+use Rattle.rehearse_terms.specs.Outcomes.{OutcomeWord, WordKind, Run, Short, Long, runs_within, is_within, few_of, after, common_prefix}
+use Rattle.rehearse_terms.specs.State.{Text, Variables, get, State, start}
 use Rattle.rehearse.specs.Execution.{Limits, Answer, Normal, Exit, Ended, Dry, Ending, End, exec, run_text}
 
 -- a variable and its text, rehearsed from an environment

@@ -4,7 +4,7 @@ ghost use Rattle.rehearse.specs.KnownCommands as says;
 ghost use Rattle.rehearse.specs.KnownCommandsShown.{known_shown};
 
 /// A command that a device list may have computed.
-#[derive(Clone, Copy, Debug)]
+#[derive(Clone, Copy)]
 pub(crate) enum Known {
     Env,
     Itest,

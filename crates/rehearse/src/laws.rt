@@ -1,6 +1,5 @@
 //! Laws of rehearsals. A call of one does nothing: its contract is the law.
 
-ghost use Rattle.rehearse.specs.Laws.{TreesAreRead, RefusedTexts, TreesAreProper};
 ghost use Rattle.rehearse.specs.Laws.{NoRunTwice, NoRunBeginsAnother, NoRunIsLonger, RunsAreThere, AnotherFollows};
 ghost use Rattle.rehearse.specs.Laws.{RunsPartWhereAsked, LogIsWord};
 ghost use Rattle.rehearse.specs.Laws.{StepsAreBounded, CutAtStepBound, CutAtDeviceBound, AskedBelowBound};
@@ -10,13 +9,6 @@ ghost use Rattle.rehearse.specs.Laws.{AllMayFail, FewerAmongMore, FewerAreMore, 
 ghost use Rattle.rehearse.specs.Laws.{MoreIsLeft, PagesOfRuns, PagesOfRest};
 ghost use Rattle.rehearse.specs.Laws.{WholeIsGreatest, WholeRecords, Resuming};
 ghost use Rattle.rehearse.specs.Laws.{ResumePoint, ResumedAtPoint, ResumedRest};
-
-/// The tree by which a text is executed is the one that the language gives it.
-pub fn trees_are_read()
-    ensures read { TreesAreRead }
-    ensures refused { RefusedTexts }
-    ensures proper { TreesAreProper }
-{}
 
 /// There is a run. None is in the list twice, none is a prefix of another, and none is longer than
 /// the device bound. Another run follows exactly if a run has a success that may fail.

@@ -4,7 +4,7 @@ ghost use Rattle.std.specs.Map.{lookup};
 ghost use Rattle.std.specs.Str.{bytes_eq};
 ghost use Rattle.rehearse.specs.Computed as says;
 ghost use Rattle.rehearse.specs.ComputedShown.{call_shown};
-ghost use Rattle.rehearse.specs.State as state;
+ghost use Rattle.rehearse_terms.specs.State as state;
 ghost use Rattle.rehearse.specs.TextsShown.{texts};
 
 use crate::computed::{Computed, operand};

@@ -1,9 +1,9 @@
 -- The answers of a log that stay, entry by entry.
-use Rattle.std.proofs.Common.{ℕ, Bool, true, false, not, cond, ◌&&◌, List, [], ◌∷◌, ◌++◌, map, length, drop, get_or, refl, sym, ap, ◌∙◌, ◌≡◌, ◌<◌, ◌≤◌, ◌+◌, append_assoc, append-nil}
+use Rattle.std.proofs.Common.{ℕ, Bool, true, false, not, cond, ◌&&◌, List, [], ◌∷◌, ◌++◌, map, length, drop, get_or, refl, sym, ap, ◌∙◌, ◌≡◌, ◌<◌, ◌≤◌, ◌+◌, append_assoc}
 use Rattle.std.proofs.Math.ListN.{drop_of_length-le}
 use Rattle.std.proofs.lemmas.List.{map-append}
 use Rattle.hushlang.proofs.ExpandLemmas.{drop_next}
-use Rattle.rehearse.specs.State.{Text, LoggedCommand, answers_in}
+use Rattle.rehearse_terms.specs.State.{Text, LoggedCommand, answers_in}
 
 -- whether an entry has an answer that stays
 abbrev pub is_first : LoggedCommand → Bool

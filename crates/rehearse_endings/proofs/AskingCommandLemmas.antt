@@ -5,8 +5,9 @@ use Rattle.hushlang.specs.Tree.{Script}
 use Rattle.hushlang.specs.Expansion.{fields, size, most_bytes}
 use Rattle.bootstore.specs.Moment.{Moment, RunningFrame}
 use Rattle.bootstore.specs.StoredState.{state_at}
-use Rattle.rehearse.specs.Outcomes.{Success}
-use Rattle.rehearse.specs.State.{Text, State, parameters_in}
+use Rattle.rehearse_terms.specs.Outcomes.{Success}
+use Rattle.rehearse_terms.specs.State.{Text, State}
+use Rattle.rehearse.specs.Parameters.{parameters_in}
 use Rattle.rehearse.specs.Verdict.{verdict}
 use Rattle.rehearse.specs.Commands.{Called, ChangesVariables, WritesText, RunsTexts, Tests, Exits, BuiltIn, NoCommand, Device, called_by, sets_in, asks_device, exit_status}
 use Rattle.rehearse.specs.Execution.{Limits, CutDevices, Size, Request, test_effect, told, told_again, logged, set_environment, set_status, status_when}

@@ -2,9 +2,9 @@
 use Rattle.std.proofs.Common.{ℕ, ◌+◌, ◌<◌, min, Bool, true, false, List, [], ◌∷◌, ◌++◌, map, flat_map, length, reverse, refl, sym, ap, ◌∙◌, ◌≡◌, nat_lt, codes, decimal, if◌then◌else◌, arith}
 use Rattle.std.proofs.lemmas.Bool.{ltb-true, ltb-false}
 use Rattle.std.proofs.lemmas.List.{length-map, length-reverse, map-append, reverse-append}
-use Rattle.rehearse.specs.State.{Text}
+use Rattle.rehearse_terms.specs.State.{Text}
 use Rattle.rehearse.specs.Listing.{digit_when, outcome_digit, spelled, line, last_line}
-use Rattle.rehearse.specs.Outcomes.{OutcomeWord, Outcome, failures}
+use Rattle.rehearse_terms.specs.Outcomes.{OutcomeWord, Outcome, failures}
 use Rattle.rehearse_machine.specs.Machine.{outcome_when}
 use Rattle.rehearse.specs.Execution.{Ending}
 use Rattle.rehearse.specs.Runs.{Task, all_runs}

@@ -3,13 +3,13 @@ use Rattle.std.proofs.Common.{ℕ, ◌+◌, ◌≤◌, ◌<◌, List, [], ◌∷
 use Rattle.std.specs.Prelude.{Result, Err, IfErr}
 use Rattle.std.specs.List.{AllByRecursion}
 use Rattle.bootstore.specs.Moment.{Moment}
-use Rattle.rehearse.specs.Outcomes.{OutcomeWord, Outcome, Success, Failure}
+use Rattle.rehearse_terms.specs.Outcomes.{OutcomeWord, Outcome, Success, Failure}
 use Rattle.rehearse.specs.Runs.{Task, kind, run_on}
 use Rattle.rehearse_machine.specs.declared.rehearsal.Stop.{Stop}
 use Rattle.rehearse_machine.specs.declared.rehearsal.Stop.TheVariants.{Asks}
 use Rattle.rehearse_endings.specs.Futures.{came_kind}
 use Rattle.rehearse_endings.proofs.SearchLemmas.{kind_settled}
-use Rattle.rehearse_runs.specs.Searching.{StoppedAt}
+use Rattle.rehearse_machine.specs.StoppedTexts.{StoppedAt}
 use Rattle.rehearse_endings.specs.States.{Asked, IsMet, IsUnlike, NoTwoAlike, HasStates, Entered, BeginsWith, IsNewAt, HasEntered}
 use Rattle.rehearse_endings.specs.Searching.{IsKept}
 use Rattle.rehearse_endings.specs.Cores.{CoreShown}

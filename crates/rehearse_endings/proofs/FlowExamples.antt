@@ -2,10 +2,10 @@
 use Rattle.std.proofs.Common.{[], ◌∷◌, List, codes, refl, ◌≡◌, None, Some, true, false}
 use Rattle.std.specs.Fmt.{digits}
 use Rattle.hushlang.specs.Expansion.{fields, joined, atoms}
-use Rattle.rehearse.specs.Outcomes.{OutcomeWord, Success, Failure, Run, Short}
+use Rattle.rehearse_terms.specs.Outcomes.{OutcomeWord, Success, Failure, Run, Short}
 use Rattle.rehearse.specs.DeviceList.{only}
 use Rattle.rehearse.specs.DeviceLaws.{quiet}
-use Rattle.rehearse.specs.Trees.{tree_of}
+use Rattle.hushlang.specs.Trees.{tree_of}
 use Rattle.rehearse.specs.Execution.{End, CutDevices, Unknown}
 use Rattle.rehearse.specs.Runs.{Task, run_on}
 use Rattle.rehearse.proofs.ExampleRehearsals.{only_load, limits, bootcmd}

@@ -1,7 +1,7 @@
 -- Frames keep alike answers alike.
 use Rattle.std.proofs.Common.{ℕ, Bool, true, false, List, [], ◌∷◌, refl, sym, subst, arith, nat_eq}
 use Rattle.hushlang.specs.Tree.{Script}
-use Rattle.rehearse.specs.State.{State, LoggedCommand}
+use Rattle.rehearse_terms.specs.State.{State, LoggedCommand}
 use Rattle.rehearse.specs.Execution.{Limits, Answer, Normal, Exit, Ended, Dry, run_all, for_each}
 use Rattle.rehearse.proofs.TakenOutcomes.{KeepsAll, Keeps-script, Keeps-joined, Keeps-arms, Keeps-exec, Keeps-run, Keeps-turns, Keeps-for, Keeps-if, after_condition, Keeps-after_condition}
 use Rattle.rehearse_machine.specs.Came.{settled}

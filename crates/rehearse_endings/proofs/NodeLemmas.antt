@@ -4,7 +4,7 @@ use Rattle.std.specs.List.{slice_get}
 use Rattle.std.proofs.lemmas.Bool.{ltb-true}
 use Rattle.std.proofs.lemmas.Option.{slice_get-map, slice_get_read}
 use Rattle.std.proofs.lemmas.List.{length-map, length-take-le, map_more}
-use Rattle.rehearse.specs.State.{Text}
+use Rattle.rehearse_terms.specs.State.{Text}
 use Rattle.rehearse.specs.Listing.{line}
 use Rattle.rehearse_machine.specs.EndingsShown.{halt_shown}
 use Rattle.rehearse_machine.specs.declared.halt.Halt.{Halt}

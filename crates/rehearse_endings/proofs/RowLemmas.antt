@@ -2,7 +2,7 @@
 use Rattle.std.proofs.Common.{ℕ, ◌+◌, ◌<◌, ◌≤◌, Bool, cond, List, [], ◌∷◌, ◌++◌, map, reverse, refl, ap, ◌∙◌, ◌≡◌, arith}
 use Rattle.std.proofs.lemmas.Bool.{le-leb, lt-leb}
 use Rattle.std.proofs.lemmas.List.{reverse-append}
-use Rattle.rehearse.specs.Outcomes.{OutcomeWord, Success, Failure, failures}
+use Rattle.rehearse_terms.specs.Outcomes.{OutcomeWord, Success, Failure, failures}
 use Rattle.rehearse.specs.Execution.{Ending}
 use Rattle.rehearse_machine.specs.Machine.{outcome_when}
 use Rattle.rehearse_endings.specs.Endings.{Row, fewer}

@@ -6,8 +6,9 @@ use Rattle.hushlang.specs.Tree.{Script}
 use Rattle.hushlang.specs.Expansion.{fields, size, most_bytes}
 use Rattle.bootstore.specs.Moment.{Moment, RunningFrame}
 use Rattle.std.specs.Map.{lookup}
-use Rattle.rehearse.specs.Outcomes.{OutcomeWord, Success}
-use Rattle.rehearse.specs.State.{Text, State, Variables, parameters_in, LoggedCommand, answers_in, same_words}
+use Rattle.rehearse_terms.specs.Outcomes.{OutcomeWord, Success}
+use Rattle.rehearse_terms.specs.State.{Text, State, Variables, LoggedCommand, answers_in, same_words}
+use Rattle.rehearse.specs.Parameters.{parameters_in}
 use Rattle.bootstore.specs.StoredState.{state_at}
 use Rattle.rehearse.specs.Verdict.{verdict}
 use Rattle.rehearse.specs.Commands.{Called, ChangesVariables, WritesText, RunsTexts, Tests, Exits, BuiltIn, NoCommand, Device, called_by, sets_in, asks_device, exit_status}

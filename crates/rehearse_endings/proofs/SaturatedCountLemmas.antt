@@ -1,6 +1,6 @@
 -- Counts up to the greatest count.
 use Rattle.std.proofs.Common.{ℕ, ◌+◌, min, Bool, true, false, List, [], ◌∷◌, map, refl, ap, ◌∙◌, ◌≡◌, arith}
-use Rattle.rehearse.specs.Outcomes.{Outcome, Success, Failure}
+use Rattle.rehearse_terms.specs.Outcomes.{Outcome, Success, Failure}
 use Rattle.rehearse_endings.specs.Endings.{Row, ending_eq, joined, with_row, merge, in_front, of_both}
 use Rattle.rehearse_endings.specs.RowsShown.{most_runs, saturated, joined_up, with_row_up, merge_up, of_both_up}
 

@@ -3,13 +3,13 @@ use Rattle.std.proofs.Common.{ℕ, zero, suc, get_or, ◌+◌, ◌*◌, ◌≤�
 use Rattle.std.proofs.lemmas.List.{length-map}
 use Rattle.std.proofs.lemmas.List.Elements.{All-append}
 use Rattle.std.proofs.lemmas.Bool.{ltb-true}
-use Rattle.std.specs.Prelude.{nat_lt}
+use Rattle.std.specs.Prelude.{nat_lt, MatchOption, ⊤}
 use Rattle.bootstore.specs.Record.{Record, with_mark, gone_back, returned}
-use Rattle.rehearse.specs.Bounds.{most_steps}
-use Rattle.rehearse_machine.specs.Machine.{outcome_when}
+use Rattle.rehearse_terms.specs.Bounds.{most_steps}
+use Rattle.rehearse_machine.specs.Machine.{outcome_when, Stops, IsAsking, asked_at}
 use Rattle.bootstore.specs.Moment.{Moment}
-use Rattle.rehearse.specs.Outcomes.{OutcomeWord, Outcome, Success, Failure}
-use Rattle.rehearse.specs.State.{State, LoggedCommand, asked_of, start}
+use Rattle.rehearse_terms.specs.Outcomes.{OutcomeWord, Outcome, Success, Failure}
+use Rattle.rehearse_terms.specs.State.{State, LoggedCommand, asked_of, start}
 use Rattle.bootstore.specs.StoredState.{state_at}
 use Rattle.rehearse.specs.Execution.{Limits, Answer, Normal, Exit, Ended, Dry, Ending, succeeds}
 use Rattle.rehearse.specs.Runs.{Task, run_on, state_of, kind, kind_of, ending_of}
@@ -18,12 +18,11 @@ use Rattle.rehearse.proofs.BoundLemmas.{devices_are_bounded}
 use Rattle.rehearse.proofs.TaskChoices.{Keeps-run_on, task_chooses}
 use Rattle.rehearse_machine.specs.Came.{Came, Wants, settled}
 use Rattle.rehearse_machine.specs.EndingsShown.{halt_shown}
-use Rattle.rehearse_machine.specs.Machine.{Stops, IsAsking, asked_at}
 use Rattle.rehearse_machine.specs.declared.halt.Halt.{Halt}
 use Rattle.rehearse_machine.specs.declared.rehearsal.Stop.{Stop}
 use Rattle.rehearse_machine.specs.declared.rehearsal.Stop.TheVariants.{Asks, Ends}
-use Rattle.rehearse_runs.specs.Searching.{StoppedAt}
-use Rattle.rehearse_runs.proofs.SearchLemmas.{asked_within, stopped_on}
+use Rattle.rehearse_machine.specs.StoppedTexts.{StoppedAt}
+use Rattle.rehearse_machine.proofs.StoppedTextLemmas.{asked_within, stopped_on}
 use Rattle.rehearse_endings.specs.Futures.{came_kind, came_ending, came_state, came_steps, came_devices, HaveSameCore}
 use Rattle.rehearse_endings.specs.Endings.{Row, HasRows, ending, endings}
 use Rattle.rehearse_endings.specs.Cores.{CoreShown, core_shown, core_of}
@@ -32,7 +31,6 @@ use Rattle.rehearse_endings.specs.RowsShown.{saturated, of_both_up, summary_show
 use Rattle.rehearse_endings.specs.Searching.{future, IsReached, IsEntry, AreEntries, IsKept}
 use Rattle.rehearse_endings.specs.declared.table.Entry.{Entry}
 use Rattle.rehearse_endings.specs.declared.summary.Summary as kept
-use Rattle.std.specs.Prelude.{MatchOption, ⊤}
 use Rattle.rehearse_endings.specs.Flow.{Node, asked_in}
 use Rattle.rehearse_endings.specs.Drawing.{Draws, HasMore, seen_at}
 use Rattle.rehearse_endings.proofs.DrawingLemmas.{draws_on, draws_there}

@@ -2,10 +2,10 @@
 use Rattle.std.proofs.Common.{◌≡◌, List, Ok, refl}
 use Rattle.output.specs.Sink.{Sink}
 use Rattle.rehearse.specs.DeviceList.{Devices, listed}
-use Rattle.rehearse.specs.State.{Text}
+use Rattle.rehearse_terms.specs.State.{Text}
 use Rattle.rehearse_machine.specs.Tasks.{task_set}
-use Rattle.rehearse_runs.specs.declared.rehearse_error.RehearseError.{RehearseError}
-use Rattle.rehearse_runs.specs.declared.rehearse_error.RehearseError.TheVariants.{DeviceList, NoSuchVariable, NotARun, States, Write, Memory, Failed}
+use Rattle.rehearse.specs.declared.rehearse_error.RehearseError.{RehearseError}
+use Rattle.rehearse.specs.declared.rehearse_error.RehearseError.TheVariants.{DeviceList, NoSuchVariable, NotARun, States, Write, Memory, Failed}
 use Rattle.rehearse_endings.specs.TellingEndings.{IsUntold, RefusesEndings}
 use Rattle.rehearse_endings.specs.declared.telling.EndingsAsk.{EndingsAsk}
 

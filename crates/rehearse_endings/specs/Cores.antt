@@ -4,7 +4,7 @@ use Rattle.std.specs.FinMap.{entries}
 use Rattle.std.specs.declared.alloc.Global.{Global}
 use Rattle.bootstore.specs.Moment.{Moment, RunningFrame}
 use Rattle.text.specs.TextsShown.{bytes_of_words}
-use Rattle.rehearse.specs.State.{Text, Variables, answers_in}
+use Rattle.rehearse_terms.specs.State.{Text, Variables, answers_in}
 use Rattle.rehearse_endings.specs.declared.cores.Core.{Core}
 
 -- what the runs still to come of a state depend on, except the room that the bounds leave

@@ -5,8 +5,8 @@ use Rattle.std.specs.List.{slice_get}
 use Rattle.std.specs.declared.alloc.Global.{Global}
 use Rattle.bootstore.specs.Moment.{Moment}
 use Rattle.text.specs.TextsShown.{bytes_of_words}
-use Rattle.rehearse.specs.Outcomes.{OutcomeWord}
-use Rattle.rehearse.specs.State.{Text, LoggedCommand}
+use Rattle.rehearse_terms.specs.Outcomes.{OutcomeWord}
+use Rattle.rehearse_terms.specs.State.{Text, LoggedCommand}
 use Rattle.rehearse.specs.Execution.{Limits}
 use Rattle.rehearse_machine.specs.Came.{Came}
 use Rattle.rehearse_machine.specs.EndingsShown.{halt_shown}

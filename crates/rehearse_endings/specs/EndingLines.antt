@@ -1,8 +1,8 @@
 -- The lines that say how runs end. Ours.
 use Rattle.std.specs.Prelude.{ℕ, ◌+◌, nat_lt, List, [], ◌∷◌, ◌++◌, flat_map, codes, decimal, if◌then◌else◌}
-use Rattle.rehearse.specs.State.{Text}
+use Rattle.rehearse_terms.specs.State.{Text}
 use Rattle.rehearse.specs.Listing.{spelled, line, last_line}
-use Rattle.rehearse.specs.Outcomes.{failures}
+use Rattle.rehearse_terms.specs.Outcomes.{failures}
 use Rattle.rehearse_endings.specs.Endings.{Row}
 use Rattle.rehearse_endings.specs.RowsShown.{most_runs}
 

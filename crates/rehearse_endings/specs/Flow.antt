@@ -3,8 +3,8 @@ use Rattle.std.specs.Prelude.{◌≡◌, ℕ, zero, suc, Bool, List, [], ◌∷�
 use Rattle.std.specs.List.{join_with_byte, slice_get}
 use Rattle.text.specs.Bytes as ascii
 use Rattle.text.specs.Escapes.{word_form}
-use Rattle.rehearse.specs.Outcomes.{OutcomeWord, Outcome, Success, Failure, WordKind, Run, Short, Long}
-use Rattle.rehearse.specs.State.{Text, LoggedCommand, asked_of}
+use Rattle.rehearse_terms.specs.Outcomes.{OutcomeWord, Outcome, Success, Failure, WordKind, Run, Short, Long}
+use Rattle.rehearse_terms.specs.State.{Text, LoggedCommand, asked_of}
 use Rattle.rehearse.specs.Execution.{Answer, Normal, Exit, Ended, Dry, Ending, End, succeeds}
 use Rattle.rehearse.specs.Runs.{Task, run_on, state_of, kind_of}
 use Rattle.rehearse.specs.Listing.{line, last_line}

@@ -2,8 +2,8 @@
 use Rattle.std.specs.Prelude.{◌≡◌, ℕ, suc, ◌+◌, ◌<◌, ◌⊎◌, List, length, Option, Some, None}
 use Rattle.std.specs.FinMap.{entries}
 use Rattle.bootstore.specs.Moment.{Moment}
-use Rattle.rehearse.specs.Outcomes.{WordKind, Short}
-use Rattle.rehearse.specs.State.{State, LoggedCommand, answers_in}
+use Rattle.rehearse_terms.specs.Outcomes.{WordKind, Short}
+use Rattle.rehearse_terms.specs.State.{State, LoggedCommand, answers_in}
 use Rattle.rehearse.specs.Execution.{Limits, Ending, End}
 use Rattle.rehearse.specs.Runs.{taken_kind}
 use Rattle.rehearse_machine.specs.Came.{Came, Over, Wants}

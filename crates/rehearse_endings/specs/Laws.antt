@@ -1,6 +1,6 @@
 -- What the rows of endings say of the list of all runs. Ours.
 use Rattle.std.specs.Prelude.{◌≡◌, ◌≢◌, ◌<◌, ◌≤◌, List, [], ◌∷◌, ◌++◌, length}
-use Rattle.rehearse.specs.Outcomes.{OutcomeWord, failures}
+use Rattle.rehearse_terms.specs.Outcomes.{OutcomeWord, failures}
 use Rattle.rehearse.specs.Runs.{Task, all_runs}
 use Rattle.rehearse_endings.specs.Endings.{Row, ending, endings}
 use Rattle.rehearse_endings.specs.EndingLines.{counted}

@@ -1,7 +1,7 @@
 -- What contracts see of rows and summaries. Ours.
 use Rattle.std.specs.Prelude.{◌≡◌, ℕ, ◌+◌, min, List, [], ◌∷◌, map, reverse, Bool, true, false, Vec}
 use Rattle.std.specs.declared.alloc.Global.{Global}
-use Rattle.rehearse.specs.Outcomes.{OutcomeWord, Success, Failure}
+use Rattle.rehearse_terms.specs.Outcomes.{OutcomeWord, Success, Failure}
 use Rattle.rehearse_machine.specs.Came.{Came}
 use Rattle.rehearse_machine.specs.EndingsShown.{halt_shown}
 use Rattle.rehearse_machine.specs.Machine.{outcome_when}

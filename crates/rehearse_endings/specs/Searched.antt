@@ -1,11 +1,11 @@
 -- What a search from a text that has stopped comes to. Ours.
 use Rattle.std.specs.Prelude.{◌≡◌, ◌+◌, ◌*◌, ◌≤◌, List, [], length}
 use Rattle.bootstore.specs.Record.{Record}
-use Rattle.rehearse.specs.Bounds.{most_steps}
-use Rattle.rehearse.specs.Outcomes.{OutcomeWord}
+use Rattle.rehearse_terms.specs.Bounds.{most_steps}
+use Rattle.rehearse_terms.specs.Outcomes.{OutcomeWord}
 use Rattle.rehearse.specs.Runs.{Task}
 use Rattle.rehearse_machine.specs.declared.rehearsal.Stop.{Stop}
-use Rattle.rehearse_runs.specs.Searching.{StoppedAt}
+use Rattle.rehearse_machine.specs.StoppedTexts.{StoppedAt}
 use Rattle.rehearse_endings.specs.Drawing.{Draws, HasMore, nodes_shown}
 use Rattle.rehearse_endings.specs.RowsShown.{Summed, summary_shown}
 use Rattle.rehearse_endings.specs.Searching.{future, seen_from, AreEntries}

@@ -1,7 +1,7 @@
 -- The search through the states in which device commands ask. Ours.
 use Rattle.std.specs.Prelude.{◌≡◌, ℕ, ◌≤◌, List, [], ◌∷◌, ◌++◌, length, All}
 use Rattle.bootstore.specs.Moment.{Moment}
-use Rattle.rehearse.specs.Outcomes.{OutcomeWord}
+use Rattle.rehearse_terms.specs.Outcomes.{OutcomeWord}
 use Rattle.bootstore.specs.StoredState.{state_at}
 use Rattle.rehearse.specs.Execution.{Limits}
 use Rattle.rehearse.specs.Runs.{Task}
@@ -10,7 +10,7 @@ use Rattle.rehearse_machine.specs.EndingsShown.{halt_shown}
 use Rattle.rehearse_machine.specs.Machine.{IsAsking, asked_at}
 use Rattle.rehearse_machine.specs.declared.rehearsal.Stop.{Stop}
 use Rattle.rehearse_machine.specs.declared.rehearsal.Stop.TheVariants.{Asks, Ends}
-use Rattle.rehearse_runs.specs.Searching.{StoppedAt}
+use Rattle.rehearse_machine.specs.StoppedTexts.{StoppedAt}
 use Rattle.rehearse_endings.specs.Cores.{CoreShown, core_shown, core_of}
 use Rattle.rehearse_endings.specs.Flow.{Node, Seen, asked_in}
 use Rattle.rehearse_endings.specs.Drawing.{Draws, seen_behind, seen_at}

@@ -2,10 +2,10 @@
 use Rattle.std.specs.Prelude.{◌≡◌, ◌≢◌, ℕ, ◌+◌, ◌<◌, List, [], ◌∷◌, ◌++◌, length}
 use Rattle.std.specs.List.{AllByRecursion}
 use Rattle.bootstore.specs.Moment.{Moment}
-use Rattle.rehearse.specs.Outcomes.{OutcomeWord, Short}
+use Rattle.rehearse_terms.specs.Outcomes.{OutcomeWord, Short}
 use Rattle.rehearse.specs.Runs.{Task, kind}
 use Rattle.rehearse_machine.specs.declared.rehearsal.Stop.TheVariants.{Asks}
-use Rattle.rehearse_runs.specs.Searching.{StoppedAt}
+use Rattle.rehearse_machine.specs.StoppedTexts.{StoppedAt}
 use Rattle.rehearse_endings.specs.declared.table.Table.{Table}
 
 -- a state in which a device command asks, and the outcomes that lead to it

@@ -1,7 +1,7 @@
 -- What is kept of a moment at which a device command asks, and where else it may be used. Ours.
 use Rattle.std.specs.Prelude.{◌≡◌, ℕ, suc, ◌+◌, ◌-◌, ◌≤◌, max, List, [], ◌∷◌, length, Bool, true, false, ◌||◌}
 use Rattle.bootstore.specs.Moment.{Moment}
-use Rattle.rehearse.specs.Outcomes.{OutcomeWord}
+use Rattle.rehearse_terms.specs.Outcomes.{OutcomeWord}
 use Rattle.rehearse.specs.Execution.{Limits, Ending, CutDevices, CutSteps}
 use Rattle.rehearse_machine.specs.Came.{Came}
 use Rattle.rehearse_endings.specs.Futures.{came_kind, came_ending, came_steps, came_devices, HaveSameCore}

@@ -1,7 +1,7 @@
 -- What is written of the endings of an environment's variable, and why it is refused. Ours.
 use Rattle.std.specs.Prelude.{◌≡◌, ℕ, ◌+◌, ◌≤◌, Bool, true, false, List, length, Option, Some, None, Ok, Err}
 use Rattle.output.specs.Sink.{Sink, Wrote, BrokeOff}
-use Rattle.rehearse.specs.State.{Text}
+use Rattle.rehearse_terms.specs.State.{Text}
 use Rattle.rehearse.specs.DeviceList.{Devices, listed}
 use Rattle.rehearse.specs.Runs.{Task, all_runs}
 use Rattle.rehearse_machine.specs.Tasks.{task_set}
@@ -10,8 +10,8 @@ use Rattle.rehearse_endings.specs.Flow.{Node, IsFlow, flow_text}
 use Rattle.rehearse_endings.specs.EndingLines.{endings_text}
 use Rattle.rehearse_endings.specs.States.{HasStates}
 use Rattle.rehearse_endings.specs.declared.telling.EndingsAsk.{EndingsAsk}
-use Rattle.rehearse_runs.specs.declared.rehearse_error.RehearseError.{RehearseError}
-use Rattle.rehearse_runs.specs.declared.rehearse_error.RehearseError.TheVariants.{DeviceList, NoSuchVariable, States, Write, Memory}
+use Rattle.rehearse.specs.declared.rehearse_error.RehearseError.{RehearseError}
+use Rattle.rehearse.specs.declared.rehearse_error.RehearseError.TheVariants.{DeviceList, NoSuchVariable, States, Write, Memory}
 
 -- the device list is valid, and the task has this property, if the variable is set
 pub record HasDevices (environment : List (Text × Text)) (devices_text : Text) (ask : EndingsAsk)

@@ -1,6 +1,6 @@
 //! What the runs still to come of a state depend on.
 ghost use Rattle.std.specs.Prelude.{◌≡◌, IfOk, IsTrue};
-ghost use Rattle.rehearse.specs.State.{answers_in};
+ghost use Rattle.rehearse_terms.specs.State.{answers_in};
 ghost use Rattle.rehearse_endings.specs.Cores.{core_shown, core_of, pairs_shown, answers_shown};
 
 use crate::environments::Environments;

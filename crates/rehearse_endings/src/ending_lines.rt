@@ -5,7 +5,7 @@ ghost use Rattle.text.specs.Escapes.{word_escaped, word_form};
 ghost use Rattle.rehearse.specs.Listing.{digit_when, line, last_line, spelled};
 ghost use Rattle.rehearse_machine.specs.EndingsShown.{halt_shown};
 ghost use Rattle.rehearse_machine.specs.Machine.{outcome_when};
-ghost use Rattle.rehearse.specs.Outcomes.{failures};
+ghost use Rattle.rehearse_terms.specs.Outcomes.{failures};
 ghost use Rattle.rehearse_endings.specs.EndingLines.{count_text, row_text, endings_text, counted};
 ghost use Rattle.rehearse_endings.specs.RowsShown.{most_runs, row_shown, rows_shown};
 

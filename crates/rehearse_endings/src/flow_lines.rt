@@ -4,7 +4,7 @@ ghost use Rattle.std.specs.List.{flat_map, join_with_byte};
 ghost use Rattle.text.specs.Bytes as ascii;
 ghost use Rattle.text.specs.Escapes.{word_form};
 ghost use Rattle.text.specs.TextsShown.{bytes_of_words};
-ghost use Rattle.rehearse_runs.specs.Recording.{spaced};
+ghost use Rattle.text.specs.TextsShown.{spaced};
 ghost use Rattle.rehearse_endings.specs.Drawing.{node_shown, nodes_shown};
 ghost use Rattle.rehearse_endings.specs.Flow.{node_text, flow_text};
 

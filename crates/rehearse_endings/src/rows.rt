@@ -3,7 +3,7 @@ ghost use Rattle.std.specs.Prelude.{◌≡◌, ◌≤◌, ◌∷◌, [], map, re
 ghost use Rattle.rehearse_machine.specs.EndingsShown.{halt_shown};
 ghost use Rattle.rehearse_machine.specs.Machine.{outcome_when};
 ghost use Rattle.rehearse_endings.specs.RowsShown.{row_shown, rows_shown, word_shown, joined_up, with_row_up, merge_up};
-ghost use Rattle.rehearse.specs.Outcomes.{failures};
+ghost use Rattle.rehearse_terms.specs.Outcomes.{failures};
 ghost use Rattle.rehearse_endings.specs.Endings.{fewer, one_run, in_front, ending_eq};
 
 use bootstore::StoreError;

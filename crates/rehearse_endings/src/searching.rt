@@ -1,9 +1,9 @@
 //! The search through the states in which device commands ask.
 ghost use Rattle.std.specs.Prelude.{◌≡◌, ◌+◌, ◌*◌, ◌≤◌, ◌<◌, ◌^◌, List, length, map, IfOk, IfErr};
-ghost use Rattle.rehearse.specs.Bounds.{most_steps};
-ghost use Rattle.rehearse.specs.Outcomes.{OutcomeWord};
+ghost use Rattle.rehearse_terms.specs.Bounds.{most_steps};
+ghost use Rattle.rehearse_terms.specs.Outcomes.{OutcomeWord};
 ghost use Rattle.rehearse_machine.specs.Tasks.{task_in};
-ghost use Rattle.rehearse_runs.specs.Searching.{StoppedAt};
+ghost use Rattle.rehearse_machine.specs.StoppedTexts.{StoppedAt};
 ghost use Rattle.rehearse_endings.specs.RowsShown.{rows_shown, saturated};
 ghost use Rattle.rehearse_endings.specs.Endings.{endings};
 ghost use Rattle.rehearse_endings.specs.Flow.{IsFlow};

@@ -15,7 +15,8 @@ use crate::rows::copy_rows;
 use crate::sum_error::SumError;
 use crate::summary::Summary;
 use bootstore::{Store, StoreError};
-use rehearse::{Devices, RunBounds};
+use rehearse::Devices;
+use rehearse_terms::RunBounds;
 use std::alloc::Global;
 use std::collections::HashMap;
 

@@ -12,9 +12,9 @@ use crate::sum_error::SumError;
 use bootstore::Store;
 use envtools::Env;
 use output::{Out, write_all};
-use rehearse::{Devices, DevicesError, RunBounds};
+use rehearse::{Devices, DevicesError, RehearseError};
 use rehearse_machine::Rehearsal;
-use rehearse_runs::RehearseError;
+use rehearse_terms::RunBounds;
 use std::alloc::Global;
 
 /// What is asked of the endings of a script.

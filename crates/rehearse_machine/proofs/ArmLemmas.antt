@@ -11,7 +11,7 @@ use Rattle.hushlang.specs.Tree.{Script, Arms}
 use Rattle.hushlang.specs.TreesShown as view
 use Rattle.bootstore.specs.declared.frame.At.{At}
 use Rattle.bootstore.specs.Moment.{RunningFrame}
-use Rattle.rehearse.specs.State.{State}
+use Rattle.rehearse_terms.specs.State.{State}
 use Rattle.rehearse.specs.Execution.{set_status}
 use Rattle.rehearse_machine.specs.Places.{GoOn, drop_arms, place, moved_to, behind, block_frame, place_arms, condition_ends}
 

@@ -1,10 +1,10 @@
 -- After the bound, nothing is begun.
 use Rattle.std.proofs.Common.{ℕ, zero, suc, Bool, false, refl, ◌≡◌, ◌≤◌, nat_lt, le-ltb}
 use Rattle.hushlang.specs.Tree as tree
-use Rattle.hushlang.specs.Tree.{Script, AndOr, Command, Arms}
+use Rattle.hushlang.specs.Tree.{Script, AndOr, Command, Arms, IsProperList, IsProperCommand, HoldsCommand}
 use Rattle.hushlang.specs.Expansion.{fields}
-use Rattle.rehearse.specs.State.{State, parameters_in}
-use Rattle.hushlang.specs.Tree.{IsProperList, IsProperCommand, HoldsCommand}
+use Rattle.rehearse_terms.specs.State.{State}
+use Rattle.rehearse.specs.Parameters.{parameters_in}
 use Rattle.rehearse.specs.Execution.{Limits, Answer, Ended, CutSteps, begin, simple, sized, assign, turns, for_each, exec_script, exec_list, exec_command, exec_arms}
 
 module _ (limits : Limits) (left : ℕ) (text : Script → State → Answer) where

@@ -10,8 +10,8 @@ use Rattle.bootstore.specs.Moment.{Moment, RunningFrame}
 use Rattle.text.specs.TextsShown.{bytes_of_words}
 use Rattle.bootstore.specs.Record.{Record, changed, with_environment, with_status}
 use Rattle.hushlang.specs.Tree.{Script}
-use Rattle.rehearse.specs.Outcomes.{OutcomeWord}
-use Rattle.rehearse.specs.State.{Text, Variables, State, with_value, without}
+use Rattle.rehearse_terms.specs.Outcomes.{OutcomeWord}
+use Rattle.rehearse_terms.specs.State.{Text, Variables, State, with_value, without}
 use Rattle.bootstore.specs.StoredState.{state_at}
 use Rattle.hushlang.specs.Builtins.{Builtin, builtin_named, builtin_of}
 use Rattle.rehearse.proofs.GivenRuns.{called_apart}

@@ -11,8 +11,8 @@ use Rattle.bootstore.specs.Record.{Record, changed, with_environment, with_statu
 use Rattle.bootstore.specs.StoredState.{state_at}
 use Rattle.bootstore.proofs.StateLemmas.{stored_changes, stored_deletions}
 use Rattle.text.specs.TextsShown.{bytes_of_words}
-use Rattle.rehearse.specs.Outcomes.{OutcomeWord}
-use Rattle.rehearse.specs.State.{Text, Variables, Memory, get, with_value, without}
+use Rattle.rehearse_terms.specs.Outcomes.{OutcomeWord}
+use Rattle.rehearse_terms.specs.State.{Text, Variables, Memory, get, with_value, without}
 use Rattle.rehearse.specs.Commands.{changed_by, deletions}
 use Rattle.rehearse.specs.Execution.{remember}
 use Rattle.rehearse_machine.specs.MovesShown.{Keeps, Changes, Changed}

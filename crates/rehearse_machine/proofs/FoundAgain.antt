@@ -11,8 +11,9 @@ use Rattle.hushlang.specs.Expansion.{fields, size, most_bytes}
 use Rattle.bootstore.specs.declared.frame.At.{At}
 use Rattle.bootstore.specs.Moment.{RunningFrame}
 use Rattle.bootstore.specs.Record.{Record}
-use Rattle.rehearse.specs.Outcomes as outcomes
-use Rattle.rehearse.specs.State.{Text, parameters_in}
+use Rattle.rehearse_terms.specs.Outcomes as outcomes
+use Rattle.rehearse_terms.specs.State.{Text}
+use Rattle.rehearse.specs.Parameters.{parameters_in}
 use Rattle.bootstore.specs.StoredState.{state_at}
 use Rattle.rehearse.specs.Execution.{Limits, Size}
 use Rattle.rehearse_machine.specs.declared.halt.Halt.TheVariants as halts

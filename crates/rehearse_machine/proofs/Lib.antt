@@ -28,3 +28,4 @@ pub mod FoundAgain
 pub mod Limits
 pub mod TextLemmas
 pub mod TaskSet
+pub mod StoppedTextLemmas

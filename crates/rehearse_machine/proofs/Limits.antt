@@ -1,6 +1,6 @@
 -- The limits that bounds keep.
 use Rattle.std.proofs.Common.{ℕ, true, ◌≡◌, ◌≤◌, rules}
-use Rattle.rehearse.specs.Bounds.{BoundsShown, are_run_bounds, most_steps}
+use Rattle.rehearse_terms.specs.Bounds.{BoundsShown, are_run_bounds, most_steps}
 
 within_limit : (devices steps : ℕ) → are_run_bounds devices steps ≡ true → steps ≤ most_steps
 within_limit devices steps h = search rules

@@ -11,7 +11,7 @@ use Rattle.hushlang.specs.TreesShown as view
 use Rattle.hushlang.proofs.ViewLemmas.{list_of}
 use Rattle.bootstore.specs.declared.frame.At.{At}
 use Rattle.bootstore.specs.Moment.{RunningFrame}
-use Rattle.rehearse.specs.State.{State}
+use Rattle.rehearse_terms.specs.State.{State}
 use Rattle.rehearse.specs.Execution.{Limits, goes}
 use Rattle.rehearse_machine.specs.Places.{GoOn, joined_at, place, moved_to, behind, place_command, place_joined, place_begins}
 use Rattle.rehearse_machine.proofs.Beginnings.{chosen, passed}

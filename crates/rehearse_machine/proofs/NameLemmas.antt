@@ -12,9 +12,9 @@ use Rattle.bootstore.specs.declared.store.StoreError.{StoreError}
 use Rattle.bootstore.specs.declared.frame.At.{At}
 use Rattle.bootstore.specs.Moment.{RunningFrame}
 use Rattle.bootstore.specs.Record.{Record, changed, with_status, without_frame}
-use Rattle.rehearse.specs.Outcomes.{OutcomeWord}
-use Rattle.rehearse.specs.Trees.{tree_of}
-use Rattle.rehearse.specs.State.{Text, State, get}
+use Rattle.rehearse_terms.specs.Outcomes.{OutcomeWord}
+use Rattle.hushlang.specs.Trees.{tree_of}
+use Rattle.rehearse_terms.specs.State.{Text, State, get}
 use Rattle.bootstore.specs.StoredState.{state_at}
 use Rattle.rehearse.specs.Execution.{set_status, Syntax}
 use Rattle.bootstore.proofs.StateLemmas.{stored_values}

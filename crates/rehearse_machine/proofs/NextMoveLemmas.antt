@@ -7,8 +7,8 @@ use Rattle.bootstore.specs.declared.store.StoreError.{StoreError}
 use Rattle.bootstore.specs.Moment.{Moment, RunningFrame}
 use Rattle.bootstore.specs.Record.{Record, stepped, without_first}
 use Rattle.bootstore.specs.StoredState.{state_at}
-use Rattle.rehearse.specs.Outcomes.{OutcomeWord}
-use Rattle.rehearse.specs.State.{Text, State}
+use Rattle.rehearse_terms.specs.Outcomes.{OutcomeWord}
+use Rattle.rehearse_terms.specs.State.{Text, State}
 use Rattle.rehearse.specs.Execution.{Limits}
 use Rattle.rehearse_machine.specs.declared.ask.Step.{Step}
 use Rattle.rehearse_machine.specs.declared.next_move.Next.{Next}

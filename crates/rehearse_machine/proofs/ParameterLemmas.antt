@@ -11,8 +11,9 @@ use Rattle.std.proofs.lemmas.Cmp.{nat_list_cmp_total}
 use Rattle.std.specs.Cmp.Lexicographic.{slice_cmp}
 use Rattle.hushlang.specs.Expansion as expansion
 use Rattle.bootstore.specs.Moment.{Bytes, Variables, Moment}
-use Rattle.rehearse.specs.Outcomes.{OutcomeWord}
-use Rattle.rehearse.specs.State.{Text, value_in, parameters_in}
+use Rattle.rehearse_terms.specs.Outcomes.{OutcomeWord}
+use Rattle.rehearse_terms.specs.State.{Text, value_in}
+use Rattle.rehearse.specs.Parameters.{parameters_in}
 use Rattle.bootstore.specs.StoredState.{state_at}
 use Rattle.rehearse_machine.specs.Variables.{in_front, all_variables}
 

@@ -11,9 +11,10 @@ use Rattle.bootstore.specs.declared.frame.FrameKind.{FrameKind}
 use Rattle.bootstore.specs.declared.frame.FrameKind.TheVariants as kinds
 use Rattle.bootstore.specs.Moment.{RunningFrame}
 use Rattle.bootstore.specs.Record.{without_first}
-use Rattle.rehearse.specs.Outcomes.{Outcome, Success, Failure}
-use Rattle.rehearse.specs.Trees.{tree_of}
-use Rattle.rehearse.specs.State.{Text, get, State, parameters_in}
+use Rattle.rehearse_terms.specs.Outcomes.{Outcome, Success, Failure}
+use Rattle.hushlang.specs.Trees.{tree_of}
+use Rattle.rehearse_terms.specs.State.{Text, get, State}
+use Rattle.rehearse.specs.Parameters.{parameters_in}
 use Rattle.rehearse.specs.Verdict.{verdict}
 use Rattle.rehearse.specs.Commands.{Called, ChangesVariables, WritesText, RunsTexts, Tests, Exits, BuiltIn, NoCommand, Device, called_by, sets_in, asks_device, exit_status}
 use Rattle.rehearse.specs.Execution.{Limits, End, CutDevices, CutSteps, Size, set_status, set_local, status_when, goes, holds, Request, test_effect, outcome_when, told, told_again, logged, set_environment}

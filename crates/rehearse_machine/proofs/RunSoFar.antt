@@ -1,15 +1,14 @@
 -- How far a run of a task is that has taken a word: it starts, takes outcomes, asks and ends.
 use Rattle.std.proofs.Common.{Bool, true, false, List, [], ◌∷◌, ◌++◌, Option, Some, None, refl, sym, ap, ◌∙◌, ◌≡◌, append_assoc, arith}
 use Rattle.hushlang.specs.Tree as tree
-use Rattle.hushlang.specs.Tree.{Script}
-use Rattle.rehearse.specs.Outcomes.{OutcomeWord, Outcome, Success, Failure}
-use Rattle.rehearse.specs.Trees.{tree_of}
-use Rattle.rehearse.specs.State.{Text, State, start}
-use Rattle.hushlang.specs.Tree.{IsProper}
+use Rattle.hushlang.specs.Tree.{Script, IsProper}
+use Rattle.rehearse_terms.specs.Outcomes.{OutcomeWord, Outcome, Success, Failure}
+use Rattle.hushlang.specs.Trees.{tree_of}
+use Rattle.rehearse_terms.specs.State.{Text, State, start}
 use Rattle.rehearse.specs.Commands.{sets_in}
 use Rattle.rehearse.specs.Execution.{Syntax, Booted, Request, take_outcome, boot, logged, set_environment}
 use Rattle.rehearse.specs.Runs.{Task, run_on}
-use Rattle.rehearse.proofs.ProperLemmas.{trees_are_proper}
+use Rattle.hushlang.proofs.ProperLemmas.{trees_are_proper}
 use Rattle.rehearse_machine.specs.Frames.{Frame, Lists, Next, Go, Ask, Stop, move, boot_next, answered, begun_text}
 use Rattle.rehearse_machine.specs.Came.{settled}
 use Rattle.rehearse_machine.specs.Meaning.{with, full, continue, comes_to, AreProperFrames, StandsAt, AsksAt, AfterMove}

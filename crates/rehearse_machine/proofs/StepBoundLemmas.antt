@@ -1,16 +1,16 @@
 -- A script means the same for every number of allowed steps that is at least the number of steps left.
 use Rattle.std.proofs.Common.{ℕ, zero, suc, Bool, true, false, List, [], ◌∷◌, Option, Some, None, refl, sym, ◌∙◌, ◌≡◌, ◌<◌, ◌≤◌, arith, ◌+◌, nat_lt, nat_le, nat_eq}
 use Rattle.hushlang.specs.Tree as tree
-use Rattle.hushlang.specs.Tree.{Script, AndOr, Joined, Command, Arms}
+use Rattle.hushlang.specs.Tree.{Script, AndOr, Joined, Command, Arms, IsProper, IsProperList, IsProperJoined, IsProperCommand, AreProperArms, HoldsCommand}
 use Rattle.hushlang.specs.Expansion.{fields, size, most_bytes}
-use Rattle.rehearse.specs.Trees.{tree_of}
-use Rattle.rehearse.specs.State.{Text, get, State, parameters_in}
+use Rattle.hushlang.specs.Trees.{tree_of}
+use Rattle.rehearse_terms.specs.State.{Text, get, State}
+use Rattle.rehearse.specs.Parameters.{parameters_in}
 use Rattle.rehearse.specs.Commands.{Called, ChangesVariables, WritesText, RunsTexts, Tests, Exits, BuiltIn, NoCommand, Device, called_by}
-use Rattle.hushlang.specs.Tree.{IsProper, IsProperList, IsProperJoined, IsProperCommand, AreProperArms, HoldsCommand}
 use Rattle.rehearse.specs.Execution.{Limits, Answer, Normal, Exit, Ended, Dry, CutSteps, Syntax, Size, go_on, set_status, set_local, goes, holds, begin, text_end, run_text, run_all, command, simple, sized, turns, for_each, exec_script, exec_list, exec_joined, exec_command, exec_arms, exec}
 use Rattle.rehearse.proofs.GrowingSteps.{AtLeast, Grew, AtLeast-track, Grew-block}
 use Rattle.rehearse.proofs.TakenOutcomes.{KeepsAll, after_condition, Keeps-script, Keeps-list, Keeps-one, Keeps-exec, Keeps-text}
-use Rattle.rehearse.proofs.ProperLemmas.{trees_are_proper}
+use Rattle.hushlang.proofs.ProperLemmas.{trees_are_proper}
 use Rattle.rehearse_machine.proofs.BoundLemmas.{Cut-block, Cut-turns}
 
 pub block_proper : (a : Script) → HoldsCommand a → IsProper a

@@ -4,8 +4,8 @@ use Rattle.std.specs.Prelude.{IfOk, OnOk}
 use Rattle.bootstore.specs.declared.store.StoreError.{StoreError}
 use Rattle.bootstore.specs.Moment.{RunningFrame, Moment}
 use Rattle.bootstore.specs.Record.{Record}
-use Rattle.rehearse.specs.Outcomes.{OutcomeWord, Outcome, Success, Failure}
-use Rattle.rehearse.specs.State.{State}
+use Rattle.rehearse_terms.specs.Outcomes.{OutcomeWord, Outcome, Success, Failure}
+use Rattle.rehearse_terms.specs.State.{State}
 use Rattle.bootstore.specs.StoredState.{state_at}
 use Rattle.rehearse.specs.Commands.{sets_in}
 use Rattle.rehearse.specs.Execution.{Limits, Request, logged, set_environment}

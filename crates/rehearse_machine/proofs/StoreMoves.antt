@@ -4,8 +4,8 @@ use Rattle.bootstore.specs.declared.frame.At.{At}
 use Rattle.bootstore.specs.declared.store.StoreError.{StoreError}
 use Rattle.bootstore.specs.Moment.{Moment, RunningFrame}
 use Rattle.bootstore.specs.Record.{Record, changed, with_place, with_frame, without_frame, with_status, moved}
-use Rattle.rehearse.specs.Outcomes.{OutcomeWord}
-use Rattle.rehearse.specs.State.{State}
+use Rattle.rehearse_terms.specs.Outcomes.{OutcomeWord}
+use Rattle.rehearse_terms.specs.State.{State}
 use Rattle.bootstore.specs.StoredState.{state_at}
 use Rattle.rehearse.specs.Execution.{set_status}
 use Rattle.rehearse_machine.specs.Places.{PlaceNext, GoOn, moved_to}

@@ -10,9 +10,9 @@ use Rattle.std.proofs.Math.Bool.{or-false}
 use Rattle.bootstore.specs.Moment as stored
 use Rattle.bootstore.specs.Moment.{set_in_turn, environment_of}
 use Rattle.envtools.specs.Environment.{value_of, same}
-use Rattle.rehearse.specs.State.{Text, get}
+use Rattle.rehearse_terms.specs.State.{Text, get}
 use Rattle.rehearse.specs.DeviceList.{Devices}
-use Rattle.rehearse.specs.Bounds.{BoundsShown}
+use Rattle.rehearse_terms.specs.Bounds.{BoundsShown}
 use Rattle.rehearse.specs.Runs.{Task}
 use Rattle.rehearse_machine.specs.Tasks.{task_shown, task_set}
 use Rattle.bootstore.proofs.StateLemmas.{stored_values}

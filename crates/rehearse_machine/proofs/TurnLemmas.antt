@@ -3,8 +3,8 @@ use Rattle.std.proofs.Common.{ℕ, [], refl, sym, ap, subst, ◌∙◌, ◌≡�
 use Rattle.std.specs.FinMap.{entries}
 use Rattle.bootstore.specs.Moment.{Moment}
 use Rattle.bootstore.specs.Record.{Record}
-use Rattle.rehearse.specs.Outcomes.{OutcomeWord}
-use Rattle.rehearse.specs.State.{State}
+use Rattle.rehearse_terms.specs.Outcomes.{OutcomeWord}
+use Rattle.rehearse_terms.specs.State.{State}
 use Rattle.bootstore.specs.StoredState.{state_at}
 use Rattle.rehearse.specs.Execution.{Limits}
 use Rattle.rehearse_machine.specs.declared.ask.Step.{Step}

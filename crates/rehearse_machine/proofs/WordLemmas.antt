@@ -9,8 +9,8 @@ use Rattle.bootstore.specs.Moment.{RunningFrame}
 use Rattle.text.specs.TextsShown.{bytes_of_words}
 use Rattle.bootstore.specs.Record.{Record, changed, with_local}
 use Rattle.hushlang.specs.Tree.{Script}
-use Rattle.rehearse.specs.Outcomes.{OutcomeWord}
-use Rattle.rehearse.specs.State.{Text, Variables}
+use Rattle.rehearse_terms.specs.Outcomes.{OutcomeWord}
+use Rattle.rehearse_terms.specs.State.{Text, Variables}
 use Rattle.bootstore.specs.StoredState.{state_at}
 use Rattle.rehearse.specs.Execution.{set_local}
 use Rattle.bootstore.proofs.StateLemmas.{stored_changes}

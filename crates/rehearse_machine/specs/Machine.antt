@@ -1,7 +1,7 @@
 -- What the machine promises: where a text stops, and what is still to come there for every rest of the word. Ours.
 use Rattle.std.specs.Prelude.{◌≡◌, ◌≤◌, []}
 use Rattle.bootstore.specs.Moment.{Moment}
-use Rattle.rehearse.specs.Outcomes.{OutcomeWord}
+use Rattle.rehearse_terms.specs.Outcomes.{OutcomeWord}
 use Rattle.bootstore.specs.StoredState.{state_at}
 use Rattle.rehearse.specs.Execution.{Limits, Request}
 pub use Rattle.rehearse.specs.Execution.{outcome_when}

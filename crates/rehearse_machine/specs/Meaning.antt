@@ -1,9 +1,8 @@
 -- What frames still do to a run: the machine's frames as a continuation of the meaning of scripts. Ours.
 use Rattle.std.specs.Prelude.{◌≡◌, nat_eq, Bool, true, false, List, [], ◌∷◌, ◌++◌}
-use Rattle.hushlang.specs.Tree.{Script, Joined, Command, Arms}
-use Rattle.rehearse.specs.Outcomes.{OutcomeWord}
-use Rattle.rehearse.specs.State.{State}
-use Rattle.hushlang.specs.Tree.{IsProper, IsProperJoined, AreProperArms, HoldsCommand}
+use Rattle.hushlang.specs.Tree.{Script, Joined, Command, Arms, IsProper, IsProperJoined, AreProperArms, HoldsCommand}
+use Rattle.rehearse_terms.specs.Outcomes.{OutcomeWord}
+use Rattle.rehearse_terms.specs.State.{State}
 use Rattle.rehearse.specs.Execution.{Limits, Answer, Normal, Exit, Ended, Dry, Ending, Request, go_on, set_status, holds, text_end, take_outcome, run_all, turns, for_each, exec_script, exec_joined, exec_command, exec_arms, exec}
 use Rattle.rehearse.specs.Runs.{Task, run_on}
 use Rattle.rehearse_machine.specs.Came.{Came, Over, settled}

@@ -2,8 +2,8 @@
 use Rattle.std.specs.Prelude.{ℕ, suc, ◌+◌, List, [], ◌∷◌, Option, Some, None}
 use Rattle.hushlang.specs.Tree as tree
 use Rattle.hushlang.specs.Tree.{Script, AndOr, Joined, Command, Arms}
-use Rattle.rehearse.specs.Trees.{tree_of}
-use Rattle.rehearse.specs.State.{Text, Variables, get}
+use Rattle.hushlang.specs.Trees.{tree_of}
+use Rattle.rehearse_terms.specs.State.{Text, Variables, get}
 use Rattle.rehearse_machine.specs.Frames.{Frame, Lists, Linked, IfCondition, LoopCondition, LoopBody, ForBody, RunNames, RunText}
 
 -- how many moves lead from a command to the first step in it

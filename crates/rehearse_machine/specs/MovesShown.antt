@@ -5,13 +5,13 @@ use Rattle.text.specs.TextsShown.{bytes_of_words}
 use Rattle.bootstore.specs.Record.{Record, without_first, stepped}
 use Rattle.std.specs.declared.alloc.Global.{Global}
 use Rattle.hushlang.specs.Expansion.{size, most_bytes}
-use Rattle.rehearse.specs.Outcomes.{OutcomeWord}
+use Rattle.rehearse_terms.specs.Outcomes.{OutcomeWord}
 use Rattle.bootstore.specs.declared.store.StoreError.{StoreError}
-use Rattle.rehearse.specs.State.{Text, Memory, State}
+use Rattle.rehearse_terms.specs.State.{Text, Memory, State}
 use Rattle.bootstore.specs.StoredState.{state_at}
 use Rattle.rehearse.specs.DeviceList.{Devices}
 use Rattle.rehearse.specs.CommandsShown.{lent_effect}
-use Rattle.rehearse.specs.Bounds.{BoundsShown}
+use Rattle.rehearse_terms.specs.Bounds.{BoundsShown}
 use Rattle.rehearse.specs.Execution.{Limits, Request, remember}
 use Rattle.rehearse_machine.specs.Places.{PlaceNext, GoOn, AskOn, StopOn}
 use Rattle.rehearse_machine.specs.EndingsShown.{halt_shown}

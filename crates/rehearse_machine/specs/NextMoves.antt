@@ -4,7 +4,8 @@ use Rattle.hushlang.specs.Tree as tree
 use Rattle.hushlang.specs.TreesShown as view
 use Rattle.hushlang.specs.Expansion.{fields}
 use Rattle.bootstore.specs.Moment.{RunningFrame}
-use Rattle.rehearse.specs.State.{State, parameters_in}
+use Rattle.rehearse_terms.specs.State.{State}
+use Rattle.rehearse.specs.Parameters.{parameters_in}
 use Rattle.rehearse.specs.Execution.{Limits, set_status}
 use Rattle.rehearse_machine.specs.declared.next_move.Next.{Next}
 use Rattle.rehearse_machine.specs.declared.next_move.Next.TheVariants as nexts

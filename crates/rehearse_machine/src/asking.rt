@@ -14,7 +14,8 @@ use bootstore::{Frame, Store, StoreError};
 use hushlang::call::Call;
 use hushlang::expand::Fields;
 use hushlang::tree::Command;
-use rehearse::{Devices, RunBounds};
+use rehearse::Devices;
+use rehearse_terms::RunBounds;
 use std::alloc::Global;
 
 /// The simple command before the place of a frame.

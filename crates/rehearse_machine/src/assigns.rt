@@ -12,7 +12,7 @@ use crate::halt::Halt;
 use crate::steps::{count, expanded_one};
 use bootstore::{Frame, Store, StoreError};
 use hushlang::tree::Word;
-use rehearse::RunBounds;
+use rehearse_terms::RunBounds;
 use std::alloc::Global;
 
 /// Begins a step for assignments, and assigns.

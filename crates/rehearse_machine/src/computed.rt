@@ -6,7 +6,7 @@ ghost use Rattle.bootstore.specs.Record.{changed, with_environment};
 ghost use Rattle.text.specs.TextsShown.{bytes_of_words};
 ghost use Rattle.rehearse.specs.Commands as says;
 ghost use Rattle.rehearse.specs.ComputedShown.{computed_shown};
-ghost use Rattle.rehearse.specs.State.{get, with_value};
+ghost use Rattle.rehearse_terms.specs.State.{get, with_value};
 ghost use Rattle.rehearse_machine.specs.MovesShown.{Changed};
 
 use crate::commands::setenv;

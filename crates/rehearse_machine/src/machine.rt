@@ -16,7 +16,8 @@ use crate::simple::{begin_for, call};
 use crate::steps::expanded;
 use bootstore::{Frame, Store, StoreError};
 use hushlang::expand::Fields;
-use rehearse::{Devices, RunBounds};
+use rehearse::Devices;
+use rehearse_terms::RunBounds;
 use std::alloc::Global;
 
 /// Does what the innermost frame does next. The frame is a copy, since the store changes.

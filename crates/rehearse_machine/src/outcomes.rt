@@ -3,7 +3,7 @@ ghost use Rattle.std.specs.Prelude.{◌≡◌, ◌∷◌, [], false, map, option
 ghost use Rattle.text.specs.TextsShown.{bytes_of_words};
 ghost use Rattle.rehearse.specs.Commands.{named_by, variable_of, sets_in};
 ghost use Rattle.rehearse.specs.DevicesShown.{left_shown, setting_shown};
-ghost use Rattle.rehearse.specs.Outcomes.{Outcome};
+ghost use Rattle.rehearse_terms.specs.Outcomes.{Outcome};
 ghost use Rattle.rehearse.specs.Execution.{succeeds, with_all};
 ghost use Rattle.rehearse.specs.CommandsShown.{lent_effect};
 ghost use Rattle.rehearse.specs.DeviceList.{Devices as ListedDevices};
@@ -15,7 +15,8 @@ use crate::commands::copied;
 use crate::halt::Halt;
 use crate::told::told;
 use bootstore::{LogEntry, Store, StoreError};
-use rehearse::{Effect, LeftSide, RunBounds, Setting, is_bad_name};
+use rehearse::{Effect, LeftSide, Setting, is_bad_name};
+use rehearse_terms::RunBounds;
 use std::alloc::Global;
 
 /// Gives a device command its outcome, which goes into the log and is the status. On success the

@@ -1,7 +1,7 @@
 //! The text of a rehearsal, from one outcome that is asked for to the next.
 ghost use Rattle.std.specs.Prelude.{◌≡◌, ◌+◌, ◌<◌, ◌≤◌, ◌^◌, ◌∷◌, [], OnOk, IfOk, IsSome, unwrap_or};
 ghost use Rattle.std.specs.FinMap.{get};
-ghost use Rattle.rehearse.specs.Bounds.{most_steps};
+ghost use Rattle.rehearse_terms.specs.Bounds.{most_steps};
 ghost use Rattle.rehearse.specs.Runs.{run_on};
 ghost use Rattle.rehearse_machine.specs.Came.{settled};
 ghost use Rattle.rehearse_machine.specs.MovesShown.{Keeps, limits_of};
@@ -18,7 +18,8 @@ use crate::outcomes::answer;
 use bootstore::{Store, StoreError, read_script};
 use envtools::Env;
 use hushlang::expand::Fields;
-use rehearse::{Devices, RunBounds};
+use rehearse::Devices;
+use rehearse_terms::RunBounds;
 use std::alloc::Global;
 use std::rc::Rc;
 

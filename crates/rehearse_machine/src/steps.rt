@@ -9,7 +9,7 @@ use crate::memory::Memory;
 use bootstore::{Store, StoreError};
 use hushlang::expand::{ExpandError, Fields, expand_one};
 use hushlang::tree::Word;
-use rehearse::RunBounds;
+use rehearse_terms::RunBounds;
 use std::alloc::Global;
 
 /// Begins a step if the bound allows one more. Returns whether it did.

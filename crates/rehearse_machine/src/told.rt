@@ -3,7 +3,7 @@ ghost use Rattle.std.specs.Prelude.{◌≡◌, ◌∷◌, ◌&&◌, not, false};
 ghost use Rattle.text.specs.TextsShown.{bytes_of_words};
 ghost use Rattle.rehearse.specs.CommandsShown.{lent_effect};
 ghost use Rattle.rehearse.specs.Execution.{told};
-ghost use Rattle.rehearse.specs.State.{same_words, answer_in};
+ghost use Rattle.rehearse_terms.specs.State.{same_words, answer_in};
 
 use bootstore::{LogEntry, Store};
 use rehearse::Effect;

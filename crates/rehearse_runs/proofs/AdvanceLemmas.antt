@@ -2,14 +2,13 @@
 use Rattle.std.proofs.Common.{◌≡◌, ℕ, zero, suc, ◌+◌, ◌*◌, ◌^◌, ◌≤◌, Bool, true, false, List, [], ◌∷◌, ◌++◌, length, map, Option, Some, None, ◌⊎◌, inl, inr, refl, sym, ap, subst, ◌∙◌, length-append, arith}
 use Rattle.std.specs.Prelude.{filter, nat_le, ◌&&◌, ◌||◌}
 use Rattle.std.proofs.lemmas.List.{length-map}
-use Rattle.std.proofs.lemmas.List.Sums.{length-filter}
+use Rattle.std.proofs.lemmas.List.Sums.{length-filter, count_by-le-length}
 use Rattle.std.proofs.lemmas.Grind.{pow_more}
 use Rattle.std.proofs.Math.Pow.{pow_mono}
 use Rattle.bootstore.specs.Record.{Record, fresh}
-use Rattle.std.proofs.lemmas.List.Sums.{count_by-le-length}
-use Rattle.rehearse.specs.Bounds.{are_bounds, are_few, few_failures, most_devices, most_run_devices, most_steps}
-use Rattle.rehearse.specs.Outcomes.{OutcomeWord, Success, Failure, words, is_run_kind, is_within, few_of}
-use Rattle.rehearse.specs.State.{Text}
+use Rattle.rehearse_terms.specs.Bounds.{are_bounds, are_few, few_failures, most_devices, most_run_devices, most_steps}
+use Rattle.rehearse_terms.specs.Outcomes.{OutcomeWord, Success, Failure, words, is_run_kind, is_within, few_of}
+use Rattle.rehearse_terms.specs.State.{Text}
 use Rattle.rehearse.specs.Runs.{Task, kind, all_runs, runs, steps}
 use Rattle.rehearse_runs.specs.Phases.{AreDigits, HasBudget, HasBegun}
 use Rattle.std.proofs.lemmas.Bool.{leb-true}

@@ -1,9 +1,9 @@
 -- The runs after a word, and the kinds of texts.
 use Rattle.std.proofs.Common.{◌≡◌, ℕ, ◌+◌, ◌≤◌, true, false, List, [], ◌∷◌, length, map, refl, sym, ap, subst, ◌∙◌, length-append, zero-add, Some, arith}
 use Rattle.bootstore.specs.Record.{Record, fresh}
-use Rattle.rehearse.specs.Bounds.{most_run_devices}
-use Rattle.rehearse.specs.Outcomes.{OutcomeWord, Success, Failure, Run, Short, is_within}
-use Rattle.rehearse.specs.State.{Text, State}
+use Rattle.rehearse_terms.specs.Bounds.{most_run_devices}
+use Rattle.rehearse_terms.specs.Outcomes.{OutcomeWord, Success, Failure, Run, Short, is_within}
+use Rattle.rehearse_terms.specs.State.{Text, State}
 use Rattle.rehearse.specs.Runs.{Task, kind, IsListed, rest, steps}
 use Rattle.rehearse.specs.Listing.{outcome_digit}
 use Rattle.rehearse_runs.specs.RunsShown.{outcomes}

@@ -3,8 +3,8 @@ use Rattle.std.proofs.Common.{◌≡◌, ℕ, zero, suc, ◌+◌, ◌-◌, ◌<�
 use Rattle.std.specs.Prelude.{nat_lt}
 use Rattle.std.proofs.Math.Dec.{leb-suc-zero, leb-suc-suc}
 use Rattle.std.proofs.lemmas.List.{take_more}
-use Rattle.rehearse.specs.Outcomes.{Outcome, failures, allows, one_less, has_success}
-use Rattle.rehearse.specs.State.{Text}
+use Rattle.rehearse_terms.specs.Outcomes.{Outcome, failures, allows, one_less, has_success}
+use Rattle.rehearse_terms.specs.State.{Text}
 use Rattle.rehearse_runs.specs.RunsShown.{outcomes}
 use Rattle.rehearse_runs.proofs.SearchLemmas.{dropped_failures, failure_of, passed_failures}
 

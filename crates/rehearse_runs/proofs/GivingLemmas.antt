@@ -1,9 +1,9 @@
 -- A run that is given, and what the rehearsal then keeps.
 use Rattle.std.proofs.Common.{◌≡◌, ℕ, ◌+◌, ◌≤◌, Bool, true, false, [], ◌∷◌, length, Option, Some, refl, sym, ap, subst, ◌∙◌, arith}
 use Rattle.bootstore.specs.Record.{Record}
-use Rattle.rehearse.specs.Bounds.{most_run_devices}
-use Rattle.rehearse.specs.Outcomes.{OutcomeWord, common_prefix}
-use Rattle.rehearse.specs.State.{Text, State}
+use Rattle.rehearse_terms.specs.Bounds.{most_run_devices}
+use Rattle.rehearse_terms.specs.Outcomes.{OutcomeWord, common_prefix}
+use Rattle.rehearse_terms.specs.State.{Text, State}
 use Rattle.rehearse.specs.Runs.{Task, runs, IsListed, rest, steps, asked}
 use Rattle.rehearse_machine.specs.declared.halt.Halt.{Halt}
 use Rattle.rehearse_runs.specs.declared.runs.Phase.{Phase}

@@ -6,14 +6,15 @@ use Rattle.std.specs.List.{flat_map}
 use Rattle.std.proofs.lemmas.Bool.{eqb-true}
 use Rattle.output.specs.Sink.{Sink, Wrote, BrokeOff}
 use Rattle.envtools.specs.Environment.{value_of}
-use Rattle.rehearse.specs.Asking.{Alone, Asking, AreToCome, GivesNoRun, Listed, SpellsNoRun}
-use Rattle.rehearse.specs.Listing.{outcome_digit, spelled, record_of, line, whole_page}
-use Rattle.rehearse.specs.Outcomes.{Outcome, OutcomeWord, Success, Failure}
-use Rattle.rehearse.specs.State.{Text}
+use Rattle.rehearse_terms.specs.Asking.{Alone, Asking, Listed, whole_page}
+use Rattle.rehearse.specs.RunsToCome.{AreToCome, GivesNoRun, SpellsNoRun}
+use Rattle.rehearse.specs.Listing.{outcome_digit, spelled, record_of, line}
+use Rattle.rehearse_terms.specs.Outcomes.{Outcome, OutcomeWord, Success, Failure}
+use Rattle.rehearse_terms.specs.State.{Text}
 use Rattle.rehearse.specs.DeviceList.{Devices, listed}
 use Rattle.rehearse.specs.Runs.{Task}
 use Rattle.rehearse_machine.specs.Tasks.{task_shown, task_set}
-use Rattle.rehearse.specs.Bounds.{BoundsShown}
+use Rattle.rehearse_terms.specs.Bounds.{BoundsShown}
 use Rattle.rehearse_runs.specs.AskShown.{asking_by, asking_for, asking_of}
 use Rattle.rehearse_runs.specs.Behind.{GoesOnBehind, IsNoRun, IsNotListed, RefusesWord}
 use Rattle.rehearse_runs.specs.RehearsedEnvironment.{Begins, Refuses, RefusesAsk, RefusesRuns, Rehearses, WithDevices, WithRuns, task_asked}
@@ -22,12 +23,12 @@ use Rattle.rehearse_runs.specs.RunAlone.{BreaksAlone, WritesAlone}
 use Rattle.rehearse_runs.specs.RunsShown.{RunsShown}
 use Rattle.rehearse_runs.specs.StartWord.{digits_in}
 use Rattle.rehearse_runs.specs.declared.ask.Ask.{Ask}
-use Rattle.rehearse.specs.declared.wanted.Page.{Page}
-use Rattle.rehearse.specs.declared.wanted.Wanted.{Wanted}
+use Rattle.rehearse_terms.specs.declared.wanted.Page.{Page}
+use Rattle.rehearse_terms.specs.declared.wanted.Wanted.{Wanted}
 use Rattle.rehearse_runs.specs.declared.listing.Finish.{Finish}
 use Rattle.rehearse_runs.specs.declared.listing.Finish.TheVariants.{Done}
-use Rattle.rehearse_runs.specs.declared.rehearse_error.RehearseError.{RehearseError}
-use Rattle.rehearse_runs.specs.declared.rehearse_error.RehearseError.TheVariants.{DeviceList, NoSuchVariable, NotARun, States, Write, Memory, Failed}
+use Rattle.rehearse.specs.declared.rehearse_error.RehearseError.{RehearseError}
+use Rattle.rehearse.specs.declared.rehearse_error.RehearseError.TheVariants.{DeviceList, NoSuchVariable, NotARun, States, Write, Memory, Failed}
 use Rattle.rehearse_machine.proofs.TaskSet.{task_is_set}
 
 -- ---- a word as it is printed, and its digits

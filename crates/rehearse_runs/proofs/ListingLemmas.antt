@@ -1,29 +1,29 @@
 -- The records of runs, one after another, and the line after them.
-use Rattle.std.proofs.Common.{◌≡◌, ◌≢◌, ℕ, zero, suc, ◌+◌, ◌-◌, Bool, true, false, List, [], ◌∷◌, ◌++◌, length, map, take, drop, Option, Some, None, inl, inr, refl, sym, ap, subst, ◌∙◌, append_assoc, append-nil, arith}
+use Rattle.std.proofs.Common.{◌≡◌, ◌≢◌, ℕ, zero, suc, ◌+◌, ◌-◌, Bool, true, false, List, [], ◌∷◌, ◌++◌, length, map, take, drop, Option, Some, None, inl, inr, refl, sym, ap, subst, ◌∙◌, append_assoc, append-nil, arith, Result, Ok, Err, ◌≤◌, length-append}
 use Rattle.std.specs.Prelude.{nat_le, codes, unwrap_or}
 use Rattle.std.specs.List.{flat_map}
 use Rattle.std.proofs.lemmas.List.Concat.{flat_map-append}
 use Rattle.output.specs.Sink.{Sink, Wrote, BrokeOff}
 use Rattle.output.proofs.SinkLemmas.{Wrote-none, Wrote-append, BrokeOff-after, BrokeOff-before}
 use Rattle.bootstore.specs.declared.store.Store.{Ghosts}
-use Rattle.rehearse.specs.Outcomes.{OutcomeWord}
-use Rattle.rehearse.specs.State.{Text, State}
+use Rattle.rehearse_terms.specs.Outcomes.{OutcomeWord}
+use Rattle.rehearse_terms.specs.State.{Text, State}
 use Rattle.bootstore.specs.StoredState.{state_at}
 use Rattle.rehearse.specs.Execution.{Ending}
 use Rattle.rehearse.specs.Runs.{Task, run_on, state_of, ending_of}
-use Rattle.rehearse.specs.Listing.{outcome_digit, record_text, record_of, words_listed, closing, listing, last_of, line, spelled, HasRoom, page_words, page_closing, page_text}
-use Rattle.rehearse.specs.declared.wanted.Page.{Page}
+use Rattle.rehearse.specs.Listing.{outcome_digit, record_text, record_of, words_listed, closing, listing, last_of, line, spelled, page_words, page_closing, page_text}
+use Rattle.rehearse_terms.specs.Asking.{HasRoom}
+use Rattle.rehearse_terms.specs.declared.wanted.Page.{Page}
 use Rattle.rehearse_runs.specs.Recording.{recorded, printed}
 use Rattle.rehearse_runs.specs.RunsShown.{RunsShown, last_given, last_answer, has_words}
 use Rattle.rehearse_runs.proofs.WorkLemmas.{last_some, last_more}
 use Rattle.rehearse_runs.specs.RunViewShown.{shown_word, shown_moment, shown_ending}
-use Rattle.std.proofs.Common.{Result, Ok, Err, ◌≤◌, length-append}
 use Rattle.std.proofs.Math.Dec.{eqb-suc-zero}
 use Rattle.std.proofs.lemmas.Bool.{lt-leb, le-leb}
 use Rattle.rehearse_runs.specs.Giving.{ShowsRun, GivesWord, GivesNone, GivesUp, Gives}
 use Rattle.rehearse_runs.specs.Giving as giving
-use Rattle.rehearse_runs.specs.declared.rehearse_error.RehearseError.{RehearseError}
-use Rattle.rehearse_runs.specs.declared.rehearse_error.RehearseError.TheVariants.{DeviceList, NoSuchVariable, NotARun, States, Write, Memory, Failed}
+use Rattle.rehearse.specs.declared.rehearse_error.RehearseError.{RehearseError}
+use Rattle.rehearse.specs.declared.rehearse_error.RehearseError.TheVariants.{DeviceList, NoSuchVariable, NotARun, States, Write, Memory, Failed}
 use Rattle.rehearse_runs.specs.declared.listing.Finish.{Finish}
 use Rattle.rehearse_runs.specs.declared.listing.Finish.TheVariants.{Done, More}
 use Rattle.rehearse_runs.specs.ListingRuns.{Breaks, Lists, left_out, finish_at, finish_of, IsLeft, Takes, Recorded, WroteRecords, FailsInListing, BreaksInListing, reached, lowered}

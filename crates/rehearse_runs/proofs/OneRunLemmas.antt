@@ -7,7 +7,7 @@ use Rattle.bootstore.specs.Moment.{Moment}
 use Rattle.bootstore.specs.Record.{Record}
 use Rattle.bootstore.specs.declared.store.Store.{Ghosts}
 use Rattle.rehearse.specs.Listing.{line}
-use Rattle.rehearse.specs.State.{Text}
+use Rattle.rehearse_terms.specs.State.{Text}
 use Rattle.bootstore.specs.StoredState.{state_at}
 use Rattle.rehearse.specs.Runs.{Task}
 use Rattle.rehearse_machine.specs.EndingsShown.{halt_shown}

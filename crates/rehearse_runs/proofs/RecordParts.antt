@@ -6,21 +6,16 @@ use Rattle.std.proofs.lemmas.List.Concat.{flat_map-append}
 use Rattle.std.specs.declared.alloc.Global.{Global}
 use Rattle.std.specs.declared.vec.Vec.{Vec}
 use Rattle.text.specs.TextsShown.{bytes_of_words}
-use Rattle.rehearse.specs.State.{Text, Variables, State, LoggedCommand}
+use Rattle.rehearse_terms.specs.State.{Text, Variables, State, LoggedCommand}
 use Rattle.rehearse.specs.Execution.{Ending}
 use Rattle.text.specs.Escapes.{word_form}
 use Rattle.rehearse.specs.Listing.{line, digit_when, device_line, text_lines, variable_line, variable_lines, asked_line, last_line}
-use Rattle.rehearse_runs.specs.Recording.{printed, spaced, entry_line, set_line, named_line, recorded}
+use Rattle.rehearse_runs.specs.Recording.{printed, entry_line, set_line, named_line, recorded}
 
 module _ {X : Type 0} (g : X → Text) where
   lines_of-map : (xs : List X) → flat_map line (map g xs) ≡ flat_map (λ x. line (g x)) xs
   lines_of-map [] = refl
   lines_of-map (x ∷ xs) = ap (λ t. line (g x) ++ t) (lines_of-map xs)
-
--- words, each after a space
-pub joined_words : (w : Vec ℕ Global) (ws : List (Vec ℕ Global)) → word_form w.items ++ flat_map spaced ws ≡ join_with_byte 32 (map word_form (bytes_of_words (w ∷ ws)))
-joined_words w [] = append-nil (word_form w.items)
-joined_words w (v ∷ ws) = ap (λ t. word_form w.items ++ (32 ∷ t)) (joined_words v ws)
 
 pub all_variables : {X : Type 0} (now : X → Text) (environment : Variables) (names : List X) → length names ≡ 0 → flat_map set_line environment ≡ flat_map line (variable_lines environment (map now names))
 all_variables now environment [] e = sym (lines_of-map variable_line environment)

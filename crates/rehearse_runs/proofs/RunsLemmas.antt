@@ -3,9 +3,9 @@ use Rattle.std.proofs.Common.{◌≡◌, ◌≢◌, ◌↔◌, ◌≤◌, length
 use Rattle.bootstore.specs.Moment.{Moment}
 use Rattle.bootstore.specs.Record.{Record}
 use Rattle.bootstore.specs.declared.store.Store.{Ghosts}
-use Rattle.rehearse.specs.Bounds.{most_run_devices}
-use Rattle.rehearse.specs.Outcomes.{OutcomeWord, has_success}
-use Rattle.rehearse.specs.State.{Text}
+use Rattle.rehearse_terms.specs.Bounds.{most_run_devices}
+use Rattle.rehearse_terms.specs.Outcomes.{OutcomeWord, has_success}
+use Rattle.rehearse_terms.specs.State.{Text}
 use Rattle.bootstore.specs.StoredState.{state_at}
 use Rattle.rehearse.specs.Runs.{Task, IsListed, rest, runs, run_on, state_of, ending_of}
 use Rattle.rehearse.specs.Listing.{outcome_digit}

@@ -1,9 +1,9 @@
 -- The search for the next run, over the words of runs.
-use Rattle.std.proofs.Common.{◌≡◌, ℕ, zero, suc, ◌+◌, ◌-◌, cond, ◌<◌, ◌≤◌, Bool, true, false, List, [], ◌∷◌, ◌++◌, length, map, Option, Some, None, option_map, pred, refl, sym, ap, subst, ◌∙◌, append_assoc, append-nil, arith}
+use Rattle.std.proofs.Common.{◌≡◌, ℕ, zero, suc, ◌+◌, ◌-◌, cond, ◌<◌, ◌≤◌, Bool, true, false, List, [], ◌∷◌, ◌++◌, length, map, Option, Some, None, option_map, pred, refl, sym, ap, subst, ◌∙◌, append_assoc, append-nil, arith, Result, Ok, Err}
 use Rattle.bootstore.specs.Moment.{Moment}
-use Rattle.rehearse.specs.Bounds.{most_steps}
-use Rattle.rehearse.specs.Outcomes.{OutcomeWord, Outcome, Success, Failure, WordKind, Run, Short, Long, failures, allows, one_less, turned, beyond, first_run, first_from, common_prefix}
-use Rattle.rehearse.specs.State.{Text, State}
+use Rattle.rehearse_terms.specs.Bounds.{most_steps}
+use Rattle.rehearse_terms.specs.Outcomes.{OutcomeWord, Outcome, Success, Failure, WordKind, Run, Short, Long, failures, allows, one_less, turned, beyond, first_run, first_from, common_prefix}
+use Rattle.rehearse_terms.specs.State.{Text, State}
 use Rattle.bootstore.specs.StoredState.{state_at}
 use Rattle.rehearse.specs.Execution.{Answer, Normal, Exit, Ended, Dry, Ending}
 use Rattle.rehearse.specs.Runs.{Task, run_on, kind, kind_of, taken_kind, state_of, ending_of, runs, IsListed, rest, asked}
@@ -14,18 +14,18 @@ use Rattle.rehearse_runs.specs.RunsShown.{outcomes, outcome_of}
 use Rattle.rehearse_machine.specs.EndingsShown.{halt_shown}
 use Rattle.rehearse_runs.specs.Phases.{AreDigits}
 use Rattle.rehearse_machine.specs.Came.{Came, Over, Wants, settled}
-use Rattle.rehearse_machine.specs.Machine.{Stops, asked_at}
-use Rattle.std.proofs.Common.{Result, Ok, Err}
+use Rattle.rehearse_machine.specs.Machine.{Stops, asked_at, outcome_when}
 use Rattle.std.specs.Prelude.{IfOk, nat_lt}
 use Rattle.std.proofs.lemmas.Option.{same_Some}
 use Rattle.bootstore.specs.Record.{Record, gone_back, returned}
 use Rattle.bootstore.specs.declared.store.StoreError.{StoreError}
 use Rattle.rehearse_machine.specs.declared.halt.Halt.{Halt}
-use Rattle.rehearse_machine.specs.Machine.{outcome_when}
-use Rattle.rehearse_runs.specs.Searching.{StoppedAt, AreMarks, MarksIf, Found, FoundFirst, FoundBehind, may_fail}
+use Rattle.rehearse_runs.specs.Searching.{AreMarks, MarksIf, Found, FoundFirst, FoundBehind, may_fail}
+use Rattle.rehearse_machine.specs.StoppedTexts.{StoppedAt}
 use Rattle.rehearse_machine.specs.declared.rehearsal.Stop.{Stop}
 use Rattle.rehearse_machine.specs.declared.rehearsal.Stop.TheVariants.{Asks, Ends}
-use Rattle.rehearse.proofs.TaskChoices.{dry_within, no_run_is_longer, task_begins, task_goes_on}
+use Rattle.rehearse_machine.proofs.StoppedTextLemmas.{dry_there, asked_within, asked_kind, stopped_on}
+use Rattle.rehearse.proofs.TaskChoices.{no_run_is_longer, task_begins, task_goes_on}
 
 -- after a failure one less may fail
 lt_less : (k most : ℕ) → nat_lt (suc k) most ≡ nat_lt k (most - 1)
@@ -84,13 +84,6 @@ map_digits (d ∷ v) w = ap (λ (t : Text). outcome_digit d ∷ t) (map_digits v
 pub digits_success : (digits : Text) → AreDigits digits → AreDigits (digits ++ 48 ∷ [])
 digits_success digits h = ap (map outcome_digit) (outcomes_success digits) ∙ map_digits (outcomes digits) (Success ∷ []) ∙ ap (λ (t : Text). t ++ 48 ∷ []) h
 
--- a run that needs an outcome
-wants : (a : Answer) (s : State) → settled a ≡ Wants s → a ≡ Dry s
-wants (Normal t) s e = absurd (let f = e in cc)
-wants (Exit t) s e = absurd (let f = e in cc)
-wants (Ended ending t) s e = absurd (let f = e in cc)
-wants (Dry t) s e = let f = e in cc
-
 -- an answer that ends the run with this ending, in this state
 record IsAnswer (ending : Ending) (s : State) (a : Answer) : Type 0 where
   state_is : state_of a ≡ s
@@ -112,17 +105,6 @@ is_over (Exit t) ending s e = let f : t ≡ s = ap (λ c. over_state c s) e in r
 is_over (Ended other t) ending s e = let f : t ≡ s = ap (λ c. over_state c s) e in record { state_is = f; ending_is = ap (λ c. over_ending c ending) e; kind_is = ap taken_kind f }
 is_over (Dry t) ending s e = absurd (let f = e in cc)
 
--- a run that stopped at a device command that asks found no outcome left
-dry_there : (task : Task) (p : OutcomeWord) (m : Moment) → StoppedAt task p Asks m → run_on task p ≡ Dry (state_at m [])
-dry_there task p m h = wants (run_on task p) (state_at m []) (ap (λ (v : OutcomeWord). settled (run_on task v)) (sym (append-nil p)) ∙ h.2)
-
--- a device command that asks is below the device bound
-pub asked_within : (task : Task) (p : OutcomeWord) (m : Moment) → StoppedAt task p Asks m → length p < task.limits.device_bound
-asked_within task p m h = dry_within task p (state_at m []) (dry_there task p m h)
-
-pub asked_kind : (task : Task) (p : OutcomeWord) (m : Moment) → StoppedAt task p Asks m → kind task p ≡ Short
-asked_kind task p m h = ap kind_of (dry_there task p m h)
-
 -- the marks of a word are those of another that is turned into the same
 marked_same : (task : Task) (u p : OutcomeWord) (ms : List Moment) → turned task.failures u ≡ turned task.failures p → AreMarks task p ms → AreMarks task u ms
 marked_same task u p [] e h = e ∙ h
@@ -138,11 +120,6 @@ marked_success false task p old new e m h k =
 pub marks_keep : (may : Bool) (old new : Record) → MarksIf may old new → (new.present ≡ old.present) × (new.begun ≡ old.begun)
 marks_keep true old new m = (ap (λ (x : Record). x.present) m, ap (λ (x : Record). x.begun) m)
 marks_keep false old new m = (ap (λ (x : Record). x.present) m, ap (λ (x : Record). x.begun) m)
-
--- if the command that asks takes an outcome, the text means what follows it
-pub stopped_on : (task : Task) (p : OutcomeWord) (m n : Moment) (d : Outcome) (stop : Stop) → StoppedAt task p Asks m → Stops task.limits stop (λ w. asked_at task.limits m (d ∷ w)) n → StoppedAt task (p ++ d ∷ []) stop n
-stopped_on task p m n d Asks h k = (k.0, λ w. ap (λ (v : OutcomeWord). settled (run_on task v)) (append_assoc p (d ∷ []) w) ∙ h.1 (d ∷ w) ∙ k.1 w, ap (λ (v : OutcomeWord). settled (run_on task v)) (append_assoc p (d ∷ []) []) ∙ h.1 (d ∷ []) ∙ k.2)
-stopped_on task p m n d (Ends halt) h k = λ w. ap (λ (v : OutcomeWord). settled (run_on task v)) (append_assoc p (d ∷ []) w) ∙ h.1 (d ∷ w) ∙ k w
 
 -- ---- what the search gives
 

@@ -5,14 +5,15 @@ use Rattle.std.specs.Bool.{◌==◌}
 use Rattle.bootstore.specs.Moment.{Moment}
 use Rattle.bootstore.specs.Record.{Record}
 use Rattle.bootstore.specs.declared.store.StoreError.{StoreError}
-use Rattle.rehearse.specs.Bounds.{most_steps}
-use Rattle.rehearse.specs.Outcomes.{OutcomeWord, Outcome, Success, Failure, Run}
-use Rattle.rehearse.specs.State.{Text}
+use Rattle.rehearse_terms.specs.Bounds.{most_steps}
+use Rattle.rehearse_terms.specs.Outcomes.{OutcomeWord, Outcome, Success, Failure, Run}
+use Rattle.rehearse_terms.specs.State.{Text}
 use Rattle.rehearse.specs.Runs.{Task, kind}
 use Rattle.rehearse.specs.Listing.{outcome_digit}
 use Rattle.rehearse_runs.specs.RunsShown.{outcomes, outcome_of}
 use Rattle.rehearse_machine.specs.Machine.{Stops, asked_at, outcome_when}
-use Rattle.rehearse_runs.specs.Searching.{StoppedAt, AreMarks}
+use Rattle.rehearse_runs.specs.Searching.{AreMarks}
+use Rattle.rehearse_machine.specs.StoppedTexts.{StoppedAt}
 use Rattle.rehearse_runs.specs.Walking.{Reached, IsLongBehind, IsShortBehind, IsWordBehind, Walks, WalksTo}
 use Rattle.rehearse_runs.specs.declared.walking.Walked.{Walked}
 use Rattle.rehearse_runs.specs.declared.walking.Walked.TheVariants as walked
@@ -20,7 +21,8 @@ use Rattle.rehearse_machine.specs.declared.halt.Halt.{Halt}
 use Rattle.rehearse_machine.specs.declared.rehearsal.Stop.{Stop}
 use Rattle.rehearse_machine.specs.declared.rehearsal.Stop.TheVariants.{Asks, Ends}
 use Rattle.rehearse.proofs.TaskChoices.{longer_is_long}
-use Rattle.rehearse_runs.proofs.SearchLemmas.{Asked, asked_here, asked_kind, found_end, stopped_on, marked_failure, outcomes_more}
+use Rattle.rehearse_runs.proofs.SearchLemmas.{Asked, asked_here, found_end, marked_failure, outcomes_more}
+use Rattle.rehearse_machine.proofs.StoppedTextLemmas.{asked_kind, stopped_on}
 
 -- ---- an outcome is given
 

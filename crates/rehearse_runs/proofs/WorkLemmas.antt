@@ -2,8 +2,8 @@
 use Rattle.std.proofs.Common.{◌≡◌, ℕ, ◌+◌, ◌-◌, ◌<◌, ◌≤◌, List, [], ◌∷◌, ◌++◌, length, take, Option, Some, None, refl, sym, ap, subst, ◌∙◌, append_assoc, length-append, arith}
 use Rattle.bootstore.specs.Moment.{Moment}
 use Rattle.rehearse.specs.Listing.{last_of}
-use Rattle.rehearse.specs.Bounds.{most_run_devices}
-use Rattle.rehearse.specs.Outcomes.{OutcomeWord, Success, Failure, Run, common_prefix}
+use Rattle.rehearse_terms.specs.Bounds.{most_run_devices}
+use Rattle.rehearse_terms.specs.Outcomes.{OutcomeWord, Success, Failure, Run, common_prefix}
 use Rattle.rehearse.specs.Runs.{Task, kind, runs, rest, steps, asked, work_from}
 use Rattle.rehearse_runs.specs.RunsShown.{words_made, in_front_of, work_of, steps_shared, successes, last_answer}
 use Rattle.rehearse_runs.specs.Phases.{HasBegun}

@@ -1,12 +1,12 @@
 -- What contracts see of what is asked of a rehearsal. Ours.
 use Rattle.std.specs.Prelude.{ℕ, List, map}
 use Rattle.std.specs.Borrow.{Bor}
-use Rattle.rehearse.specs.Asking.{Asking}
-use Rattle.rehearse.specs.Asking as spec
-use Rattle.rehearse.specs.Bounds.{BoundsShown}
-use Rattle.rehearse.specs.State.{Text}
-use Rattle.rehearse.specs.WantedShown.{wanted_bounds, wanted_slices}
-use Rattle.rehearse.specs.declared.wanted.Wanted.{Wanted}
+use Rattle.rehearse_terms.specs.Asking.{Asking}
+use Rattle.rehearse_terms.specs.Asking as spec
+use Rattle.rehearse_terms.specs.Bounds.{BoundsShown}
+use Rattle.rehearse_terms.specs.State.{Text}
+use Rattle.rehearse_terms.specs.WantedShown.{wanted_bounds, wanted_slices}
+use Rattle.rehearse_terms.specs.declared.wanted.Wanted.{Wanted}
 use Rattle.rehearse_runs.specs.declared.ask.Ask.{Ask}
 
 abbrev pub asking_for : (variable : Text) → BoundsShown → spec.Wanted → (names : List Text) → Asking

@@ -2,7 +2,7 @@
 use Rattle.std.specs.Prelude.{ℕ, Bool, nat_eq, nat_le, not, ◌&&◌}
 use Rattle.text.specs.Bytes as ascii
 use Rattle.text.specs.Escapes.{escaped, text_form, word_escaped, word_form}
-use Rattle.rehearse.specs.State.{Text}
+use Rattle.rehearse_terms.specs.State.{Text}
 use Rattle.rehearse_runs.specs.declared.line_pieces.Form.{Form}
 use Rattle.rehearse_runs.specs.declared.line_pieces.Form.TheVariants.{Text as AsText, Word as AsWord}
 use Rattle.rehearse_runs.specs.declared.line_pieces.Piece.{Piece}

@@ -1,9 +1,9 @@
 -- How far a rehearsal is. Ours.
 use Rattle.std.specs.Prelude.{◌≡◌, ◌++◌, Option, Some, None, ℕ, ◌+◌, ◌*◌, ◌^◌, ◌≤◌, Bool, true, false, List, [], length, map, ⊤}
 use Rattle.bootstore.specs.Record.{Record}
-use Rattle.rehearse.specs.Bounds.{most_steps}
-use Rattle.rehearse.specs.Outcomes.{OutcomeWord}
-use Rattle.rehearse.specs.State.{Text}
+use Rattle.rehearse_terms.specs.Bounds.{most_steps}
+use Rattle.rehearse_terms.specs.Outcomes.{OutcomeWord}
+use Rattle.rehearse_terms.specs.State.{Text}
 use Rattle.bootstore.specs.StoredState.{state_at}
 use Rattle.rehearse.specs.Runs.{Task, run_on, state_of, ending_of, runs, IsListed, rest}
 use Rattle.rehearse.specs.Listing.{outcome_digit}

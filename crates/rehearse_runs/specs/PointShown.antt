@@ -2,7 +2,7 @@
 use Rattle.std.specs.Prelude.{ℕ, true, false, List, Option, Some, None, drop}
 use Rattle.std.specs.Borrow.{Bor}
 use Rattle.rehearse.specs.Resuming as spec
-use Rattle.rehearse.specs.State.{Text}
+use Rattle.rehearse_terms.specs.State.{Text}
 use Rattle.rehearse.specs.Resuming.{is_first_line}
 use Rattle.rehearse_runs.specs.declared.resuming.Point.{Point}
 

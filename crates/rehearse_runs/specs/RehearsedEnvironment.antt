@@ -2,20 +2,21 @@
 -- (image_tools/specs/Headline.antt), and each is explained at its line.
 use Rattle.std.specs.Prelude.{◌≡◌, ◌⊎◌, false, List, Option, Some, None, Ok, Err}
 use Rattle.output.specs.Sink.{Sink, Wrote}
-use Rattle.rehearse.specs.Asking.{Asking, AreToCome, GivesNoRun, Listed, Wanted, page_of}
-use Rattle.rehearse.specs.Bounds.{BoundsShown}
+use Rattle.rehearse_terms.specs.Asking.{Asking, Listed, Wanted, page_of, whole_page}
+use Rattle.rehearse.specs.RunsToCome.{AreToCome, GivesNoRun}
+use Rattle.rehearse_terms.specs.Bounds.{BoundsShown}
 use Rattle.rehearse.specs.DeviceList.{Devices, listed}
-use Rattle.rehearse.specs.Listing.{record_of, page_text, whole_page}
-use Rattle.rehearse.specs.Outcomes.{OutcomeWord}
+use Rattle.rehearse.specs.Listing.{record_of, page_text}
+use Rattle.rehearse_terms.specs.Outcomes.{OutcomeWord}
 use Rattle.rehearse.specs.Runs.{Task}
-use Rattle.rehearse.specs.State.{Text}
+use Rattle.rehearse_terms.specs.State.{Text}
 use Rattle.rehearse_machine.specs.Tasks.{task_set}
 use Rattle.rehearse_runs.specs.ListingRuns.{finish_of}
 use Rattle.rehearse_runs.specs.RunsShown.{RunsShown}
 use Rattle.rehearse_runs.specs.UnfinishedListings.{BreaksOff, LacksMemory}
 use Rattle.rehearse_runs.specs.declared.listing.Finish.{Finish}
-use Rattle.rehearse_runs.specs.declared.rehearse_error.RehearseError.{RehearseError}
-use Rattle.rehearse_runs.specs.declared.rehearse_error.RehearseError.TheVariants.{DeviceList, NoSuchVariable, NotARun, Write, Memory}
+use Rattle.rehearse.specs.declared.rehearse_error.RehearseError.{RehearseError}
+use Rattle.rehearse.specs.declared.rehearse_error.RehearseError.TheVariants.{DeviceList, NoSuchVariable, NotARun, Write, Memory}
 
 -- the rehearsal that an environment, a device list and what is asked give, if the variable is set
 abbrev pub task_asked : List (Text × Text) → Devices → Asking → Option Task

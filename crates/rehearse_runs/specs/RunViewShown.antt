@@ -2,7 +2,7 @@
 use Rattle.std.specs.Prelude.{List}
 use Rattle.bootstore.specs.Moment.{Moment}
 use Rattle.bootstore.specs.declared.store.Store.{Ghosts}
-use Rattle.rehearse.specs.State.{Text}
+use Rattle.rehearse_terms.specs.State.{Text}
 use Rattle.rehearse.specs.Execution as spec
 use Rattle.rehearse_machine.specs.EndingsShown.{ending_shown}
 use Rattle.rehearse_runs.specs.declared.run_view.RunView.{RunView}

@@ -1,8 +1,8 @@
 -- What contracts see of `Runs`, of a run that it gives, and of a call of `next`. Ours.
 use Rattle.std.specs.Prelude.{ℕ, suc, ◌+◌, ◌-◌, length, take, Bool, true, false, nat_eq, List, [], ◌∷◌, map, Option, Some, None, unwrap_or}
 use Rattle.text.specs.Bytes as ascii
-use Rattle.rehearse.specs.Outcomes.{OutcomeWord, Outcome, Success, Failure, common_prefix}
-use Rattle.rehearse.specs.State.{Text}
+use Rattle.rehearse_terms.specs.Outcomes.{OutcomeWord, Outcome, Success, Failure, common_prefix}
+use Rattle.rehearse_terms.specs.State.{Text}
 use Rattle.rehearse.specs.Runs.{Task, runs, rest, steps, asked, work, work_from}
 
 -- the rehearsal, the word given to `after`, the words that `next` gave since, the words still to come, the last word

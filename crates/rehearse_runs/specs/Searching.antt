@@ -2,20 +2,14 @@
 use Rattle.std.specs.Prelude.{ℕ, ◌≡◌, ◌+◌, ◌≤◌, Bool, true, false, Option, None, List, [], ◌∷◌, ◌++◌, Some}
 use Rattle.bootstore.specs.Moment.{Moment}
 use Rattle.bootstore.specs.Record.{Record, with_mark}
-use Rattle.rehearse.specs.Bounds.{most_steps}
-use Rattle.rehearse.specs.Outcomes.{OutcomeWord, Failure, Run, failures, allows, turned, first_from, common_prefix}
+use Rattle.rehearse_terms.specs.Bounds.{most_steps}
+use Rattle.rehearse_terms.specs.Outcomes.{OutcomeWord, Failure, Run, failures, allows, turned, first_from, common_prefix}
 use Rattle.bootstore.specs.StoredState.{state_at}
 use Rattle.rehearse.specs.Runs.{Task, run_on, state_of, ending_of, kind, runs, rest, asked}
 use Rattle.rehearse_machine.specs.EndingsShown.{halt_shown}
-use Rattle.rehearse_machine.specs.Machine.{Stops}
-use Rattle.rehearse_machine.specs.Came.{settled}
+use Rattle.rehearse_machine.specs.StoppedTexts.{StoppedAt}
 use Rattle.rehearse_machine.specs.declared.halt.Halt.{Halt}
-use Rattle.rehearse_machine.specs.declared.rehearsal.Stop.{Stop}
 use Rattle.rehearse_machine.specs.declared.rehearsal.Stop.TheVariants.{Asks}
-
--- the text stopped with the outcomes of p
-abbrev pub StoppedAt : Task → OutcomeWord → Stop → Moment → Type 0
-StoppedAt task p stop m = Stops task.limits stop (λ w. settled (run_on task (p ++ w))) m
 
 -- whether one more device command may fail after a word
 abbrev pub may_fail : Task → OutcomeWord → Bool

@@ -3,10 +3,10 @@ use Rattle.std.specs.Prelude.{◌≡◌, ◌++◌, List}
 use Rattle.std.specs.List.{flat_map}
 use Rattle.output.specs.Sink.{Sink, Wrote, BrokeOff}
 use Rattle.rehearse.specs.Listing.{record_of, page_text, page_words}
-use Rattle.rehearse.specs.Outcomes.{OutcomeWord}
+use Rattle.rehearse_terms.specs.Outcomes.{OutcomeWord}
 use Rattle.rehearse.specs.Runs.{Task}
-use Rattle.rehearse.specs.State.{Text}
-use Rattle.rehearse.specs.declared.wanted.Page.{Page}
+use Rattle.rehearse_terms.specs.State.{Text}
+use Rattle.rehearse_terms.specs.declared.wanted.Page.{Page}
 
 -- memory ran out: the whole records of the first words of the page are written
 pub record LacksMemory (task : Task) (names : List Text) (words : List OutcomeWord) (page : Page) (old new : Sink) :

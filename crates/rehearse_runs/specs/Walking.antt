@@ -2,9 +2,9 @@
 use Rattle.std.specs.Prelude.{◌≡◌, ◌≢◌, ◌+◌, ◌≤◌, Bool, [], ◌∷◌, ◌++◌, map, Option, Some, None}
 use Rattle.std.specs.Borrow.{Bor}
 use Rattle.bootstore.specs.Record.{Record}
-use Rattle.rehearse.specs.Bounds.{most_steps}
-use Rattle.rehearse.specs.Outcomes.{OutcomeWord, Outcome, Run, Short, Long}
-use Rattle.rehearse.specs.State.{Text}
+use Rattle.rehearse_terms.specs.Bounds.{most_steps}
+use Rattle.rehearse_terms.specs.Outcomes.{OutcomeWord, Outcome, Run, Short, Long}
+use Rattle.rehearse_terms.specs.State.{Text}
 use Rattle.bootstore.specs.StoredState.{state_at}
 use Rattle.rehearse.specs.Runs.{Task, run_on, state_of, ending_of, kind}
 use Rattle.rehearse.specs.Listing.{outcome_digit}

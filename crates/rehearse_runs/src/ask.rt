@@ -2,7 +2,7 @@
 ghost use Rattle.std.specs.Prelude.{◌≡◌};
 ghost use Rattle.rehearse_runs.specs.StartWord.{digits_in};
 
-use rehearse::Wanted;
+use rehearse_terms::Wanted;
 
 /// What is asked of a rehearsal.
 #[derive(Clone, Copy)]

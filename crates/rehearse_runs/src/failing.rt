@@ -1,6 +1,6 @@
 //! How many device commands of a run may fail.
 ghost use Rattle.std.specs.Prelude.{◌≡◌, ◌≤◌, length};
-ghost use Rattle.rehearse.specs.Outcomes.{allows, failures, is_within};
+ghost use Rattle.rehearse_terms.specs.Outcomes.{allows, failures, is_within};
 ghost use Rattle.rehearse_machine.specs.Tasks.{task_in};
 ghost use Rattle.rehearse_runs.specs.RunsShown.{outcomes};
 ghost use Rattle.rehearse_runs.specs.Searching.{may_fail};

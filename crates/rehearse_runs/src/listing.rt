@@ -1,16 +1,17 @@
 //! The listing of runs.
 ghost use Rattle.std.specs.Prelude.{◌≡◌, map, codes, ◌++◌, false, IfOk, OnOk, IfErr};
 ghost use Rattle.output.specs.Sink.{Prints};
-ghost use Rattle.rehearse.specs.Listing.{HasRoom, line};
+ghost use Rattle.rehearse.specs.Listing.{line};
+ghost use Rattle.rehearse_terms.specs.Asking.{HasRoom};
 ghost use Rattle.rehearse_runs.specs.Recording.{printed};
 ghost use Rattle.rehearse_runs.specs.ListingRuns.{reached, lowered, WroteRecords, Lists, Breaks};
 
 use crate::record::write_record;
-use crate::rehearse_error::RehearseError;
 use crate::runs::Runs;
 use bootstore::Store;
 use output::{Out, OutFault, write_all, write_parts};
-use rehearse::Page;
+use rehearse::RehearseError;
+use rehearse_terms::Page;
 
 /// How a listing finishes.
 #[derive(Clone, Copy, Debug, PartialEq, Eq)]

@@ -11,11 +11,11 @@ ghost use Rattle.rehearse_runs.specs.RunAlone.{BreaksAlone, WritesAlone};
 use crate::ask::digits_of;
 use crate::byte_array::Bytes;
 use crate::record::write_record;
-use crate::rehearse_error::RehearseError;
 use crate::run_view::RunView;
 use crate::walking::{Walked, walk_to};
 use bootstore::Store;
 use output::{Out, OutFault, write_all};
+use rehearse::RehearseError;
 use rehearse_machine::Rehearsal;
 
 /// Writes the record of a run, and `done`.

@@ -9,7 +9,8 @@ ghost use Rattle.text.specs.TextsShown.{bytes_of_words};
 ghost use Rattle.bootstore.specs.StoredState.{state_at};
 ghost use Rattle.rehearse.specs.Listing.{line, digit_when, text_lines, variable_lines, last_line};
 ghost use Rattle.rehearse_runs.specs.Paging.{Puts};
-ghost use Rattle.rehearse_runs.specs.Recording.{printed, spaced, entry_line, set_line, named_line, recorded};
+ghost use Rattle.rehearse_runs.specs.Recording.{printed, entry_line, set_line, named_line, recorded};
+ghost use Rattle.text.specs.TextsShown.{spaced};
 ghost use Rattle.rehearse_runs.specs.RunViewShown.{shown_word, shown_moment, shown_ending};
 ghost use Rattle.rehearse_machine.specs.EndingsShown.{ending_shown};
 

@@ -1,22 +1,22 @@
 //! The rehearsal of an environment, from the text of its device list to the listing.
 ghost use Rattle.std.specs.Prelude.{◌≡◌, IfOk, IfErr, map};
 ghost use Rattle.text.specs.TextsShown.{option_bytes};
-ghost use Rattle.rehearse.specs.Asking.{Alone, Listed, page_of};
-ghost use Rattle.rehearse.specs.Listing.{HasRoom};
-ghost use Rattle.rehearse.specs.WantedShown.{wanted_slices};
+ghost use Rattle.rehearse_terms.specs.Asking.{Alone, Listed, page_of};
+ghost use Rattle.rehearse_terms.specs.Asking.{HasRoom};
+ghost use Rattle.rehearse_terms.specs.WantedShown.{wanted_slices};
 ghost use Rattle.rehearse_runs.specs.AskShown.{asking_for, asking_of};
 ghost use Rattle.rehearse_runs.specs.RehearsedEnvironment.{Begins, Refuses, RefusesAsk, RefusesRuns, Rehearses, WithDevices, task_asked};
 
 use crate::ask::{Ask, digits_of};
 use crate::listing::{Finish, write_listing};
 use crate::one_run::write_run;
-use crate::rehearse_error::RehearseError;
 use crate::runs::Runs;
 use bootstore::Store;
 use envtools::Env;
 use output::Out;
-use rehearse::{Bounds, Devices, DevicesError, Page, RunBounds, Wanted};
+use rehearse::{Devices, DevicesError, RehearseError};
 use rehearse_machine::Rehearsal;
+use rehearse_terms::{Bounds, Page, RunBounds, Wanted};
 use std::alloc::Global;
 
 /// The runs of a listing. Errors: `NoSuchVariable`, `NotARun`, `Memory`.

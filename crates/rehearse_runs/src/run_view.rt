@@ -2,7 +2,7 @@
 ghost use Rattle.std.specs.Prelude.{◌≡◌};
 ghost use Rattle.std.specs.FinMap.{entries};
 ghost use Rattle.text.specs.TextsShown.{option_bytes};
-ghost use Rattle.rehearse.specs.State.{get};
+ghost use Rattle.rehearse_terms.specs.State.{get};
 
 use bootstore::{LogEntry, Store, Variables};
 use rehearse_machine::Ending;

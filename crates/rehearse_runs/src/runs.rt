@@ -1,9 +1,9 @@
 //! The runs of the text of a variable.
 ghost use Rattle.std.specs.Prelude.{◌≡◌, [], false, true, map, option_map, IfSome, IsSome, None};
 ghost use Rattle.text.specs.TextsShown.{option_bytes};
-ghost use Rattle.rehearse.specs.Bounds.{are_bounds};
+ghost use Rattle.rehearse_terms.specs.Bounds.{are_bounds};
 ghost use Rattle.rehearse.specs.Listing.{outcome_digit};
-ghost use Rattle.rehearse.specs.Outcomes.{has_success};
+ghost use Rattle.rehearse_terms.specs.Outcomes.{has_success};
 ghost use Rattle.envtools.specs.Environment.{value_of};
 ghost use Rattle.rehearse_machine.specs.Tasks.{task_in, task_set, task_shown};
 ghost use Rattle.rehearse_runs.specs.RunsShown.{has_words, last_given, outcomes, words_made, work_of};
@@ -11,14 +11,14 @@ ghost use Rattle.std.specs.Borrow.{sem};
 
 use crate::byte_array::Bytes;
 use crate::failing::{allows, is_within};
-use crate::rehearse_error::RehearseError;
 use crate::run_view::RunView;
 use crate::searching::{Digits, first_run, next_run};
 use crate::walking::{Walked, walk_to};
 use bootstore::Store;
 use envtools::Env;
-use rehearse::{Bounds, Devices};
+use rehearse::{Devices, RehearseError};
 use rehearse_machine::{Halt, Rehearsal};
+use rehearse_terms::Bounds;
 use std::alloc::Global;
 use std::marker::Model;
 
@@ -91,7 +91,7 @@ pub struct Runs<'a, S: Store> {
 
 impl<'a, S: Store> Model for Runs<'a, S> {
     ghost use Rattle.std.specs.Prelude.{◌≤◌};
-    ghost use Rattle.rehearse.specs.Bounds.{most_run_devices};
+    ghost use Rattle.rehearse_terms.specs.Bounds.{most_run_devices};
     ghost use Rattle.rehearse_runs.specs.RunsShown.{RunsShown, outcomes, given_if, to_come_after};
 
     ghost Value = { RunsShown };
@@ -117,7 +117,7 @@ impl<'a, S: Store> Model for Runs<'a, S> {
 impl<'a, S: Store> Runs<'a, S> {
     ghost use Rattle.rehearse_runs.specs.RunsShown.{RunsShown, new_runs};
     ghost use Rattle.std.specs.Prelude.{IfOk, OnOk, IfErr, OnErr, Some};
-    ghost use Rattle.rehearse_runs.specs.declared.rehearse_error.RehearseError.TheVariants.{NoSuchVariable};
+    ghost use Rattle.rehearse.specs.declared.rehearse_error.RehearseError.TheVariants.{NoSuchVariable};
     ghost use Rattle.rehearse_runs.specs.Giving.{Advances, IsView, Lent};
     ghost use Rattle.rehearse_runs.specs.Behind.{GoesOnBehind, RefusesWord};
 

@@ -2,9 +2,10 @@
 ghost use Rattle.std.specs.Prelude.{◌≡◌, ◌+◌, ◌-◌, ◌*◌, ◌<◌, ◌≤◌, ◌^◌, IfOk, OnOk};
 ghost use Rattle.rehearse_runs.specs.RunsShown.{outcomes};
 ghost use Rattle.rehearse_runs.specs.Phases.{AreDigits};
-ghost use Rattle.rehearse_runs.specs.Searching.{StoppedAt, AreMarks, MarksIf, Found, FoundFirst, FoundNext, Turns, may_fail};
+ghost use Rattle.rehearse_runs.specs.Searching.{AreMarks, MarksIf, Found, FoundFirst, FoundNext, Turns, may_fail};
+ghost use Rattle.rehearse_machine.specs.StoppedTexts.{StoppedAt};
 ghost use Rattle.rehearse_machine.specs.Tasks.{task_in};
-ghost use Rattle.rehearse.specs.Bounds.{most_run_devices, most_steps};
+ghost use Rattle.rehearse_terms.specs.Bounds.{most_run_devices, most_steps};
 ghost use Rattle.rehearse.specs.Runs.{IsListed};
 
 use crate::byte_array::Bytes;

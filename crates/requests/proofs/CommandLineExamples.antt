@@ -9,8 +9,7 @@ use Rattle.requests.specs.Answered.{IsAccepted}
 use Rattle.requests.specs.declared.called.CalledAs.{CalledAs}
 use Rattle.requests.specs.declared.called.CalledAs.TheVariants.{FwTool, Ubtool}
 use Rattle.requests.specs.Asked.{Asked, ending, header_needs_one, input_scripted, lock_of, needs_name, page_with, printing, rehearsing, script_and_name, scripted, setting, too_many_devices, word_alone}
-use Rattle.rehearse.specs.Asking.{Alone, Listed}
-use Rattle.rehearse.specs.Listing.{whole_page}
+use Rattle.rehearse_terms.specs.Asking.{Alone, Listed, whole_page}
 use Rattle.command_line.specs.CommandLine.{ubtool}
 
 -- the words are accepted and ask for this

@@ -5,8 +5,7 @@ use Rattle.clap.specs.declared.error.kind.ErrorKind.TheVariants.{DisplayVersion}
 use Rattle.clap.proofs.OnLiterals.{clap_on_literals}
 use Rattle.envimage.specs.declared.image.ByteOrder.TheVariants.{Little}
 use Rattle.requests.specs.Asked.{printing, rehearsing, scripted}
-use Rattle.rehearse.specs.Asking.{Listed}
-use Rattle.rehearse.specs.Listing.{whole_page}
+use Rattle.rehearse_terms.specs.Asking.{Listed, whole_page}
 use Rattle.command_line.specs.CommandLine.{ubtool}
 use Rattle.requests.proofs.CommandLineExamples.{AsksFor}
 

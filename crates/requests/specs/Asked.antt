@@ -1,9 +1,7 @@
 -- What the words of a call ask for, from the subcommand and the entries that `clap` finds in them.
 -- What the options mean is ours; `printenv` and `setenv` follow fw_printenv and fw_setenv, and the
 -- configuration's default path is theirs (U-Boot, tools/env README).
-use Rattle.std.specs.Prelude.{◌==◌, ◌&&◌, ◌||◌, is_some, ℕ, Bool, true, false, not, List, [], length}
-use Rattle.std.specs.Prelude.{Option, Some, None, Result, Ok, Err, codes, unwrap_or, option_map, ◌^◌}
-use Rattle.std.specs.Prelude.{option_and_then, if◌then◌else◌, nat_le, nat_lt}
+use Rattle.std.specs.Prelude.{◌==◌, ◌&&◌, ◌||◌, is_some, ℕ, Bool, true, false, not, List, [], length, Option, Some, None, Result, Ok, Err, codes, unwrap_or, option_map, ◌^◌, option_and_then, if◌then◌else◌, nat_le, nat_lt}
 use Rattle.std.specs.Str.{bytes_eq}
 use Rattle.std.specs.Option.{option_map_or}
 use Rattle.std.specs.Str.Parse.{digits_value, without_leading_plus}
@@ -13,9 +11,9 @@ use Rattle.envimage.specs.declared.image.ByteOrder.{ByteOrder}
 use Rattle.envimage.specs.declared.image.ByteOrder.TheVariants.{Big, Little}
 use Rattle.requests.specs.declared.called.CalledAs.{CalledAs}
 use Rattle.requests.specs.declared.called.CalledAs.TheVariants.{FwTool, Ubtool}
-use Rattle.rehearse.specs.Asking.{Asking, Wanted, Listed, Alone}
-use Rattle.rehearse.specs.declared.wanted.Page.{Page}
-use Rattle.rehearse.specs.Bounds.{BoundsShown, bounds_of, run_bounds_of, most_run_devices, most_steps}
+use Rattle.rehearse_terms.specs.Asking.{Asking, Wanted, Listed, Alone}
+use Rattle.rehearse_terms.specs.declared.wanted.Page.{Page}
+use Rattle.rehearse_terms.specs.Bounds.{BoundsShown, bounds_of, run_bounds_of, most_run_devices, most_steps}
 use Rattle.command_line.specs.CommandLine.{most_failures, most_records, most_states}
 
 -- what `endings` is asked for

@@ -1,6 +1,5 @@
 -- What an answer of the reader of words says, and when each refusal comes. The refusals are ours.
-use Rattle.std.specs.Prelude.{◌≡◌, ◌⊎◌, List, map, Option, Some, None}
-use Rattle.std.specs.Prelude.{Result, Ok, Err, option_and_then, string_bytes, String}
+use Rattle.std.specs.Prelude.{◌≡◌, ◌⊎◌, List, map, Option, Some, None, Result, Ok, Err, option_and_then, string_bytes, String}
 use Rattle.std.specs.declared.alloc.Global.{Global}
 use Rattle.clap.specs.Words.{IsAmong, Text, fault_of, subcommand_of}
 use Rattle.clap.specs.declared.error.kind.ErrorKind.{ErrorKind}
@@ -14,17 +13,14 @@ use Rattle.requests.specs.declared.ask.EndingsAsk.{EndingsAsk}
 use Rattle.requests.specs.declared.called.CalledAs.{CalledAs}
 use Rattle.requests.specs.declared.ask.RehearseAsk.{RehearseAsk}
 use Rattle.requests.specs.declared.ask.UseError.{UseError}
-use Rattle.rehearse.specs.declared.wanted.Wanted.{Wanted}
-use Rattle.requests.specs.declared.ask.UseError.TheVariants.{Line, NeedName, ScriptAndName}
-use Rattle.requests.specs.declared.ask.UseError.TheVariants.{HeaderNeedsOne, Memory, TooManyDevices, WordAlone}
+use Rattle.rehearse_terms.specs.declared.wanted.Wanted.{Wanted}
+use Rattle.requests.specs.declared.ask.UseError.TheVariants.{Line, NeedName, ScriptAndName, HeaderNeedsOne, Memory, TooManyDevices, WordAlone}
 use Rattle.requests.specs.Answered.{IsAccepted, IsMistaken}
 use Rattle.requests.specs.Asked as what
-use Rattle.requests.specs.Asked.{Asked, WantedAsked, asked_of, ending, input_scripted, lock_of, printing, setting}
-use Rattle.requests.specs.Asked.{scripted, rehearsing, needs_name, script_and_name}
-use Rattle.requests.specs.Asked.{header_needs_one, too_many_devices, word_alone}
+use Rattle.requests.specs.Asked.{Asked, WantedAsked, asked_of, ending, input_scripted, lock_of, printing, setting, scripted, rehearsing, needs_name, script_and_name, header_needs_one, too_many_devices, word_alone}
 use Rattle.command_line.specs.CommandLine.{ubtool}
-use Rattle.rehearse.specs.WantedShown.{wanted_bounds, wanted_strings}
-use Rattle.rehearse.specs.Asking.{Asking}
+use Rattle.rehearse_terms.specs.WantedShown.{wanted_bounds, wanted_strings}
+use Rattle.rehearse_terms.specs.Asking.{Asking}
 
 abbrev pub asking_of : RehearseAsk → Asking
 asking_of r = record {

@@ -1,10 +1,10 @@
 //! What a call asks for, and why its words are refused.
-ghost use Rattle.rehearse.specs.Asking.{page_of};
-ghost use Rattle.rehearse.specs.Listing.{HasRoom};
-ghost use Rattle.rehearse.specs.WantedShown.{wanted_strings};
+ghost use Rattle.rehearse_terms.specs.Asking.{page_of};
+ghost use Rattle.rehearse_terms.specs.Asking.{HasRoom};
+ghost use Rattle.rehearse_terms.specs.WantedShown.{wanted_strings};
 
 use envimage::ByteOrder;
-use rehearse::{RunBounds, Wanted};
+use rehearse_terms::{RunBounds, Wanted};
 use thiserror::Error;
 
 /// The configuration that is read if a call names none.

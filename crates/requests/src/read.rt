@@ -1,11 +1,11 @@
 //! Reads the words of a call.
 ghost use Rattle.std.specs.Prelude.{◌≡◌, ◌≤◌, Some, None, codes, IfOk, IfSome, map, option_map, option_and_then, string_bytes};
-ghost use Rattle.rehearse.specs.Asking.{page_of};
-ghost use Rattle.rehearse.specs.Listing.{HasRoom};
+ghost use Rattle.rehearse_terms.specs.Asking.{page_of};
+ghost use Rattle.rehearse_terms.specs.Asking.{HasRoom};
 ghost use Rattle.clap.specs.Words.{Text, first_of, found_of, rows_of, subcommand_rows_of};
 ghost use Rattle.envimage.specs.declared.image.ByteOrder.{ByteOrder as Order};
 ghost use Rattle.requests.specs.Asked.{asked_of, bounds_or, config_of, endings_asked, is_set, lock_of, number_given, number_within, order_of, page_asked, print_asked, rehearse_asked, script_asked, set_asked, values_of, variable_of, wanted_asked, wanted_by};
-ghost use Rattle.rehearse.specs.WantedShown.{wanted_strings};
+ghost use Rattle.rehearse_terms.specs.WantedShown.{wanted_strings};
 ghost use Rattle.requests.specs.declared.ask.UseError.TheVariants.{Memory};
 ghost use Rattle.requests.specs.CommandAnswers.{Answers, IsUnread, NamesLock, Says, SaysWanted, change_of};
 
@@ -19,7 +19,7 @@ use clap::ArgMatches;
 use clap::error::ErrorKind;
 use command_line::{FAILURES_MAX, ubtool};
 use envimage::ByteOrder;
-use rehearse::{Bounds, Page, RUN_DEVICES_MAX, RunBounds, STEPS_MAX, Wanted};
+use rehearse_terms::{Bounds, Page, RUN_DEVICES_MAX, RunBounds, STEPS_MAX, Wanted};
 use std::alloc::{AllocError, Global};
 use std::convert::AsStr;
 

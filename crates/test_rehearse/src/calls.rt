@@ -10,9 +10,10 @@ use hushlang::parse::parse;
 use hushlang::token::{SyntaxError, Token};
 use hushlang::tree::{Script, Word};
 use output::{Out, Over};
-use rehearse::{Bounds, Devices, DevicesError, Page, RunBounds};
+use rehearse::{Devices, DevicesError};
 use rehearse_endings::{EndingsAsk, endings_env};
 use rehearse_runs::{Finish, RehearseError, Runs, WordKind, resume_point, try_word, write_listing};
+use rehearse_terms::{Bounds, Page, RunBounds};
 use std::alloc::Global;
 
 pub(crate) fn script_of(alloc: Global, text: &[u8]) -> Result<Script, SyntaxError> {

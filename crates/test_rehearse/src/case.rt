@@ -3,7 +3,7 @@
 use crate::calls::env_of;
 use crate::{language, lists, rehearsal, store};
 use bootstore::{Plain, Store, Trail};
-use rehearse::Bounds;
+use rehearse_terms::Bounds;
 use std::alloc::Global;
 use test_rows::{Rows, number, unescaped, words_of};
 

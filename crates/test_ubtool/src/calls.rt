@@ -8,14 +8,14 @@ use envimage::{
     ByteOrder, ConfigError, DataError, Place, Which, check_data, crc32, encode, parse_config,
 };
 use envtools::{Env, EnvError, ScriptError, apply_script};
-use image_tools::{
-    Bounds, Edit, Finish, Page, PrintAsk, RehearseAsk, ToolError, Wanted, print_bytes,
-    rehearse_bytes, run_input, set_bytes,
-};
+use file_tools::Build;
+use image_tools::{Edit, PrintAsk, ToolError, print_bytes, run_input, set_bytes};
 use locked_files::MemoryFiles;
+use rehearse_runs::{Ask as RehearseAsk, Finish};
+use rehearse_terms::{Bounds, Page, Wanted};
 use requests::CalledAs;
 use std::alloc::Global;
-use whole_program::{Build, run_tool};
+use whole_program::{rehearse_bytes, run_tool};
 
 pub(crate) fn crc(bytes: &[u8]) -> u32 {
     crc32(bytes)

@@ -4,4 +4,5 @@ pub mod HexLemmas
 pub mod LineLemmas
 pub mod SearchLemmas
 pub mod WordLemmas
+pub mod SpacedWords
 mod EscapeExamples

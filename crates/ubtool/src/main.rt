@@ -4,6 +4,7 @@
 
 mod folder_lock;
 
+use file_tools::{Build, StartError, Telling, buffered, end, finish, words_of_call};
 use folder_lock::{LockError, lock_in};
 use image_tools::write_fault_of;
 use locked_files::Machine;
@@ -12,9 +13,7 @@ use requests::{CalledAs, called_as, read_lock, words_called};
 use std::fs::File;
 use std::io;
 use std::process::ExitCode;
-use whole_program::{
-    Build, PROGRAM, StartError, Telling, buffered, end, finish, run_tool, words_of_call,
-};
+use whole_program::{PROGRAM, run_tool};
 
 /// What this program is built for. A build for another processor, or with another kind of linking,
 /// has another word here.

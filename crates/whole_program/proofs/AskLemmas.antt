@@ -6,9 +6,9 @@ use Rattle.std.specs.Prelude.{is_some, ◌||◌, option_and_then, option_map, if
 use Rattle.std.specs.Str.{bytes_eq}
 use Rattle.clap.specs.Words.{Row, Text, first_of, subcommand_of}
 use Rattle.envimage.specs.declared.image.ByteOrder.{ByteOrder}
-use Rattle.rehearse.specs.Asking.{Alone, Listed}
-use Rattle.rehearse.specs.declared.wanted.Page.{Page}
-use Rattle.rehearse.specs.Bounds.{BoundsShown, bounds_of}
+use Rattle.rehearse_terms.specs.Asking.{Alone, Listed}
+use Rattle.rehearse_terms.specs.declared.wanted.Page.{Page}
+use Rattle.rehearse_terms.specs.Bounds.{BoundsShown, bounds_of}
 use Rattle.requests.specs.CommandAnswers.{Answers, asked, meaning_of}
 use Rattle.requests.specs.Asked.{Asked, asked_of, bounds_asked, endings_asked, endings_with, run_bounds_asked, change_asked, config_of, header_needs_one, input_scripted, is_set, listing_asked, number_within, order_of, page_asked, print_asked, printing, rehearsal_of, rehearsal_with, rehearse_asked, scripted, set_asked, too_many_devices, values_of, wanted_by, word_alone, word_asked}
 use Rattle.command_line.specs.CommandLine.{most_failures, most_states, ubtool}

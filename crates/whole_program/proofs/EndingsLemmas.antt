@@ -4,20 +4,20 @@ use Rattle.std.specs.Prelude.{Result, option_map, string_bytes}
 use Rattle.output.specs.Sink.{Sink}
 use Rattle.envimage.specs.declared.image.ByteOrder.{ByteOrder}
 use Rattle.requests.specs.declared.ask.EndingsAsk.{EndingsAsk}
-use Rattle.image_tools.specs.EndingsOfImages.{RefusesEndings, TellsEndings}
-use Rattle.image_tools.specs.Given.{Given, given_all}
+use Rattle.whole_program.specs.EndingsOfImages.{RefusesEndings, TellsEndings}
+use Rattle.whole_program.specs.Given.{Given, given_all}
 use Rattle.image_tools.specs.declared.error.ToolError.{ToolError}
-use Rattle.rehearse_runs.specs.declared.rehearse_error.RehearseError.TheVariants as rehearsal
+use Rattle.rehearse.specs.declared.rehearse_error.RehearseError.TheVariants as rehearsal
 use Rattle.image_tools.specs.declared.error.ToolError.TheVariants as tool
 use Rattle.locked_files.specs.Told.{Told}
-use Rattle.whole_program.proofs.PrintLemmas.{image-bytes}
+use Rattle.file_tools.proofs.PrintLemmas.{image-bytes}
 use Rattle.whole_program.proofs.RehearseLemmas.{first-bytes}
-use Rattle.whole_program.proofs.SourceLemmas.{only-read, so-of-sources}
+use Rattle.file_tools.proofs.SourceLemmas.{only-read, so-of-sources}
 use Rattle.whole_program.specs.EndingsOfFiles.{FromFiles, TellsCopies, TellsFrom, endings_of, endings_refusal}
-use Rattle.whole_program.specs.Images.{copies}
-use Rattle.whole_program.specs.RehearsingFiles.{ReadsSources}
-use Rattle.whole_program.specs.declared.images.Images.{Images}
-use Rattle.whole_program.specs.declared.sources.Sources.{Sources}
+use Rattle.file_tools.specs.Images.{copies}
+use Rattle.file_tools.specs.Sources.{ReadsSources}
+use Rattle.file_tools.specs.declared.images.Images.{Images}
+use Rattle.file_tools.specs.declared.sources.Sources.{Sources}
 
 -- ---- the endings of what was read
 

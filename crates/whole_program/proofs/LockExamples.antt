@@ -1,5 +1,5 @@
 -- What takes the lock, in worked cases.
-use Rattle.std.proofs.Common.{◌≡◌, true, false, refl, List}
+use Rattle.std.proofs.Common.{true, false, refl}
 use Rattle.std.specs.Prelude.{String}
 use Rattle.std.specs.declared.alloc.Global.{Global}
 use Rattle.envimage.specs.declared.image.ByteOrder.{ByteOrder}

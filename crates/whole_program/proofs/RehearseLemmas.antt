@@ -4,28 +4,29 @@ use Rattle.std.specs.Prelude.{Result, option_map, String}
 use Rattle.std.specs.declared.alloc.Global.{Global}
 use Rattle.output.specs.Sink.{Sink}
 use Rattle.envimage.specs.declared.image.ByteOrder.{ByteOrder}
-use Rattle.rehearse.specs.Asking.{Asking, Wanted}
-use Rattle.rehearse.specs.Bounds.{BoundsShown}
+use Rattle.rehearse_terms.specs.Asking.{Asking, Wanted}
+use Rattle.rehearse_terms.specs.Bounds.{BoundsShown}
 use Rattle.requests.specs.CommandAnswers.{asking_of}
 use Rattle.rehearse_runs.specs.declared.listing.Finish.{Finish}
 use Rattle.requests.specs.declared.ask.RehearseAsk.{RehearseAsk}
 use Rattle.image_tools.specs.FileFaults.{path_form}
-use Rattle.image_tools.specs.Given.{Given, given}
-use Rattle.image_tools.specs.Headline.{Rehearses}
-use Rattle.image_tools.specs.Refusing.{Refuses}
+use Rattle.whole_program.specs.Given.{Given, given}
+use Rattle.whole_program.specs.Headline.{Rehearses}
+use Rattle.whole_program.specs.Refusing.{Refuses}
 use Rattle.locked_files.specs.Told.{Told}
 use Rattle.image_tools.specs.declared.error.ToolError.{ToolError}
-use Rattle.rehearse_runs.specs.declared.rehearse_error.RehearseError.TheVariants as rehearsal
+use Rattle.rehearse.specs.declared.rehearse_error.RehearseError.TheVariants as rehearsal
 use Rattle.image_tools.specs.declared.error.ToolError.TheVariants as tool
-use Rattle.whole_program.proofs.PrintLemmas.{image-bytes}
-use Rattle.whole_program.proofs.SourceLemmas.{so-of-sources}
-use Rattle.whole_program.specs.Images.{copies}
-use Rattle.whole_program.specs.PrintingFiles.{first_bytes}
-use Rattle.whole_program.specs.declared.images.Images.{Images}
-use Rattle.whole_program.specs.declared.read.StoredCopy.{StoredCopy}
-use Rattle.whole_program.specs.declared.sources.Sources.{Sources}
-use Rattle.whole_program.specs.RehearsingFiles.{FromFiles, ReadsSources, RehearsesCopies, RehearsesFrom, RunsOut, no_run_of, refusal_of, rehearsal_of}
-use Rattle.rehearse.specs.WantedShown.{wanted_word}
+use Rattle.file_tools.proofs.PrintLemmas.{image-bytes}
+use Rattle.file_tools.proofs.SourceLemmas.{so-of-sources}
+use Rattle.file_tools.specs.Images.{copies}
+use Rattle.file_tools.specs.PrintingFiles.{first_bytes}
+use Rattle.file_tools.specs.declared.images.Images.{Images}
+use Rattle.file_tools.specs.declared.read.StoredCopy.{StoredCopy}
+use Rattle.file_tools.specs.declared.sources.Sources.{Sources}
+use Rattle.whole_program.specs.RehearsingFiles.{FromFiles, RehearsesCopies, RehearsesFrom, RunsOut, no_run_of, refusal_of, rehearsal_of}
+use Rattle.file_tools.specs.Sources.{ReadsSources}
+use Rattle.rehearse_terms.specs.WantedShown.{wanted_word}
 
 abbrev pub asking_made : (variable : List ℕ) → BoundsShown → Wanted → (names : List (List ℕ)) → Asking
 asking_made variable bounds wanted names = record { variable = variable; bounds = bounds; wanted = wanted; names = names }

@@ -4,20 +4,20 @@ use Rattle.std.specs.Prelude.{◌≡◌, ℕ, Bool, true, List, Result, Ok, Err,
 use Rattle.output.specs.Sink.{Sink}
 use Rattle.envimage.specs.declared.image.ByteOrder.{ByteOrder}
 use Rattle.requests.specs.declared.ask.EndingsAsk.{EndingsAsk}
-use Rattle.image_tools.specs.EndingsOfImages.{RefusesEndings, TellsEndings}
+use Rattle.whole_program.specs.EndingsOfImages.{RefusesEndings, TellsEndings}
 use Rattle.image_tools.specs.Errors.{tool_fault}
 use Rattle.image_tools.specs.FileFaults.{path_form}
-use Rattle.image_tools.specs.Given.{Given, given_all}
+use Rattle.whole_program.specs.Given.{Given, given_all}
 use Rattle.image_tools.specs.declared.error.ToolError.{ToolError}
-use Rattle.rehearse_runs.specs.declared.rehearse_error.RehearseError.TheVariants as rehearsal
+use Rattle.rehearse.specs.declared.rehearse_error.RehearseError.TheVariants as rehearsal
 use Rattle.image_tools.specs.declared.error.ToolError.TheVariants as tool
 use Rattle.image_tools.specs.declared.fault.Fault.{Fault}
 use Rattle.image_tools.specs.declared.fault.Fault.TheVariants.{Memory, NoSuchVariable, Tool}
 use Rattle.locked_files.specs.CallOrder.{OnlyReads}
 use Rattle.locked_files.specs.Told.{Told}
-use Rattle.whole_program.specs.Images.{Copy}
-use Rattle.whole_program.specs.PrintingFiles.{first_bytes, second_bytes}
-use Rattle.whole_program.specs.RehearsingFiles.{AreRead, IsUnread}
+use Rattle.file_tools.specs.Images.{Copy}
+use Rattle.file_tools.specs.PrintingFiles.{first_bytes, second_bytes}
+use Rattle.file_tools.specs.Sources.{AreRead, IsUnread}
 
 -- what is rehearsed: the bytes of these copies, by the text of the device list, in all runs
 abbrev pub endings_of : ByteOrder → List Copy → (device_list : List ℕ) → EndingsAsk → Given

@@ -1,12 +1,9 @@
-pub mod Builds
+pub mod Given
+pub mod Headline
+pub mod Refusing
+pub mod EndingsOfImages
 pub mod Performing
 pub mod Locking
-pub mod Faults
-pub mod Images
-pub mod PrintingFiles
-pub mod ReadingFiles
-pub mod Running
 pub mod WholeProgram
-pub mod ChangingFiles
 pub mod RehearsingFiles
 pub mod EndingsOfFiles

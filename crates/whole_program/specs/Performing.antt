@@ -1,39 +1,25 @@
 -- What is done for what is asked, on files whose contents are known. The subcommands follow fw_printenv and fw_setenv
 -- (U-Boot, tools/env README). The rehearsal is ours.
-use Rattle.std.specs.Prelude.{◌≡◌, ◌++◌, ℕ, Bool, true, false, List, codes, length, map, Option, Result, Ok, Err, string_bytes}
-use Rattle.output.specs.Sink.{BrokeOff, Sink, Wrote}
+use Rattle.std.specs.Prelude.{◌≡◌, ℕ, Bool, true, false, List, codes, length, map, Option, Result, Ok, Err, string_bytes}
 use Rattle.envimage.specs.declared.image.ByteOrder.{ByteOrder}
 use Rattle.requests.specs.declared.ask.Ask.{Ask}
 use Rattle.requests.specs.declared.ask.Ask.TheVariants.{Endings, Help, Print, Rehearse, Setenv, Version}
 use Rattle.requests.specs.declared.ask.Change.{Change}
 use Rattle.output.specs.Outputs.{AreUnchanged, Outputs}
 use Rattle.locked_files.specs.Told.{IfTold, Told}
-use Rattle.image_tools.specs.declared.error.ToolError.TheVariants.{Write}
 use Rattle.image_tools.specs.declared.fault.Fault.{Fault}
-use Rattle.image_tools.specs.declared.fault.Fault.TheVariants.{Tool}
-use Rattle.whole_program.specs.Builds.{version_line}
-use Rattle.whole_program.specs.declared.build.Build.{Build}
+use Rattle.file_tools.specs.Builds.{version_line}
+use Rattle.file_tools.specs.Showing.{Shows}
+use Rattle.file_tools.specs.declared.build.Build.{Build}
 use Rattle.whole_program.specs.EndingsOfFiles.{TellsFrom}
-use Rattle.whole_program.specs.PrintingFiles.{LeavesOutputs, PrintsFrom}
+use Rattle.file_tools.specs.PrintingFiles.{LeavesOutputs, PrintsFrom}
 use Rattle.whole_program.specs.RehearsingFiles.{LeavesOutput, RehearsesFrom}
-use Rattle.whole_program.specs.ChangingFiles.{Sets}
+use Rattle.file_tools.specs.ChangingFiles.{Sets}
 
 -- a value without its name is asked for only with one name
 abbrev pub IsComplete : Ask → Type 0
 IsComplete (Print config what order) = what.header ≡ false → length what.names.items ≡ 1
 IsComplete ask = Unit {0}
-
--- the text of the help or the version was written, or its output failed inside it
-abbrev pub Helps : List ℕ → Sink → Sink → Result Bool Fault → Type 0
-Helps text old new (Ok all) = (all ≡ true) × Wrote old new text
-Helps text old new (Err (Tool Write)) = BrokeOff old new text
-Helps text old new (Err fault) = ⊥
-
--- this text was written, and nothing else was done
-abbrev pub Shows : List ℕ → Option Told → Option Told → Outputs → Result Bool Fault → Type 0
-Shows text before after outputs result =
-    Helps text outputs.out outputs.out' result
-    × ((after ≡ before) × (outputs.err' ≡ outputs.err))
 
 -- a change was made, which is all that the answer says
 abbrev pub SetsOf : (input : Option (List ℕ)) → ByteOrder → List ℕ → Change → Told → Told → Result Bool Fault →

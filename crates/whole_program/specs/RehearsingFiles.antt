@@ -6,24 +6,22 @@ use Rattle.envimage.specs.declared.image.ByteOrder.{ByteOrder}
 use Rattle.rehearse_runs.specs.declared.listing.Finish.{Finish}
 use Rattle.requests.specs.CommandAnswers.{asking_of}
 use Rattle.requests.specs.declared.ask.RehearseAsk.{RehearseAsk}
-use Rattle.rehearse.specs.WantedShown.{wanted_word}
+use Rattle.rehearse_terms.specs.WantedShown.{wanted_word}
 use Rattle.image_tools.specs.Errors.{tool_fault}
 use Rattle.image_tools.specs.FileFaults.{path_form}
-use Rattle.image_tools.specs.Given.{Given, given}
-use Rattle.image_tools.specs.Headline.{LeavesRecords, Rehearses}
+use Rattle.whole_program.specs.Given.{Given, given}
+use Rattle.whole_program.specs.Headline.{LeavesRecords, Rehearses}
 use Rattle.locked_files.specs.CallOrder.{OnlyReads}
-use Rattle.image_tools.specs.Refusing.{Refuses}
-use Rattle.locked_files.specs.Told.{Told, file_at}
+use Rattle.whole_program.specs.Refusing.{Refuses}
+use Rattle.locked_files.specs.Told.{Told}
 use Rattle.image_tools.specs.declared.error.ToolError.{ToolError}
-use Rattle.rehearse_runs.specs.declared.rehearse_error.RehearseError.TheVariants as rehearsal
+use Rattle.rehearse.specs.declared.rehearse_error.RehearseError.TheVariants as rehearsal
 use Rattle.image_tools.specs.declared.error.ToolError.TheVariants as tool
 use Rattle.image_tools.specs.declared.fault.Fault.{Fault}
 use Rattle.image_tools.specs.declared.fault.Fault.TheVariants.{Memory, NoSuchVariable, NotARun, Tool}
-use Rattle.locked_files.specs.declared.files.Action.TheVariants.{ReadAll}
-use Rattle.whole_program.specs.Images.{Copy, HasRead, IsImagesFault, copies}
-use Rattle.whole_program.specs.PrintingFiles.{first_bytes, second_bytes}
-use Rattle.whole_program.specs.ReadingFiles.{IsTextFault, Reads}
-use Rattle.whole_program.specs.declared.sources.Sources.{Sources}
+use Rattle.file_tools.specs.Images.{Copy, copies}
+use Rattle.file_tools.specs.PrintingFiles.{first_bytes, second_bytes}
+use Rattle.file_tools.specs.Sources.{AreRead, IsUnread}
 
 -- what a rehearsal is given: the bytes of these copies, the text of the device list, and what the words ask for
 abbrev pub rehearsal_of : ByteOrder → List Copy → (device_list : List ℕ) → RehearseAsk → Given
@@ -50,39 +48,11 @@ RehearsesCopies g old new (Ok finish) = Rehearses g old new finish
 RehearsesCopies g old new (Err tool.Memory) = RunsOut g old new
 RehearsesCopies g old new (Err error) = Refuses g old new error
 
--- The images were read, and then the device list, and this holds of what they give.
-pub record AreRead (config device_list : List ℕ) (old new : Told) (IsSo : List Copy → (text : List ℕ) → Type 0) : Type 0
-  where
-    pub found : List Copy
-    pub after_images : Told
-    pub read : HasRead config old after_images found
-    pub text : List ℕ
-    pub listed : Reads (device_list, ReadAll) (file_at device_list after_images.stored) after_images new text
-    pub so : IsSo found text
-
--- and the rehearsal of what they give has this property
+-- the images and the device list were read, and the rehearsal of what they give has this property
 abbrev pub FromFiles : ByteOrder → (config device_list : List ℕ) → RehearseAsk → (old new : Told) → (Given → Type 0) →
     Type 0
 FromFiles order config device_list what old new IsSo =
     AreRead config device_list old new (λ found text. IsSo (rehearsal_of order found text what))
-
--- The images were read, and the device list is refused for this.
-pub record IsUnlisted (config device_list : List ℕ) (old : Told) (fault : Fault) : Type 0 where
-  pub found : List Copy
-  pub after_images : Told
-  pub read : HasRead config old after_images found
-  pub refused : IsTextFault device_list (file_at device_list old.stored) fault
-
--- why the images and the device list are not both read: files were only read
-abbrev pub IsUnread : (config device_list : List ℕ) → (old new : Told) → Fault → Type 0
-IsUnread config device_list old new fault =
-    OnlyReads old new × (IsImagesFault config old.stored fault ⊎ IsUnlisted config device_list old fault)
-
--- each answer to the reading of both
-abbrev pub ReadsSources : (config device_list : List ℕ) → (old new : Told) → Result Sources Fault → Type 0
-ReadsSources config device_list old new (Ok sources) = AreRead config device_list old new (λ found text.
-    (found ≡ copies sources.images) × (text ≡ sources.device_list.items))
-ReadsSources config device_list old new (Err fault) = IsUnread config device_list old new fault
 
 -- The images and the device list were read, and the whole listing was written; or the rehearsal is refused, and the
 -- fault names what the words said; or a read is refused, and files were only read. If memory runs out while they are

@@ -9,8 +9,8 @@ use Rattle.requests.specs.declared.called.CalledAs.{CalledAs}
 use Rattle.image_tools.specs.Input.{PrintsInput, RefusesInput}
 use Rattle.whole_program.specs.Locking.{LocksFor}
 use Rattle.whole_program.specs.Performing.{Does}
-use Rattle.whole_program.specs.Running.{FilesShown, HasDone, HasRefused, IsMisused}
-use Rattle.whole_program.specs.declared.build.Build.{Build}
+use Rattle.file_tools.specs.Running.{FilesShown, HasDone, HasRefused, IsMisused}
+use Rattle.file_tools.specs.declared.build.Build.{Build}
 
 -- Without words: the image on the input was printed, or it was refused. No file was touched, and no lock was taken.
 pub record HasPrinted (input : Option (List ℕ)) (before after : FilesShown) (outputs : Outputs) (status : ℕ) : Type 0

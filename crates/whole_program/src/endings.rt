@@ -2,13 +2,14 @@
 ghost use Rattle.std.specs.Prelude.{◌≡◌, string_bytes};
 ghost use Rattle.locked_files.specs.Told.{IfTold};
 ghost use Rattle.whole_program.specs.EndingsOfFiles.{TellsCopies, TellsFrom, endings_of, endings_refusal};
-ghost use Rattle.whole_program.specs.Faults.{CountsTold};
-ghost use Rattle.whole_program.specs.Images.{copies};
+ghost use Rattle.file_tools.specs.Faults.{CountsTold};
+ghost use Rattle.file_tools.specs.Images.{copies};
 ghost use Rattle.whole_program.specs.RehearsingFiles.{LeavesOutput};
 
-use crate::sources::{Sources, read_sources};
+use crate::image_endings::endings_bytes;
 use envimage::ByteOrder;
-use image_tools::{Fault, RehearseError, ToolError, WordForm, endings_bytes};
+use file_tools::{Sources, read_sources};
+use image_tools::{Fault, RehearseError, ToolError, WordForm};
 use locked_files::Files;
 use output::Out;
 use requests::EndingsAsk;
@@ -38,7 +39,7 @@ fn endings_of_sources<O: Out>(
         sources.now.device_list.items what.now) what.now.flow what.now.states (O.sink out.old)
         (O.sink out.new) result }
 {
-    let ask = image_tools::EndingsAsk {
+    let ask = rehearse_endings::EndingsAsk {
         name: what.name.as_bytes(),
         bounds: what.bounds,
         states: what.states,

@@ -1,16 +1,13 @@
 //! Does what is asked for.
 ghost use Rattle.output.specs.Outputs.{outputs};
 ghost use Rattle.whole_program.specs.Performing.{Does, IsComplete};
-ghost use Rattle.whole_program.specs.Faults.{CountsTold};
+ghost use Rattle.file_tools.specs.Faults.{CountsTold};
 ghost use Rattle.whole_program.specs.Locking.{LocksFor};
 
-use crate::build::Build;
 use crate::endings::endings;
-use crate::print::print;
 use crate::rehearsing::rehearse;
-use crate::set::set;
-use crate::showing::{show_help, show_version};
 use crate::tool::PROGRAM;
+use file_tools::{Build, print_files, set_files, show_help, show_version};
 use image_tools::Fault;
 use locked_files::Files;
 use output::Out;
@@ -41,14 +38,14 @@ pub fn perform<R: Read, F: Files, O: Out, E: Out>(
             config,
             what,
             order,
-        } => print(alloc, files, config, &what, order, out, err),
+        } => print_files(alloc, files, config, &what, order, out, err),
         Ask::Setenv {
             config,
             change,
             order,
         } => {
             files.lock();
-            match set(alloc, input, files, config, change, order) {
+            match set_files(alloc, input, files, config, change, order) {
                 Ok(()) => Ok(true),
                 Err(fault) => Err(fault),
             }

@@ -1,16 +1,17 @@
 //! `rehearse`, from files to the listing.
 ghost use Rattle.std.specs.Prelude.{◌≡◌, string_bytes};
 ghost use Rattle.locked_files.specs.Told.{IfTold};
-ghost use Rattle.whole_program.specs.Faults.{CountsTold};
-ghost use Rattle.whole_program.specs.Images.{copies};
+ghost use Rattle.file_tools.specs.Faults.{CountsTold};
+ghost use Rattle.file_tools.specs.Images.{copies};
 ghost use Rattle.whole_program.specs.RehearsingFiles.{LeavesOutput, RehearsesCopies, RehearsesFrom, refusal_of, rehearsal_of};
 
-use crate::print::slices_of;
-use crate::sources::{Sources, read_sources};
+use crate::image_rehearsal::rehearse_bytes;
 use envimage::ByteOrder;
-use image_tools::{Fault, Finish, RehearseError, ToolError, WordForm, rehearse_bytes};
+use file_tools::{Sources, read_sources, slices_of};
+use image_tools::{Fault, RehearseError, ToolError, WordForm};
 use locked_files::Files;
 use output::Out;
+use rehearse_runs::Finish;
 use requests::RehearseAsk;
 use std::alloc::Global;
 
@@ -43,7 +44,7 @@ fn rehearse_sources<O: Out>(
     let Ok(names) = slices_of(alloc, &what.names) else {
         return Err(ToolError::Memory);
     };
-    let ask = image_tools::RehearseAsk {
+    let ask = rehearse_runs::Ask {
         name: what.name.as_bytes(),
         wanted: what.wanted.as_bytes(),
         names: &names,

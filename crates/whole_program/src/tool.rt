@@ -1,12 +1,11 @@
 //! The whole program.
 ghost use Rattle.std.specs.Prelude.{◌≡◌, ◌<◌, length, map};
 ghost use Rattle.output.specs.Outputs.{outputs};
-ghost use Rattle.whole_program.specs.Running.{files_shown};
+ghost use Rattle.file_tools.specs.Running.{files_shown};
 ghost use Rattle.whole_program.specs.WholeProgram.{HasEnded, HasPrinted};
 
-use crate::build::Build;
-use crate::ending::{refuse, status_of};
 use crate::perform::perform;
+use file_tools::{Build, refuse, status_of};
 use image_tools::run_input;
 use locked_files::Files;
 use output::Out;

@@ -9,8 +9,9 @@ use hushlang::parse::parse;
 use hushlang::token::SyntaxError;
 use hushlang::tree::{Command, Script, Word};
 use locked_files::{FileFault, Files, MemoryFiles};
-use rehearse::{Bounds, Devices, DevicesError};
+use rehearse::{Devices, DevicesError};
 use rehearse_runs::{RehearseError, WordKind, try_word};
+use rehearse_terms::Bounds;
 use std::alloc::{AllocError, Global};
 
 /// The variables that words are expanded by.

@@ -5,8 +5,9 @@
 use bootstore::{Plain, Store, Trail};
 use envtools::Env;
 use output::{Out, Over, write_all};
-use rehearse::{Bounds, Devices, Page};
+use rehearse::Devices;
 use rehearse_runs::{RehearseError, Runs, write_listing};
+use rehearse_terms::{Bounds, Page};
 use std::alloc::{AllocError, Global};
 use std::io;
 

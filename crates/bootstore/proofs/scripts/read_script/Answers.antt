@@ -1,6 +1,6 @@
 use Rattle.std.proofs.Common.{sym}
 use Rattle.hushlang.specs.TreesShown as view
-use Rattle.rehearse.proofs.TreeLemmas.{trees_are_read, refused_texts}
+use Rattle.hushlang.proofs.TreeLemmas.{trees_are_read, refused_texts}
 use Rattle.bootstore.proofs.scripts.read_script.Goals as goal
 
 pub returns-in-Ok : goal.returns-in-Ok

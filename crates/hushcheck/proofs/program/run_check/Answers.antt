@@ -1,7 +1,7 @@
 use Rattle.std.proofs.Common.{map}
 use Rattle.hushcheck.specs.CommandAnswers.{Answers}
 use Rattle.hushcheck.specs.Doing.{Does}
-use Rattle.whole_program.proofs.RunLemmas.{status-done, status-refused}
+use Rattle.file_tools.proofs.RunLemmas.{status-done, status-refused}
 use Rattle.hushcheck.proofs.program.run_check.Goals as goal
 
 pub returns-in-Ok-clause-done : goal.returns-in-Ok-clause-done

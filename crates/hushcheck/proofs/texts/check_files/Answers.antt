@@ -3,7 +3,7 @@ use Rattle.std.proofs.lemmas.Result.{err_from_is_err_and}
 use Rattle.image_tools.specs.declared.fault.Fault.{Fault}
 use Rattle.locked_files.proofs.ToldLemmas.{IfTold-then}
 use Rattle.locked_files.specs.Told.{IfTold}
-use Rattle.whole_program.specs.Images.{copies}
+use Rattle.file_tools.specs.Images.{copies}
 use Rattle.hushcheck.specs.Asked.{Asked, asked_by}
 use Rattle.hushcheck.specs.Checking.{ChecksFrom, ChecksText, given_by}
 use Rattle.hushcheck.proofs.CheckLemmas.{bytes_if, checks-refused, checks-unlisted}

@@ -8,7 +8,7 @@ use Rattle.image_tools.specs.Errors.{env_fault}
 use Rattle.image_tools.specs.PrintingImages.{Finds, environment_in}
 use Rattle.image_tools.specs.declared.error.ToolError.{ToolError}
 use Rattle.image_tools.specs.declared.error.ToolError.TheVariants.{Memory}
-use Rattle.image_tools.proofs.RehearsalLemmas.{image-env}
+use Rattle.image_tools.proofs.ImageLemmas.{image-env}
 use Rattle.image_tools.proofs.image_env.env_of_image.Goals as goal
 
 -- data without a fault is refused only if memory runs out

@@ -1,7 +1,7 @@
-use Rattle.std.proofs.Common.{sym, ap, ◌∙◌, ◌≡◌, List, [], ◌∷◌, Bool, map, ◌++◌, ◌+◌, drop, append-nil, Vec, ℕ}
+use Rattle.std.proofs.Common.{sym, ap, ◌∙◌, ◌≡◌, List, Bool, ◌++◌, ◌+◌, drop, append-nil, Vec, ℕ}
 use Rattle.std.specs.declared.alloc.Global.{Global}
 use Rattle.text.specs.TextsShown.{bytes_of_words}
-use Rattle.rehearse.specs.State.{Text, LoggedCommand, answers_in}
+use Rattle.rehearse_terms.specs.State.{Text, LoggedCommand, answers_in}
 use Rattle.rehearse_endings.specs.Cores.{answers_shown}
 use Rattle.rehearse_endings.proofs.AnswerLemmas.{answer_of, answers_first, answers_skipped, answers_past, copied_on}
 use Rattle.rehearse_endings.proofs.cores.copy_answers.Goals as goal

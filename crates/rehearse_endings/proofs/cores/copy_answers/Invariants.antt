@@ -1,5 +1,5 @@
 use Rattle.std.proofs.Common.{◌≡◌, ◌++◌, drop}
-use Rattle.rehearse.specs.State.{answers_in}
+use Rattle.rehearse_terms.specs.State.{answers_in}
 use Rattle.rehearse_endings.specs.Cores.{answers_shown}
 use Rattle.rehearse_endings.proofs.cores.copy_answers.Given as goal
 

@@ -1,7 +1,7 @@
 use Rattle.std.proofs.Common.{ap, sym, ◌∙◌, ℕ, Vec}
 use Rattle.std.specs.declared.alloc.Global.{Global}
 use Rattle.rehearse_endings.specs.Cores.{CoreShown, pairs_shown, answers_shown}
-use Rattle.rehearse.specs.State.{answers_in}
+use Rattle.rehearse_terms.specs.State.{answers_in}
 use Rattle.rehearse_endings.proofs.SameScriptLemmas.{told_frames}
 use Rattle.rehearse_endings.proofs.cores.has_core.Goals as goal
 

@@ -1,8 +1,8 @@
-use Rattle.std.proofs.Common.{rules, refl, length, sym, ap, ◌∙◌, ◌≡◌, List, [], ◌∷◌, Bool, map, ◌++◌, ◌+◌, drop, Vec, ℕ}
+use Rattle.std.proofs.Common.{rules, refl, length, sym, ap, ◌∙◌, ◌≡◌, List, ◌∷◌, Bool, ◌++◌, ◌+◌, drop, Vec, ℕ}
 use Rattle.std.specs.Borrow.{Bor}
 use Rattle.std.specs.declared.alloc.Global.{Global}
 use Rattle.text.specs.TextsShown.{bytes_of_words}
-use Rattle.rehearse.specs.State.{Text, LoggedCommand, answers_in}
+use Rattle.rehearse_terms.specs.State.{Text, LoggedCommand, answers_in}
 use Rattle.rehearse_endings.specs.Cores.{answers_shown}
 use Rattle.rehearse_endings.proofs.SameScriptLemmas.{same_flag, told_flag, pairs_step, pairs_first, pairs_rest, pairs_none, told_empty}
 use Rattle.rehearse_endings.proofs.AnswerLemmas.{answer_of, answers_first, answers_skipped, answers_past}

@@ -1,5 +1,5 @@
 use Rattle.std.proofs.Common.{◌≡◌, ◌++◌, List, Bool, drop}
-use Rattle.rehearse.specs.State.{Text, answers_in}
+use Rattle.rehearse_terms.specs.State.{Text, answers_in}
 use Rattle.rehearse_endings.specs.Cores.{answers_shown}
 use Rattle.rehearse_endings.proofs.cores.same_answers.Given as goal
 

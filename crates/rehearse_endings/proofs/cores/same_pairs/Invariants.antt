@@ -1,5 +1,5 @@
 use Rattle.std.proofs.Common.{◌≡◌, ◌++◌, List}
-use Rattle.rehearse.specs.State.{Text}
+use Rattle.rehearse_terms.specs.State.{Text}
 use Rattle.rehearse_endings.specs.Cores.{pairs_shown}
 use Rattle.rehearse_endings.proofs.cores.same_pairs.Given as goal
 

@@ -1,5 +1,5 @@
 use Rattle.std.proofs.Common.{◌≡◌, ◌++◌, flat_map, take}
-use Rattle.rehearse_runs.specs.Recording.{spaced}
+use Rattle.text.specs.TextsShown.{spaced}
 use Rattle.rehearse_endings.proofs.flow_lines.put_spaced.Given as goal
 
 -- the words so far

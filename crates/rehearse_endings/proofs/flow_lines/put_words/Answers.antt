@@ -2,10 +2,9 @@ use Rattle.std.proofs.Common.{◌++◌, ◌∙◌, ap, sym, map, append_assoc, L
 use Rattle.std.specs.List.{flat_map, join_with_byte}
 use Rattle.std.specs.declared.alloc.Global.{Global}
 use Rattle.std.specs.declared.vec.Vec.{Vec}
-use Rattle.text.specs.TextsShown.{bytes_of_words}
+use Rattle.text.specs.TextsShown.{bytes_of_words, spaced}
 use Rattle.text.specs.Escapes.{word_form}
-use Rattle.rehearse_runs.specs.Recording.{spaced}
-use Rattle.rehearse_runs.proofs.RecordParts.{joined_words}
+use Rattle.text.proofs.SpacedWords.{joined_words}
 use Rattle.rehearse_endings.proofs.flow_lines.put_words.Goals as goal
 
 pub returns-in_ok-put_spaced-in-Some : goal.returns-in_ok-put_spaced-in-Some

@@ -1,6 +1,6 @@
 use Rattle.std.proofs.Common.{◌≡◌, ◌≤◌, take, map, reverse}
 use Rattle.rehearse_machine.specs.Machine.{outcome_when}
-use Rattle.rehearse.specs.Outcomes.{failures}
+use Rattle.rehearse_terms.specs.Outcomes.{failures}
 use Rattle.rehearse_endings.proofs.rows.failures.Given as goal
 
 -- the failures so far

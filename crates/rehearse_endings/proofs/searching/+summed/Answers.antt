@@ -1,5 +1,5 @@
 use Rattle.std.proofs.Common.{ℕ, refl, arith, rules, ap, sym, subst, ◌∙◌, ◌+◌, [], ◌∷◌, ◌++◌}
-use Rattle.rehearse.specs.Outcomes.{Success, Failure}
+use Rattle.rehearse_terms.specs.Outcomes.{Success, Failure}
 use Rattle.rehearse_machine.specs.Tasks.{task_in}
 use Rattle.rehearse_machine.specs.declared.rehearsal.Stop.{Stop}
 use Rattle.rehearse_machine.specs.declared.rehearsal.Stop.TheVariants.{Asks}
@@ -11,7 +11,7 @@ use Rattle.rehearse_endings.specs.Drawing.{Draws, node_shown, nodes_shown}
 use Rattle.rehearse_endings.specs.declared.flow.Flow.{Flow}
 use Rattle.rehearse_endings.specs.Searching.{future, seen_from}
 use Rattle.rehearse_endings.specs.States.{HasStates}
-use Rattle.rehearse_runs.proofs.SearchLemmas.{stopped_on}
+use Rattle.rehearse_machine.proofs.StoppedTextLemmas.{stopped_on}
 use Rattle.std.proofs.Common.{Err}
 use Rattle.std.proofs.lemmas.Result.{err_from_is_err_and}
 use Rattle.rehearse_endings.proofs.EnteredStateLemmas.{refused_as, met_as, enters, too_many, new_won, new_lost, gone_through, none_entered}

@@ -4,7 +4,7 @@ use Rattle.text.specs.TextsShown.{bytes_of_words}
 use Rattle.hushlang.specs.Expansion.{fields}
 use Rattle.hushlang.specs.Tree.{Word}
 use Rattle.hushlang.specs.declared.tree.Script.{Script as Code}
-use Rattle.rehearse.specs.State.{Text}
+use Rattle.rehearse_terms.specs.State.{Text}
 use Rattle.bootstore.specs.Moment.{RunningFrame}
 use Rattle.bootstore.specs.declared.frame.At.{At}
 use Rattle.rehearse_machine.specs.declared.next_move.Next.TheVariants as nexts

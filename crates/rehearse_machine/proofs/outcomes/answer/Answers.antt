@@ -3,7 +3,7 @@ use Rattle.text.specs.TextsShown.{bytes_of_words}
 use Rattle.bootstore.proofs.TableLemmas.{clone_text}
 use Rattle.rehearse.specs.Commands.{sets_in}
 use Rattle.rehearse.specs.DevicesShown.{setting_shown}
-use Rattle.rehearse.specs.State.{Text, LoggedCommand}
+use Rattle.rehearse_terms.specs.State.{Text, LoggedCommand}
 use Rattle.bootstore.specs.StoredState.{state_at}
 use Rattle.rehearse.specs.Execution.{succeeds, status_when}
 use Rattle.rehearse_machine.specs.MovesShown.{request_shown}

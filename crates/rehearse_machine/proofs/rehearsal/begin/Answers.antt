@@ -3,7 +3,7 @@ use Rattle.std.specs.Prelude.{option_map}
 use Rattle.hushlang.specs.TreesShown as view
 use Rattle.bootstore.specs.Moment.{environment_of}
 use Rattle.bootstore.specs.Record.{Record}
-use Rattle.rehearse.specs.Trees.{tree_of}
+use Rattle.hushlang.specs.Trees.{tree_of}
 use Rattle.rehearse.specs.Execution.{Syntax}
 use Rattle.bootstore.specs.StoredState.{state_at}
 use Rattle.rehearse.specs.Runs.{run_on}

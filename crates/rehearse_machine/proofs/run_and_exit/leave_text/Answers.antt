@@ -3,7 +3,7 @@ use Rattle.bootstore.specs.Record.{Record, without_frame}
 use Rattle.rehearse.specs.Execution.{End}
 use Rattle.rehearse_machine.specs.MovesShown.{Keeps}
 use Rattle.rehearse_machine.proofs.StoreMoves.{keeps_both, keeps_change}
-use Rattle.rehearse.specs.State.{State}
+use Rattle.rehearse_terms.specs.State.{State}
 use Rattle.bootstore.specs.StoredState.{state_at}
 use Rattle.rehearse_machine.specs.Places.{left, to_run, StopOn}
 use Rattle.rehearse_machine.proofs.PlaceMoves.{stops_at_run, goes_below, ends_at_none}

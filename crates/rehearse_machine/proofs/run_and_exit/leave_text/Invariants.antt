@@ -1,5 +1,5 @@
 use Rattle.std.proofs.Common.{◌≡◌, length}
-use Rattle.rehearse.specs.Outcomes.{OutcomeWord}
+use Rattle.rehearse_terms.specs.Outcomes.{OutcomeWord}
 use Rattle.bootstore.specs.StoredState.{state_at}
 use Rattle.rehearse_machine.specs.Places.{to_run}
 use Rattle.rehearse_machine.specs.MovesShown.{Keeps}

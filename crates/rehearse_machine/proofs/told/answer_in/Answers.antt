@@ -1,6 +1,6 @@
 use Rattle.std.proofs.Common.{sym, ap, ◌∙◌, Some, ◌∷◌, List}
 use Rattle.text.specs.TextsShown.{bytes_of_words}
-use Rattle.rehearse.specs.State.{Text, LoggedCommand}
+use Rattle.rehearse_terms.specs.State.{Text, LoggedCommand}
 use Rattle.rehearse_machine.proofs.ToldLemmas.{answer_found, answer_later, no_answer}
 use Rattle.rehearse_machine.proofs.told.answer_in.Goals as goal
 

@@ -1,6 +1,6 @@
 use Rattle.std.proofs.Common.{◌≡◌, ◌∷◌, drop}
 use Rattle.text.specs.TextsShown.{bytes_of_words}
-use Rattle.rehearse.specs.State.{answer_in}
+use Rattle.rehearse_terms.specs.State.{answer_in}
 use Rattle.rehearse_machine.proofs.told.answer_in.Given as goal
 
 -- the entries so far do not have the answer

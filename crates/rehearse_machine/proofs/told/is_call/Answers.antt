@@ -2,7 +2,7 @@ use Rattle.std.proofs.Common.{◌≡◌, ◌≤◌, ◌-◌, ◌&&◌, true, Boo
 use Rattle.std.specs.Str.{bytes_eq}
 use Rattle.std.specs.declared.alloc.Global.{Global}
 use Rattle.text.specs.TextsShown.{bytes_of_words}
-use Rattle.rehearse.specs.State.{same_words}
+use Rattle.rehearse_terms.specs.State.{same_words}
 use Rattle.rehearse_machine.proofs.CommandMoves.{first_and_rest}
 use Rattle.rehearse_machine.proofs.ToldLemmas.{words_compared}
 use Rattle.rehearse_machine.proofs.told.is_call.Goals as goal

@@ -1,5 +1,5 @@
 use Rattle.std.proofs.Common.{◌≡◌, ◌≤◌, take}
-use Rattle.rehearse.specs.Outcomes.{failures}
+use Rattle.rehearse_terms.specs.Outcomes.{failures}
 use Rattle.rehearse_runs.specs.RunsShown.{outcomes}
 use Rattle.rehearse_runs.proofs.failing.failures.Given as goal
 

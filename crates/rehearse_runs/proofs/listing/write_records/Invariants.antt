@@ -1,5 +1,5 @@
 use Rattle.std.proofs.Common.{List, length, map}
-use Rattle.rehearse.specs.Outcomes.{OutcomeWord}
+use Rattle.rehearse_terms.specs.Outcomes.{OutcomeWord}
 use Rattle.rehearse_runs.specs.ListingRuns.{Recorded}
 use Rattle.rehearse_runs.proofs.listing.write_records.Given as goal
 

@@ -1,7 +1,7 @@
 use Rattle.std.proofs.Common.{◌++◌, ◌∙◌, ap, sym, append_assoc, List}
 use Rattle.std.proofs.lemmas.Result.{err_from_is_err_and}
 use Rattle.std.specs.List.{flat_map}
-use Rattle.rehearse.specs.State.{Text}
+use Rattle.rehearse_terms.specs.State.{Text}
 use Rattle.rehearse_runs.specs.Recording.{set_line}
 use Rattle.rehearse_runs.proofs.PageLemmas.{Put-append, Breaks-before, Breaks-after, Breaks-as}
 use Rattle.rehearse_runs.proofs.record.put_all.Goals as goal

@@ -1,7 +1,7 @@
 use Rattle.std.proofs.Common.{◌∷◌, ap, List, ℕ}
 use Rattle.std.proofs.lemmas.Result.{err_from_is_err_and}
 use Rattle.text.specs.Escapes.{word_form}
-use Rattle.rehearse_runs.specs.Recording.{spaced}
+use Rattle.text.specs.TextsShown.{spaced}
 use Rattle.rehearse_runs.proofs.PageLemmas.{Put-none, Put-found, Breaks-found, Put-as, Breaks-as}
 use Rattle.rehearse_runs.proofs.record.put_spaced.Goals as goal
 

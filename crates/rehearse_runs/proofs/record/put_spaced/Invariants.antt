@@ -1,7 +1,7 @@
 use Rattle.std.proofs.Common.{take}
 use Rattle.std.specs.List.{flat_map}
 use Rattle.rehearse_runs.specs.Paging.{Put}
-use Rattle.rehearse_runs.specs.Recording.{spaced}
+use Rattle.text.specs.TextsShown.{spaced}
 use Rattle.rehearse_runs.proofs.record.put_spaced.Given as goal
 
 -- the words so far were put

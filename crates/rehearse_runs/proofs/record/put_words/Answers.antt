@@ -3,10 +3,9 @@ use Rattle.std.proofs.lemmas.Result.{err_from_is_err_and}
 use Rattle.std.specs.List.{flat_map, join_with_byte}
 use Rattle.std.specs.declared.alloc.Global.{Global}
 use Rattle.std.specs.declared.vec.Vec.{Vec}
-use Rattle.text.specs.TextsShown.{bytes_of_words}
+use Rattle.text.specs.TextsShown.{bytes_of_words, spaced}
 use Rattle.text.specs.Escapes.{word_form}
-use Rattle.rehearse_runs.specs.Recording.{spaced}
-use Rattle.rehearse_runs.proofs.RecordParts.{joined_words}
+use Rattle.text.proofs.SpacedWords.{joined_words}
 use Rattle.rehearse_runs.proofs.PageLemmas.{Breaks-before, Breaks-as, Puts-as, Puts-after}
 use Rattle.rehearse_runs.proofs.record.put_words.Goals as goal
 

@@ -1,4 +1,4 @@
-use Rattle.rehearse.specs.declared.wanted.Wanted.TheVariants.{Listing, Word}
+use Rattle.rehearse_terms.specs.declared.wanted.Wanted.TheVariants.{Listing, Word}
 use Rattle.rehearse_runs.proofs.HeadlineLemmas.{refused_with, rehearses_with}
 use Rattle.rehearse_runs.proofs.rehearsing.rehearse_env.Goals as goal
 

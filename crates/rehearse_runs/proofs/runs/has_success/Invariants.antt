@@ -1,5 +1,5 @@
 use Rattle.std.proofs.Common.{◌≡◌, drop}
-use Rattle.rehearse.specs.Outcomes.{has_success}
+use Rattle.rehearse_terms.specs.Outcomes.{has_success}
 use Rattle.rehearse_runs.specs.RunsShown.{outcomes}
 use Rattle.rehearse_runs.proofs.FailingLemmas.{less_by}
 use Rattle.rehearse_runs.proofs.runs.has_success.Given as goal

@@ -1,7 +1,7 @@
 use Rattle.std.proofs.Common.{◌≡◌, subst}
 use Rattle.std.specs.Option.{IfSome}
 use Rattle.std.proofs.lemmas.Option.{IfSome_then}
-use Rattle.rehearse.specs.Bounds.{BoundsShown}
+use Rattle.rehearse_terms.specs.Bounds.{BoundsShown}
 use Rattle.rehearse_machine.specs.Tasks.{task_in, task_shown}
 use Rattle.rehearse_machine.specs.declared.rehearsal.Rehearsal.{Rehearsal}
 use Rattle.rehearse_runs.proofs.AdvanceLemmas.{bounds_in}

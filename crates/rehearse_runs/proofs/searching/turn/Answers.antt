@@ -1,6 +1,6 @@
 use Rattle.std.proofs.Common.{◌≡◌, ◌∙◌, sym, ap, false, true, arith}
 use Rattle.std.proofs.lemmas.Bool.{false≢true}
-use Rattle.rehearse.specs.Outcomes.{allows, failures}
+use Rattle.rehearse_terms.specs.Outcomes.{allows, failures}
 use Rattle.rehearse_runs.specs.RunsShown.{outcomes}
 use Rattle.rehearse_runs.proofs.SearchLemmas.{dropped, dropped_failures, passed, passed_failures, turned_here, cut_digits, digits_failure, none_left}
 use Rattle.rehearse_runs.proofs.searching.turn.Goals as goal

@@ -1,5 +1,5 @@
 use Rattle.std.proofs.Common.{◌≡◌, length}
-use Rattle.rehearse.specs.Outcomes.{failures, turned}
+use Rattle.rehearse_terms.specs.Outcomes.{failures, turned}
 use Rattle.rehearse_runs.specs.RunsShown.{outcomes}
 use Rattle.rehearse_runs.specs.Phases.{AreDigits}
 use Rattle.rehearse_runs.proofs.searching.turn.Given as goal

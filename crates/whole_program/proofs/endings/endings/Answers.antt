@@ -3,7 +3,7 @@ use Rattle.locked_files.specs.Told.{IfTold}
 use Rattle.image_tools.specs.declared.fault.Fault.{Fault}
 use Rattle.whole_program.specs.EndingsOfFiles.{TellsFrom}
 use Rattle.whole_program.proofs.EndingsLemmas.{tells-refused}
-use Rattle.whole_program.proofs.SourceLemmas.{IfTold-weaker}
+use Rattle.file_tools.proofs.SourceLemmas.{IfTold-weaker}
 use Rattle.whole_program.proofs.endings.endings.Goals as goal
 
 pub returns-in-Err-clause-told : goal.returns-in-Err-clause-told

@@ -1,6 +1,6 @@
 use Rattle.std.proofs.Common.{subst}
 use Rattle.std.specs.Option.{option_copied}
-use Rattle.image_tools.specs.Given.{Given, given_all}
+use Rattle.whole_program.specs.Given.{Given, given_all}
 use Rattle.whole_program.specs.EndingsOfFiles.{TellsCopies}
 use Rattle.whole_program.proofs.EndingsLemmas.{copies-told, endings-given}
 use Rattle.whole_program.proofs.endings.endings_of_sources.Goals as goal

@@ -3,7 +3,7 @@ use Rattle.locked_files.specs.Told.{IfTold}
 use Rattle.image_tools.specs.declared.fault.Fault.{Fault}
 use Rattle.whole_program.specs.RehearsingFiles.{RehearsesFrom}
 use Rattle.whole_program.proofs.RehearseLemmas.{rehearses-found, rehearses-refused}
-use Rattle.whole_program.proofs.SourceLemmas.{IfTold-weaker}
+use Rattle.file_tools.proofs.SourceLemmas.{IfTold-weaker}
 use Rattle.whole_program.proofs.rehearsing.rehearse.Goals as goal
 
 pub returns-in-Err-clause-told : goal.returns-in-Err-clause-told

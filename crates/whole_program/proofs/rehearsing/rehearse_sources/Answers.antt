@@ -1,7 +1,7 @@
 use Rattle.std.proofs.Common.{◌≡◌, ◌∙◌, ap, subst, map, string_bytes, List, ℕ}
 use Rattle.std.specs.Borrow.{Bor}
 use Rattle.std.specs.Option.{option_copied}
-use Rattle.image_tools.specs.Given.{Given}
+use Rattle.whole_program.specs.Given.{Given}
 use Rattle.whole_program.specs.RehearsingFiles.{RehearsesCopies}
 use Rattle.whole_program.proofs.RehearseLemmas.{copies-rehearsed, given-copies, same-asking}
 use Rattle.whole_program.proofs.rehearsing.rehearse_sources.Goals as goal

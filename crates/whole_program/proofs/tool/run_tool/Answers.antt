@@ -1,5 +1,5 @@
 use Rattle.std.proofs.Common.{refl}
-use Rattle.whole_program.proofs.RunLemmas.{printed-low}
+use Rattle.file_tools.proofs.RunLemmas.{printed-low}
 use Rattle.whole_program.proofs.tool.run_tool.Goals as goal
 
 pub returns-then-is_empty-clause-input : goal.returns-then-is_empty-clause-input

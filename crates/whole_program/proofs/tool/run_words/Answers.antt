@@ -2,7 +2,7 @@ use Rattle.std.proofs.Common.{arith, map, refl}
 use Rattle.requests.specs.CommandAnswers.{Answers}
 use Rattle.whole_program.specs.Performing.{Does}
 use Rattle.whole_program.proofs.AskLemmas.{answer-complete}
-use Rattle.whole_program.proofs.RunLemmas.{ends-low, never-misused, status-done, status-refused}
+use Rattle.file_tools.proofs.RunLemmas.{ends-low, never-misused, status-done, status-refused}
 use Rattle.whole_program.proofs.tool.run_words.Goals as goal
 
 pub perform-answer-requires : goal.perform-answer-requires

@@ -1,7 +1,7 @@
 use Rattle.std.proofs.Common.{Some, sym, ap, subst, ◌∙◌}
 use Rattle.hushlang.specs.TreesShown as view
 use Rattle.hushlang.specs.declared.tree.Script.{Script as Code}
-use Rattle.rehearse.specs.Trees.{tree_of}
+use Rattle.hushlang.specs.Trees.{tree_of}
 use Rattle.bootstore.specs.Scripts.{AreOfTexts}
 use Rattle.bootstore.proofs.KeptScripts.{scripts_kept}
 use Rattle.bootstore.proofs.scripts.Scripts.keep.Goals as goal

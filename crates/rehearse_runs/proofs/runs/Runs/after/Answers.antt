@@ -1,5 +1,5 @@
 use Rattle.std.proofs.Common.{ℕ, Option, ◌≡◌, rules, ap, sym, subst, true, Some, ◌∙◌}
-use Rattle.rehearse.specs.Outcomes.{is_within}
+use Rattle.rehearse_terms.specs.Outcomes.{is_within}
 use Rattle.rehearse.specs.Runs.{Task}
 use Rattle.rehearse_runs.specs.Walking.{WalksTo}
 use Rattle.rehearse_runs.specs.Behind.{GoesOnBehind}

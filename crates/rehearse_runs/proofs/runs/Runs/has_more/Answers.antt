@@ -1,6 +1,6 @@
 use Rattle.std.proofs.Common.{ℕ, Option, ◌∙◌, ap}
-use Rattle.rehearse.specs.State.{Text}
-use Rattle.rehearse.specs.Outcomes.{has_success}
+use Rattle.rehearse_terms.specs.State.{Text}
+use Rattle.rehearse_terms.specs.Outcomes.{has_success}
 use Rattle.rehearse_runs.specs.RunsShown.{outcomes}
 use Rattle.rehearse_machine.specs.Tasks.{task_in}
 use Rattle.rehearse_runs.proofs.RunsLemmas.{more_behind, more_at_first}

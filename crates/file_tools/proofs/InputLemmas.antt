@@ -1,0 +1,22 @@
+-- What was read of an input, up to the limit or past it.
+use Rattle.std.proofs.Common.{◌≡◌, ◌∙◌, ◌<◌, ◌≤◌, ℕ, List, length, take, min, Option, None, Some, arith, length-take}
+use Rattle.std.proofs.lemmas.List.{take_all}
+use Rattle.std.specs.Prelude.{IfSome}
+use Rattle.locked_files.specs.Told.{read_limit}
+use Rattle.file_tools.specs.ReadingFiles.{IsInput}
+
+-- a text within the limit is the whole input
+pub whole-input : (input : Option (List ℕ)) (text : List ℕ) → IfSome input (λ left. text ≡ take 1048577 left) → length text ≤ 1048576 → IsInput input text
+whole-input None text is short = tt
+whole-input (Some all) text is short =
+    let taken : length text ≡ min 1048577 (length all) = rw is (length-take 1048577 all) in
+    let fits : length all ≤ 1048577 = omega (arith, short, taken) in
+    is ∙ take_all 1048577 all fits
+
+-- if more than the limit was read of an input, the input is longer than the limit
+pub long-input : (input : Option (List ℕ)) (text : List ℕ) → IfSome input (λ left. text ≡ take 1048577 left) → 1048576 < length text
+    → IfSome input (λ all. read_limit < length all)
+long-input None text is past = tt
+long-input (Some all) text is past =
+    let taken : length text ≡ min 1048577 (length all) = rw is (length-take 1048577 all) in
+    omega (arith, past, taken)

@@ -1,0 +1,9 @@
+pub mod Builds
+pub mod Faults
+pub mod Images
+pub mod PrintingFiles
+pub mod ReadingFiles
+pub mod Running
+pub mod ChangingFiles
+pub mod Showing
+pub mod Sources

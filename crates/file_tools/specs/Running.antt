@@ -1,0 +1,80 @@
+-- What a whole program has done when it ends with a status, by what it answers to its words and what is done for that.
+-- The statuses are ours.
+use Rattle.std.specs.Prelude.{◌≡◌, ◌⊎◌, ℕ, Bool, true, false, List, Option, Result, Ok, Err, string_bytes}
+use Rattle.clap.specs.Words.{Text}
+use Rattle.output.specs.Sink.{BrokeOff, Sink, Wrote}
+use Rattle.requests.specs.declared.ask.UseError.{UseError}
+use Rattle.requests.specs.declared.ask.UseError.TheVariants.{Line}
+use Rattle.output.specs.Outputs.{Outputs}
+use Rattle.locked_files.specs.Told.{Told}
+use Rattle.locked_files.specs.declared.files.Files.{Ghosts}
+use Rattle.image_tools.specs.declared.fault.Fault.{Fault}
+use Rattle.file_tools.specs.Faults.{CountsTold}
+use Rattle.file_tools.specs.declared.starting.StartError.{StartError}
+
+-- What the files show at a moment: how often the device has failed, what is in the files, if that is known, and whether
+-- the lock was taken.
+pub record FilesShown : Type 0 where
+  pub faults : ℕ
+  pub told : Option Told
+  pub locked : Bool
+
+-- what some files show
+abbrev pub files_shown : {F : Type 0} → Ghosts F → F → FilesShown
+files_shown g files = record { faults = g.faults files; told = g.told files; locked = g.locked files }
+
+-- Status 0: the words ask for something, and it was done; no call on files failed.
+pub record HasDone {Ask : Type 0} (Answers : List Text → Result Ask UseError → Type 0)
+    (Does : Ask → Option Told → Option Told → Outputs → Result Bool Fault → Type 0)
+    (words : List Text) (before after : FilesShown) (outputs : Outputs) : Type 0 where
+  pub ask : Ask
+  pub asked : Answers words (Ok ask)
+  pub sound : after.faults ≡ before.faults
+  pub does : Does ask before.told after.told outputs (Ok true)
+
+-- a fault is reported last, and with any other answer nothing is reported
+abbrev pub TellsLast : Result Bool Fault → Sink → Sink → Type 0
+TellsLast (Ok all) old new = new ≡ old
+TellsLast (Err fault) old new = Unit {0}
+
+-- Status 1: the words ask for something. Either the answer is no, as for a missing variable; or it was refused, which
+-- is the last thing reported on the error output. A fault that says that a file failed is reported if one call on files
+-- failed, and only then.
+pub record HasRefused {Ask : Type 0} (Answers : List Text → Result Ask UseError → Type 0)
+    (Does : Ask → Option Told → Option Told → Outputs → Result Bool Fault → Type 0)
+    (words : List Text) (before after : FilesShown) (outputs : Outputs) : Type 0 where
+  pub ask : Ask
+  pub asked : Answers words (Ok ask)
+  pub answer : Result Bool Fault
+  pub is_refusal : (answer ≡ Ok true) → ⊥
+  pub counts : CountsTold before.faults after.faults answer
+  pub told_from : Sink
+  pub told : TellsLast answer told_from outputs.err'
+  pub does : Does ask before.told after.told (record outputs { err' = told_from }) answer
+
+-- what is reported if words are refused: what `clap` says, as it is, or a prefix of it if the output failed
+abbrev pub Tells : UseError → Sink → Sink → Type 0
+Tells (Line text) old new = Wrote old new (string_bytes text) ⊎ BrokeOff old new (string_bytes text)
+Tells error old new = Unit {0}
+
+-- Status 2: the words were refused. No file was touched, no lock was taken, and nothing was printed.
+pub record IsMisused {Ask : Type 0} (Answers : List Text → Result Ask UseError → Type 0)
+    (words : List Text) (before after : FilesShown) (outputs : Outputs) : Type 0 where
+  pub error : UseError
+  pub refused : Answers words (Err error)
+  pub sound : after.faults ≡ before.faults
+  pub files : after.told ≡ before.told
+  pub lock : after.locked ≡ before.locked
+  pub output : outputs.out' ≡ outputs.out
+  pub tells : Tells error outputs.err outputs.err'
+
+-- the status with which a program ended, or 2 if it did not start
+abbrev pub EndsAs : Result ℕ StartError → ℕ → Type 0
+EndsAs (Ok came) status = status ≡ came
+EndsAs (Err error) status = status ≡ 2
+
+-- the status of an answer, which leaves the error output as it is if there is no fault
+abbrev pub Ends : Result Bool Fault → Sink → Sink → ℕ → Type 0
+Ends (Ok true) old new status = (status ≡ 0) × (new ≡ old)
+Ends (Ok false) old new status = (status ≡ 1) × (new ≡ old)
+Ends (Err fault) old new status = status ≡ 1

@@ -1,0 +1,25 @@
+//! What the programs do with files: the images of a configuration, printed and changed; the device list; how a program
+//! starts, what it shows, and how it ends.
+#![tactic(auto)]
+
+mod build;
+mod ending;
+mod images;
+mod print;
+mod read;
+mod set;
+mod showing;
+mod sources;
+mod starting;
+mod telling;
+
+pub use build::Build;
+pub use ending::{end, finish, refuse, status_of};
+pub use images::{Images, read_images};
+pub use print::{print_files, slices_of};
+pub use read::{StoredCopy, read_text};
+pub use set::set_files;
+pub use showing::{show_help, show_version};
+pub use sources::{Sources, read_sources};
+pub use starting::{Buffered, StartError, buffered, words_of_call};
+pub use telling::Telling;

@@ -1,0 +1,78 @@
+//! `printenv`, from files to outputs.
+ghost use Rattle.std.specs.Prelude.{◌≡◌, IfErr, IfOk, false, length, map, string_bytes};
+ghost use Rattle.output.specs.Outputs.{outputs};
+ghost use Rattle.locked_files.specs.Told.{IfTold};
+ghost use Rattle.image_tools.specs.declared.fault.Fault.TheVariants.{Memory};
+ghost use Rattle.file_tools.specs.Faults.{CountsTold};
+ghost use Rattle.file_tools.specs.Images.{copies};
+ghost use Rattle.file_tools.specs.PrintingFiles.{LeavesOutputs, PrintsCopies, PrintsFrom};
+
+use crate::images::{Images, read_images};
+use envimage::ByteOrder;
+use image_tools::{Fault, print_bytes};
+use locked_files::Files;
+use output::Out;
+use requests::PrintAsk;
+use std::alloc::Global;
+
+/// The bytes of each text.
+pub fn slices_of(alloc: Global, texts: &[String]) -> Result<Vec<&[u8]>, Fault>
+    ensures fault { IfErr result (λ fault. fault ≡ Memory) }
+    ensures slices { IfOk result
+        (λ slices. map (λ s. s.now) slices.items ≡ map string_bytes texts.now) }
+{
+    let mut slices = Vec::new(alloc);
+    for text in texts {
+        if slices.push(text.as_bytes()).is_err() {
+            return Err(Fault::Memory);
+        }
+    }
+    Ok(slices)
+}
+
+/// Prints variables of images.
+fn print_images<O: Out, E: Out>(
+    alloc: Global,
+    images: &Images,
+    order: ByteOrder,
+    names: &[&[u8]],
+    header: bool,
+    out: &mut O,
+    err: &mut E,
+) -> Result<bool, Fault>
+    requires { header ≡ false → length names.now ≡ 1 }
+    ensures { PrintsCopies order (copies images.now) (map (λ n. n.now) names.now) header
+        (outputs (O.sink out.old) (O.sink out.new) (E.sink err.old) (E.sink err.new)) result }
+{
+    let second = images.second_bytes();
+    let ask = image_tools::PrintAsk { names, header };
+    Ok(print_bytes(alloc, &images.first.bytes, second, order, &ask, out, err)?)
+}
+
+/// Prints the variables of the images that a configuration names: all of them, or the ones that are
+/// asked for, in this order. Returns false if a name is missing. Without `header` only the value of
+/// the one name is printed.
+pub fn print_files<F: Files, O: Out, E: Out>(
+    alloc: Global,
+    files: &mut F,
+    config: String,
+    what: &PrintAsk,
+    order: ByteOrder,
+    out: &mut O,
+    err: &mut E,
+) -> Result<bool, Fault>
+    requires { what.now.header ≡ false → length what.now.names.items ≡ 1 }
+    ensures count { CountsTold (F.faults files.old) (F.faults files.new) result }
+    ensures lock { F.locked files.new ≡ F.locked files.old }
+    ensures told { IfTold (F.told files.old) (F.told files.new) (λ old new.
+        PrintsFrom order (string_bytes config) (map string_bytes what.now.names.items)
+        what.now.header
+        (outputs (O.sink out.old) (O.sink out.new) (E.sink err.old) (E.sink err.new)) old new
+        result) }
+    ensures outputs { LeavesOutputs result
+        (outputs (O.sink out.old) (O.sink out.new) (E.sink err.old) (E.sink err.new)) }
+{
+    let images = read_images(alloc, files, config)?;
+    let names = slices_of(alloc, &what.names)?;
+    print_images(alloc, &images, order, &names, what.header, out, err)
+}

@@ -1,0 +1,65 @@
+//! Reads what a call needs: texts, also the one on an input, and the copies that a configuration
+//! names.
+ghost use Rattle.std.specs.Prelude.{◌≡◌, IfErr, IfOk, string_bytes};
+ghost use Rattle.locked_files.specs.Told.{IfTold};
+ghost use Rattle.file_tools.specs.Faults.{CountsTold, IsReadFault};
+ghost use Rattle.file_tools.specs.ReadingFiles.{ReadsCopy, ReadsInput, ReadsText};
+
+use envimage::Place;
+use image_tools::Fault;
+use locked_files::{Files, LIMIT, ReadFault, read_up_to};
+use std::alloc::Global;
+use std::io::Read;
+
+/// A copy of an image, and its place.
+#[derive(Debug, Drop)]
+pub struct StoredCopy {
+    /// The place of the copy.
+    pub place: Place,
+    /// Its bytes.
+    pub bytes: Vec<u8>,
+}
+
+/// Reads the whole file at the path.
+pub fn read_text<F: Files>(alloc: Global, files: &mut F, path: String) -> Result<Vec<u8>, Fault>
+    ensures count { CountsTold (F.faults files.old) (F.faults files.new) result }
+    ensures lock { F.locked files.new ≡ F.locked files.old }
+    ensures fault { IfErr result IsReadFault }
+    ensures told { IfTold (F.told files.old) (F.told files.new)
+        (λ old new. ReadsText (string_bytes path) old new result) }
+{
+    match files.read_all(alloc, &path) {
+        Ok(text) => Ok(text),
+        Err(fault) => Err(Fault::of_read(path, fault)),
+    }
+}
+
+/// Reads the whole text on an input, of at most `LIMIT` bytes. Reads at most one byte after them.
+pub fn read_input<R: Read>(alloc: Global, input: &mut R) -> Result<Vec<u8>, Fault>
+    ensures { ReadsInput (R.remaining input.old) result }
+{
+    let text = match read_up_to(alloc, input, LIMIT + 1) {
+        Ok(text) => text,
+        Err(ReadFault::Failed) => return Err(Fault::CannotReadInput),
+        Err(ReadFault::Memory) => return Err(Fault::Memory),
+    };
+    if text.len() > LIMIT {
+        return Err(Fault::InputTooLong);
+    }
+    Ok(text)
+}
+
+/// Reads the copy at a place.
+pub fn read_copy<F: Files>(alloc: Global, files: &mut F, place: Place) -> Result<StoredCopy, Fault>
+    ensures count { CountsTold (F.faults files.old) (F.faults files.new) result }
+    ensures lock { F.locked files.new ≡ F.locked files.old }
+    ensures place { IfOk result (λ copy. copy.place ≡ place) }
+    ensures fault { IfErr result IsReadFault }
+    ensures told { IfTold (F.told files.old) (F.told files.new)
+        (λ old new. ReadsCopy place old new result) }
+{
+    match files.read_at(alloc, &place.device, place.offset, place.size) {
+        Ok(bytes) => Ok(StoredCopy { place, bytes }),
+        Err(fault) => Err(Fault::of_read(place.device, fault)),
+    }
+}

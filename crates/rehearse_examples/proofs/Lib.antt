@@ -1,0 +1,14 @@
+mod ListingExamples
+mod UsualBoundExamples
+mod GrowingExamples
+mod LargeExamples
+mod ExecutionExamples
+mod BootingExamples
+mod SteadyExamples
+mod ResumingExamples
+mod PlainExecutionExamples
+mod ListedExamples
+mod RunningExamples
+mod EdgeExamples
+mod BoundExamples
+mod FailuresExamples

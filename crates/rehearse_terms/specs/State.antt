@@ -1,0 +1,85 @@
+-- What a run has at a moment: the state of the script (U-Boot documentation, doc/usage/cmdline and
+-- doc/usage/environment, on variables and `$?`), and the rest of its outcome word (ours).
+use Rattle.std.specs.Prelude.{ℕ, nat_eq, Bool, true, false, List, [], ◌∷◌, not, ◌||◌, ◌&&◌, Option, Some, None, filter, map}
+use Rattle.std.specs.FinMap.{find, put}
+use Rattle.std.specs.Cmp.Lexicographic.{slice_cmp}
+use Rattle.std.specs.List.{list_any}
+use Rattle.std.specs.Map.{lookup}
+use Rattle.std.specs.Str.{bytes_eq}
+use Rattle.std.specs.Ordering.{nat_cmp, eq_by_cmp}
+use Rattle.text.specs.Bytes as ascii
+pub use Rattle.text.specs.Lines.{Text}
+use Rattle.rehearse_terms.specs.Outcomes.{OutcomeWord}
+
+-- names with their values, in byte order of the names: the entries of a store's map
+abbrev pub Variables : Type 0
+Variables = List (Text × Text)
+
+abbrev pub get : Variables → Text → Option Text
+get variables name = find (slice_cmp nat_cmp) name variables
+
+abbrev pub with_value : Variables → Text → Text → Variables
+with_value variables name value = put (slice_cmp nat_cmp) name value variables
+
+abbrev pub without : Variables → Text → Variables
+without variables name = filter (λ e. not (eq_by_cmp (slice_cmp nat_cmp) name e.0)) variables
+
+-- not the name of a variable: empty, with `=` in it, or beginning with `-`
+abbrev pub is_bad_name : Text → Bool
+is_bad_name [] = true
+is_bad_name (b ∷ name) = nat_eq b ascii.minus || nat_eq b ascii.equals || list_any (nat_eq ascii.equals) name
+
+-- what a script reads and writes
+pub record Memory : Type 0 where
+  pub environment : Variables
+  pub locals : Variables
+  pub status : ℕ
+  pub text : Text
+
+-- a device command in the log, with its outcome
+pub record LoggedCommand : Type 0 where
+  pub success : Bool
+  pub words : List Text
+  -- whether the list says that its answer stays for the rest of the run
+  pub stays : Bool
+  -- whether it was asked before, and is told that answer again
+  pub again : Bool
+
+-- the commands that took an outcome of the word
+abbrev pub asked_of : List LoggedCommand → List LoggedCommand
+asked_of log = filter (λ e. not e.again) log
+
+-- the answers that stay, by the words of the commands
+abbrev pub answers_in : List LoggedCommand → List (List Text × Bool)
+answers_in log = map (λ e. (e.words, e.success)) (filter (λ e. e.stays) (asked_of log))
+
+abbrev pub same_words : List Text → List Text → Bool
+same_words [] [] = true
+same_words [] (w ∷ ws) = false
+same_words (v ∷ vs) [] = false
+same_words (v ∷ vs) (w ∷ ws) = bytes_eq v w && same_words vs ws
+
+-- the answer that stays for a command with these words, its name first
+abbrev pub answer_in : List LoggedCommand → (call : List Text) → Option Bool
+answer_in log call = lookup (same_words call) (answers_in log)
+
+-- with the log of device commands, how many steps are begun, and the rest of the word
+pub record State : Type 0 where
+  pub memory : Memory
+  pub log : List LoggedCommand
+  pub steps : ℕ
+  pub word : OutcomeWord
+
+-- the state at the start of a run
+abbrev pub start : Variables → OutcomeWord → State
+start environment word =
+    record {
+      memory = record { environment = environment; locals = []; status = 0; text = [] };
+      log = [];
+      steps = 0;
+      word = word;
+    }
+
+-- a variable's value: the environment's, or else the shell variable's
+abbrev pub value_in : Memory → Text → Option Text
+value_in m name = elim (get m.environment name) [ Some value ↦ Some value | None ↦ get m.locals name ]

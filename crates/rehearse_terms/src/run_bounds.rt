@@ -1,0 +1,86 @@
+//! How far a run may go.
+ghost use Rattle.std.specs.Prelude.{◌≡◌};
+
+use crate::bounds::STEPS_MAX;
+use std::marker::Model;
+
+/// The greatest device bound of a run, if runs are not listed, or if few device commands may fail.
+pub const RUN_DEVICES_MAX: u32 = 1_000;
+
+/// How many device commands a run may ask, and how many steps it may begin. The `Bounds` of a listing are narrower. How
+/// many device commands may fail is kept of them for the listing, and changes nothing of a run.
+#[derive(Clone, Copy, Debug)]
+pub struct RunBounds {
+    devices: u32,
+    steps: u32,
+    failures: Option<u32>,
+}
+
+impl Model for RunBounds {
+    ghost use Rattle.std.specs.Prelude.{◌≡◌, true};
+    ghost use Rattle.rehearse_terms.specs.Bounds.{BoundsShown, are_run_bounds};
+
+    ghost Value = { BoundsShown };
+
+    ghost view = { λ b. record { devices = b.devices; steps = b.steps; failures = b.failures } };
+
+    ghost invariant = { λ b. are_run_bounds b.devices b.steps ≡ true };
+
+    ghost inverse = { λ b. record { devices = b.devices; steps = b.steps; failures = b.failures } };
+}
+
+impl RunBounds {
+    ghost use Rattle.std.specs.Prelude.{true};
+    ghost use Rattle.rehearse_terms.specs.Bounds.{run_bounds_of, are_run_bounds};
+
+    /// These bounds, or `None` if they have more than 1,000 device commands or 1,000,000 steps.
+    /// Takes no memory.
+    pub fn new(devices: u32, steps: u32) -> Option<Self>
+        ensures { result ≡ run_bounds_of devices steps }
+    {
+        if devices <= RUN_DEVICES_MAX && steps <= STEPS_MAX {
+            Some(RunBounds {
+                devices,
+                steps,
+                failures: None,
+            })
+        } else {
+            None
+        }
+    }
+
+    /// These bounds, which are not above the greatest ones.
+    pub(crate) fn of(devices: u32, steps: u32, failures: Option<u32>) -> Self
+        requires { are_run_bounds devices steps ≡ true }
+        ensures { result ≡ record { devices = devices; steps = steps; failures = failures } }
+    {
+        RunBounds {
+            devices,
+            steps,
+            failures,
+        }
+    }
+
+    /// How many device commands a run may ask.
+    pub fn devices(&self) -> u32
+        ensures devices { result ≡ self.now.devices }
+        ensures within { are_run_bounds self.now.devices self.now.steps ≡ true }
+    {
+        self.devices
+    }
+
+    /// How many steps a run may begin.
+    pub fn steps(&self) -> u32
+        ensures steps { result ≡ self.now.steps }
+        ensures within { are_run_bounds self.now.devices self.now.steps ≡ true }
+    {
+        self.steps
+    }
+
+    /// How many device commands may fail in a run that is listed.
+    pub fn failures(&self) -> Option<u32>
+        ensures { result ≡ self.now.failures }
+    {
+        self.failures
+    }
+}
