@@ -5,8 +5,8 @@ ghost use Rattle.rehearse.specs.Runs.{kind};
 ghost use Rattle.rehearse_machine.specs.Tasks.{task_shown};
 
 use bootstore::Trail;
+use device_list::Devices;
 use envtools::Env;
-use rehearse::Devices;
 use rehearse_runs::{RehearseError, WordKind, try_word};
 use rehearse_terms::Bounds;
 use std::alloc::Global;

@@ -9,8 +9,8 @@ use Rattle.hushcheck.specs.Asked.{Asked}
 use Rattle.hushcheck_core.specs.Names.{Text}
 use Rattle.hushcheck_core.specs.Report.{Checks, asked_names}
 use Rattle.hushcheck_core.specs.declared.checking.Report.{Report}
-use Rattle.rehearse.specs.DeviceList.{Devices, listed}
-use Rattle.rehearse.specs.declared.devices_error.DevicesError.{DevicesError}
+use Rattle.device_list.specs.DeviceList.{Devices, listed}
+use Rattle.device_list.specs.declared.devices_error.DevicesError.{DevicesError}
 use Rattle.rehearse.specs.declared.rehearse_error.RehearseError.TheVariants.{DeviceList}
 use Rattle.locked_files.specs.CallOrder.{OnlyReads}
 use Rattle.locked_files.specs.Told.{Told}

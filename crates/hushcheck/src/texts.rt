@@ -8,6 +8,7 @@ ghost use Rattle.file_tools.specs.Faults.{CountsTold};
 ghost use Rattle.file_tools.specs.Images.{copies};
 
 use crate::ask::CheckAsk;
+use device_list::{Devices, DevicesError};
 use envimage::ByteOrder;
 use envtools::Env;
 use file_tools::{Images, read_images, read_text, slices_of};
@@ -15,7 +16,6 @@ use hushcheck_core::{Report, asked_names, check};
 use image_tools::{Fault, RehearseError, ToolError, env_of_image};
 use locked_files::Files;
 use output::{Out, write_all};
-use rehearse::{Devices, DevicesError};
 use std::alloc::Global;
 
 /// The device list of a text, if there is one.

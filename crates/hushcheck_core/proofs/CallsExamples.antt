@@ -9,7 +9,7 @@ use Rattle.hushlang.specs.WordPieces.{pieces}
 use Rattle.hushlang.specs.Parsing.{whole, script, command, simple, keyword, next, behind, sees, expect, joined, joined_all, and_or, lists, lists_all, block, arm, arms, arms_all, if_command, body_of, loop_command, for_command, name, name_next, expect_in, in_next, all_words, separators, separator_next, closes_next, op_next, refusal, missing, at_last, word_next, assignment_next, assignments}
 use Rattle.hushlang.specs.Tree.{Script}
 use Rattle.hushlang.specs.declared.token.SyntaxError.{SyntaxError}
-use Rattle.rehearse.specs.DeviceList.{Devices, Effect}
+use Rattle.device_list.specs.DeviceList.{Devices, Effect}
 use Rattle.hushcheck_core.specs.Calls.{calls_of, is_lacking}
 use Rattle.hushcheck_core.specs.Names.{Text, read_in}
 use Rattle.hushcheck_core.specs.Report.{asked_names}

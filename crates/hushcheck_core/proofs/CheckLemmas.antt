@@ -11,7 +11,7 @@ use Rattle.std.specs.List.{flat_map, list_all, list_any}
 use Rattle.envimage.specs.Data.{Pair}
 use Rattle.envtools.specs.Environment.{same}
 use Rattle.envtools.specs.Printing.{all_found}
-use Rattle.rehearse.specs.DeviceList.{Devices}
+use Rattle.device_list.specs.DeviceList.{Devices}
 use Rattle.hushcheck_core.specs.Names.{Text, run_by_name, run_by_value}
 use Rattle.hushcheck_core.specs.Order.{IsReached, is_asked, is_run, once, with_name, with_names}
 use Rattle.hushcheck_core.specs.Report.{Checks, is_fine, is_sound, lines_of}

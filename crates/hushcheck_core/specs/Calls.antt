@@ -7,8 +7,8 @@ use Rattle.hushlang.specs.CursorShown.{input_in}
 use Rattle.hushlang.specs.Grammar.{is_word}
 use Rattle.hushlang.specs.Token.{Token}
 use Rattle.hushlang.specs.Tree.{Script, Empty, Runs, AndOr, Starts, Joined, Alone, Joins, Command, Simple, Assign, If, Loop, For, Arms, NoElse, Else, Arm, Word}
-use Rattle.hushlang.specs.Builtins.{is_built_in}
-use Rattle.rehearse.specs.DeviceList.{Devices, is_listed}
+use Rattle.builtins.specs.Builtins.{is_built_in}
+use Rattle.device_list.specs.DeviceList.{Devices, is_listed}
 use Rattle.text.specs.Escapes.{word_form}
 use Rattle.hushcheck_core.specs.Names.{Text, is_run, written_out}
 use Rattle.hushcheck_core.specs.Places.{lines_at}

@@ -13,7 +13,7 @@ use Rattle.hushcheck_core.specs.Names.{Text, read_in}
 use Rattle.hushcheck_core.specs.Order.{IsOrder}
 use Rattle.hushcheck_core.specs.Places.{lines_at}
 use Rattle.hushcheck_core.specs.Calls.{calls_of}
-use Rattle.rehearse.specs.DeviceList.{Devices}
+use Rattle.device_list.specs.DeviceList.{Devices}
 use Rattle.text.specs.Escapes.{word_form}
 
 -- the byte at which a text is refused

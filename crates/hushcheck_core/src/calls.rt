@@ -7,8 +7,8 @@ ghost use Rattle.hushcheck_core.specs.Names as names;
 
 use crate::reading::{Reading, word_places};
 use crate::walk::{is_run, written_out};
+use device_list::Devices;
 use hushlang::tree::{AndOr, Command, Script, Word};
-use rehearse::Devices;
 use std::alloc::{AllocError, Global};
 use std::rc::Rc;
 

@@ -12,11 +12,11 @@ use crate::calls::calls_of;
 use crate::lines::{push_fault, push_named, push_read};
 use crate::names::{Names, asked_names};
 use crate::walk::add_script;
+use device_list::Devices;
 use envtools::Env;
 use hushlang::parse::parse;
 use hushlang::token::SyntaxError;
 use hushlang::tree::Script;
-use rehearse::Devices;
 use std::alloc::{AllocError, Global};
 
 /// What is reported of the texts that are reached.

@@ -5,10 +5,10 @@ ghost use Rattle.hushcheck_core.specs.Calls as spec;
 
 use crate::lines::push_at;
 use crate::shown::push_name;
-use hushlang::builtins::is_built_in;
+use builtins::is_built_in;
+use device_list::Devices;
 use hushlang::lexer::Lexer;
 use hushlang::token::Kind;
-use rehearse::Devices;
 use std::alloc::{AllocError, Global};
 use std::marker::Model;
 

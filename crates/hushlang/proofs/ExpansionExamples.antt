@@ -4,8 +4,8 @@ use Rattle.std.proofs.Common.{refl, bytes_eq}
 use Rattle.std.specs.Fmt.{digits}
 use Rattle.hushlang.specs.Tree.{Word, Piece, Bytes, Mark, Var, Status}
 use Rattle.hushlang.specs.Expansion.{Parameters, atoms, fields, joined}
-use Rattle.hushlang.specs.Builtins.{Echo, SetEnv, known_builtin}
-use Rattle.hushlang.specs.KnownFields.{known_fields, known_name}
+use Rattle.builtins.specs.Builtins.{Echo, SetEnv}
+use Rattle.hushlang.specs.KnownFields.{known_builtin, known_fields, known_name}
 
 -- one variable alone is set
 abbrev pub only : List ℕ → List ℕ → ℕ → Parameters

@@ -12,7 +12,7 @@ use Rattle.hushlang.specs.declared.tree.Word.{Word as Code}
 use Rattle.hushlang.specs.declared.tree.Piece.{Piece as CodePiece}
 use Rattle.hushlang.specs.Expansion.{Parameters, atoms_of_piece, atoms, cut, is_field, kept_bytes, fields_of_word, fields, size, most_bytes}
 use Rattle.hushlang.specs.KnownFields.{is_constant, is_constant_word, are_constant, nothing_set, known_fields, known_of_first, first_field, known_name}
-use Rattle.hushlang.specs.Builtins.{Builtin, builtin_of, builtin_named}
+use Rattle.builtins.specs.Builtins.{Builtin, builtin_of, builtin_named}
 
 pub all_pieces : (pieces : List CodePiece) → list_all is_constant (map view.piece pieces) ≡ list_all (λ p. is_constant (view.piece p)) pieces
 all_pieces pieces = list_all-map is_constant view.piece pieces

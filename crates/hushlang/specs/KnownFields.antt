@@ -5,6 +5,7 @@ use Rattle.std.specs.Option.{option_or}
 use Rattle.hushlang.specs.Tree as tree
 use Rattle.hushlang.specs.Tree.{Word, Piece}
 use Rattle.hushlang.specs.Expansion.{Parameters, fields, size, most_bytes}
+use Rattle.builtins.specs.Builtins.{Builtin, builtin_of}
 
 -- a piece that is the same whatever the variables and the status are
 abbrev pub is_constant : Piece → Bool
@@ -41,3 +42,7 @@ first_field (name ∷ more) = Some name
 -- the name that words begin with: their first field, if all their fields are known, or those of the first word alone
 abbrev pub known_name : List Word → Option (List ℕ)
 known_name words = option_and_then first_field (option_or (known_fields words) (known_of_first words))
+
+-- the built-in command of the name that words begin with, if that name is known before they are expanded
+abbrev pub known_builtin : List Word → Option Builtin
+known_builtin words = option_and_then builtin_of (known_name words)

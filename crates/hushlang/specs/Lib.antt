@@ -19,8 +19,6 @@ pub mod CursorShown
 pub mod AfterCompound
 pub mod Expansion
 pub mod KnownFields
-pub mod Builtins
-pub mod BuiltinsShown
 pub mod Splitting
 pub mod Trees
 pub mod TreeLaws

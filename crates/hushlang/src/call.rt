@@ -1,15 +1,15 @@
 //! A simple command. What no variable can change of it is found once, when it is read: its fields,
 //! and the built-in command that its name is.
 ghost use Rattle.std.specs.Prelude.{◌≡◌, map, option_map};
-ghost use Rattle.hushlang.specs.Builtins.{builtin_of};
-ghost use Rattle.hushlang.specs.BuiltinsShown.{builtin_shown};
+ghost use Rattle.builtins.specs.Builtins.{builtin_of};
+ghost use Rattle.builtins.specs.BuiltinsShown.{builtin_shown};
 ghost use Rattle.hushlang.specs.KnownFields.{first_field, known_fields, known_name};
 ghost use Rattle.hushlang.specs.WordsShown.{word, known, fields_in};
 
-use crate::builtins::{Builtin, builtin_named, builtin_of};
 use crate::known_fields::{known_fields, known_of_first};
 use crate::token::SyntaxError;
 use crate::tree::Word;
+use builtins::{Builtin, builtin_named, builtin_of};
 use std::alloc::Global;
 use std::cell::Cell;
 use std::fmt;
@@ -41,9 +41,9 @@ fn named_by(fields: &Rc<Vec<Vec<u8>>>) -> Option<Option<Builtin>>
 impl Call {
     ghost use Rattle.std.specs.Prelude.{◌≡◌, map, length, nat_le, true, option_map, IfOk, IfErr, IfSome};
     ghost use Rattle.hushlang.specs.Expansion as spec;
-    ghost use Rattle.hushlang.specs.Builtins.{builtin_named, known_builtin};
-    ghost use Rattle.hushlang.specs.BuiltinsShown.{builtin_shown};
-    ghost use Rattle.hushlang.specs.KnownFields.{known_fields};
+    ghost use Rattle.builtins.specs.Builtins.{builtin_named};
+    ghost use Rattle.hushlang.specs.KnownFields.{known_builtin, known_fields};
+    ghost use Rattle.builtins.specs.BuiltinsShown.{builtin_shown};
     ghost use Rattle.hushlang.specs.TreesShown as view;
     ghost use Rattle.text.specs.TextsShown.{bytes_of_words};
     ghost use Rattle.hushlang.specs.declared.token.SyntaxError.TheVariants.{Memory};

@@ -2,7 +2,6 @@
 #![tactic(auto)]
 
 pub mod after_compound;
-pub mod builtins;
 mod byte_classes;
 pub mod call;
 mod cursor;

@@ -7,8 +7,8 @@ use Rattle.rehearse_terms.specs.Outcomes.{OutcomeWord, Outcome, Success, Failure
 use Rattle.hushlang.specs.Trees.{tree_of}
 use Rattle.rehearse_terms.specs.State.{Text, get, State, start}
 use Rattle.rehearse.specs.Parameters.{parameters_in}
-use Rattle.rehearse.specs.Verdict.{verdict}
-use Rattle.rehearse.specs.Commands.{Called, ChangesVariables, WritesText, RunsTexts, Tests, Exits, BuiltIn, Device, NoCommand, called_by, sets_in, asks_device, exit_status}
+use Rattle.device_list.specs.Verdict.{verdict}
+use Rattle.device_list.specs.Commands.{Called, ChangesVariables, WritesText, RunsTexts, Tests, Exits, BuiltIn, Device, NoCommand, called_by, sets_in, asks_device, exit_status}
 use Rattle.rehearse.specs.Execution.{Limits, Answer, Normal, Exit, Ended, Dry, Ending, CutDevices, CutSteps, Syntax, Size, go_on, set_status, set_local, status_when, goes, holds, begin, take_outcome, with_outcome, outcome_when, told, told_again, tell_or_take, device, Request, test_effect, logged, set_environment, boot, text_end, run_text, run_all, command, simple, sized, assign, turns, for_each, exec_script, exec_list, exec_joined, exec_command, exec_arms, exec}
 use Rattle.rehearse.specs.Runs.{Task, run_on, state_of, steps}
 use Rattle.hushlang.proofs.ProperLemmas.{trees_are_proper}

@@ -2,16 +2,16 @@
 use Rattle.std.proofs.Common.{◌≡◌, false, List, Option, Some, None, refl}
 use Rattle.rehearse_terms.specs.Outcomes.{OutcomeWord, runs_within, few_of, after}
 use Rattle.rehearse_terms.specs.State.{Text}
-use Rattle.rehearse.specs.Commands.{Device, NoCommand}
-use Rattle.rehearse.specs.DeviceList.{Effect, effect_of}
+use Rattle.device_list.specs.Commands.{Device, NoCommand}
+use Rattle.device_list.specs.DeviceList.{Effect, effect_of}
 use Rattle.rehearse.specs.Execution.{Answer, Ended, Unknown, command}
 use Rattle.rehearse.specs.GivenExecution.{asked_anew}
-use Rattle.rehearse.specs.KnownList.{AskEachTime}
-use Rattle.rehearse.proofs.KnownLists.{known_lists_ask}
+use Rattle.device_list.specs.KnownList.{AskEachTime}
+use Rattle.device_list.proofs.KnownLists.{known_lists_ask}
 use Rattle.rehearse.specs.Runs.{Task, state_of, ending_of, kind_of}
 use Rattle.rehearse.specs.Listing.{record_text, listing}
 use Rattle.rehearse.specs.CallExecution.{call_others, CallRunsStand, CallListingsStand, CallRestsStand}
-use Rattle.rehearse.proofs.CallLists.{call_lists_ask, call_lists_are_known}
+use Rattle.device_list.proofs.CallLists.{call_lists_ask, call_lists_are_known}
 use Rattle.rehearse.proofs.GivenRuns.{AreGivenByList, given_by_list, asks_anew, run-same}
 
 -- a call of a list on which no answer stays

@@ -6,15 +6,15 @@ use Rattle.std.specs.Str.{bytes_eq}
 use Rattle.hushlang.specs.Tree.{Script}
 use Rattle.rehearse_terms.specs.Outcomes.{OutcomeWord, Success, Failure, runs_within, after}
 use Rattle.rehearse_terms.specs.State.{Text, State}
-use Rattle.rehearse.specs.Commands.{Device, NoCommand}
-use Rattle.rehearse.specs.DeviceList.{Effect, Devices, effect_in, only}
-use Rattle.rehearse.specs.EarlierList.{EarlierEffect, EarlierDevices, now_effect, now_effects}
+use Rattle.device_list.specs.Commands.{Device, NoCommand}
+use Rattle.device_list.specs.DeviceList.{Effect, Devices, effect_in, only}
+use Rattle.device_list.specs.EarlierList.{EarlierEffect, EarlierDevices, now_effect, now_effects}
 use Rattle.rehearse.specs.Execution.{Limits, Answer, Ended, CutDevices, Unknown, take_outcome, command, boot, set_environment}
 use Rattle.rehearse.specs.Runs.{run_on, rest, state_of, ending_of, kind_of}
 use Rattle.rehearse.specs.Listing.{record_text, listing}
 use Rattle.rehearse.specs.EarlierExecution.{EarlierTask, task_now, bounds_of_task, earlier_logged, earlier_answer, earlier_ask, earlier_others, earlier_run_on, EarlierRunsStand, EarlierListingsStand, EarlierRestsStand}
-use Rattle.rehearse.proofs.JoinedLines.{ok-same}
-use Rattle.rehearse.proofs.EarlierLists.{earlier_lists_stand, earlier_calls_stand, earlier_settings_stand}
+use Rattle.device_list.proofs.JoinedLines.{ok-same}
+use Rattle.device_list.proofs.EarlierLists.{earlier_lists_stand, earlier_calls_stand, earlier_settings_stand}
 use Rattle.rehearse.proofs.GivenRuns.{Does, AreGivenByList, given_by_list, run-same}
 
 effect-earlier : (devices : EarlierDevices) (name : Text) → effect_in (now_effects devices) name ≡ option_map now_effect (lookup (bytes_eq name) devices)

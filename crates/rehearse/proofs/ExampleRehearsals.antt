@@ -5,9 +5,9 @@ use Rattle.hushlang.specs.Expansion.{fields, joined, atoms}
 use Rattle.rehearse_terms.specs.Outcomes.{OutcomeWord, WordKind, Run, Short, Long, is_run_kind, is_within, turned, first_run, first_from}
 use Rattle.hushlang.specs.Trees.{tree_of}
 use Rattle.rehearse_terms.specs.State.{Text, Variables}
-use Rattle.rehearse.specs.DeviceList.{Devices, only}
+use Rattle.device_list.specs.DeviceList.{Devices, only}
 use Rattle.rehearse.specs.Execution.{Limits, Ending, End}
-use Rattle.rehearse.specs.DeviceLaws.{quiet}
+use Rattle.device_list.specs.DeviceLaws.{quiet}
 use Rattle.rehearse.specs.Runs.{Task, run_on, state_of, ending_of, kind, runs, IsListed, rest, work}
 use Rattle.rehearse.specs.Listing.{listing, record_of}
 use Rattle.rehearse.proofs.TaskChoices.{task_begins, task_ends, task_goes_on}

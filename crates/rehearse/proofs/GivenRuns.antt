@@ -9,12 +9,12 @@ use Rattle.rehearse_terms.specs.State.{Text, Variables, State, get, start, answe
 use Rattle.rehearse.specs.Parameters.{parameters_in}
 use Rattle.std.specs.List.{list_any}
 use Rattle.std.specs.Str.{bytes_eq}
-use Rattle.hushlang.specs.Builtins.{Builtin, builtin_of}
-use Rattle.rehearse.specs.KnownCommands.{Known, known_of}
-use Rattle.rehearse.specs.Computed.{Computed, computes}
-use Rattle.rehearse.specs.Commands.{Deed, ChangesVariables, WritesText, RunsTexts, Tests, Exits, Called, BuiltIn, deed_of, carried, listed_by, other_called, asks_device, called_by}
-use Rattle.rehearse.specs.Verdict.{verdict}
-use Rattle.rehearse.specs.DeviceList.{Devices, computed_by}
+use Rattle.builtins.specs.Builtins.{Builtin, builtin_of}
+use Rattle.device_list.specs.KnownCommands.{Known, known_of}
+use Rattle.device_list.specs.Computed.{Computed, computes}
+use Rattle.device_list.specs.Commands.{Deed, ChangesVariables, WritesText, RunsTexts, Tests, Exits, Called, BuiltIn, deed_of, carried, listed_by, other_called, asks_device, called_by}
+use Rattle.device_list.specs.Verdict.{verdict}
+use Rattle.device_list.specs.DeviceList.{Devices, computed_by}
 use Rattle.rehearse.specs.Execution.{Limits, Answer, Normal, Ended, CutDevices, CutSteps, Request, tell_or_take, device, go_on, set_status, status_when, goes, begin, command, simple, sized, turns, for_each, text_end, run_text, run_all, exec_script, exec_list, exec_joined, exec_command, exec_arms, exec}
 use Rattle.rehearse.specs.GivenExecution.{Others, asked_anew, given_builtin, given_simple, given_script, given_list, given_joined, given_command, given_arms, given_exec, given_run_on}
 

@@ -4,21 +4,21 @@ use Rattle.std.proofs.lemmas.List.Elements.{filter-append}
 use Rattle.hushlang.specs.Tree as tree
 use Rattle.hushlang.specs.Tree.{Script, AndOr, Joined, Command, Arms}
 use Rattle.hushlang.specs.Expansion.{fields, joined, size, most_bytes}
-use Rattle.hushlang.specs.Builtins.{Builtin, builtin_of}
-use Rattle.rehearse.specs.Computed.{Computed}
-use Rattle.rehearse.specs.Commands.{Called, ChangesVariables, WritesText, RunsTexts, Tests, Exits, BuiltIn, Device, NoCommand, called_by, carried, deed_of, sets_in, asks_device, exit_status}
-use Rattle.rehearse.specs.DeviceList.{Effect, computed_by, effect_of}
+use Rattle.builtins.specs.Builtins.{Builtin, builtin_of}
+use Rattle.device_list.specs.Computed.{Computed}
+use Rattle.device_list.specs.Commands.{Called, ChangesVariables, WritesText, RunsTexts, Tests, Exits, BuiltIn, Device, NoCommand, called_by, carried, deed_of, sets_in, asks_device, exit_status}
+use Rattle.device_list.specs.DeviceList.{Effect, computed_by, effect_of}
 use Rattle.rehearse.specs.Execution.{Limits, Answer, Normal, Exit, Ended, Dry, CutDevices, CutSteps, Syntax, Size, Request, go_on, set_status, set_local, status_when, goes, holds, begin, take_outcome, device, test_effect, logged, set_environment, boot, text_end, run_text, run_all, command, simple, sized, assign, turns, for_each, exec_script, exec_list, exec_joined, exec_command, exec_arms, exec}
 use Rattle.rehearse.specs.KnownExecution.{KnownLogIsWord}
-use Rattle.rehearse.specs.KnownList.{AskEachTime}
+use Rattle.device_list.specs.KnownList.{AskEachTime}
 use Rattle.rehearse_terms.specs.Outcomes.{OutcomeWord, Success, Failure}
 use Rattle.rehearse.specs.Runs.{run_on, state_of}
 use Rattle.rehearse_terms.specs.State.{Text, get, LoggedCommand, State, asked_of, start}
 use Rattle.rehearse.specs.Parameters.{parameters_in}
 use Rattle.hushlang.specs.Trees.{tree_of}
-use Rattle.rehearse.specs.Verdict.{verdict}
+use Rattle.device_list.specs.Verdict.{verdict}
 use Rattle.rehearse.proofs.GivenRuns.{asks_anew}
-use Rattle.rehearse.proofs.KnownLists.{known_lists_ask}
+use Rattle.device_list.proofs.KnownLists.{known_lists_ask}
 use Rattle.rehearse.proofs.TaskChoices.{log_is_word}
 
 -- each command in the log took an outcome

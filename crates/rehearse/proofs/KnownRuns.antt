@@ -2,15 +2,15 @@
 use Rattle.std.proofs.Common.{◌≡◌, List, Option, Some, None, refl}
 use Rattle.rehearse_terms.specs.Outcomes.{OutcomeWord, runs_within, few_of, after}
 use Rattle.rehearse_terms.specs.State.{Text}
-use Rattle.rehearse.specs.Computed.{Computed}
-use Rattle.rehearse.specs.Commands.{BuiltIn, ChangesVariables, carried, changed_by, listed_by}
-use Rattle.rehearse.specs.DeviceList.{computed_by}
+use Rattle.device_list.specs.Computed.{Computed}
+use Rattle.device_list.specs.Commands.{BuiltIn, ChangesVariables, carried, changed_by, listed_by}
+use Rattle.device_list.specs.DeviceList.{computed_by}
 use Rattle.rehearse.specs.Execution.{Answer, Normal, remember, command}
 use Rattle.rehearse.specs.Runs.{Task, state_of, ending_of, kind_of}
 use Rattle.rehearse.specs.Listing.{record_text, listing}
-use Rattle.rehearse.specs.KnownList.{AskEachTime}
+use Rattle.device_list.specs.KnownList.{AskEachTime}
 use Rattle.rehearse.specs.KnownExecution.{known_listed_call, known_others, KnownRunsStand, KnownListingsStand, KnownRestsStand}
-use Rattle.rehearse.proofs.KnownLists.{known_lists_ask}
+use Rattle.device_list.proofs.KnownLists.{known_lists_ask}
 use Rattle.rehearse.proofs.GivenRuns.{AreGiven, run-same}
 use Rattle.rehearse.proofs.CallRuns.{listed-same}
 

@@ -5,17 +5,17 @@ use Rattle.std.specs.Str.{bytes_eq}
 use Rattle.hushlang.specs.Tree.{Script}
 use Rattle.rehearse_terms.specs.Outcomes.{OutcomeWord, Success, Failure, runs_within, after}
 use Rattle.rehearse_terms.specs.State.{Text, State}
-use Rattle.rehearse.specs.Commands.{Device, NoCommand}
-use Rattle.rehearse.specs.DeviceList.{Effect, Devices, effect_in, effect_of, listed}
-use Rattle.rehearse.specs.DeviceLaws.{quiet}
-use Rattle.rehearse.specs.PlainList.{plain_names}
+use Rattle.device_list.specs.Commands.{Device, NoCommand}
+use Rattle.device_list.specs.DeviceList.{Effect, Devices, effect_in, effect_of, listed}
+use Rattle.device_list.specs.DeviceLaws.{quiet}
+use Rattle.device_list.specs.PlainList.{plain_names}
 use Rattle.rehearse.specs.Execution.{Limits, Answer, Ended, CutDevices, Unknown, take_outcome, command}
 use Rattle.rehearse.specs.Runs.{run_on, runs, rest, state_of, ending_of, kind_of}
 use Rattle.rehearse.specs.Listing.{record_text, record_of, listing}
 use Rattle.rehearse.specs.PlainExecution.{PlainTask, task_over, bounds_alone, answer, ask, plain_others, plain_run_on, plain_runs, plain_rest, plain_record, PlainRunsStand, PlainListingsStand, PlainRestsStand}
-use Rattle.rehearse.proofs.JoinedLines.{ok-same}
+use Rattle.device_list.proofs.JoinedLines.{ok-same}
 use Rattle.rehearse.proofs.GivenRuns.{Does, AreGivenByList, given_by_list, run-same}
-use Rattle.rehearse.proofs.PlainLists.{quiet_effects, quiet_names, plain_lists_stand}
+use Rattle.device_list.proofs.PlainLists.{quiet_effects, quiet_names, plain_lists_stand}
 
 -- ---- what a name calls
 

@@ -3,8 +3,8 @@
 use Rattle.std.specs.Prelude.{◌≡◌, ℕ, false, List, Option, Some, None, Ok}
 use Rattle.rehearse_terms.specs.Outcomes.{OutcomeWord, runs_within, few_of, after}
 use Rattle.rehearse_terms.specs.State.{Text, State}
-use Rattle.rehearse.specs.DeviceList.{effect_of}
-use Rattle.rehearse.specs.CallList.{call_listed}
+use Rattle.device_list.specs.DeviceList.{effect_of}
+use Rattle.device_list.specs.CallList.{call_listed}
 use Rattle.rehearse.specs.Execution.{Answer, Ended, Unknown}
 use Rattle.rehearse.specs.GivenExecution.{asked_anew, given_run_on}
 use Rattle.rehearse.specs.Runs.{Task, run_on, state_of, ending_of, kind_of, runs, rest}

@@ -6,8 +6,8 @@ use Rattle.std.specs.Map.{lookup}
 use Rattle.std.specs.Str.{bytes_eq}
 use Rattle.rehearse_terms.specs.Outcomes.{Outcome, Success, Failure, OutcomeWord, runs_within, after}
 use Rattle.rehearse_terms.specs.State.{Text, Variables, State}
-use Rattle.rehearse.specs.DeviceList.{Devices, only, listed}
-use Rattle.rehearse.specs.EarlierList.{EarlierEffect, EarlierDevices, earlier_listed}
+use Rattle.device_list.specs.DeviceList.{Devices, only, listed}
+use Rattle.device_list.specs.EarlierList.{EarlierEffect, EarlierDevices, earlier_listed}
 use Rattle.rehearse.specs.Execution.{Limits, Answer, Normal, Ended, Dry, CutDevices, Unknown, set_status, status_when, succeeds, set_environment, boot}
 use Rattle.rehearse.specs.GivenExecution.{given_run_on}
 use Rattle.rehearse.specs.Runs.{Task, run_on, state_of, ending_of, kind_of, runs, rest}

@@ -10,9 +10,9 @@ use Rattle.rehearse_terms.specs.Outcomes.{Outcome, Success, Failure, OutcomeWord
 use Rattle.hushlang.specs.Trees.{tree_of}
 use Rattle.rehearse_terms.specs.State.{Text, Variables, get, with_value, Memory, LoggedCommand, answer_in, State}
 use Rattle.rehearse.specs.Parameters.{parameters_in}
-use Rattle.rehearse.specs.DeviceList.{Effect, Devices}
-use Rattle.rehearse.specs.Verdict.{verdict}
-use Rattle.rehearse.specs.Commands.{Called, ChangesVariables, WritesText, RunsTexts, Tests, Exits, BuiltIn, NoCommand, Device, called_by, sets_in, asks_device, exit_status, variables_changed, text_written}
+use Rattle.device_list.specs.DeviceList.{Effect, Devices}
+use Rattle.device_list.specs.Verdict.{verdict}
+use Rattle.device_list.specs.Commands.{Called, ChangesVariables, WritesText, RunsTexts, Tests, Exits, BuiltIn, NoCommand, Device, called_by, sets_in, asks_device, exit_status, variables_changed, text_written}
 
 -- the device list, how many device commands a run may ask, and how many steps it may begin
 pub record Limits : Type 0 where

@@ -7,10 +7,10 @@ use Rattle.hushlang.specs.Expansion.{fields}
 use Rattle.rehearse_terms.specs.Outcomes.{OutcomeWord}
 use Rattle.rehearse_terms.specs.State.{Text, Variables, State, start}
 use Rattle.rehearse.specs.Parameters.{parameters_in}
-use Rattle.hushlang.specs.Builtins.{builtin_of}
-use Rattle.rehearse.specs.Verdict.{verdict}
-use Rattle.rehearse.specs.Commands.{Deed, Tests, BuiltIn, deed_of, asks_device}
-use Rattle.rehearse.specs.DeviceLaws.{quiet}
+use Rattle.builtins.specs.Builtins.{builtin_of}
+use Rattle.device_list.specs.Verdict.{verdict}
+use Rattle.device_list.specs.Commands.{Deed, Tests, BuiltIn, deed_of, asks_device}
+use Rattle.device_list.specs.DeviceLaws.{quiet}
 use Rattle.rehearse.specs.Execution.{Limits, Answer, Normal, Ended, CutDevices, CutSteps, Request, take_outcome, go_on, set_status, status_when, goes, begin, command, sized, assign, turns, for_each, run_text}
 
 -- what a command does that is not built in, by its name and its words

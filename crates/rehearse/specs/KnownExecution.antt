@@ -3,9 +3,9 @@
 use Rattle.std.specs.Prelude.{◌≡◌, ℕ, false, List, map, Option, Some, None, Ok}
 use Rattle.rehearse_terms.specs.Outcomes.{OutcomeWord, Run, runs_within, few_of, after}
 use Rattle.rehearse_terms.specs.State.{Text, State}
-use Rattle.rehearse.specs.Commands.{carried, changed_by}
-use Rattle.rehearse.specs.DeviceList.{effect_of, computed_by}
-use Rattle.rehearse.specs.KnownList.{known_listed}
+use Rattle.device_list.specs.Commands.{carried, changed_by}
+use Rattle.device_list.specs.DeviceList.{effect_of, computed_by}
+use Rattle.device_list.specs.KnownList.{known_listed}
 use Rattle.rehearse.specs.Execution.{Answer, Normal, Ended, Unknown, remember, succeeds}
 use Rattle.rehearse.specs.GivenExecution.{asked_anew, given_run_on}
 use Rattle.rehearse.specs.Runs.{Task, run_on, state_of, ending_of, kind, kind_of, runs, rest}

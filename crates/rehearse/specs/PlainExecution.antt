@@ -5,8 +5,8 @@ use Rattle.std.specs.List.{list_any}
 use Rattle.std.specs.Str.{bytes_eq}
 use Rattle.rehearse_terms.specs.Outcomes.{OutcomeWord, runs_within, after}
 use Rattle.rehearse_terms.specs.State.{Text, Variables, State}
-use Rattle.rehearse.specs.DeviceList.{Devices, only, listed}
-use Rattle.rehearse.specs.PlainList.{plain_names}
+use Rattle.device_list.specs.DeviceList.{Devices, only, listed}
+use Rattle.device_list.specs.PlainList.{plain_names}
 use Rattle.rehearse.specs.Execution.{Limits, Answer, Normal, Ended, Dry, CutDevices, Unknown, set_status, status_when, succeeds}
 use Rattle.rehearse.specs.GivenExecution.{given_run_on}
 use Rattle.rehearse.specs.Runs.{Task, run_on, state_of, ending_of, kind_of, runs, rest}

@@ -2,7 +2,7 @@
 ghost use Rattle.std.specs.Prelude.{◌≡◌};
 ghost use Rattle.rehearse.specs.declared.rehearse_error.RehearseError.TheVariants.{Write};
 
-use crate::devices_error::DevicesError;
+use device_list::DevicesError;
 use output::OutFault;
 use thiserror::Error;
 

@@ -8,8 +8,8 @@ use Rattle.bootstore.specs.StoredState.{state_at}
 use Rattle.rehearse_terms.specs.Outcomes.{Success}
 use Rattle.rehearse_terms.specs.State.{Text, State}
 use Rattle.rehearse.specs.Parameters.{parameters_in}
-use Rattle.rehearse.specs.Verdict.{verdict}
-use Rattle.rehearse.specs.Commands.{Called, ChangesVariables, WritesText, RunsTexts, Tests, Exits, BuiltIn, NoCommand, Device, called_by, sets_in, asks_device, exit_status}
+use Rattle.device_list.specs.Verdict.{verdict}
+use Rattle.device_list.specs.Commands.{Called, ChangesVariables, WritesText, RunsTexts, Tests, Exits, BuiltIn, NoCommand, Device, called_by, sets_in, asks_device, exit_status}
 use Rattle.rehearse.specs.Execution.{Limits, CutDevices, Size, Request, test_effect, told, told_again, logged, set_environment, set_status, status_when}
 use Rattle.rehearse_machine.specs.Places.{PlaceNext, GoOn, AskOn, StopOn, left, to_run, place_boot, place_exit, place_tell_or_ask, place_ask, place_called, place_fields}
 use Rattle.rehearse_machine.specs.AskingCommand.{words_in_front, fields_again, found_again}

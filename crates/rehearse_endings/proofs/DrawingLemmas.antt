@@ -7,7 +7,7 @@ use Rattle.std.proofs.lemmas.List.{map-append}
 use Rattle.std.proofs.lemmas.List.Elements.{filter-append}
 use Rattle.rehearse_terms.specs.State.{Text, State, LoggedCommand, asked_of}
 use Rattle.bootstore.specs.StoredState.{state_at}
-use Rattle.rehearse.specs.Commands.{sets_in}
+use Rattle.device_list.specs.Commands.{sets_in}
 use Rattle.rehearse.specs.Execution.{Limits, Answer, Ending, CutDevices, CutSteps, End, Unknown, Syntax, Size, Booted, Request, take_outcome, set_environment, logged, succeeds}
 use Rattle.rehearse_machine.specs.Came.{Came, Over, Wants}
 use Rattle.rehearse_machine.specs.Places.{frames_of}

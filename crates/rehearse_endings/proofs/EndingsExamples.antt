@@ -4,8 +4,8 @@ use Rattle.std.proofs.Common.{ℕ, Bool, true, [], ◌∷◌, ◌+◌, ◌-◌, 
 use Rattle.std.specs.Fmt.{digits}
 use Rattle.hushlang.specs.Expansion.{fields, joined, atoms}
 use Rattle.rehearse_terms.specs.Outcomes.{OutcomeWord, Success, Failure, failures}
-use Rattle.rehearse.specs.DeviceLaws.{quiet}
-use Rattle.rehearse.specs.DeviceList.{only}
+use Rattle.device_list.specs.DeviceLaws.{quiet}
+use Rattle.device_list.specs.DeviceList.{only}
 use Rattle.hushlang.specs.Trees.{tree_of}
 use Rattle.rehearse_terms.specs.State.{Text}
 use Rattle.rehearse.specs.Execution.{Ending, End, CutDevices, CutSteps, Unknown, Syntax, Size, Booted}

@@ -3,8 +3,8 @@ use Rattle.std.proofs.Common.{[], ◌∷◌, List, codes, refl, ◌≡◌, None,
 use Rattle.std.specs.Fmt.{digits}
 use Rattle.hushlang.specs.Expansion.{fields, joined, atoms}
 use Rattle.rehearse_terms.specs.Outcomes.{OutcomeWord, Success, Failure, Run, Short}
-use Rattle.rehearse.specs.DeviceList.{only}
-use Rattle.rehearse.specs.DeviceLaws.{quiet}
+use Rattle.device_list.specs.DeviceList.{only}
+use Rattle.device_list.specs.DeviceLaws.{quiet}
 use Rattle.hushlang.specs.Trees.{tree_of}
 use Rattle.rehearse.specs.Execution.{End, CutDevices, Unknown}
 use Rattle.rehearse.specs.Runs.{Task, run_on}

@@ -10,8 +10,8 @@ use Rattle.rehearse_terms.specs.Outcomes.{OutcomeWord, Success}
 use Rattle.rehearse_terms.specs.State.{Text, State, Variables, LoggedCommand, answers_in, same_words}
 use Rattle.rehearse.specs.Parameters.{parameters_in}
 use Rattle.bootstore.specs.StoredState.{state_at}
-use Rattle.rehearse.specs.Verdict.{verdict}
-use Rattle.rehearse.specs.Commands.{Called, ChangesVariables, WritesText, RunsTexts, Tests, Exits, BuiltIn, NoCommand, Device, called_by, sets_in, asks_device, exit_status}
+use Rattle.device_list.specs.Verdict.{verdict}
+use Rattle.device_list.specs.Commands.{Called, ChangesVariables, WritesText, RunsTexts, Tests, Exits, BuiltIn, NoCommand, Device, called_by, sets_in, asks_device, exit_status}
 use Rattle.rehearse.specs.Execution.{Limits, CutDevices, Size, Request, test_effect, told, told_again, logged, set_environment, set_status, status_when, take_outcome}
 use Rattle.rehearse_machine.specs.Came.{Came}
 use Rattle.rehearse_machine.specs.Meaning.{continue, comes_to}

@@ -1,7 +1,7 @@
 -- Endings that are not counted are not written.
 use Rattle.std.proofs.Common.{◌≡◌, List, Ok, refl}
 use Rattle.output.specs.Sink.{Sink}
-use Rattle.rehearse.specs.DeviceList.{Devices, listed}
+use Rattle.device_list.specs.DeviceList.{Devices, listed}
 use Rattle.rehearse_terms.specs.State.{Text}
 use Rattle.rehearse_machine.specs.Tasks.{task_set}
 use Rattle.rehearse.specs.declared.rehearse_error.RehearseError.{RehearseError}

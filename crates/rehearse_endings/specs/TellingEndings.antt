@@ -2,7 +2,7 @@
 use Rattle.std.specs.Prelude.{◌≡◌, ℕ, ◌+◌, ◌≤◌, Bool, true, false, List, length, Option, Some, None, Ok, Err}
 use Rattle.output.specs.Sink.{Sink, Wrote, BrokeOff}
 use Rattle.rehearse_terms.specs.State.{Text}
-use Rattle.rehearse.specs.DeviceList.{Devices, listed}
+use Rattle.device_list.specs.DeviceList.{Devices, listed}
 use Rattle.rehearse.specs.Runs.{Task, all_runs}
 use Rattle.rehearse_machine.specs.Tasks.{task_set}
 use Rattle.rehearse_endings.specs.Endings.{endings}

@@ -15,7 +15,7 @@ use crate::rows::copy_rows;
 use crate::sum_error::SumError;
 use crate::summary::Summary;
 use bootstore::{Store, StoreError};
-use rehearse::Devices;
+use device_list::Devices;
 use rehearse_terms::RunBounds;
 use std::alloc::Global;
 use std::collections::HashMap;

@@ -1,7 +1,7 @@
 -- Worked examples, computed with the usual bounds: device commands that end the run or set variables.
 use Rattle.std.proofs.Common.{true, false, [], ◌∷◌, None, codes, refl, ◌≡◌}
 use Rattle.rehearse_terms.specs.State.{Text}
-use Rattle.rehearse.specs.DeviceList.{Variable, LastWord, Effect, Devices, only}
+use Rattle.device_list.specs.DeviceList.{Variable, LastWord, Effect, Devices, only}
 use Rattle.rehearse.specs.Runs.{Task}
 use Rattle.rehearse.proofs.ExampleRehearsals.{limits, bootcmd, bootcmd_among, z, listed, works, ends_along, listed_along, works_along, along, working}
 

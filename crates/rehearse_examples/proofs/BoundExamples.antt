@@ -5,10 +5,10 @@ use Rattle.hushlang.specs.Expansion.{fields, joined, atoms}
 use Rattle.rehearse_terms.specs.Outcomes.{Success, Failure}
 use Rattle.hushlang.specs.Trees.{tree_of}
 use Rattle.rehearse_terms.specs.State.{Text}
-use Rattle.rehearse.specs.DeviceList.{Variable, only}
+use Rattle.device_list.specs.DeviceList.{Variable, only}
 use Rattle.rehearse.specs.Execution.{End, CutSteps, Size}
 use Rattle.rehearse.specs.Runs.{steps, work}
-use Rattle.rehearse.specs.DeviceLaws.{is_name_alone}
+use Rattle.device_list.specs.DeviceLaws.{is_name_alone}
 use Rattle.text.specs.Lines.{numbered_lines}
 use Rattle.rehearse.proofs.ExampleRehearsals.{only_load, limits, bootcmd, bootcmd_among, z, listed, told_of, told, told_within, times}
 

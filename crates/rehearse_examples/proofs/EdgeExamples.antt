@@ -2,7 +2,7 @@
 use Rattle.std.proofs.Common.{◌≡◌, ℕ, [], ◌∷◌, ◌++◌, None, Some, true, false, codes, refl, map}
 use Rattle.rehearse_terms.specs.Outcomes.{Success}
 use Rattle.rehearse_terms.specs.State.{Text}
-use Rattle.rehearse.specs.DeviceList.{Variable, Devices, only}
+use Rattle.device_list.specs.DeviceList.{Variable, Devices, only}
 use Rattle.rehearse.specs.Execution.{End, CutSteps, Syntax, Size}
 use Rattle.rehearse.specs.Runs.{Task}
 use Rattle.rehearse.proofs.ExampleRehearsals.{only_load, limits, bootcmd, bootcmd_among, z, listed, listed_after, Told, told_of, told, told_with, told_within, letters}

@@ -1,8 +1,8 @@
 -- Worked examples, computed from the text of the device list and the text of `bootcmd` to the whole listing.
 use Rattle.std.proofs.Common.{◌≡◌, [], ◌∷◌, None, Result, Ok, Err, codes, refl}
 use Rattle.rehearse_terms.specs.State.{Text}
-use Rattle.rehearse.specs.DeviceList.{Devices, only, listed as devices_listed}
-use Rattle.rehearse.specs.declared.devices_error.DevicesError.{DevicesError}
+use Rattle.device_list.specs.DeviceList.{Devices, only, listed as devices_listed}
+use Rattle.device_list.specs.declared.devices_error.DevicesError.{DevicesError}
 use Rattle.rehearse.specs.Execution.{Limits}
 use Rattle.rehearse.proofs.ExampleRehearsals.{limits, bootcmd, bootcmd_among, z, listed, ends_along, listed_along, along}
 

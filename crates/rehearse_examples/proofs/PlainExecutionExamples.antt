@@ -4,10 +4,10 @@ use Rattle.std.specs.Fmt.{digits}
 use Rattle.hushlang.specs.Expansion.{fields, joined, atoms}
 use Rattle.hushlang.specs.Trees.{tree_of}
 use Rattle.rehearse_terms.specs.State.{Text, Variables}
-use Rattle.rehearse.specs.PlainList.{plain_names}
+use Rattle.device_list.specs.PlainList.{plain_names}
 use Rattle.rehearse.specs.PlainExecution.{PlainTask, plain_runs, plain_record}
 use Rattle.rehearse.specs.Listing.{listing}
-use Rattle.rehearse.specs.declared.devices_error.DevicesError.{DevicesError}
+use Rattle.device_list.specs.declared.devices_error.DevicesError.{DevicesError}
 use Rattle.rehearse.proofs.ExampleRehearsals.{z}
 
 unfoldable plain_listed : PlainTask → List Text → Text

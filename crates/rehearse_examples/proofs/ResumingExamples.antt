@@ -5,7 +5,7 @@ use Rattle.rehearse_terms.specs.State.{Text}
 use Rattle.std.specs.Fmt.{digits}
 use Rattle.hushlang.specs.Expansion.{fields, joined, atoms}
 use Rattle.hushlang.specs.Trees.{tree_of}
-use Rattle.rehearse.specs.DeviceList.{only}
+use Rattle.device_list.specs.DeviceList.{only}
 use Rattle.rehearse.specs.Listing.{record_of}
 use Rattle.rehearse.specs.Runs.{Task, runs}
 use Rattle.rehearse.specs.Resuming.{Point, whole, resume_point_of}

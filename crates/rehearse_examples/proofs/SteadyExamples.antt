@@ -1,8 +1,8 @@
 -- Worked examples, computed: device commands whose answers stay.
 use Rattle.std.proofs.Common.{true, false, List, [], ◌∷◌, Some, None, codes, refl, ◌≡◌}
 use Rattle.rehearse_terms.specs.State.{Text, LoggedCommand, asked_of, answer_in}
-use Rattle.rehearse.specs.DeviceList.{Variable, LastWord, Effect, Devices, effect_of, only}
-use Rattle.rehearse.specs.DeviceLaws.{quiet}
+use Rattle.device_list.specs.DeviceList.{Variable, LastWord, Effect, Devices, effect_of, only}
+use Rattle.device_list.specs.DeviceLaws.{quiet}
 use Rattle.rehearse.specs.Laws.{failing}
 use Rattle.rehearse.specs.Runs.{Task}
 use Rattle.rehearse.proofs.ExampleRehearsals.{limits, bootcmd, bootcmd_among, z, listed, ends_along, listed_along, along}

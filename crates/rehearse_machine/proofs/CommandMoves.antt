@@ -13,13 +13,13 @@ use Rattle.hushlang.specs.Tree.{Script}
 use Rattle.rehearse_terms.specs.Outcomes.{OutcomeWord}
 use Rattle.rehearse_terms.specs.State.{Text, Variables, State, with_value, without}
 use Rattle.bootstore.specs.StoredState.{state_at}
-use Rattle.hushlang.specs.Builtins.{Builtin, builtin_named, builtin_of}
+use Rattle.builtins.specs.Builtins.{Builtin, builtin_named, builtin_of}
 use Rattle.rehearse.proofs.GivenRuns.{called_apart}
-use Rattle.rehearse.specs.Commands.{Called, ChangesVariables, WritesText, Tests, BuiltIn, Device, NoCommand, carried, deed_of, listed_by, other_called, asks_device, is_bad_name, setenv, variables_changed, text_written, is_digit, decimal_from}
+use Rattle.device_list.specs.Commands.{Called, ChangesVariables, WritesText, Tests, BuiltIn, Device, NoCommand, carried, deed_of, listed_by, other_called, asks_device, is_bad_name, setenv, variables_changed, text_written, is_digit, decimal_from}
 use Rattle.rehearse.specs.Execution.{Limits, Request, test_effect, remember, set_status, status_when}
-use Rattle.rehearse.specs.Verdict.{verdict}
-use Rattle.rehearse.specs.Computed.{Computed}
-use Rattle.rehearse.specs.DeviceList.{Effect, Devices, computed_by, effect_of}
+use Rattle.device_list.specs.Verdict.{verdict}
+use Rattle.device_list.specs.Computed.{Computed}
+use Rattle.device_list.specs.DeviceList.{Effect, Devices, computed_by, effect_of}
 use Rattle.bootstore.proofs.StateLemmas.{stored_changes, stored_deletions}
 use Rattle.rehearse_machine.specs.declared.ask.Step.{Step}
 use Rattle.rehearse_machine.specs.declared.ask.Step.TheVariants as steps

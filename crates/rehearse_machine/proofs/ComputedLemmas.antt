@@ -13,7 +13,7 @@ use Rattle.bootstore.proofs.StateLemmas.{stored_changes, stored_deletions}
 use Rattle.text.specs.TextsShown.{bytes_of_words}
 use Rattle.rehearse_terms.specs.Outcomes.{OutcomeWord}
 use Rattle.rehearse_terms.specs.State.{Text, Variables, Memory, get, with_value, without}
-use Rattle.rehearse.specs.Commands.{changed_by, deletions}
+use Rattle.device_list.specs.Commands.{changed_by, deletions}
 use Rattle.rehearse.specs.Execution.{remember}
 use Rattle.rehearse_machine.specs.MovesShown.{Keeps, Changes, Changed}
 use Rattle.rehearse_machine.proofs.StoreMoves.{keeps_both, keeps_change}

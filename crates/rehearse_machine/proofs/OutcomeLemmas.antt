@@ -6,10 +6,10 @@ use Rattle.hushlang.proofs.ExpandLemmas.{drop_next}
 use Rattle.bootstore.specs.Moment.{RunningFrame}
 use Rattle.bootstore.specs.Record.{Record, changed, with_environment, with_device, with_status}
 use Rattle.rehearse_terms.specs.Outcomes.{OutcomeWord, Outcome, Success, Failure}
-use Rattle.rehearse.specs.Commands.{variable_of, sets_in}
-use Rattle.rehearse.specs.DeviceList as says
-use Rattle.rehearse.specs.DevicesShown.{setting_shown}
-use Rattle.rehearse.specs.declared.setting.Setting.{Setting}
+use Rattle.device_list.specs.Commands.{variable_of, sets_in}
+use Rattle.device_list.specs.DeviceList as says
+use Rattle.device_list.specs.DevicesShown.{setting_shown}
+use Rattle.device_list.specs.declared.setting.Setting.{Setting}
 use Rattle.rehearse_terms.specs.State.{Text, Variables, State, LoggedCommand}
 use Rattle.bootstore.specs.StoredState.{state_at}
 use Rattle.rehearse.specs.Execution.{Request, Booted, remember, succeeds, status_when, logged, with_all, set_environment}

@@ -5,7 +5,7 @@ use Rattle.hushlang.specs.Tree.{Script, IsProper}
 use Rattle.rehearse_terms.specs.Outcomes.{OutcomeWord, Outcome, Success, Failure}
 use Rattle.hushlang.specs.Trees.{tree_of}
 use Rattle.rehearse_terms.specs.State.{Text, State, start}
-use Rattle.rehearse.specs.Commands.{sets_in}
+use Rattle.device_list.specs.Commands.{sets_in}
 use Rattle.rehearse.specs.Execution.{Syntax, Booted, Request, take_outcome, boot, logged, set_environment}
 use Rattle.rehearse.specs.Runs.{Task, run_on}
 use Rattle.hushlang.proofs.ProperLemmas.{trees_are_proper}

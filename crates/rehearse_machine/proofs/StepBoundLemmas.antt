@@ -6,7 +6,7 @@ use Rattle.hushlang.specs.Expansion.{fields, size, most_bytes}
 use Rattle.hushlang.specs.Trees.{tree_of}
 use Rattle.rehearse_terms.specs.State.{Text, get, State}
 use Rattle.rehearse.specs.Parameters.{parameters_in}
-use Rattle.rehearse.specs.Commands.{Called, ChangesVariables, WritesText, RunsTexts, Tests, Exits, BuiltIn, NoCommand, Device, called_by}
+use Rattle.device_list.specs.Commands.{Called, ChangesVariables, WritesText, RunsTexts, Tests, Exits, BuiltIn, NoCommand, Device, called_by}
 use Rattle.rehearse.specs.Execution.{Limits, Answer, Normal, Exit, Ended, Dry, CutSteps, Syntax, Size, go_on, set_status, set_local, goes, holds, begin, text_end, run_text, run_all, command, simple, sized, turns, for_each, exec_script, exec_list, exec_joined, exec_command, exec_arms, exec}
 use Rattle.rehearse.proofs.GrowingSteps.{AtLeast, Grew, AtLeast-track, Grew-block}
 use Rattle.rehearse.proofs.TakenOutcomes.{KeepsAll, after_condition, Keeps-script, Keeps-list, Keeps-one, Keeps-exec, Keeps-text}

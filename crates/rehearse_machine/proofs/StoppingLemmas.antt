@@ -7,7 +7,7 @@ use Rattle.bootstore.specs.Record.{Record}
 use Rattle.rehearse_terms.specs.Outcomes.{OutcomeWord, Outcome, Success, Failure}
 use Rattle.rehearse_terms.specs.State.{State}
 use Rattle.bootstore.specs.StoredState.{state_at}
-use Rattle.rehearse.specs.Commands.{sets_in}
+use Rattle.device_list.specs.Commands.{sets_in}
 use Rattle.rehearse.specs.Execution.{Limits, Request, logged, set_environment}
 use Rattle.rehearse.specs.Runs.{Task}
 use Rattle.rehearse_machine.specs.declared.ask.Ask.{Ask}

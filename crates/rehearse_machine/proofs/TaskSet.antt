@@ -11,7 +11,7 @@ use Rattle.bootstore.specs.Moment as stored
 use Rattle.bootstore.specs.Moment.{set_in_turn, environment_of}
 use Rattle.envtools.specs.Environment.{value_of, same}
 use Rattle.rehearse_terms.specs.State.{Text, get}
-use Rattle.rehearse.specs.DeviceList.{Devices}
+use Rattle.device_list.specs.DeviceList.{Devices}
 use Rattle.rehearse_terms.specs.Bounds.{BoundsShown}
 use Rattle.rehearse.specs.Runs.{Task}
 use Rattle.rehearse_machine.specs.Tasks.{task_shown, task_set}

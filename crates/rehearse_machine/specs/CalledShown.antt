@@ -1,7 +1,7 @@
 -- What the program's built-in commands call.
-use Rattle.hushlang.specs.BuiltinsShown.{builtin_shown}
-use Rattle.hushlang.specs.declared.builtins.Builtin.{Builtin}
-use Rattle.rehearse.specs.Commands as says
+use Rattle.builtins.specs.BuiltinsShown.{builtin_shown}
+use Rattle.builtins.specs.declared.builtins.Builtin.{Builtin}
+use Rattle.device_list.specs.Commands as says
 
 -- a built-in command is called
 abbrev pub builtin_called : Builtin → says.Called

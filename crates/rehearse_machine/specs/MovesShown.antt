@@ -9,8 +9,8 @@ use Rattle.rehearse_terms.specs.Outcomes.{OutcomeWord}
 use Rattle.bootstore.specs.declared.store.StoreError.{StoreError}
 use Rattle.rehearse_terms.specs.State.{Text, Memory, State}
 use Rattle.bootstore.specs.StoredState.{state_at}
-use Rattle.rehearse.specs.DeviceList.{Devices}
-use Rattle.rehearse.specs.CommandsShown.{lent_effect}
+use Rattle.device_list.specs.DeviceList.{Devices}
+use Rattle.device_list.specs.CommandsShown.{lent_effect}
 use Rattle.rehearse_terms.specs.Bounds.{BoundsShown}
 use Rattle.rehearse.specs.Execution.{Limits, Request, remember}
 use Rattle.rehearse_machine.specs.Places.{PlaceNext, GoOn, AskOn, StopOn}

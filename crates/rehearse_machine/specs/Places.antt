@@ -12,8 +12,8 @@ use Rattle.rehearse_terms.specs.Outcomes.{Outcome, Success, Failure}
 use Rattle.hushlang.specs.Trees.{tree_of}
 use Rattle.rehearse_terms.specs.State.{Text, get, State}
 use Rattle.rehearse.specs.Parameters.{parameters_in}
-use Rattle.rehearse.specs.Verdict.{verdict}
-use Rattle.rehearse.specs.Commands.{Called, ChangesVariables, WritesText, RunsTexts, Tests, Exits, BuiltIn, NoCommand, Device, called_by, sets_in, asks_device, exit_status, variables_changed, text_written}
+use Rattle.device_list.specs.Verdict.{verdict}
+use Rattle.device_list.specs.Commands.{Called, ChangesVariables, WritesText, RunsTexts, Tests, Exits, BuiltIn, NoCommand, Device, called_by, sets_in, asks_device, exit_status, variables_changed, text_written}
 use Rattle.rehearse.specs.Execution.{Limits, Ending, End, CutDevices, CutSteps, Unknown, Syntax, Size, Booted, remember, set_status, set_local, status_when, goes, holds, Request, test_effect, outcome_when, told, told_again, logged, set_environment}
 use Rattle.rehearse_machine.specs.Frames.{Frame, Lists, Linked, IfCondition, LoopCondition, LoopBody, ForBody, RunNames, RunText, Next, Go, Ask, Stop, begun_text}
 

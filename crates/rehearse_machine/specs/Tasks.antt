@@ -3,7 +3,7 @@ use Rattle.std.specs.Prelude.{[], Option, unwrap_or, List}
 use Rattle.std.specs.FinMap.{entries}
 use Rattle.bootstore.specs.Moment.{environment_of}
 use Rattle.rehearse_terms.specs.State.{Text, get}
-use Rattle.rehearse.specs.DeviceList.{Devices}
+use Rattle.device_list.specs.DeviceList.{Devices}
 use Rattle.rehearse_terms.specs.Bounds.{BoundsShown}
 use Rattle.rehearse.specs.Runs.{Task, task_of}
 use Rattle.rehearse_machine.specs.declared.rehearsal.Rehearsal.{Rehearsal}

@@ -1,7 +1,7 @@
 //! The result of one move of the machine.
 
 use crate::halt::Halt;
-use rehearse::Effect;
+use device_list::Effect;
 
 /// A device command that asks for its outcome.
 #[derive(Drop)]

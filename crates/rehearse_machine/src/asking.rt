@@ -11,10 +11,10 @@ use crate::named::look_up;
 use crate::simple::run_fields;
 use crate::steps::expanded;
 use bootstore::{Frame, Store, StoreError};
+use device_list::Devices;
 use hushlang::call::Call;
 use hushlang::expand::Fields;
 use hushlang::tree::Command;
-use rehearse::Devices;
 use rehearse_terms::RunBounds;
 use std::alloc::Global;
 

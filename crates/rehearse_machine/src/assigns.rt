@@ -2,7 +2,7 @@
 ghost use Rattle.std.specs.Prelude.{◌∷◌, ◌+◌, ◌<◌, ◌^◌, map};
 ghost use Rattle.hushlang.specs.TreesShown as view;
 ghost use Rattle.hushlang.specs.Tree as tree;
-ghost use Rattle.rehearse.specs.DeviceList.{Devices as ListedDevices};
+ghost use Rattle.device_list.specs.DeviceList.{Devices as ListedDevices};
 ghost use Rattle.rehearse_machine.specs.Places as places;
 ghost use Rattle.rehearse_machine.specs.MovesShown.{Moves, limits_of};
 

@@ -4,11 +4,11 @@ ghost use Rattle.std.specs.Prelude.{◌≡◌, ◌∷◌, [], IfOk};
 ghost use Rattle.std.specs.List.{join_with_byte, list_all};
 ghost use Rattle.text.specs.Bytes as ascii;
 ghost use Rattle.text.specs.TextsShown.{bytes_of_words};
-ghost use Rattle.rehearse.specs.Commands as says;
+ghost use Rattle.device_list.specs.Commands as says;
 ghost use Rattle.rehearse_machine.specs.MovesShown.{Changed};
 
 use bootstore::{Store, StoreError};
-use rehearse::is_bad_name;
+use device_list::is_bad_name;
 use std::alloc::{AllocError, Global};
 
 /// Copies of the words. Errors: memory ran out.

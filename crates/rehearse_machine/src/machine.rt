@@ -15,8 +15,8 @@ use crate::next_move::Next;
 use crate::simple::{begin_for, call};
 use crate::steps::expanded;
 use bootstore::{Frame, Store, StoreError};
+use device_list::Devices;
 use hushlang::expand::Fields;
-use rehearse::Devices;
 use rehearse_terms::RunBounds;
 use std::alloc::Global;
 

@@ -1,15 +1,15 @@
 //! What the fields of a simple command name. It is looked up before the command is called, while
 //! the tree is at hand, since the tree keeps what was found.
 ghost use Rattle.std.specs.Prelude.{◌≡◌, option_map};
-ghost use Rattle.hushlang.specs.Builtins.{builtin_named};
-ghost use Rattle.hushlang.specs.BuiltinsShown.{builtin_shown};
+ghost use Rattle.builtins.specs.Builtins.{builtin_named};
+ghost use Rattle.builtins.specs.BuiltinsShown.{builtin_shown};
 ghost use Rattle.hushlang.specs.Expansion as expansion;
 ghost use Rattle.hushlang.specs.TreesShown as view;
 ghost use Rattle.text.specs.TextsShown.{bytes_of_words};
 
-use hushlang::builtins::Builtin;
+use builtins::Builtin;
+use device_list::Devices;
 use hushlang::call::Call;
-use rehearse::Devices;
 
 /// What fields name.
 #[derive(Clone, Copy)]

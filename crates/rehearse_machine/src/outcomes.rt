@@ -1,12 +1,12 @@
 //! Outcomes of device commands.
 ghost use Rattle.std.specs.Prelude.{◌≡◌, ◌∷◌, [], false, map, option_map, if◌then◌else◌};
 ghost use Rattle.text.specs.TextsShown.{bytes_of_words};
-ghost use Rattle.rehearse.specs.Commands.{named_by, variable_of, sets_in};
-ghost use Rattle.rehearse.specs.DevicesShown.{left_shown, setting_shown};
+ghost use Rattle.device_list.specs.Commands.{named_by, variable_of, sets_in};
+ghost use Rattle.device_list.specs.DevicesShown.{left_shown, setting_shown};
 ghost use Rattle.rehearse_terms.specs.Outcomes.{Outcome};
 ghost use Rattle.rehearse.specs.Execution.{succeeds, with_all};
-ghost use Rattle.rehearse.specs.CommandsShown.{lent_effect};
-ghost use Rattle.rehearse.specs.DeviceList.{Devices as ListedDevices};
+ghost use Rattle.device_list.specs.CommandsShown.{lent_effect};
+ghost use Rattle.device_list.specs.DeviceList.{Devices as ListedDevices};
 ghost use Rattle.rehearse_machine.specs.Places.{place_answered, place_ask};
 ghost use Rattle.rehearse_machine.specs.MovesShown.{Changed, Comes, request_shown, limits_of};
 
@@ -15,7 +15,7 @@ use crate::commands::copied;
 use crate::halt::Halt;
 use crate::told::told;
 use bootstore::{LogEntry, Store, StoreError};
-use rehearse::{Effect, LeftSide, Setting, is_bad_name};
+use device_list::{Effect, LeftSide, Setting, is_bad_name};
 use rehearse_terms::RunBounds;
 use std::alloc::Global;
 

@@ -1,12 +1,12 @@
 //! The answers of steady commands that were asked before.
 ghost use Rattle.std.specs.Prelude.{◌≡◌, ◌∷◌, ◌&&◌, not, false};
 ghost use Rattle.text.specs.TextsShown.{bytes_of_words};
-ghost use Rattle.rehearse.specs.CommandsShown.{lent_effect};
+ghost use Rattle.device_list.specs.CommandsShown.{lent_effect};
 ghost use Rattle.rehearse.specs.Execution.{told};
 ghost use Rattle.rehearse_terms.specs.State.{same_words, answer_in};
 
 use bootstore::{LogEntry, Store};
-use rehearse::Effect;
+use device_list::Effect;
 
 /// Whether the words of a logged command are these, the name first.
 fn is_call(call: &[Vec<u8>], name: &[u8], words: &[Vec<u8>]) -> bool

@@ -11,7 +11,7 @@ use Rattle.rehearse.specs.RunsToCome.{AreToCome, GivesNoRun, SpellsNoRun}
 use Rattle.rehearse.specs.Listing.{outcome_digit, spelled, record_of, line}
 use Rattle.rehearse_terms.specs.Outcomes.{Outcome, OutcomeWord, Success, Failure}
 use Rattle.rehearse_terms.specs.State.{Text}
-use Rattle.rehearse.specs.DeviceList.{Devices, listed}
+use Rattle.device_list.specs.DeviceList.{Devices, listed}
 use Rattle.rehearse.specs.Runs.{Task}
 use Rattle.rehearse_machine.specs.Tasks.{task_shown, task_set}
 use Rattle.rehearse_terms.specs.Bounds.{BoundsShown}

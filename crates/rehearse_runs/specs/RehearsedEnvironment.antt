@@ -5,7 +5,7 @@ use Rattle.output.specs.Sink.{Sink, Wrote}
 use Rattle.rehearse_terms.specs.Asking.{Asking, Listed, Wanted, page_of, whole_page}
 use Rattle.rehearse.specs.RunsToCome.{AreToCome, GivesNoRun}
 use Rattle.rehearse_terms.specs.Bounds.{BoundsShown}
-use Rattle.rehearse.specs.DeviceList.{Devices, listed}
+use Rattle.device_list.specs.DeviceList.{Devices, listed}
 use Rattle.rehearse.specs.Listing.{record_of, page_text}
 use Rattle.rehearse_terms.specs.Outcomes.{OutcomeWord}
 use Rattle.rehearse.specs.Runs.{Task}

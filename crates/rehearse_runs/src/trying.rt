@@ -9,8 +9,9 @@ use crate::runs::rehearsal_of;
 use crate::searching::Digits;
 use crate::walking::{Walked, walk_to};
 use bootstore::Store;
+use device_list::Devices;
 use envtools::Env;
-use rehearse::{Devices, RehearseError};
+use rehearse::RehearseError;
 use rehearse_terms::Bounds;
 use std::alloc::Global;
 

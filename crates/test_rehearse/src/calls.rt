@@ -3,6 +3,7 @@
 
 use crate::case::Case;
 use bootstore::Store;
+use device_list::{Devices, DevicesError};
 use envtools::Env;
 use hushlang::expand::{ExpandError, Vars, expand, expand_one};
 use hushlang::lexer::Lexer;
@@ -10,7 +11,6 @@ use hushlang::parse::parse;
 use hushlang::token::{SyntaxError, Token};
 use hushlang::tree::{Script, Word};
 use output::{Out, Over};
-use rehearse::{Devices, DevicesError};
 use rehearse_endings::{EndingsAsk, endings_env};
 use rehearse_runs::{Finish, RehearseError, Runs, WordKind, resume_point, try_word, write_listing};
 use rehearse_terms::{Bounds, Page, RunBounds};

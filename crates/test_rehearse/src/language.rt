@@ -6,11 +6,11 @@ use crate::variables::With;
 use crate::verdicts::test;
 use bootstore::StoreError;
 use callers::scripts::is_script;
+use device_list::DevicesError;
 use hushlang::expand::{ExpandError, OneVariable, Vars};
 use hushlang::lexer::Lexer;
 use hushlang::token::{SyntaxError, Token};
 use hushlang::tree::{Command, Script};
-use rehearse::DevicesError;
 use std::alloc::{AllocError, Global};
 use test_rows::{shown, unescaped};
 

@@ -2,7 +2,7 @@
 
 use crate::calls::devices_of;
 use crate::case::Case;
-use rehearse::{Devices, Effect, LeftSide, Setting};
+use device_list::{Devices, Effect, LeftSide, Setting};
 use std::alloc::{AllocError, Global};
 use test_rows::{shown, unescaped, words_of};
 

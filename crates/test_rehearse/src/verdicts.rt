@@ -1,7 +1,7 @@
 //! The truth of the words of `test`.
 
 use crate::case::Case;
-use rehearse::verdict;
+use device_list::verdict;
 use test_rows::words_of;
 
 /// Whether the words are true.

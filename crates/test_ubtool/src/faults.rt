@@ -1,12 +1,12 @@
 //! The line of each fault.
 
 use crate::case::{Case, text};
+use device_list::DevicesError;
 use envimage::{ConfigError, DataError, ImageError};
 use envtools::{EnvError, ScriptError};
 use image_tools::{Fault, RehearseError, ToolError, WordForm, write_fault};
 use locked_files::FileFault;
 use output::Over;
-use rehearse::DevicesError;
 use std::alloc::Global;
 use std::fmt::Display;
 use test_rows::{number, shown};

@@ -3,7 +3,7 @@
 use Rattle.std.specs.Prelude.{◌≡◌, ℕ, Bool, List, Option, None, Err}
 use Rattle.output.specs.Sink.{Sink, Wrote, BrokeOff}
 use Rattle.envimage.specs.declared.image.ByteOrder.{ByteOrder}
-use Rattle.rehearse.specs.DeviceList.{listed}
+use Rattle.device_list.specs.DeviceList.{listed}
 use Rattle.rehearse_terms.specs.State.{Text}
 use Rattle.rehearse_endings.specs.TellingEndings.{AreLines, HasMoreStates}
 use Rattle.rehearse_endings.specs.declared.telling.EndingsAsk.{EndingsAsk}

@@ -9,7 +9,7 @@
 use Rattle.std.specs.Prelude.{◌≡◌, List, Option, Ok}
 use Rattle.envimage.specs.Data.{Pair}
 use Rattle.output.specs.Sink.{Sink}
-use Rattle.rehearse.specs.DeviceList.{Devices, listed}
+use Rattle.device_list.specs.DeviceList.{Devices, listed}
 use Rattle.rehearse.specs.Runs.{Task}
 use Rattle.rehearse_machine.specs.Tasks.{task_set}
 use Rattle.rehearse_runs.specs.RehearsedEnvironment as below

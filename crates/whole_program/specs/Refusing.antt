@@ -3,7 +3,7 @@
 use Rattle.std.specs.Prelude.{◌≡◌, ◌⊎◌, List, None, Ok, Err}
 use Rattle.envimage.specs.Data.{Pair}
 use Rattle.output.specs.Sink.{Sink}
-use Rattle.rehearse.specs.DeviceList.{listed}
+use Rattle.device_list.specs.DeviceList.{listed}
 use Rattle.rehearse_runs.specs.RehearsedEnvironment.{LacksRun}
 use Rattle.rehearse.specs.declared.rehearse_error.RehearseError.TheVariants.{DeviceList, NoSuchVariable, NotARun}
 use Rattle.whole_program.specs.Given.{Given}

@@ -2,6 +2,7 @@
 
 use crate::growths::trouble::{Trouble, told_apart};
 use bootstore::Store;
+use device_list::{Devices, DevicesError};
 use envimage::{ByteOrder, ImageError, encode};
 use envtools::Env;
 use hushlang::expand::{ExpandError, OneVariable, expand, expand_one};
@@ -9,7 +10,6 @@ use hushlang::parse::parse;
 use hushlang::token::SyntaxError;
 use hushlang::tree::{Command, Script, Word};
 use locked_files::{FileFault, Files, MemoryFiles};
-use rehearse::{Devices, DevicesError};
 use rehearse_runs::{RehearseError, WordKind, try_word};
 use rehearse_terms::Bounds;
 use std::alloc::{AllocError, Global};

@@ -3,9 +3,9 @@
 //! Of a longer script it says how many runs there are, and how many steps were begun for them.
 
 use bootstore::{Plain, Store, Trail};
+use device_list::Devices;
 use envtools::Env;
 use output::{Out, Over, write_all};
-use rehearse::Devices;
 use rehearse_runs::{RehearseError, Runs, write_listing};
 use rehearse_terms::{Bounds, Page};
 use std::alloc::{AllocError, Global};

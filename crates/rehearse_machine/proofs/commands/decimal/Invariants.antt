@@ -1,5 +1,5 @@
 use Rattle.std.proofs.Common.{◌≡◌, ◌≤◌, drop, ℕ, List}
-use Rattle.rehearse.specs.Commands.{decimal_from}
+use Rattle.device_list.specs.Commands.{decimal_from}
 use Rattle.rehearse_machine.proofs.commands.decimal.Given as goal
 
 pub record IsRead (number : ℕ) (rest word : List ℕ) : Type 0 where

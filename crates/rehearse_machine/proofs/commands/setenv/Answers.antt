@@ -2,7 +2,7 @@ use Rattle.std.proofs.Common.{sym, ap, ◌∙◌, arith, ◌∷◌, [], take, dr
 use Rattle.std.specs.Prelude.{Vec}
 use Rattle.std.specs.declared.alloc.Global.{Global}
 use Rattle.text.specs.TextsShown.{bytes_of_words}
-use Rattle.rehearse.specs.Commands.{is_bad_name}
+use Rattle.device_list.specs.Commands.{is_bad_name}
 use Rattle.rehearse_machine.proofs.CommandMoves.{first_and_rest, deletes, assigns, empty_rest, some_rest}
 use Rattle.rehearse_machine.proofs.commands.setenv.Goals as goal
 

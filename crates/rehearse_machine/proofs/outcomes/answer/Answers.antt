@@ -1,8 +1,8 @@
 use Rattle.std.proofs.Common.{refl, ap, sym, ◌∙◌, [], ◌∷◌, ◌≡◌, Bool, true, false, map, if◌then◌else◌}
 use Rattle.text.specs.TextsShown.{bytes_of_words}
 use Rattle.bootstore.proofs.TableLemmas.{clone_text}
-use Rattle.rehearse.specs.Commands.{sets_in}
-use Rattle.rehearse.specs.DevicesShown.{setting_shown}
+use Rattle.device_list.specs.Commands.{sets_in}
+use Rattle.device_list.specs.DevicesShown.{setting_shown}
 use Rattle.rehearse_terms.specs.State.{Text, LoggedCommand}
 use Rattle.bootstore.specs.StoredState.{state_at}
 use Rattle.rehearse.specs.Execution.{succeeds, status_when}

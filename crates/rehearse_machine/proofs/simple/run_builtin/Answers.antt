@@ -1,7 +1,7 @@
 use Rattle.std.proofs.Common.{ap, refl}
 use Rattle.hushlang.specs.TreesShown as view
 use Rattle.text.specs.TextsShown.{bytes_of_words}
-use Rattle.rehearse.specs.Commands as says
+use Rattle.device_list.specs.Commands as says
 use Rattle.rehearse_machine.specs.MovesShown.{limits_of}
 use Rattle.rehearse_machine.specs.CalledShown.{builtin_called}
 use Rattle.rehearse_machine.proofs.CommandMoves.{change_does, writing_does, named_comes}

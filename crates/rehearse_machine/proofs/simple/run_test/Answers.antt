@@ -1,8 +1,8 @@
 use Rattle.std.proofs.Common.{sym, ap, refl, Bool, [], false}
 use Rattle.text.specs.TextsShown.{bytes_of_words}
-use Rattle.rehearse.specs.Commands as says
-use Rattle.rehearse.specs.Commands.{asks_device}
-use Rattle.rehearse.specs.DeviceList.{Effect}
+use Rattle.device_list.specs.Commands as says
+use Rattle.device_list.specs.Commands.{asks_device}
+use Rattle.device_list.specs.DeviceList.{Effect}
 use Rattle.rehearse_machine.specs.MovesShown.{limits_of}
 use Rattle.rehearse_machine.proofs.CommandMoves.{test_comes}
 use Rattle.rehearse_machine.proofs.simple.run_test.Goals as goal

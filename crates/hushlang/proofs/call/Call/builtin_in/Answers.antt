@@ -1,6 +1,6 @@
 use Rattle.std.proofs.Common.{ap, ◌∙◌, sym, option_map}
-use Rattle.hushlang.specs.BuiltinsShown.{builtin_shown}
-use Rattle.hushlang.specs.Builtins.{builtin_named}
+use Rattle.builtins.specs.BuiltinsShown.{builtin_shown}
+use Rattle.builtins.specs.Builtins.{builtin_named}
 use Rattle.hushlang.specs.TreesShown as view
 use Rattle.hushlang.proofs.KnownFieldLemmas.{named_by_all}
 use Rattle.hushlang.proofs.call.Call.builtin_in.Goals as goal

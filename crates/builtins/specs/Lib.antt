@@ -1,0 +1,2 @@
+pub mod Builtins
+pub mod BuiltinsShown

@@ -1,0 +1,279 @@
+-- The device list: which commands are device commands, and what each does on success. Ours.
+use Rattle.std.specs.Prelude.{ℕ, ◌+◌, ◌-◌, ◌==◌, nat_lt, min, ◌||◌, ◌&&◌, ◌++◌, not, Bool, true, false, List, [], ◌∷◌, length, take, drop, filter, Option, Some, None, is_some, option_map, Result, Ok, Err, codes, if◌then◌else◌}
+use Rattle.std.specs.Str.{bytes_eq}
+use Rattle.std.specs.List.{list_any, list_all, slice_split, position}
+use Rattle.std.specs.Map.{lookup}
+use Rattle.text.specs.Bytes as ascii
+use Rattle.text.specs.Lines.{numbered_lines}
+use Rattle.text.specs.Numbers.{digit_of, value_in}
+use Rattle.text.specs.Words.{is_equals, is_space, trimmed}
+use Rattle.device_list.specs.Verdict.{Text}
+use Rattle.builtins.specs.Builtins.{is_built_in}
+use Rattle.device_list.specs.KnownCommands.{known_of}
+use Rattle.device_list.specs.Computed.{Computed, computes}
+use Rattle.device_list.specs.declared.devices_error.DevicesError.{DevicesError}
+use Rattle.device_list.specs.declared.devices_error.DevicesError.TheVariants.{BadLine, BuiltIn}
+
+-- the left side of a setting: a variable, or the word of the call that names it; words are counted from 0, or it is the
+-- last
+pub data LeftSide : Type 0 where
+  Variable : Text → LeftSide
+  WordAt : ℕ → LeftSide
+  LastWord : LeftSide
+
+-- what is set, and its value
+abbrev pub Setting : Type 0
+Setting = LeftSide × Text
+
+-- what a device command does on success: what it sets in the environment, in order, and whether the run ends; and
+-- whether its answers stay: asked again with the same words in one run, it answers as before
+pub record Effect : Type 0 where
+  pub ends : Bool
+  pub stays : Bool
+  pub sets : List Setting
+
+-- effects by names of commands, or by the first words of the calls of one command
+abbrev pub Effects : Type 0
+Effects = List (Text × Effect)
+
+abbrev pub effect_in : Effects → Text → Option Effect
+effect_in effects name = lookup (bytes_eq name) effects
+
+-- what a list says of commands by their names, what its `sub` lines say of the calls of a name, which commands are
+-- computed, each once, and whether the answers of `test -e` stay
+pub record Devices : Type 0 where
+  pub commands : Effects
+  pub subs : List (Text × Effects)
+  pub known : List Text
+  pub test_stays : Bool
+
+-- what the lines of a name say, or its `sub` lines of a first word
+abbrev pub effect_at : Devices → (name : Text) → (word : Option Text) → Option Effect
+effect_at devices name None = effect_in devices.commands name
+effect_at devices name (Some word) =
+    elim (lookup (bytes_eq name) devices.subs) [ None ↦ None | Some effects ↦ effect_in effects word ]
+
+abbrev pub sub_effect : Devices → (name : Text) → (words : List Text) → Option Effect
+sub_effect devices name [] = None
+sub_effect devices name (word ∷ words) = effect_at devices name (Some word)
+
+-- The `sub` lines of its first word decide for a call, or else the lines of its name; otherwise it is not listed.
+abbrev pub effect_of : Devices → (name : Text) → (words : List Text) → Option Effect
+effect_of devices name words =
+    elim (sub_effect devices name words) [ Some effect ↦ Some effect | None ↦ effect_at devices name None ]
+
+-- what a call comes to, if the list has its command computed and its words can be
+abbrev pub computed_by : Devices → (name : Text) → (words : List Text) → Option Computed
+computed_by devices name words =
+    if list_any (bytes_eq name) devices.known
+    then elim (known_of name) [ Some known ↦ computes known words | None ↦ None ] else None
+
+-- whether a line names the command
+abbrev pub is_listed : Devices → Text → Bool
+is_listed devices name = is_some (effect_in devices.commands name) || is_some (lookup (bytes_eq name) devices.subs)
+
+-- ---- the words of a line
+
+-- Blanks around a line are dropped. Spaces and tabs separate words. A carriage return inside the line is a byte of its
+-- word.
+abbrev pub device_words : Text → List Text
+device_words line = filter (λ word. not (length word == 0)) (slice_split is_space (trimmed line))
+
+-- ---- what a line says
+
+-- a variable's name is not empty and does not start with `-`
+abbrev pub is_variable : Text → Bool
+is_variable [] = false
+is_variable (b ∷ bytes) = not (b == ascii.minus)
+
+-- the word with this number, counted from 1; a number above the greatest of 64 bits counts as that one
+abbrev pub numbered : ℕ → Option LeftSide
+numbered number = if number == 0 then None else Some (WordAt (number - 1))
+
+abbrev pub are_digits : Text → Bool
+are_digits = list_all (λ b. nat_lt (digit_of b) 10)
+
+abbrev pub is_decimal : Text → Bool
+is_decimal word = not (length word == 0) && are_digits word
+
+-- what follows an `@`: `last`, or the number of a word
+abbrev pub word_of_call : Text → Option LeftSide
+word_of_call which =
+    if bytes_eq which (codes "last") then Some LastWord
+    else (if is_decimal which then numbered (min (value_in 10 which) 18446744073709551615) else None)
+
+abbrev pub variable : Text → Option LeftSide
+variable name = if is_variable name then Some (Variable name) else None
+
+-- in a `sub` line, an `@` starts a word of the call
+abbrev pub left_side : (of_calls : Bool) → Text → Option LeftSide
+left_side of_calls [] = None
+left_side of_calls (b ∷ bytes) =
+    if of_calls && bytes_eq (b ∷ []) (codes "@") then word_of_call bytes else variable (b ∷ bytes)
+
+-- A setting is a left side, the first `=`, and a value that may be empty.
+abbrev pub setting : (of_calls : Bool) → Text → Option Setting
+setting of_calls word =
+    elim (position is_equals word) [
+      | None ↦ None
+      | Some at ↦ option_map (λ left. (left, drop (at + 1) word)) (left_side of_calls (take at word))
+    ]
+
+-- the settings, if each of the words is one
+abbrev pub settings : (of_calls : Bool) → List Text → Option (List Setting)
+settings of_calls [] = Some []
+settings of_calls (word ∷ words) =
+    elim (setting of_calls word) [
+      | None ↦ None
+      | Some first ↦ option_map (λ more. first ∷ more) (settings of_calls words)
+    ]
+
+-- the name of a command; for a `sub` line the first word of its calls; whether it is final, and whether it is steady;
+-- and the words after that
+pub record Heading : Type 0 where
+  pub name : Text
+  pub word : Option Text
+  pub ends : Bool
+  pub stays : Bool
+  pub words : List Text
+
+abbrev pub named : (ends stays : Bool) → Text → List Text → Heading
+named ends stays name words = record { name = name; word = None; ends = ends; stays = stays; words = words }
+
+-- The first word is the name, unless it is `sub` and two words without `=` follow. Then these are the name and the
+-- first word of its calls.
+abbrev pub call_of : (ends stays : Bool) → Text → List Text → Heading
+call_of ends stays first [] = named ends stays first []
+call_of ends stays first (second ∷ []) = named ends stays first (second ∷ [])
+call_of ends stays first (second ∷ third ∷ words) =
+    if bytes_eq first (codes "sub") && not (list_any is_equals second) && not (list_any is_equals third)
+    then record { name = second; word = Some third; ends = ends; stays = stays; words = words }
+    else named ends stays first (second ∷ third ∷ words)
+
+-- A first word `steady` says that the rest is a steady command, if a word without `=` follows.
+abbrev pub steady_of : (ends : Bool) → Text → List Text → Heading
+steady_of ends first [] = named ends false first []
+steady_of ends first (second ∷ words) =
+    if bytes_eq first (codes "steady") && not (list_any is_equals second) then call_of ends true second words
+    else call_of ends false first (second ∷ words)
+
+-- A first word `final` says that the rest of the line is a final command, if a word without `=` follows. A steady
+-- command that is final has `final` first.
+abbrev pub heading_of : Text → List Text → Heading
+heading_of first [] = named false false first []
+heading_of first (second ∷ words) =
+    if bytes_eq first (codes "final") && not (list_any is_equals second) then steady_of true second words
+    else steady_of false first (second ∷ words)
+
+-- one line of a command
+pub record DeviceLine : Type 0 where
+  pub name : Text
+  pub word : Option Text
+  pub effect : Effect
+
+abbrev pub line_with : ℕ → Heading → Option (List Setting) → Result DeviceLine DevicesError
+line_with number h None = Err (BadLine number)
+line_with number h (Some sets) = if is_built_in h.name then Err (BuiltIn number)
+    else Ok (record { name = h.name; word = h.word; effect = record { ends = h.ends; stays = h.stays; sets = sets } })
+
+-- a line with the first word of its calls is a `sub` line
+abbrev pub line_of : ℕ → Heading → Result DeviceLine DevicesError
+line_of number h = line_with number h (settings (is_some h.word) h.words)
+
+abbrev pub begins_comment : Text → Bool
+begins_comment [] = false
+begins_comment (b ∷ bytes) = b == ascii.hash
+
+-- ---- the list
+
+-- a table after a change at a name; a name that is new goes last
+abbrev pub changed_at : {V : Type 0} → (Option V → V) → List (Text × V) → Text → List (Text × V)
+changed_at change [] name = (name, change None) ∷ []
+changed_at change (e ∷ table) name = if bytes_eq name e.0 then (e.0, change (Some e.1)) ∷ table
+    else e ∷ changed_at change table name
+
+-- one more line: final if one of the two is, steady if one of the two is, settings in their order
+abbrev pub joint : Effect → Effect → Effect
+joint before more = record {
+  ends = before.ends || more.ends;
+  stays = before.stays || more.stays;
+  sets = before.sets ++ more.sets;
+}
+
+abbrev pub joint_behind : Effect → Option Effect → Effect
+joint_behind more None = more
+joint_behind more (Some before) = joint before more
+
+abbrev pub joined_in : Effects → Text → Effect → Effects
+joined_in effects name more = changed_at (joint_behind more) effects name
+
+abbrev pub joined_behind : (word : Text) → Effect → Option Effects → Effects
+joined_behind word more None = joined_in [] word more
+joined_behind word more (Some effects) = joined_in effects word more
+
+abbrev pub joined_by : Devices → (name : Text) → Option Text → Effect → Devices
+joined_by devices name None more = record devices { commands = joined_in devices.commands name more }
+joined_by devices name (Some word) more =
+    record devices { subs = changed_at (joined_behind word more) devices.subs name }
+
+abbrev pub joined : Devices → DeviceLine → Devices
+joined devices more = joined_by devices more.name more.word more.effect
+
+abbrev pub with_line : Devices → Result DeviceLine DevicesError → Result Devices DevicesError
+with_line devices (Ok more) = Ok (joined devices more)
+with_line devices (Err fault) = Err fault
+
+-- a line `known NAME`, if NAME may be computed
+abbrev pub known_named : Text → List Text → Option Text
+known_named first [] = None
+known_named first (name ∷ []) =
+    if bytes_eq first (codes "known") && is_some (known_of name) then Some name else None
+known_named first (second ∷ third ∷ words) = None
+
+-- a name is kept once
+abbrev pub with_known : Devices → (name : Text) → Devices
+with_known devices name =
+    if list_any (bytes_eq name) devices.known then devices else record devices { known = devices.known ++ name ∷ [] }
+
+-- a line that has a command computed, or the answers of `test -e` stay, or a line of a command
+abbrev pub after_known : Devices → (known : Option Text) → (test : Bool) → Result DeviceLine DevicesError →
+    Result Devices DevicesError
+after_known devices (Some name) test line = Ok (with_known devices name)
+after_known devices None true line = Ok (record devices { test_stays = true })
+after_known devices None false line = with_line devices line
+
+-- a line `steady test`
+abbrev pub is_steady_test : Text → List Text → Bool
+is_steady_test first [] = false
+is_steady_test first (second ∷ []) = bytes_eq first (codes "steady") && bytes_eq second (codes "test")
+is_steady_test first (second ∷ third ∷ words) = false
+
+-- The list after the words of one more line, or the fault of that line. A line without a word, or one that starts with
+-- `#`, says nothing.
+abbrev pub after_words : Devices → ℕ → Text → List Text → Result Devices DevicesError
+after_words devices number line [] = Ok devices
+after_words devices number line (first ∷ words) =
+    if begins_comment first then Ok devices
+    else (if list_any (λ b. b == ascii.nul) line then Err (BadLine number)
+    else after_known devices (known_named first words) (is_steady_test first words)
+    (line_of number (heading_of first words)))
+
+abbrev pub after_line : Devices → ℕ → Text → Result Devices DevicesError
+after_line devices number line = after_words devices number line (device_words line)
+
+-- the lines one after another, up to the first faulty one
+abbrev pub listed_lines : Devices → List (ℕ × Text) → Result Devices DevicesError
+listed_lines devices [] = Ok devices
+listed_lines devices (l ∷ lines) =
+    elim (after_line devices l.0 l.1) [
+      | Ok next ↦ listed_lines next lines
+      | Err fault ↦ Err fault
+    ]
+
+-- only commands by their names
+abbrev pub only : Effects → Devices
+only commands = record { commands = commands; subs = []; known = []; test_stays = false }
+
+-- the commands that a device list names, or its first fault
+abbrev pub listed : Text → Result Devices DevicesError
+listed text = listed_lines (only []) (numbered_lines text)

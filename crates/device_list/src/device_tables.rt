@@ -1,0 +1,357 @@
+//! What the lines of a device list say, by the names of the commands.
+ghost use Rattle.std.specs.Prelude.{◌≡◌, [], OnOk, IfOk, Some, option_map};
+ghost use Rattle.device_list.specs.DeviceList.{only, changed_at, joined_in, joined_behind, joined_by, effect_at, sub_effect, effect_of, computed_by, with_known, is_listed};
+ghost use Rattle.device_list.specs.CommandsShown.{commands_shown, subs_shown, listed_shown, found_shown};
+ghost use Rattle.std.specs.List.{list_any};
+ghost use Rattle.std.specs.Str.{bytes_eq};
+ghost use Rattle.device_list.specs.TextsShown.{texts};
+ghost use Rattle.device_list.specs.NamedPlaces.{at_place};
+
+use crate::computed::{Computed, computes};
+use crate::device_line::{
+    begins_comment, device_words, has_nul, heading_of, is_steady_test, known_named,
+};
+use crate::devices_error::DevicesError;
+use crate::known_commands::known_of;
+use crate::setting::{Setting, settings};
+use builtins::is_built_in;
+use indexmap::IndexMap;
+use std::alloc::{AllocError, Global};
+use std::marker::Model;
+use text::Lines;
+
+/// What a device command does on success, and whether its answers stay.
+#[derive(Clone, Copy, Debug)]
+pub struct Effect<'a> {
+    /// Whether it ends the run.
+    pub ends: bool,
+    /// Whether it answers as before if it is asked again with the same words in one run.
+    pub stays: bool,
+    /// What it sets in the environment, in order.
+    pub sets: &'a [Setting],
+}
+
+/// What a device command of the list does on success, and whether its answers stay.
+#[derive(Drop)]
+struct Listed {
+    ends: bool,
+    stays: bool,
+    sets: Vec<Setting>,
+}
+
+/// Where the tables have a name, if they have it.
+#[derive(Clone, Copy)]
+pub struct Places {
+    /// Among the commands.
+    command: Option<usize>,
+    /// Among the commands of `sub` lines.
+    sub: Option<usize>,
+}
+
+/// What the list says of each name.
+type Table = IndexMap<Vec<u8>, Listed>;
+
+/// Joins one more `sub` line to the earlier ones with its name and its first word. Errors: memory
+/// ran out.
+fn join_sub(
+    alloc: Global,
+    subs: &mut IndexMap<Vec<u8>, Table>,
+    name: &[u8],
+    word: &[u8],
+    more: Listed,
+) -> Result<(), AllocError>
+    ensures { OnOk result (subs_shown subs.new.entries
+        ≡ changed_at (joined_behind word.now (listed_shown more)) (subs_shown subs.old.entries)
+        name.now) }
+{
+    if let Some(table) = subs.get_mut(name) {
+        join(alloc, table, word, more)?;
+        return Ok(());
+    }
+    let mut table = IndexMap::new(alloc);
+    join(alloc, &mut table, word, more)?;
+    let name = Vec::from_slice(alloc, name)?;
+    subs.insert(name, table)?;
+    Ok(())
+}
+
+impl Listed {
+    ghost use Rattle.device_list.specs.CommandsShown.{lent_effect};
+
+    /// The same, borrowed.
+    fn effect(&self) -> Effect<'_>
+        ensures { lent_effect result ≡ listed_shown self.now }
+    {
+        Effect {
+            ends: self.ends,
+            stays: self.stays,
+            sets: &self.sets,
+        }
+    }
+}
+
+/// The device commands of a device list, each with what its calls do on success.
+#[derive(Drop)]
+pub struct DeviceTables {
+    alloc: Global,
+    /// By their names.
+    commands: Table,
+    /// By the name, and then by the first word of a call.
+    subs: IndexMap<Vec<u8>, Table>,
+    /// The names of the commands that are computed, each once.
+    known: Vec<Vec<u8>>,
+    /// Whether the answers of `test -e` stay.
+    test_stays: bool,
+}
+
+/// Joins one more line to the earlier ones with its name. Errors: memory ran out.
+fn join(alloc: Global, table: &mut Table, name: &[u8], mut more: Listed) -> Result<(), AllocError>
+    ensures { OnOk result (commands_shown table.new.entries
+        ≡ joined_in (commands_shown table.old.entries) name.now (listed_shown more)) }
+{
+    if let Some(listed) = table.get_mut(name) {
+        listed.sets.append(&mut more.sets)?;
+        listed.ends |= more.ends;
+        listed.stays |= more.stays;
+        return Ok(());
+    }
+    let name = Vec::from_slice(alloc, name)?;
+    table.insert(name, more)?;
+    Ok(())
+}
+
+/// What a table has at a place.
+fn value_at<V>(table: &IndexMap<Vec<u8>, V>, place: Option<usize>) -> Option<&V>
+    ensures { option_map (λ v. v.now) result ≡ at_place table.now.entries place }
+{
+    let (_, value) = table.get_index(place?)?;
+    Some(value)
+}
+
+/// Whether a name is one of these.
+fn is_among(names: &[Vec<u8>], name: &[u8]) -> bool
+    ensures { result ≡ list_any (λ one. bytes_eq name.now one.items) names.now }
+{
+    names.iter().any(|one| name == one.as_slice())
+}
+
+impl Model for DeviceTables {
+    ghost use Rattle.device_list.specs.DeviceList as spec;
+    ghost use Rattle.device_list.specs.CommandsShown.{commands_shown, subs_shown};
+    ghost use Rattle.device_list.specs.TextsShown.{texts};
+
+    ghost Value = { spec.Devices };
+
+    ghost view = { λ d. record {
+      commands = commands_shown d.commands.entries;
+      subs = subs_shown d.subs.entries;
+      known = texts d.known.items;
+      test_stays = d.test_stays;
+    } };
+}
+
+impl DeviceTables {
+    ghost use Rattle.device_list.specs.CommandsShown.{lent_effect};
+    ghost use Rattle.device_list.specs.ComputedShown.{call_shown};
+    ghost use Rattle.device_list.specs.DeviceListAnswers.{AddsLine, IsListed};
+    ghost use Rattle.device_list.specs.NamedPlaces.{IsPlaced, ArePlaced, in_sub, placed_sub, placed_effect};
+
+    /// A list of no command. Takes no memory.
+    fn new(alloc: Global) -> Self
+        ensures { result ≡ only [] }
+    {
+        DeviceTables {
+            alloc,
+            commands: IndexMap::new(alloc),
+            subs: IndexMap::new(alloc),
+            known: Vec::new(alloc),
+            test_stays: false,
+        }
+    }
+
+    /// The commands of a device list, or its first fault: `Devices::parse` says what its lines are.
+    pub fn parse(alloc: Global, text: &[u8]) -> Result<Self, DevicesError>
+        ensures { IsListed text.now result }
+    {
+        let mut devices = DeviceTables::new(alloc);
+        for (number, line) in Lines::new(text) {
+            devices.add_line(number, line)?;
+        }
+        Ok(devices)
+    }
+
+    /// Whether a line names a command. Takes no memory.
+    pub fn has(&self, name: &[u8]) -> bool
+        ensures { result ≡ is_listed self.now name.now }
+    {
+        self.commands.contains_key(name) || self.subs.contains_key(name)
+    }
+
+    /// What a call of a command does on success, if it is listed: what the `sub` lines of its first
+    /// word say, or else what the lines of its name say. Takes no memory.
+    pub fn effect(&self, name: &[u8], words: &[Vec<u8>]) -> Option<Effect<'_>>
+        ensures { option_map lent_effect result ≡ effect_of self.now name.now (texts words.now) }
+    {
+        if let Some(listed) = self.sub_listed(name, words) {
+            return Some(listed.effect());
+        }
+        let listed = self.commands.get(name)?;
+        Some(listed.effect())
+    }
+
+    /// What a call comes to, if the list has its command computed and its words can be. It takes no
+    /// memory.
+    pub fn computed<'w>(&self, name: &[u8], words: &'w [Vec<u8>]) -> Option<Computed<'w>>
+        ensures { call_shown result ≡ computed_by self.now name.now (texts words.now) }
+    {
+        let known = known_of(name)?;
+        if !self.is_known(name) {
+            return None;
+        }
+        computes(known, words)
+    }
+
+    /// Whether the answers of `test -e` stay.
+    pub fn test_stays(&self) -> bool
+        ensures { result ≡ (self.now).test_stays }
+    {
+        self.test_stays
+    }
+
+    /// Whether the list has a command computed. Takes no memory.
+    pub fn is_known(&self, name: &[u8]) -> bool
+        ensures { result ≡ list_any (bytes_eq name.now) (self.now).known }
+    {
+        is_among(&self.known, name)
+    }
+
+    /// What the `sub` lines of a call's name and first word say.
+    fn sub_listed(&self, name: &[u8], words: &[Vec<u8>]) -> Option<&Listed>
+        ensures { option_map found_shown result ≡ sub_effect self.now name.now (texts words.now) }
+    {
+        match words {
+            [] => None,
+            [first, ..] => self.listed_at(name, first),
+        }
+    }
+
+    /// What the `sub` lines of a name and a first word say.
+    fn listed_at(&self, name: &[u8], word: &[u8]) -> Option<&Listed>
+        ensures { option_map found_shown result ≡ effect_at self.now name.now (Some word.now) }
+    {
+        let table = self.subs.get(name)?;
+        table.get(word)
+    }
+
+    /// Where the tables have a name. Takes no memory.
+    fn places_of(&self, name: &[u8]) -> Places
+        ensures { IsPlaced self.now name.now result }
+    {
+        Places {
+            command: self.commands.get_index_of(name),
+            sub: self.subs.get_index_of(name),
+        }
+    }
+
+    /// Each name of the tables, and where they have it. Errors: memory ran out.
+    pub fn names(&self) -> Result<IndexMap<Vec<u8>, Places>, AllocError>
+        ensures { IfOk result (λ names. ArePlaced self.now names.entries) }
+    {
+        let mut names = IndexMap::new(self.alloc);
+        for name in self.commands.keys().chain(self.subs.keys()) {
+            let places = self.places_of(name);
+            let name = Vec::from_slice(self.alloc, name)?;
+            names.insert(name, places)?;
+        }
+        Ok(names)
+    }
+
+    /// What a call of the command at these places does on success. Takes no memory.
+    pub fn placed_effect(&self, places: Places, words: &[Vec<u8>]) -> Option<Effect<'_>>
+        ensures { option_map lent_effect result ≡ placed_effect self.now places (texts words.now) }
+    {
+        if let Some(listed) = self.placed_sub(places.sub, words) {
+            return Some(listed.effect());
+        }
+        let listed = value_at(&self.commands, places.command)?;
+        Some(listed.effect())
+    }
+
+    /// What the `sub` lines of the name at a place say of a call.
+    fn placed_sub(&self, place: Option<usize>, words: &[Vec<u8>]) -> Option<&Listed>
+        ensures { option_map found_shown result
+            ≡ placed_sub (at_place (self.now).subs place) (texts words.now) }
+    {
+        match words {
+            [] => None,
+            [first, ..] => self.placed_at(place, first),
+        }
+    }
+
+    /// What the `sub` lines of the name at a place say of a first word.
+    fn placed_at(&self, place: Option<usize>, word: &[u8]) -> Option<&Listed>
+        ensures { option_map found_shown result ≡ in_sub (at_place (self.now).subs place) word.now }
+    {
+        let table = value_at(&self.subs, place)?;
+        table.get(word)
+    }
+
+    /// Reads one more line. Errors: `BadLine`, `BuiltIn`, `Memory`.
+    fn add_line(&mut self, number: usize, line: &[u8]) -> Result<(), DevicesError>
+        ensures { AddsLine self.old number line.now self.new result }
+    {
+        let words = device_words(self.alloc, line)?;
+        let [first, behind @ ..] = words.as_slice() else {
+            return Ok(());
+        };
+        if begins_comment(first) {
+            return Ok(());
+        }
+        if has_nul(line) {
+            return Err(DevicesError::BadLine(number));
+        }
+        if let Some(name) = known_named(first, behind) {
+            self.add_known(name)?;
+            return Ok(());
+        }
+        if is_steady_test(first, behind) {
+            self.test_stays = true;
+            return Ok(());
+        }
+        let heading = heading_of(first, behind);
+        let Some(sets) = settings(self.alloc, heading.words, heading.word.is_some())? else {
+            return Err(DevicesError::BadLine(number));
+        };
+        if is_built_in(heading.name) {
+            return Err(DevicesError::BuiltIn(number));
+        }
+        let (ends, stays) = (heading.ends, heading.stays);
+        self.add(heading.name, heading.word, Listed { ends, stays, sets })?;
+        Ok(())
+    }
+
+    /// One more command is computed. Its name is kept once.
+    fn add_known(&mut self, name: &[u8]) -> Result<(), AllocError>
+        ensures { OnOk result (self.new ≡ with_known self.old name.now) }
+    {
+        if self.is_known(name) {
+            return Ok(());
+        }
+        let name = Vec::from_slice(self.alloc, name)?;
+        self.known.push(name)?;
+        Ok(())
+    }
+
+    /// Joins one more line to the earlier ones; for a `sub` line with its first word. Errors:
+    /// `Memory`.
+    fn add(&mut self, name: &[u8], word: Option<&[u8]>, more: Listed) -> Result<(), AllocError>
+        ensures { OnOk result (self.new ≡ joined_by self.old name.now
+            (option_map (λ w. w.now) word.entry) (listed_shown more)) }
+    {
+        match word {
+            Some(word) => join_sub(self.alloc, &mut self.subs, name, word, more)?,
+            None => join(self.alloc, &mut self.commands, name, more)?,
+        }
+        Ok(())
+    }
+}

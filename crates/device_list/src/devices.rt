@@ -1,0 +1,131 @@
+//! The device list: which commands are device commands, and what each does on success.
+ghost use Rattle.std.specs.Prelude.{◌≡◌, IfSome, option_map};
+ghost use Rattle.std.specs.List.{list_any};
+ghost use Rattle.std.specs.Str.{bytes_eq};
+ghost use Rattle.device_list.specs.DeviceList.{effect_of, computed_by, is_listed};
+ghost use Rattle.device_list.specs.DeviceListAnswers.{IsListed};
+ghost use Rattle.device_list.specs.CommandsShown.{lent_effect};
+ghost use Rattle.device_list.specs.ComputedShown.{call_shown};
+ghost use Rattle.device_list.specs.NamedPlaces.{IsPlaced};
+ghost use Rattle.device_list.specs.TextsShown.{texts};
+
+use crate::computed::Computed;
+use crate::device_tables::{DeviceTables, Effect, Places};
+use crate::devices_error::DevicesError;
+use indexmap::IndexMap;
+use std::alloc::Global;
+use std::marker::Model;
+
+/// The device commands of a device list, each with what its calls do on success.
+#[derive(Drop)]
+pub struct Devices {
+    tables: DeviceTables,
+    /// Names of the tables, each with where these have it.
+    names: IndexMap<Vec<u8>, Places>,
+}
+
+impl Model for Devices {
+    ghost use Rattle.device_list.specs.DeviceList as spec;
+    ghost use Rattle.device_list.specs.NamedPlaces.{ArePlaced};
+
+    ghost Value = { spec.Devices };
+
+    ghost view = { λ d. d.tables };
+
+    ghost invariant = { λ d. ArePlaced d.tables d.names.entries };
+}
+
+impl Devices {
+    /// The commands of a device list, a line each: `NAME SETTINGS`, or `final NAME SETTINGS` for one
+    /// that ends the run; `sub NAME WORD SETTINGS` and `final sub NAME WORD SETTINGS` speak of the calls
+    /// of NAME whose first word is WORD. `steady`, before all of that or after `final`, has the answers
+    /// stay: asked again with the same words in one run, the command answers as before. `steady test`
+    /// says so of `test -e`. `known NAME` has the calls of NAME computed, where its words can
+    /// be; NAME is `env`, `itest` or `setexpr`. Spaces, tabs and carriage returns round a line are dropped;
+    /// spaces and tabs separate its words. Lines without a word, and lines that begin with `#`, are
+    /// skipped. The first word is the name, unless it is `final` or `steady` and a word without `=`
+    /// follows, or `sub` and two such words follow. Each further word is a setting: a variable, the first
+    /// `=`, and a value that may be empty. In a `sub` line, `@N` and `@last` stand for the variable that
+    /// the Nth or the last word of the call names. Lines of one name, and `sub` lines of one name and
+    /// word, are joined: final if one of them is, steady if one of them is, settings in their order.
+    ///
+    /// The first faulty line is refused: `BadLine` where it holds NUL, or a further word has no `=`, an
+    /// empty variable, one that begins with `-`, or in a `sub` line one that begins with `@` and is no
+    /// word of the call; else `BuiltIn` where its name is that of a built-in command.
+    pub fn parse(alloc: Global, text: &[u8]) -> Result<Self, DevicesError>
+        ensures { IsListed text.now result }
+    {
+        let tables = DeviceTables::parse(alloc, text)?;
+        let names = tables.names()?;
+        Ok(Devices { tables, names })
+    }
+
+    /// Whether a line names a command. Takes no memory.
+    pub fn has(&self, name: &[u8]) -> bool
+        ensures { result ≡ is_listed self.now name.now }
+    {
+        self.tables.has(name)
+    }
+
+    /// What a call of a command does on success, if it is listed: what the `sub` lines of its first
+    /// word say, or else what the lines of its name say. Takes no memory.
+    pub fn effect(&self, name: &[u8], words: &[Vec<u8>]) -> Option<Effect<'_>>
+        ensures { option_map lent_effect result ≡ effect_of self.now name.now (texts words.now) }
+    {
+        self.tables.effect(name, words)
+    }
+
+    /// What `effect` says. The name is looked up only if it is not at the place that is given. Takes no
+    /// memory.
+    pub fn effect_near(&self, name: &[u8], words: &[Vec<u8>], place: usize) -> Option<Effect<'_>>
+        ensures { option_map lent_effect result ≡ effect_of self.now name.now (texts words.now) }
+    {
+        match self.places_at(name, place) {
+            Some(places) => self.tables.placed_effect(places, words),
+            None => self.tables.effect(name, words),
+        }
+    }
+
+    /// The place of a name among those of the list, or any number if the list does not have it. It is
+    /// looked up only if the name is not at the place that is given. It takes no memory.
+    pub fn place_near(&self, name: &[u8], place: usize) -> usize {
+        if self.places_at(name, place).is_some() {
+            return place;
+        }
+        self.names.get_index_of(name).unwrap_or(place)
+    }
+
+    /// What a call comes to, if the list has its command computed and its words can be. It takes no
+    /// memory.
+    pub fn computed<'w>(&self, name: &[u8], words: &'w [Vec<u8>]) -> Option<Computed<'w>>
+        ensures { call_shown result ≡ computed_by self.now name.now (texts words.now) }
+    {
+        self.tables.computed(name, words)
+    }
+
+    /// Whether the answers of `test -e` stay.
+    pub fn test_stays(&self) -> bool
+        ensures { result ≡ (self.now).test_stays }
+    {
+        self.tables.test_stays()
+    }
+
+    /// Whether the list has a command computed. Takes no memory.
+    pub fn is_known(&self, name: &[u8]) -> bool
+        ensures { result ≡ list_any (bytes_eq name.now) (self.now).known }
+    {
+        self.tables.is_known(name)
+    }
+
+    /// Where the tables have the name at a place, if it is this name.
+    fn places_at(&self, name: &[u8], place: usize) -> Option<Places>
+        ensures { IfSome result (IsPlaced self.now name.now) }
+    {
+        let (found, places) = self.names.get_index(place)?;
+        if found.as_slice() == name {
+            Some(*places)
+        } else {
+            None
+        }
+    }
+}

@@ -1,0 +1,127 @@
+//! The settings of a device command: what it sets on success.
+ghost use Rattle.std.specs.Prelude.{◌≡◌, ◌==◌, map, option_map, IfOk, OnOk};
+ghost use Rattle.std.specs.List.{position};
+ghost use Rattle.text.specs.Words.{is_equals};
+ghost use Rattle.device_list.specs.DeviceList.{is_variable, are_digits, is_decimal, word_of_call, left_side, setting, settings};
+ghost use Rattle.device_list.specs.DevicesShown.{left_shown, setting_shown, settings_shown};
+
+use std::alloc::{AllocError, Global};
+use text::{digit_of, value_in};
+
+/// The left side of a setting.
+#[derive(Debug, Drop)]
+pub enum LeftSide {
+    /// An environment variable.
+    Variable(Vec<u8>),
+    /// The variable that a word of the call names. Words are counted from 0.
+    WordAt(u64),
+    /// The variable that the last word of the call names.
+    LastWord,
+}
+
+/// What a device command sets on success.
+#[derive(Debug, Drop)]
+pub struct Setting {
+    /// The variable, or the word that names it.
+    pub left: LeftSide,
+    /// Its value.
+    pub value: Vec<u8>,
+}
+
+/// The place of the first `=`.
+fn equals_at(word: &[u8]) -> Option<usize>
+    ensures { result ≡ position is_equals word.now }
+{
+    word.iter().position(|byte| *byte == b'=')
+}
+
+/// Whether a variable may have this name: it is not empty and does not start with `-`.
+fn is_variable(name: &[u8]) -> bool
+    ensures { result ≡ is_variable name.now }
+{
+    match name {
+        [] => false,
+        [first, ..] => *first != b'-',
+    }
+}
+
+/// Whether all bytes are decimal digits.
+fn are_digits(bytes: &[u8]) -> bool
+    ensures { result ≡ are_digits bytes.now }
+{
+    bytes.iter().all(|byte| digit_of(*byte) < 10)
+}
+
+/// Whether a word is a decimal number.
+fn is_decimal(word: &[u8]) -> bool
+    ensures { result ≡ is_decimal word.now }
+{
+    !word.is_empty() && are_digits(word)
+}
+
+/// What follows an `@`: `last`, or the number of a word, counted from 1.
+fn word_of_call(which: &[u8]) -> Option<LeftSide>
+    ensures { option_map left_shown result ≡ word_of_call which.now }
+{
+    if which == b"last".as_slice() {
+        return Some(LeftSide::LastWord);
+    }
+    if !is_decimal(which) {
+        return None;
+    }
+    let number = value_in(10, which);
+    if number == 0 {
+        return None;
+    }
+    Some(LeftSide::WordAt(number - 1))
+}
+
+/// The left side of a setting, if it is one. In a `sub` line, an `@` starts a word of the call.
+fn left_side(alloc: Global, name: &[u8], of_calls: bool) -> Result<Option<LeftSide>, AllocError>
+    ensures { IfOk result (λ left. option_map left_shown left ≡ left_side of_calls name.now) }
+{
+    if of_calls {
+        if let [b'@', which @ ..] = name {
+            return Ok(word_of_call(which));
+        }
+    }
+    if !is_variable(name) {
+        return Ok(None);
+    }
+    let name = Vec::from_slice(alloc, name)?;
+    Ok(Some(LeftSide::Variable(name)))
+}
+
+/// The setting that a word is, if it is one.
+#[tactic(auto, using(crate::proofs::DeviceLemmas::cuts))]
+fn read_setting(alloc: Global, word: &[u8], of_calls: bool) -> Result<Option<Setting>, AllocError>
+    ensures { IfOk result (λ s. option_map setting_shown s ≡ setting of_calls word.now) }
+{
+    let Some(at) = equals_at(word) else {
+        return Ok(None);
+    };
+    let Some(left) = left_side(alloc, &word[..at], of_calls)? else {
+        return Ok(None);
+    };
+    let value = Vec::from_slice(alloc, &word[at + 1..])?;
+    Ok(Some(Setting { left, value }))
+}
+
+/// The settings, if each of the words is one.
+pub(crate) fn settings(
+    alloc: Global,
+    words: &[&[u8]],
+    of_calls: bool,
+) -> Result<Option<Vec<Setting>>, AllocError>
+    ensures { IfOk result (λ s. option_map settings_shown s
+        ≡ settings of_calls (map (λ w. w.now) words.now)) }
+{
+    let mut list = Vec::new(alloc);
+    for word in words {
+        let Some(one) = read_setting(alloc, word, of_calls)? else {
+            return Ok(None);
+        };
+        list.push(one)?;
+    }
+    Ok(Some(list))
+}

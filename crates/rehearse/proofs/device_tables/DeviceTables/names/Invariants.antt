@@ -1,6 +1,0 @@
-use Rattle.rehearse.specs.NamedPlaces.{ArePlaced}
-use Rattle.rehearse.proofs.device_tables.DeviceTables.names.Given as goal
-
--- each name so far is with its places
-abbrev pub invariant-loop-name : goal.invariant-loop-name
-invariant-loop-name l = ArePlaced l.self l.names.entries
