@@ -10,3 +10,4 @@ pub mod KnownExecution
 pub mod CallExecution
 pub mod Parameters
 pub mod RunsToCome
+pub mod EndingsShown

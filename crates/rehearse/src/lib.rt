@@ -2,7 +2,9 @@
 #![tactic(auto)]
 
 pub mod device_laws;
+mod halt;
 pub mod laws;
 mod rehearse_error;
 
+pub use halt::{Ending, Halt};
 pub use rehearse_error::RehearseError;

@@ -17,8 +17,10 @@ use Rattle.rehearse_machine.specs.declared.rehearsal.Stop.{Stop}
 use Rattle.rehearse_endings.specs.Elsewhere.{HaveFurther, IsAlike, same}
 use Rattle.rehearse_endings.specs.Futures as futures
 use Rattle.rehearse_endings.specs.Futures.{came_kind, came_to_end, came_log, IsSameCame, CameCut, CameAlike}
-use Rattle.rehearse_endings.specs.Flow.{Node, Asks, Ends, Answered, asked_in, Seen, behind, stands_at, goes_on, walk}
-use Rattle.rehearse_endings.specs.Drawing.{further, seen_behind, Draws, seen_at, HasMore, words_in}
+use Rattle.rehearse_rows.specs.Flow.{Node, Asks, Ends, Answered, asked_in, Seen, behind, stands_at, goes_on, walk}
+use Rattle.rehearse_endings.specs.DrawnRuns.{further, seen_behind, Draws, seen_at}
+use Rattle.rehearse_rows.specs.Drawing.{HasMore}
+use Rattle.rehearse_cores.specs.Words.{words_in}
 use Rattle.rehearse_endings.specs.Searching.{future, seen_from}
 use Rattle.rehearse_endings.proofs.ElsewhereLemmas.{Alike-boot}
 use Rattle.rehearse_endings.proofs.FrameLemmas.{continue_alike}

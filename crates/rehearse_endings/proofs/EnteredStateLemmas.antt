@@ -12,8 +12,8 @@ use Rattle.rehearse_endings.proofs.SearchLemmas.{kind_settled}
 use Rattle.rehearse_machine.specs.StoppedTexts.{StoppedAt}
 use Rattle.rehearse_endings.specs.States.{Asked, IsMet, IsUnlike, NoTwoAlike, HasStates, Entered, BeginsWith, IsNewAt, HasEntered}
 use Rattle.rehearse_endings.specs.Searching.{IsKept}
-use Rattle.rehearse_endings.specs.Cores.{CoreShown}
-use Rattle.rehearse_endings.specs.Summaries.{Summary}
+use Rattle.rehearse_cores.specs.Cores.{CoreShown}
+use Rattle.rehearse_rows.specs.Summaries.{Summary}
 use Rattle.rehearse_endings.specs.declared.sum_error.SumError.{SumError}
 use Rattle.rehearse_endings.specs.declared.sum_error.SumError.TheVariants.{States}
 use Rattle.rehearse_endings.specs.declared.table.Table.{Table}

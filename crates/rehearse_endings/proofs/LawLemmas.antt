@@ -3,8 +3,8 @@ use Rattle.std.proofs.Common.{◌≡◌, ◌≢◌, true, false, List, [], ◌�
 use Rattle.std.specs.List.{list_any}
 use Rattle.rehearse.specs.Execution.{Ending}
 use Rattle.rehearse.specs.Runs.{Task, all_runs}
-use Rattle.rehearse_endings.specs.Endings.{Row, ending_eq, with_row, merge, one_run, ending, endings}
-use Rattle.rehearse_endings.proofs.RowsOfRuns.{AreApart, Misses, apart_on, either_left, either_right, ending_itself}
+use Rattle.rehearse_rows.specs.Endings.{Row, ending_eq, with_row, merge, one_run, ending, endings}
+use Rattle.rehearse_rows.proofs.RowsOfRuns.{AreApart, Misses, apart_on, either_left, either_right, ending_itself}
 
 -- ---- no two rows have the same ending
 

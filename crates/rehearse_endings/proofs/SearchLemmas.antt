@@ -17,26 +17,28 @@ use Rattle.rehearse.proofs.TakenOutcomes.{answers, GoesTo, Track-of}
 use Rattle.rehearse.proofs.BoundLemmas.{devices_are_bounded}
 use Rattle.rehearse.proofs.TaskChoices.{Keeps-run_on, task_chooses}
 use Rattle.rehearse_machine.specs.Came.{Came, Wants, settled}
-use Rattle.rehearse_machine.specs.EndingsShown.{halt_shown}
-use Rattle.rehearse_machine.specs.declared.halt.Halt.{Halt}
+use Rattle.rehearse.specs.EndingsShown.{halt_shown}
+use Rattle.rehearse.specs.declared.halt.Halt.{Halt}
 use Rattle.rehearse_machine.specs.declared.rehearsal.Stop.{Stop}
 use Rattle.rehearse_machine.specs.declared.rehearsal.Stop.TheVariants.{Asks, Ends}
 use Rattle.rehearse_machine.specs.StoppedTexts.{StoppedAt}
 use Rattle.rehearse_machine.proofs.StoppedTextLemmas.{asked_within, stopped_on}
 use Rattle.rehearse_endings.specs.Futures.{came_kind, came_ending, came_state, came_steps, came_devices, HaveSameCore}
-use Rattle.rehearse_endings.specs.Endings.{Row, HasRows, ending, endings}
-use Rattle.rehearse_endings.specs.Cores.{CoreShown, core_shown, core_of}
-use Rattle.rehearse_endings.specs.Summaries.{Summary, Sums, FitsIf, Fits, moved_by, moved_on, of_end, of_sides, summary_of_sides, summary_at_end}
-use Rattle.rehearse_endings.specs.RowsShown.{saturated, of_both_up, summary_shown, saturated_summary, Summed}
+use Rattle.rehearse_rows.specs.Endings.{Row, HasRows, ending, endings}
+use Rattle.rehearse_cores.specs.Cores.{CoreShown, core_shown, core_of}
+use Rattle.rehearse_rows.specs.Summaries.{Summary, summary_of_sides, summary_at_end}
+use Rattle.rehearse_endings.specs.SummedRuns.{Sums, FitsIf, Fits, moved_by, moved_on, of_end, of_sides, Summed}
+use Rattle.rehearse_rows.specs.RowsShown.{saturated, of_both_up, summary_shown, saturated_summary}
 use Rattle.rehearse_endings.specs.Searching.{future, IsReached, IsEntry, AreEntries, IsKept}
 use Rattle.rehearse_endings.specs.declared.table.Entry.{Entry}
-use Rattle.rehearse_endings.specs.declared.summary.Summary as kept
-use Rattle.rehearse_endings.specs.Flow.{Node, asked_in}
-use Rattle.rehearse_endings.specs.Drawing.{Draws, HasMore, seen_at}
+use Rattle.rehearse_rows.specs.declared.summary.Summary as kept
+use Rattle.rehearse_rows.specs.Flow.{Node, asked_in}
+use Rattle.rehearse_endings.specs.DrawnRuns.{Draws, seen_at}
+use Rattle.rehearse_rows.specs.Drawing.{HasMore}
 use Rattle.rehearse_endings.proofs.DrawingLemmas.{draws_on, draws_there}
 use Rattle.rehearse_endings.proofs.SummaryLemmas.{rows_as, sums_same, came_same, sums_there, sums_end, sums_sides}
-use Rattle.rehearse_endings.proofs.RowsOfRuns.{are_rows}
-use Rattle.rehearse_endings.proofs.SaturatedCountLemmas.{both_up}
+use Rattle.rehearse_rows.proofs.RowsOfRuns.{are_rows}
+use Rattle.rehearse_rows.proofs.SaturatedCountLemmas.{both_up}
 
 -- ---- a text that has stopped
 

@@ -9,8 +9,9 @@ use Rattle.rehearse_machine.specs.Machine.{IsAsking, asked_at}
 use Rattle.rehearse_endings.specs.Elsewhere.{IsCutBy}
 use Rattle.rehearse_endings.specs.Futures as futures
 use Rattle.rehearse_endings.specs.Futures.{came_kind, came_ending, came_steps, came_devices, IsSameCame, CameCut, CameAlike}
-use Rattle.rehearse_endings.specs.Endings.{Row, HasRows, ends, asks}
-use Rattle.rehearse_endings.specs.Summaries.{Summary, Sums, FitsIf, Fits, moved_on, is_cut_steps, is_cut_devices, of_end, of_sides}
+use Rattle.rehearse_rows.specs.Endings.{Row, HasRows, ends, asks}
+use Rattle.rehearse_rows.specs.Summaries.{Summary, is_cut_steps, is_cut_devices}
+use Rattle.rehearse_endings.specs.SummedRuns.{Sums, FitsIf, Fits, moved_on, of_end, of_sides}
 use Rattle.rehearse_endings.proofs.SameCoreLemmas.{asked_alike}
 
 pub same_function : {A B : Type 0} (f g : A → B) → ((x : A) → f x ≡ g x) → f ≡ g

@@ -2,8 +2,8 @@
 use Rattle.std.specs.Prelude.{◌≡◌, ◌≢◌, ◌<◌, ◌≤◌, List, [], ◌∷◌, ◌++◌, length}
 use Rattle.rehearse_terms.specs.Outcomes.{OutcomeWord, failures}
 use Rattle.rehearse.specs.Runs.{Task, all_runs}
-use Rattle.rehearse_endings.specs.Endings.{Row, ending, endings}
-use Rattle.rehearse_endings.specs.EndingLines.{counted}
+use Rattle.rehearse_rows.specs.Endings.{Row, ending, endings}
+use Rattle.rehearse_rows.specs.EndingLines.{counted}
 
 -- each run is counted, and only once
 abbrev pub RunsAreCounted : Type 0

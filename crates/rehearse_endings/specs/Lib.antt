@@ -1,14 +1,9 @@
 pub mod Elsewhere
 pub mod Futures
-pub mod Endings
-pub mod Flow
-pub mod Drawing
-pub mod Summaries
-pub mod Cores
-pub mod RowsShown
+pub mod SummedRuns
+pub mod DrawnRuns
 pub mod Searching
 pub mod States
 pub mod Searched
-pub mod EndingLines
 pub mod TellingEndings
 pub mod Laws

@@ -6,11 +6,13 @@ use Rattle.rehearse_terms.specs.Outcomes.{OutcomeWord}
 use Rattle.rehearse.specs.Runs.{Task}
 use Rattle.rehearse_machine.specs.declared.rehearsal.Stop.{Stop}
 use Rattle.rehearse_machine.specs.StoppedTexts.{StoppedAt}
-use Rattle.rehearse_endings.specs.Drawing.{Draws, HasMore, nodes_shown}
-use Rattle.rehearse_endings.specs.RowsShown.{Summed, summary_shown}
+use Rattle.rehearse_endings.specs.DrawnRuns.{Draws}
+use Rattle.rehearse_rows.specs.Drawing.{HasMore, nodes_shown}
+use Rattle.rehearse_endings.specs.SummedRuns.{Summed}
+use Rattle.rehearse_rows.specs.RowsShown.{summary_shown}
 use Rattle.rehearse_endings.specs.Searching.{future, seen_from, AreEntries}
 use Rattle.rehearse_endings.specs.States.{Asked, Entered, IsNewAt, HasEntered}
-use Rattle.rehearse_endings.specs.declared.summary.Summary.{Summary}
+use Rattle.rehearse_rows.specs.declared.summary.Summary.{Summary}
 use Rattle.rehearse_endings.specs.declared.table.Table.{Table}
 
 -- everything after the stop is searched: the summary says what is to come, and the table has what was entered

@@ -6,16 +6,17 @@ use Rattle.bootstore.specs.StoredState.{state_at}
 use Rattle.rehearse.specs.Execution.{Limits}
 use Rattle.rehearse.specs.Runs.{Task}
 use Rattle.rehearse_machine.specs.Came.{Came, Over}
-use Rattle.rehearse_machine.specs.EndingsShown.{halt_shown}
+use Rattle.rehearse.specs.EndingsShown.{halt_shown}
 use Rattle.rehearse_machine.specs.Machine.{IsAsking, asked_at}
 use Rattle.rehearse_machine.specs.declared.rehearsal.Stop.{Stop}
 use Rattle.rehearse_machine.specs.declared.rehearsal.Stop.TheVariants.{Asks, Ends}
 use Rattle.rehearse_machine.specs.StoppedTexts.{StoppedAt}
-use Rattle.rehearse_endings.specs.Cores.{CoreShown, core_shown, core_of}
-use Rattle.rehearse_endings.specs.Flow.{Node, Seen, asked_in}
-use Rattle.rehearse_endings.specs.Drawing.{Draws, seen_behind, seen_at}
-use Rattle.rehearse_endings.specs.Summaries.{Summary, Sums}
-use Rattle.rehearse_endings.specs.RowsShown.{summary_shown, saturated_summary}
+use Rattle.rehearse_cores.specs.Cores.{CoreShown, core_shown, core_of}
+use Rattle.rehearse_rows.specs.Flow.{Node, Seen, asked_in}
+use Rattle.rehearse_endings.specs.DrawnRuns.{Draws, seen_behind, seen_at}
+use Rattle.rehearse_rows.specs.Summaries.{Summary}
+use Rattle.rehearse_endings.specs.SummedRuns.{Sums}
+use Rattle.rehearse_rows.specs.RowsShown.{summary_shown, saturated_summary}
 use Rattle.rehearse_endings.specs.declared.table.Entry.{Entry}
 
 -- what is to come of a text that has stopped

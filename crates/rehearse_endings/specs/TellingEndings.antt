@@ -5,9 +5,9 @@ use Rattle.rehearse_terms.specs.State.{Text}
 use Rattle.device_list.specs.DeviceList.{Devices, listed}
 use Rattle.rehearse.specs.Runs.{Task, all_runs}
 use Rattle.rehearse_machine.specs.Tasks.{task_set}
-use Rattle.rehearse_endings.specs.Endings.{endings}
-use Rattle.rehearse_endings.specs.Flow.{Node, IsFlow, flow_text}
-use Rattle.rehearse_endings.specs.EndingLines.{endings_text}
+use Rattle.rehearse_rows.specs.Endings.{endings}
+use Rattle.rehearse_rows.specs.Flow.{Node, IsFlow, flow_text}
+use Rattle.rehearse_rows.specs.EndingLines.{endings_text}
 use Rattle.rehearse_endings.specs.States.{HasStates}
 use Rattle.rehearse_endings.specs.declared.telling.EndingsAsk.{EndingsAsk}
 use Rattle.rehearse.specs.declared.rehearse_error.RehearseError.{RehearseError}

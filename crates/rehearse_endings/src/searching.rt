@@ -4,23 +4,21 @@ ghost use Rattle.rehearse_terms.specs.Bounds.{most_steps};
 ghost use Rattle.rehearse_terms.specs.Outcomes.{OutcomeWord};
 ghost use Rattle.rehearse_machine.specs.Tasks.{task_in};
 ghost use Rattle.rehearse_machine.specs.StoppedTexts.{StoppedAt};
-ghost use Rattle.rehearse_endings.specs.RowsShown.{rows_shown, saturated};
-ghost use Rattle.rehearse_endings.specs.Endings.{endings};
-ghost use Rattle.rehearse_endings.specs.Flow.{IsFlow};
-ghost use Rattle.rehearse_endings.specs.Drawing.{nodes_shown};
+ghost use Rattle.rehearse_rows.specs.RowsShown.{rows_shown, saturated};
+ghost use Rattle.rehearse_rows.specs.Endings.{endings};
+ghost use Rattle.rehearse_rows.specs.Flow.{IsFlow};
+ghost use Rattle.rehearse_rows.specs.Drawing.{nodes_shown};
 ghost use Rattle.rehearse_endings.specs.Searching.{IsReached, AreEntries};
 ghost use Rattle.rehearse_endings.specs.States.{Asked, HasStates, Entered, IsNewAt};
 ghost use Rattle.rehearse_endings.specs.Searched.{IsSearched};
 ghost use Rattle.rehearse_endings.specs.declared.sum_error.SumError.TheVariants.{States};
 
-use crate::flow::{Node, words_at};
-use crate::hashing::hash_of;
-use crate::rows::Row;
 use crate::sum_error::SumError;
-use crate::summary::{Summary, of_end, of_sides};
 use crate::table::Table;
 use bootstore::Store;
+use rehearse_cores::{hash_of, words_at};
 use rehearse_machine::{Rehearsal, Stop, begin, resume};
+use rehearse_rows::{Node, Row, Summary, of_end, of_sides};
 
 /// How the runs of a script end.
 #[derive(Drop)]

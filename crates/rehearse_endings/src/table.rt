@@ -2,20 +2,18 @@
 ghost use Rattle.std.specs.Prelude.{◌≡◌, ◌≢◌, ◌≤◌, ◌<◌, ◌^◌, IfOk, OnOk, MatchOption, IsTrue, length, [], ⊤};
 ghost use Rattle.rehearse_machine.specs.Machine.{IsAsking, asked_at};
 ghost use Rattle.rehearse_machine.specs.MovesShown.{limits_of};
-ghost use Rattle.rehearse_endings.specs.RowsShown.{Summed, summary_shown};
+ghost use Rattle.rehearse_endings.specs.SummedRuns.{Summed, FitsIf, moved_by};
+ghost use Rattle.rehearse_rows.specs.RowsShown.{summary_shown};
 ghost use Rattle.rehearse_endings.specs.Searching.{AreEntries, IsKept};
-ghost use Rattle.rehearse_endings.specs.Cores.{core_shown, core_of};
-ghost use Rattle.rehearse_endings.specs.Summaries.{FitsIf, moved_by};
-ghost use Rattle.rehearse_endings.specs.Drawing.{Draws, nodes_shown, seen_at};
+ghost use Rattle.rehearse_cores.specs.Cores.{core_shown, core_of};
+ghost use Rattle.rehearse_endings.specs.DrawnRuns.{Draws, seen_at};
+ghost use Rattle.rehearse_rows.specs.Drawing.{nodes_shown};
 
-use crate::cores::{Core, has_core, take_core};
-use crate::environments::Environments;
-use crate::flow::Flow;
-use crate::rows::copy_rows;
 use crate::sum_error::SumError;
-use crate::summary::Summary;
 use bootstore::{Store, StoreError};
 use device_list::Devices;
+use rehearse_cores::{Core, Environments, has_core, take_core};
+use rehearse_rows::{Flow, Summary, copy_rows};
 use rehearse_terms::RunBounds;
 use std::alloc::Global;
 use std::collections::HashMap;

@@ -5,8 +5,6 @@ ghost use Rattle.rehearse_endings.specs.declared.sum_error.SumError.TheVariants.
 ghost use Rattle.rehearse_endings.specs.States.{HasStates};
 ghost use Rattle.rehearse_endings.specs.TellingEndings.{AreLines, IsUntold, TellsEndings, RefusesEndings};
 
-use crate::ending_lines::text_of;
-use crate::flow_lines::flow_text_of;
 use crate::searching::sum_endings;
 use crate::sum_error::SumError;
 use bootstore::Store;
@@ -15,6 +13,7 @@ use envtools::Env;
 use output::{Out, write_all};
 use rehearse::RehearseError;
 use rehearse_machine::Rehearsal;
+use rehearse_rows::{flow_text_of, text_of};
 use rehearse_terms::RunBounds;
 use std::alloc::Global;
 

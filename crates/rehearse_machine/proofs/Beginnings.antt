@@ -12,7 +12,7 @@ use Rattle.rehearse_terms.specs.State.{Text, State}
 use Rattle.rehearse.specs.Parameters.{parameters_in}
 use Rattle.bootstore.specs.StoredState.{state_at}
 use Rattle.rehearse.specs.Execution.{Limits, Size, CutSteps}
-use Rattle.rehearse_machine.specs.declared.halt.Halt.TheVariants as halts
+use Rattle.rehearse.specs.declared.halt.Halt.TheVariants as halts
 use Rattle.rehearse_machine.specs.declared.ask.Step.{Step}
 use Rattle.rehearse_machine.specs.declared.ask.Step.TheVariants as steps
 use Rattle.rehearse_machine.specs.Places.{PlaceNext, StopOn, place, moved_to, behind, place_counted, place_fitting}

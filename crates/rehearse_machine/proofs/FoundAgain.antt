@@ -16,7 +16,7 @@ use Rattle.rehearse_terms.specs.State.{Text}
 use Rattle.rehearse.specs.Parameters.{parameters_in}
 use Rattle.bootstore.specs.StoredState.{state_at}
 use Rattle.rehearse.specs.Execution.{Limits, Size}
-use Rattle.rehearse_machine.specs.declared.halt.Halt.TheVariants as halts
+use Rattle.rehearse.specs.declared.halt.Halt.TheVariants as halts
 use Rattle.rehearse_machine.specs.declared.ask.Step.TheVariants as steps
 use Rattle.rehearse_machine.specs.Places.{StopOn, list_at, command_in, command_at, place_fields}
 use Rattle.rehearse_machine.specs.AskingCommand.{command_in_front, words_of, words_in_front, fields_again}

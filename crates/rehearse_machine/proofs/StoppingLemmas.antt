@@ -11,7 +11,7 @@ use Rattle.device_list.specs.Commands.{sets_in}
 use Rattle.rehearse.specs.Execution.{Limits, Request, logged, set_environment}
 use Rattle.rehearse.specs.Runs.{Task}
 use Rattle.rehearse_machine.specs.declared.ask.Ask.{Ask}
-use Rattle.rehearse_machine.specs.declared.halt.Halt.{Halt}
+use Rattle.rehearse.specs.declared.halt.Halt.{Halt}
 use Rattle.rehearse_machine.specs.declared.ask.Step.{Step}
 use Rattle.rehearse_machine.specs.declared.ask.Step.TheVariants as steps
 use Rattle.rehearse_machine.specs.declared.rehearsal.Stop.{Stop}

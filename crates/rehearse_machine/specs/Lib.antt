@@ -5,7 +5,6 @@ pub mod Came
 pub mod Meaning
 pub mod MoveCounts
 pub mod AskingCommand
-pub mod EndingsShown
 pub mod MovesShown
 pub mod NextMoves
 pub mod CalledShown

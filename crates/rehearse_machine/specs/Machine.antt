@@ -10,7 +10,7 @@ use Rattle.rehearse_machine.specs.AskingCommand.{found_again}
 use Rattle.rehearse_machine.specs.Came.{Came, Over, Wants}
 use Rattle.rehearse_machine.specs.Meaning.{comes_to}
 use Rattle.rehearse_machine.specs.Turning.{IsSound}
-use Rattle.rehearse_machine.specs.EndingsShown.{halt_shown}
+use Rattle.rehearse.specs.EndingsShown.{halt_shown}
 use Rattle.rehearse_machine.specs.declared.rehearsal.Stop.{Stop}
 use Rattle.rehearse_machine.specs.declared.rehearsal.Stop.TheVariants.{Asks, Ends}
 

@@ -14,7 +14,7 @@ use Rattle.device_list.specs.CommandsShown.{lent_effect}
 use Rattle.rehearse_terms.specs.Bounds.{BoundsShown}
 use Rattle.rehearse.specs.Execution.{Limits, Request, remember}
 use Rattle.rehearse_machine.specs.Places.{PlaceNext, GoOn, AskOn, StopOn}
-use Rattle.rehearse_machine.specs.EndingsShown.{halt_shown}
+use Rattle.rehearse.specs.EndingsShown.{halt_shown}
 use Rattle.rehearse_machine.specs.declared.ask.Ask.{Ask}
 use Rattle.rehearse_machine.specs.declared.ask.Step.{Step}
 use Rattle.rehearse_machine.specs.declared.ask.Step.TheVariants as steps

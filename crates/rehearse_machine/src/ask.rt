@@ -1,7 +1,7 @@
 //! The result of one move of the machine.
 
-use crate::halt::Halt;
 use device_list::Effect;
+use rehearse::Halt;
 
 /// A device command that asks for its outcome.
 #[derive(Drop)]

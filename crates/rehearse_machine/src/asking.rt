@@ -5,7 +5,6 @@ ghost use Rattle.rehearse_machine.specs.AskingCommand as asking;
 ghost use Rattle.rehearse_machine.specs.MovesShown.{Comes, Moves, limits_of};
 
 use crate::ask::Step;
-use crate::halt::Halt;
 use crate::list_commands::command_of;
 use crate::named::look_up;
 use crate::simple::run_fields;
@@ -15,6 +14,7 @@ use device_list::Devices;
 use hushlang::call::Call;
 use hushlang::expand::Fields;
 use hushlang::tree::Command;
+use rehearse::Halt;
 use rehearse_terms::RunBounds;
 use std::alloc::Global;
 

@@ -9,13 +9,13 @@ ghost use Rattle.rehearse_machine.specs.NextMoves.{ContinuesAt, HasRoom};
 use crate::ask::Step;
 use crate::for_turn::next_turn;
 use crate::frames::{enter, in_turn, leave, place, text};
-use crate::halt::Halt;
 use crate::list_commands::command_of;
 use crate::lists::begin_in_list;
 use crate::next_move::Next;
 use crate::scripts::end_block;
 use bootstore::{Frame, FrameKind, Store, StoreError, TextFound};
 use hushlang::tree::{Command, Script};
+use rehearse::Halt;
 use std::rc::Rc;
 
 /// What a frame that runs a script does next: its list goes on, or the script has ended.

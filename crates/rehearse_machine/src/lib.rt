@@ -11,7 +11,6 @@ mod computed;
 mod for_turn;
 mod frame_moves;
 mod frames;
-mod halt;
 mod list_commands;
 mod lists;
 mod machine;
@@ -26,5 +25,4 @@ mod simple;
 mod steps;
 mod told;
 
-pub use halt::{Ending, Halt};
 pub use rehearsal::{Rehearsal, Stop, begin, resume};

@@ -9,7 +9,6 @@ use crate::ask::Step;
 use crate::assigns::begin_assign;
 use crate::frame_moves::{move_for, move_run, next_of};
 use crate::frames::{behind, block, enter, finish, go_on, leave};
-use crate::halt::Halt;
 use crate::named::look_up;
 use crate::next_move::Next;
 use crate::simple::{begin_for, call};
@@ -17,6 +16,7 @@ use crate::steps::expanded;
 use bootstore::{Frame, Store, StoreError};
 use device_list::Devices;
 use hushlang::expand::Fields;
+use rehearse::Halt;
 use rehearse_terms::RunBounds;
 use std::alloc::Global;
 

@@ -12,10 +12,10 @@ ghost use Rattle.rehearse_machine.specs.MovesShown.{Changed, Comes, request_show
 
 use crate::ask::{Ask, Step};
 use crate::commands::copied;
-use crate::halt::Halt;
 use crate::told::told;
 use bootstore::{LogEntry, Store, StoreError};
 use device_list::{Effect, LeftSide, Setting, is_bad_name};
+use rehearse::Halt;
 use rehearse_terms::RunBounds;
 use std::alloc::Global;
 

@@ -8,9 +8,9 @@ ghost use Rattle.rehearse_machine.specs.MovesShown.{Comes};
 use crate::ask::Step;
 use crate::commands::copied;
 use crate::frames::place;
-use crate::halt::Halt;
 use bootstore::{Frame, FrameKind, Store, StoreError};
 use hushlang::tree::Script;
+use rehearse::Halt;
 use std::alloc::Global;
 use std::rc::Rc;
 

@@ -11,7 +11,7 @@ use Rattle.rehearse_runs.specs.Phases.{AreDigits, StandsOn, HasBegun, shown_at}
 use Rattle.rehearse_runs.proofs.WorkLemmas.{begun_behind, none_in_front}
 use Rattle.rehearse_runs.specs.Walking.{IsShortBehind, ReachedFirst, WalksTo}
 use Rattle.rehearse_runs.specs.Behind.{GoesOnBehind, IsNoRun, IsNotListed, HasKind, runs_behind}
-use Rattle.rehearse_machine.specs.declared.halt.Halt.{Halt}
+use Rattle.rehearse.specs.declared.halt.Halt.{Halt}
 use Rattle.rehearse_runs.specs.declared.runs.Phase.TheVariants.{At}
 use Rattle.rehearse_runs.specs.declared.walking.Walked.{Walked}
 use Rattle.rehearse_runs.specs.declared.walking.Walked.TheVariants as walked

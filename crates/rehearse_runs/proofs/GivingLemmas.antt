@@ -5,7 +5,7 @@ use Rattle.rehearse_terms.specs.Bounds.{most_run_devices}
 use Rattle.rehearse_terms.specs.Outcomes.{OutcomeWord, common_prefix}
 use Rattle.rehearse_terms.specs.State.{Text, State}
 use Rattle.rehearse.specs.Runs.{Task, runs, IsListed, rest, steps, asked}
-use Rattle.rehearse_machine.specs.declared.halt.Halt.{Halt}
+use Rattle.rehearse.specs.declared.halt.Halt.{Halt}
 use Rattle.rehearse_runs.specs.declared.runs.Phase.{Phase}
 use Rattle.rehearse_runs.specs.declared.runs.Phase.TheVariants.{Fresh, At}
 use Rattle.rehearse_runs.specs.RunsShown.{outcomes, given_if, to_come_after, steps_shared}

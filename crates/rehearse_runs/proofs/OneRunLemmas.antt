@@ -10,8 +10,8 @@ use Rattle.rehearse.specs.Listing.{line}
 use Rattle.rehearse_terms.specs.State.{Text}
 use Rattle.bootstore.specs.StoredState.{state_at}
 use Rattle.rehearse.specs.Runs.{Task}
-use Rattle.rehearse_machine.specs.EndingsShown.{halt_shown}
-use Rattle.rehearse_machine.specs.declared.halt.Halt.{Halt}
+use Rattle.rehearse.specs.EndingsShown.{halt_shown}
+use Rattle.rehearse.specs.declared.halt.Halt.{Halt}
 use Rattle.rehearse_runs.specs.Behind.{IsNoRun}
 use Rattle.rehearse_runs.specs.Recording.{recorded}
 use Rattle.rehearse_runs.specs.RunAlone.{BreaksInside, IsRunOf, WritesAlone, alone_text}

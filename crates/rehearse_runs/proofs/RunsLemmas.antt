@@ -12,11 +12,11 @@ use Rattle.rehearse.specs.Listing.{outcome_digit}
 use Rattle.rehearse_runs.specs.RunsShown.{outcomes, given_if, to_come_after, has_words, successes}
 use Rattle.rehearse_runs.specs.Searching.{AreMarks}
 use Rattle.rehearse_runs.proofs.WorkLemmas.{few_marks, marks_within}
-use Rattle.rehearse_machine.specs.EndingsShown.{halt_shown}
+use Rattle.rehearse.specs.EndingsShown.{halt_shown}
 use Rattle.rehearse_runs.specs.Phases.{StandsAt, IsRunIf, AreDigits, shows_run}
 use Rattle.rehearse_runs.specs.RunViewShown.{shown_word, shown_moment, shown_ending, shown_marks}
 use Rattle.rehearse_runs.specs.Giving.{ShowsRun}
-use Rattle.rehearse_machine.specs.declared.halt.Halt.{Halt}
+use Rattle.rehearse.specs.declared.halt.Halt.{Halt}
 use Rattle.rehearse_runs.specs.declared.runs.Phase.{Phase}
 use Rattle.rehearse_runs.specs.declared.runs.Phase.TheVariants.{At}
 use Rattle.rehearse_runs.specs.declared.run_view.RunView.{RunView}

@@ -11,7 +11,7 @@ use Rattle.std.proofs.Math.Dec.{leb-suc-zero, leb-suc-suc}
 use Rattle.std.proofs.lemmas.Bool.{ne_eqb}
 use Rattle.rehearse.specs.Listing.{outcome_digit}
 use Rattle.rehearse_runs.specs.RunsShown.{outcomes, outcome_of}
-use Rattle.rehearse_machine.specs.EndingsShown.{halt_shown}
+use Rattle.rehearse.specs.EndingsShown.{halt_shown}
 use Rattle.rehearse_runs.specs.Phases.{AreDigits}
 use Rattle.rehearse_machine.specs.Came.{Came, Over, Wants, settled}
 use Rattle.rehearse_machine.specs.Machine.{Stops, asked_at, outcome_when}
@@ -19,7 +19,7 @@ use Rattle.std.specs.Prelude.{IfOk, nat_lt}
 use Rattle.std.proofs.lemmas.Option.{same_Some}
 use Rattle.bootstore.specs.Record.{Record, gone_back, returned}
 use Rattle.bootstore.specs.declared.store.StoreError.{StoreError}
-use Rattle.rehearse_machine.specs.declared.halt.Halt.{Halt}
+use Rattle.rehearse.specs.declared.halt.Halt.{Halt}
 use Rattle.rehearse_runs.specs.Searching.{AreMarks, MarksIf, Found, FoundFirst, FoundBehind, may_fail}
 use Rattle.rehearse_machine.specs.StoppedTexts.{StoppedAt}
 use Rattle.rehearse_machine.specs.declared.rehearsal.Stop.{Stop}

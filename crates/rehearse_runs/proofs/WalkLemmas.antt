@@ -17,7 +17,7 @@ use Rattle.rehearse_machine.specs.StoppedTexts.{StoppedAt}
 use Rattle.rehearse_runs.specs.Walking.{Reached, IsLongBehind, IsShortBehind, IsWordBehind, Walks, WalksTo}
 use Rattle.rehearse_runs.specs.declared.walking.Walked.{Walked}
 use Rattle.rehearse_runs.specs.declared.walking.Walked.TheVariants as walked
-use Rattle.rehearse_machine.specs.declared.halt.Halt.{Halt}
+use Rattle.rehearse.specs.declared.halt.Halt.{Halt}
 use Rattle.rehearse_machine.specs.declared.rehearsal.Stop.{Stop}
 use Rattle.rehearse_machine.specs.declared.rehearsal.Stop.TheVariants.{Asks, Ends}
 use Rattle.rehearse.proofs.TaskChoices.{longer_is_long}

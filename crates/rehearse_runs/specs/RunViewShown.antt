@@ -4,7 +4,7 @@ use Rattle.bootstore.specs.Moment.{Moment}
 use Rattle.bootstore.specs.declared.store.Store.{Ghosts}
 use Rattle.rehearse_terms.specs.State.{Text}
 use Rattle.rehearse.specs.Execution as spec
-use Rattle.rehearse_machine.specs.EndingsShown.{ending_shown}
+use Rattle.rehearse.specs.EndingsShown.{ending_shown}
 use Rattle.rehearse_runs.specs.declared.run_view.RunView.{RunView}
 
 -- the digits of its word

@@ -8,10 +8,10 @@ use Rattle.rehearse_terms.specs.State.{Text}
 use Rattle.bootstore.specs.StoredState.{state_at}
 use Rattle.rehearse.specs.Runs.{Task, run_on, state_of, ending_of, kind}
 use Rattle.rehearse.specs.Listing.{outcome_digit}
-use Rattle.rehearse_machine.specs.EndingsShown.{halt_shown}
+use Rattle.rehearse.specs.EndingsShown.{halt_shown}
 use Rattle.rehearse_machine.specs.Machine.{outcome_when}
 use Rattle.rehearse_runs.specs.Searching.{AreMarks}
-use Rattle.rehearse_machine.specs.declared.halt.Halt.{Halt}
+use Rattle.rehearse.specs.declared.halt.Halt.{Halt}
 use Rattle.rehearse_runs.specs.declared.walking.Walked.{Walked}
 use Rattle.rehearse_runs.specs.declared.walking.Walked.TheVariants as walked
 

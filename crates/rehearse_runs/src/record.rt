@@ -12,14 +12,14 @@ ghost use Rattle.rehearse_runs.specs.Paging.{Puts};
 ghost use Rattle.rehearse_runs.specs.Recording.{printed, entry_line, set_line, named_line, recorded};
 ghost use Rattle.text.specs.TextsShown.{spaced};
 ghost use Rattle.rehearse_runs.specs.RunViewShown.{shown_word, shown_moment, shown_ending};
-ghost use Rattle.rehearse_machine.specs.EndingsShown.{ending_shown};
+ghost use Rattle.rehearse.specs.EndingsShown.{ending_shown};
 
 use crate::line_pieces::{Piece, is_plain_text, is_plain_word, put_pieces, put_word};
 use crate::page::{BytePage, flush, put};
 use crate::run_view::RunView;
 use bootstore::{LogEntry, Store, Variables};
 use output::{Out, OutFault};
-use rehearse_machine::Ending;
+use rehearse::Ending;
 
 /// Puts the first line of a record, with the digits of its word.
 fn put_first<O: Out>(out: &mut O, page: &mut BytePage, word: &[u8]) -> Result<(), OutFault>

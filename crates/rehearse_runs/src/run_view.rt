@@ -5,7 +5,7 @@ ghost use Rattle.text.specs.TextsShown.{option_bytes};
 ghost use Rattle.rehearse_terms.specs.State.{get};
 
 use bootstore::{LogEntry, Store, Variables};
-use rehearse_machine::Ending;
+use rehearse::Ending;
 
 /// A run. All its parts are borrowed.
 #[derive(Drop)]
@@ -17,7 +17,7 @@ pub struct RunView<'v, S: Store> {
 
 impl<'v, S: Store> RunView<'v, S> {
     ghost use Rattle.rehearse_runs.specs.RunViewShown.{shown_word, shown_moment, shown_ending, shown_marks};
-    ghost use Rattle.rehearse_machine.specs.EndingsShown.{ending_shown};
+    ghost use Rattle.rehearse.specs.EndingsShown.{ending_shown};
 
     /// The run in a store.
     pub(crate) fn new(word: &'v [u8], ending: Ending<'v>, store: &'v S) -> Self

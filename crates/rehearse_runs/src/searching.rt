@@ -11,7 +11,8 @@ ghost use Rattle.rehearse.specs.Runs.{IsListed};
 use crate::byte_array::Bytes;
 use crate::failing::{allows, failures, may_fail};
 use bootstore::{Store, StoreError};
-use rehearse_machine::{Halt, Rehearsal, Stop, begin, resume};
+use rehearse::Halt;
+use rehearse_machine::{Rehearsal, Stop, begin, resume};
 
 /// The digits of a word.
 pub(crate) type Digits = Bytes<1000>;

@@ -14,7 +14,8 @@ use crate::byte_array::Bytes;
 use crate::failing::may_fail;
 use crate::searching::mark_if;
 use bootstore::{Store, StoreError};
-use rehearse_machine::{Halt, Rehearsal, Stop, begin, resume};
+use rehearse::Halt;
+use rehearse_machine::{Rehearsal, Stop, begin, resume};
 
 /// Where a walk ends.
 #[derive(Drop)]

@@ -7,7 +7,7 @@ use Rattle.rehearse_terms.specs.State.{Text, LoggedCommand}
 use Rattle.bootstore.specs.StoredState.{state_at}
 use Rattle.rehearse.specs.Execution.{succeeds, status_when}
 use Rattle.rehearse_machine.specs.MovesShown.{request_shown}
-use Rattle.rehearse_machine.specs.declared.halt.Halt.TheVariants as halts
+use Rattle.rehearse.specs.declared.halt.Halt.TheVariants as halts
 use Rattle.rehearse_machine.specs.declared.ask.Step.TheVariants as steps
 use Rattle.rehearse_machine.proofs.OutcomeLemmas.{logged_state, logged_frames, logged_keeps, success_does, failure_does, booted, stayed}
 use Rattle.rehearse_machine.proofs.outcomes.answer.Goals as goal

@@ -1,0 +1,2 @@
+pub mod SameScriptLemmas
+pub mod AnswerLemmas

@@ -1,0 +1,53 @@
+-- What a summary says of the runs to come, and where else it may be used. Ours.
+use Rattle.std.specs.Prelude.{◌≡◌, ℕ, ◌+◌, ◌-◌, ◌≤◌, length, Bool, true, false}
+use Rattle.bootstore.specs.Moment.{Moment}
+use Rattle.rehearse_terms.specs.Outcomes.{OutcomeWord}
+use Rattle.rehearse.specs.Execution.{Limits, Ending, CutDevices, CutSteps}
+use Rattle.rehearse_machine.specs.Came.{Came}
+use Rattle.rehearse_endings.specs.Futures.{came_kind, came_ending, came_steps, came_devices, HaveSameCore}
+use Rattle.rehearse_rows.specs.Endings.{HasRows, of_both}
+use Rattle.rehearse_rows.specs.Summaries.{Summary, summary_at_end, summary_of_sides}
+use Rattle.rehearse_rows.specs.RowsShown.{saturated_summary}
+
+-- the summary of what f comes to, for every word
+pub record Sums (f : OutcomeWord → Came) (s : Summary) : Type 0 where
+  pub has_rows : HasRows (λ w. came_kind (f w)) (λ w. came_ending (f w)) s.rows
+  pub steps : (w : OutcomeWord) → came_steps (f w) ≤ s.steps
+  pub devices : (w : OutcomeWord) → came_devices (f w) ≤ s.devices
+  pub uncut_steps : s.cut_steps ≡ false → (w : OutcomeWord) → came_ending (f w) ≡ CutSteps → ⊥
+  pub uncut_devices : s.cut_devices ≡ false → (w : OutcomeWord) → came_ending (f w) ≡ CutDevices → ⊥
+
+-- if a run was cut, the room is the same; else there is room enough
+abbrev pub FitsIf : (cut : Bool) → (here there reach bound : ℕ) → Type 0
+FitsIf true here there reach bound = there ≡ here
+FitsIf false here there reach bound = there + reach ≤ here + bound
+
+-- the summary of m is valid for a moment with these steps and device commands
+pub record Fits (limits : Limits) (s : Summary) (m t : Moment) : Type 0 where
+  pub core : HaveSameCore m t
+  pub steps : FitsIf s.cut_steps m.steps t.steps s.steps limits.step_bound
+  pub devices : FitsIf s.cut_devices (length m.log) (length t.log) s.devices limits.device_bound
+
+-- a summary, moved to where this many steps and device commands came before
+abbrev pub moved_by : (here there devices_here devices_there : ℕ) → Summary → Summary
+moved_by here there devices_here devices_there s = record {
+  rows = s.rows;
+  steps = there + (s.steps - here);
+  devices = devices_there + (s.devices - devices_here);
+  cut_steps = s.cut_steps;
+  cut_devices = s.cut_devices;
+}
+
+-- the summary of a moment, as it is for another
+abbrev pub moved_on : (m t : Moment) → Summary → Summary
+moved_on m t s = moved_by m.steps t.steps (length m.log) (length t.log) s
+
+abbrev pub of_end : Ending → Moment → Summary
+of_end ending m = summary_at_end ending m.steps (length m.log)
+
+abbrev pub of_sides : Moment → (won lost : Summary) → Summary
+of_sides m won lost = summary_of_sides of_both m.steps (length m.log) won lost
+
+-- the summary of what f comes to, except for counts that are too large
+abbrev pub Summed : (OutcomeWord → Came) → Summary → Type 0
+Summed f shown = (s : Summary) × Sums f s × (shown ≡ saturated_summary s)

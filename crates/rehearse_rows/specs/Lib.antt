@@ -1,0 +1,6 @@
+pub mod Endings
+pub mod Flow
+pub mod Drawing
+pub mod Summaries
+pub mod RowsShown
+pub mod EndingLines
