@@ -1,6 +1,5 @@
 mod StoreExamples
 pub mod TableLemmas
+pub mod PresentLemmas
 pub mod KeptScripts
-pub mod TrailLemmas
-pub mod OneInversePerName
 pub mod StateLemmas

@@ -5,7 +5,4 @@ pub mod Slots
 pub mod Table
 pub mod Scripts
 pub mod Present
-pub mod Plain
-pub mod Inverse
-pub mod Trail
 pub mod StoredState

@@ -2,21 +2,16 @@
 #![tactic(auto)]
 
 mod frame;
-mod inverse;
 pub mod laws;
 mod log;
-mod plain;
 mod present;
 mod scripts;
 mod store;
 mod table;
-mod trail;
 
 pub use frame::{At, Frame, FrameKind};
 pub use log::LogEntry;
-pub use plain::Plain;
 pub use present::{Present, Scope};
-pub use scripts::{TextFound, read_script};
+pub use scripts::{Scripts, TextFound, read_script};
 pub use store::{Store, StoreError};
-pub use table::Variables;
-pub use trail::Trail;
+pub use table::{Place, Table, Variables};

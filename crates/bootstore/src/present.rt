@@ -67,29 +67,6 @@ impl Present {
         Ok(present)
     }
 
-    /// A copy of the state. Its frames share their scripts with these. Errors: memory ran out.
-    pub fn copy(&self, alloc: Global) -> Result<Present, AllocError>
-        ensures { IfOk result (λ present. moment_of present ≡ moment_of self.now) }
-    {
-        let mut log = Vec::new(alloc);
-        for entry in &self.log {
-            log.push(entry.copy()?)?;
-        }
-        let mut frames = Vec::new(alloc);
-        for frame in &self.frames {
-            frames.push(frame.copy()?)?;
-        }
-        Ok(Present {
-            environment: self.environment.copy()?,
-            locals: self.locals.copy()?,
-            status: self.status,
-            text: self.text.clone()?,
-            log,
-            steps: self.steps,
-            frames,
-        })
-    }
-
     /// The variables of a scope.
     pub fn table(&self, scope: Scope) -> &Table
         ensures { result.now ≡ table_of self.now scope }

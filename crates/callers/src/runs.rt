@@ -4,12 +4,12 @@ ghost use Rattle.rehearse_terms.specs.Outcomes.{Run};
 ghost use Rattle.rehearse.specs.Runs.{kind};
 ghost use Rattle.rehearse_machine.specs.Tasks.{task_shown};
 
-use bootstore::Trail;
 use device_list::Devices;
 use envtools::Env;
 use rehearse_runs::{RehearseError, WordKind, try_word};
 use rehearse_terms::Bounds;
 use std::alloc::Global;
+use trails::Trail;
 
 /// Whether the script of a variable ends and no device command is asked: the empty word is then its only run.
 pub fn asks_nothing(

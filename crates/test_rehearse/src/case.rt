@@ -2,10 +2,12 @@
 
 use crate::calls::env_of;
 use crate::{language, lists, rehearsal, store};
-use bootstore::{Plain, Store, Trail};
+use bootstore::Store;
+use plain_store::Plain;
 use rehearse_terms::Bounds;
 use std::alloc::Global;
 use test_rows::{Rows, number, unescaped, words_of};
+use trails::Trail;
 
 /// A case: what is set, by which the next rows are answered.
 #[derive(Drop)]

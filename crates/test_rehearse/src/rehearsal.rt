@@ -3,11 +3,13 @@
 use crate::both::agreed;
 use crate::calls::{self, Given, given_of, list, next_word, resumed_at, work_of};
 use crate::case::Case;
-use bootstore::{Plain, Store, Trail};
+use bootstore::Store;
 use output::Over;
+use plain_store::Plain;
 use rehearse_runs::{Ending, Runs};
 use std::alloc::Global;
 use test_rows::{number, shown, slices, text_of, unescaped};
+use trails::Trail;
 
 /// Which page is asked for: after a word, and up to a limit, which is none where it is 0.
 #[derive(Drop)]

@@ -3,12 +3,12 @@ ghost use Rattle.std.specs.Prelude.{IfOk, IfErr};
 ghost use Rattle.std.specs.Option.{option_copied};
 ghost use Rattle.whole_program.specs.EndingsOfImages.{RefusesEndings, TellsEndings, endings_given};
 
-use bootstore::Trail;
 use envimage::ByteOrder;
 use image_tools::{ToolError, env_of_image};
 use output::Out;
 use rehearse_endings::{EndingsAsk, endings_env};
 use std::alloc::Global;
+use trails::Trail;
 
 /// Writes how all runs of a variable end, of an image or of the current copy of a pair: a line for
 /// each ending, and one for all runs. For the flow, writes a line for each state in which a device

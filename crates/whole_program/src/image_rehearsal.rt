@@ -9,12 +9,12 @@ ghost use Rattle.whole_program.specs.Given.{given};
 ghost use Rattle.whole_program.specs.Headline.{Rehearses};
 ghost use Rattle.whole_program.specs.Refusing.{Refuses};
 
-use bootstore::Trail;
 use envimage::ByteOrder;
 use image_tools::{ToolError, env_of_image};
 use output::Out;
 use rehearse_runs::{Ask, Finish, rehearse_env};
 use std::alloc::Global;
+use trails::Trail;
 
 /// Rehearses a variable of an image, or of the current copy of a pair, and writes the listing of
 /// its runs: a page of all of them in order, or of the runs after a word; or the record of the run

@@ -4,10 +4,11 @@
 use crate::growths::bytes::print_pair;
 use crate::growths::parts::{encodes, expands, expands_one, reaches_files, tries};
 use crate::growths::trouble::{Trouble, told_apart};
-use bootstore::{Plain, Trail};
 use envtools::{Env, EnvError, ScriptError, apply_script};
+use plain_store::Plain;
 use std::alloc::Global;
 use std::io;
+use trails::Trail;
 
 /// A call on an environment.
 #[derive(Clone, Copy, Debug)]

@@ -2,14 +2,16 @@
 //! `refused`, and goes on after the last run that it was given: so without these lines the output is always the same.
 //! Of a longer script it says how many runs there are, and how many steps were begun for them.
 
-use bootstore::{Plain, Store, Trail};
+use bootstore::Store;
 use device_list::Devices;
 use envtools::Env;
 use output::{Out, Over, write_all};
+use plain_store::Plain;
 use rehearse_runs::{RehearseError, Runs, write_listing};
 use rehearse_terms::{Bounds, Page};
 use std::alloc::{AllocError, Global};
 use std::io;
+use trails::Trail;
 
 /// What is rehearsed.
 #[derive(Drop)]

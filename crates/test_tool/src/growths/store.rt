@@ -3,8 +3,10 @@
 
 use crate::growths::change::{Parts, ROW, make};
 use crate::growths::state::print_state;
-use bootstore::{Plain, Store, Trail};
+use bootstore::Store;
+use plain_store::Plain;
 use std::io;
+use trails::Trail;
 
 /// Makes the row of changes on a store.
 fn run_row<S: Store>(rt: &impl Print, parts: &Parts, mut store: S) -> io::Result<()> {

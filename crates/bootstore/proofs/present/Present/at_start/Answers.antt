@@ -3,7 +3,7 @@ use Rattle.std.specs.List.{slice_get}
 use Rattle.bootstore.specs.Moment.{Moment}
 use Rattle.bootstore.specs.Table.{variables_of}
 use Rattle.bootstore.proofs.TableLemmas.{set_next}
-use Rattle.bootstore.proofs.OneInversePerName.{nothing_with}
+use Rattle.bootstore.proofs.PresentLemmas.{nothing_with}
 use Rattle.bootstore.proofs.present.Present.at_start.Goals as goal
 
 pub loop-place-preserved : goal.loop-place-preserved

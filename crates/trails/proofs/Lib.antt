@@ -1,0 +1,2 @@
+pub mod TrailLemmas
+pub mod OneInversePerName
