@@ -1,13 +1,19 @@
 -- Checking the texts of what was read.
-use Rattle.std.proofs.Common.{◌≡◌, ℕ, refl, sym, subst, List, Option, Some, None, Ok, Err, inl, inr, Bool}
+use Rattle.std.proofs.Common.{◌≡◌, ◌∙◌, ℕ, refl, ap, sym, subst, List, Option, Some, None, Result, Ok, Err, inl, inr, Bool}
 use Rattle.std.specs.Prelude.{Vec, option_map}
 use Rattle.std.specs.declared.alloc.Global.{Global}
+use Rattle.envimage.specs.Data.{Pair}
+use Rattle.envimage.specs.declared.image.ByteOrder.{ByteOrder}
+use Rattle.envimage.specs.declared.image.ImageError.{ImageError}
 use Rattle.output.specs.Sink.{Sink}
 use Rattle.hushcheck.specs.Asked.{Asked}
-use Rattle.hushcheck.specs.Checking.{AreFound, ChecksFrom, ChecksText, FromFiles, Given, IsUnread, LeavesOutput, ReadsList, given_by, TellsAll, IsBadList, BreaksOff}
+use Rattle.hushcheck.specs.Checking.{AreFound, ChecksFrom, ChecksText, FromFiles, Given, IsUnread, LeavesOutput, ReadsList, given, given_by, TellsAll, IsBadList, BreaksOff}
 use Rattle.hushcheck_core.specs.Names.{Text}
+use Rattle.device_list.specs.DeviceList.{Devices}
+use Rattle.device_list.specs.declared.devices_error.DevicesError.{DevicesError}
 use Rattle.rehearse.specs.declared.rehearse_error.RehearseError.TheVariants as rehearsal
 use Rattle.image_tools.specs.Errors.{tool_fault}
+use Rattle.image_tools.specs.PrintingImages.{Finds, environment_in}
 use Rattle.image_tools.specs.declared.error.ToolError.{ToolError}
 use Rattle.image_tools.specs.declared.error.ToolError.TheVariants as tool
 use Rattle.image_tools.specs.declared.fault.Fault.{Fault}
@@ -16,10 +22,13 @@ use Rattle.locked_files.proofs.OrderLemmas.{OnlyReads-one, OnlyReads-then}
 use Rattle.locked_files.specs.CallOrder.{OnlyReads}
 use Rattle.locked_files.specs.Told.{Stored, Told, file_at}
 use Rattle.locked_files.specs.declared.files.Action.TheVariants.{ReadAll}
+use Rattle.file_tools.proofs.PrintLemmas.{image-bytes}
 use Rattle.file_tools.proofs.ReadingLemmas.{found-reads}
 use Rattle.file_tools.proofs.SourceLemmas.{are-read}
-use Rattle.file_tools.specs.Images.{Copy, HasRead, ReadsImages}
-use Rattle.file_tools.specs.PrintingFiles.{FromImages}
+use Rattle.file_tools.specs.Images.{Copy, HasRead, ReadsImages, copies}
+use Rattle.file_tools.specs.PrintingFiles.{FromImages, environment, first_bytes, second_bytes}
+use Rattle.file_tools.specs.declared.images.Images.{Images}
+use Rattle.file_tools.specs.declared.read.StoredCopy.{StoredCopy}
 use Rattle.file_tools.specs.ReadingFiles.{IsTextFault}
 
 -- the bytes of a text, if there is one
@@ -126,3 +135,32 @@ leaves-refused g out out' (tool.Rehearsal rehearsal.Memory) h = absurd h
 leaves-refused g out out' (tool.Rehearsal rehearsal.Failed) h = absurd h
 leaves-refused g out out' tool.Write h = tt
 leaves-refused g out out' tool.Memory h = h
+
+-- ---- one environment
+
+-- what is said of the environment that was found, by the names as they are given
+pub texts-in : (answer : Result (List Pair) ImageError) (env : List Pair) (devices : Result (Option Devices) DevicesError) (names names' : List Text) (all : Bool) (old new : Sink) (told : Result Bool ToolError) → answer ≡ Ok env
+    → names ≡ names' → ChecksText (given (Ok env) devices names all) old new told → ChecksText (given answer devices names' all) old new told
+texts-in answer env devices names names' all old new told found same h =
+    subst (λ (e : Result (List Pair) ImageError). ChecksText (given e devices names' all) old new told) (sym found)
+    (subst (λ (ns : List Text). ChecksText (given (Ok env) devices ns all) old new told) same h)
+
+-- the refusal of the image
+pub no-texts : (answer : Result (List Pair) ImageError) (devices : Result (Option Devices) DevicesError) (names : List Text) (all : Bool) (old : Sink) (error : ToolError) → Finds answer (Err error)
+    → ChecksText (given answer devices names all) old old (Err error)
+no-texts answer devices names all old (tool.Image error) h = (h, refl)
+no-texts answer devices names all old (tool.Env error) h = absurd h
+no-texts answer devices names all old (tool.Script error) h = absurd h
+no-texts answer devices names all old (tool.Rehearsal error) h = absurd h
+no-texts answer devices names all old tool.Write h = absurd h
+no-texts answer devices names all old tool.Memory h = refl
+
+-- the environment of the images, by the bytes of their copies
+pub found-in : (order : ByteOrder) (images : Images) (first : List ℕ) (second : Option (List ℕ)) → first ≡ images.first.bytes.items → second ≡ option_map (λ copy. copy.bytes.items) images.second
+    → environment order (copies images) ≡ environment_in order first second
+found-in order images first second f s =
+    ap (λ x. environment_in order x (second_bytes (copies images))) (by images.first images.second ∙ sym f) ∙ ap (λ y. environment_in order first y) (image-bytes images ∙ sym s)
+  where
+    by : (x : StoredCopy) (y : Option StoredCopy) → first_bytes (copies (record { first = x; second = y })) ≡ x.bytes.items
+    by x None = refl
+    by x (Some y) = refl

@@ -32,7 +32,27 @@ fn list_of(alloc: Global, text: Option<&[u8]>) -> Result<Option<Devices>, ToolEr
     }
 }
 
-/// What is reported of the texts of an environment.
+/// What is reported of the texts of an environment, with this device list if there is one.
+fn report_with(
+    alloc: Global,
+    devices: Option<&Devices>,
+    env: &Env,
+    names: &[&[u8]],
+    all: bool,
+) -> Result<Report, ToolError>
+    ensures { IsReport (given (Ok env.now) (Ok (option_map (λ d. d.now) devices.entry))
+        (map (λ n. n.now) names.now) all) result }
+{
+    let Ok(names) = asked_names(alloc, env, names, all) else {
+        return Err(ToolError::Memory);
+    };
+    match check(alloc, devices, env, &names) {
+        Ok(report) => Ok(report),
+        Err(_) => Err(ToolError::Memory),
+    }
+}
+
+/// What is reported of the texts of an environment, with the device list of a text if there is one.
 fn report_of(
     alloc: Global,
     env: &Env,
@@ -44,13 +64,7 @@ fn report_of(
         (map (λ n. n.now) names.now) all) result }
 {
     let devices = list_of(alloc, list)?;
-    let Ok(names) = asked_names(alloc, env, names, all) else {
-        return Err(ToolError::Memory);
-    };
-    match check(alloc, devices.as_ref(), env, &names) {
-        Ok(report) => Ok(report),
-        Err(_) => Err(ToolError::Memory),
-    }
+    report_with(alloc, devices.as_ref(), env, names, all)
 }
 
 /// Checks the texts of an environment, and writes what is reported of them. Returns false if a text

@@ -1,5 +1,6 @@
 use Rattle.std.proofs.Common.{◌∙◌, ap, subst, map, sym}
-use Rattle.clap.specs.Words.{App, is_simple, is_simple_and_free, matches_of}
+use Rattle.clap.specs.Words.{App, IsAmong, fault_of, is_simple, is_simple_and_free, matches_of}
+use Rattle.clap.specs.declared.error.kind.ErrorKind.TheVariants.{DisplayHelp, DisplayVersion}
 use Rattle.hushcheck.specs.Asked.{asked_of}
 use Rattle.requests.specs.Answered.{IsAccepted, Refuses}
 use Rattle.hushcheck.proofs.AnswerLemmas.{hushcheck_free, hushcheck_simple}
@@ -19,3 +20,13 @@ returns-in_ok-ask_of-in-Ok-Asks g c =
 pub returns-in-Err : goal.returns-in-Err
 returns-in-Err g c =
     subst (λ (a : App). Refuses a (map g.S.AsStr.text c.args.words.now) c.in-Err.error) c.in_ok-hushcheck.ensures.app_is c.in-Err.ensures
+
+pub returns-in-Ok-Help : goal.returns-in-Ok-Help
+returns-in-Ok-Help g c =
+    subst (λ (a : App). IsAmong DisplayHelp (fault_of a (map g.S.AsStr.text c.args.words.now))) c.in_ok-hushcheck.ensures.app_is
+    (rw c.in-Ok-Help.field-0-is at c.in-Ok-Help.ensures)
+
+pub returns-in-Ok-Version : goal.returns-in-Ok-Version
+returns-in-Ok-Version g c =
+    subst (λ (a : App). IsAmong DisplayVersion (fault_of a (map g.S.AsStr.text c.args.words.now))) c.in_ok-hushcheck.ensures.app_is
+    (rw c.in-Ok-Version.field-0-is at c.in-Ok-Version.ensures)
