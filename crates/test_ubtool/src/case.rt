@@ -2,7 +2,7 @@
 
 use crate::readers::Source;
 use crate::writers::Mode;
-use crate::{checking, commands, environments, faults, files, images, outputs, performing};
+use crate::{commands, environments, faults, files, images, outputs, performing};
 use envimage::ByteOrder;
 use envtools::Env;
 use locked_files::MemoryFiles;
@@ -163,11 +163,10 @@ enum Subject {
     Output,
     Command,
     Fault,
-    Check,
 }
 
 /// The first words of rows. All others set something.
-const SUBJECTS: [(&str, Subject); 46] = [
+const SUBJECTS: [(&str, Subject); 44] = [
     ("crc", Subject::Image),
     ("data", Subject::Image),
     ("config", Subject::Image),
@@ -212,8 +211,6 @@ const SUBJECTS: [(&str, Subject); 46] = [
     ("faults", Subject::Fault),
     ("fault", Subject::Fault),
     ("fault-in", Subject::Fault),
-    ("place", Subject::Check),
-    ("check", Subject::Check),
 ];
 
 /// What a row speaks of that begins with a word.
@@ -243,7 +240,6 @@ impl Rows for Case<'_> {
             Subject::Output => outputs::told(self, word, says),
             Subject::Command => commands::told(self, word, says),
             Subject::Fault => faults::told(self, word, says),
-            Subject::Check => checking::told(self, word, says),
         }
     }
 }

@@ -34,12 +34,11 @@
 //!
 //! - `words WORD..`, `called WORD..`, `lock WORD..` and `command WORD..`, what a command line says; `clap WORD..`, whether
 //!   `clap` refuses it; `help WORD..` and `has TEXT`, whether the help has a text;
-//! - `faults`, `fault KIND WORD` and `fault-in ROOM`, the lines of faults; `place AT TEXT` and `check DATA`, `hushcheck`.
+//! - `faults`, `fault KIND WORD` and `fault-in ROOM`, the lines of faults.
 #![tactic(auto)]
 
 mod calls;
 mod case;
-mod checking;
 mod commands;
 mod environments;
 mod faults;
