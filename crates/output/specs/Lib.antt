@@ -1,3 +1,5 @@
 pub mod Outputs
 pub mod Over
 pub mod Sink
+pub mod ByteArrayShown
+pub mod Paging

@@ -1,6 +1,3 @@
-pub mod PageLemmas
-pub mod EscapeLemmas
-pub mod RecordParts
 pub mod RunsLemmas
 pub mod ListingLemmas
 pub mod FailingLemmas

@@ -14,10 +14,10 @@ use Rattle.rehearse.specs.Runs.{Task, run_on, state_of, ending_of}
 use Rattle.rehearse.specs.Listing.{outcome_digit, record_text, record_of, words_listed, closing, listing, last_of, line, spelled, page_words, page_closing, page_text}
 use Rattle.rehearse_terms.specs.Asking.{HasRoom}
 use Rattle.rehearse_terms.specs.declared.wanted.Page.{Page}
-use Rattle.rehearse_runs.specs.Recording.{recorded, printed}
+use Rattle.rehearse_records.specs.Recording.{recorded, printed}
 use Rattle.rehearse_runs.specs.RunsShown.{RunsShown, last_given, last_answer, has_words}
 use Rattle.rehearse_runs.proofs.WorkLemmas.{last_some, last_more}
-use Rattle.rehearse_runs.specs.RunViewShown.{shown_word, shown_moment, shown_ending}
+use Rattle.rehearse_records.specs.RunViewShown.{shown_word, shown_moment, shown_ending}
 use Rattle.std.proofs.Math.Dec.{eqb-suc-zero}
 use Rattle.std.proofs.lemmas.Bool.{lt-leb, le-leb}
 use Rattle.rehearse_runs.specs.Giving.{ShowsRun, GivesWord, GivesNone, GivesUp, Gives}
@@ -27,7 +27,7 @@ use Rattle.rehearse.specs.declared.rehearse_error.RehearseError.TheVariants.{Dev
 use Rattle.rehearse_runs.specs.declared.listing.Finish.{Finish}
 use Rattle.rehearse_runs.specs.declared.listing.Finish.TheVariants.{Done, More}
 use Rattle.rehearse_runs.specs.ListingRuns.{Breaks, Lists, left_out, finish_at, finish_of, IsLeft, Takes, Recorded, WroteRecords, FailsInListing, BreaksInListing, reached, lowered}
-use Rattle.rehearse_runs.specs.declared.run_view.RunView.{RunView}
+use Rattle.rehearse_records.specs.declared.run_view.RunView.{RunView}
 
 recorded_spelled : (w : OutcomeWord) (s : State) (e : Ending) (names : List Text) → recorded (map outcome_digit w) (record s { word = [] }) e names ≡ record_text w s e names
 recorded_spelled [] s e names = refl

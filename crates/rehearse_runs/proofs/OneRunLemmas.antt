@@ -13,13 +13,13 @@ use Rattle.rehearse.specs.Runs.{Task}
 use Rattle.rehearse.specs.EndingsShown.{halt_shown}
 use Rattle.rehearse.specs.declared.halt.Halt.{Halt}
 use Rattle.rehearse_runs.specs.Behind.{IsNoRun}
-use Rattle.rehearse_runs.specs.Recording.{recorded}
+use Rattle.rehearse_records.specs.Recording.{recorded}
 use Rattle.rehearse_runs.specs.RunAlone.{BreaksInside, IsRunOf, WritesAlone, alone_text}
 use Rattle.rehearse_runs.specs.RunsShown.{outcomes}
 use Rattle.rehearse_runs.specs.StartWord.{digits_in}
-use Rattle.rehearse_runs.specs.RunViewShown.{shown_word, shown_moment, shown_ending}
+use Rattle.rehearse_records.specs.RunViewShown.{shown_word, shown_moment, shown_ending}
 use Rattle.rehearse_runs.specs.Walking.{IsLongBehind, WalksTo}
-use Rattle.rehearse_runs.specs.declared.run_view.RunView.{RunView}
+use Rattle.rehearse_records.specs.declared.run_view.RunView.{RunView}
 use Rattle.rehearse_runs.specs.declared.walking.Walked.TheVariants as walked
 use Rattle.rehearse_runs.proofs.HeadlineLemmas.{digits-spelled}
 use Rattle.rehearse_runs.proofs.ListingLemmas.{record_is}

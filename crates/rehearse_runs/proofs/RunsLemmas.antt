@@ -14,12 +14,12 @@ use Rattle.rehearse_runs.specs.Searching.{AreMarks}
 use Rattle.rehearse_runs.proofs.WorkLemmas.{few_marks, marks_within}
 use Rattle.rehearse.specs.EndingsShown.{halt_shown}
 use Rattle.rehearse_runs.specs.Phases.{StandsAt, IsRunIf, AreDigits, shows_run}
-use Rattle.rehearse_runs.specs.RunViewShown.{shown_word, shown_moment, shown_ending, shown_marks}
+use Rattle.rehearse_records.specs.RunViewShown.{shown_word, shown_moment, shown_ending, shown_marks}
 use Rattle.rehearse_runs.specs.Giving.{ShowsRun}
 use Rattle.rehearse.specs.declared.halt.Halt.{Halt}
 use Rattle.rehearse_runs.specs.declared.runs.Phase.{Phase}
 use Rattle.rehearse_runs.specs.declared.runs.Phase.TheVariants.{At}
-use Rattle.rehearse_runs.specs.declared.run_view.RunView.{RunView}
+use Rattle.rehearse_records.specs.declared.run_view.RunView.{RunView}
 use Rattle.rehearse.proofs.TaskChoices.{another_follows, runs_are_there}
 
 -- the run in a store is the one that is shown

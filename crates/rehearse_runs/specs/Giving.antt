@@ -10,8 +10,8 @@ use Rattle.bootstore.specs.StoredState.{state_at}
 use Rattle.rehearse.specs.Runs.{Task, run_on, state_of, ending_of, steps}
 use Rattle.rehearse.specs.Listing.{outcome_digit}
 use Rattle.rehearse_runs.specs.RunsShown.{RunsShown, last_given, steps_shared, successes}
-use Rattle.rehearse_runs.specs.RunViewShown.{shown_word, shown_moment, shown_ending, shown_marks}
-use Rattle.rehearse_runs.specs.declared.run_view.RunView.{RunView}
+use Rattle.rehearse_records.specs.RunViewShown.{shown_word, shown_moment, shown_ending, shown_marks}
+use Rattle.rehearse_records.specs.declared.run_view.RunView.{RunView}
 use Rattle.rehearse.specs.declared.rehearse_error.RehearseError.{RehearseError}
 use Rattle.rehearse.specs.declared.rehearse_error.RehearseError.TheVariants.{Memory, Failed}
 use Rattle.rehearse_runs.specs.contracts.runs.Runs.{the_row}

@@ -1,9 +1,4 @@
-pub mod ByteArrayShown
-pub mod Paging
-pub mod LinePieces
 pub mod PointShown
-pub mod RunViewShown
-pub mod Recording
 pub mod RunsShown
 pub mod Phases
 pub mod Giving

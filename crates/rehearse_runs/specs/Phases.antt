@@ -7,7 +7,7 @@ use Rattle.rehearse_terms.specs.State.{Text}
 use Rattle.bootstore.specs.StoredState.{state_at}
 use Rattle.rehearse.specs.Runs.{Task, run_on, state_of, ending_of, runs, IsListed, rest}
 use Rattle.rehearse.specs.Listing.{outcome_digit}
-use Rattle.rehearse_runs.specs.ByteArrayShown.{Held}
+use Rattle.output.specs.ByteArrayShown.{Held}
 use Rattle.rehearse_runs.specs.RunsShown.{RunsShown, outcomes, to_come_after, given_if, words_made, in_front_of, work_of, last_answer}
 use Rattle.rehearse.specs.EndingsShown.{halt_shown}
 use Rattle.rehearse_runs.specs.Searching.{AreMarks}

@@ -4,19 +4,17 @@ ghost use Rattle.output.specs.Sink.{Prints};
 ghost use Rattle.rehearse.specs.Listing.{line};
 ghost use Rattle.bootstore.specs.StoredState.{state_at};
 ghost use Rattle.rehearse_machine.specs.Tasks.{task_in};
-ghost use Rattle.rehearse_runs.specs.Recording.{recorded};
-ghost use Rattle.rehearse_runs.specs.RunViewShown.{shown_word, shown_moment, shown_ending};
+ghost use Rattle.rehearse_records.specs.Recording.{recorded};
+ghost use Rattle.rehearse_records.specs.RunViewShown.{shown_word, shown_moment, shown_ending};
 ghost use Rattle.rehearse_runs.specs.RunAlone.{BreaksAlone, WritesAlone};
 
 use crate::ask::digits_of;
-use crate::byte_array::Bytes;
-use crate::record::write_record;
-use crate::run_view::RunView;
 use crate::walking::{Walked, walk_to};
 use bootstore::Store;
-use output::{Out, OutFault, write_all};
+use output::{Bytes, Out, OutFault, write_all};
 use rehearse::RehearseError;
 use rehearse_machine::Rehearsal;
+use rehearse_records::{RunView, write_record};
 
 /// Writes the record of a run, and `done`.
 fn write_one<S: Store, O: Out>(

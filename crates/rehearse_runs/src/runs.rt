@@ -9,16 +9,16 @@ ghost use Rattle.rehearse_machine.specs.Tasks.{task_in, task_set, task_shown};
 ghost use Rattle.rehearse_runs.specs.RunsShown.{has_words, last_given, outcomes, words_made, work_of};
 ghost use Rattle.std.specs.Borrow.{sem};
 
-use crate::byte_array::Bytes;
 use crate::failing::{allows, is_within};
-use crate::run_view::RunView;
 use crate::searching::{Digits, first_run, next_run};
 use crate::walking::{Walked, walk_to};
 use bootstore::Store;
 use device_list::Devices;
 use envtools::Env;
+use output::Bytes;
 use rehearse::{Halt, RehearseError};
 use rehearse_machine::Rehearsal;
+use rehearse_records::RunView;
 use rehearse_terms::Bounds;
 use std::alloc::Global;
 use std::marker::Model;

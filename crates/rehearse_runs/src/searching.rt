@@ -8,9 +8,9 @@ ghost use Rattle.rehearse_machine.specs.Tasks.{task_in};
 ghost use Rattle.rehearse_terms.specs.Bounds.{most_run_devices, most_steps};
 ghost use Rattle.rehearse.specs.Runs.{IsListed};
 
-use crate::byte_array::Bytes;
 use crate::failing::{allows, failures, may_fail};
 use bootstore::{Store, StoreError};
+use output::Bytes;
 use rehearse::Halt;
 use rehearse_machine::{Rehearsal, Stop, begin, resume};
 

@@ -10,10 +10,10 @@ ghost use Rattle.rehearse_machine.specs.Tasks.{task_in};
 ghost use Rattle.rehearse_runs.specs.Walking.{BeginsWithDigit, Walks, WalksTo};
 ghost use Rattle.rehearse_machine.specs.declared.rehearsal.Stop.TheVariants.{Asks};
 
-use crate::byte_array::Bytes;
 use crate::failing::may_fail;
 use crate::searching::mark_if;
 use bootstore::{Store, StoreError};
+use output::Bytes;
 use rehearse::Halt;
 use rehearse_machine::{Rehearsal, Stop, begin, resume};
 

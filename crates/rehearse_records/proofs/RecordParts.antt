@@ -1,0 +1,54 @@
+-- The parts of a record.
+use Rattle.std.proofs.Common.{◌≡◌, ℕ, Bool, List, [], ◌∷◌, ◌++◌, length, map, refl, sym, ap, ◌∙◌, append_assoc, append-nil, arith}
+use Rattle.std.specs.Prelude.{codes}
+use Rattle.std.specs.List.{flat_map, join_with_byte}
+use Rattle.std.proofs.lemmas.List.Concat.{flat_map-append}
+use Rattle.std.specs.declared.alloc.Global.{Global}
+use Rattle.std.specs.declared.vec.Vec.{Vec}
+use Rattle.text.specs.TextsShown.{bytes_of_words}
+use Rattle.rehearse_terms.specs.State.{Text, Variables, State, LoggedCommand}
+use Rattle.rehearse.specs.Execution.{Ending}
+use Rattle.text.specs.Escapes.{word_form}
+use Rattle.rehearse.specs.Listing.{line, digit_when, device_line, text_lines, variable_line, variable_lines, asked_line, last_line}
+use Rattle.rehearse_records.specs.Recording.{printed, entry_line, set_line, named_line, recorded}
+
+module _ {X : Type 0} (g : X → Text) where
+  lines_of-map : (xs : List X) → flat_map line (map g xs) ≡ flat_map (λ x. line (g x)) xs
+  lines_of-map [] = refl
+  lines_of-map (x ∷ xs) = ap (λ t. line (g x) ++ t) (lines_of-map xs)
+
+pub all_variables : {X : Type 0} (now : X → Text) (environment : Variables) (names : List X) → length names ≡ 0 → flat_map set_line environment ≡ flat_map line (variable_lines environment (map now names))
+all_variables now environment [] e = sym (lines_of-map variable_line environment)
+all_variables now environment (x ∷ xs) e = absurd (omega (arith, e))
+
+pub named_variables : {X : Type 0} (now : X → Text) (environment : Variables) (names : List X) → (length names ≡ 0 → ⊥) → flat_map (λ n. named_line environment (now n)) names ≡ flat_map line (variable_lines environment (map now names))
+named_variables now environment [] e = absurd (e refl)
+named_variables now environment (x ∷ xs) e = ap (λ t. named_line environment (now x) ++ t) (lines_of-map2 now environment xs)
+  where
+    lines_of-map2 : {X : Type 0} (now : X → Text) (environment : Variables) (names : List X) → flat_map (λ n. named_line environment (now n)) names ≡ flat_map line (map (asked_line environment) (map now names))
+    lines_of-map2 now environment [] = refl
+    lines_of-map2 now environment (x ∷ xs) = ap (λ t. named_line environment (now x) ++ t) (lines_of-map2 now environment xs)
+
+pub record_parts : (digits : Text) (s : State) (ending : Ending) (names : List Text)
+    → line (codes "run " ++ printed digits) ++ (flat_map entry_line s.log ++ (flat_map line (text_lines s.memory.text) ++ (flat_map line (variable_lines s.memory.environment names) ++ line (last_line ending)))) ≡ recorded digits s ending names
+record_parts digits s ending names =
+    let a = map device_line s.log in
+    let b = text_lines s.memory.text in
+    let v = variable_lines s.memory.environment names in
+    let f = line (codes "run " ++ printed digits) in
+    let z : List Text = last_line ending ∷ [] in
+    ap (λ t. f ++ t) (
+    ap (λ t. flat_map entry_line s.log ++ (flat_map line b ++ (flat_map line v ++ t))) (sym (append-nil (line (last_line ending))))
+    ∙ ap (λ t. t ++ (flat_map line b ++ (flat_map line v ++ flat_map line z))) (sym (lines_of-map device_line s.log))
+    ∙ ap (λ t. flat_map line a ++ (flat_map line b ++ t)) (sym (flat_map-append line v z))
+    ∙ ap (λ t. flat_map line a ++ t) (sym (flat_map-append line b (v ++ z)))
+    ∙ sym (flat_map-append line a (b ++ (v ++ z)))
+    ∙ ap (flat_map line) (ap (λ t. a ++ t) (sym (append_assoc b v z)) ∙ sym (append_assoc a (b ++ v) z) ∙ ap (λ t. t ++ z) (sym (append_assoc a b v)))
+    )
+
+-- the line of a device command
+pub entry_parts : (d : ℕ) (success : Bool) (words : List (Vec ℕ Global)) (stays again : Bool) (e : LoggedCommand) → d ≡ digit_when success → record { success = success; words = bytes_of_words words; stays = stays; again = again } ≡ e
+    → (100 ∷ 101 ∷ 118 ∷ 32 ∷ d ∷ 32 ∷ []) ++ (join_with_byte 32 (map word_form (bytes_of_words words)) ++ (10 ∷ [])) ≡ entry_line e
+entry_parts d success words stays again e o h =
+    let j = join_with_byte 32 (map word_form (bytes_of_words words)) in
+    ap (λ n. (100 ∷ 101 ∷ 118 ∷ 32 ∷ n ∷ 32 ∷ []) ++ (j ++ (10 ∷ []))) o ∙ ap entry_line h

@@ -1,0 +1,10 @@
+use Rattle.rehearse_records.proofs.record.put_last.Goals as goal
+
+pub returns-in-CutDevices : goal.returns-in-CutDevices
+returns-in-CutDevices g c = rw c.in-CutDevices.is c.put.ensures
+
+pub returns-in-Unknown : goal.returns-in-Unknown
+returns-in-Unknown g c = rw c.in-Unknown.is c.put_word_line.ensures
+
+pub returns-in-Syntax : goal.returns-in-Syntax
+returns-in-Syntax g c = rw c.in-Syntax.is c.put_word_line-in-Syntax.ensures

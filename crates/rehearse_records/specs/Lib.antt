@@ -1,0 +1,3 @@
+pub mod LinePieces
+pub mod RunViewShown
+pub mod Recording

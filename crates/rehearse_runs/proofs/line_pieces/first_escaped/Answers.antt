@@ -1,7 +1,0 @@
-use Rattle.std.proofs.Common.{sym}
-use Rattle.rehearse_runs.proofs.EscapeLemmas.{line_end}
-use Rattle.rehearse_runs.proofs.line_pieces.first_escaped.Goals as goal
-
-pub returns-then-not-has_escaped-clause-first : goal.returns-then-not-has_escaped-clause-first
-returns-then-not-has_escaped-clause-first c =
-    sym (line_end c.args.form c.args.bytes.now c.in-Some.at (sym c.in-Some.ensures) (sym c.if-not-has_escaped.ensures))

@@ -1,5 +1,0 @@
-use Rattle.rehearse_runs.proofs.EscapeLemmas.{plain_text}
-use Rattle.rehearse_runs.proofs.line_pieces.is_plain_text.Goals as goal
-
-pub returns : goal.returns
-returns c = plain_text c.has_escaped.result c.args.bytes.now c.has_escaped.ensures
