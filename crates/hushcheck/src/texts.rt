@@ -8,7 +8,7 @@ ghost use Rattle.file_tools.specs.Faults.{CountsTold};
 ghost use Rattle.file_tools.specs.Images.{copies};
 
 use crate::ask::CheckAsk;
-use device_list::{Devices, DevicesError};
+use device_list::Devices;
 use envimage::ByteOrder;
 use envtools::Env;
 use file_tools::{Images, read_images, read_text, slices_of};
@@ -16,6 +16,7 @@ use hushcheck_core::{Report, asked_names, check};
 use image_tools::{Fault, RehearseError, ToolError, env_of_image};
 use locked_files::Files;
 use output::{Out, write_all};
+use rehearse::read_devices;
 use std::alloc::Global;
 
 /// The device list of a text, if there is one.
@@ -25,10 +26,10 @@ fn list_of(alloc: Global, text: Option<&[u8]>) -> Result<Option<Devices>, ToolEr
     let Some(text) = text else {
         return Ok(None);
     };
-    match Devices::parse(alloc, text) {
+    match read_devices(alloc, text) {
         Ok(devices) => Ok(Some(devices)),
-        Err(DevicesError::Memory) => Err(ToolError::Memory),
-        Err(fault) => Err(ToolError::Rehearsal(RehearseError::DeviceList(fault))),
+        Err(RehearseError::Memory) => Err(ToolError::Memory),
+        Err(error) => Err(ToolError::Rehearsal(error)),
     }
 }
 

@@ -11,3 +11,4 @@ pub mod CallExecution
 pub mod Parameters
 pub mod RunsToCome
 pub mod EndingsShown
+pub mod ReadDevices

@@ -4,7 +4,9 @@
 pub mod device_laws;
 mod halt;
 pub mod laws;
+mod reading;
 mod rehearse_error;
 
 pub use halt::{Ending, Halt};
+pub use reading::read_devices;
 pub use rehearse_error::RehearseError;

@@ -1,5 +1,7 @@
 //! How the runs of an environment's variable end, from the text of its device list to the lines.
-ghost use Rattle.std.specs.Prelude.{◌≡◌, ◌+◌, IfOk, IfErr, Some};
+ghost use Rattle.std.specs.Prelude.{◌≡◌, ◌+◌, IfOk, IfErr, Ok, Some};
+ghost use Rattle.rehearse_terms.specs.State.{Text};
+ghost use Rattle.device_list.specs.DeviceList.{listed};
 ghost use Rattle.rehearse_machine.specs.Tasks.{task_in, task_set};
 ghost use Rattle.rehearse_endings.specs.declared.sum_error.SumError.TheVariants.{States};
 ghost use Rattle.rehearse_endings.specs.States.{HasStates};
@@ -8,10 +10,10 @@ ghost use Rattle.rehearse_endings.specs.TellingEndings.{AreLines, IsUntold, Tell
 use crate::searching::sum_endings;
 use crate::sum_error::SumError;
 use bootstore::Store;
-use device_list::{Devices, DevicesError};
+use device_list::Devices;
 use envtools::Env;
 use output::{Out, write_all};
-use rehearse::RehearseError;
+use rehearse::{RehearseError, read_devices};
 use rehearse_machine::Rehearsal;
 use rehearse_rows::{flow_text_of, text_of};
 use rehearse_terms::RunBounds;
@@ -75,6 +77,29 @@ fn lines_in<S: Store>(
     }
 }
 
+/// Writes how all runs of a variable end, with a device list that was read. Errors:
+/// `NoSuchVariable`, `States`, `Memory`, `Write`.
+fn endings_with<S: Store, O: Out>(
+    alloc: Global,
+    env: &Env,
+    devices: &Devices,
+    ask: &EndingsAsk<'_>,
+    out: &mut O,
+) -> Result<(), RehearseError>
+    ensures ok { (devices_text : Text) → listed devices_text ≡ Ok devices.now
+        → IfOk result (λ _. TellsEndings env.now devices_text ask.now (O.sink out.old)
+        (O.sink out.new)) }
+    ensures err { (devices_text : Text) → listed devices_text ≡ Ok devices.now
+        → IfErr result (λ e. RefusesEndings env.now devices_text ask.now (O.sink out.old)
+        (O.sink out.new) e) }
+{
+    let text = lines_in::<S>(alloc, env, devices, ask)?;
+    match write_all(out, &text) {
+        Ok(()) => Ok(()),
+        Err(_) => Err(RehearseError::Write),
+    }
+}
+
 /// Writes how all runs of a variable end: a line for each ending, and one for all runs. Or it
 /// writes their flow: a line for each state in which a device command asks, and for each way to
 /// end. Refusals in order: the device list, the variable, `States` and `Memory`, with nothing
@@ -91,14 +116,6 @@ pub fn endings_env<S: Store, O: Out>(
     ensures err { IfErr result
         (λ e. RefusesEndings env.now devices_text.now ask.now (O.sink out.old) (O.sink out.new) e) }
 {
-    let devices = match Devices::parse(alloc, devices_text) {
-        Ok(devices) => devices,
-        Err(DevicesError::Memory) => return Err(RehearseError::Memory),
-        Err(fault) => return Err(RehearseError::DeviceList(fault)),
-    };
-    let text = lines_in::<S>(alloc, env, &devices, ask)?;
-    match write_all(out, &text) {
-        Ok(()) => Ok(()),
-        Err(_) => Err(RehearseError::Write),
-    }
+    let devices = read_devices(alloc, devices_text)?;
+    endings_with::<S, O>(alloc, env, &devices, ask, out)
 }

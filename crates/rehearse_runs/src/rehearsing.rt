@@ -1,5 +1,7 @@
 //! The rehearsal of an environment, from the text of its device list to the listing.
-ghost use Rattle.std.specs.Prelude.{◌≡◌, IfOk, IfErr, map};
+ghost use Rattle.std.specs.Prelude.{◌≡◌, IfOk, IfErr, Ok, map};
+ghost use Rattle.rehearse_terms.specs.State.{Text};
+ghost use Rattle.device_list.specs.DeviceList.{listed};
 ghost use Rattle.text.specs.TextsShown.{option_bytes};
 ghost use Rattle.rehearse_terms.specs.Asking.{Alone, Listed, page_of};
 ghost use Rattle.rehearse_terms.specs.Asking.{HasRoom};
@@ -12,10 +14,10 @@ use crate::listing::{Finish, write_listing};
 use crate::one_run::write_run;
 use crate::runs::Runs;
 use bootstore::Store;
-use device_list::{Devices, DevicesError};
+use device_list::Devices;
 use envtools::Env;
 use output::Out;
-use rehearse::RehearseError;
+use rehearse::{RehearseError, read_devices};
 use rehearse_machine::Rehearsal;
 use rehearse_terms::{Bounds, Page, RunBounds, Wanted};
 use std::alloc::Global;
@@ -95,6 +97,38 @@ fn list_one<S: Store, O: Out>(
     }
 }
 
+/// Writes what is asked for, with a device list that was read. Errors: `NoSuchVariable`, `NotARun`, `Memory`, `Write`.
+fn rehearse_with<'x, S: Store, O: Out>(
+    alloc: Global,
+    env: &'x Env,
+    devices: &Devices,
+    ask: &Ask<'x>,
+    out: &mut O,
+) -> Result<Finish, RehearseError>
+    requires { HasRoom (page_of (wanted_slices ask.now.wanted)) }
+    ensures ok { (devices_text : Text) → listed devices_text ≡ Ok devices.now
+        → let asking = asking_of ask.now in
+        IfOk result (λ finish. WithDevices devices_text (λ devices.
+        Rehearses (task_asked env.now devices asking) asking (O.sink out.old)
+        (O.sink out.new) finish)) }
+    ensures err { (devices_text : Text) → listed devices_text ≡ Ok devices.now
+        → IfErr result (λ e. RefusesAsk env.now devices_text (asking_of ask.now) (O.sink out.old)
+        (O.sink out.new) e) }
+{
+    match ask.wanted {
+        Wanted::Listing {
+            bounds,
+            after,
+            page,
+        } => list_runs::<S, O>(
+            alloc, env, devices, ask.name, bounds, after, page, ask.names, out,
+        ),
+        Wanted::Word { bounds, word } => {
+            list_one::<S, O>(alloc, env, devices, ask.name, bounds, word, ask.names, out)
+        }
+    }
+}
+
 /// Writes the listing of the runs that are asked for, or the record of the one run, and `done`.
 /// Refusals in order: the device list, the variable, the word, with nothing written; then `Write`
 /// during the listing, and `Memory` wherever a growth is made.
@@ -113,21 +147,6 @@ pub fn rehearse_env<'x, S: Store, O: Out>(
     ensures err { IfErr result (λ e. RefusesAsk env.now devices_text.now (asking_of ask.now)
         (O.sink out.old) (O.sink out.new) e) }
 {
-    let devices = match Devices::parse(alloc, devices_text) {
-        Ok(devices) => devices,
-        Err(DevicesError::Memory) => return Err(RehearseError::Memory),
-        Err(fault) => return Err(RehearseError::DeviceList(fault)),
-    };
-    match ask.wanted {
-        Wanted::Listing {
-            bounds,
-            after,
-            page,
-        } => list_runs::<S, O>(
-            alloc, env, &devices, ask.name, bounds, after, page, ask.names, out,
-        ),
-        Wanted::Word { bounds, word } => {
-            list_one::<S, O>(alloc, env, &devices, ask.name, bounds, word, ask.names, out)
-        }
-    }
+    let devices = read_devices(alloc, devices_text)?;
+    rehearse_with::<S, O>(alloc, env, &devices, ask, out)
 }
