@@ -42,42 +42,27 @@ enum Subject {
     Store,
 }
 
-/// The first words of rows. All others set something.
-const SUBJECTS: [(&str, Subject); 28] = [
+/// The first words of rows, by what they speak of. All others set something.
+const SUBJECTS: [(&str, Subject); 7] = [
     ("set", Subject::Variable),
     ("bounds", Subject::Bounds),
-    ("tokens", Subject::Text),
-    ("script", Subject::Text),
-    ("tree", Subject::Text),
-    ("commands", Subject::Text),
-    ("cuts", Subject::Text),
-    ("fields", Subject::Text),
-    ("sizes", Subject::Text),
-    ("test", Subject::Text),
-    ("memory", Subject::Text),
-    ("list", Subject::List),
-    ("has", Subject::List),
-    ("effect", Subject::List),
-    ("listing", Subject::Rehearsal),
-    ("told", Subject::Rehearsal),
-    ("broken", Subject::Rehearsal),
-    ("resumed", Subject::Rehearsal),
-    ("work", Subject::Rehearsal),
-    ("grow", Subject::Rehearsal),
-    ("onward", Subject::Rehearsal),
-    ("end", Subject::Rehearsal),
-    ("try", Subject::Rehearsal),
-    ("endings", Subject::Endings),
-    ("flow", Subject::Endings),
-    ("start", Subject::Store),
-    ("store", Subject::Store),
-    ("show", Subject::Store),
+    (
+        "tokens script tree commands cuts fields sizes test memory",
+        Subject::Text,
+    ),
+    ("list has effect", Subject::List),
+    (
+        "listing told broken resumed work grow onward end try",
+        Subject::Rehearsal,
+    ),
+    ("endings flow", Subject::Endings),
+    ("start store show", Subject::Store),
 ];
 
 /// What a row speaks of that begins with a word.
 fn subject_of(word: &str) -> Subject {
-    for (name, subject) in SUBJECTS {
-        if name == word {
+    for (words, subject) in SUBJECTS {
+        if words.split(' ').any(|it| it == word) {
             return subject;
         }
     }

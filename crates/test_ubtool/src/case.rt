@@ -165,58 +165,28 @@ enum Subject {
     Fault,
 }
 
-/// The first words of rows. All others set something.
-const SUBJECTS: [(&str, Subject); 44] = [
-    ("crc", Subject::Image),
-    ("data", Subject::Image),
-    ("config", Subject::Image),
-    ("load", Subject::Image),
-    ("order", Subject::Image),
-    ("fronts", Subject::Image),
-    ("encode", Subject::Image),
-    ("copy-of-file", Subject::Image),
-    ("change", Subject::Image),
-    ("script", Subject::Image),
+/// The first words of rows, by what they speak of. All others set something.
+const SUBJECTS: [(&str, Subject); 8] = [
+    (
+        "crc data config load order fronts encode copy-of-file change script",
+        Subject::Image,
+    ),
     ("env", Subject::Environment),
-    ("print", Subject::Call),
-    ("value", Subject::Call),
-    ("standard", Subject::Call),
-    ("rehearse", Subject::Call),
-    ("run", Subject::Call),
-    ("each-out", Subject::Sweep),
-    ("each-err", Subject::Sweep),
-    ("reads", Subject::File),
-    ("open", Subject::File),
-    ("calls", Subject::File),
-    ("bytes", Subject::File),
-    ("locked", Subject::File),
-    ("read", Subject::File),
-    ("part", Subject::File),
-    ("write", Subject::File),
-    ("make", Subject::File),
-    ("remove", Subject::File),
-    ("up-to", Subject::File),
-    ("parts", Subject::Output),
-    ("pass", Subject::Output),
-    ("over", Subject::Output),
-    ("buffer", Subject::Output),
-    ("flush", Subject::Output),
-    ("words", Subject::Command),
-    ("called", Subject::Command),
-    ("lock", Subject::Command),
-    ("command", Subject::Command),
-    ("help", Subject::Command),
-    ("has", Subject::Command),
-    ("clap", Subject::Command),
-    ("faults", Subject::Fault),
-    ("fault", Subject::Fault),
-    ("fault-in", Subject::Fault),
+    ("print value standard rehearse run", Subject::Call),
+    ("each-out each-err", Subject::Sweep),
+    (
+        "reads open calls bytes locked read part write make remove up-to",
+        Subject::File,
+    ),
+    ("parts pass over buffer flush", Subject::Output),
+    ("words called lock command help has clap", Subject::Command),
+    ("faults fault fault-in", Subject::Fault),
 ];
 
 /// What a row speaks of that begins with a word.
 fn subject_of(word: &str) -> Subject {
-    for (name, subject) in SUBJECTS {
-        if name == word {
+    for (words, subject) in SUBJECTS {
+        if words.split(' ').any(|it| it == word) {
             return subject;
         }
     }
