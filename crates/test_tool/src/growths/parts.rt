@@ -97,9 +97,14 @@ fn writes_part(alloc: Global, files: &mut MemoryFiles) -> Result<bool, Trouble> 
 /// Whether `10` is the word of a run and `1` is too short for one.
 pub(crate) fn tries<S: Store>(alloc: Global, env: &Env) -> Result<bool, Trouble> {
     let devices = told_apart(Devices::parse(alloc, b"load"), DevicesError::Memory)?;
+    tries_with::<S>(alloc, env, &devices)
+}
+
+/// The same with a device list that was read.
+fn tries_with<S: Store>(alloc: Global, env: &Env, devices: &Devices) -> Result<bool, Trouble> {
     Ok(
-        is_word::<S>(alloc, env, &devices, b"1", WordKind::Short)?
-            && is_word::<S>(alloc, env, &devices, b"10", WordKind::Run)?,
+        is_word::<S>(alloc, env, devices, b"1", WordKind::Short)?
+            && is_word::<S>(alloc, env, devices, b"10", WordKind::Run)?,
     )
 }
 
