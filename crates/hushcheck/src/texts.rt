@@ -13,7 +13,7 @@ use envimage::ByteOrder;
 use envtools::Env;
 use file_tools::{Images, read_images, read_text, slices_of};
 use hushcheck_core::{Report, asked_names, check};
-use image_tools::{Fault, RehearseError, ToolError, env_of_image};
+use image_tools::{Fault, ToolError, env_of_image};
 use locked_files::Files;
 use output::{Out, write_all};
 use rehearse::read_devices;
@@ -26,11 +26,7 @@ fn list_of(alloc: Global, text: Option<&[u8]>) -> Result<Option<Devices>, ToolEr
     let Some(text) = text else {
         return Ok(None);
     };
-    match read_devices(alloc, text) {
-        Ok(devices) => Ok(Some(devices)),
-        Err(RehearseError::Memory) => Err(ToolError::Memory),
-        Err(error) => Err(ToolError::Rehearsal(error)),
-    }
+    Ok(Some(read_devices(alloc, text)?))
 }
 
 /// What is reported of the texts of an environment, with this device list if there is one.
