@@ -1,9 +1,9 @@
 -- Bytes that print as they are are written together, and other bytes one by one.
-use Rattle.std.proofs.Common.{◌≡◌, ℕ, zero, suc, ◌+◌, ◌-◌, ◌<◌, ◌≤◌, Bool, ◌||◌, true, false, not, List, [], ◌∷◌, ◌++◌, length, get_or, take, drop, Result, None, Some, refl, sym, ap, ◌∙◌, append_assoc, arith, add-one, inl, inr}
+use Rattle.std.proofs.Common.{◌≡◌, ℕ, zero, suc, ◌+◌, ◌-◌, ◌<◌, ◌≤◌, Bool, ◌||◌, true, false, not, List, [], ◌∷◌, ◌++◌, length, get_or, take, drop, Result, None, Some, refl, sym, ap, ◌∙◌, append_assoc, arith, add-one, inl, inr, subst}
 use Rattle.std.specs.Prelude.{nat_eq, ◌==◌}
 use Rattle.std.specs.Bool.{OnTrue}
 use Rattle.std.specs.List.{flat_map, position, position_or_len, prefix_len, list_any}
-use Rattle.std.proofs.lemmas.List.{take-append-drop, drop-drop, length-drop}
+use Rattle.std.proofs.lemmas.List.{take-append-drop, drop-drop, length-append, length-drop}
 use Rattle.std.proofs.lemmas.List.Folds.{list_any-append}
 use Rattle.std.proofs.lemmas.Bool.Decides.{nat_tests}
 use Rattle.std.proofs.lemmas.Bool.{false≢true, cases_Bool}
@@ -157,27 +157,29 @@ module _ (test : ℕ → Bool) where
             ∙ any-last bytes n n (any-cut bytes n ∙ ap (λ t. t || list_any test (drop n bytes)) none) (omega (arith, dropped, few))
       ]
 
-  -- the first byte that passes is after bytes that do not
-  upto : (bytes : List ℕ) (at : ℕ) → list_any test (take at bytes) ≡ false → at < length bytes → test (get_or bytes at 0) ≡ true → position_or_len test bytes ≡ at
-  upto [] at none lt is = absurd (omega arith)
-  upto (b ∷ bytes) zero none lt is = rw is refl
-  upto (b ∷ bytes) (suc at) none lt is =
+  -- the first byte that passes is after bytes that do not, whatever follows
+  upto : (bytes rest : List ℕ) (at : ℕ) → list_any test (take at bytes) ≡ false → at < length bytes → test (get_or bytes at 0) ≡ true → position_or_len test (bytes ++ rest) ≡ at
+  upto [] rest at none lt is = absurd (omega arith)
+  upto (b ∷ bytes) rest zero none lt is = rw is refl
+  upto (b ∷ bytes) rest (suc at) none lt is =
       elim (cases_Bool (test b)) [
         | inl some ↦ let t : list_any test (take (suc at) (b ∷ bytes)) ≡ true = rw some refl in absurd (false≢true (sym none ∙ t))
-        | inr other ↦ let t : list_any test (take at bytes) ≡ false = rw other at none in let e : prefix_len (λ x. not (test x)) bytes ≡ at = upto bytes at t (omega arith) is in rw other (omega (arith, e))
+        | inr other ↦ let t : list_any test (take at bytes) ≡ false = rw other at none in let e : prefix_len (λ x. not (test x)) (bytes ++ rest) ≡ at = upto bytes rest at t (omega arith) is in rw other (omega (arith, e))
       ]
 
-  pub first-after : (bytes : List ℕ) (at : ℕ) → list_any test (take at bytes) ≡ false → at < length bytes → test (get_or bytes at 0) ≡ true → position test bytes ≡ Some at
-  first-after bytes at none lt is =
-      let e = upto bytes at none lt is in
-      rw e (grind (arith, nat_tests, lt))
+  pub first-after : (bytes rest : List ℕ) (at : ℕ) → list_any test (take at bytes) ≡ false → at < length bytes → test (get_or bytes at 0) ≡ true → position test (bytes ++ rest) ≡ Some at
+  first-after bytes rest at none lt is =
+      let e = upto bytes rest at none lt is in
+      let longer : at < length (bytes ++ rest) = omega (arith, lt, length-append bytes rest) in
+      rw e (grind (arith, nat_tests, longer))
 
--- the end of a line, after bytes that are printed as they are
-pub line_end : (form : Form) (bytes : List ℕ) (at : ℕ) → position (λ b. b == 10) bytes ≡ Some at → list_any (λ b. not (stands form b)) (take at bytes) ≡ false
+-- the end of a line among the first bytes, after bytes that are printed as they are
+pub line_end : (form : Form) (near : ℕ) (bytes : List ℕ) (at : ℕ) → position (λ b. b == 10) (take near bytes) ≡ Some at → list_any (λ b. not (stands form b)) (take at (take near bytes)) ≡ false
     → position (λ b. not (stands form b)) bytes ≡ Some at
-line_end form bytes at is none =
-    let found = position-Some (λ b. b == 10) bytes at 0 is in
-    first-after (λ b. not (stands form b)) bytes at none found.0 (escaped_end form (get_or bytes at 0) found.1)
+line_end form near bytes at is none =
+    let found = position-Some (λ b. b == 10) (take near bytes) at 0 is in
+    let P : List ℕ → Type 0 = λ t. position (λ b. not (stands form b)) t ≡ Some at in
+    subst P (take-append-drop near bytes) (first-after (λ b. not (stands form b)) (take near bytes) (drop near bytes) at none found.0 (escaped_end form (get_or (take near bytes) at 0) found.1))
   where
     escaped_end : (form : Form) (b : ℕ) → (b == 10) ≡ true → not (stands form b) ≡ true
     escaped_end AsText b h = grind (arith, nat_tests)

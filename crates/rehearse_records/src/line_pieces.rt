@@ -133,13 +133,18 @@ fn first_escaped_by_one(form: Form, bytes: &[u8]) -> Option<usize>
     bytes.iter().position(|byte| !(least <= *byte && *byte <= b'~' && *byte != b'\\'))
 }
 
+/// How far the end of a line is looked for at once. Without a bound, bytes of which many are escaped
+/// would be looked through to their end at each of these.
+const NEAR: usize = 256;
+
 /// The place of the first byte that is not printed as it is. Mostly that is the end of a line.
 fn first_escaped(form: Form, bytes: &[u8]) -> Option<usize>
     ensures first { result ≡ position (λ b. not (stands form b)) bytes.now }
     ensures within { IfSome result (λ at. at < length bytes.now) }
 {
-    if let Some(at) = find(bytes, b'\n') {
-        if !has_escaped(form, &bytes[..at]) {
+    let near = &bytes[..bytes.len().min(NEAR)];
+    if let Some(at) = find(near, b'\n') {
+        if !has_escaped(form, &near[..at]) {
             return Some(at);
         }
     }
