@@ -18,3 +18,5 @@ pub mod EarlierRuns
 pub mod CallRuns
 pub mod KnownRuns
 pub mod KnownLogs
+mod ToldExamples
+mod RunsExamples
