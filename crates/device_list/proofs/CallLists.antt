@@ -49,7 +49,7 @@ pub call_lists_are_known : (text : Text) (devices : Devices) → call_listed tex
 call_lists_are_known text devices e = lines-same (numbered_lines text) (only []) devices e
 
 pub call_lists_stand : CallListsStand
-call_lists_stand text devices e = known_lists_stand text devices (call_lists_are_known text devices e)
+call_lists_stand text devices plain e = known_lists_stand text devices plain (call_lists_are_known text devices e)
 
 -- ---- no command is computed
 

@@ -5,7 +5,7 @@ use Rattle.device_list.specs.Verdict.{Text}
 use Rattle.device_list.specs.Commands.{sets_in}
 use Rattle.device_list.specs.DeviceList.{Variable, WordAt, LastWord, Effect, Devices, only, effect_of, listed}
 use Rattle.device_list.specs.PlainList.{plain_names}
-use Rattle.device_list.specs.declared.devices_error.DevicesError.TheVariants.{BadLine, BuiltIn}
+use Rattle.device_list.specs.declared.devices_error.DevicesError.TheVariants.{BadLine, BuiltIn, ByteOrderMark}
 
 abbrev quiet : Effect
 quiet = record { ends = false; stays = false; sets = [] }
@@ -44,6 +44,28 @@ return_inside = refl
 -- a `#` after the first word starts no comment
 comment_behind : listed (codes "load #x") ≡ Err (BadLine 1)
 comment_behind = refl
+
+-- a byte order mark is refused before any line is read, at the start of the list alone
+abbrev mark : Text
+mark = 239 ∷ 187 ∷ 191 ∷ []
+
+marked_list : listed (mark ++ codes "load\nmmc") ≡ Err ByteOrderMark
+marked_list = refl
+
+mark_alone : listed mark ≡ Err ByteOrderMark
+mark_alone = refl
+
+mark_before_fault : listed (mark ++ codes "# d\necho") ≡ Err ByteOrderMark
+mark_before_fault = refl
+
+part_of_mark : listed (239 ∷ 187 ∷ []) ≡ Ok (only ((239 ∷ 187 ∷ [], quiet) ∷ []))
+part_of_mark = refl
+
+other_mark : listed (239 ∷ 187 ∷ 190 ∷ []) ≡ Ok (only ((239 ∷ 187 ∷ 190 ∷ [], quiet) ∷ []))
+other_mark = refl
+
+mark_in_a_later_line : listed (10 ∷ mark) ≡ Ok (only ((mark, quiet) ∷ []))
+mark_in_a_later_line = refl
 
 nul_in_name : listed (97 ∷ 0 ∷ []) ≡ Err (BadLine 1)
 nul_in_name = refl
@@ -234,6 +256,13 @@ sets_by_words = refl
 -- `@` that names no word of the call
 no_such_word : listed (codes "sub part list @0=1") ≡ Err (BadLine 1)
 no_such_word = refl
+
+zeros_alone : listed (codes "sub part list @00=1") ≡ Err (BadLine 1)
+zeros_alone = refl
+
+-- zeros in front of the number change nothing
+zeros_in_front : listed (codes "sub part list @01=1 @0010=") ≡ Ok (sub_list (codes "part") (codes "list") (record quiet { sets = (WordAt 0, codes "1") ∷ (WordAt 9, []) ∷ [] }))
+zeros_in_front = refl
 
 no_number : listed (codes "sub part list @x=1") ≡ Err (BadLine 1)
 no_number = refl

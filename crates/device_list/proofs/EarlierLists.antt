@@ -160,7 +160,7 @@ lines-same (l ∷ lines) devices done e = by (earlier_words devices l.0 l.1 (dev
     by (Ok next) is f later = let this : call_line (only (now_effects devices)) l.0 l.1 ≡ Ok (only (now_effects next)) = words-same devices next l.0 l.1 (device_words l.1) is in rw this (later next f)
 
 pub earlier_lists_stand : EarlierListsStand
-earlier_lists_stand text devices e = call_lists_stand text (only (now_effects devices)) (lines-same (numbered_lines text) [] devices e)
+earlier_lists_stand text devices plain e = call_lists_stand text (only (now_effects devices)) plain (lines-same (numbered_lines text) [] devices e)
 
 pub earlier_calls_stand : EarlierCallsStand
 earlier_calls_stand devices name [] = refl

@@ -19,6 +19,7 @@ use Rattle.device_list.specs.DeviceLaws.{line_said, with_said, lines_said, lines
 use Rattle.device_list.specs.declared.devices_error.DevicesError.{DevicesError}
 use Rattle.device_list.specs.declared.devices_error.DevicesError.TheVariants.{BadLine}
 use Rattle.device_list.specs.NamedPlaces.{in_sub}
+use Rattle.device_list.proofs.MarkLemmas.{lines_of}
 
 -- ---- a table after a change at a name
 
@@ -177,7 +178,7 @@ IsWhole-lines (l ∷ lines) devices done before e h =
         subst (λ ls. IsWhole done ls) regroup (later next e (IsWhole-words devices next before l.0 l.1 (device_words l.1) is h))
 
 pub lines_are_joined : LinesAreJoined
-lines_are_joined text devices e = IsWhole-lines (numbered_lines text) (only []) devices [] e none
+lines_are_joined text devices e = IsWhole-lines (numbered_lines text) (only []) devices [] (lines_of text devices e) none
   where
     none : IsWhole (only []) []
     none name None = refl

@@ -17,6 +17,7 @@ use Rattle.device_list.specs.DeviceList.{Effect, Effects, Devices, Setting, Devi
 use Rattle.device_list.specs.KnownList.{known_heading, known_words, known_line, known_lines, KnownListsStand, KnownListsAsk}
 use Rattle.device_list.specs.declared.devices_error.DevicesError.{DevicesError}
 use Rattle.device_list.specs.declared.devices_error.DevicesError.TheVariants.{BadLine, BuiltIn}
+use Rattle.device_list.proofs.MarkLemmas.{by_lines}
 
 -- what is accepted is one value
 accepted-same : {T : Type 0} {x y : T} → (let r : Result T DevicesError = Ok x in r) ≡ Ok y → x ≡ y
@@ -152,7 +153,7 @@ lines-same (l ∷ lines) devices done e = by (known_line devices l.0 l.1) refl e
     by (Ok next) is f later = let this : after_line devices l.0 l.1 ≡ Ok next = words-same devices next l.0 l.1 (device_words l.1) is in rw this (later next f)
 
 pub known_lists_stand : KnownListsStand
-known_lists_stand text devices e = lines-same (numbered_lines text) (only []) devices e
+known_lists_stand text devices plain e = by_lines text plain ∙ lines-same (numbered_lines text) (only []) devices e
 
 -- ---- no answer stays
 

@@ -1,6 +1,7 @@
 pub mod DeviceLemmas
 pub mod ComputedLemmas
 mod DeviceListExamples
+pub mod MarkLemmas
 pub mod KnownLists
 pub mod CallLists
 pub mod JoinedLines

@@ -149,4 +149,4 @@ lines-stand (l ∷ lines) names done e = by (plain_line names l.0 (trimmed l.1))
     by (Ok next) is f later = let this : call_line (quiet_names names) l.0 l.1 ≡ accepted next = line-stands names l.0 l.1 next (trimmed l.1) (trimmed-nul l.1) is in rw this (later next f)
 
 pub plain_lists_stand : PlainListsStand
-plain_lists_stand text names e = call_lists_stand text (quiet_names names) (lines-stand (numbered_lines text) [] names e)
+plain_lists_stand text names plain e = call_lists_stand text (quiet_names names) plain (lines-stand (numbered_lines text) [] names e)

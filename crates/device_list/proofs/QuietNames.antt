@@ -12,6 +12,7 @@ use Rattle.device_list.specs.DeviceLaws.{quiet, is_name_alone, NamesAreQuiet}
 use Rattle.device_list.specs.declared.devices_error.DevicesError.{DevicesError}
 use Rattle.device_list.specs.declared.devices_error.DevicesError.TheVariants.{BadLine, BuiltIn}
 use Rattle.device_list.proofs.JoinedLines.{ok-same}
+use Rattle.device_list.proofs.MarkLemmas.{lines_of}
 
 abbrev AllQuiet : Effects → Type 0
 AllQuiet = AllByRecursion (λ d. d.1 ≡ quiet)
@@ -70,4 +71,4 @@ lines-quiet (l ∷ lines) devices done short e all =
 
 pub names_are_quiet : NamesAreQuiet
 names_are_quiet text devices e short name words effect found =
-    found-quiet devices name words effect (lines-quiet (numbered_lines text) (only []) devices short e (tt, refl)) found
+    found-quiet devices name words effect (lines-quiet (numbered_lines text) (only []) devices short (lines_of text devices e) (tt, refl)) found

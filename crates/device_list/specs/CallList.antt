@@ -1,10 +1,10 @@
 -- Device lists in the form that they had before a list could have a command computed: names, settings and calls. Ours.
-use Rattle.std.specs.Prelude.{◌≡◌, ℕ, ◌==◌, List, [], ◌∷◌, Result, Ok, Err, if◌then◌else◌}
+use Rattle.std.specs.Prelude.{◌≡◌, ℕ, ◌==◌, false, List, [], ◌∷◌, Result, Ok, Err, if◌then◌else◌}
 use Rattle.std.specs.List.{list_any}
 use Rattle.text.specs.Bytes as ascii
 use Rattle.text.specs.Lines.{numbered_lines}
 use Rattle.device_list.specs.Verdict.{Text}
-use Rattle.device_list.specs.DeviceList.{Devices, device_words, begins_comment, line_of, with_line, only, listed}
+use Rattle.device_list.specs.DeviceList.{Devices, device_words, begins_comment, line_of, with_line, only, is_marked, listed}
 use Rattle.device_list.specs.KnownList.{known_heading}
 use Rattle.device_list.specs.declared.devices_error.DevicesError.{DevicesError}
 use Rattle.device_list.specs.declared.devices_error.DevicesError.TheVariants.{BadLine}
@@ -34,9 +34,10 @@ call_listed text = call_lines (only []) (numbered_lines text)
 
 -- ---- laws
 
--- Every list that this form accepts is accepted, and says the same,
+-- Every list that this form accepts is accepted if it begins with no byte order mark, and says the same,
 abbrev pub CallListsStand : Type 0
-CallListsStand = (text : Text) (devices : Devices) → call_listed text ≡ Ok devices → listed text ≡ Ok devices
+CallListsStand = (text : Text) (devices : Devices) → is_marked text ≡ false → call_listed text ≡ Ok devices →
+    listed text ≡ Ok devices
 
 -- which is that no command is computed.
 abbrev pub CallListsAsk : Type 0

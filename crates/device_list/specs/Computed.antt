@@ -1,8 +1,8 @@
 -- The commands that a device list may have computed, and what their words come to. After U-Boot 2023.01: doc/usage/cmd/env,
 -- "Delete", "Exists" and "Set", and cmd/nvedit.c (`do_env_delete`, `do_env_exists`, `_do_env_set`); cmd/itest.c
--- (`do_itest`); doc/usage/cmd/setexpr, "Description", and cmd/setexpr.c (`do_setexpr`). Where words are no call of theirs,
--- U-Boot prints a usage and gives status 1; what it prints is left out (ours).
-use Rattle.std.specs.Prelude.{ℕ, ◌+◌, ◌-◌, ◌*◌, ◌/◌, ◌%◌, ◌^◌, ◌==◌, nat_lt, nat_le, bit_and, bit_or, bit_xor, Bool, true, false, not, ◌||◌, List, [], ◌∷◌, Option, Some, None, is_some, codes, if◌then◌else◌}
+-- (`do_itest`); doc/usage/cmd/setexpr, "Description", and cmd/setexpr.c (`do_setexpr`), which decide in the same order in
+-- 2025.01. Where words are no call of theirs, U-Boot prints a usage and gives status 1; what it prints is left out (ours).
+use Rattle.std.specs.Prelude.{ℕ, ◌+◌, ◌-◌, ◌*◌, ◌/◌, ◌%◌, ◌^◌, ◌==◌, nat_lt, nat_le, bit_and, bit_or, bit_xor, Bool, true, false, not, ◌||◌, List, [], ◌∷◌, length, Option, Some, None, is_some, codes, if◌then◌else◌}
 use Rattle.std.specs.Str.{bytes_eq}
 use Rattle.std.specs.List.{list_all}
 use Rattle.std.specs.Map.{lookup}
@@ -96,17 +96,23 @@ holds_in table operator a b = elim (lookup (bytes_eq operator) table) [ Some com
 abbrev pub compared : (operator : Text) → ℕ → ℕ → Bool
 compared operator a b = holds_in orders operator a b || holds_in equalities operator a b
 
+abbrev pub is_comparison : (operator : Text) → Bool
+is_comparison operator =
+    is_some (lookup (bytes_eq operator) orders) || is_some (lookup (bytes_eq operator) equalities)
+
 abbrev pub itest_of : Option ℕ → (operator : Text) → Option ℕ → Option Computed
 itest_of None operator b = None
 itest_of (Some a) operator None = None
 itest_of (Some a) operator (Some b) =
     Some (Gives (if compared operator (a % 2 ^ 32) (b % 2 ^ 32) then 0 else 1))
 
+-- the operator decides first: with another one no operand is read
 abbrev pub itest : List Text → Option Computed
 itest [] = Some (Gives 1)
 itest (a ∷ []) = Some (Gives 1)
 itest (a ∷ operator ∷ []) = Some (Gives 1)
-itest (a ∷ operator ∷ b ∷ []) = itest_of (operand a) operator (operand b)
+itest (a ∷ operator ∷ b ∷ []) =
+    if is_comparison operator then itest_of (operand a) operator (operand b) else Some (Gives 1)
 itest (a ∷ operator ∷ b ∷ c ∷ words) = Some (Gives 1)
 
 -- ---- `setexpr`: a variable is set to a number, or to the result of an operation on two
@@ -131,34 +137,61 @@ operations =
     ∷ (codes "^", λ a b. Some (bit_xor a b))
     ∷ []
 
--- words that say what `setexpr` is to do with texts
-abbrev pub is_keyword : Text → Bool
-is_keyword word = bytes_eq word (codes "fmt") || bytes_eq word (codes "sub") || bytes_eq word (codes "gsub")
-
-abbrev pub sets_number : (name : Text) → Option ℕ → Option Computed
-sets_number name None = None
-sets_number name (Some number) = if is_bad_name name then None else Some (SetsNumber name number)
-
 abbrev pub calculated : (operator : Text) → ℕ → ℕ → Option ℕ
 calculated operator a b =
     elim (lookup (bytes_eq operator) operations) [ Some operation ↦ operation a b | None ↦ None ]
 
--- another operator gives status 1
-abbrev pub setexpr_of : (name : Text) → Option ℕ → (operator : Text) → Option ℕ → Option Computed
-setexpr_of name None operator b = None
-setexpr_of name (Some a) operator None = None
-setexpr_of name (Some a) operator (Some b) =
-    if is_some (lookup (bytes_eq operator) operations) then sets_number name (calculated operator a b)
+-- `fmt` makes a text of a format, on boards that have it
+abbrev pub is_format : Text → Bool
+is_format word = bytes_eq word (codes "fmt")
+
+-- `sub` and `gsub` replace by a regular expression, on boards that have these
+abbrev pub replaces : Text → Bool
+replaces word = bytes_eq word (codes "sub") || bytes_eq word (codes "gsub")
+
+-- U-Boot sets an empty name, and takes one that starts with `-` for an option of `setenv`: neither is computed. A name
+-- with `=` sets nothing, with this status.
+abbrev pub not_set : (status : ℕ) → (name : Text) → Option Computed
+not_set status [] = None
+not_set status (b ∷ name) = if b == ascii.minus then None else Some (Gives status)
+
+abbrev pub sets_number : (refused : ℕ) → (name : Text) → Option ℕ → Option Computed
+sets_number refused name None = None
+sets_number refused name (Some number) =
+    if is_bad_name name then not_set refused name else Some (SetsNumber name number)
+
+-- an operator is looked for when both operands were read; another one gives status 1. The status after an operation is 0,
+-- also if nothing was set
+abbrev pub operated : (name : Text) → (a : ℕ) → (operator : Text) → Option ℕ → Option Computed
+operated name a operator None = None
+operated name a operator (Some b) =
+    if is_some (lookup (bytes_eq operator) operations) then sets_number 0 name (calculated operator a b)
     else Some (Gives 1)
+
+-- an operator has one byte, or the second operand is not read
+abbrev pub setexpr_of : (name : Text) → (a : ℕ) → (operator b : Text) → Option Computed
+setexpr_of name a operator b =
+    if length operator == 1 then operated name a operator (operand b) else Some (Gives 1)
+
+-- by the number of words behind the first operand, which has this number
+abbrev pub behind_operand : (name first : Text) → (a : ℕ) → List Text → Option Computed
+behind_operand name first a [] = sets_number 1 name (Some a)
+behind_operand name first a (operator ∷ []) = Some (Gives 1)
+behind_operand name first a (operator ∷ b ∷ []) = if replaces first then None else setexpr_of name a operator b
+behind_operand name first a (operator ∷ b ∷ c ∷ []) = if replaces first then None else Some (Gives 1)
+behind_operand name first a (operator ∷ b ∷ c ∷ d ∷ words) = Some (Gives 1)
+
+-- the first operand is read before the words are counted; but U-Boot calls `setexpr` with no more than seven words
+abbrev pub with_operand : (name first : Text) → List Text → Option Computed
+with_operand name first words =
+    if nat_lt 5 (length words) then Some (Gives 1)
+    else (if is_format first then None
+    else elim (operand first) [ Some a ↦ behind_operand name first a words | None ↦ None ])
 
 abbrev pub setexpr : List Text → Option Computed
 setexpr [] = Some (Gives 1)
 setexpr (name ∷ []) = Some (Gives 1)
-setexpr (name ∷ value ∷ []) = if is_keyword value then None else sets_number name (operand value)
-setexpr (name ∷ a ∷ operator ∷ []) = None
-setexpr (name ∷ a ∷ operator ∷ b ∷ []) =
-    if is_keyword a then None else setexpr_of name (operand a) operator (operand b)
-setexpr (name ∷ a ∷ operator ∷ b ∷ c ∷ words) = None
+setexpr (name ∷ first ∷ words) = with_operand name first words
 
 -- ---- the rows
 

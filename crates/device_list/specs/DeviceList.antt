@@ -1,7 +1,7 @@
 -- The device list: which commands are device commands, and what each does on success. Ours.
-use Rattle.std.specs.Prelude.{ℕ, ◌+◌, ◌-◌, ◌==◌, nat_lt, min, ◌||◌, ◌&&◌, ◌++◌, not, Bool, true, false, List, [], ◌∷◌, length, take, drop, filter, Option, Some, None, is_some, option_map, Result, Ok, Err, codes, if◌then◌else◌}
+use Rattle.std.specs.Prelude.{ℕ, ◌+◌, ◌-◌, ◌==◌, nat_eq, nat_lt, min, ◌||◌, ◌&&◌, ◌++◌, not, Bool, true, false, List, [], ◌∷◌, length, take, drop, filter, Option, Some, None, is_some, option_map, Result, Ok, Err, codes, if◌then◌else◌}
 use Rattle.std.specs.Str.{bytes_eq}
-use Rattle.std.specs.List.{list_any, list_all, slice_split, position}
+use Rattle.std.specs.List.{list_any, list_all, slice_split, position, starts_with}
 use Rattle.std.specs.Map.{lookup}
 use Rattle.text.specs.Bytes as ascii
 use Rattle.text.specs.Lines.{numbered_lines}
@@ -12,7 +12,7 @@ use Rattle.builtins.specs.Builtins.{is_built_in}
 use Rattle.device_list.specs.KnownCommands.{known_of}
 use Rattle.device_list.specs.Computed.{Computed, computes}
 use Rattle.device_list.specs.declared.devices_error.DevicesError.{DevicesError}
-use Rattle.device_list.specs.declared.devices_error.DevicesError.TheVariants.{BadLine, BuiltIn}
+use Rattle.device_list.specs.declared.devices_error.DevicesError.TheVariants.{BadLine, BuiltIn, ByteOrderMark}
 
 -- the left side of a setting: a variable, or the word of the call that names it; words are counted from 0, or it is the
 -- last
@@ -274,6 +274,13 @@ listed_lines devices (l ∷ lines) =
 abbrev pub only : Effects → Devices
 only commands = record { commands = commands; subs = []; known = []; test_stays = false }
 
--- the commands that a device list names, or its first fault
+-- UTF-8's byte order mark, which some editors write in front of a text
+abbrev pub byte_order_mark : Text
+byte_order_mark = 239 ∷ 187 ∷ 191 ∷ []
+
+abbrev pub is_marked : Text → Bool
+is_marked text = starts_with nat_eq text byte_order_mark
+
+-- The commands that a device list names, or its first fault. The mark would be part of the first word.
 abbrev pub listed : Text → Result Devices DevicesError
-listed text = listed_lines (only []) (numbered_lines text)
+listed text = if is_marked text then Err ByteOrderMark else listed_lines (only []) (numbered_lines text)

@@ -9,7 +9,7 @@ use Rattle.text.specs.Words.{is_equals}
 use Rattle.device_list.specs.Verdict.{Text}
 use Rattle.builtins.specs.Builtins.{is_built_in}
 use Rattle.device_list.specs.Commands.{sets_in}
-use Rattle.device_list.specs.DeviceList.{Variable, Setting, Effect, Effects, effect_in, effect_of, only, device_words, is_variable, begins_comment, changed_at, listed}
+use Rattle.device_list.specs.DeviceList.{Variable, Setting, Effect, Effects, effect_in, effect_of, only, device_words, is_variable, begins_comment, changed_at, is_marked, listed}
 use Rattle.device_list.specs.declared.devices_error.DevicesError.{DevicesError}
 use Rattle.device_list.specs.declared.devices_error.DevicesError.TheVariants.{BadLine, BuiltIn}
 
@@ -92,9 +92,11 @@ now_effect e = record { ends = e.ends; stays = false; sets = map of_variable e.s
 abbrev pub now_effects : EarlierDevices → Effects
 now_effects = map (λ d. (d.0, now_effect d.1))
 
--- Every list that the earlier form accepts is accepted, and says the same of the same names.
+-- Every list that the earlier form accepts is accepted if it begins with no byte order mark, and says the same of the same
+-- names.
 abbrev pub EarlierListsStand : Type 0
-EarlierListsStand = (text : Text) (devices : EarlierDevices) → earlier_listed text ≡ Ok devices →
+EarlierListsStand = (text : Text) (devices : EarlierDevices) → is_marked text ≡ false →
+    earlier_listed text ≡ Ok devices →
     listed text ≡ Ok (only (now_effects devices))
 
 -- Over such a list the name decides what a call does, whatever its words are,

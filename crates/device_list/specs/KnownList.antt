@@ -7,7 +7,7 @@ use Rattle.text.specs.Bytes as ascii
 use Rattle.text.specs.Lines.{numbered_lines}
 use Rattle.text.specs.Words.{is_equals}
 use Rattle.device_list.specs.Verdict.{Text}
-use Rattle.device_list.specs.DeviceList.{Effect, Devices, Heading, effect_of, device_words, begins_comment, call_of, line_of, known_named, after_known, only, listed}
+use Rattle.device_list.specs.DeviceList.{Effect, Devices, Heading, effect_of, device_words, begins_comment, call_of, line_of, known_named, after_known, only, is_marked, listed}
 use Rattle.device_list.specs.declared.devices_error.DevicesError.{DevicesError}
 use Rattle.device_list.specs.declared.devices_error.DevicesError.TheVariants.{BadLine}
 
@@ -49,9 +49,10 @@ pub record AskEachTime (devices : Devices) : Type 0 where
       effect.stays ≡ false
   pub test : devices.test_stays ≡ false
 
--- Every list that this form accepts is accepted, and says the same,
+-- Every list that this form accepts is accepted if it begins with no byte order mark, and says the same,
 abbrev pub KnownListsStand : Type 0
-KnownListsStand = (text : Text) (devices : Devices) → known_listed text ≡ Ok devices → listed text ≡ Ok devices
+KnownListsStand = (text : Text) (devices : Devices) → is_marked text ≡ false → known_listed text ≡ Ok devices →
+    listed text ≡ Ok devices
 
 -- which is that each command asks each time.
 abbrev pub KnownListsAsk : Type 0

@@ -1,5 +1,5 @@
 -- Device lists in their plain form, which has only names: one name on each line. Ours.
-use Rattle.std.specs.Prelude.{◌≡◌, ℕ, ◌==◌, ◌||◌, List, [], ◌∷◌, ◌++◌, map, Result, Ok, Err, if◌then◌else◌}
+use Rattle.std.specs.Prelude.{◌≡◌, ℕ, ◌==◌, ◌||◌, false, List, [], ◌∷◌, ◌++◌, map, Result, Ok, Err, if◌then◌else◌}
 use Rattle.std.specs.List.{list_any}
 use Rattle.std.specs.Str.{bytes_eq}
 use Rattle.text.specs.Bytes as ascii
@@ -7,7 +7,7 @@ use Rattle.text.specs.Lines.{numbered_lines}
 use Rattle.text.specs.Words.{is_space, trimmed}
 use Rattle.device_list.specs.Verdict.{Text}
 use Rattle.builtins.specs.Builtins.{is_built_in}
-use Rattle.device_list.specs.DeviceList.{only, listed}
+use Rattle.device_list.specs.DeviceList.{only, is_marked, listed}
 use Rattle.device_list.specs.DeviceLaws.{quiet}
 use Rattle.device_list.specs.declared.devices_error.DevicesError.{DevicesError}
 use Rattle.device_list.specs.declared.devices_error.DevicesError.TheVariants.{BadLine, BuiltIn}
@@ -38,7 +38,8 @@ plain_lines names (l ∷ lines) =
 abbrev pub plain_names : Text → Result (List Text) DevicesError
 plain_names text = plain_lines [] (numbered_lines text)
 
--- Every list that the plain form accepts is accepted, with the same names; none is final, and none sets a variable.
+-- Every list that the plain form accepts is accepted if it begins with no byte order mark, with the same names; none is
+-- final, and none sets a variable.
 abbrev pub PlainListsStand : Type 0
-PlainListsStand = (text : Text) (names : List Text) → plain_names text ≡ Ok names →
+PlainListsStand = (text : Text) (names : List Text) → is_marked text ≡ false → plain_names text ≡ Ok names →
     listed text ≡ Ok (only (map (λ name. (name, quiet)) names))

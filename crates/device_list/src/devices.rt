@@ -49,7 +49,8 @@ impl Devices {
     /// the Nth or the last word of the call names. Lines of one name, and `sub` lines of one name and
     /// word, are joined: final if one of them is, steady if one of them is, settings in their order.
     ///
-    /// The first faulty line is refused: `BadLine` where it holds NUL, or a further word has no `=`, an
+    /// A list that begins with UTF-8's byte order mark is refused for it: `ByteOrderMark`. Otherwise the
+    /// first faulty line is refused: `BadLine` where it holds NUL, or a further word has no `=`, an
     /// empty variable, one that begins with `-`, or in a `sub` line one that begins with `@` and is no
     /// word of the call; else `BuiltIn` where its name is that of a built-in command.
     pub fn parse(alloc: Global, text: &[u8]) -> Result<Self, DevicesError>

@@ -1,5 +1,7 @@
 //! `itest`: a comparison of two numbers.
-ghost use Rattle.std.specs.Prelude.{◌≡◌, ◌%◌, ◌^◌, if◌then◌else◌};
+ghost use Rattle.std.specs.Prelude.{◌≡◌, ◌%◌, ◌^◌, is_some, if◌then◌else◌};
+ghost use Rattle.std.specs.Map.{lookup};
+ghost use Rattle.std.specs.Str.{bytes_eq};
 ghost use Rattle.device_list.specs.Computed as says;
 ghost use Rattle.device_list.specs.ComputedShown.{call_shown};
 ghost use Rattle.device_list.specs.TextsShown.{texts};
@@ -50,6 +52,31 @@ fn are_equal(operator: &[u8], left: u64, right: u64) -> bool
     }
 }
 
+/// Whether an operator names an order.
+fn is_order(operator: &[u8]) -> bool
+    ensures { result ≡ is_some (lookup (bytes_eq operator.now) says.orders) }
+{
+    operator == b"-lt".as_slice()
+        || operator == b"<".as_slice()
+        || operator == b"-gt".as_slice()
+        || operator == b">".as_slice()
+        || operator == b"-ge".as_slice()
+        || operator == b">=".as_slice()
+        || operator == b"-le".as_slice()
+        || operator == b"<=".as_slice()
+}
+
+/// Whether an operator asks if two numbers are equal, or not.
+fn is_equality(operator: &[u8]) -> bool
+    ensures { result ≡ is_some (lookup (bytes_eq operator.now) says.equalities) }
+{
+    operator == b"-eq".as_slice()
+        || operator == b"==".as_slice()
+        || operator == b"-ne".as_slice()
+        || operator == b"!=".as_slice()
+        || operator == b"<>".as_slice()
+}
+
 /// Whether a comparison holds.
 fn compared(operator: &[u8], left: u64, right: u64) -> bool
     ensures { result ≡ says.compared operator.now left right }
@@ -69,13 +96,16 @@ fn status_of(operator: &[u8], left: u64, right: u64) -> u8
     }
 }
 
-/// `itest`, if no operand is read from memory.
+/// `itest`, if no operand is read from memory. An operator that is not known gives status 1.
 pub(crate) fn itest(words: &[Vec<u8>]) -> Option<Computed<'_>>
     ensures { call_shown result ≡ says.itest (texts words.now) }
 {
     let [left, operator, right] = words else {
         return Some(Computed::Gives(1));
     };
+    if !is_order(operator) && !is_equality(operator) {
+        return Some(Computed::Gives(1));
+    }
     let left = operand(left)?;
     let right = operand(right)?;
     Some(Computed::Gives(status_of(operator, left, right)))

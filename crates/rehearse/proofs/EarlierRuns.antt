@@ -16,6 +16,7 @@ use Rattle.rehearse.specs.EarlierExecution.{EarlierTask, task_now, bounds_of_tas
 use Rattle.device_list.proofs.JoinedLines.{ok-same}
 use Rattle.device_list.proofs.EarlierLists.{earlier_lists_stand, earlier_calls_stand, earlier_settings_stand}
 use Rattle.rehearse.proofs.GivenRuns.{Does, AreGivenByList, given_by_list, run-same}
+use Rattle.device_list.proofs.MarkLemmas.{unmarked}
 
 effect-earlier : (devices : EarlierDevices) (name : Text) → effect_in (now_effects devices) name ≡ option_map now_effect (lookup (bytes_eq name) devices)
 effect-earlier [] name = refl
@@ -60,7 +61,7 @@ module _ (task : EarlierTask) where
 
 pub earlier_runs_stand : EarlierRunsStand
 earlier_runs_stand text devices task w earlier now =
-    subst (λ (ds : Devices). run_on (task_now ds task) w ≡ earlier_run_on task w) (ok-same (sym (earlier_lists_stand text task.devices earlier) ∙ now)) (run-earlier task w)
+    subst (λ (ds : Devices). run_on (task_now ds task) w ≡ earlier_run_on task w) (ok-same (sym (earlier_lists_stand text task.devices (unmarked text devices now) earlier) ∙ now)) (run-earlier task w)
 
 -- runs and records by what the text comes to with each word
 abbrev runs_by : ℕ → (OutcomeWord → Answer) → List OutcomeWord

@@ -17,4 +17,8 @@ pub mod PlainRuns
 pub mod EarlierRuns
 pub mod CallRuns
 pub mod KnownRuns
+pub mod KeptLogs
 pub mod KnownLogs
+pub mod StayingAnswers
+mod ToldExamples
+mod RunsExamples

@@ -16,6 +16,7 @@ use Rattle.rehearse.specs.PlainExecution.{PlainTask, task_over, bounds_alone, an
 use Rattle.device_list.proofs.JoinedLines.{ok-same}
 use Rattle.rehearse.proofs.GivenRuns.{Does, AreGivenByList, given_by_list, run-same}
 use Rattle.device_list.proofs.PlainLists.{quiet_effects, quiet_names, plain_lists_stand}
+use Rattle.device_list.proofs.MarkLemmas.{unmarked}
 
 -- ---- what a name calls
 
@@ -66,7 +67,7 @@ module _ (task : PlainTask) where
 
 -- the commands of a list in the plain form
 devices-quiet : (text : Text) (devices : Devices) (names : List Text) → plain_names text ≡ Ok names → listed text ≡ Ok devices → quiet_names names ≡ devices
-devices-quiet text devices names plain rich = ok-same (sym (plain_lists_stand text names plain) ∙ rich)
+devices-quiet text devices names plain rich = ok-same (sym (plain_lists_stand text names (unmarked text devices rich) plain) ∙ rich)
 
 pub plain_runs_stand : PlainRunsStand
 plain_runs_stand text devices task w plain rich =

@@ -1,7 +1,7 @@
 -- The laws of rehearsals, over the definitions alone. Ours.
 use Rattle.std.specs.Prelude.{ℕ, ◌+◌, ◌^◌, true, filter, List, [], ◌∷◌, ◌++◌, length, map, flat_map, take, drop, Option, Some, None, ◌≡◌, ◌≢◌, ◌↔◌, ◌≤◌, ◌<◌, codes}
 use Rattle.rehearse_terms.specs.Outcomes.{OutcomeWord, Outcome, Run, Short, common_prefix, comes_before, has_success, turned, is_within, first_run, first_from}
-use Rattle.rehearse_terms.specs.State.{Text, State, asked_of}
+use Rattle.rehearse_terms.specs.State.{Text, LoggedCommand, State, asked_of}
 use Rattle.rehearse.specs.Execution.{Ended, Dry, CutSteps, CutDevices, succeeds}
 use Rattle.rehearse.specs.Runs.{Task, run_on, state_of, steps, asked, kind, all_runs, runs, IsListed, rest}
 use Rattle.rehearse.specs.Listing.{listing, line, spelled, record_of, words_listed, closing}
@@ -42,11 +42,23 @@ abbrev pub LogIsWord : Type 0
 LogIsWord = (task : Task) (w : OutcomeWord) → kind task w ≡ Run →
     map (λ e. e.success) (asked_of (state_of (run_on task w)).log) ≡ map succeeds w
 
+-- Of two commands in the log of a run whose answers stay, with the same words, the later one has the answer of the earlier
+-- one. It was told it again, so it has no outcome of the word.
+abbrev pub AnswersStay : Type 0
+AnswersStay = (task : Task) (w : OutcomeWord) (front between behind : List LoggedCommand) (one other : LoggedCommand) →
+    (state_of (run_on task w)).log ≡ front ++ one ∷ between ++ other ∷ behind → one.stays ≡ true → other.stays ≡ true →
+    one.words ≡ other.words → (other.success ≡ one.success) × (other.again ≡ true)
+
 -- ---- bounds
 
 -- no more steps are begun than the bound allows
 abbrev pub StepsAreBounded : Type 0
 StepsAreBounded = (task : Task) (w : OutcomeWord) → steps task w ≤ task.limits.step_bound
+
+-- no more device commands are in the log than the bound allows, those that were told an answer again among them
+abbrev pub DevicesAreBounded : Type 0
+DevicesAreBounded =
+    (task : Task) (w : OutcomeWord) → length (state_of (run_on task w)).log ≤ task.limits.device_bound
 
 -- a run is cut for its steps only if the bound is reached
 abbrev pub CutAtStepBound : Type 0

@@ -1,8 +1,8 @@
 //! Laws of rehearsals. A call of one does nothing: its contract is the law.
 
 ghost use Rattle.rehearse.specs.Laws.{NoRunTwice, NoRunBeginsAnother, NoRunIsLonger, RunsAreThere, AnotherFollows};
-ghost use Rattle.rehearse.specs.Laws.{RunsPartWhereAsked, LogIsWord};
-ghost use Rattle.rehearse.specs.Laws.{StepsAreBounded, CutAtStepBound, CutAtDeviceBound, AskedBelowBound};
+ghost use Rattle.rehearse.specs.Laws.{RunsPartWhereAsked, LogIsWord, AnswersStay};
+ghost use Rattle.rehearse.specs.Laws.{StepsAreBounded, DevicesAreBounded, CutAtStepBound, CutAtDeviceBound, AskedBelowBound};
 ghost use Rattle.rehearse.specs.Laws.{AskedInFront, SharedIsWithin};
 ghost use Rattle.rehearse.specs.Laws.{RunsBegin, RunsFollow, RunsStand, RunsAreRuns, RunsAreOrdered};
 ghost use Rattle.rehearse.specs.Laws.{AllMayFail, FewerAmongMore, FewerAreMore, FewRuns, NoneMayFail};
@@ -21,15 +21,18 @@ pub fn words_of_runs()
 {}
 
 /// The outcomes in a run's log are its word, and two runs differ first at an outcome that a device
-/// command asks for.
+/// command asks for. If the answers of two commands of the log stay, and their words are the same, the
+/// later one has the answer of the earlier one, and no outcome of the word.
 pub fn outcomes_of_runs()
     ensures logged { LogIsWord }
     ensures parted { RunsPartWhereAsked }
+    ensures stays { AnswersStay }
 {}
 
 /// No run goes past a bound, and none is cut before it.
 pub fn bounds_of_runs()
     ensures steps { StepsAreBounded }
+    ensures devices { DevicesAreBounded }
     ensures cut_steps { CutAtStepBound }
     ensures cut_devices { CutAtDeviceBound }
     ensures asked { AskedBelowBound }

@@ -4,7 +4,7 @@ use Rattle.std.specs.Fmt.{digits}
 use Rattle.hushlang.specs.Expansion.{fields, joined, atoms}
 use Rattle.rehearse_terms.specs.Bounds.{are_bounds}
 use Rattle.rehearse.specs.Laws.{failing}
-use Rattle.rehearse_terms.specs.Outcomes.{Success, Failure, failures, is_within, has_success, turned}
+use Rattle.rehearse_terms.specs.Outcomes.{Success, Failure}
 use Rattle.hushlang.specs.Trees.{tree_of}
 use Rattle.rehearse_terms.specs.State.{Text}
 use Rattle.rehearse.specs.Runs.{Task, runs, all_runs, work}
@@ -80,28 +80,6 @@ seven_loads = failing (bootcmd (limits only_load 7 10000) (times 10 (codes "true
 one_of_seven : length (runs seven_loads) ∷ length (all_runs seven_loads) ∷ work seven_loads (runs seven_loads) ∷ [] ≡ 8 ∷ 128 ∷ 38 ∷ []
 unfolding tree_of fields joined atoms digits
 one_of_seven = refl
-
--- ---- words
-
-counted : map failures ([] ∷ (Success ∷ []) ∷ (Failure ∷ Success ∷ Failure ∷ []) ∷ []) ≡ 0 ∷ 0 ∷ 2 ∷ []
-counted = refl
-
-allowed : map (is_within (Some 1)) ([] ∷ (Failure ∷ Success ∷ []) ∷ (Failure ∷ Success ∷ Failure ∷ []) ∷ []) ≡ true ∷ true ∷ false ∷ []
-allowed = refl
-
--- the last success may fail; only the first may; none may
-turned_last : turned (Some 2) (Success ∷ Failure ∷ Success ∷ []) ≡ Some (Success ∷ Failure ∷ Failure ∷ [])
-turned_last = refl
-
-turned_first : turned (Some 1) (Success ∷ Failure ∷ Success ∷ []) ≡ Some (Failure ∷ [])
-turned_first = refl
-
-turned_none : turned (Some 1) (Failure ∷ Success ∷ []) ≡ None
-turned_none = refl
-
--- whether one of them may
-may_turn : has_success (Some 1) (Success ∷ Failure ∷ Success ∷ []) ∷ has_success (Some 1) (Failure ∷ Success ∷ []) ∷ has_success None (Failure ∷ Success ∷ []) ∷ has_success None (Failure ∷ []) ∷ has_success (Some 0) (Success ∷ []) ∷ [] ≡ true ∷ false ∷ true ∷ false ∷ false ∷ []
-may_turn = refl
 
 -- ---- bounds
 

@@ -1,6 +1,5 @@
 -- Worked examples, computed: device commands whose answers stay.
-use Rattle.std.proofs.Common.{true, false, List, [], ◌∷◌, Some, None, codes, refl, ◌≡◌}
-use Rattle.rehearse_terms.specs.State.{Text, LoggedCommand, asked_of, answer_in}
+use Rattle.std.proofs.Common.{true, false, [], ◌∷◌, Some, None, codes, refl, ◌≡◌}
 use Rattle.device_list.specs.DeviceList.{Variable, LastWord, Effect, Devices, effect_of, only}
 use Rattle.device_list.specs.DeviceLaws.{quiet}
 use Rattle.rehearse.specs.Laws.{failing}
@@ -144,25 +143,3 @@ steady_boot = bootcmd (limits (only ((codes "bootm", record steady { ends = true
 steady_boot_listed : listed steady_boot z None ≡ codes "run 0\ndev 0 bootm\nunset z\nbooted bootm\nrun 1\ndev 1 bootm\ndev 1 bootm\ntext no\\n\nunset z\nend 0\ndone\n"
 unfolding listed_along ends_along
 steady_boot_listed = along 1 steady_boot z None _ refl refl
-
--- ---- answers in a log
-
-abbrev entry : List Text → LoggedCommand
-entry words = record { success = true; words = words; stays = false; again = false }
-
-abbrev call : List Text
-call = codes "load" ∷ codes "a" ∷ []
-
--- only an answer that stays is told, of the same words, and the first of them
-none_stays : answer_in (entry call ∷ []) call ≡ None
-none_stays = refl
-
-one_stays : answer_in (entry call ∷ record (entry call) { success = false; stays = true } ∷ record (entry call) { stays = true } ∷ []) call ≡ Some false
-one_stays = refl
-
-other_call : answer_in (record (entry call) { stays = true } ∷ []) (codes "load" ∷ []) ≡ None
-other_call = refl
-
--- a command that was told its answer again took no outcome
-asked_once : asked_of (entry call ∷ record (entry call) { again = true } ∷ []) ≡ entry call ∷ []
-asked_once = refl

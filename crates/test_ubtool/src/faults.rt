@@ -53,6 +53,7 @@ fn all(case: &Case<'_>) -> anyhow::Result<String> {
         ToolError::Script(ScriptError::BadValue(6)),
         ToolError::Rehearsal(RehearseError::DeviceList(DevicesError::BadLine(7))),
         ToolError::Rehearsal(RehearseError::DeviceList(DevicesError::BuiltIn(8))),
+        ToolError::Rehearsal(RehearseError::DeviceList(DevicesError::ByteOrderMark)),
         ToolError::Write,
         ToolError::Memory,
     ] {

@@ -1,9 +1,12 @@
 use Rattle.rehearse.proofs.TaskChoices.{asked_below_bound}
-use Rattle.rehearse.proofs.BoundLemmas.{steps_are_bounded, cut_at_step_bound, cut_at_device_bound}
+use Rattle.rehearse.proofs.BoundLemmas.{steps_are_bounded, devices_are_bounded, cut_at_step_bound, cut_at_device_bound}
 use Rattle.rehearse.proofs.laws.bounds_of_runs.Goals as goal
 
 pub returns-clause-steps : goal.returns-clause-steps
 returns-clause-steps c = steps_are_bounded
+
+pub returns-clause-devices : goal.returns-clause-devices
+returns-clause-devices c = devices_are_bounded
 
 pub returns-clause-cut_steps : goal.returns-clause-cut_steps
 returns-clause-cut_steps c = cut_at_step_bound

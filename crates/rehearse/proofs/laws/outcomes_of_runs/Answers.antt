@@ -1,4 +1,5 @@
 use Rattle.rehearse.proofs.TaskChoices.{log_is_word, runs_part_where_asked}
+use Rattle.rehearse.proofs.StayingAnswers.{answers_stay}
 use Rattle.rehearse.proofs.laws.outcomes_of_runs.Goals as goal
 
 pub returns-clause-logged : goal.returns-clause-logged
@@ -6,3 +7,6 @@ returns-clause-logged c = log_is_word
 
 pub returns-clause-parted : goal.returns-clause-parted
 returns-clause-parted c = runs_part_where_asked
+
+pub returns-clause-stays : goal.returns-clause-stays
+returns-clause-stays c = answers_stay

@@ -1,0 +1,2 @@
+mod OutcomeExamples
+mod StateExamples
