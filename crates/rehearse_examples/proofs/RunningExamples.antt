@@ -1,10 +1,11 @@
 -- The examples of docs/RUNNING.md, computed, in its order: what the text of `bootcmd` writes, and how its runs end.
 use Rattle.std.proofs.Common.{◌≡◌, ℕ, [], ◌∷◌, None, Some, codes, refl, map}
 use Rattle.rehearse_terms.specs.Outcomes.{Success, Failure}
-use Rattle.rehearse_terms.specs.State.{Text}
+use Rattle.rehearse_terms.specs.State.{Text, Variables}
+use Rattle.device_list.specs.DeviceList.{Devices}
 use Rattle.rehearse.specs.Execution.{End, CutSteps, Unknown, Syntax, Size}
 use Rattle.rehearse.specs.Runs.{Task}
-use Rattle.rehearse.proofs.ExampleRehearsals.{only_load, limits, bootcmd, bootcmd_among, z, listed, listed_after, told_of, told, told_with, told_within, write}
+use Rattle.rehearse.proofs.ExampleRehearsals.{Told, only_load, limits, bootcmd, bootcmd_among, z, listed, listed_after, told_of, told, told_with, told_within, write}
 
 abbrev listing_with : ℕ → Text → Text
 listing_with devices text = listed (bootcmd (limits only_load devices 10000) text) z None
@@ -108,6 +109,34 @@ asked_test = refl
 words_of_a_command : listing_with 1 (codes "load 'a b' '' \\\\") ≡ codes "run 0\ndev 0 load a\\x20b \\e \\\\\nunset z\nend 0\nrun 1\ndev 1 load a\\x20b \\e \\\\\nunset z\nend 1\ndone\n"
 unfolding listed
 words_of_a_command = refl
+
+-- ---- computed commands
+
+abbrev known_three : Devices
+known_three = record { commands = []; subs = []; known = codes "env" ∷ codes "itest" ∷ codes "setexpr" ∷ []; test_stays = false }
+
+abbrev told_known : Variables → Text → Told
+told_known variables text = told_of (bootcmd_among (limits known_three 0 10000) variables text)
+
+env_calls : told_known ((codes "a", codes "1") ∷ []) (codes "env exists a; echo $?") ∷ map (told_known []) (codes "x=1; env exists x; echo $?" ∷ codes "env set -f a 1 2; echo $a" ∷ codes "env default -a" ∷ []) ≡ (codes "0\n", End 0) ∷ (codes "1\n", End 0) ∷ (codes "1 2\n", End 0) ∷ ([], Unknown (codes "env")) ∷ []
+unfolding told_of
+env_calls = refl
+
+env_deletes : map (λ text. listed (bootcmd_among (limits known_three 0 10000) ((codes "b", codes "2") ∷ []) text) (codes "b" ∷ []) None) (codes "env delete a b; echo $?" ∷ codes "env delete -x b; echo $?" ∷ []) ≡ codes "run .\ntext 1\\n\nunset b\nend 0\ndone\n" ∷ codes "run .\ntext 1\\n\nvar b=2\nend 0\ndone\n" ∷ []
+unfolding listed
+env_deletes = refl
+
+itest_calls : map (told_known []) (codes "itest 10 == 0x10; echo $?" ∷ codes "itest 9 -lt 10; echo $?" ∷ codes "itest ffffffff -gt 1; echo $?" ∷ codes "itest *1000 = 0; echo $?" ∷ []) ≡ write (codes "0\n" ∷ codes "0\n" ∷ codes "0\n" ∷ codes "1\n" ∷ [])
+unfolding told_of
+itest_calls = refl
+
+setexpr_calls : map (told_known []) (codes "setexpr n 9 + 9; echo $n" ∷ codes "setexpr n 0 - 1; echo $n" ∷ codes "setexpr n $n + 1; echo $?" ∷ codes "setexpr n sub; echo $n" ∷ []) ≡ write (codes "12\n" ∷ codes "ffffffffffffffff\n" ∷ codes "1\n" ∷ codes "0\n" ∷ [])
+unfolding told_of
+setexpr_calls = refl
+
+not_computed : map (told_known []) (codes "itest *1000 == 0" ∷ codes "setexpr n sub a b" ∷ codes "setexpr n 1 / 0" ∷ []) ≡ ([], Unknown (codes "itest")) ∷ ([], Unknown (codes "setexpr")) ∷ ([], Unknown (codes "setexpr")) ∷ []
+unfolding told_of
+not_computed = refl
 
 -- ---- pages
 
