@@ -48,7 +48,11 @@ _ubtool() {
     COMPREPLY=()
     case $last-${line[1]} in
         1-*)
-            mapfile -t COMPREPLY < <(compgen -W 'printenv setenv rehearse endings -h --help -V --version' -- "$word")
+            mapfile -t COMPREPLY < <(compgen -W 'printenv setenv rehearse endings help version -h --help -V --version' -- "$word")
+            return
+            ;;
+        2-help)
+            mapfile -t COMPREPLY < <(compgen -W 'printenv setenv rehearse endings' -- "$word")
             return
             ;;
         *-printenv) options='-c --config --big-endian -l --lock -n --noheader -h --help -V --version' ;;

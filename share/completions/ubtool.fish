@@ -37,6 +37,12 @@ function __ubtool_setenv_first
     end
 end
 
+# Whether the next word is the subcommand of help.
+function __ubtool_after_help
+    set -l words (commandline -opc)
+    test (count $words) -eq 2; and test $words[2] = help
+end
+
 complete -c ubtool -f
 complete -c ubtool -s h -l help -d 'Print help'
 complete -c ubtool -s V -l version -d 'Print version'
@@ -44,6 +50,9 @@ complete -c ubtool -n __fish_use_subcommand -a printenv -d 'Print variables of t
 complete -c ubtool -n __fish_use_subcommand -a setenv -d 'Set or delete variables of the environment'
 complete -c ubtool -n __fish_use_subcommand -a rehearse -d 'List every run of a boot script'
 complete -c ubtool -n __fish_use_subcommand -a endings -d 'Tell how all runs of a boot script end'
+complete -c ubtool -n __fish_use_subcommand -a help -d 'Print help'
+complete -c ubtool -n __fish_use_subcommand -a version -d 'Print version'
+complete -c ubtool -n __ubtool_after_help -a 'printenv setenv rehearse endings'
 
 set -l any '__fish_seen_subcommand_from printenv setenv rehearse endings'
 complete -c ubtool -n $any -s c -l config -r -F -d 'Configuration'

@@ -16,7 +16,7 @@ _ubtool_names() {
 _ubtool() {
     local curcontext=$curcontext state line
     local -A opt_args
-    local -a common runs lock commands
+    local -a common runs lock commands words_alone
     common=(
         '(-c --config)'{-c,--config}'[configuration]:configuration:_files'
         '--big-endian[the CRC is stored big-endian]'
@@ -36,13 +36,15 @@ _ubtool() {
         'rehearse:list every run of a boot script'
         'endings:tell how all runs of a boot script end'
     )
+    words_alone=('help:print help' 'version:print version')
     _arguments -C '(- *)'{-h,--help}'[print help]' '(- *)'{-V,--version}'[print version]' \
         '1: :->command' '*:: :->words' && return
     case $state in
-        command) _describe -t commands command commands ;;
+        command) _describe -t commands command commands -- words_alone ;;
         words)
             curcontext=${curcontext%:*:*}:ubtool-$words[1]:
             case $words[1] in
+                help) (( CURRENT != 2 )) || _describe -t commands command commands ;;
                 printenv)
                     _arguments -S $common $lock '(-n --noheader)'{-n,--noheader}'[print the value alone]' \
                         '*: :_ubtool_names'

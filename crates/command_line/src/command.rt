@@ -25,10 +25,11 @@ fn base<'a>(alloc: Global) -> Result<Command<'a>, AllocError>
         .bin_name("ubtool")
 }
 
-/// The program's command line.
-pub fn ubtool<'a>(alloc: Global) -> Result<Command<'a>, AllocError>
+/// The program's command line. If the program is called as one of U-Boot's tools, helps and usage lines
+/// name the tool.
+pub fn ubtool<'a>(alloc: Global, as_tool: bool) -> Result<Command<'a>, AllocError>
     ensures { IfOk result (IsMade ubtool) }
 {
     let command = base(alloc)?;
-    with_subcommands(alloc, command, &SUBCOMMANDS)
+    with_subcommands(alloc, command, &SUBCOMMANDS, as_tool)
 }

@@ -14,7 +14,7 @@ Examples:
   ubtool endings -d devices.txt
   ubtool < env.img
 
-'ubtool printenv --help' and its like tell more.
+'ubtool help printenv' and its like tell more.
 ";
 
 pub(crate) const PRINTENV_NOTES: &str = "\
@@ -33,6 +33,23 @@ Examples:
   ubtool printenv -c fw_env.config --big-endian
 ";
 
+/// The same as `PRINTENV_NOTES`, with examples of the tool.
+pub(crate) const FW_PRINTENV_NOTES: &str = "\
+Each variable is printed as NAME=VALUE, on a line of its own. A missing one is
+reported on standard error, and the status is then 1.
+
+A line of the configuration is 'device offset size': one line for a single
+image, two for the copies of a redundant pair. Offset and size are bytes. The
+offset is decimal, hexadecimal after 0x or octal after 0; the size is
+hexadecimal, at most 100000 (1048576 bytes).
+
+Examples:
+  fw_printenv
+  fw_printenv bootcmd bootdelay
+  fw_printenv -n serverip
+  fw_printenv -c fw_env.config --big-endian
+";
+
 pub(crate) const SETENV_NOTES: &str = "\
 The VALUEs are joined by one space. A single image is written in place. Of a
 redundant pair the copy that is not current is written, and becomes current.
@@ -48,6 +65,22 @@ Examples:
   ubtool setenv -s changes.txt
 ";
 
+/// The same as `SETENV_NOTES`, with examples of the tool.
+pub(crate) const FW_SETENV_NOTES: &str = "\
+The VALUEs are joined by one space. A single image is written in place. Of a
+redundant pair the copy that is not current is written, and becomes current.
+
+A line of a script is 'NAME VALUE', or 'NAME' alone to delete the variable.
+Lines that begin with # are skipped. A script has at most 1048576 bytes.
+The script of '-s -' is read from standard input.
+
+Examples:
+  fw_setenv bootdelay 3
+  fw_setenv bootargs console=ttyS0,115200 root=/dev/mmcblk0p2
+  fw_setenv -c fw_env.config bootdelay
+  fw_setenv -s changes.txt
+";
+
 pub(crate) const REHEARSE_NOTES: &str = "\
 Each way that the device commands can succeed or fail is a run, and each run is
 listed once, success before failure. A run's word has a digit for each device
@@ -57,9 +90,18 @@ command fails, or none; with 2, any two. With --word the run of one word is
 written alone, also of a word that endings names. The image is read and never
 written.
 
-A line of the device list is 'NAME', 'NAME VAR=VALUE' for a command that sets
-variables when it succeeds, or 'final NAME' for one that boots and so ends the
-run. Lines that begin with # are skipped.
+A line of the device list is one of these:
+
+  NAME                a command that succeeds or fails
+  NAME VAR=VALUE ..   one that sets variables when it succeeds
+  final NAME ..       one that boots, and so ends the run
+  steady NAME ..      one that answers as before to the same words
+  sub NAME WORD ..    its calls with this first word alone
+  known NAME          env, itest or setexpr, computed from the words of a call
+
+They go together as in 'final steady sub NAME WORD VAR=VALUE'. In a sub line,
+@1=VALUE or @last=VALUE sets the variable that a word of the call names. The
+line 'steady test' is about 'test -e'. Lines that begin with # are skipped.
 
 Examples:
   ubtool rehearse -d devices.txt

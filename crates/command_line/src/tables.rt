@@ -1,9 +1,11 @@
 //! The subcommands of `ubtool` with their arguments, as tables.
 
 use crate::argument::{Argument, Form};
-use crate::notes::{ENDINGS_NOTES, PRINTENV_NOTES, REHEARSE_NOTES, SETENV_NOTES};
+use crate::notes::{
+    ENDINGS_NOTES, FW_PRINTENV_NOTES, FW_SETENV_NOTES, PRINTENV_NOTES, REHEARSE_NOTES, SETENV_NOTES,
+};
 use crate::shared::{BIG_ENDIAN, CONFIG, DEVICE_LIST, NAMES};
-use crate::subcommand::Subcommand;
+use crate::subcommand::{Subcommand, Tool};
 use rehearse_terms::{RUN_DEVICES_MAX, STEPS_MAX};
 
 /// The most device commands that may fail in a run that is listed.
@@ -216,23 +218,33 @@ pub(crate) const SUBCOMMANDS: [Subcommand<'static>; 4] = [
         about: "Print variables of the environment",
         notes: PRINTENV_NOTES,
         arguments: &PRINTENV,
+        tool: Some(Tool {
+            usage: "fw_printenv [OPTIONS] [NAME]...",
+            notes: FW_PRINTENV_NOTES,
+        }),
     },
     Subcommand {
         name: "setenv",
         about: "Set or delete variables of the environment",
         notes: SETENV_NOTES,
         arguments: &SETENV,
+        tool: Some(Tool {
+            usage: "fw_setenv [OPTIONS] [NAME] [VALUE]...",
+            notes: FW_SETENV_NOTES,
+        }),
     },
     Subcommand {
         name: "rehearse",
         about: "List every run of a boot script",
         notes: REHEARSE_NOTES,
         arguments: &REHEARSE,
+        tool: None,
     },
     Subcommand {
         name: "endings",
         about: "Tell how all runs of a boot script end",
         notes: ENDINGS_NOTES,
         arguments: &ENDINGS,
+        tool: None,
     },
 ];

@@ -15,36 +15,36 @@ abbrev files : ℕ → Option Told → Bool → FilesShown
 files faults told locked = record { faults = faults; told = told; locked = locked }
 
 -- words that were understood do not end as misused ones
-pub never-misused : (answer : Result Bool Fault) (told err' : Sink) (status : ℕ) → Ends answer told err' status → status ≡ 2 → ⊥
-never-misused (Ok true) told err' status ends is = omega (arith, ends.0, is)
-never-misused (Ok false) told err' status ends is = omega (arith, ends.0, is)
-never-misused (Err fault) told err' status ends is = omega (arith, ends, is)
+pub never-misused : (program : List ℕ) (answer : Result Bool Fault) (told err' : Sink) (status : ℕ) → Ends program answer told err' status → status ≡ 2 → ⊥
+never-misused program (Ok true) told err' status ends is = omega (arith, ends.0, is)
+never-misused program (Ok false) told err' status ends is = omega (arith, ends.0, is)
+never-misused program (Err fault) told err' status ends is = omega (arith, ends.0, is)
 
 -- a call without words is never misused
 pub printed-low : (status : ℕ) → (status ≡ 0) ⊎ (status ≡ 1) → status ≤ 1
 printed-low status (inl is) = omega (arith, is)
 printed-low status (inr is) = omega (arith, is)
 
-pub ends-low : (answer : Result Bool Fault) (told err' : Sink) (status : ℕ) → Ends answer told err' status → status ≤ 2
-ends-low (Ok true) told err' status ends = omega (arith, ends.0)
-ends-low (Ok false) told err' status ends = omega (arith, ends.0)
-ends-low (Err fault) told err' status ends = omega (arith, ends)
+pub ends-low : (program : List ℕ) (answer : Result Bool Fault) (told err' : Sink) (status : ℕ) → Ends program answer told err' status → status ≤ 2
+ends-low program (Ok true) told err' status ends = omega (arith, ends.0)
+ends-low program (Ok false) told err' status ends = omega (arith, ends.0)
+ends-low program (Err fault) told err' status ends = omega (arith, ends.0)
 
-pub status-done : {Ask : Type 0} {locked locked' : Bool} (Answers : List Text → Result Ask UseError → Type 0) (Does : Ask → Option Told → Option Told → Outputs → Result Bool Fault → Type 0)
+pub status-done : {Ask : Type 0} {locked locked' : Bool} (program : List ℕ) (Answers : List Text → Result Ask UseError → Type 0) (Does : Ask → Option Told → Option Told → Outputs → Result Bool Fault → Type 0)
     (words : List Text) (ask : Ask) (faults faults' : ℕ) (before after : Option Told) (out out' err told err' : Sink) (answer : Result Bool Fault) (status : ℕ)
-    → Answers words (Ok ask) → CountsTold faults faults' answer → Does ask before after (outputs out out' err told) answer → Ends answer told err' status → status ≡ 0
+    → Answers words (Ok ask) → CountsTold faults faults' answer → Does ask before after (outputs out out' err told) answer → Ends program answer told err' status → status ≡ 0
     → HasDone Answers Does words (files faults before locked) (files faults' after locked') (outputs out out' err err')
-status-done Answers Does words ask faults faults' before after out out' err told err' (Ok true) status asked counts does ends is =
+status-done program Answers Does words ask faults faults' before after out out' err told err' (Ok true) status asked counts does ends is =
     record { ask = ask; asked = asked; sound = counts; does = subst (λ (e : Sink). Does ask before after (outputs out out' err e) (Ok true)) (sym ends.1) does }
-status-done Answers Does words ask faults faults' before after out out' err told err' (Ok false) status asked counts does ends is = let e : ⊥ = omega (arith, ends.0, is) in absurd e
-status-done Answers Does words ask faults faults' before after out out' err told err' (Err fault) status asked counts does ends is = let e : ⊥ = omega (arith, ends, is) in absurd e
+status-done program Answers Does words ask faults faults' before after out out' err told err' (Ok false) status asked counts does ends is = let e : ⊥ = omega (arith, ends.0, is) in absurd e
+status-done program Answers Does words ask faults faults' before after out out' err told err' (Err fault) status asked counts does ends is = let e : ⊥ = omega (arith, ends.0, is) in absurd e
 
-pub status-refused : {Ask : Type 0} {locked locked' : Bool} (Answers : List Text → Result Ask UseError → Type 0) (Does : Ask → Option Told → Option Told → Outputs → Result Bool Fault → Type 0)
+pub status-refused : {Ask : Type 0} {locked locked' : Bool} (program : List ℕ) (Answers : List Text → Result Ask UseError → Type 0) (Does : Ask → Option Told → Option Told → Outputs → Result Bool Fault → Type 0)
     (words : List Text) (ask : Ask) (faults faults' : ℕ) (before after : Option Told) (out out' err told err' : Sink) (answer : Result Bool Fault) (status : ℕ)
-    → Answers words (Ok ask) → CountsTold faults faults' answer → Does ask before after (outputs out out' err told) answer → Ends answer told err' status → status ≡ 1
-    → HasRefused Answers Does words (files faults before locked) (files faults' after locked') (outputs out out' err err')
-status-refused Answers Does words ask faults faults' before after out out' err told err' (Ok true) status asked counts does ends is = let e : ⊥ = omega (arith, ends.0, is) in absurd e
-status-refused Answers Does words ask faults faults' before after out out' err told err' (Ok false) status asked counts does ends is =
+    → Answers words (Ok ask) → CountsTold faults faults' answer → Does ask before after (outputs out out' err told) answer → Ends program answer told err' status → status ≡ 1
+    → HasRefused program Answers Does words (files faults before locked) (files faults' after locked') (outputs out out' err err')
+status-refused program Answers Does words ask faults faults' before after out out' err told err' (Ok true) status asked counts does ends is = let e : ⊥ = omega (arith, ends.0, is) in absurd e
+status-refused program Answers Does words ask faults faults' before after out out' err told err' (Ok false) status asked counts does ends is =
     record { ask = ask; asked = asked; answer = Ok false; is_refusal = λ e. cc; counts = counts; told_from = told; told = ends.1; does = does }
-status-refused Answers Does words ask faults faults' before after out out' err told err' (Err fault) status asked counts does ends is =
-    record { ask = ask; asked = asked; answer = Err fault; is_refusal = λ e. cc; counts = counts; told_from = told; told = tt; does = does }
+status-refused program Answers Does words ask faults faults' before after out out' err told err' (Err fault) status asked counts does ends is =
+    record { ask = ask; asked = asked; answer = Err fault; is_refusal = λ e. cc; counts = counts; told_from = told; told = ends.1; does = does }

@@ -7,3 +7,5 @@ pub mod Running
 pub mod ChangingFiles
 pub mod Showing
 pub mod Sources
+pub mod TellingShown
+pub mod Ending

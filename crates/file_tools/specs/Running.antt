@@ -8,6 +8,7 @@ use Rattle.requests.specs.declared.ask.UseError.TheVariants.{Line}
 use Rattle.output.specs.Outputs.{Outputs}
 use Rattle.locked_files.specs.Told.{Told}
 use Rattle.locked_files.specs.declared.files.Files.{Ghosts}
+use Rattle.image_tools.specs.FaultLines.{TellsLine}
 use Rattle.image_tools.specs.declared.fault.Fault.{Fault}
 use Rattle.file_tools.specs.Faults.{CountsTold}
 use Rattle.file_tools.specs.declared.starting.StartError.{StartError}
@@ -32,15 +33,15 @@ pub record HasDone {Ask : Type 0} (Answers : List Text → Result Ask UseError �
   pub sound : after.faults ≡ before.faults
   pub does : Does ask before.told after.told outputs (Ok true)
 
--- a fault is reported last, and with any other answer nothing is reported
-abbrev pub TellsLast : Result Bool Fault → Sink → Sink → Type 0
-TellsLast (Ok all) old new = new ≡ old
-TellsLast (Err fault) old new = Unit {0}
+-- a fault is reported last, in one line, and with any other answer nothing is reported
+abbrev pub TellsLast : (program : List ℕ) → Result Bool Fault → Sink → Sink → Type 0
+TellsLast program (Ok all) old new = new ≡ old
+TellsLast program (Err fault) old new = TellsLine program old new
 
--- Status 1: the words ask for something. Either the answer is no, as for a missing variable; or it was refused, which
--- is the last thing reported on the error output. A fault that says that a file failed is reported if one call on files
+-- Status 1: the words ask for something. Either the answer is no, as for a missing variable; or it was refused, and one
+-- line of the program is the last thing reported on the error output. A fault that says that a file failed is reported if one call on files
 -- failed, and only then.
-pub record HasRefused {Ask : Type 0} (Answers : List Text → Result Ask UseError → Type 0)
+pub record HasRefused {Ask : Type 0} (program : List ℕ) (Answers : List Text → Result Ask UseError → Type 0)
     (Does : Ask → Option Told → Option Told → Outputs → Result Bool Fault → Type 0)
     (words : List Text) (before after : FilesShown) (outputs : Outputs) : Type 0 where
   pub ask : Ask
@@ -49,16 +50,17 @@ pub record HasRefused {Ask : Type 0} (Answers : List Text → Result Ask UseErro
   pub is_refusal : (answer ≡ Ok true) → ⊥
   pub counts : CountsTold before.faults after.faults answer
   pub told_from : Sink
-  pub told : TellsLast answer told_from outputs.err'
+  pub told : TellsLast program answer told_from outputs.err'
   pub does : Does ask before.told after.told (record outputs { err' = told_from }) answer
 
--- what is reported if words are refused: what `clap` says, as it is, or a prefix of it if the output failed
-abbrev pub Tells : UseError → Sink → Sink → Type 0
-Tells (Line text) old new = Wrote old new (string_bytes text) ⊎ BrokeOff old new (string_bytes text)
-Tells error old new = Unit {0}
+-- what is reported if words are refused: what `clap` says, as it is, or a prefix of it if the output failed; of any
+-- other refusal one line of the program
+abbrev pub Tells : (program : List ℕ) → UseError → Sink → Sink → Type 0
+Tells program (Line text) old new = Wrote old new (string_bytes text) ⊎ BrokeOff old new (string_bytes text)
+Tells program error old new = TellsLine program old new
 
 -- Status 2: the words were refused. No file was touched, no lock was taken, and nothing was printed.
-pub record IsMisused {Ask : Type 0} (Answers : List Text → Result Ask UseError → Type 0)
+pub record IsMisused {Ask : Type 0} (program : List ℕ) (Answers : List Text → Result Ask UseError → Type 0)
     (words : List Text) (before after : FilesShown) (outputs : Outputs) : Type 0 where
   pub error : UseError
   pub refused : Answers words (Err error)
@@ -66,15 +68,15 @@ pub record IsMisused {Ask : Type 0} (Answers : List Text → Result Ask UseError
   pub files : after.told ≡ before.told
   pub lock : after.locked ≡ before.locked
   pub output : outputs.out' ≡ outputs.out
-  pub tells : Tells error outputs.err outputs.err'
+  pub tells : Tells program error outputs.err outputs.err'
 
 -- the status with which a program ended, or 2 if it did not start
 abbrev pub EndsAs : Result ℕ StartError → ℕ → Type 0
 EndsAs (Ok came) status = status ≡ came
 EndsAs (Err error) status = status ≡ 2
 
--- the status of an answer, which leaves the error output as it is if there is no fault
-abbrev pub Ends : Result Bool Fault → Sink → Sink → ℕ → Type 0
-Ends (Ok true) old new status = (status ≡ 0) × (new ≡ old)
-Ends (Ok false) old new status = (status ≡ 1) × (new ≡ old)
-Ends (Err fault) old new status = status ≡ 1
+-- the status of an answer, which leaves the error output as it is if there is no fault; a fault is reported in one line
+abbrev pub Ends : (program : List ℕ) → Result Bool Fault → Sink → Sink → ℕ → Type 0
+Ends program (Ok true) old new status = (status ≡ 0) × (new ≡ old)
+Ends program (Ok false) old new status = (status ≡ 1) × (new ≡ old)
+Ends program (Err fault) old new status = (status ≡ 1) × TellsLine program old new

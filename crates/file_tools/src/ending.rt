@@ -1,17 +1,19 @@
 //! How the programs end: what is reported of a refusal, and the status.
-ghost use Rattle.std.specs.Prelude.{◌≡◌, ◌⊎◌};
+ghost use Rattle.file_tools.specs.Ending.{Finishes};
 ghost use Rattle.file_tools.specs.Running.{EndsAs, Ends, Tells};
+ghost use Rattle.file_tools.specs.TellingShown.{has_told, out_of};
 
 use crate::starting::{Buffered, StartError};
 use crate::telling::Telling;
 use image_tools::{Fault, ToolError, write_fault_of};
-use output::{Out, write_all};
+use output::{Out, Over, write_all};
 use requests::UseError;
 use std::io::Write;
 
-/// Reports why the words of a program are refused. What `clap` says of them is written as it is.
+/// Reports why the words of a program are refused: what `clap` says of them as it is, and any other
+/// refusal in one line.
 pub fn refuse<E: Out>(err: &mut E, program: &str, error: &UseError)
-    ensures { Tells error.now (E.sink err.old) (E.sink err.new) }
+    ensures { Tells program.now error.now (E.sink err.old) (E.sink err.new) }
 {
     match error {
         UseError::Line(text) => {
@@ -23,7 +25,7 @@ pub fn refuse<E: Out>(err: &mut E, program: &str, error: &UseError)
 
 /// The status of an answer. Reports a fault in one line.
 pub fn status_of<E: Out>(err: &mut E, program: &str, answer: Result<bool, Fault>) -> u8
-    ensures { Ends answer (E.sink err.old) (E.sink err.new) result }
+    ensures { Ends program.now answer (E.sink err.old) (E.sink err.new) result }
 {
     match answer {
         Ok(true) => 0,
@@ -35,28 +37,30 @@ pub fn status_of<E: Out>(err: &mut E, program: &str, answer: Result<bool, Fault>
     }
 }
 
-/// Flushes and drops the output of a program, and returns the program's status. If the flush fails
-/// and nothing was reported yet, reports it and returns 1.
-pub fn finish<W: Write + Drop, E: Out>(
-    out: Buffered<W>,
+/// Flushes the output of a program, and returns the status with which the program ends: the one given,
+/// but 1 in place of 0 if the flush fails. A failure is reported if nothing was reported before.
+pub fn finish<W: Write, E: Out>(
+    out: &mut Over<W>,
     err: &mut Telling<E>,
     program: &str,
     status: u8,
 ) -> u8
-    ensures { (result ≡ status) ⊎ (result ≡ 1) }
+    ensures { Finishes program.now (has_told err.old) out.old out.new (E.sink (out_of err.old))
+        (E.sink (out_of err.new)) status result }
 {
-    let mut writer = out.into_writer();
-    if writer.flush().is_err() && !err.has_told() {
-        write_fault_of(err, program, &Fault::Tool(ToolError::Write));
-        return 1;
+    if out.flush().is_ok() {
+        return status;
     }
-    status
+    if !err.has_told() {
+        write_fault_of(err, program, &Fault::Tool(ToolError::Write));
+    }
+    status.max(1)
 }
 
-/// Flushes and drops the error output of a program. Returns the program's status, or 2 if it did
-/// not start, which is reported.
+/// Flushes the error output of a program. Returns the program's status, or 2 if it did not start, which
+/// is reported.
 pub fn end<W: Write + Drop>(
-    mut err: Telling<Buffered<W>>,
+    err: &mut Telling<Buffered<W>>,
     program: &str,
     status: Result<u8, StartError>,
 ) -> u8
@@ -65,10 +69,10 @@ pub fn end<W: Write + Drop>(
     let status = match status {
         Ok(status) => status,
         Err(error) => {
-            write_fault_of(&mut err, program, &error);
+            write_fault_of(err, program, &error);
             2
         }
     };
-    let _ = err.into_out().into_writer().flush();
+    err.flush();
     status
 }

@@ -28,7 +28,7 @@ fn run<E: Out>(rt: &HostRuntime, err: &mut Telling<E>) -> Result<u8, StartError>
     let mut out = buffered(rt.alloc(), io::writer(rt))?;
     let mut files = Machine::new(rt);
     let status = run_check(rt.alloc(), BUILD, words, &mut files, &mut out, err);
-    Ok(finish(out, err, PROGRAM, status))
+    Ok(finish(&mut out, err, PROGRAM, status))
 }
 
 fn main(rt: HostRuntime) -> ExitCode {
@@ -39,5 +39,5 @@ fn main(rt: HostRuntime) -> ExitCode {
     };
     let mut err = Telling::new(err);
     let status = run(&rt, &mut err);
-    ExitCode::from(end(err, PROGRAM, status))
+    ExitCode::from(end(&mut err, PROGRAM, status))
 }

@@ -65,10 +65,10 @@ pub fn run_check<S: AsStr, F: Files, O: Out, E: Out>(
     ensures done { result ≡ 0 → HasDone Answers (Does build) (map S.text words.now)
         (files_shown F.Files files.old) (files_shown F.Files files.new)
         (outputs (O.sink out.old) (O.sink out.new) (E.sink err.old) (E.sink err.new)) }
-    ensures refused { result ≡ 1 → HasRefused Answers (Does build) (map S.text words.now)
+    ensures refused { result ≡ 1 → HasRefused PROGRAM.now Answers (Does build) (map S.text words.now)
         (files_shown F.Files files.old) (files_shown F.Files files.new)
         (outputs (O.sink out.old) (O.sink out.new) (E.sink err.old) (E.sink err.new)) }
-    ensures misused { result ≡ 2 → IsMisused Answers (map S.text words.now)
+    ensures misused { result ≡ 2 → IsMisused PROGRAM.now Answers (map S.text words.now)
         (files_shown F.Files files.old) (files_shown F.Files files.new)
         (outputs (O.sink out.old) (O.sink out.new) (E.sink err.old) (E.sink err.new)) }
 {

@@ -1,16 +1,18 @@
 -- An image that was read within the limit is the whole input; what the output has if the input is refused.
-use Rattle.std.proofs.Common.{◌≡◌, ◌≤◌, ℕ, Bool, true, List, [], length, take, min, Option, None, Some, Ok, Err, sym, ap, ◌∙◌, inl, inr, arith, length-take}
+use Rattle.std.proofs.Common.{◌≡◌, ◌≤◌, ◌++◌, ◌∷◌, ℕ, Bool, true, List, [], length, take, min, refl, Option, None, Some, Ok, Err, sym, subst, ap, ◌∙◌, inl, inr, arith, length-take}
 use Rattle.std.proofs.lemmas.Bool.{cases_Bool}
 use Rattle.std.proofs.lemmas.Bool.Decides.{nat_tests}
 use Rattle.std.proofs.lemmas.List.{take_all}
-use Rattle.std.specs.Prelude.{IfSome}
+use Rattle.std.specs.Prelude.{IfSome, Result}
+use Rattle.envimage.specs.declared.image.ImageError.{ImageError}
 use Rattle.envimage.specs.Data.{Pair}
 use Rattle.envimage.specs.Image.{is_size}
 use Rattle.envimage.specs.declared.image.ByteOrder.TheVariants.{Little}
-use Rattle.output.specs.Sink.{BrokeOff, Sink}
+use Rattle.output.specs.Sink.{BrokeOff, Sink, Wrote}
+use Rattle.output.proofs.SinkLemmas.{Wrote-none}
 use Rattle.envtools.specs.Printing.{printed_output}
 use Rattle.output.specs.Outputs.{WroteFront, Outputs}
-use Rattle.image_tools.specs.Input.{FrontStands, PrintsFront, PrintsInput, RefusesInput}
+use Rattle.image_tools.specs.Input.{FrontStands, IsQuiet, PrintsFront, PrintsInput, RefusesInput}
 use Rattle.image_tools.specs.PrintingImages.{environment_in, Prints, PrintsAll}
 use Rattle.image_tools.specs.declared.error.ToolError.{ToolError}
 use Rattle.image_tools.specs.declared.error.ToolError.TheVariants as tool
@@ -66,3 +68,23 @@ input-refused left s read tool.Write is p =
 input-refused left s read (tool.Env e) is p = absurd p
 input-refused left s read (tool.Script e) is p = absurd p
 input-refused left s read (tool.Rehearsal e) is p = absurd p
+
+-- ---- the error output of an input that is refused
+
+unwritten : (old new : Sink) → new ≡ old → IsQuiet old new
+unwritten old new is = let P : Sink → Type 0 = λ s. IsQuiet old s in subst P (sym is) (inl (Wrote-none old))
+
+front-none : (front rest : List ℕ) → [] ≡ front ++ rest → front ≡ []
+front-none [] rest e = refl
+front-none (b ∷ front) rest e = cc
+
+front-quiet : (old new : Sink) → WroteFront old new [] → IsQuiet old new
+front-quiet old new w = let P : List ℕ → Type 0 = λ t. Wrote old new t in inl (subst P (front-none w.front w.rest w.whole) w.wrote)
+
+pub input-untold : (answer : Result (List Pair) ImageError) (s : Outputs) (error : ToolError) → Prints answer [] true s (Err error) → IsQuiet s.err s.err'
+input-untold answer s (tool.Image e) p = unwritten s.err s.err' p.1.err
+input-untold answer s tool.Memory p = unwritten s.err s.err' p.1.err
+input-untold answer s tool.Write p = elim p.broken [ inl b ↦ front-quiet s.err s.err' b.1 | inr b ↦ inr b.1 ]
+input-untold answer s (tool.Env e) p = absurd p
+input-untold answer s (tool.Script e) p = absurd p
+input-untold answer s (tool.Rehearsal e) p = absurd p

@@ -2,3 +2,4 @@ pub mod InputLemmas
 pub mod PrintingLemmas
 pub mod SettingLemmas
 pub mod ImageLemmas
+pub mod LineLemmas

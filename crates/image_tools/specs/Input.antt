@@ -2,9 +2,10 @@
 use Rattle.std.specs.Prelude.{◌≡◌, ◌⊎◌, List, [], ◌++◌, ℕ, true, Option, None, Some, Ok}
 use Rattle.std.specs.Io.KnownBytes.{Appends}
 use Rattle.envimage.specs.Data.{Pair}
-use Rattle.output.specs.Sink.{Sink, Wrote}
+use Rattle.output.specs.Sink.{BrokeOff, Sink, Wrote}
 use Rattle.envimage.specs.declared.image.ByteOrder.TheVariants.{Little}
 use Rattle.envtools.specs.Printing.{printed_output}
+use Rattle.image_tools.specs.FaultLines.{TellsLine}
 use Rattle.image_tools.specs.PrintingImages.{environment_in}
 
 -- If the input's bytes are known, they are a single image whose variables were all printed.
@@ -29,3 +30,11 @@ PrintsFront (Some image) old new =
 -- if an input is refused, the output is as it was, or it failed inside the variables
 abbrev pub RefusesInput : Option (List ℕ) → Sink → Sink → Type 0
 RefusesInput left old new = (new ≡ old) ⊎ PrintsFront left old new
+
+-- nothing was written; the output may have failed once
+abbrev pub IsQuiet : Sink → Sink → Type 0
+IsQuiet old new = Wrote old new [] ⊎ BrokeOff old new []
+
+-- all that was written is the line of a fault, or a prefix of it, since the output failed
+abbrev pub TellsOnly : (program : List ℕ) → Sink → Sink → Type 0
+TellsOnly program old new = (from : Sink) × IsQuiet old from × TellsLine program from new

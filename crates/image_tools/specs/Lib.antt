@@ -3,3 +3,4 @@ pub mod Input
 pub mod PrintingImages
 pub mod ChangingImages
 pub mod FileFaults
+pub mod FaultLines

@@ -1,12 +1,9 @@
 //! The faults that the program reports, each in one line.
-ghost use Rattle.output.specs.Sink.{Wrote};
 
 use crate::error::ToolError;
 use crate::word_form::WordForm;
 use envimage::ConfigError;
 use locked_files::FileFault;
-use output::{Out, write_all};
-use std::fmt;
 use thiserror::Error;
 
 /// Why the program gave up. The text is what it reports.
@@ -88,34 +85,4 @@ impl Fault {
             FileFault::Memory => Fault::Memory,
         }
     }
-}
-
-/// Text for an output, by `write!`.
-struct Line<'a, O> {
-    out: &'a mut O,
-}
-
-impl<O: Out> fmt::Write for Line<'_, O> {
-    ghost write_str_gives = { λ before text after.
-        Wrote (O.sink before.out.now) (O.sink after.out.now) text };
-
-    fn write_str(&mut self, text: &str) -> fmt::Result {
-        write_all(self.out, text.as_bytes()).map_err(|_| fmt::Error)
-    }
-}
-
-/// Writes one line for a fault of a program, starting with the program's name. If the output fails,
-/// the rest is left out. Takes no memory.
-pub fn write_fault_of<O: Out, E: fmt::Display>(err: &mut O, program: &str, fault: &E) {
-    use std::fmt::Write;
-
-    let mut line = Line { out: err };
-    let _ = write!(line, "{program}: {fault}\n");
-    let Line { out: _ } = line;
-}
-
-/// Writes one line for a fault, such as `ubtool: output failed`. If the output fails, the rest is
-/// left out.
-pub fn write_fault<O: Out, E: fmt::Display>(err: &mut O, fault: &E) {
-    write_fault_of(err, "ubtool", fault);
 }

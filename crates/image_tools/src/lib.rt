@@ -4,6 +4,7 @@
 mod change;
 mod error;
 mod fault;
+mod fault_line;
 mod image_env;
 mod print;
 mod standard_input;
@@ -11,7 +12,8 @@ mod word_form;
 
 pub use change::{Edit, set_bytes};
 pub use error::ToolError;
-pub use fault::{Fault, write_fault, write_fault_of};
+pub use fault::Fault;
+pub use fault_line::write_fault_of;
 pub use image_env::env_of_image;
 pub use print::{PrintAsk, print_bytes};
 pub use rehearse::RehearseError;

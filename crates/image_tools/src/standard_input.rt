@@ -1,9 +1,10 @@
 //! The variables of an image on an input, printed.
-ghost use Rattle.std.specs.Prelude.{◌≡◌, ◌⊎◌, IfErr, OnOk, []};
-ghost use Rattle.output.specs.Sink.{Wrote};
-ghost use Rattle.image_tools.specs.Input.{PrintsInput, RefusesInput};
+ghost use Rattle.std.specs.Prelude.{◌≡◌, ◌⊎◌, IfErr, OnErr, OnOk, [], codes};
+ghost use Rattle.output.specs.Sink.{Prints, Wrote};
+ghost use Rattle.image_tools.specs.Input.{IsQuiet, PrintsInput, RefusesInput, TellsOnly};
 
-use crate::fault::{Fault, write_fault};
+use crate::fault::Fault;
+use crate::fault_line::write_fault_of;
 use crate::print::{PrintAsk, print_bytes};
 use envimage::{ByteOrder, SIZE_MAX};
 use locked_files::{ReadFault, read_up_to};
@@ -23,6 +24,7 @@ fn print_input<R: Read, O: Out, E: Out>(
     ensures quiet { OnOk result (Wrote (E.sink err.old) (E.sink err.new) []) }
     ensures refused { IfErr result
         (λ fault. RefusesInput (R.remaining input.old) (O.sink out.old) (O.sink out.new)) }
+    ensures untold { OnErr result (IsQuiet (E.sink err.old) (E.sink err.new)) }
 {
     let image = match read_up_to(alloc, input, SIZE_MAX + 1) {
         Ok(image) => image,
@@ -53,11 +55,12 @@ pub fn run_input<R: Read, O: Out, E: Out>(
     ensures quiet { result ≡ 0 → Wrote (E.sink err.old) (E.sink err.new) [] }
     ensures refused { result ≡ 1 → RefusesInput (R.remaining input.old) (O.sink out.old)
         (O.sink out.new) }
+    ensures told { result ≡ 1 → TellsOnly (codes "ubtool") (E.sink err.old) (E.sink err.new) }
 {
     match print_input(alloc, input, out, err) {
         Ok(()) => 0,
         Err(fault) => {
-            write_fault(err, &fault);
+            write_fault_of(err, "ubtool", &fault);
             1
         }
     }

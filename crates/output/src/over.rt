@@ -9,6 +9,8 @@ use std::io::Write;
 pub struct Over<W> {
     writer: W,
     failures: u64,
+    /// Whether all that was written is flushed.
+    flushed: bool,
 }
 
 impl<W> Over<W> {
@@ -22,6 +24,7 @@ impl<W> Over<W> {
         Over {
             writer,
             failures: 0,
+            flushed: false,
         }
     }
 
@@ -32,8 +35,33 @@ impl<W> Over<W> {
         let Over {
             writer,
             failures: _,
+            flushed: _,
         } = self;
         writer
+    }
+}
+
+impl<W: Write> Over<W> {
+    ghost use Rattle.std.specs.Prelude.{OnOk, true};
+    ghost use Rattle.std.specs.Io.KnownBytes.{Keeps};
+    ghost use Rattle.output.specs.Over.{writer_of, failures_of, failures_flushed, is_flushed};
+
+    /// Has the writer pass on all that it took. An error counts as one failure. Errors: `Failed`.
+    pub fn flush(&mut self) -> Result<(), OutFault>
+        ensures flushed { OnOk result (is_flushed self.new ≡ true) }
+        ensures bytes { Keeps (W.contents (writer_of self.old)) (W.contents (writer_of self.new)) }
+        ensures failures { failures_of self.new ≡ failures_flushed result (failures_of self.old) }
+    {
+        match self.writer.flush() {
+            Ok(()) => {
+                self.flushed = true;
+                Ok(())
+            }
+            Err(_) => {
+                self.failures = self.failures.saturating_add(1);
+                Err(OutFault::Failed)
+            }
+        }
     }
 }
 
@@ -43,6 +71,7 @@ impl<W: Write> Out for Over<W> {
     ghost sink = { λ o. record { taken = W.contents (writer_of o); failures = failures_of o } };
 
     fn write(&mut self, bytes: &[u8]) -> Result<usize, OutFault> {
+        self.flushed = false;
         match self.writer.write(bytes) {
             Ok(taken) => {
                 if taken == 0 && !bytes.is_empty() {

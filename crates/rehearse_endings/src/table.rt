@@ -45,7 +45,7 @@ pub(crate) struct Table {
 }
 
 impl Table {
-    ghost use Rattle.std.specs.Prelude.{IfErr, ◌+◌};
+    ghost use Rattle.std.specs.Prelude.{IfErr, ◌+◌, Err};
     ghost use Rattle.rehearse_endings.specs.declared.sum_error.SumError.TheVariants.{Memory, States};
 
     /// A table without entries. Takes no memory.
@@ -65,8 +65,8 @@ impl Table {
         }
     }
 
-    /// Enters the present state of a store, and returns its core. Errors: `States` if as many
-    /// states were entered as allowed, `Memory`.
+    /// Enters the present state of a store, and returns its core. Errors: `States` exactly if as many
+    /// states were entered as allowed; else only `Memory`.
     pub(crate) fn enter<S: Store>(&mut self, alloc: Global, store: &S) -> Result<Core, SumError>
         ensures core { IfOk result
             (λ core. core_shown core ≡ core_of (S.record_of store.now).present) }
@@ -76,6 +76,7 @@ impl Table {
         ensures visited { OnOk result (self.new.visited ≡ self.old.visited + 1) }
         ensures within { OnOk result (self.new.visited ≤ self.new.most) }
         ensures full { IfErr result (λ e. e ≡ States → self.old.most ≤ self.old.visited) }
+        ensures limit { self.old.most ≤ self.old.visited → result ≡ Err States }
     {
         if self.visited >= self.most {
             return Err(SumError::States);

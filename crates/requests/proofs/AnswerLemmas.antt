@@ -16,7 +16,7 @@ use Rattle.requests.specs.declared.answer.Answer.{Answer}
 use Rattle.requests.specs.declared.answer.Answer.TheVariants.{Asks, Help, Version}
 use Rattle.requests.specs.declared.ask.UseError.{UseError}
 use Rattle.requests.specs.declared.called.CalledAs.{CalledAs}
-use Rattle.requests.specs.declared.ask.UseError.TheVariants.{Line, NeedName, ScriptAndName, HeaderNeedsOne, WordAlone, TooManyDevices, Memory}
+use Rattle.requests.specs.declared.ask.UseError.TheVariants.{Line, LockNeedsFolder, NeedName, ScriptAndName, HeaderNeedsOne, WordAlone, TooManyDevices, Memory}
 use Rattle.requests.specs.Asked.{Asked, asked_of, lock_of}
 use Rattle.requests.specs.CommandAnswers.{Answers, NamesLock, Says, asked}
 use Rattle.requests.specs.Answered.{AnswersBy, IsAccepted, Refuses, Reports}
@@ -38,6 +38,7 @@ accepted_answer called words a (Ok (ask.Print config what order)) fine is says =
 accepted_answer called words a (Ok (ask.Setenv config change order)) fine is says = (fine, says ∙ is)
 accepted_answer called words a (Ok (ask.Rehearse config list what order)) fine is says = (fine, says ∙ is)
 accepted_answer called words a (Ok (ask.Endings config list what order)) fine is says = (fine, says ∙ is)
+accepted_answer called words a (Err LockNeedsFolder) fine is says = (fine, says ∙ is)
 accepted_answer called words a (Err NeedName) fine is says = (fine, says ∙ is)
 accepted_answer called words a (Err ScriptAndName) fine is says = (fine, says ∙ is)
 accepted_answer called words a (Err HeaderNeedsOne) fine is says = (fine, says ∙ is)
@@ -50,6 +51,7 @@ accepted_answer called words a (Err Memory) fine is says = tt
 pub refused_answer : (called : CalledAs) (words : List Text) (e : UseError) → Refuses ubtool words e → Answers called words (Err e)
 refused_answer called words (Line text) is = inl is
 refused_answer called words Memory is = tt
+refused_answer called words LockNeedsFolder is = absurd is
 refused_answer called words NeedName is = absurd is
 refused_answer called words ScriptAndName is = absurd is
 refused_answer called words HeaderNeedsOne is = absurd is
@@ -76,6 +78,7 @@ reported app words Means k (Err (Line text)) among is = elim among [
   | inr one ↦ (k, one, is.0, is.1)
 ]
 reported app words Means k (Err Memory) among is = tt
+reported app words Means k (Err LockNeedsFolder) among is = absurd is
 reported app words Means k (Err NeedName) among is = absurd is
 reported app words Means k (Err ScriptAndName) among is = absurd is
 reported app words Means k (Err HeaderNeedsOne) among is = absurd is

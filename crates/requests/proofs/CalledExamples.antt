@@ -1,7 +1,7 @@
 -- Worked calls by other names, computed.
 use Rattle.std.proofs.Common.{◌≡◌, refl, [], ◌∷◌, codes}
 use Rattle.requests.specs.Called.{called_as, words_called}
-use Rattle.requests.specs.declared.called.CalledAs.TheVariants.{FwTool, Ubtool}
+use Rattle.requests.specs.declared.called.CalledAs.TheVariants.{FwPrintenv, FwSetenv, Ubtool}
 
 -- by its path, without words
 printenv_without_words : words_called (codes "/usr/bin/fw_printenv" ∷ []) ≡ codes "printenv" ∷ []
@@ -23,13 +23,33 @@ longer_name = refl
 no_last_part : words_called (codes "fw_printenv/" ∷ codes "a" ∷ []) ≡ codes "a" ∷ []
 no_last_part = refl
 
+-- `ubtool help`, `ubtool help setenv`, `ubtool version`
+help_alone : words_called (codes "ubtool" ∷ codes "help" ∷ []) ≡ codes "--help" ∷ []
+help_alone = refl
+
+help_of_setenv : words_called (codes "ubtool" ∷ codes "help" ∷ codes "setenv" ∷ []) ≡ codes "setenv" ∷ codes "--help" ∷ []
+help_of_setenv = refl
+
+version_alone : words_called (codes "ubtool" ∷ codes "version" ∷ []) ≡ codes "--version" ∷ []
+version_alone = refl
+
+-- variables that are called `help` and `version`
+help_printed : words_called (codes "ubtool" ∷ codes "printenv" ∷ codes "help" ∷ []) ≡ codes "printenv" ∷ codes "help" ∷ []
+help_printed = refl
+
+version_printed : words_called (codes "fw_printenv" ∷ codes "version" ∷ []) ≡ codes "printenv" ∷ codes "version" ∷ []
+version_printed = refl
+
 -- no name at all
 nothing_called : words_called [] ≡ []
 nothing_called = refl
 
 -- what the program is called as: by the path of one of U-Boot's tools
-called_by_path : called_as (codes "/usr/bin/fw_setenv" ∷ codes "-s" ∷ codes "-" ∷ []) ≡ FwTool
+called_by_path : called_as (codes "/usr/bin/fw_setenv" ∷ codes "-s" ∷ codes "-" ∷ []) ≡ FwSetenv
 called_by_path = refl
+
+printing_by_path : called_as (codes "./fw_printenv" ∷ []) ≡ FwPrintenv
+printing_by_path = refl
 
 -- by a name that only ends like this
 called_by_longer_name : called_as (codes "xfw_setenv" ∷ []) ≡ Ubtool

@@ -7,8 +7,8 @@ use Rattle.envimage.specs.declared.image.ByteOrder.TheVariants.{Big, Little}
 use Rattle.requests.specs.CommandAnswers.{asked}
 use Rattle.requests.specs.Answered.{IsAccepted}
 use Rattle.requests.specs.declared.called.CalledAs.{CalledAs}
-use Rattle.requests.specs.declared.called.CalledAs.TheVariants.{FwTool, Ubtool}
-use Rattle.requests.specs.Asked.{Asked, ending, header_needs_one, input_scripted, lock_of, needs_name, page_with, printing, rehearsing, script_and_name, scripted, setting, too_many_devices, word_alone}
+use Rattle.requests.specs.declared.called.CalledAs.TheVariants.{FwSetenv, Ubtool}
+use Rattle.requests.specs.Asked.{Asked, ending, header_needs_one, input_scripted, lock_needs_folder, lock_of, needs_name, page_with, printing, rehearsing, script_and_name, scripted, setting, too_many_devices, word_alone}
 use Rattle.rehearse_terms.specs.Asking.{Alone, Listed, whole_page}
 use Rattle.command_line.specs.CommandLine.{ubtool}
 
@@ -19,6 +19,10 @@ AsksForAs called words what = IsAccepted ubtool words × (asked called words ≡
 -- the words are accepted and ask for this, called as ubtool
 abbrev pub AsksFor : List Text → Asked → Type 0
 AsksFor words what = AsksForAs Ubtool words what
+
+-- `clap` accepts the words, and the program does not
+abbrev IsUnread : List Text → Type 0
+IsUnread words = IsAccepted ubtool words × (asked Ubtool words ≡ None)
 
 -- the words are refused
 abbrev IsRefused : List Text → Type 0
@@ -80,6 +84,21 @@ named_lock : option_and_then (λ s. lock_of s.1) (subcommand_of ubtool (codes "p
 unfolding clap_on_literals ubtool
 named_lock = refl
 
+-- printenv -l ''
+no_folder_printing : AsksFor (codes "printenv" ∷ codes "-l" ∷ [] ∷ []) lock_needs_folder
+unfolding clap_on_literals ubtool
+no_folder_printing = (refl, refl)
+
+-- setenv --lock= -s f a: the folder is refused first
+no_folder_setting : AsksFor (codes "setenv" ∷ codes "--lock=" ∷ codes "-s" ∷ codes "f" ∷ codes "a" ∷ []) lock_needs_folder
+unfolding clap_on_literals ubtool
+no_folder_setting = (refl, refl)
+
+-- printenv -l '': no lock is taken
+unnamed_lock : option_and_then (λ s. lock_of s.1) (subcommand_of ubtool (codes "printenv" ∷ codes "-l" ∷ [] ∷ [])) ≡ None
+unfolding clap_on_literals ubtool
+unnamed_lock = refl
+
 -- rehearse -l d
 locked_rehearsal : IsRefused (codes "rehearse" ∷ codes "-d" ∷ codes "d" ∷ codes "-l" ∷ codes "d" ∷ [])
 unfolding clap_on_literals ubtool
@@ -98,19 +117,19 @@ unfolding clap_on_literals ubtool
 dashed_script = (refl, refl)
 
 -- fw_setenv -s -: standard input
-input_script : AsksForAs FwTool (codes "setenv" ∷ codes "-s" ∷ codes "-" ∷ [])
+input_script : AsksForAs FwSetenv (codes "setenv" ∷ codes "-s" ∷ codes "-" ∷ [])
     (input_scripted (codes "/etc/fw_env.config") Little)
 unfolding clap_on_literals ubtool
 input_script = (refl, refl)
 
 -- fw_setenv -s f: a file
-named_script : AsksForAs FwTool (codes "setenv" ∷ codes "-s" ∷ codes "f" ∷ [])
+named_script : AsksForAs FwSetenv (codes "setenv" ∷ codes "-s" ∷ codes "f" ∷ [])
     (scripted (codes "/etc/fw_env.config") (codes "f") Little)
 unfolding clap_on_literals ubtool
 named_script = (refl, refl)
 
 -- fw_setenv -s - a
-input_beside_name : AsksForAs FwTool (codes "setenv" ∷ codes "-s" ∷ codes "-" ∷ codes "a" ∷ []) script_and_name
+input_beside_name : AsksForAs FwSetenv (codes "setenv" ∷ codes "-s" ∷ codes "-" ∷ codes "a" ∷ []) script_and_name
 unfolding clap_on_literals ubtool
 input_beside_name = (refl, refl)
 
@@ -230,3 +249,28 @@ too_many_states = refl
 endings_without_list : IsRefused (codes "endings" ∷ [])
 unfolding clap_on_literals ubtool
 endings_without_list = refl
+
+-- endings -d d --states +1
+signed_states : IsUnread (codes "endings" ∷ codes "-d" ∷ codes "d" ∷ codes "--states" ∷ codes "+1" ∷ [])
+unfolding clap_on_literals ubtool
+signed_states = (refl, refl)
+
+-- rehearse -d d --devices +1
+signed_devices : IsUnread (codes "rehearse" ∷ codes "-d" ∷ codes "d" ∷ codes "--devices" ∷ codes "+1" ∷ [])
+unfolding clap_on_literals ubtool
+signed_devices = (refl, refl)
+
+-- endings -d d --steps=+0
+signed_steps : IsUnread (codes "endings" ∷ codes "-d" ∷ codes "d" ∷ codes "--steps=+0" ∷ [])
+unfolding clap_on_literals ubtool
+signed_steps = (refl, refl)
+
+-- rehearse -d d --failures +2
+signed_failures : IsUnread (codes "rehearse" ∷ codes "-d" ∷ codes "d" ∷ codes "--failures" ∷ codes "+2" ∷ [])
+unfolding clap_on_literals ubtool
+signed_failures = (refl, refl)
+
+-- rehearse -d d --limit +1
+signed_limit : IsUnread (codes "rehearse" ∷ codes "-d" ∷ codes "d" ∷ codes "--limit" ∷ codes "+1" ∷ [])
+unfolding clap_on_literals ubtool
+signed_limit = (refl, refl)

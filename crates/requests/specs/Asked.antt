@@ -4,13 +4,13 @@
 use Rattle.std.specs.Prelude.{◌==◌, ◌&&◌, ◌||◌, is_some, ℕ, Bool, true, false, not, List, [], length, Option, Some, None, Result, Ok, Err, codes, unwrap_or, option_map, ◌^◌, option_and_then, if◌then◌else◌, nat_le, nat_lt}
 use Rattle.std.specs.Str.{bytes_eq}
 use Rattle.std.specs.Option.{option_map_or}
-use Rattle.std.specs.Str.Parse.{digits_value, without_leading_plus}
-use Rattle.clap.specs.Words.{Row, Text, all_of, first_of, one_of}
+use Rattle.std.specs.Str.Parse.{digits_value}
+use Rattle.clap.specs.Words.{Row, Text, all_of, first_of}
 use Rattle.clap.specs.ValueTests.{is_numeral}
 use Rattle.envimage.specs.declared.image.ByteOrder.{ByteOrder}
 use Rattle.envimage.specs.declared.image.ByteOrder.TheVariants.{Big, Little}
 use Rattle.requests.specs.declared.called.CalledAs.{CalledAs}
-use Rattle.requests.specs.declared.called.CalledAs.TheVariants.{FwTool, Ubtool}
+use Rattle.requests.specs.Called.{is_tool}
 use Rattle.rehearse_terms.specs.Asking.{Asking, Wanted, Listed, Alone}
 use Rattle.rehearse_terms.specs.declared.wanted.Page.{Page}
 use Rattle.rehearse_terms.specs.Bounds.{BoundsShown, bounds_of, run_bounds_of, most_run_devices, most_steps}
@@ -31,6 +31,7 @@ pub data Asked : Type 0 where
   input_scripted : (config : Text) (order : ByteOrder) → Asked
   rehearsing : (config : Text) (device_list : Text) (what : Asking) (order : ByteOrder) → Asked
   ending : (config : Text) (device_list : Text) (what : Endings) (order : ByteOrder) → Asked
+  lock_needs_folder : Asked
   needs_name : Asked
   script_and_name : Asked
   header_needs_one : Asked
@@ -47,17 +48,15 @@ is_set flag rows = option_map_or (λ t. bytes_eq t (codes "true")) (first_of fla
 abbrev pub values_of : Text → List Row → List Text
 values_of id rows = unwrap_or (all_of id rows) []
 
--- the number below 2^32 that the text writes in decimal
+-- the number below 2^32 that the text writes in decimal digits, without a sign
 abbrev pub number_of : Text → Option ℕ
 number_of text =
-    let ds = without_leading_plus text in
-    if is_numeral ds && nat_lt (digits_value 10 ds) (2 ^ 32) then Some (digits_value 10 ds)
-    else None
+    if is_numeral text && nat_lt (digits_value 10 text) (2 ^ 32) then Some (digits_value 10 text) else None
 
 -- the number given, if there is one; nothing if its text is not a number
 abbrev pub number_given : Text → List Row → Option (Option ℕ)
 number_given id rows =
-    option_map_or (λ t. option_map (λ n. Some n) (number_of t)) (one_of id rows) (Some None)
+    option_map_or (λ t. option_map (λ n. Some n) (number_of t)) (first_of id rows) (Some None)
 
 -- a number that was given is from `least` to `most`
 abbrev pub is_within : ℕ → ℕ → Option ℕ → Bool
@@ -77,25 +76,31 @@ config_of rows = unwrap_or (first_of (codes "config") rows) (codes "/etc/fw_env.
 abbrev pub order_of : List Row → ByteOrder
 order_of rows = if is_set (codes "big-endian") rows then Big else Little
 
--- the folder of the lock that is named, if any is
+-- the word after `-l` is empty
+abbrev pub has_no_folder : List Row → Bool
+has_no_folder rows = option_map_or (λ folder. length folder == 0) (first_of (codes "lock") rows) false
+
+-- the folder of the lock that is named, if any is; an empty word names none
 abbrev pub lock_of : List Row → Option Text
-lock_of rows = first_of (codes "lock") rows
+lock_of rows = if has_no_folder rows then None else first_of (codes "lock") rows
 
 -- ---- the four subcommands
 
-abbrev pub print_asked : List Row → Asked
-print_asked rows =
+abbrev pub printing_asked : List Row → Asked
+printing_asked rows =
     let names = values_of (codes "names") rows in
     let no_header = is_set (codes "noheader") rows in
     if no_header && not (length names == 1) then header_needs_one
     else printing (config_of rows) (not no_header) names (order_of rows)
 
+abbrev pub print_asked : List Row → Asked
+print_asked rows = if has_no_folder rows then lock_needs_folder else printing_asked rows
+
 -- the script at a path; if the program is called as one of U-Boot's tools and the path is `-`, the one on standard
 -- input
 abbrev pub script_asked : CalledAs → (config path : Text) → ByteOrder → Asked
-script_asked Ubtool config path order = scripted config path order
-script_asked FwTool config path order =
-    if bytes_eq path (codes "-") then input_scripted config order else scripted config path order
+script_asked called config path order =
+    if is_tool called && bytes_eq path (codes "-") then input_scripted config order else scripted config path order
 
 -- from the script and the name that were given
 abbrev pub change_asked : CalledAs → Option Text → Option Text → List Row → Asked
@@ -107,7 +112,7 @@ change_asked called None (Some name) rows = setting (config_of rows) name
 change_asked called None None rows = needs_name
 
 abbrev pub set_asked : CalledAs → List Row → Asked
-set_asked called rows =
+set_asked called rows = if has_no_folder rows then lock_needs_folder else
     change_asked called (first_of (codes "script") rows) (first_of (codes "name") rows) rows
 
 abbrev pub variable_of : List Row → Text

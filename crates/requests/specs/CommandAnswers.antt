@@ -14,10 +14,10 @@ use Rattle.requests.specs.declared.called.CalledAs.{CalledAs}
 use Rattle.requests.specs.declared.ask.RehearseAsk.{RehearseAsk}
 use Rattle.requests.specs.declared.ask.UseError.{UseError}
 use Rattle.rehearse_terms.specs.declared.wanted.Wanted.{Wanted}
-use Rattle.requests.specs.declared.ask.UseError.TheVariants.{Line, NeedName, ScriptAndName, HeaderNeedsOne, Memory, TooManyDevices, WordAlone}
+use Rattle.requests.specs.declared.ask.UseError.TheVariants.{Line, LockNeedsFolder, NeedName, ScriptAndName, HeaderNeedsOne, Memory, TooManyDevices, WordAlone}
 use Rattle.requests.specs.Answered.{IsAccepted, IsMistaken}
 use Rattle.requests.specs.Asked as what
-use Rattle.requests.specs.Asked.{Asked, WantedAsked, asked_of, ending, input_scripted, lock_of, printing, setting, scripted, rehearsing, needs_name, script_and_name, header_needs_one, too_many_devices, word_alone}
+use Rattle.requests.specs.Asked.{Asked, WantedAsked, asked_of, ending, input_scripted, lock_of, printing, setting, scripted, rehearsing, lock_needs_folder, needs_name, script_and_name, header_needs_one, too_many_devices, word_alone}
 use Rattle.command_line.specs.CommandLine.{ubtool}
 use Rattle.rehearse_terms.specs.WantedShown.{wanted_bounds, wanted_strings}
 use Rattle.rehearse_terms.specs.Asking.{Asking}
@@ -56,12 +56,14 @@ meaning_of Version = None
 abbrev pub asked : CalledAs → List Text → Option Asked
 asked called words = option_and_then (λ s. asked_of called s.0 s.1) (subcommand_of ubtool words)
 
--- The answer to words. A line without a mistake would need an accepted `rehearse` or `endings` that has no device list
--- or a number out of its range, and `clap` accepts neither.
+-- The answer to words. A line without a mistake is that of a number with a sign, which `clap` accepts. It accepts no
+-- `rehearse` or `endings` without a device list, and no number out of its range.
 abbrev pub Answers : CalledAs → List Text → Result Ask UseError → Type 0
 Answers called words (Ok (Help text)) = IsAmong DisplayHelp (fault_of ubtool words)
 Answers called words (Ok Version) = IsAmong DisplayVersion (fault_of ubtool words)
 Answers called words (Ok ask) = IsAccepted ubtool words × (meaning_of ask ≡ asked called words)
+Answers called words (Err LockNeedsFolder) =
+    IsAccepted ubtool words × (Some lock_needs_folder ≡ asked called words)
 Answers called words (Err NeedName) = IsAccepted ubtool words × (Some needs_name ≡ asked called words)
 Answers called words (Err ScriptAndName) = IsAccepted ubtool words × (Some script_and_name ≡ asked called words)
 Answers called words (Err HeaderNeedsOne) = IsAccepted ubtool words × (Some header_needs_one ≡ asked called words)
@@ -81,6 +83,7 @@ abbrev pub Says : Option Asked → Result Ask UseError → Type 0
 Says a (Ok (Help text)) = ⊥
 Says a (Ok Version) = ⊥
 Says a (Ok ask) = meaning_of ask ≡ a
+Says a (Err LockNeedsFolder) = Some lock_needs_folder ≡ a
 Says a (Err NeedName) = Some needs_name ≡ a
 Says a (Err ScriptAndName) = Some script_and_name ≡ a
 Says a (Err HeaderNeedsOne) = Some header_needs_one ≡ a

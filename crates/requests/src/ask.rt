@@ -129,6 +129,9 @@ pub enum UseError {
     /// `clap` refuses the words. The text is its message, with its line ends.
     #[error("{0}")]
     Line(String),
+    /// `-l` is given an empty word.
+    #[error("-l needs a DIR")]
+    LockNeedsFolder,
     /// `setenv` is given neither a name nor a script.
     #[error("setenv needs a NAME")]
     NeedName,

@@ -1,7 +1,7 @@
 //! What the program was called as, and the words of the call.
 ghost use Rattle.std.specs.Prelude.{◌≡◌, IfOk, map, string_bytes};
 ghost use Rattle.std.specs.Option.{option_copied};
-ghost use Rattle.requests.specs.Called.{called_as, last_part, subcommand_called, words_called};
+ghost use Rattle.requests.specs.Called.{called_as, called_by, flag_meant, is_tool, last_part, name_of, spelled, words_called};
 
 use std::alloc::AllocError;
 
@@ -10,8 +10,33 @@ use std::alloc::AllocError;
 pub enum CalledAs {
     /// As `ubtool`, or by any name that is not one of U-Boot's tools.
     Ubtool,
-    /// As one of U-Boot's tools: `fw_printenv` or `fw_setenv`.
-    FwTool,
+    /// As U-Boot's `fw_printenv`.
+    FwPrintenv,
+    /// As U-Boot's `fw_setenv`.
+    FwSetenv,
+}
+
+impl CalledAs {
+    /// The name of the program, in usage lines and in front of what it reports.
+    pub fn name(self) -> &'static str
+        ensures { result.now ≡ name_of self }
+    {
+        match self {
+            CalledAs::Ubtool => "ubtool",
+            CalledAs::FwPrintenv => "fw_printenv",
+            CalledAs::FwSetenv => "fw_setenv",
+        }
+    }
+
+    /// Whether this is one of U-Boot's tools.
+    pub fn is_tool(self) -> bool
+        ensures { result ≡ is_tool self }
+    {
+        match self {
+            CalledAs::Ubtool => false,
+            CalledAs::FwPrintenv | CalledAs::FwSetenv => true,
+        }
+    }
 }
 
 /// What is after the last slash of a path, or all of the path.
@@ -24,16 +49,16 @@ fn last_part(path: &[u8]) -> &[u8]
     }
 }
 
-/// The subcommand for which a program of this name is called.
-fn subcommand_called(name: &[u8]) -> Option<&'static str>
-    ensures { option_copied result ≡ subcommand_called name.now }
+/// What a program of this name is called as.
+fn called_by(name: &[u8]) -> CalledAs
+    ensures { result ≡ called_by name.now }
 {
     if name == b"fw_printenv".as_slice() {
-        Some("printenv")
+        CalledAs::FwPrintenv
     } else if name == b"fw_setenv".as_slice() {
-        Some("setenv")
+        CalledAs::FwSetenv
     } else {
-        None
+        CalledAs::Ubtool
     }
 }
 
@@ -41,30 +66,65 @@ fn subcommand_called(name: &[u8]) -> Option<&'static str>
 pub fn called_as(args: &[String]) -> CalledAs
     ensures { result ≡ called_as (map string_bytes args.now) }
 {
-    let Some(path) = args.first() else {
-        return CalledAs::Ubtool;
-    };
-    match subcommand_called(last_part(path.as_bytes())) {
-        Some(_) => CalledAs::FwTool,
+    match args.first() {
+        Some(path) => called_by(last_part(path.as_bytes())),
         None => CalledAs::Ubtool,
     }
 }
 
+/// The flag that a word alone stands for: `help` and `version` are `--help` and `--version`.
+fn flag_meant(word: &[u8]) -> Option<&'static str>
+    ensures { option_copied result ≡ flag_meant word.now }
+{
+    if word == b"help".as_slice() {
+        Some("--help")
+    } else if word == b"version".as_slice() {
+        Some("--version")
+    } else {
+        None
+    }
+}
+
+/// The words as `clap` knows them: `help` and `version`, each alone, are flags, and `help NAME` is
+/// `NAME --help`. All others stay as they are. Errors: memory ran out.
+fn spelled(mut words: Vec<String>) -> Result<Vec<String>, AllocError>
+    ensures { IfOk result (λ new. map string_bytes new.items
+        ≡ spelled (map string_bytes words.items)) }
+{
+    if words.len() == 1 {
+        if let Some(flag) = flag_meant(words[0].as_bytes()) {
+            words[0] = String::from_str(*words.allocator(), flag)?;
+        }
+    } else if words.len() == 2 && words[0].as_str() == "help" {
+        words.remove(0);
+        words.push(String::from_str(*words.allocator(), "--help")?)?;
+    }
+    Ok(words)
+}
+
 /// The words that the program reads, from the path by which it was called and the words after it.
 /// Called as `fw_printenv` it is `printenv`, and called as `fw_setenv` it is `setenv`. By any other
-/// name the words are as they are. Errors: memory ran out.
+/// name `help` and `version` are words too, as `spelled` says. Errors: memory ran out.
 pub fn words_called(mut args: Vec<String>) -> Result<Vec<String>, AllocError>
     ensures { IfOk result (λ words. map string_bytes words.items
         ≡ words_called (map string_bytes args.items)) }
 {
-    let Some(path) = args.first() else {
+    let called = called_as(&args);
+    if args.is_empty() {
         return Ok(args);
-    };
-    match subcommand_called(last_part(path.as_bytes())) {
-        Some(name) => args[0] = String::from_str(*args.allocator(), name)?,
-        None => {
+    }
+    match called {
+        CalledAs::Ubtool => {
             args.remove(0);
+            spelled(args)
+        }
+        CalledAs::FwPrintenv => {
+            args[0] = String::from_str(*args.allocator(), "printenv")?;
+            Ok(args)
+        }
+        CalledAs::FwSetenv => {
+            args[0] = String::from_str(*args.allocator(), "setenv")?;
+            Ok(args)
         }
     }
-    Ok(args)
 }

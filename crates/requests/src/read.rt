@@ -4,7 +4,7 @@ ghost use Rattle.rehearse_terms.specs.Asking.{page_of};
 ghost use Rattle.rehearse_terms.specs.Asking.{HasRoom};
 ghost use Rattle.clap.specs.Words.{Text, first_of, found_of, rows_of, subcommand_rows_of};
 ghost use Rattle.envimage.specs.declared.image.ByteOrder.{ByteOrder as Order};
-ghost use Rattle.requests.specs.Asked.{asked_of, bounds_or, config_of, endings_asked, is_set, lock_of, number_given, number_within, order_of, page_asked, print_asked, rehearse_asked, script_asked, set_asked, values_of, variable_of, wanted_asked, wanted_by};
+ghost use Rattle.requests.specs.Asked.{asked_of, bounds_or, config_of, endings_asked, has_no_folder, is_set, lock_of, number_given, number_of, number_within, order_of, page_asked, print_asked, rehearse_asked, script_asked, set_asked, values_of, variable_of, wanted_asked, wanted_by};
 ghost use Rattle.rehearse_terms.specs.WantedShown.{wanted_strings};
 ghost use Rattle.requests.specs.declared.ask.UseError.TheVariants.{Memory};
 ghost use Rattle.requests.specs.CommandAnswers.{Answers, IsUnread, NamesLock, Says, SaysWanted, change_of};
@@ -75,11 +75,27 @@ pub fn is_set(matches: &ArgMatches<'_>, flag: &str) -> bool
     }
 }
 
+/// The number that a text writes in decimal digits, without a sign, if it is below 2^32.
+fn number_of(text: &str) -> Option<u32>
+    ensures { result ≡ number_of text.now }
+{
+    if text.as_bytes().starts_with(b"+") {
+        return None;
+    }
+    text.parse::<u32>().ok()
+}
+
 /// The number given, if there is one; `None` if its text is not a number.
 fn number_given(matches: &ArgMatches<'_>, id: &str) -> Option<Option<u32>>
     ensures { result ≡ number_given id.now (rows_of (found_of matches.now)) }
 {
-    matches.try_get_one::<u32>(id).ok()
+    match matches.get_str(id) {
+        Some(text) => match number_of(text) {
+            Some(number) => Some(Some(number)),
+            None => None,
+        },
+        None => Some(None),
+    }
 }
 
 /// The number given, if there is one; `None` if it is not a number from `least` to `most`.
@@ -114,11 +130,24 @@ pub fn order_of(matches: &ArgMatches<'_>) -> ByteOrder
     }
 }
 
+/// Whether `-l` was given an empty word.
+fn has_no_folder(matches: &ArgMatches<'_>) -> bool
+    ensures { result ≡ has_no_folder (rows_of (found_of matches.now)) }
+{
+    match matches.get_str("lock") {
+        Some(folder) => folder.is_empty(),
+        None => false,
+    }
+}
+
 // ---- the four subcommands
 
 fn print_ask(alloc: Global, matches: &ArgMatches<'_>) -> Result<Ask, UseError>
     ensures { Says (Some (print_asked (rows_of (found_of matches.now)))) result }
 {
+    if has_no_folder(matches) {
+        return Err(UseError::LockNeedsFolder);
+    }
     let names = texts_of(alloc, matches, "names")?;
     let no_header = is_set(matches, "noheader");
     if no_header && names.len() != 1 {
@@ -141,7 +170,7 @@ fn script_change(called: CalledAs, path: String) -> Change
     ensures { (config : Text) → (order : Order) →
         change_of config result order ≡ script_asked called config (string_bytes path) order }
 {
-    if called == CalledAs::FwTool && path.as_str() == "-" {
+    if called.is_tool() && path.as_str() == "-" {
         Change::Input
     } else {
         Change::Script(path)
@@ -151,6 +180,9 @@ fn script_change(called: CalledAs, path: String) -> Change
 fn set_ask(alloc: Global, called: CalledAs, matches: &ArgMatches<'_>) -> Result<Ask, UseError>
     ensures { Says (Some (set_asked called (rows_of (found_of matches.now)))) result }
 {
+    if has_no_folder(matches) {
+        return Err(UseError::LockNeedsFolder);
+    }
     let script = text_of(alloc, matches, "script")?;
     let name = text_of(alloc, matches, "name")?;
     let change = match (script, name) {
@@ -169,12 +201,19 @@ fn set_ask(alloc: Global, called: CalledAs, matches: &ArgMatches<'_>) -> Result<
     })
 }
 
-/// The refusal of what `clap` never accepts: an argument that the command line requires is missing,
-/// or a value is out of its range.
+/// What is said of a number with a sign.
+const UNREAD: &str = "\
+error: a number is written in digits alone, without a sign
+
+For more information, try '--help'.
+";
+
+/// The refusal of what `clap` accepts and the program does not: a number with a sign. `clap` never
+/// accepts that an argument is missing or that a number is out of its range.
 fn unread(alloc: Global) -> UseError
     ensures { IsUnread result }
 {
-    match String::from_str(alloc, "error: the words cannot be read\n") {
+    match String::from_str(alloc, UNREAD) {
         Ok(text) => UseError::Line(text),
         Err(_) => UseError::Memory,
     }
@@ -343,14 +382,15 @@ fn ask_of(alloc: Global, called: CalledAs, matches: &ArgMatches<'_>) -> Result<A
     }
 }
 
-/// The folder of the lock that a subcommand's entries name, if they name one.
+/// The folder of the lock that a subcommand's entries name, if they name one. An empty word names
+/// none.
 fn lock_of(alloc: Global, matches: &ArgMatches<'_>) -> Result<Option<String>, AllocError>
     ensures { IfOk result (λ folder. option_map string_bytes folder
         ≡ option_and_then (λ s. lock_of s.1) (subcommand_rows_of matches.now)) }
 {
     match matches.subcommand() {
-        Some((_, entries)) => text_of(alloc, entries, "lock"),
-        None => Ok(None),
+        Some((_, entries)) if !has_no_folder(entries) => text_of(alloc, entries, "lock"),
+        _ => Ok(None),
     }
 }
 
@@ -360,7 +400,7 @@ pub fn read_lock<S: AsStr>(alloc: Global, words: &[S]) -> Result<Option<String>,
     ensures { IfOk result (λ folder. NamesLock (map S.text words.now)
         (option_map string_bytes folder)) }
 {
-    match ubtool(alloc)?.try_get_matches_from(words) {
+    match ubtool(alloc, false)?.try_get_matches_from(words) {
         Ok(matches) => lock_of(alloc, &matches),
         Err(error) => match error.kind() {
             ErrorKind::OutOfMemory => Err(AllocError),
@@ -370,9 +410,10 @@ pub fn read_lock<S: AsStr>(alloc: Global, words: &[S]) -> Result<Option<String>,
 }
 
 /// Reads the words after the program's name. If the program was called as one of U-Boot's tools,
-/// the script of `-s -` is the one on standard input.
+/// the script of `-s -` is the one on standard input, and usage lines name that tool.
 ///
-/// Refusals of `clap`, each a `Line`, come first. Then `setenv` refuses to have no name
+/// Refusals of `clap`, each a `Line`, come first, and so does that of a number with a sign. Then both
+/// `printenv` and `setenv` refuse an empty folder of the lock (`LockNeedsFolder`), `setenv` refuses to have no name
 /// (`NeedName`) or a script and a name (`ScriptAndName`), and `printenv -n` refuses any number of
 /// names but one (`HeaderNeedsOne`). `rehearse` refuses a word beside `--after` or `--limit`
 /// (`WordAlone`), and a listing with too great a device bound (`TooManyDevices`). `Memory` is
@@ -380,7 +421,7 @@ pub fn read_lock<S: AsStr>(alloc: Global, words: &[S]) -> Result<Option<String>,
 pub fn read_command<S: AsStr>(alloc: Global, called: CalledAs, words: &[S]) -> Result<Ask, UseError>
     ensures { Answers called (map S.text words.now) result }
 {
-    match parse(alloc, ubtool(alloc)?, words) {
+    match parse(alloc, ubtool(alloc, called.is_tool())?, words) {
         Ok(Answer::Asks(matches)) => ask_of(alloc, called, &matches),
         Ok(Answer::Help(text)) => Ok(Ask::Help(text)),
         Ok(Answer::Version) => Ok(Ask::Version),

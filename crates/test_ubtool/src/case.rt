@@ -132,7 +132,7 @@ impl<'a> Case<'a> {
         match word {
             "big-endian" => self.order = ByteOrder::Big,
             "machine" => self.is_machine = true,
-            "fw-tool" => self.called = CalledAs::FwTool,
+            "fw-tool" => self.called = CalledAs::FwSetenv,
             _ => anyhow::bail!("no row begins so"),
         }
         Ok(())

@@ -4,7 +4,7 @@ use crate::case::{Case, text};
 use device_list::DevicesError;
 use envimage::{ConfigError, DataError, ImageError};
 use envtools::{EnvError, ScriptError};
-use image_tools::{Fault, RehearseError, ToolError, WordForm, write_fault};
+use image_tools::{Fault, RehearseError, ToolError, WordForm, write_fault_of};
 use locked_files::FileFault;
 use output::Over;
 use std::alloc::Global;
@@ -14,7 +14,7 @@ use test_rows::{number, shown};
 /// The line that is written for a fault.
 fn line_of<E: Display>(alloc: Global, fault: &E) -> anyhow::Result<String> {
     let mut err = Over::new(Vec::new(alloc));
-    write_fault(&mut err, fault);
+    write_fault_of(&mut err, "ubtool", fault);
     Ok(shown(alloc, &err.into_writer())?)
 }
 
@@ -82,7 +82,7 @@ fn one(case: &Case<'_>, says: &str) -> anyhow::Result<String> {
 fn in_room(case: &Case<'_>, says: &str) -> anyhow::Result<String> {
     let mut room = vec![in case.alloc; 0u8; number(says)? as usize]?;
     let mut err = Over::new(room.as_mut_slice());
-    write_fault(&mut err, &Fault::Memory);
+    write_fault_of(&mut err, "ubtool", &Fault::Memory);
     let _ = err.into_writer();
     Ok(shown(case.alloc, &room)?)
 }

@@ -13,11 +13,14 @@ use requests::{CalledAs, called_as, read_lock, words_called};
 use std::fs::File;
 use std::io;
 use std::process::ExitCode;
-use whole_program::{PROGRAM, run_tool};
+use whole_program::run_tool;
 
 /// What this program is built for. A build for another processor, or with another kind of linking,
 /// has another word here.
 const BUILD: Build = Build::X86_64;
+
+/// The name in front of what is reported if the program does not start, whatever it was called as.
+const PROGRAM: &str = "ubtool";
 
 /// What is reported if memory for a buffer before the error output is refused.
 const OUT_OF_MEMORY: &[u8] = b"ubtool: out of memory\n";
@@ -54,7 +57,7 @@ fn work<E: Out>(
         &mut out,
         err,
     );
-    Ok(finish(out, err, PROGRAM, status))
+    Ok(finish(&mut out, err, called.name(), status))
 }
 
 /// Reads the words of the command line, takes the lock that they name, and does what they ask for.
@@ -68,7 +71,7 @@ fn run<E: Out>(rt: &HostRuntime, err: &mut Telling<E>) -> Result<u8, StartError>
         Ok(lock) => work(rt, called, &words, lock, err),
         Err(LockError::Memory) => Err(StartError::Memory),
         Err(error) => {
-            write_fault_of(err, PROGRAM, &error);
+            write_fault_of(err, called.name(), &error);
             Ok(1)
         }
     }
@@ -82,5 +85,5 @@ fn main(rt: HostRuntime) -> ExitCode {
     };
     let mut err = Telling::new(err);
     let status = run(&rt, &mut err);
-    ExitCode::from(end(err, PROGRAM, status))
+    ExitCode::from(end(&mut err, PROGRAM, status))
 }

@@ -10,10 +10,10 @@ use Rattle.rehearse_terms.specs.Asking.{Alone, Listed}
 use Rattle.rehearse_terms.specs.declared.wanted.Page.{Page}
 use Rattle.rehearse_terms.specs.Bounds.{BoundsShown, bounds_of}
 use Rattle.requests.specs.CommandAnswers.{Answers, asked, meaning_of}
-use Rattle.requests.specs.Asked.{Asked, asked_of, bounds_asked, endings_asked, endings_with, run_bounds_asked, change_asked, config_of, header_needs_one, input_scripted, is_set, listing_asked, number_within, order_of, page_asked, print_asked, printing, rehearsal_of, rehearsal_with, rehearse_asked, scripted, set_asked, too_many_devices, values_of, wanted_by, word_alone, word_asked}
+use Rattle.requests.specs.Called.{is_tool}
+use Rattle.requests.specs.Asked.{Asked, asked_of, bounds_asked, change_asked, config_of, endings_asked, endings_with, has_no_folder, header_needs_one, input_scripted, is_set, listing_asked, lock_needs_folder, number_within, order_of, page_asked, print_asked, printing, printing_asked, rehearsal_of, rehearsal_with, rehearse_asked, run_bounds_asked, scripted, set_asked, too_many_devices, values_of, wanted_by, word_alone, word_asked}
 use Rattle.command_line.specs.CommandLine.{most_failures, most_states, ubtool}
 use Rattle.requests.specs.declared.called.CalledAs.{CalledAs}
-use Rattle.requests.specs.declared.called.CalledAs.TheVariants.{FwTool, Ubtool}
 use Rattle.requests.specs.declared.ask.Ask.{Ask}
 use Rattle.requests.specs.declared.ask.Ask.TheVariants.{Endings, Help, Print, Rehearse, Setenv, Version}
 use Rattle.whole_program.specs.Performing.{IsComplete}
@@ -38,9 +38,8 @@ print-fit true false config names order e = tt
 print-fit false one config names order e = λ h. let none : ⊥ = cc in absurd none
 
 set-fit : (called : CalledAs) (script name : Option Text) (rows : List Row) → IsFit (Some (change_asked called script name rows))
-set-fit Ubtool (Some script) None rows = tt
-set-fit FwTool (Some script) None rows =
-    either-asked (bytes_eq script (codes "-")) (input_scripted (config_of rows) (order_of rows)) (scripted (config_of rows) script (order_of rows)) tt tt
+set-fit called (Some script) None rows =
+    either-asked (is_tool called && bytes_eq script (codes "-")) (input_scripted (config_of rows) (order_of rows)) (scripted (config_of rows) script (order_of rows)) tt tt
 set-fit called (Some script) (Some name) rows = tt
 set-fit called None (Some name) rows = tt
 set-fit called None None rows = tt
@@ -84,8 +83,10 @@ asked-fit called words = by (subcommand_of ubtool words)
     of : (name : Text) (rows : List Row) → IsFit (asked_of called name rows)
     of name rows =
         let names = values_of (codes "names") rows in
-        let printed = print-fit (is_set (codes "noheader") rows) (length names == 1) (config_of rows) names (order_of rows) refl in
-        let set = set-fit called (first_of (codes "script") rows) (first_of (codes "name") rows) rows in
+        let printed = either-asked (has_no_folder rows) lock_needs_folder (printing_asked rows) tt
+        (print-fit (is_set (codes "noheader") rows) (length names == 1) (config_of rows) names (order_of rows) refl) in
+        let set = either-asked (has_no_folder rows) lock_needs_folder (change_asked called (first_of (codes "script") rows) (first_of (codes "name") rows) rows) tt
+        (set-fit called (first_of (codes "script") rows) (first_of (codes "name") rows) rows) in
         let rehearsed = rehearse-fit (first_of (codes "device-list") rows) (page_asked rows) (number_within 0 most_failures (codes "failures") rows) rows in
         let ended = endings-fit (first_of (codes "device-list") rows) (run_bounds_asked rows) (number_within 0 most_states (codes "states") rows) rows in
         let last = either (bytes_eq name (codes "endings")) (endings_asked rows) None ended tt in

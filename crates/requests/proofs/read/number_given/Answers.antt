@@ -1,15 +1,18 @@
-use Rattle.std.proofs.Common.{◌∙◌, ap, Some, None}
-use Rattle.std.specs.Option.{option_map_or}
-use Rattle.std.specs.Prelude.{option_map}
-use Rattle.std.specs.Str.Parse.{ExplainsUnsignedError, HasUnsignedDigitsIfOk, ParsesUnsigned}
+use Rattle.std.proofs.Common.{◌∙◌, None, Some}
 use Rattle.clap.specs.Words.{found_of}
-use Rattle.clap.proofs.WalkLemmas.{one_text-rows}
-use Rattle.requests.specs.Asked.{number_of}
-use Rattle.requests.proofs.EntryLemmas.{optional_read}
+use Rattle.clap.proofs.WalkLemmas.{first_value-rows}
+use Rattle.requests.proofs.EntryLemmas.{given_none, given_some}
 use Rattle.requests.proofs.read.number_given.Goals as goal
 
-pub returns : goal.returns
-returns c =
-    let read = optional_read _ (λ t x. ParsesUnsigned 32 10 t x × ExplainsUnsignedError 10 t x × HasUnsignedDigitsIfOk t x) _ c.try_get_one.result
-    (λ t x h. h.0) c.try_get_one.ensures.none c.try_get_one.ensures.value in
-    c.ok.ensures.value ∙ read ∙ ap (λ o. option_map_or (λ t. option_map (λ n. Some n) (number_of t)) o (Some None)) (one_text-rows (found_of c.args.matches.now) c.args.id.now)
+pub returns-in-Some-number_of : goal.returns-in-Some-number_of
+returns-in-Some-number_of c =
+    given_some _ c.in-Some.text.now (Some c.in-Some-number_of.number)
+    (c.in-Some.ensures ∙ first_value-rows (found_of c.args.matches.now) c.args.id.now) c.in-Some-number_of.ensures
+
+pub returns-in-None-number_of : goal.returns-in-None-number_of
+returns-in-None-number_of c =
+    given_some _ c.in-Some.text.now None
+    (c.in-Some.ensures ∙ first_value-rows (found_of c.args.matches.now) c.args.id.now) c.in-None-number_of.ensures
+
+pub returns-in-None : goal.returns-in-None
+returns-in-None c = given_none _ (c.in-None.ensures ∙ first_value-rows (found_of c.args.matches.now) c.args.id.now)

@@ -8,5 +8,6 @@ returns-then-is_empty-clause-input g c = λ _. record {
   printed = c.run_input.ensures.printed;
   quiet = c.run_input.ensures.quiet;
   refused = c.run_input.ensures.refused;
+  told = c.run_input.ensures.told;
   untouched = refl;
 }

@@ -1,4 +1,5 @@
 use Rattle.std.proofs.Common.{arith, map, refl}
+use Rattle.requests.specs.Called.{name_of}
 use Rattle.requests.specs.CommandAnswers.{Answers}
 use Rattle.whole_program.specs.Performing.{Does}
 use Rattle.whole_program.proofs.AskLemmas.{answer-complete}
@@ -23,12 +24,13 @@ returns-in-Ok g c =
     let Doing = Does c.args.build (g.R.Read.remaining c.args.input.now) in
     let answer = c.perform-answer.result in
     let status = c.status_of.result in
+    let program = name_of c.args.called in
     let ends = c.status_of.ensures in
     record {
-      bound = ends-low answer told err' status ends;
-      done = λ is. status-done (Answers c.args.called) Doing words c.in-Ok.ask faults faults' before after out out' err told err' answer status c.in-Ok.ensures c.perform-answer.ensures.count c.perform-answer.ensures.does ends is;
-      refused = λ is. status-refused (Answers c.args.called) Doing words c.in-Ok.ask faults faults' before after out out' err told err' answer status c.in-Ok.ensures c.perform-answer.ensures.count c.perform-answer.ensures.does ends is;
-      misused = λ is. absurd (never-misused answer told err' status ends is);
+      bound = ends-low program answer told err' status ends;
+      done = λ is. status-done program (Answers c.args.called) Doing words c.in-Ok.ask faults faults' before after out out' err told err' answer status c.in-Ok.ensures c.perform-answer.ensures.count c.perform-answer.ensures.does ends is;
+      refused = λ is. status-refused program (Answers c.args.called) Doing words c.in-Ok.ask faults faults' before after out out' err told err' answer status c.in-Ok.ensures c.perform-answer.ensures.count c.perform-answer.ensures.does ends is;
+      misused = λ is. absurd (never-misused program answer told err' status ends is);
       lock = λ _. (c.in-Ok.ask, c.in-Ok.ensures, c.perform-answer.ensures.lock);
     }
 
