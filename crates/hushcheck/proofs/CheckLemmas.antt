@@ -1,5 +1,5 @@
 -- Checking the texts of what was read.
-use Rattle.std.proofs.Common.{◌≡◌, ◌∙◌, ℕ, refl, ap, sym, subst, List, Option, Some, None, Result, Ok, Err, inl, inr, Bool}
+use Rattle.std.proofs.Common.{◌≡◌, ◌∙◌, ℕ, refl, ap, sym, subst, List, Option, Some, None, Result, Ok, Err, ◌⊎◌, inl, inr, Bool}
 use Rattle.std.specs.Prelude.{Vec, option_map}
 use Rattle.std.specs.declared.alloc.Global.{Global}
 use Rattle.envimage.specs.Data.{Pair}
@@ -7,7 +7,7 @@ use Rattle.envimage.specs.declared.image.ByteOrder.{ByteOrder}
 use Rattle.envimage.specs.declared.image.ImageError.{ImageError}
 use Rattle.output.specs.Sink.{Sink}
 use Rattle.hushcheck.specs.Asked.{Asked}
-use Rattle.hushcheck.specs.Checking.{AreFound, ChecksFrom, ChecksText, FromFiles, Given, IsUnread, LeavesOutput, ReadsList, given, given_by, TellsAll, IsBadList, BreaksOff}
+use Rattle.hushcheck.specs.Checking.{AreFound, ChecksFrom, ChecksText, FromFiles, Given, IsUnread, LeavesOutput, Lists, ReadsList, given, given_by, TellsAll, IsBadList, BreaksOff, WritesFront}
 use Rattle.hushcheck_core.specs.Names.{Text}
 use Rattle.device_list.specs.DeviceList.{Devices}
 use Rattle.device_list.specs.declared.devices_error.DevicesError.{DevicesError}
@@ -54,7 +54,7 @@ unread asked out old new fault.CannotReadInput reads h = (reads, h)
 unread asked out old new fault.InputTooLong reads h = (reads, h)
 unread asked out old new (fault.NoSuchVariable name) reads h = (reads, h)
 unread asked out old new (fault.NotARun word) reads h = (reads, h)
-unread asked out old new fault.Memory reads h = (reads, h)
+unread asked out old new fault.Memory reads h = (reads, inl refl)
 
 -- the refusal of the images
 pub checks-unread : (asked : Asked) (out : Sink) (old new : Told) (f : Fault) → ReadsImages asked.config old new (Err f) → ChecksFrom asked out out old new (Err f)
@@ -101,11 +101,6 @@ module _ (asked : Asked) (out out' : Sink) (found : List Copy) (text : Option (V
   pub checks-found : (sound : Bool) → ChecksText here out out' (Ok sound) → ChecksFrom asked out out' x z (Ok sound)
   checks-found sound h = from-files (λ g. TellsAll g out out' sound) h
 
-  -- memory ran out after the reads
-  no-memory : (list : Option Text) → IsUnread asked.config list x fault.Memory
-  no-memory None = tt
-  no-memory (Some list) = inl tt
-
   pub checks-refused : (error : ToolError) → ChecksText here out out' (Err error) → ChecksFrom asked out out' x z (Err (tool_fault error))
   checks-refused (tool.Image error) h = from-files (λ g. g.env ≡ Err error) h.0
   checks-refused (tool.Env error) h = absurd h
@@ -118,7 +113,11 @@ module _ (asked : Asked) (out out' : Sink) (found : List Copy) (text : Option (V
   checks-refused (tool.Rehearsal rehearsal.Memory) h = absurd h
   checks-refused (tool.Rehearsal rehearsal.Failed) h = absurd h
   checks-refused tool.Write h = from-files (λ g. BreaksOff g out out') h
-  checks-refused tool.Memory h = (only-read asked.config asked.device_list found x y z text read listed, no-memory asked.device_list)
+  checks-refused tool.Memory h = (only-read asked.config asked.device_list found x y z text read listed, by h)
+    where
+      by : ChecksText here out out' (Err tool.Memory) → (out' ≡ out) ⊎ FromFiles asked x z (λ g. WritesFront g out out')
+      by (inl same) = inl same
+      by (inr front) = inr (from-files (λ g. WritesFront g out out') front)
 
 -- ---- the output, over any files
 
@@ -134,7 +133,7 @@ leaves-refused g out out' (tool.Rehearsal rehearsal.Write) h = absurd h
 leaves-refused g out out' (tool.Rehearsal rehearsal.Memory) h = absurd h
 leaves-refused g out out' (tool.Rehearsal rehearsal.Failed) h = absurd h
 leaves-refused g out out' tool.Write h = tt
-leaves-refused g out out' tool.Memory h = h
+leaves-refused g out out' tool.Memory h = tt
 
 -- ---- one environment
 
@@ -153,7 +152,28 @@ no-texts answer devices names all old (tool.Env error) h = absurd h
 no-texts answer devices names all old (tool.Script error) h = absurd h
 no-texts answer devices names all old (tool.Rehearsal error) h = absurd h
 no-texts answer devices names all old tool.Write h = absurd h
-no-texts answer devices names all old tool.Memory h = refl
+no-texts answer devices names all old tool.Memory h = inl refl
+
+-- the refusal of the device list
+pub no-list : (answer : Result (Option Devices) DevicesError) (env : List Pair) (names : List Text) (all : Bool) (old : Sink) (error : ToolError) → Lists answer (Err error)
+    → ChecksText (given (Ok env) answer names all) old old (Err error)
+no-list answer env names all old (tool.Image error) h = absurd h
+no-list answer env names all old (tool.Env error) h = absurd h
+no-list answer env names all old (tool.Script error) h = absurd h
+no-list answer env names all old (tool.Rehearsal (rehearsal.DeviceList error)) h = (record { env = env; there = refl; refused = h }, refl)
+no-list answer env names all old (tool.Rehearsal rehearsal.NoSuchVariable) h = absurd h
+no-list answer env names all old (tool.Rehearsal rehearsal.NotARun) h = absurd h
+no-list answer env names all old (tool.Rehearsal rehearsal.States) h = absurd h
+no-list answer env names all old (tool.Rehearsal rehearsal.Write) h = absurd h
+no-list answer env names all old (tool.Rehearsal rehearsal.Memory) h = absurd h
+no-list answer env names all old (tool.Rehearsal rehearsal.Failed) h = absurd h
+no-list answer env names all old tool.Write h = absurd h
+no-list answer env names all old tool.Memory h = inl refl
+
+-- the same check with a device list that is another way to write this one
+pub listed-as : (answer answer' : Result (Option Devices) DevicesError) (env : List Pair) (names : List Text) (all : Bool) (old new : Sink) (told : Result Bool ToolError) → answer ≡ answer'
+    → ChecksText (given (Ok env) answer names all) old new told → ChecksText (given (Ok env) answer' names all) old new told
+listed-as answer answer' env names all old new told e h = subst (λ (d : Result (Option Devices) DevicesError). ChecksText (given (Ok env) d names all) old new told) e h
 
 -- the environment of the images, by the bytes of their copies
 pub found-in : (order : ByteOrder) (images : Images) (first : List ℕ) (second : Option (List ℕ)) → first ≡ images.first.bytes.items → second ≡ option_map (λ copy. copy.bytes.items) images.second

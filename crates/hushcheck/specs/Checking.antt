@@ -2,13 +2,13 @@
 use Rattle.std.specs.Prelude.{◌≡◌, ◌⊎◌, ℕ, Bool, List, Option, Some, None, Result, Ok, Err, Vec}
 use Rattle.std.specs.declared.alloc.Global.{Global}
 use Rattle.envimage.specs.Data.{Pair}
+use Rattle.output.specs.Outputs.{WroteFront}
 use Rattle.output.specs.Sink.{BrokeOff, Sink, Wrote}
 use Rattle.envimage.specs.declared.image.ByteOrder.{ByteOrder}
 use Rattle.envimage.specs.declared.image.ImageError.{ImageError}
 use Rattle.hushcheck.specs.Asked.{Asked}
 use Rattle.hushcheck_core.specs.Names.{Text}
-use Rattle.hushcheck_core.specs.Report.{Checks, asked_names}
-use Rattle.hushcheck_core.specs.declared.checking.Report.{Report}
+use Rattle.hushcheck_core.specs.Report.{BeginsCheck, Checks, asked_names}
 use Rattle.device_list.specs.DeviceList.{Devices, listed}
 use Rattle.device_list.specs.declared.devices_error.DevicesError.{DevicesError}
 use Rattle.rehearse.specs.declared.rehearse_error.RehearseError.TheVariants.{DeviceList}
@@ -17,6 +17,7 @@ use Rattle.locked_files.specs.Told.{Told}
 use Rattle.image_tools.specs.declared.error.ToolError.{ToolError}
 use Rattle.image_tools.specs.declared.error.ToolError.TheVariants.{Image, Memory, Rehearsal, Write}
 use Rattle.image_tools.specs.declared.fault.Fault.{Fault}
+use Rattle.image_tools.specs.declared.fault.Fault.TheVariants as fault
 use Rattle.image_tools.specs.declared.fault.Fault.TheVariants.{Tool}
 use Rattle.file_tools.specs.Images.{Copy, IsImagesFault}
 use Rattle.file_tools.specs.PrintingFiles.{FromImages, environment}
@@ -72,20 +73,25 @@ pub record IsBadList (g : Given) (fault : DevicesError) : Type 0 where
   pub there : g.env ≡ Ok env
   pub refused : g.devices ≡ Err fault
 
--- what is reported, or why nothing is
-abbrev pub IsReport : Given → Result Report ToolError → Type 0
-IsReport g (Ok report) = AreTexts g report.text.items report.sound
-IsReport g (Err (Rehearsal (DeviceList fault))) = IsBadList g fault
-IsReport g (Err Memory) = Unit {0}
-IsReport g (Err _) = ⊥
+-- The environment and the device list are right, and these are the lines of the texts whose turn had come.
+pub record BeginTexts (g : Given) (told : Text) : Type 0 where
+  pub env : List Pair
+  pub there : g.env ≡ Ok env
+  pub devices : Option Devices
+  pub are_listed : g.devices ≡ Ok devices
+  pub begins : BeginsCheck devices env (asked_names g.all env g.names) told
 
 -- all that is reported was written
 abbrev pub TellsAll : Given → (old new : Sink) → (sound : Bool) → Type 0
 TellsAll g old new sound = (told : Text) × AreTexts g told sound × Wrote old new told
 
--- the output failed inside what is reported
+-- the output failed inside these lines
 abbrev pub BreaksOff : Given → (old new : Sink) → Type 0
-BreaksOff g old new = (told : Text) × (sound : Bool) × AreTexts g told sound × BrokeOff old new told
+BreaksOff g old new = (told : Text) × BeginTexts g told × BrokeOff old new told
+
+-- the first bytes of these lines were written
+abbrev pub WritesFront : Given → (old new : Sink) → Type 0
+WritesFront g old new = (told : Text) × BeginTexts g told × WroteFront old new told
 
 -- each answer to checking the texts, and what is written then
 abbrev pub ChecksText : Given → Sink → Sink → Result Bool ToolError → Type 0
@@ -93,7 +99,7 @@ ChecksText g old new (Ok sound) = TellsAll g old new sound
 ChecksText g old new (Err (Image error)) = (g.env ≡ Err error) × (new ≡ old)
 ChecksText g old new (Err (Rehearsal (DeviceList fault))) = IsBadList g fault × (new ≡ old)
 ChecksText g old new (Err Write) = BreaksOff g old new
-ChecksText g old new (Err Memory) = new ≡ old
+ChecksText g old new (Err Memory) = (new ≡ old) ⊎ WritesFront g old new
 ChecksText g old new (Err _) = ⊥
 
 -- ---- files
@@ -123,17 +129,20 @@ FromFiles asked old new IsSo =
     IsSo (given_by asked.order found list asked.names asked.all))
 
 -- The images and the device list were read and the texts checked, or the image or the list is refused; or a read is
--- refused, and files were only read. Memory may run out at any time.
+-- refused, and files were only read. Memory may run out at any time, also when lines were written.
 abbrev pub ChecksFrom : Asked → (out out' : Sink) → (old new : Told) → Result Bool Fault → Type 0
 ChecksFrom asked out out' old new (Ok sound) = FromFiles asked old new (λ g. TellsAll g out out' sound)
 ChecksFrom asked out out' old new (Err (Tool (Image error))) = FromFiles asked old new (λ g. g.env ≡ Err error)
 ChecksFrom asked out out' old new (Err (Tool (Rehearsal (DeviceList fault)))) =
     FromFiles asked old new (λ g. IsBadList g fault)
 ChecksFrom asked out out' old new (Err (Tool Write)) = FromFiles asked old new (λ g. BreaksOff g out out')
+ChecksFrom asked out out' old new (Err fault.Memory) =
+    OnlyReads old new × ((out' ≡ out) ⊎ FromFiles asked old new (λ g. WritesFront g out out'))
 ChecksFrom asked out out' old new (Err fault) = OnlyReads old new × IsUnread asked.config asked.device_list old fault
 
--- a refusal other than that of the output leaves the output as it was
+-- a refusal leaves the output as it was, unless it says that the output failed or that memory ran out
 abbrev pub LeavesOutput : Result Bool Fault → (old new : Sink) → Type 0
 LeavesOutput (Ok sound) old new = Unit {0}
 LeavesOutput (Err (Tool Write)) old new = Unit {0}
+LeavesOutput (Err fault.Memory) old new = Unit {0}
 LeavesOutput (Err fault) old new = new ≡ old

@@ -2,7 +2,7 @@
 ghost use Rattle.std.specs.Prelude.{Ok, map, option_map, string_bytes};
 ghost use Rattle.std.specs.Option.{option_copied};
 ghost use Rattle.hushcheck.specs.Asked.{asked_by};
-ghost use Rattle.hushcheck.specs.Checking.{ChecksFrom, ChecksText, IsReport, LeavesOutput, Lists, ReadsList, given, given_by, list_in};
+ghost use Rattle.hushcheck.specs.Checking.{ChecksFrom, ChecksText, LeavesOutput, Lists, ReadsList, given, given_by, list_in};
 ghost use Rattle.locked_files.specs.Told.{IfTold};
 ghost use Rattle.file_tools.specs.Faults.{CountsTold};
 ghost use Rattle.file_tools.specs.Images.{copies};
@@ -12,10 +12,10 @@ use device_list::Devices;
 use envimage::ByteOrder;
 use envtools::Env;
 use file_tools::{Images, read_images, read_text, slices_of};
-use hushcheck_core::{Report, asked_names, check};
+use hushcheck_core::{CheckError, asked_names, check};
 use image_tools::{Fault, ToolError, env_of_image};
 use locked_files::Files;
-use output::{Out, write_all};
+use output::Out;
 use rehearse::read_devices;
 use std::alloc::Global;
 
@@ -29,43 +29,31 @@ fn list_of(alloc: Global, text: Option<&[u8]>) -> Result<Option<Devices>, ToolEr
     Ok(Some(read_devices(alloc, text)?))
 }
 
-/// What is reported of the texts of an environment, with this device list if there is one.
-fn report_with(
+/// Checks the texts of an environment, with this device list if there is one, and writes what is
+/// reported of them. Returns false if a text is not well-formed, a name is not set, or the device
+/// list lacks a command.
+fn check_with<O: Out>(
     alloc: Global,
     devices: Option<&Devices>,
     env: &Env,
     names: &[&[u8]],
     all: bool,
-) -> Result<Report, ToolError>
-    ensures { IsReport (given (Ok env.now) (Ok (option_map (λ d. d.now) devices.entry))
-        (map (λ n. n.now) names.now) all) result }
+    out: &mut O,
+) -> Result<bool, ToolError>
+    ensures { ChecksText (given (Ok env.now) (Ok (option_map (λ d. d.now) devices.entry))
+        (map (λ n. n.now) names.now) all) (O.sink out.old) (O.sink out.new) result }
 {
     let Ok(names) = asked_names(alloc, env, names, all) else {
         return Err(ToolError::Memory);
     };
-    match check(alloc, devices, env, &names) {
-        Ok(report) => Ok(report),
-        Err(_) => Err(ToolError::Memory),
+    match check(alloc, devices, env, &names, out) {
+        Ok(sound) => Ok(sound),
+        Err(CheckError::Write) => Err(ToolError::Write),
+        Err(CheckError::Memory) => Err(ToolError::Memory),
     }
 }
 
-/// What is reported of the texts of an environment, with the device list of a text if there is one.
-fn report_of(
-    alloc: Global,
-    env: &Env,
-    list: Option<&[u8]>,
-    names: &[&[u8]],
-    all: bool,
-) -> Result<Report, ToolError>
-    ensures { IsReport (given (Ok env.now) (list_in (option_copied list.entry))
-        (map (λ n. n.now) names.now) all) result }
-{
-    let devices = list_of(alloc, list)?;
-    report_with(alloc, devices.as_ref(), env, names, all)
-}
-
-/// Checks the texts of an environment, and writes what is reported of them. Returns false if a text
-/// is not well-formed, a name is not set, or the device list lacks a command.
+/// The same with the device list of a text, if there is one.
 fn check_env<O: Out>(
     alloc: Global,
     env: &Env,
@@ -77,11 +65,8 @@ fn check_env<O: Out>(
     ensures { ChecksText (given (Ok env.now) (list_in (option_copied list.entry))
         (map (λ n. n.now) names.now) all) (O.sink out.old) (O.sink out.new) result }
 {
-    let report = report_of(alloc, env, list, names, all)?;
-    match write_all(out, &report.text) {
-        Ok(()) => Ok(report.sound),
-        Err(_) => Err(ToolError::Write),
-    }
+    let devices = list_of(alloc, list)?;
+    check_with(alloc, devices.as_ref(), env, names, all, out)
 }
 
 /// The same for images that were read, a single one or a pair.

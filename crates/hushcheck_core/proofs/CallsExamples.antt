@@ -10,12 +10,12 @@ use Rattle.hushlang.specs.Parsing.{whole, script, command, simple, keyword, next
 use Rattle.hushlang.specs.Tree.{Script}
 use Rattle.hushlang.specs.declared.token.SyntaxError.{SyntaxError}
 use Rattle.device_list.specs.DeviceList.{Devices, Effect}
-use Rattle.hushcheck_core.specs.Calls.{calls_of, is_lacking}
+use Rattle.hushcheck_core.specs.Calls.{calls_of, found_lines, is_lacking}
 use Rattle.hushcheck_core.specs.Names.{Text, read_in}
 use Rattle.hushcheck_core.specs.Report.{asked_names}
 
 abbrev told_of : Option Devices → Text → Result Script SyntaxError → Text
-told_of devices text (Ok s) = (calls_of devices (codes "b") text s).told
+told_of devices text (Ok s) = found_lines (codes "b") text (calls_of devices text s).found
 told_of devices text (Err error) = []
 
 abbrev told_in : Option Devices → Text → Text

@@ -1,9 +1,9 @@
 -- One turn of a check: the names so far, what was reported of them, and how much is left.
-use Rattle.std.proofs.Common.{◌≡◌, ℕ, zero, suc, ◌+◌, ◌-◌, ◌<◌, ◌≤◌, ◌⊎◌, inl, inr, Bool, true, false, ◌&&◌, ◌||◌, List, [], ◌∷◌, ◌++◌, length, take, get_or, Contains, Option, Some, refl, sym, ap, subst, ◌∙◌, append_assoc, arith}
+use Rattle.std.proofs.Common.{◌≡◌, ℕ, zero, suc, ◌+◌, ◌-◌, ◌<◌, ◌≤◌, ◌⊎◌, inl, inr, Bool, true, false, ◌&&◌, ◌||◌, List, [], ◌∷◌, ◌++◌, length, take, drop, get_or, Contains, Option, Some, refl, sym, ap, subst, ◌∙◌, append_assoc, arith}
 use Rattle.std.specs.Cmp.Lexicographic.{bytes_decides, nat_list_eq_equiv}
 use Rattle.std.proofs.Math.Bool.{and_assoc}
 use Rattle.std.proofs.lemmas.Bool.{cases_Bool, cases_lt}
-use Rattle.std.proofs.lemmas.List.{append-nil, get_or_append_left, length-append, take-append-le, take_all}
+use Rattle.std.proofs.lemmas.List.{append-nil, get_or_append_left, length-append, take-append-drop, take-append-le, take_all}
 use Rattle.std.proofs.lemmas.List.Folds.{list_any-append, list_all-append}
 use Rattle.std.proofs.lemmas.Grind.{flat_map-append}
 use Rattle.std.proofs.Math.Seq.{get_or-append_seam, take-append_seam}
@@ -14,7 +14,7 @@ use Rattle.envtools.specs.Printing.{all_found}
 use Rattle.device_list.specs.DeviceList.{Devices}
 use Rattle.hushcheck_core.specs.Names.{Text, run_by_name, run_by_value}
 use Rattle.hushcheck_core.specs.Order.{IsReached, is_asked, is_run, once, with_name, with_names}
-use Rattle.hushcheck_core.specs.Report.{Checks, is_fine, is_sound, lines_of}
+use Rattle.hushcheck_core.specs.Report.{BeginsCheck, Checks, is_fine, is_sound, lines_of}
 use Rattle.hushcheck_core.proofs.OrderLemmas.{with_names-append}
 
 -- ---- names that are added after others
@@ -259,3 +259,35 @@ standing_last devices env asked names at told sound past s =
       told_is = s.told_is ∙ ap (flat_map (lines_of devices env)) all;
       sound_is = s.sound_is ∙ ap (is_sound devices env asked) all;
     }
+
+-- before the first turn nothing is told
+pub begins_first : (devices : Option Devices) (env : List Pair) (asked : List Text) → BeginsCheck devices env asked []
+begins_first devices env asked = record {
+  turns = [];
+  behind = once (asked ++ []);
+  in_turn = refl;
+  reached = λ name c. absurd (let h = c.1 in omega (arith, h));
+  told_is = refl;
+}
+
+-- in a turn
+pub begins_next : (devices : Option Devices) (env : List Pair) (asked names : List Text) (at : ℕ) (told : Text) (sound : Bool) → at < length names → Standing devices env asked names at told sound
+    → BeginsCheck devices env asked (told ++ lines_of devices env (get_or names at []))
+begins_next devices env asked names at told sound within s =
+    let n = get_or names at [] in
+    let more = run_by_name env n in
+    let next = standing_next devices env asked names (with_names names more) at told (told ++ lines_of devices env n) sound (sound && is_fine devices env n) within s refl refl refl in
+    let all = with_names names more in
+    record {
+      turns = take (at + 1) all;
+      behind = drop (at + 1) all;
+      in_turn = sym next.in_turn ∙ sym (take-append-drop (at + 1) all);
+      reached = λ name c. next.reached name (front_there (at + 1) all name c);
+      told_is = next.told_is;
+    }
+  where
+    front_there : (k : ℕ) (xs : List Text) (m : Text) → Contains (take k xs) m → Contains xs m
+    front_there zero xs m c = absurd (let h = c.1 in omega (arith, h))
+    front_there (suc k) [] m c = c
+    front_there (suc k) (x ∷ xs) m (zero, h, e) = (0, omega arith, e)
+    front_there (suc k) (x ∷ xs) m (suc i, h, e) = let there = front_there k xs m (i, omega (arith, h), e) in contains_tail x xs m there

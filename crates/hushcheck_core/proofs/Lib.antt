@@ -4,7 +4,9 @@ pub mod ShownLemmas
 pub mod WalkLemmas
 pub mod CheckLemmas
 pub mod LinesLemmas
-pub mod CheckExamples
 pub mod CallsLemmas
 pub mod AskedLemmas
+pub mod TellingLemmas
+pub mod CheckExamples
 pub mod CallsExamples
+mod ShownExamples

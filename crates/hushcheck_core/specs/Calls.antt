@@ -1,7 +1,7 @@
--- What is reported of the calls in a text: a command that the device list lacks, and a name of `run` that is not
--- followed. Ours.
+-- What is found in the calls of a text: a command that the device list lacks, and a name of `run` that is not followed.
+-- Ours.
 use Rattle.std.specs.Prelude.{◌&&◌, ◌||◌, ◌++◌, ℕ, Bool, true, false, not, List, [], ◌∷◌, length, map, filter, drop, Option, Some, None, codes, is_some, if◌then◌else◌}
-use Rattle.std.specs.List.{fold, list_any}
+use Rattle.std.specs.List.{flat_map, fold, list_any}
 use Rattle.std.specs.Str.{bytes_eq}
 use Rattle.hushlang.specs.CursorShown.{input_in}
 use Rattle.hushlang.specs.Grammar.{is_word}
@@ -30,14 +30,19 @@ is_lacking (Some devices) name = not (is_built_in name || is_in_list devices nam
 abbrev pub word_places : List Token → List ℕ
 word_places tokens = map (λ t. t.start) (filter is_word tokens)
 
--- the variable and its text, the device list, the places of the words that are left, what was reported, and whether a
--- command is lacking
+-- what is reported of a word
+pub data Remark : Type 0 where
+  -- a name of `run` holds a variable
+  NotFollowed : Remark
+  -- the device list lacks a command
+  Lacks : (name : Text) → Remark
+
+-- the device list, the places of the words that are left, what was found at which places, and whether a command is
+-- lacking
 pub record Reading : Type 0 where
-  pub name : Text
-  pub text : Text
   pub devices : Option Devices
   pub left : List ℕ
-  pub told : Text
+  pub found : List (ℕ × Remark)
   pub lacks : Bool
 
 -- the place of the next word
@@ -48,29 +53,23 @@ first_place (place ∷ places) = place
 abbrev pub skip : ℕ → Reading → Reading
 skip count r = record r { left = drop count r.left }
 
--- something is reported of the next word
-abbrev pub tell : Text → Reading → Reading
-tell what r = record r { told = r.told ++ lines_at r.name r.text (first_place r.left) what }
+-- something is found at the next word
+abbrev pub find : Remark → Reading → Reading
+find what r = record r { found = r.found ++ (first_place r.left, what) ∷ [] }
 
 -- ---- the words of a call
 
-abbrev pub unfollowed : Text
-unfollowed = codes "note: not followed, since the name holds a variable"
-
 -- a name of `run`: it is followed if it is written out
 abbrev pub after_operand : Reading → Word → Reading
-after_operand r word = skip 1 (if is_some (written_out word) then r else tell unfollowed r)
+after_operand r word = skip 1 (if is_some (written_out word) then r else find NotFollowed r)
 
-abbrev pub lacking : Text → Text
-lacking name = codes "the device list lacks " ++ word_form name
-
-abbrev pub tell_lacking : Text → Reading → Reading
-tell_lacking name r = record (tell (lacking name) r) { lacks = true }
+abbrev pub find_lacking : Text → Reading → Reading
+find_lacking name r = record (find (Lacks name) r) { lacks = true }
 
 -- the first word of a call: the command, if it is written out
 abbrev pub after_name : Reading → Option Text → Reading
 after_name r None = r
-after_name r (Some name) = if is_lacking r.devices name then tell_lacking name r else r
+after_name r (Some name) = if is_lacking r.devices name then find_lacking name r else r
 
 abbrev pub after_words : Reading → List Word → Reading
 after_words r [] = r
@@ -113,16 +112,28 @@ after_arm r arm = after_script (skip 1 (after_script (skip 1 r) arm.0)) arm.1
 
 -- ---- a whole text
 
-abbrev pub begun : Option Devices → (name text : Text) → Reading
-begun devices name text = record {
-  name = name;
-  text = text;
+abbrev pub begun : Option Devices → (text : Text) → Reading
+begun devices text = record {
   devices = devices;
   left = word_places (input_in text).tokens;
-  told = [];
+  found = [];
   lacks = false;
 }
 
 -- what is read of the script that a text is
-abbrev pub calls_of : Option Devices → (name text : Text) → Script → Reading
-calls_of devices name text script = after_script (begun devices name text) script
+abbrev pub calls_of : Option Devices → (text : Text) → Script → Reading
+calls_of devices text script = after_script (begun devices text) script
+
+-- ---- the lines
+
+abbrev pub remark_text : Remark → Text
+remark_text NotFollowed = codes "note: not followed, since the name holds a variable"
+remark_text (Lacks name) = codes "the device list lacks " ++ word_form name
+
+-- the lines of a word
+abbrev pub remark_lines : (name text : Text) → ℕ × Remark → Text
+remark_lines name text found = lines_at name text found.0 (remark_text found.1)
+
+-- the lines of all that was found, in the order of the text
+abbrev pub found_lines : (name text : Text) → List (ℕ × Remark) → Text
+found_lines name text found = flat_map (remark_lines name text) found

@@ -4,4 +4,6 @@ pub mod Names
 pub mod Order
 pub mod Places
 pub mod Calls
+pub mod Remarks
 pub mod Report
+pub mod Telling

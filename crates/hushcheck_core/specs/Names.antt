@@ -74,10 +74,13 @@ abbrev pub run_by_read : Result Script SyntaxError → List Text
 run_by_read (Ok script) = run_by_script script
 run_by_read (Err error) = []
 
+abbrev pub run_by_text : Text → List Text
+run_by_text text = run_by_read (read_in text)
+
 -- the names that the text of a variable runs; a variable that is not set runs nothing
 abbrev pub run_by_value : Option Text → List Text
 run_by_value None = []
-run_by_value (Some text) = run_by_read (read_in text)
+run_by_value (Some text) = run_by_text text
 
 abbrev pub run_by_name : List Pair → Text → List Text
 run_by_name env name = run_by_value (value_of env name)

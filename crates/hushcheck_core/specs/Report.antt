@@ -1,5 +1,5 @@
 -- What is reported of each text. Ours; the faults are those of the language.
-use Rattle.std.specs.Prelude.{◌≡◌, ◌==◌, ◌&&◌, ◌++◌, ℕ, Bool, true, false, not, List, [], length, map, Option, Some, None, Result, Ok, Err, codes, if◌then◌else◌}
+use Rattle.std.specs.Prelude.{◌≡◌, ◌==◌, ◌&&◌, ◌++◌, ℕ, Bool, true, false, not, List, [], length, map, Option, Some, None, Result, Ok, Err, Contains, codes, if◌then◌else◌}
 use Rattle.std.specs.List.{flat_map, list_all}
 use Rattle.envimage.specs.Data.{Pair}
 use Rattle.envtools.specs.Environment.{value_of}
@@ -9,10 +9,10 @@ use Rattle.hushlang.specs.AfterCompound.{straight}
 use Rattle.hushlang.specs.Tree.{Script}
 use Rattle.hushlang.specs.declared.token.SyntaxError.{SyntaxError}
 use Rattle.hushlang.specs.declared.token.SyntaxError.TheVariants.{OpenQuote, LoneBackslash, OpenBrace, BadVariable, SingleAmp, SinglePipe, Unexpected, MissingWord, AssignmentBeforeCommand, TooDeep, Memory}
-use Rattle.hushcheck_core.specs.Names.{Text, read_in}
-use Rattle.hushcheck_core.specs.Order.{IsOrder}
+use Rattle.hushcheck_core.specs.Names.{Text, read_in, run_by_name}
+use Rattle.hushcheck_core.specs.Order.{IsOrder, IsReached, once}
 use Rattle.hushcheck_core.specs.Places.{lines_at}
-use Rattle.hushcheck_core.specs.Calls.{calls_of}
+use Rattle.hushcheck_core.specs.Calls.{calls_of, found_lines}
 use Rattle.device_list.specs.DeviceList.{Devices}
 use Rattle.text.specs.Escapes.{word_form}
 
@@ -59,29 +59,36 @@ warning_lines name text = warned_at name text (straight (input_in text).tokens)
 -- the lines of a text that was read, or refused: the warning comes before what is reported of the calls
 abbrev pub lines_read : Option Devices → (name text : Text) → Result Script SyntaxError → Text
 lines_read devices name text (Ok script) =
-    word_form name ++ codes ": ok\n" ++ warning_lines name text ++ (calls_of devices name text script).told
+    word_form name ++ codes ": ok\n" ++ warning_lines name text
+    ++ found_lines name text (calls_of devices text script).found
 lines_read devices name text (Err error) = fault_lines name text error
+
+abbrev pub lines_of_text : Option Devices → (name text : Text) → Text
+lines_of_text devices name text = lines_read devices name text (read_in text)
 
 -- the lines of a variable
 abbrev pub lines_of_value : Option Devices → Text → Option Text → Text
 lines_of_value devices name None = word_form name ++ codes ": not set\n"
-lines_of_value devices name (Some text) = lines_read devices name text (read_in text)
+lines_of_value devices name (Some text) = lines_of_text devices name text
 
 abbrev pub lines_of : Option Devices → List Pair → Text → Text
 lines_of devices env name = lines_of_value devices name (value_of env name)
 
 -- the text is well-formed, and the device list lacks no command of it
-abbrev pub is_fine_read : Option Devices → (name text : Text) → Result Script SyntaxError → Bool
-is_fine_read devices name text (Ok script) = not (calls_of devices name text script).lacks
-is_fine_read devices name text (Err error) = false
+abbrev pub is_fine_read : Option Devices → (text : Text) → Result Script SyntaxError → Bool
+is_fine_read devices text (Ok script) = not (calls_of devices text script).lacks
+is_fine_read devices text (Err error) = false
+
+abbrev pub is_fine_text : Option Devices → (text : Text) → Bool
+is_fine_text devices text = is_fine_read devices text (read_in text)
 
 -- a variable that is not set has no text that could be wrong
-abbrev pub is_fine_value : Option Devices → Text → Option Text → Bool
-is_fine_value devices name None = true
-is_fine_value devices name (Some text) = is_fine_read devices name text (read_in text)
+abbrev pub is_fine_value : Option Devices → Option Text → Bool
+is_fine_value devices None = true
+is_fine_value devices (Some text) = is_fine_text devices text
 
 abbrev pub is_fine : Option Devices → List Pair → Text → Bool
-is_fine devices env name = is_fine_value devices name (value_of env name)
+is_fine devices env name = is_fine_value devices (value_of env name)
 
 -- all is well: each name that is asked for is set, and each text that is reached is fine
 abbrev pub is_sound : Option Devices → List Pair → (asked order : List Text) → Bool
@@ -94,6 +101,15 @@ pub record Checks (devices : Option Devices) (env : List Pair) (asked : List Tex
   pub is_order : IsOrder env asked order
   pub told_is : told ≡ flat_map (lines_of devices env) order
   pub sound_is : sound ≡ is_sound devices env asked order
+
+-- What is told of a check that does not come to its end: the lines of the names whose turn has come, which are the first
+-- of those that are asked for and that the texts of these run.
+pub record BeginsCheck (devices : Option Devices) (env : List Pair) (asked : List Text) (told : Text) : Type 0 where
+  pub turns : List Text
+  pub behind : List Text
+  pub in_turn : once (asked ++ flat_map (run_by_name env) turns) ≡ turns ++ behind
+  pub reached : (name : Text) → Contains turns name → IsReached env asked name
+  pub told_is : told ≡ flat_map (lines_of devices env) turns
 
 -- ---- which names are asked for
 

@@ -1,22 +1,24 @@
-//! What is reported of the calls in a script.
+//! What is found in the calls of a script.
 ghost use Rattle.std.specs.Prelude.{◌≡◌, map, option_map, IfOk, OnOk};
 ghost use Rattle.std.specs.List.{fold};
 ghost use Rattle.hushlang.specs.TreesShown as view;
 ghost use Rattle.hushcheck_core.specs.Calls as spec;
 ghost use Rattle.hushcheck_core.specs.Names as names;
+ghost use Rattle.hushcheck_core.specs.Remarks as shown;
 
 use crate::reading::{Reading, word_places};
+use crate::remark::{Found, Remark};
 use crate::walk::{is_run, written_out};
 use device_list::Devices;
 use hushlang::tree::{AndOr, Command, Script, Word};
 use std::alloc::{AllocError, Global};
 use std::rc::Rc;
 
-/// What is reported of the calls in a text.
+/// What is found in the calls of a text.
 #[derive(Drop)]
 pub(crate) struct Calls {
-    /// The lines.
-    pub(crate) told: Vec<u8>,
+    /// What is to be reported, in the order of the text.
+    pub(crate) found: Vec<Found>,
     /// Whether the device list lacks a command.
     pub(crate) lacks: bool,
 }
@@ -27,7 +29,7 @@ fn read_operand(alloc: Global, word: &Word, reading: &mut Reading<'_>) -> Result
         ≡ spec.after_operand reading.old (view.word word.now)) }
 {
     if written_out(alloc, word)?.is_none() {
-        reading.tell(b"note: not followed, since the name holds a variable")?;
+        reading.find(Remark::NotFollowed)?;
     }
     reading.skip(1);
     Ok(())
@@ -50,7 +52,7 @@ fn read_name(alloc: Global, word: &Word, reading: &mut Reading<'_>) -> Result<()
         ≡ spec.after_name reading.old (names.written_out (view.word word.now))) }
 {
     match written_out(alloc, word)? {
-        Some(name) => reading.tell_if_lacking(alloc, &name),
+        Some(name) => reading.find_if_lacking(name),
         None => Ok(()),
     }
 }
@@ -162,24 +164,23 @@ fn read_arms(
     Ok(())
 }
 
-/// What is reported of the calls in a text, which is this script. Errors: memory ran out.
+/// What is found in the calls of a text, which is this script. Errors: memory ran out.
 pub(crate) fn calls_of(
     alloc: Global,
     devices: Option<&Devices>,
-    name: &[u8],
     text: &[u8],
     script: &Script,
 ) -> Result<Calls, AllocError>
-    ensures told { IfOk result (λ calls. calls.told.items
-        ≡ (spec.calls_of (option_map (λ d. d.now) devices.entry) name.now text.now
-        (view.script script.now)).told) }
+    ensures found { IfOk result (λ calls. shown.all_found calls.found.items
+        ≡ (spec.calls_of (option_map (λ d. d.now) devices.entry) text.now
+        (view.script script.now)).found) }
     ensures lacks { IfOk result (λ calls. calls.lacks
-        ≡ (spec.calls_of (option_map (λ d. d.now) devices.entry) name.now text.now
+        ≡ (spec.calls_of (option_map (λ d. d.now) devices.entry) text.now
         (view.script script.now)).lacks) }
 {
     let places = word_places(alloc, text)?;
-    let mut reading = Reading::new(alloc, devices, name, text, &places);
+    let mut reading = Reading::new(alloc, devices, &places);
     read_script(alloc, script, &mut reading)?;
-    let Reading { told, lacks, .. } = reading;
-    Ok(Calls { told, lacks })
+    let Reading { found, lacks, .. } = reading;
+    Ok(Calls { found, lacks })
 }

@@ -1,33 +1,23 @@
 //! The texts that are reached, and what is reported of each.
-ghost use Rattle.std.specs.Prelude.{◌≡◌, ◌&&◌, ◌++◌, ◌<◌, [], length, map, not, option_map, codes, IfOk, OnOk, slice_index_or};
+ghost use Rattle.std.specs.Prelude.{◌≡◌, ◌&&◌, ◌<◌, [], length, map, option_map, IfOk, OnOk, slice_index_or};
 ghost use Rattle.envtools.specs.Printing.{all_found};
-ghost use Rattle.hushcheck_core.specs.Names.{run_by_found, run_by_name};
+ghost use Rattle.hushcheck_core.specs.Names.{run_by_found, run_by_name, run_by_text};
 ghost use Rattle.hushcheck_core.specs.Order.{with_names};
-ghost use Rattle.hushcheck_core.specs.Calls as calls;
-ghost use Rattle.hushcheck_core.specs.Report.{Checks, is_fine, lines_of, warning_lines};
-ghost use Rattle.hushlang.specs.TreesShown as view;
-ghost use Rattle.text.specs.Escapes.{word_form};
+ghost use Rattle.hushcheck_core.specs.Report.{is_fine, is_fine_text, lines_of, lines_of_text};
+ghost use Rattle.hushcheck_core.specs.Telling.{Writes, WritesCheck};
 
 use crate::calls::calls_of;
-use crate::lines::{push_fault, push_named, push_read};
+use crate::check_error::CheckError;
 use crate::names::{Names, asked_names};
+use crate::telling::{write_fault, write_read, write_unset};
 use crate::walk::add_script;
 use device_list::Devices;
 use envtools::Env;
 use hushlang::parse::parse;
 use hushlang::token::SyntaxError;
 use hushlang::tree::Script;
+use output::Out;
 use std::alloc::{AllocError, Global};
-
-/// What is reported of the texts that are reached.
-#[derive(Debug, Drop)]
-pub struct Report {
-    /// The lines.
-    pub text: Vec<u8>,
-    /// Whether all is well: each name that was asked for is set, each text is well-formed, and the
-    /// device list lacks no command.
-    pub sound: bool,
-}
 
 /// Whether all of the names are set.
 fn are_set(env: &Env, names: &[&[u8]]) -> bool
@@ -41,111 +31,142 @@ fn are_set(env: &Env, names: &[&[u8]]) -> bool
     true
 }
 
-/// Reports a text that is this script. Errors: memory ran out.
-#[tactic(auto, using(crate::proofs::LinesLemmas::read_is))]
-fn tell_script(
+/// Whether both are so.
+fn both(first: bool, second: bool) -> bool
+    ensures { result ≡ (first && second) }
+{
+    first && second
+}
+
+/// What a variable was found to be.
+#[derive(Drop)]
+struct Checked {
+    /// The script that its text is, if it is one.
+    script: Option<Script>,
+    /// Whether nothing is wrong with it.
+    fine: bool,
+}
+
+/// Checks a text, and writes its lines.
+fn check_text<O: Out>(
     alloc: Global,
     devices: Option<&Devices>,
     name: &[u8],
     text: &[u8],
-    script: &Script,
-    report: &mut Report,
-) -> Result<(), AllocError>
-    ensures text { OnOk result (report.new.text.items ≡ report.old.text.items
-        ++ (word_form name.now ++ codes ": ok\n" ++ warning_lines name.now text.now
-        ++ (calls.calls_of (option_map (λ d. d.now) devices.entry) name.now text.now
-        (view.script script.now)).told)) }
-    ensures sound { OnOk result (report.new.sound ≡ (report.old.sound
-        && not (calls.calls_of (option_map (λ d. d.now) devices.entry) name.now text.now
-        (view.script script.now)).lacks)) }
+    out: &mut O,
+) -> Result<Checked, CheckError>
+    ensures lines { Writes result (O.sink out.old) (O.sink out.new)
+        (lines_of_text (option_map (λ d. d.now) devices.entry) name.now text.now) }
+    ensures fine { IfOk result (λ checked. checked.fine
+        ≡ is_fine_text (option_map (λ d. d.now) devices.entry) text.now) }
+    ensures script { IfOk result (λ checked. run_by_found checked.script
+        ≡ run_by_text text.now) }
 {
-    push_read(&mut report.text, name, text)?;
-    let calls = calls_of(alloc, devices, name, text, script)?;
-    report.text.extend_from_slice(&calls.told)?;
-    report.sound = report.sound && !calls.lacks;
-    Ok(())
-}
-
-/// Reports a variable. Returns the script that its text is, if it is one. Errors: memory ran out.
-fn tell(
-    alloc: Global,
-    devices: Option<&Devices>,
-    env: &Env,
-    name: &[u8],
-    report: &mut Report,
-) -> Result<Option<Script>, AllocError>
-    ensures text { OnOk result (report.new.text.items ≡ report.old.text.items
-        ++ lines_of (option_map (λ d. d.now) devices.entry) env.now name.now) }
-    ensures sound { OnOk result (report.new.sound ≡ (report.old.sound
-        && is_fine (option_map (λ d. d.now) devices.entry) env.now name.now)) }
-    ensures script { IfOk result (λ script. run_by_found script ≡ run_by_name env.now name.now) }
-{
-    let Some(text) = env.get(name) else {
-        push_named(&mut report.text, name, b": not set\n")?;
-        return Ok(None);
-    };
     match parse(alloc, text) {
         Ok(script) => {
-            tell_script(alloc, devices, name, text, &script, report)?;
-            Ok(Some(script))
+            let calls = calls_of(alloc, devices, text, &script)?;
+            write_read(alloc, name, text, &calls.found, out)?;
+            Ok(Checked {
+                script: Some(script),
+                fine: !calls.lacks,
+            })
         }
-        Err(SyntaxError::Memory) => Err(AllocError),
+        Err(SyntaxError::Memory) => Err(CheckError::Memory),
         Err(error) => {
-            push_fault(&mut report.text, name, text, error)?;
-            report.sound = false;
-            Ok(None)
+            write_fault(alloc, name, text, error, out)?;
+            Ok(Checked {
+                script: None,
+                fine: false,
+            })
         }
     }
 }
 
-/// Reports the variable at a place, and adds the names that its text runs. Errors: memory ran out.
-fn take_turn(
+/// Checks a variable, and writes its lines.
+fn check_name<O: Out>(
     alloc: Global,
     devices: Option<&Devices>,
     env: &Env,
-    names: &mut Names,
-    at: usize,
-    report: &mut Report,
-) -> Result<(), AllocError>
-    requires { at < length names.old }
-    ensures text { OnOk result (report.new.text.items ≡ report.old.text.items
-        ++ lines_of (option_map (λ d. d.now) devices.entry) env.now
-        (slice_index_or names.old at [])) }
-    ensures sound { OnOk result (report.new.sound ≡ (report.old.sound
-        && is_fine (option_map (λ d. d.now) devices.entry) env.now
-        (slice_index_or names.old at []))) }
-    ensures names { OnOk result (names.new
-        ≡ with_names names.old (run_by_name env.now (slice_index_or names.old at []))) }
+    name: &[u8],
+    out: &mut O,
+) -> Result<Checked, CheckError>
+    ensures lines { Writes result (O.sink out.old) (O.sink out.new)
+        (lines_of (option_map (λ d. d.now) devices.entry) env.now name.now) }
+    ensures fine { IfOk result (λ checked. checked.fine
+        ≡ is_fine (option_map (λ d. d.now) devices.entry) env.now name.now) }
+    ensures script { IfOk result (λ checked. run_by_found checked.script
+        ≡ run_by_name env.now name.now) }
 {
-    let name = names.get(at).unwrap();
-    match tell(alloc, devices, env, name, report)? {
+    match env.get(name) {
+        Some(text) => check_text(alloc, devices, name, text, out),
+        None => {
+            write_unset(alloc, name, out)?;
+            Ok(Checked {
+                script: None,
+                fine: true,
+            })
+        }
+    }
+}
+
+/// Adds the names that a script runs, if one was found.
+fn add_found(alloc: Global, script: Option<Script>, names: &mut Names) -> Result<(), AllocError>
+    ensures { OnOk result (names.new ≡ with_names names.old (run_by_found script)) }
+{
+    match script {
         Some(script) => add_script(alloc, &script, names),
         None => Ok(()),
     }
 }
 
+/// Checks the variable at a place, writes its lines, and adds the names that its text runs. Returns
+/// whether nothing is wrong with it.
+fn take_turn<O: Out>(
+    alloc: Global,
+    devices: Option<&Devices>,
+    env: &Env,
+    names: &mut Names,
+    at: usize,
+    out: &mut O,
+) -> Result<bool, CheckError>
+    requires { at < length names.old }
+    ensures lines { Writes result (O.sink out.old) (O.sink out.new)
+        (lines_of (option_map (λ d. d.now) devices.entry) env.now
+        (slice_index_or names.old at [])) }
+    ensures fine { IfOk result (λ fine. fine ≡ is_fine (option_map (λ d. d.now) devices.entry)
+        env.now (slice_index_or names.old at [])) }
+    ensures names { OnOk result (names.new
+        ≡ with_names names.old (run_by_name env.now (slice_index_or names.old at []))) }
+{
+    let name = names.name_at(at);
+    let Checked { script, fine } = check_name(alloc, devices, env, name, out)?;
+    add_found(alloc, script, names)?;
+    Ok(fine)
+}
+
 /// Checks the variables that are asked for, and then the variables that the text of each in turn
-/// runs by a name that is written out, each once. Reports for each whether its text is well-formed,
+/// runs by a name that is written out, each once. Writes for each whether its text is well-formed,
 /// and if not, where it breaks; which commands the device list lacks, if there is one; and which
-/// names of `run` are not followed. Errors: memory ran out.
-pub fn check(
+/// names of `run` are not followed. Returns whether all is well: each name that is asked for is
+/// set, each text is well-formed, and the device list lacks no command. The lines are written as
+/// the check goes. Errors: the output failed, or memory ran out; the first lines are then written.
+pub fn check<O: Out>(
     alloc: Global,
     devices: Option<&Devices>,
     env: &Env,
     asked: &[&[u8]],
-) -> Result<Report, AllocError>
-    ensures { IfOk result (λ report. Checks (option_map (λ d. d.now) devices.entry) env.now
-        (map (λ name. name.now) asked.now) report.text.items report.sound) }
+    out: &mut O,
+) -> Result<bool, CheckError>
+    ensures { WritesCheck (option_map (λ d. d.now) devices.entry) env.now
+        (map (λ name. name.now) asked.now) result (O.sink out.old) (O.sink out.new) }
 {
     let mut names = asked_names(alloc, asked)?;
-    let mut report = Report {
-        text: Vec::new(alloc),
-        sound: are_set(env, asked),
-    };
+    let mut sound = are_set(env, asked);
     let mut at = 0;
     'names: while at < names.len() {
-        take_turn(alloc, devices, env, &mut names, at, &mut report)?;
+        let fine = take_turn(alloc, devices, env, &mut names, at, out)?;
+        sound = both(sound, fine);
         at += 1;
     }
-    Ok(report)
+    Ok(sound)
 }

@@ -3,15 +3,19 @@
 
 mod asked;
 mod calls;
+mod check_error;
 mod checking;
 mod fault;
 mod lines;
 mod names;
 mod place;
 mod reading;
+mod remark;
 mod shown;
+mod telling;
 mod walk;
 
 pub use asked::asked_names;
-pub use checking::{Report, check};
-pub use place::{Place, line_at, line_front, place_of};
+pub use check_error::CheckError;
+pub use checking::check;
+pub use place::{Place, place_of};

@@ -1,11 +1,15 @@
 //! The lines that are reported of a text.
 ghost use Rattle.std.specs.Prelude.{◌≡◌, ◌++◌, codes, decimal, OnOk};
+ghost use Rattle.hushcheck_core.specs.Calls as calls;
+ghost use Rattle.hushcheck_core.specs.Place.{IsPoint, front_shown, place_in, rest_shown};
 ghost use Rattle.hushcheck_core.specs.Places as places;
+ghost use Rattle.hushcheck_core.specs.Remarks as shown;
 ghost use Rattle.hushcheck_core.specs.Report as spec;
 ghost use Rattle.text.specs.Escapes.{word_form};
 
 use crate::fault::{byte_of, what_of};
-use crate::place::{Place, line_at, line_front, place_of};
+use crate::place::{Place, Point, Shown, first_point, moved, place_of_point, shown_at};
+use crate::remark::Remark;
 use crate::shown::{push_line, push_mark, push_name};
 use hushlang::after_compound::word_straight_behind;
 use hushlang::token::SyntaxError;
@@ -39,18 +43,77 @@ fn push_place(told: &mut Vec<u8>, name: &[u8], place: Place) -> Result<(), Alloc
     told.extend_from_slice(b": ")
 }
 
-/// Adds the line of a byte, and the line of a mark under it, at the end of `told`.
-fn push_marked(told: &mut Vec<u8>, line: &[u8], front: &[u8]) -> Result<(), AllocError>
-    ensures { OnOk result (told.new.items ≡ told.old.items ++ places.marked line.now front.now) }
+/// Adds what is shown of the line of a byte, and the line of a mark under the byte, at the end of
+/// `told`.
+fn push_marked(told: &mut Vec<u8>, shown: &Shown<'_>) -> Result<(), AllocError>
+    ensures { OnOk result (told.new.items
+        ≡ told.old.items ++ places.marked shown.now.front.now shown.now.rest.now) }
 {
-    push_line(told, line)?;
+    push_line(told, shown.front)?;
+    push_line(told, shown.rest)?;
     told.extend_from_slice(b"\n")?;
-    push_mark(told, front)?;
-    told.extend_from_slice(b"\n")
+    push_mark(told, shown.front)?;
+    told.extend_from_slice(b"\n")?;
+    Ok(())
+}
+
+/// Adds the place of a byte in a text that was gone through up to it at the end of `told`.
+fn push_point(told: &mut Vec<u8>, name: &[u8], text: &[u8], point: Point) -> Result<(), AllocError>
+    requires { IsPoint text.now point }
+    ensures { OnOk result (told.new.items ≡ told.old.items
+        ++ places.place_form name.now (place_in text.now point.at)) }
+{
+    push_place(told, name, place_of_point(text, point))
+}
+
+/// Adds the rest of the line of a byte's place, and what is shown of the byte's line with a mark,
+/// at the end of `told`.
+fn push_shown(told: &mut Vec<u8>, text: &[u8], point: Point) -> Result<(), AllocError>
+    requires { IsPoint text.now point }
+    ensures { OnOk result (told.new.items ≡ told.old.items
+        ++ (codes "\n" ++ places.marked (front_shown text.now point.at)
+        (rest_shown text.now point.at))) }
+{
+    told.extend_from_slice(b"\n")?;
+    push_marked(told, &shown_at(text, point))
+}
+
+/// What is reported of a word, in words, at the end of `told`.
+fn push_remark(told: &mut Vec<u8>, remark: &Remark) -> Result<(), AllocError>
+    ensures { OnOk result (told.new.items ≡ told.old.items
+        ++ calls.remark_text (shown.remark remark.now)) }
+{
+    match remark {
+        Remark::NotFollowed => {
+            told.extend_from_slice(b"note: not followed, since the name holds a variable")
+        }
+        Remark::Lacks(name) => {
+            told.extend_from_slice(b"the device list lacks ")?;
+            push_name(told, name)
+        }
+    }
+}
+
+/// Adds what is found at a place of a text that was gone through up to it, its line and a mark at
+/// the end of `told`.
+pub(crate) fn push_found(
+    told: &mut Vec<u8>,
+    name: &[u8],
+    text: &[u8],
+    point: Point,
+    remark: &Remark,
+) -> Result<(), AllocError>
+    requires { IsPoint text.now point }
+    ensures { OnOk result (told.new.items ≡ told.old.items
+        ++ calls.remark_lines name.now text.now (point.at, shown.remark remark.now)) }
+{
+    push_point(told, name, text, point)?;
+    push_remark(told, remark)?;
+    push_shown(told, text, point)
 }
 
 /// Adds what is reported of a place of a text, its line and a mark at the end of `told`.
-pub(crate) fn push_at(
+fn push_at(
     told: &mut Vec<u8>,
     name: &[u8],
     text: &[u8],
@@ -60,10 +123,10 @@ pub(crate) fn push_at(
     ensures { OnOk result (told.new.items ≡ told.old.items
         ++ places.lines_at name.now text.now at what.now) }
 {
-    push_place(told, name, place_of(text, at))?;
+    let point = moved(text, first_point(text), at);
+    push_point(told, name, text, point)?;
     told.extend_from_slice(what)?;
-    told.extend_from_slice(b"\n")?;
-    push_marked(told, line_at(text, at), line_front(text, at))
+    push_shown(told, text, point)
 }
 
 /// Adds what is wrong with a text, its line and a mark at the end of `told`.
@@ -97,7 +160,7 @@ fn push_warning(told: &mut Vec<u8>, name: &[u8], text: &[u8]) -> Result<(), Allo
     }
 }
 
-/// Adds what is reported of a well-formed text at the end of `told`.
+/// Adds what is reported of a well-formed text, without its calls, at the end of `told`.
 #[tactic(auto, using(crate::proofs::LinesLemmas::read_is))]
 pub(crate) fn push_read(told: &mut Vec<u8>, name: &[u8], text: &[u8]) -> Result<(), AllocError>
     ensures { OnOk result (told.new.items ≡ told.old.items

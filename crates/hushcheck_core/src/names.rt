@@ -1,5 +1,5 @@
 //! Names in order, each once.
-ghost use Rattle.std.specs.Prelude.{◌≡◌, ◌^◌, ◌<◌, [], length, map, IfOk, OnOk, slice_get};
+ghost use Rattle.std.specs.Prelude.{◌≡◌, ◌^◌, ◌<◌, [], length, map, IfOk, OnOk, slice_get, slice_index_or};
 ghost use Rattle.std.specs.Option.{option_copied};
 ghost use Rattle.hushcheck_core.specs.Order.{once, with_name};
 
@@ -40,11 +40,19 @@ impl Names {
     }
 
     /// The name at a place.
-    pub(crate) fn get(&self, at: usize) -> Option<&[u8]>
+    fn get(&self, at: usize) -> Option<&[u8]>
         ensures { option_copied result ≡ slice_get self.now at }
     {
         let name = self.names.get_index(at)?;
         Some(name.as_slice())
+    }
+
+    /// The name at a place that has one.
+    pub(crate) fn name_at(&self, at: usize) -> &[u8]
+        requires { at < length self.now }
+        ensures { result.now ≡ slice_index_or self.now at [] }
+    {
+        self.get(at).unwrap()
     }
 
     /// Adds a name after the others, if it is new. Errors: memory ran out.

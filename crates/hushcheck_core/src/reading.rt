@@ -1,10 +1,10 @@
-//! How far a text is read, and what is reported of its words.
+//! How far a text is read, and what is found in it.
 ghost use Rattle.std.specs.Prelude.{◌≡◌, [], false, Some, option_map, IfOk, OnOk};
 ghost use Rattle.hushlang.specs.CursorShown.{input_in};
 ghost use Rattle.hushcheck_core.specs.Calls as spec;
+ghost use Rattle.hushcheck_core.specs.Remarks as shown;
 
-use crate::lines::push_at;
-use crate::shown::push_name;
+use crate::remark::{Found, Remark};
 use builtins::is_built_in;
 use device_list::Devices;
 use hushlang::lexer::Lexer;
@@ -38,63 +38,48 @@ fn is_lacking(devices: Option<&Devices>, name: &[u8]) -> bool
     }
 }
 
-/// How far a text is read, and what was reported of it.
+/// How far a text is read, and what was found in it.
 #[derive(Drop)]
 pub(crate) struct Reading<'a> {
-    /// The variable.
-    name: &'a [u8],
-    /// Its text.
-    text: &'a [u8],
     /// The device list, if there is one.
     devices: Option<&'a Devices>,
     /// The places of the words that are left.
     left: &'a [usize],
-    /// What was reported.
-    pub(crate) told: Vec<u8>,
+    /// What was found, in the order of the text.
+    pub(crate) found: Vec<Found>,
     /// Whether the device list lacks a command.
     pub(crate) lacks: bool,
 }
 
 impl<'a> Model for Reading<'a> {
     ghost use Rattle.hushcheck_core.specs.Calls as spec;
+    ghost use Rattle.hushcheck_core.specs.Remarks as shown;
     ghost use Rattle.std.specs.Prelude.{option_map};
 
     ghost Value = { spec.Reading };
 
     ghost view = { λ r. record {
-      name = r.name.now;
-      text = r.text.now;
       devices = option_map (λ d. d.now) r.devices;
       left = r.left.now;
-      told = r.told.items;
+      found = shown.all_found r.found.items;
       lacks = r.lacks;
     } };
 }
 
 impl<'a> Reading<'a> {
     /// The start of a text, with the places of its words.
-    pub(crate) fn new(
-        alloc: Global,
-        devices: Option<&'a Devices>,
-        name: &'a [u8],
-        text: &'a [u8],
-        left: &'a [usize],
-    ) -> Reading<'a>
+    pub(crate) fn new(alloc: Global, devices: Option<&'a Devices>, left: &'a [usize]) -> Reading<'a>
         ensures { result ≡ record {
-          name = name.now;
-          text = text.now;
           devices = option_map (λ d. d.now) devices.entry;
           left = left.now;
-          told = [];
+          found = [];
           lacks = false;
         } }
     {
         Reading {
-            name,
-            text,
             devices,
             left,
-            told: Vec::new(alloc),
+            found: Vec::new(alloc),
             lacks: false,
         }
     }
@@ -110,27 +95,26 @@ impl<'a> Reading<'a> {
         }
     }
 
-    /// Reports something of the next word. Errors: memory ran out.
-    pub(crate) fn tell(&mut self, what: &[u8]) -> Result<(), AllocError>
-        ensures { OnOk result (self.new ≡ spec.tell what.now self.old) }
+    /// Adds what is found at the next word. Errors: memory ran out.
+    pub(crate) fn find(&mut self, remark: Remark) -> Result<(), AllocError>
+        ensures { OnOk result (self.new ≡ spec.find (shown.remark remark) self.old) }
     {
         let at = match self.left {
             [place, ..] => *place,
             [] => 0,
         };
-        push_at(&mut self.told, self.name, self.text, at, what)
+        self.found.push(Found { at, remark })?;
+        Ok(())
     }
 
-    /// Reports that the device list lacks a command, if it does. Errors: memory ran out.
-    pub(crate) fn tell_if_lacking(&mut self, alloc: Global, name: &[u8]) -> Result<(), AllocError>
-        ensures { OnOk result (self.new ≡ spec.after_name self.old (Some name.now)) }
+    /// Adds that the device list lacks a command, if it does. Errors: memory ran out.
+    pub(crate) fn find_if_lacking(&mut self, name: Vec<u8>) -> Result<(), AllocError>
+        ensures { OnOk result (self.new ≡ spec.after_name self.old (Some name.items)) }
     {
-        if !is_lacking(self.devices, name) {
+        if !is_lacking(self.devices, &name) {
             return Ok(());
         }
-        let mut what = Vec::from_slice(alloc, b"the device list lacks ")?;
-        push_name(&mut what, name)?;
-        self.tell(&what)?;
+        self.find(Remark::Lacks(name))?;
         self.lacks = true;
         Ok(())
     }

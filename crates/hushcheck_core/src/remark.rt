@@ -1,0 +1,19 @@
+//! What is found in a text that is well-formed.
+
+/// What is reported of a word.
+#[derive(Drop)]
+pub(crate) enum Remark {
+    /// A name of `run` holds a variable, so it is not followed.
+    NotFollowed,
+    /// The device list lacks the command of this name.
+    Lacks(Vec<u8>),
+}
+
+/// What is reported of a word, and where the word starts.
+#[derive(Drop)]
+pub(crate) struct Found {
+    /// The byte in the text.
+    pub(crate) at: usize,
+    /// What is reported.
+    pub(crate) remark: Remark,
+}
