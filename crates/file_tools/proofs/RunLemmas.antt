@@ -15,7 +15,7 @@ abbrev files : ℕ → Option Told → Bool → FilesShown
 files faults told locked = record { faults = faults; told = told; locked = locked }
 
 -- words that were understood do not end as misused ones
-pub never-misused : (program : List ℕ) (answer : Result Bool Fault) (told err' : Sink) (status : ℕ) → Ends program answer told err' status → status ≡ 2 → ⊥
+pub never-misused : (program : List ℕ) (answer : Result Bool Fault) (told err' : Sink) (status : ℕ) → Ends program 1 answer told err' status → status ≡ 2 → ⊥
 never-misused program (Ok true) told err' status ends is = omega (arith, ends.0, is)
 never-misused program (Ok false) told err' status ends is = omega (arith, ends.0, is)
 never-misused program (Err fault) told err' status ends is = omega (arith, ends.0, is)
@@ -25,14 +25,14 @@ pub printed-low : (status : ℕ) → (status ≡ 0) ⊎ (status ≡ 1) → statu
 printed-low status (inl is) = omega (arith, is)
 printed-low status (inr is) = omega (arith, is)
 
-pub ends-low : (program : List ℕ) (answer : Result Bool Fault) (told err' : Sink) (status : ℕ) → Ends program answer told err' status → status ≤ 2
+pub ends-low : (program : List ℕ) (answer : Result Bool Fault) (told err' : Sink) (status : ℕ) → Ends program 1 answer told err' status → status ≤ 2
 ends-low program (Ok true) told err' status ends = omega (arith, ends.0)
 ends-low program (Ok false) told err' status ends = omega (arith, ends.0)
 ends-low program (Err fault) told err' status ends = omega (arith, ends.0)
 
 pub status-done : {Ask : Type 0} {locked locked' : Bool} (program : List ℕ) (Answers : List Text → Result Ask UseError → Type 0) (Does : Ask → Option Told → Option Told → Outputs → Result Bool Fault → Type 0)
     (words : List Text) (ask : Ask) (faults faults' : ℕ) (before after : Option Told) (out out' err told err' : Sink) (answer : Result Bool Fault) (status : ℕ)
-    → Answers words (Ok ask) → CountsTold faults faults' answer → Does ask before after (outputs out out' err told) answer → Ends program answer told err' status → status ≡ 0
+    → Answers words (Ok ask) → CountsTold faults faults' answer → Does ask before after (outputs out out' err told) answer → Ends program 1 answer told err' status → status ≡ 0
     → HasDone Answers Does words (files faults before locked) (files faults' after locked') (outputs out out' err err')
 status-done program Answers Does words ask faults faults' before after out out' err told err' (Ok true) status asked counts does ends is =
     record { ask = ask; asked = asked; sound = counts; does = subst (λ (e : Sink). Does ask before after (outputs out out' err e) (Ok true)) (sym ends.1) does }
@@ -41,7 +41,7 @@ status-done program Answers Does words ask faults faults' before after out out' 
 
 pub status-refused : {Ask : Type 0} {locked locked' : Bool} (program : List ℕ) (Answers : List Text → Result Ask UseError → Type 0) (Does : Ask → Option Told → Option Told → Outputs → Result Bool Fault → Type 0)
     (words : List Text) (ask : Ask) (faults faults' : ℕ) (before after : Option Told) (out out' err told err' : Sink) (answer : Result Bool Fault) (status : ℕ)
-    → Answers words (Ok ask) → CountsTold faults faults' answer → Does ask before after (outputs out out' err told) answer → Ends program answer told err' status → status ≡ 1
+    → Answers words (Ok ask) → CountsTold faults faults' answer → Does ask before after (outputs out out' err told) answer → Ends program 1 answer told err' status → status ≡ 1
     → HasRefused program Answers Does words (files faults before locked) (files faults' after locked') (outputs out out' err err')
 status-refused program Answers Does words ask faults faults' before after out out' err told err' (Ok true) status asked counts does ends is = let e : ⊥ = omega (arith, ends.0, is) in absurd e
 status-refused program Answers Does words ask faults faults' before after out out' err told err' (Ok false) status asked counts does ends is =

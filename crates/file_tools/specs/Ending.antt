@@ -17,15 +17,15 @@ pub record HasFlushed {W : Type 0} (out out' : Over W) (err err' : Sink) (status
   pub quiet : err' ≡ err
   pub stays : ended ≡ status
 
--- The flush failed, which is reported unless something was before: a status of 0 becomes 1.
-pub record HasNotFlushed {W : Type 0} (program : List ℕ) (told : Bool) (out out' : Over W) (err err' : Sink)
-    (status ended : ℕ) : Type 0 where
+-- The flush failed, which is reported unless something was before: a lower status becomes the one of a refusal.
+pub record HasNotFlushed {W : Type 0} (program : List ℕ) (refused : ℕ) (told : Bool) (out out' : Over W)
+    (err err' : Sink) (status ended : ℕ) : Type 0 where
   pub failed : failures_of out' ≡ counted (failures_of out)
   pub reported : IsReported program told err err'
-  pub refuses : ended ≡ max status 1
+  pub refuses : ended ≡ max status refused
 
 -- one or the other
-abbrev pub Finishes : {W : Type 0} (program : List ℕ) → (told : Bool) → (out out' : Over W) → (err err' : Sink) →
-    (status ended : ℕ) → Type 0
-Finishes program told out out' err err' status ended =
-    HasFlushed out out' err err' status ended ⊎ HasNotFlushed program told out out' err err' status ended
+abbrev pub Finishes : {W : Type 0} (program : List ℕ) → (refused : ℕ) → (told : Bool) → (out out' : Over W) →
+    (err err' : Sink) → (status ended : ℕ) → Type 0
+Finishes program refused told out out' err err' status ended =
+    HasFlushed out out' err err' status ended ⊎ HasNotFlushed program refused told out out' err err' status ended

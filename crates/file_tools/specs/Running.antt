@@ -75,8 +75,9 @@ abbrev pub EndsAs : Result ℕ StartError → ℕ → Type 0
 EndsAs (Ok came) status = status ≡ came
 EndsAs (Err error) status = status ≡ 2
 
--- the status of an answer, which leaves the error output as it is if there is no fault; a fault is reported in one line
-abbrev pub Ends : (program : List ℕ) → Result Bool Fault → Sink → Sink → ℕ → Type 0
-Ends program (Ok true) old new status = (status ≡ 0) × (new ≡ old)
-Ends program (Ok false) old new status = (status ≡ 1) × (new ≡ old)
-Ends program (Err fault) old new status = (status ≡ 1) × TellsLine program old new
+-- The status of an answer, which leaves the error output as it is if there is no fault. A fault is reported in one line,
+-- and has the status with which the program says that something was refused.
+abbrev pub Ends : (program : List ℕ) → (refused : ℕ) → Result Bool Fault → Sink → Sink → ℕ → Type 0
+Ends program refused (Ok true) old new status = (status ≡ 0) × (new ≡ old)
+Ends program refused (Ok false) old new status = (status ≡ 1) × (new ≡ old)
+Ends program refused (Err fault) old new status = (status ≡ refused) × TellsLine program old new

@@ -23,30 +23,32 @@ pub fn refuse<E: Out>(err: &mut E, program: &str, error: &UseError)
     }
 }
 
-/// The status of an answer. Reports a fault in one line.
-pub fn status_of<E: Out>(err: &mut E, program: &str, answer: Result<bool, Fault>) -> u8
-    ensures { Ends program.now answer (E.sink err.old) (E.sink err.new) result }
+/// The status of an answer: 0 or 1, or `refused` if it is a fault, which is reported in one line.
+pub fn status_of<E: Out>(err: &mut E, program: &str, refused: u8, answer: Result<bool, Fault>) -> u8
+    ensures { Ends program.now refused answer (E.sink err.old) (E.sink err.new) result }
 {
     match answer {
         Ok(true) => 0,
         Ok(false) => 1,
         Err(fault) => {
             write_fault_of(err, program, &fault);
-            1
+            refused
         }
     }
 }
 
-/// Flushes the output of a program, and returns the status with which the program ends: the one given,
-/// but 1 in place of 0 if the flush fails. A failure is reported if nothing was reported before.
+/// Flushes the output of a program, and returns the status with which the program ends: the one
+/// given, but `refused` in place of a lower one if the flush fails. A failure is reported if nothing
+/// was reported before.
 pub fn finish<W: Write, E: Out>(
     out: &mut Over<W>,
     err: &mut Telling<E>,
     program: &str,
+    refused: u8,
     status: u8,
 ) -> u8
-    ensures { Finishes program.now (has_told err.old) out.old out.new (E.sink (out_of err.old))
-        (E.sink (out_of err.new)) status result }
+    ensures { Finishes program.now refused (has_told err.old) out.old out.new
+        (E.sink (out_of err.old)) (E.sink (out_of err.new)) status result }
 {
     if out.flush().is_ok() {
         return status;
@@ -54,7 +56,7 @@ pub fn finish<W: Write, E: Out>(
     if !err.has_told() {
         write_fault_of(err, program, &Fault::Tool(ToolError::Write));
     }
-    status.max(1)
+    status.max(refused)
 }
 
 /// Flushes the error output of a program. Returns the program's status, or 2 if it did not start, which

@@ -3,3 +3,4 @@ pub mod Asked
 pub mod CommandAnswers
 pub mod Checking
 pub mod Doing
+pub mod Statuses

@@ -13,16 +13,16 @@ const NOTES: &str = "\
 The texts of the variables are read as boot scripts, and then those of the
 variables that they run by a plain name, as in 'run NAME', each once. For each
 there is a line: 'NAME: ok', 'NAME: not set', or 'NAME:LINE:COLUMN: what is
-wrong' with the line of the text and a mark under the byte. Lines and columns
-count from 1. The image is read and never written.
+wrong' with the line of the text, at most 80 bytes of it, and a mark under the
+byte. Lines and columns count from 1. The image is read and never written.
 
 With -d there is such a place, and 'the device list lacks COMMAND', for each
 command that a text calls by a plain name and that is neither built in nor in
 the device list.
 
-The status is 0 when all texts are well-formed and the device list lacks no
-command, 1 when that is not so, a NAME is not set or something is refused, and
-2 when the words are wrong.
+The status is 0 if all texts are well-formed, each NAME is set and the device
+list lacks no command; 1 if that is not so; 2 if the words are wrong; 3 if a
+file, the image, the device list or the output is refused, or memory ran out.
 
 Examples:
   hushcheck

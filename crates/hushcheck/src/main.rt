@@ -7,7 +7,7 @@ mod program;
 mod texts;
 mod words;
 
-use crate::program::{PROGRAM, run_check};
+use crate::program::{PROGRAM, REFUSED, run_check};
 use file_tools::{Build, StartError, Telling, buffered, end, finish, words_of_call};
 use locked_files::Machine;
 use output::{Out, Over, write_all};
@@ -28,7 +28,7 @@ fn run<E: Out>(rt: &HostRuntime, err: &mut Telling<E>) -> Result<u8, StartError>
     let mut out = buffered(rt.alloc(), io::writer(rt))?;
     let mut files = Machine::new(rt);
     let status = run_check(rt.alloc(), BUILD, words, &mut files, &mut out, err);
-    Ok(finish(&mut out, err, PROGRAM, status))
+    Ok(finish(&mut out, err, PROGRAM, REFUSED, status))
 }
 
 fn main(rt: HostRuntime) -> ExitCode {

@@ -5,7 +5,8 @@ ghost use Rattle.hushcheck.specs.CommandAnswers.{Answers};
 ghost use Rattle.hushcheck.specs.Doing.{Does};
 ghost use Rattle.output.specs.Outputs.{outputs};
 ghost use Rattle.file_tools.specs.Faults.{CountsTold};
-ghost use Rattle.file_tools.specs.Running.{HasDone, HasRefused, IsMisused, files_shown};
+ghost use Rattle.file_tools.specs.Running.{HasDone, IsMisused, files_shown};
+ghost use Rattle.hushcheck.specs.Statuses.{IsRefused, IsUnsound};
 
 use crate::ask::Ask;
 use crate::texts::check_files;
@@ -48,11 +49,15 @@ fn perform<F: Files, O: Out>(
     }
 }
 
+/// The status if something is refused: it tells a text that is wrong from one that could not be
+/// read.
+pub const REFUSED: u8 = 3;
+
 /// The whole program, from its words to its status. The status is 0 if all texts are well-formed
 /// and the device list lacks no command, or if the help or the version was asked for; 1 if a text
-/// is not well-formed, a name is not set, the device list lacks a command or something was refused;
-/// and 2 if the words were not understood. A fault is reported on `err` in one line. If `err`
-/// fails, nothing more is written there.
+/// is not well-formed, a name is not set or the device list lacks a command; 2 if the words were
+/// not understood; and 3 if something was refused. A fault is reported on `err` in one line. If
+/// `err` fails, nothing more is written there.
 pub fn run_check<S: AsStr, F: Files, O: Out, E: Out>(
     alloc: Global,
     build: Build,
@@ -61,21 +66,24 @@ pub fn run_check<S: AsStr, F: Files, O: Out, E: Out>(
     out: &mut O,
     err: &mut E,
 ) -> u8
-    ensures status { result ≤ 2 }
+    ensures status { result ≤ 3 }
     ensures done { result ≡ 0 → HasDone Answers (Does build) (map S.text words.now)
         (files_shown F.Files files.old) (files_shown F.Files files.new)
         (outputs (O.sink out.old) (O.sink out.new) (E.sink err.old) (E.sink err.new)) }
-    ensures refused { result ≡ 1 → HasRefused PROGRAM.now Answers (Does build) (map S.text words.now)
+    ensures unsound { result ≡ 1 → IsUnsound PROGRAM.now Answers (Does build) (map S.text words.now)
         (files_shown F.Files files.old) (files_shown F.Files files.new)
         (outputs (O.sink out.old) (O.sink out.new) (E.sink err.old) (E.sink err.new)) }
     ensures misused { result ≡ 2 → IsMisused PROGRAM.now Answers (map S.text words.now)
+        (files_shown F.Files files.old) (files_shown F.Files files.new)
+        (outputs (O.sink out.old) (O.sink out.new) (E.sink err.old) (E.sink err.new)) }
+    ensures refused { result ≡ 3 → IsRefused PROGRAM.now Answers (Does build) (map S.text words.now)
         (files_shown F.Files files.old) (files_shown F.Files files.new)
         (outputs (O.sink out.old) (O.sink out.new) (E.sink err.old) (E.sink err.new)) }
 {
     match read_words(alloc, words) {
         Ok(ask) => {
             let answer = perform(alloc, build, ask, files, out);
-            status_of(err, PROGRAM, answer)
+            status_of(err, PROGRAM, REFUSED, answer)
         }
         Err(error) => {
             refuse(err, PROGRAM, &error);

@@ -13,7 +13,7 @@ use requests::{CalledAs, called_as, read_lock, words_called};
 use std::fs::File;
 use std::io;
 use std::process::ExitCode;
-use whole_program::run_tool;
+use whole_program::{REFUSED, run_tool};
 
 /// What this program is built for. A build for another processor, or with another kind of linking,
 /// has another word here.
@@ -57,7 +57,7 @@ fn work<E: Out>(
         &mut out,
         err,
     );
-    Ok(finish(&mut out, err, called.name(), status))
+    Ok(finish(&mut out, err, called.name(), REFUSED, status))
 }
 
 /// Reads the words of the command line, takes the lock that they name, and does what they ask for.

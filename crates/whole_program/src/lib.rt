@@ -10,4 +10,4 @@ mod tool;
 
 pub use image_endings::endings_bytes;
 pub use image_rehearsal::rehearse_bytes;
-pub use tool::run_tool;
+pub use tool::{REFUSED, run_tool};

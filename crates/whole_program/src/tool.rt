@@ -17,6 +17,9 @@ use std::io::Read;
 /// The name of the program, in its version.
 pub(crate) const PROGRAM: &str = "ubtool";
 
+/// The status if something is refused.
+pub const REFUSED: u8 = 1;
+
 /// Reads the words and does what they ask for.
 fn run_words<S: AsStr, R: Read, F: Files, O: Out, E: Out>(
     alloc: Global,
@@ -35,7 +38,7 @@ fn run_words<S: AsStr, R: Read, F: Files, O: Out, E: Out>(
     match read_command(alloc, called, words) {
         Ok(ask) => {
             let answer = perform(alloc, build, ask, input, files, out, err);
-            status_of(err, called.name(), answer)
+            status_of(err, called.name(), REFUSED, answer)
         }
         Err(error) => {
             refuse(err, called.name(), &error);
@@ -48,9 +51,9 @@ fn run_words<S: AsStr, R: Read, F: Files, O: Out, E: Out>(
 /// prints the single image on `input`, whose checksum is little-endian. If the program was called
 /// as one of U-Boot's tools, the script of `-s -` is read from `input`. The version names `build`.
 /// The status is 0 if all was done, 1 if something was refused or a variable to be printed is
-/// missing, and 2 if the words were not understood. A fault is reported on `err` in one line, with the
-/// name that the program was called by in front. If `err` fails, nothing more is written there. A change is made under the lock, and nothing else
-/// takes it.
+/// missing, and 2 if the words were not understood. A fault is reported on `err` in one line, with
+/// the name that the program was called by in front. If `err` fails, nothing more is written there.
+/// A change is made under the lock, and nothing else takes it.
 pub fn run_tool<S: AsStr, R: Read, F: Files, O: Out, E: Out>(
     alloc: Global,
     build: Build,
