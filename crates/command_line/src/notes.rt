@@ -86,9 +86,9 @@ Each way that the device commands can succeed or fail is a run, and each run is
 listed once, success before failure. A run's word has a digit for each device
 command: 0 where it succeeds, 1 where it fails. A run that meets a bound is
 listed as cut. With --failures 1 the runs are those in which any one device
-command fails, or none; with 2, any two. With --word the run of one word is
-written alone, also of a word that endings names. The image is read and never
-written.
+command fails, or none; with 2, any two. What a steady command is told again has
+no digit, and does not count as a failure. With --word the run of one word is
+written alone, also of a word that endings names. The image is never written.
 
 A line of the device list is one of these:
 
@@ -119,9 +119,10 @@ all runs are written:
   all COUNT states STATES
 
 COUNT runs end so. The first WORD is that of the first of them, the second that
-of the first of those in which the fewest device commands fail. ENDING is the
-last line of their records, as rehearse lists them. A state is what variables,
-status and script are when a device command asks; each is gone through once.
+of the first of those in which the fewest device commands fail, where what a
+steady command is told again does not count. ENDING is the last line of their
+records, as rehearse lists them. A state is what variables, status and script
+are when a device command asks; each is gone through once.
 
 With --flow a line for each state and for each way to end is written instead.
 Numbers count from 1, where a run begins, and a word leads from line to line:

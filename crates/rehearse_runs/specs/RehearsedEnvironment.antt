@@ -1,5 +1,5 @@
 -- What a rehearsal of an environment writes. Ours. The words in quotation marks are those of the headline
--- (image_tools/specs/Headline.antt), and each is explained at its line.
+-- (whole_program/specs/Headline.antt), and each is explained at its line.
 use Rattle.std.specs.Prelude.{◌≡◌, ◌⊎◌, false, List, Option, Some, None, Ok, Err}
 use Rattle.output.specs.Sink.{Sink, Wrote}
 use Rattle.rehearse_terms.specs.Asking.{Asking, Listed, Wanted, page_of, whole_page}
