@@ -8,7 +8,7 @@ use Rattle.rehearse_rows.proofs.RowsOfRuns.{AreApart, Misses, apart_on, either_l
 
 -- ---- no two rows have the same ending
 
-apart_merge : (rs ts : List Row) → AreApart rs → AreApart (merge rs ts)
+pub apart_merge : (rs ts : List Row) → AreApart rs → AreApart (merge rs ts)
 apart_merge rs [] h = h
 apart_merge rs (t ∷ ts) h = apart_merge (with_row rs t) ts (apart_on rs t h)
 
@@ -16,7 +16,7 @@ apart_behind : (before rest : List Row) → AreApart (before ++ rest) → AreApa
 apart_behind [] rest h = h
 apart_behind (r ∷ before) rest h = apart_behind before rest h.1
 
-missed_in : (e : Ending) (between : List Row) (s : Row) (behind : List Row) → Misses e (between ++ s ∷ behind) → ending_eq s.ending e ≡ false
+pub missed_in : (e : Ending) (between : List Row) (s : Row) (behind : List Row) → Misses e (between ++ s ∷ behind) → ending_eq s.ending e ≡ false
 missed_in e [] s behind h = either_left (ending_eq s.ending e) (list_any (λ r. ending_eq r.ending e) behind) h
 missed_in e (r ∷ between) s behind h = missed_in e between s behind (either_right (ending_eq r.ending e) (list_any (λ r. ending_eq r.ending e) (between ++ s ∷ behind)) h)
 

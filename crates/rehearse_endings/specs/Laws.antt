@@ -1,13 +1,19 @@
 -- What the rows of endings say of the list of all runs. Ours.
-use Rattle.std.specs.Prelude.{◌≡◌, ◌≢◌, ◌<◌, ◌≤◌, List, [], ◌∷◌, ◌++◌, length}
+use Rattle.std.specs.Prelude.{◌≡◌, ◌≢◌, ◌<◌, ◌≤◌, List, [], ◌∷◌, ◌++◌, length, filter}
 use Rattle.rehearse_terms.specs.Outcomes.{OutcomeWord, failures}
 use Rattle.rehearse.specs.Runs.{Task, all_runs}
-use Rattle.rehearse_rows.specs.Endings.{Row, ending, endings}
+use Rattle.rehearse_rows.specs.Endings.{Row, ending_eq, ending, endings}
 use Rattle.rehearse_rows.specs.EndingLines.{counted}
 
 -- each run is counted, and only once
 abbrev pub RunsAreCounted : Type 0
 RunsAreCounted = (task : Task) → counted (endings task) ≡ length (all_runs task)
+
+-- a row counts the runs with its ending; a count of 2^128 - 1 or more is written as `at least` that number
+-- (`count_text` of EndingLines.antt)
+abbrev pub RowsCountRuns : Type 0
+RowsCountRuns = (task : Task) (r : Row) (before behind : List Row) → endings task ≡ before ++ r ∷ behind →
+    r.count ≡ length (filter (λ w. ending_eq (ending task w) r.ending) (all_runs task))
 
 -- no two rows have the same ending
 abbrev pub NoEndingTwice : Type 0
