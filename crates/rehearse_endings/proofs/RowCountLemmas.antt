@@ -32,6 +32,12 @@ add_on a b c d h = omega (arith, h)
 add_none : (a : ℕ) → a + 0 ≡ 0 + a
 add_none a = omega arith
 
+plus_none : (a : ℕ) → a ≡ a + 0
+plus_none a = omega arith
+
+none_plus : (a : ℕ) → 0 + a ≡ a
+none_plus a = omega arith
+
 regroup : (a b c : ℕ) → (a + b) + c ≡ a + (b + c)
 regroup a b c = omega arith
 
@@ -44,7 +50,7 @@ counts_with e [] row = add_none (share e row)
 counts_with e (r ∷ rs) row = counts_if (ending_eq r.ending row.ending) e r rs row refl (counts_with e rs row)
 
 counts_merge : (e : Ending) (rs ts : List Row) → counts e (merge rs ts) ≡ counts e rs + counts e ts
-counts_merge e rs [] = sym (add_none (counts e rs) ∙ refl)
+counts_merge e rs [] = plus_none (counts e rs)
 counts_merge e rs (t ∷ ts) =
     counts_merge e (with_row rs t) ts ∙ ap (λ (n : ℕ). n + counts e ts) (counts_with e rs t) ∙ regroup (counts e rs) (share e t) (counts e ts)
 
@@ -94,4 +100,5 @@ rows_count_runs task r before behind is =
     sym (counts_alone before r behind apart)
     ∙ ap (counts r.ending) (sym is)
     ∙ counts_merge r.ending [] runs
+    ∙ none_plus (counts r.ending runs)
     ∙ counts_runs r.ending (ending task) (all_runs task)
