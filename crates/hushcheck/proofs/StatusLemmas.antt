@@ -47,4 +47,4 @@ module _ {Ask : Type 0} (program : List ℕ) (Answers : List Text → Result Ask
   status-refused (Ok true) counts does ends is = let e : ⊥ = omega (arith, ends.0, is) in absurd e
   status-refused (Ok false) counts does ends is = let e : ⊥ = omega (arith, ends.0, is) in absurd e
   status-refused (Err fault) counts does ends is =
-      record { ended = record { ask = ask; asked = asked; answer = Err fault; is_refusal = λ e. cc; counts = counts; told_from = told; told = ends.1; does = does }; answer_is = tt }
+      record { ended = record { ask = ask; asked = asked; answer = Err fault; is_refusal = λ e. cc; counts = counts; told_from = told; told = ends.1; does = does }; fault = fault; answer_is = refl }

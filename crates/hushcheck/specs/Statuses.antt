@@ -1,5 +1,5 @@
 -- What the statuses 1 and 3 say: they tell that a text or a command is wrong from a refusal. Ours.
-use Rattle.std.specs.Prelude.{◌≡◌, ℕ, Bool, false, List, Option, Result, Ok, IsErr}
+use Rattle.std.specs.Prelude.{◌≡◌, ℕ, Bool, false, List, Option, Result, Ok, Err}
 use Rattle.clap.specs.Words.{Text}
 use Rattle.requests.specs.declared.ask.UseError.{UseError}
 use Rattle.output.specs.Outputs.{Outputs}
@@ -19,4 +19,5 @@ pub record IsRefused {Ask : Type 0} (program : List ℕ) (Answers : List Text �
     (Does : Ask → Option Told → Option Told → Outputs → Result Bool Fault → Type 0)
     (words : List Text) (before after : FilesShown) (outputs : Outputs) : Type 0 where
   pub ended : HasRefused program Answers Does words before after outputs
-  pub answer_is : IsErr ended.answer
+  pub fault : Fault
+  pub answer_is : ended.answer ≡ Err fault

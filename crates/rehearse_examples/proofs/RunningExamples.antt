@@ -1,5 +1,5 @@
 -- The examples of docs/RUNNING.md, computed, in its order: what the text of `bootcmd` writes, and how its runs end.
-use Rattle.std.proofs.Common.{◌≡◌, ℕ, [], ◌∷◌, None, Some, codes, refl, map}
+use Rattle.std.proofs.Common.{◌≡◌, ℕ, false, [], ◌∷◌, None, Some, codes, refl, map}
 use Rattle.rehearse_terms.specs.Outcomes.{Success, Failure}
 use Rattle.rehearse_terms.specs.State.{Text, Variables}
 use Rattle.device_list.specs.DeviceList.{Devices}
