@@ -3,7 +3,7 @@ use Rattle.std.proofs.Common.{◌≡◌, ◌∙◌, Bool, true, false, not, cond
 use Rattle.std.proofs.lemmas.List.Elements.{filter-append}
 use Rattle.device_list.specs.Commands.{sets_in}
 use Rattle.device_list.specs.DeviceList.{Effect}
-use Rattle.rehearse.specs.Execution.{Limits, Answer, Ended, CutDevices, Request, take_outcome, device, logged, set_environment, boot, exec}
+use Rattle.rehearse.specs.Execution.{Limits, Answer, Ended, CutDevices, Request, take_outcome, device, logged, set_environment, boot}
 use Rattle.rehearse.specs.KnownExecution.{KnownLogIsWord}
 use Rattle.device_list.specs.KnownList.{AskEachTime}
 use Rattle.rehearse_terms.specs.Outcomes.{OutcomeWord, Success, Failure}

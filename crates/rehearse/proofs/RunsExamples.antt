@@ -1,9 +1,9 @@
 -- Worked examples, computed: the runs of a text in which few device commands fail.
-use Rattle.std.proofs.Common.{◌≡◌, List, [], ◌∷◌, Option, Some, None, codes, refl, ℕ}
+use Rattle.std.proofs.Common.{◌≡◌, [], ◌∷◌, Option, Some, None, codes, refl, ℕ}
 use Rattle.std.specs.Fmt.{digits}
 use Rattle.hushlang.specs.Expansion.{fields, joined, atoms}
 use Rattle.hushlang.specs.Trees.{tree_of}
-use Rattle.rehearse_terms.specs.Outcomes.{OutcomeWord, Success, Failure}
+use Rattle.rehearse_terms.specs.Outcomes.{Success, Failure}
 use Rattle.rehearse.specs.Runs.{Task, runs}
 use Rattle.rehearse.proofs.ExampleRehearsals.{only_load, limits, bootcmd}
 

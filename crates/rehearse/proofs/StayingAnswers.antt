@@ -4,12 +4,11 @@ use Rattle.std.proofs.lemmas.List.{map-append, append-nil}
 use Rattle.std.proofs.lemmas.List.Elements.{filter-append}
 use Rattle.std.proofs.lemmas.Slice.Eq.{bytes_eq-Decides}
 use Rattle.std.specs.Map.{lookup}
-use Rattle.std.specs.Str.{bytes_eq}
 use Rattle.device_list.specs.Commands.{sets_in}
-use Rattle.device_list.specs.DeviceList.{Effect, effect_of}
+use Rattle.device_list.specs.DeviceList.{Effect}
 use Rattle.rehearse_terms.specs.Outcomes.{Outcome, OutcomeWord, Success, Failure}
 use Rattle.rehearse_terms.specs.State.{Text, LoggedCommand, State, asked_of, answers_in, same_words, answer_in, start}
-use Rattle.rehearse.specs.Execution.{Limits, Answer, Normal, Ended, CutDevices, Request, succeeds, outcome_when, told, told_again, tell_or_take, take_outcome, with_outcome, device, logged, set_environment, boot, exec}
+use Rattle.rehearse.specs.Execution.{Limits, Answer, Ended, CutDevices, Request, succeeds, outcome_when, told, told_again, tell_or_take, take_outcome, with_outcome, device, logged, set_environment, boot}
 use Rattle.rehearse.specs.Laws.{AnswersStay}
 use Rattle.rehearse.specs.Runs.{Task, run_on, state_of}
 use Rattle.rehearse.proofs.KeptLogs.{KeepsLog, run-keeps}

@@ -1,10 +1,10 @@
 -- Worked examples, computed: what a device command is told again, and what it takes from the word.
-use Rattle.std.proofs.Common.{◌≡◌, ℕ, Bool, true, false, List, [], ◌∷◌, ◌++◌, Some, None, codes, refl, map}
+use Rattle.std.proofs.Common.{◌≡◌, ℕ, Bool, true, false, List, [], ◌∷◌, Some, None, codes, refl, map}
 use Rattle.rehearse_terms.specs.Outcomes.{OutcomeWord, Success, Failure}
 use Rattle.rehearse_terms.specs.State.{Text, Variables, LoggedCommand, State, start}
 use Rattle.device_list.specs.DeviceList.{Variable, Effect, only}
 use Rattle.device_list.specs.DeviceLaws.{quiet}
-use Rattle.rehearse.specs.Execution.{Limits, Answer, Normal, Ended, Dry, Booted, CutDevices, Request, told, tell_or_take, device, test_effect}
+use Rattle.rehearse.specs.Execution.{Limits, Normal, Ended, Dry, Booted, CutDevices, Request, told, tell_or_take, device, test_effect}
 
 abbrev steady : Effect
 steady = record quiet { stays = true }

@@ -1,5 +1,5 @@
 -- Worked examples of outcome words, computed: how many device commands of them failed, and may fail.
-use Rattle.std.proofs.Common.{◌≡◌, ℕ, Bool, true, false, List, [], ◌∷◌, Option, Some, None, refl, map}
+use Rattle.std.proofs.Common.{◌≡◌, true, false, List, [], ◌∷◌, Some, None, refl, map}
 use Rattle.rehearse_terms.specs.Outcomes.{Success, Failure, OutcomeWord, failures, is_within, few_of, allows, one_less, has_success, turned}
 
 -- ---- how many failed
