@@ -1,4 +1,5 @@
-use Rattle.std.proofs.Common.{arith, map, refl}
+use Rattle.std.proofs.Common.{ℕ, List, arith, map, refl, subst}
+use Rattle.file_tools.specs.Running.{Ends, Tells}
 use Rattle.requests.specs.Called.{name_of}
 use Rattle.requests.specs.CommandAnswers.{Answers}
 use Rattle.whole_program.specs.Performing.{Does}
@@ -25,7 +26,7 @@ returns-in-Ok g c =
     let answer = c.perform-answer.result in
     let status = c.status_of.result in
     let program = name_of c.args.called in
-    let ends = c.status_of.ensures in
+    let ends = subst (λ (p : List ℕ). Ends p answer told err' status) c.name.ensures c.status_of.ensures in
     record {
       bound = ends-low program answer told err' status ends;
       done = λ is. status-done program (Answers c.args.called) Doing words c.in-Ok.ask faults faults' before after out out' err told err' answer status c.in-Ok.ensures c.perform-answer.ensures.count c.perform-answer.ensures.does ends is;
@@ -39,6 +40,6 @@ returns-in-Err g c = record {
   bound = omega arith;
   done = λ is. let none : ⊥ = omega (arith, is) in absurd none;
   refused = λ is. let none : ⊥ = omega (arith, is) in absurd none;
-  misused = λ _. record { error = c.in-Err.error; refused = c.in-Err.ensures; sound = refl; files = refl; lock = refl; output = refl; tells = c.refuse.ensures };
+  misused = λ _. record { error = c.in-Err.error; refused = c.in-Err.ensures; sound = refl; files = refl; lock = refl; output = refl; tells = subst (λ (p : List ℕ). Tells p c.in-Err.error (g.E.Out.sink c.args.err.now) (g.E.Out.sink c.refuse.new.err)) c.name-in-Err.ensures c.refuse.ensures };
   lock = λ low. let none : ⊥ = omega (arith, low) in absurd none;
 }
