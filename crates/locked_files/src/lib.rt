@@ -2,6 +2,7 @@
 //! is not called again after it has failed.
 #![tactic(auto)]
 
+mod boot_partition;
 mod files;
 mod input;
 mod lock;

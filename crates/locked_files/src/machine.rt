@@ -3,6 +3,7 @@ ghost use Rattle.std.specs.Prelude.{◌≡◌, ◌≤◌, ◌⊎◌, IfOk, IfErr
 ghost use Rattle.locked_files.specs.FailedReads.{file_fault_of};
 ghost use Rattle.locked_files.specs.declared.files.FileFault.TheVariants.{Failed, Memory};
 
+use crate::boot_partition::Switch;
 use crate::files::{FileFault, Files, LIMIT};
 use crate::input::{ReadFault, read_up_to};
 use crate::lock::{Lock, usual_lock};
@@ -127,7 +128,12 @@ fn is_synced<F: OpenFile>(file: &F) -> bool {
 }
 
 /// Writes all the bytes from `offset` on. Errors: `Failed`.
-fn write_to<R: rt::Files>(rt: &R, path: &str, offset: u64, bytes: &[u8]) -> Result<(), FileFault>
+fn write_through<R: rt::Files>(
+    rt: &R,
+    path: &str,
+    offset: u64,
+    bytes: &[u8],
+) -> Result<(), FileFault>
     ensures refusal { IfErr result (λ fault. fault ≡ Failed) }
 {
     let Some(mut file) = opened(rt, path, offset, true) else {
@@ -138,6 +144,20 @@ fn write_to<R: rt::Files>(rt: &R, path: &str, offset: u64, bytes: &[u8]) -> Resu
     } else {
         Err(FileFault::Failed)
     }
+}
+
+/// Writes all the bytes from `offset` on. A boot partition of an eMMC that the kernel keeps
+/// read-only can be written meanwhile, and is read-only again whatever happens. Errors: `Failed`.
+fn write_to<R: rt::Files>(rt: &R, path: &str, offset: u64, bytes: &[u8]) -> Result<(), FileFault>
+    ensures refusal { IfErr result (λ fault. fault ≡ Failed) }
+{
+    let Some(switch) = Switch::on_at(rt, path) else {
+        return write_through(rt, path, offset, bytes);
+    };
+    switch.turn_off(rt);
+    let written = write_through(rt, path, offset, bytes);
+    switch.turn_on(rt);
+    written
 }
 
 impl<R: rt::Files<File = File>> Files for Machine<'_, R> {
