@@ -1,5 +1,5 @@
 -- What is reported of calls, computed.
-use Rattle.std.proofs.Common.{◌≡◌, Bool, true, false, List, [], ◌∷◌, Option, Some, None, Ok, Err, refl}
+use Rattle.std.proofs.Common.{◌≡◌, true, false, [], ◌∷◌, Option, Some, None, Ok, Err, refl}
 use Rattle.std.specs.Prelude.{Result, codes}
 use Rattle.std.specs.Fmt.{digits}
 use Rattle.hushlang.specs.Grammar.{reserved_of, assignment, name_in, name_of, is_in_word}

@@ -1,11 +1,11 @@
 -- How what a check writes follows one another.
-use Rattle.std.proofs.Common.{◌≡◌, ℕ, ◌+◌, ◌<◌, ◌≤◌, List, [], ◌++◌, length, take, drop, get_or, map, min, refl, sym, ap, subst, ◌∙◌, suc, append_assoc, Result, Ok, Err}
-use Rattle.std.proofs.lemmas.List.{append-nil, take_all}
+use Rattle.std.proofs.Common.{◌≡◌, ℕ, ◌+◌, ◌<◌, ◌≤◌, List, [], ◌++◌, length, take, drop, get_or, min, refl, sym, ap, subst, ◌∙◌, suc, append_assoc, Result, Ok, Err}
+use Rattle.std.proofs.lemmas.List.{take_all}
 use Rattle.std.proofs.lemmas.List.Folds.{flat_map-map}
 use Rattle.std.specs.List.{flat_map}
-use Rattle.output.specs.Sink.{BrokeOff, Prints, Sink, Wrote}
+use Rattle.output.specs.Sink.{BrokeOff, Sink, Wrote}
 use Rattle.output.specs.Outputs.{WroteFront}
-use Rattle.output.proofs.SinkLemmas.{BrokeOff-after, BrokeOff-before, BrokeOff-item, Wrote-append, Wrote-item, Wrote-none, flat_map-at}
+use Rattle.output.proofs.SinkLemmas.{BrokeOff-after, BrokeOff-before, Wrote-append, Wrote-item, Wrote-none, flat_map-at}
 use Rattle.hushcheck_core.specs.Calls.{found_lines, remark_lines, remark_text}
 use Rattle.hushcheck_core.specs.Places.{lines_at}
 use Rattle.hushcheck_core.specs.Remarks.{all_found, found_at, remark}

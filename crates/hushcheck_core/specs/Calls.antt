@@ -1,6 +1,6 @@
 -- What is found in the calls of a text: a command that the device list lacks, and a name of `run` that is not followed.
 -- Ours.
-use Rattle.std.specs.Prelude.{◌&&◌, ◌||◌, ◌++◌, ℕ, Bool, true, false, not, List, [], ◌∷◌, length, map, filter, drop, Option, Some, None, codes, is_some, if◌then◌else◌}
+use Rattle.std.specs.Prelude.{◌||◌, ◌++◌, ℕ, Bool, true, false, not, List, [], ◌∷◌, length, map, filter, drop, Option, Some, None, codes, is_some, if◌then◌else◌}
 use Rattle.std.specs.List.{flat_map, fold, list_any}
 use Rattle.std.specs.Str.{bytes_eq}
 use Rattle.hushlang.specs.CursorShown.{input_in}

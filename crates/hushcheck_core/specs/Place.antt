@@ -1,5 +1,5 @@
 -- Where a byte is in a text: its line and its column, as compilers report them; and how much of its line is shown. Ours.
-use Rattle.std.specs.Prelude.{◌≡◌, ◌+◌, ◌-◌, ◌<◌, ◌≤◌, ◌++◌, ℕ, true, List, length, take, drop, min, count_by, slice_index}
+use Rattle.std.specs.Prelude.{◌≡◌, ◌+◌, ◌-◌, ◌<◌, ◌≤◌, ℕ, true, List, length, take, drop, min, count_by, slice_index}
 use Rattle.std.specs.List.{after_last, before_first}
 use Rattle.text.specs.Lines.{is_newline}
 use Rattle.hushcheck_core.specs.declared.place.Place.{Place}

@@ -1,5 +1,5 @@
 -- What is written of the lines of a check, which are written as it goes.
-use Rattle.std.specs.Prelude.{◌≡◌, Bool, List, ℕ, Option, Result, Ok, Err}
+use Rattle.std.specs.Prelude.{Bool, List, Option, Result, Ok, Err}
 use Rattle.envimage.specs.Data.{Pair}
 use Rattle.device_list.specs.DeviceList.{Devices}
 use Rattle.output.specs.Sink.{Sink, BrokeOff, Wrote}

@@ -1,7 +1,7 @@
 use Rattle.std.proofs.lemmas.Result.{err_from_is_err_and}
 use Rattle.hushcheck_core.specs.declared.check_error.CheckError.TheVariants.{Memory, Write}
-use Rattle.hushcheck_core.proofs.TellingLemmas.{front-nothing, wrote-as, wrote-item, word_broke, word_is, word_lines, words_wrote, stops-as}
-use Rattle.output.specs.Sink.{BrokeOff, Wrote}
+use Rattle.hushcheck_core.proofs.TellingLemmas.{front-nothing, wrote-as, wrote-item, word_broke, word_is, word_lines, words_wrote}
+use Rattle.output.specs.Sink.{BrokeOff}
 use Rattle.std.proofs.Common.{subst, List, ℕ}
 use Rattle.hushcheck_core.proofs.telling.write_found.Goals as goal
 
