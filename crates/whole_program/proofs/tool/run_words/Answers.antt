@@ -26,7 +26,7 @@ returns-in-Ok g c =
     let answer = c.perform-answer.result in
     let status = c.status_of.result in
     let program = name_of c.args.called in
-    let ends = subst (λ (p : List ℕ). Ends p answer told err' status) c.name.ensures c.status_of.ensures in
+    let ends = subst (λ (p : List ℕ). Ends p 1 answer told err' status) c.name.ensures c.status_of.ensures in
     record {
       bound = ends-low program answer told err' status ends;
       done = λ is. status-done program (Answers c.args.called) Doing words c.in-Ok.ask faults faults' before after out out' err told err' answer status c.in-Ok.ensures c.perform-answer.ensures.count c.perform-answer.ensures.does ends is;
