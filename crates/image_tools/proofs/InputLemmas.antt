@@ -3,7 +3,11 @@ use Rattle.std.proofs.Common.{◌≡◌, ◌≤◌, ◌++◌, ◌∷◌, ℕ, Bo
 use Rattle.std.proofs.lemmas.Bool.{cases_Bool}
 use Rattle.std.proofs.lemmas.Bool.Decides.{nat_tests}
 use Rattle.std.proofs.lemmas.List.{take_all}
-use Rattle.std.specs.Prelude.{IfSome, Result}
+use Rattle.std.specs.Prelude.{IfOk, IfSome, Result}
+use Rattle.std.specs.declared.alloc.Global.{Global}
+use Rattle.std.specs.declared.vec.Vec.{Vec}
+use Rattle.locked_files.specs.declared.input.ReadFault.{ReadFault}
+use Rattle.locked_files.specs.declared.input.ReadFault.TheVariants as read
 use Rattle.envimage.specs.declared.image.ImageError.{ImageError}
 use Rattle.envimage.specs.Data.{Pair}
 use Rattle.envimage.specs.Image.{is_size}
@@ -12,10 +16,11 @@ use Rattle.output.specs.Sink.{BrokeOff, Sink, Wrote}
 use Rattle.output.proofs.SinkLemmas.{Wrote-none}
 use Rattle.envtools.specs.Printing.{printed_output}
 use Rattle.output.specs.Outputs.{WroteFront, Outputs}
-use Rattle.image_tools.specs.Input.{FrontStands, IsQuiet, PrintsFront, PrintsInput, RefusesInput}
+use Rattle.image_tools.specs.Input.{FrontStands, IsQuiet, PrintsFront, PrintsInput, PrintsRead, RefusesInput}
 use Rattle.image_tools.specs.PrintingImages.{environment_in, Prints, PrintsAll}
 use Rattle.image_tools.specs.declared.error.ToolError.{ToolError}
 use Rattle.image_tools.specs.declared.error.ToolError.TheVariants as tool
+use Rattle.image_tools.specs.declared.fault.Fault.{Fault}
 
 at_most : (n : ℕ) → is_size 5 n ≡ true → n ≤ 1048576
 at_most n e = grind (arith, nat_tests)
@@ -36,7 +41,7 @@ whole-input xs read env is there =
     let all : length xs ≤ 1048577 = omega (arith, short, taken) in
     is ∙ take_all 1048577 xs all
 
-pub input-printed : (left : Option (List ℕ)) (s : Outputs) (read : List ℕ) (found : Bool) → IfSome left (λ xs. read ≡ take 1048577 xs)
+input-printed : (left : Option (List ℕ)) (s : Outputs) (read : List ℕ) (found : Bool) → IfSome left (λ xs. read ≡ take 1048577 xs)
     → PrintsAll (environment_in Little read None) [] true s found → PrintsInput left s.out s.out'
 input-printed None s read found is p = tt
 input-printed (Some xs) s read found is p =
@@ -56,7 +61,7 @@ broke-off old new text b = record { front = b.front; rest = b.rest; whole = b.wh
 wrote-front : (old new : Sink) (text : List ℕ) → WroteFront old new text → FrontStands old new text
 wrote-front old new text w = record { front = w.front; rest = w.rest; whole = w.whole; bytes = w.wrote.bytes }
 
-pub input-refused : (left : Option (List ℕ)) (s : Outputs) (read : List ℕ) (error : ToolError) → IfSome left (λ xs. read ≡ take 1048577 xs)
+input-refused : (left : Option (List ℕ)) (s : Outputs) (read : List ℕ) (error : ToolError) → IfSome left (λ xs. read ≡ take 1048577 xs)
     → Prints (environment_in Little read None) [] true s (Err error) → RefusesInput left s.out s.out'
 input-refused left s read (tool.Image e) is p = inl p.1.out
 input-refused left s read tool.Memory is p = inl p.1.out
@@ -81,10 +86,33 @@ front-none (b ∷ front) rest e = cc
 front-quiet : (old new : Sink) → WroteFront old new [] → IsQuiet old new
 front-quiet old new w = let P : List ℕ → Type 0 = λ t. Wrote old new t in inl (subst P (front-none w.front w.rest w.whole) w.wrote)
 
-pub input-untold : (answer : Result (List Pair) ImageError) (s : Outputs) (error : ToolError) → Prints answer [] true s (Err error) → IsQuiet s.err s.err'
+input-untold : (answer : Result (List Pair) ImageError) (s : Outputs) (error : ToolError) → Prints answer [] true s (Err error) → IsQuiet s.err s.err'
 input-untold answer s (tool.Image e) p = unwritten s.err s.err' p.1.err
 input-untold answer s tool.Memory p = unwritten s.err s.err' p.1.err
 input-untold answer s tool.Write p = elim p.broken [ inl b ↦ front-quiet s.err s.err' b.1 | inr b ↦ inr b.1 ]
 input-untold answer s (tool.Env e) p = absurd p
 input-untold answer s (tool.Script e) p = absurd p
 input-untold answer s (tool.Rehearsal e) p = absurd p
+
+-- ---- what was read, or why nothing was
+
+-- what was read is the input's bytes up to the limit
+abbrev pub ReadsFrom : Option (List ℕ) → Result (Vec ℕ Global) ReadFault → Type 0
+ReadsFrom left answer = IfOk answer (λ bytes. IfSome left (λ xs. bytes.items ≡ take 1048577 xs))
+
+pub read-printed : (left : Option (List ℕ)) (s : Outputs) (answer : Result (Vec ℕ Global) ReadFault) → ReadsFrom left answer
+    → PrintsRead answer s (Ok tt) → PrintsInput left s.out s.out'
+read-printed left s (Ok bytes) is p = input-printed left s bytes.items p.0 is p.1
+read-printed left s (Err read.Failed) is p = let none : ⊥ = cc in absurd none
+read-printed left s (Err read.Memory) is p = let none : ⊥ = cc in absurd none
+
+pub read-refused : (left : Option (List ℕ)) (s : Outputs) (answer : Result (Vec ℕ Global) ReadFault) (fault : Fault) → ReadsFrom left answer
+    → PrintsRead answer s (Err fault) → RefusesInput left s.out s.out'
+read-refused left s (Ok bytes) fault is p = input-refused left s bytes.items p.0 is p.2
+read-refused left s (Err read.Failed) fault is p = inl p.1.out
+read-refused left s (Err read.Memory) fault is p = inl p.1.out
+
+pub read-untold : (s : Outputs) (answer : Result (Vec ℕ Global) ReadFault) (fault : Fault) → PrintsRead answer s (Err fault) → IsQuiet s.err s.err'
+read-untold s (Ok bytes) fault p = input-untold _ s p.0 p.2
+read-untold s (Err read.Failed) fault p = unwritten s.err s.err' p.1.err
+read-untold s (Err read.Memory) fault p = unwritten s.err s.err' p.1.err

@@ -1,12 +1,21 @@
 -- What printing the image of an input says of that input.
-use Rattle.std.specs.Prelude.{◌≡◌, ◌⊎◌, List, [], ◌++◌, ℕ, true, Option, None, Some, Ok}
+use Rattle.std.specs.Prelude.{◌≡◌, ◌⊎◌, List, [], ◌++◌, ℕ, Bool, true, Option, None, Some, Result, Ok, Err}
+use Rattle.std.specs.declared.alloc.Global.{Global}
+use Rattle.std.specs.declared.vec.Vec.{Vec}
 use Rattle.std.specs.Io.KnownBytes.{Appends}
 use Rattle.envimage.specs.Data.{Pair}
+use Rattle.output.specs.Outputs.{AreUnchanged, Outputs}
 use Rattle.output.specs.Sink.{BrokeOff, Sink, Wrote}
+use Rattle.locked_files.specs.declared.input.ReadFault.{ReadFault}
+use Rattle.locked_files.specs.declared.input.ReadFault.TheVariants as read
 use Rattle.envimage.specs.declared.image.ByteOrder.TheVariants.{Little}
 use Rattle.envtools.specs.Printing.{printed_output}
 use Rattle.image_tools.specs.FaultLines.{TellsLine}
-use Rattle.image_tools.specs.PrintingImages.{environment_in}
+use Rattle.image_tools.specs.Errors.{tool_fault}
+use Rattle.image_tools.specs.PrintingImages.{Prints, PrintsAll, environment_in}
+use Rattle.image_tools.specs.declared.error.ToolError.{ToolError}
+use Rattle.image_tools.specs.declared.fault.Fault.{Fault}
+use Rattle.image_tools.specs.declared.fault.Fault.TheVariants as told
 
 -- If the input's bytes are known, they are a single image whose variables were all printed.
 abbrev pub PrintsInput : Option (List ℕ) → Sink → Sink → Type 0
@@ -30,6 +39,15 @@ PrintsFront (Some image) old new =
 -- if an input is refused, the output is as it was, or it failed inside the variables
 abbrev pub RefusesInput : Option (List ℕ) → Sink → Sink → Type 0
 RefusesInput left old new = (new ≡ old) ⊎ PrintsFront left old new
+
+-- What was read is printed, or the image is refused for its own fault. If the read failed, this is the fault, and
+-- nothing is written.
+abbrev pub PrintsRead : Result (Vec ℕ Global) ReadFault → Outputs → Result (Unit {0}) Fault → Type 0
+PrintsRead (Ok image) s (Ok _) = (found : Bool) × PrintsAll (environment_in Little image.items None) [] true s found
+PrintsRead (Ok image) s (Err fault) =
+    (error : ToolError) × (fault ≡ tool_fault error) × Prints (environment_in Little image.items None) [] true s (Err error)
+PrintsRead (Err read.Failed) s answer = (answer ≡ Err told.CannotReadInput) × AreUnchanged s
+PrintsRead (Err read.Memory) s answer = (answer ≡ Err told.Memory) × AreUnchanged s
 
 -- nothing was written; the output may have failed once
 abbrev pub IsQuiet : Sink → Sink → Type 0

@@ -1,7 +1,8 @@
 //! The variables of an image on an input, printed.
-ghost use Rattle.std.specs.Prelude.{◌≡◌, ◌⊎◌, IfErr, OnErr, OnOk, [], codes};
-ghost use Rattle.output.specs.Sink.{Prints, Wrote};
-ghost use Rattle.image_tools.specs.Input.{IsQuiet, PrintsInput, RefusesInput, TellsOnly};
+ghost use Rattle.std.specs.Prelude.{◌≡◌, ◌⊎◌, [], codes};
+ghost use Rattle.output.specs.Outputs.{outputs};
+ghost use Rattle.output.specs.Sink.{Wrote};
+ghost use Rattle.image_tools.specs.Input.{PrintsInput, PrintsRead, RefusesInput, TellsOnly};
 
 use crate::fault::Fault;
 use crate::fault_line::write_fault_of;
@@ -12,21 +13,18 @@ use output::Out;
 use std::alloc::Global;
 use std::io::Read;
 
-/// Prints the variables of the single image that `input` holds, its checksum little-endian.
-fn print_input<R: Read, O: Out, E: Out>(
+/// Prints the variables of the single image that was read, its checksum little-endian. An input that
+/// could not be read is a fault of its own.
+fn print_read<O: Out, E: Out>(
     alloc: Global,
-    input: &mut R,
+    read: Result<Vec<u8>, ReadFault>,
     out: &mut O,
     err: &mut E,
 ) -> Result<(), Fault>
-    ensures printed { OnOk result
-        (PrintsInput (R.remaining input.old) (O.sink out.old) (O.sink out.new)) }
-    ensures quiet { OnOk result (Wrote (E.sink err.old) (E.sink err.new) []) }
-    ensures refused { IfErr result
-        (λ fault. RefusesInput (R.remaining input.old) (O.sink out.old) (O.sink out.new)) }
-    ensures untold { OnErr result (IsQuiet (E.sink err.old) (E.sink err.new)) }
+    ensures { PrintsRead read
+        (outputs (O.sink out.old) (O.sink out.new) (E.sink err.old) (E.sink err.new)) result }
 {
-    let image = match read_up_to(alloc, input, SIZE_MAX + 1) {
+    let image = match read {
         Ok(image) => image,
         Err(ReadFault::Failed) => return Err(Fault::CannotReadInput),
         Err(ReadFault::Memory) => return Err(Fault::Memory),
@@ -57,7 +55,8 @@ pub fn run_input<R: Read, O: Out, E: Out>(
         (O.sink out.new) }
     ensures told { result ≡ 1 → TellsOnly (codes "ubtool") (E.sink err.old) (E.sink err.new) }
 {
-    match print_input(alloc, input, out, err) {
+    let read = read_up_to(alloc, input, SIZE_MAX + 1);
+    match print_read(alloc, read, out, err) {
         Ok(()) => 0,
         Err(fault) => {
             write_fault_of(err, "ubtool", &fault);
