@@ -36,12 +36,25 @@ lock = lettered_option (codes "lock") (letter (codes "l"))
 abbrev pub no_header : Rule
 no_header = record (lettered_flag (codes "noheader") (letter (codes "n"))) { aliases = codes "no-header" ∷ [] }
 
+-- the other copy of a pair counts if one cannot be read
+abbrev pub one_copy : Rule
+one_copy = long_flag (codes "one-copy")
+
+-- `-0`: each variable is ended by a NUL byte
+abbrev pub null : Rule
+null = lettered_flag (codes "null") (letter (codes "0"))
+
+-- names and values are printed so that each variable is one line
+abbrev pub escaped : Rule
+escaped = long_flag (codes "escaped")
+
 -- `[NAME]..`, of variables
 abbrev pub names : Rule
 names = many (codes "names")
 
 abbrev pub printenv : App
-printenv = command (codes "printenv") (config ∷ big_endian ∷ lock ∷ no_header ∷ names ∷ [])
+printenv = command (codes "printenv")
+    (config ∷ big_endian ∷ lock ∷ one_copy ∷ no_header ∷ null ∷ escaped ∷ names ∷ [])
 
 -- `-s FILE`, `[NAME]` and `[VALUE]..`
 abbrev pub script : Rule
@@ -54,7 +67,7 @@ abbrev pub values : Rule
 values = many (codes "values")
 
 abbrev pub setenv : App
-setenv = command (codes "setenv") (config ∷ big_endian ∷ lock ∷ script ∷ name ∷ values ∷ [])
+setenv = command (codes "setenv") (config ∷ big_endian ∷ lock ∷ one_copy ∷ script ∷ name ∷ values ∷ [])
 
 -- `-d FILE`, which each call needs
 abbrev pub device_list : Rule

@@ -19,7 +19,8 @@ Examples:
 
 pub(crate) const PRINTENV_NOTES: &str = "\
 Each variable is printed as NAME=VALUE, on a line of its own. A missing one is
-reported on standard error, and the status is then 1.
+reported on standard error, and the status is then 1. A value may have newlines:
+programs read the output of -0 or --escaped.
 
 A line of the configuration is 'device offset size': one line for a single
 image, two for the copies of a redundant pair. Offset and size are bytes. The
@@ -36,7 +37,8 @@ Examples:
 /// The same as `PRINTENV_NOTES`, with examples of the tool.
 pub(crate) const FW_PRINTENV_NOTES: &str = "\
 Each variable is printed as NAME=VALUE, on a line of its own. A missing one is
-reported on standard error, and the status is then 1.
+reported on standard error, and the status is then 1. A value may have newlines:
+programs read the output of -0 or --escaped.
 
 A line of the configuration is 'device offset size': one line for a single
 image, two for the copies of a redundant pair. Offset and size are bytes. The
@@ -51,12 +53,14 @@ Examples:
 ";
 
 pub(crate) const SETENV_NOTES: &str = "\
-The VALUEs are joined by one space. A single image is written in place. Of a
-redundant pair the copy that is not current is written, and becomes current.
+The VALUEs are joined by one space. A single image that is a whole file is
+replaced by a new one; elsewhere it is written in place. Of a redundant pair the
+copy that is not current is written, and becomes current.
 
 A line of a script is 'NAME VALUE', or 'NAME' alone to delete the variable.
 Lines that begin with # are skipped. A script has at most 1048576 bytes.
-Called as fw_setenv, the script of '-s -' is read from standard input.
+Called as fw_setenv, the script of '-s -' is read from standard input, where the
+last line needs its newline.
 
 Examples:
   ubtool setenv bootdelay 3
@@ -67,12 +71,14 @@ Examples:
 
 /// The same as `SETENV_NOTES`, with examples of the tool.
 pub(crate) const FW_SETENV_NOTES: &str = "\
-The VALUEs are joined by one space. A single image is written in place. Of a
-redundant pair the copy that is not current is written, and becomes current.
+The VALUEs are joined by one space. A single image that is a whole file is
+replaced by a new one; elsewhere it is written in place. Of a redundant pair the
+copy that is not current is written, and becomes current.
 
 A line of a script is 'NAME VALUE', or 'NAME' alone to delete the variable.
 Lines that begin with # are skipped. A script has at most 1048576 bytes.
-The script of '-s -' is read from standard input.
+The script of '-s -' is read from standard input, where the last line needs its
+newline.
 
 Examples:
   fw_setenv bootdelay 3

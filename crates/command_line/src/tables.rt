@@ -33,11 +33,47 @@ const NO_HEADER: Argument<'static> = Argument {
     help: "Print the value alone, of exactly one NAME [default: NAME=VALUE]",
 };
 
-const PRINTENV: [Argument<'static>; 5] = [
+/// The flag that has the other copy of a pair count if one cannot be read.
+const ONE_COPY: Argument<'static> = Argument {
+    id: "one-copy",
+    form: Form::Flag,
+    letter: None,
+    alias: None,
+    required: false,
+    value: "",
+    help: "If one copy of a pair cannot be read, use the other [default: refuse]",
+};
+
+/// The flag for variables that are each ended by a NUL byte.
+const NULL: Argument<'static> = Argument {
+    id: "null",
+    form: Form::Flag,
+    letter: Some('0'),
+    alias: None,
+    required: false,
+    value: "",
+    help: "End each variable with a NUL byte [default: a newline]",
+};
+
+/// The flag for names and values in which bytes that do not print are written by their digits.
+const ESCAPED: Argument<'static> = Argument {
+    id: "escaped",
+    form: Form::Flag,
+    letter: None,
+    alias: None,
+    required: false,
+    value: "",
+    help: "Print newlines as \\n and other bytes by their digits [default: as they are]",
+};
+
+const PRINTENV: [Argument<'static>; 8] = [
     CONFIG,
     BIG_ENDIAN,
     LOCK,
+    ONE_COPY,
     NO_HEADER,
+    NULL,
+    ESCAPED,
     Argument {
         help: "Variables to print, in this order [default: all of the image]",
         ..NAMES
@@ -74,13 +110,14 @@ const VALUES: Argument<'static> = Argument {
     help: "Its new value [default: delete the variable]",
 };
 
-const SETENV: [Argument<'static>; 6] = [
+const SETENV: [Argument<'static>; 7] = [
     CONFIG,
     BIG_ENDIAN,
     Argument {
         help: "Folder of the lock file [default: /var/lock]",
         ..LOCK
     },
+    ONE_COPY,
     SCRIPT,
     NAME,
     VALUES,
