@@ -4,7 +4,7 @@ use Rattle.envimage.specs.Data.{Pair}
 use Rattle.envimage.specs.declared.image.ByteOrder.TheVariants.{Little, Big}
 use Rattle.envimage.specs.declared.image.Which.TheVariants.{First, Second}
 use Rattle.envtools.specs.Environment.{env_of, put, changed}
-use Rattle.envtools.specs.Printing.{printed_output, printed_errors}
+use Rattle.envtools.specs.Printing.{printed_output, printed_errors, texts_ended_by}
 use Rattle.envtools.specs.Saving.{copy_to_write, half_written, saved_image, spare_of}
 use Rattle.envtools.specs.Scripting.{scripted}
 use Rattle.envtools.specs.declared.print_form.PrintForm.{PrintForm}
@@ -175,6 +175,16 @@ missing_escaped = refl
 
 missing_null : printed_output forged (codes "b" ∷ codes "c" ∷ []) null ≡ codes "c=3" ++ 0 ∷ []
 missing_null = refl
+
+-- cut at the ends: the plain form has an entry that no variable is
+cut_plain : texts_ended_by 10 (printed_output forged [] plain) ≡ (codes "a=1" ∷ codes "b=2" ∷ codes "c=3" ∷ [])
+cut_plain = refl
+
+cut_escaped : texts_ended_by 10 (printed_output forged [] escaped) ≡ (codes "a=1\\nb=2" ∷ codes "c=3" ∷ [])
+cut_escaped = refl
+
+cut_null : texts_ended_by 0 (printed_output forged [] null) ≡ (codes "a=1\nb=2" ∷ codes "c=3" ∷ [])
+cut_null = refl
 
 -- ---- writing back
 
