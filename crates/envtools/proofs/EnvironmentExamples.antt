@@ -1,11 +1,13 @@
 -- Worked examples of environments, scripts, printing and writing back, computed.
-use Rattle.std.specs.Prelude.{◌≡◌, true, false, [], ◌∷◌, ◌++◌, None, Some, codes, refl}
+use Rattle.std.specs.Prelude.{◌≡◌, true, false, List, [], ◌∷◌, ◌++◌, None, Some, codes, refl}
+use Rattle.envimage.specs.Data.{Pair}
 use Rattle.envimage.specs.declared.image.ByteOrder.TheVariants.{Little, Big}
 use Rattle.envimage.specs.declared.image.Which.TheVariants.{First, Second}
 use Rattle.envtools.specs.Environment.{env_of, put, changed}
-use Rattle.envtools.specs.Printing.{printed_output, printed_errors}
+use Rattle.envtools.specs.Printing.{printed_output, printed_errors, texts_ended_by}
 use Rattle.envtools.specs.Saving.{copy_to_write, half_written, saved_image, spare_of}
 use Rattle.envtools.specs.Scripting.{scripted}
+use Rattle.envtools.specs.declared.print_form.PrintForm.{PrintForm}
 use Rattle.envtools.specs.declared.script.ScriptError.TheVariants.{BadName, BadValue}
 
 -- ---- scripts
@@ -60,14 +62,129 @@ words_are_joined = refl
 
 -- ---- printing
 
-a_missing_name : printed_output ((codes "a", codes "1") ∷ []) (codes "b" ∷ codes "a" ∷ []) true ≡ codes "a=1\n"
+abbrev plain : PrintForm
+plain = record { header = true; escaped = false; null = false }
+
+abbrev escaped : PrintForm
+escaped = record { header = true; escaped = true; null = false }
+
+abbrev null : PrintForm
+null = record { header = true; escaped = false; null = true }
+
+abbrev escaped_null : PrintForm
+escaped_null = record { header = true; escaped = true; null = true }
+
+-- the value alone
+abbrev alone : PrintForm → PrintForm
+alone form = record { header = false; escaped = form.escaped; null = form.null }
+
+a_missing_name : printed_output ((codes "a", codes "1") ∷ []) (codes "b" ∷ codes "a" ∷ []) plain ≡ codes "a=1\n"
 a_missing_name = refl
 
 a_missing_name_is_told : printed_errors ((codes "a", codes "1") ∷ []) (codes "b" ∷ codes "a" ∷ []) ≡ codes "## Error: \"b\" not defined\n"
 a_missing_name_is_told = refl
 
-a_value_alone : printed_output ((codes "a", codes "1") ∷ []) (codes "a" ∷ []) false ≡ codes "1\n"
+a_value_alone : printed_output ((codes "a", codes "1") ∷ []) (codes "a" ∷ []) (alone plain) ≡ codes "1\n"
 a_value_alone = refl
+
+-- ---- the forms
+
+-- a value that has a line as printing writes it
+abbrev forged : List Pair
+forged = (codes "a", codes "1\nb=2") ∷ (codes "c", codes "3") ∷ []
+
+newline_plain : printed_output forged [] plain ≡ codes "a=1\nb=2\nc=3\n"
+newline_plain = refl
+
+newline_escaped : printed_output forged [] escaped ≡ codes "a=1\\nb=2\nc=3\n"
+newline_escaped = refl
+
+newline_null : printed_output forged [] null ≡ codes "a=1\nb=2" ++ 0 ∷ codes "c=3" ++ 0 ∷ []
+newline_null = refl
+
+newline_escaped_null : printed_output forged [] escaped_null ≡ codes "a=1\\nb=2" ++ 0 ∷ codes "c=3" ++ 0 ∷ []
+newline_escaped_null = refl
+
+newline_alone : printed_output forged (codes "a" ∷ []) (alone plain) ≡ codes "1\nb=2\n"
+newline_alone = refl
+
+newline_alone_escaped : printed_output forged (codes "a" ∷ []) (alone escaped) ≡ codes "1\\nb=2\n"
+newline_alone_escaped = refl
+
+newline_alone_null : printed_output forged (codes "a" ∷ []) (alone null) ≡ codes "1\nb=2" ++ 0 ∷ []
+newline_alone_null = refl
+
+newline_alone_escaped_null : printed_output forged (codes "a" ∷ []) (alone escaped_null) ≡ codes "1\\nb=2" ++ 0 ∷ []
+newline_alone_escaped_null = refl
+
+-- a backslash is told apart from the escapes
+backslash_escaped : printed_output ((codes "a", codes "1\\nb=2") ∷ []) [] escaped ≡ codes "a=1\\\\nb=2\n"
+backslash_escaped = refl
+
+backslash_null : printed_output ((codes "a", codes "1\\nb=2") ∷ []) [] null ≡ codes "a=1\\nb=2" ++ 0 ∷ []
+backslash_null = refl
+
+-- bytes over 127, and one that moves a cursor
+high_bytes_escaped : printed_output ((codes "a", 195 ∷ 169 ∷ 255 ∷ 27 ∷ []) ∷ []) [] escaped ≡ codes "a=\\xc3\\xa9\\xff\\x1b\n"
+high_bytes_escaped = refl
+
+high_bytes_null : printed_output ((codes "a", 195 ∷ 169 ∷ 255 ∷ 27 ∷ []) ∷ []) [] null ≡ codes "a=" ++ 195 ∷ 169 ∷ 255 ∷ 27 ∷ 0 ∷ []
+high_bytes_null = refl
+
+high_bytes_alone_escaped : printed_output ((codes "a", 195 ∷ 169 ∷ []) ∷ []) (codes "a" ∷ []) (alone escaped) ≡ codes "\\xc3\\xa9\n"
+high_bytes_alone_escaped = refl
+
+empty_value_escaped : printed_output ((codes "a", []) ∷ []) [] escaped ≡ codes "a=\n"
+empty_value_escaped = refl
+
+empty_value_null : printed_output ((codes "a", []) ∷ []) [] null ≡ codes "a=" ++ 0 ∷ []
+empty_value_null = refl
+
+empty_value_alone_escaped : printed_output ((codes "a", []) ∷ []) (codes "a" ∷ []) (alone escaped) ≡ codes "\n"
+empty_value_alone_escaped = refl
+
+empty_value_alone_null : printed_output ((codes "a", []) ∷ []) (codes "a" ∷ []) (alone null) ≡ (0 ∷ [])
+empty_value_alone_null = refl
+
+nothing_escaped : printed_output [] [] escaped ≡ []
+nothing_escaped = refl
+
+nothing_null : printed_output [] [] null ≡ []
+nothing_null = refl
+
+nothing_escaped_null : printed_output [] [] escaped_null ≡ []
+nothing_escaped_null = refl
+
+-- the space of a name is escaped, and that of a value is not
+spaces_escaped : printed_output ((codes "a b", codes "c d") ∷ []) [] escaped ≡ codes "a\\x20b=c d\n"
+spaces_escaped = refl
+
+spaces_null : printed_output ((codes "a b", codes "c d") ∷ []) [] null ≡ codes "a b=c d" ++ 0 ∷ []
+spaces_null = refl
+
+spaces_alone_escaped : printed_output ((codes "a b", codes "c d") ∷ []) (codes "a b" ∷ []) (alone escaped) ≡ codes "c d\n"
+spaces_alone_escaped = refl
+
+-- a newline in a name, which is asked for as it is stored
+name_of_two_lines : printed_output ((codes "a\nb", codes "1") ∷ []) (codes "a\nb" ∷ []) escaped ≡ codes "a\\nb=1\n"
+name_of_two_lines = refl
+
+-- a missing name has no entry in any form
+missing_escaped : printed_output forged (codes "b" ∷ codes "c" ∷ []) escaped ≡ codes "c=3\n"
+missing_escaped = refl
+
+missing_null : printed_output forged (codes "b" ∷ codes "c" ∷ []) null ≡ codes "c=3" ++ 0 ∷ []
+missing_null = refl
+
+-- cut at the ends: the plain form has an entry that no variable is
+cut_plain : texts_ended_by 10 (printed_output forged [] plain) ≡ (codes "a=1" ∷ codes "b=2" ∷ codes "c=3" ∷ [])
+cut_plain = refl
+
+cut_escaped : texts_ended_by 10 (printed_output forged [] escaped) ≡ (codes "a=1\\nb=2" ∷ codes "c=3" ∷ [])
+cut_escaped = refl
+
+cut_null : texts_ended_by 0 (printed_output forged [] null) ≡ (codes "a=1\nb=2" ∷ codes "c=3" ∷ [])
+cut_null = refl
 
 -- ---- writing back
 

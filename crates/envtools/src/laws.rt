@@ -1,5 +1,6 @@
-//! Laws of writing back, each the contract of a function that does nothing.
+//! Laws of printing and of writing back, each the contract of a function that does nothing.
 
+ghost use Rattle.envtools.specs.Printing.{EntriesStandApart, EscapedIsPrintable};
 ghost use Rattle.envtools.specs.Saving.{FrontMayStand, SpareMayBreak, SavedIsLoaded};
 
 /// If the bytes in the spare copy's place are not a right copy, the loaded copy stays current.
@@ -16,4 +17,14 @@ pub fn front_may_stand()
 /// If what is saved is in the spare copy's place, loading gives it, with the saved variables.
 pub fn saved_is_loaded()
     ensures { SavedIsLoaded }
+{}
+
+/// In the escaped form, and if NUL bytes end the entries, no value forges an entry.
+pub fn entries_stand_apart()
+    ensures { EntriesStandApart }
+{}
+
+/// In the escaped form an entry has printable bytes alone before its end.
+pub fn escaped_is_printable()
+    ensures { EscapedIsPrintable }
 {}

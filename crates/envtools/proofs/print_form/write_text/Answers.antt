@@ -1,0 +1,11 @@
+use Rattle.std.proofs.Common.{◌∙◌}
+use Rattle.std.proofs.lemmas.Result.{err_from_is_err_and}
+use Rattle.text.specs.Escapes.{escaped}
+use Rattle.output.proofs.SinkLemmas.{BrokeOff-item}
+use Rattle.envtools.proofs.print_form.write_text.Goals as goal
+
+pub returns-in_err-write_all : goal.returns-in_err-write_all
+returns-in_err-write_all g c =
+    let p = err_from_is_err_and c.from_residual.result c.from_residual.ensures.1 in
+    let shown = c.as_slice.ensures ∙ c.in_text.ensures in
+    rw p.1 (BrokeOff-item escaped c.args.bytes.now c.loop-byte.byte-index 0 c.loop-byte-test.true c.loop-byte.invariant (rw shown at c.in_err-write_all.ensures))
