@@ -4,7 +4,7 @@ use Rattle.envimage.specs.Data.{Pair}
 use Rattle.envimage.specs.declared.image.ByteOrder.TheVariants.{Little, Big}
 use Rattle.envimage.specs.declared.image.Which.TheVariants.{First, Second}
 use Rattle.envtools.specs.Environment.{env_of, put, changed}
-use Rattle.envtools.specs.Printing.{printed_output, printed_errors, texts_ended_by}
+use Rattle.envtools.specs.Printing.{plain, printed_output, printed_errors, texts_ended_by}
 use Rattle.envtools.specs.Saving.{copy_to_write, half_written, saved_image, spare_of}
 use Rattle.envtools.specs.Scripting.{scripted}
 use Rattle.envtools.specs.declared.print_form.PrintForm.{PrintForm}
@@ -61,9 +61,6 @@ words_are_joined : changed [] (codes "a") (codes "x" ∷ [] ∷ codes "y" ∷ []
 words_are_joined = refl
 
 -- ---- printing
-
-abbrev plain : PrintForm
-plain = record { header = true; escaped = false; null = false }
 
 abbrev escaped : PrintForm
 escaped = record { header = true; escaped = true; null = false }

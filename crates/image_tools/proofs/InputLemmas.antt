@@ -14,7 +14,7 @@ use Rattle.envimage.specs.Image.{is_size}
 use Rattle.envimage.specs.declared.image.ByteOrder.TheVariants.{Little}
 use Rattle.output.specs.Sink.{BrokeOff, Sink, Wrote}
 use Rattle.output.proofs.SinkLemmas.{Wrote-none}
-use Rattle.envtools.specs.Printing.{printed_output}
+use Rattle.envtools.specs.Printing.{plain, printed_output}
 use Rattle.output.specs.Outputs.{WroteFront, Outputs}
 use Rattle.image_tools.specs.Input.{FrontStands, IsQuiet, PrintsFront, PrintsInput, PrintsRead, RefusesInput}
 use Rattle.image_tools.specs.PrintingImages.{environment_in, Prints, PrintsAll}
@@ -42,7 +42,7 @@ whole-input xs read env is there =
     is ∙ take_all 1048577 xs all
 
 input-printed : (left : Option (List ℕ)) (s : Outputs) (read : List ℕ) (found : Bool) → IfSome left (λ xs. read ≡ take 1048577 xs)
-    → PrintsAll (environment_in Little read None) [] true s found → PrintsInput left s.out s.out'
+    → PrintsAll (environment_in Little read None) [] plain s found → PrintsInput left s.out s.out'
 input-printed None s read found is p = tt
 input-printed (Some xs) s read found is p =
     (p.env, ap (λ bytes. environment_in Little bytes None) (sym (whole-input xs read p.env is p.there)) ∙ p.there, p.output)
@@ -50,7 +50,7 @@ input-printed (Some xs) s read found is p =
 -- ---- an input that is refused
 
 front-printed : (left : Option (List ℕ)) (old new : Sink) (read : List ℕ) (env : List Pair) → IfSome left (λ xs. read ≡ take 1048577 xs)
-    → environment_in Little read None ≡ Ok env → FrontStands old new (printed_output env [] true) → PrintsFront left old new
+    → environment_in Little read None ≡ Ok env → FrontStands old new (printed_output env [] plain) → PrintsFront left old new
 front-printed None old new read env is there front = (env, front)
 front-printed (Some xs) old new read env is there front =
     (env, ap (λ bytes. environment_in Little bytes None) (sym (whole-input xs read env is there)) ∙ there, front)
@@ -62,13 +62,13 @@ wrote-front : (old new : Sink) (text : List ℕ) → WroteFront old new text →
 wrote-front old new text w = record { front = w.front; rest = w.rest; whole = w.whole; bytes = w.wrote.bytes }
 
 input-refused : (left : Option (List ℕ)) (s : Outputs) (read : List ℕ) (error : ToolError) → IfSome left (λ xs. read ≡ take 1048577 xs)
-    → Prints (environment_in Little read None) [] true s (Err error) → RefusesInput left s.out s.out'
+    → Prints (environment_in Little read None) [] plain s (Err error) → RefusesInput left s.out s.out'
 input-refused left s read (tool.Image e) is p = inl p.1.out
 input-refused left s read tool.Memory is p = inl p.1.out
 input-refused left s read tool.Write is p =
     elim p.broken [
-      | inl b ↦ inr (front-printed left s.out s.out' read p.env is p.there (broke-off s.out s.out' (printed_output p.env [] true) b.0))
-      | inr b ↦ inr (front-printed left s.out s.out' read p.env is p.there (wrote-front s.out s.out' (printed_output p.env [] true) b.0))
+      | inl b ↦ inr (front-printed left s.out s.out' read p.env is p.there (broke-off s.out s.out' (printed_output p.env [] plain) b.0))
+      | inr b ↦ inr (front-printed left s.out s.out' read p.env is p.there (wrote-front s.out s.out' (printed_output p.env [] plain) b.0))
     ]
 input-refused left s read (tool.Env e) is p = absurd p
 input-refused left s read (tool.Script e) is p = absurd p
@@ -86,7 +86,7 @@ front-none (b ∷ front) rest e = cc
 front-quiet : (old new : Sink) → WroteFront old new [] → IsQuiet old new
 front-quiet old new w = let P : List ℕ → Type 0 = λ t. Wrote old new t in inl (subst P (front-none w.front w.rest w.whole) w.wrote)
 
-input-untold : (answer : Result (List Pair) ImageError) (s : Outputs) (error : ToolError) → Prints answer [] true s (Err error) → IsQuiet s.err s.err'
+input-untold : (answer : Result (List Pair) ImageError) (s : Outputs) (error : ToolError) → Prints answer [] plain s (Err error) → IsQuiet s.err s.err'
 input-untold answer s (tool.Image e) p = unwritten s.err s.err' p.1.err
 input-untold answer s tool.Memory p = unwritten s.err s.err' p.1.err
 input-untold answer s tool.Write p = elim p.broken [ inl b ↦ front-quiet s.err s.err' b.1 | inr b ↦ inr b.1 ]

@@ -1,5 +1,5 @@
 -- What printing the image of an input says of that input.
-use Rattle.std.specs.Prelude.{◌≡◌, ◌⊎◌, List, [], ◌++◌, ℕ, Bool, true, Option, None, Some, Result, Ok, Err}
+use Rattle.std.specs.Prelude.{◌≡◌, ◌⊎◌, List, [], ◌++◌, ℕ, Bool, Option, None, Some, Result, Ok, Err}
 use Rattle.std.specs.declared.alloc.Global.{Global}
 use Rattle.std.specs.declared.vec.Vec.{Vec}
 use Rattle.std.specs.Io.KnownBytes.{Appends}
@@ -9,7 +9,7 @@ use Rattle.output.specs.Sink.{BrokeOff, Sink, Wrote}
 use Rattle.locked_files.specs.declared.input.ReadFault.{ReadFault}
 use Rattle.locked_files.specs.declared.input.ReadFault.TheVariants as read
 use Rattle.envimage.specs.declared.image.ByteOrder.TheVariants.{Little}
-use Rattle.envtools.specs.Printing.{printed_output}
+use Rattle.envtools.specs.Printing.{plain, printed_output}
 use Rattle.image_tools.specs.FaultLines.{TellsLine}
 use Rattle.image_tools.specs.Errors.{tool_fault}
 use Rattle.image_tools.specs.PrintingImages.{Prints, PrintsAll, environment_in}
@@ -21,7 +21,7 @@ use Rattle.image_tools.specs.declared.fault.Fault.TheVariants as told
 abbrev pub PrintsInput : Option (List ℕ) → Sink → Sink → Type 0
 PrintsInput None old new = Unit {0}
 PrintsInput (Some image) old new =
-    (env : List Pair) × (environment_in Little image None ≡ Ok env) × (Wrote old new (printed_output env [] true))
+    (env : List Pair) × (environment_in Little image None ≡ Ok env) × (Wrote old new (printed_output env [] plain))
 
 -- The output has a prefix of the text.
 pub record FrontStands (old new : Sink) (text : List ℕ) : Type 0 where
@@ -32,9 +32,9 @@ pub record FrontStands (old new : Sink) (text : List ℕ) : Type 0 where
 
 -- The output has a prefix of the variables of an image. If the input's bytes are known, it is the input's image.
 abbrev pub PrintsFront : Option (List ℕ) → Sink → Sink → Type 0
-PrintsFront None old new = (env : List Pair) × FrontStands old new (printed_output env [] true)
+PrintsFront None old new = (env : List Pair) × FrontStands old new (printed_output env [] plain)
 PrintsFront (Some image) old new =
-    (env : List Pair) × (environment_in Little image None ≡ Ok env) × (FrontStands old new (printed_output env [] true))
+    (env : List Pair) × (environment_in Little image None ≡ Ok env) × (FrontStands old new (printed_output env [] plain))
 
 -- if an input is refused, the output is as it was, or it failed inside the variables
 abbrev pub RefusesInput : Option (List ℕ) → Sink → Sink → Type 0
@@ -43,9 +43,9 @@ RefusesInput left old new = (new ≡ old) ⊎ PrintsFront left old new
 -- What was read is printed, or the image is refused for its own fault. If the read failed, this is the fault, and
 -- nothing is written.
 abbrev pub PrintsRead : Result (Vec ℕ Global) ReadFault → Outputs → Result (Unit {0}) Fault → Type 0
-PrintsRead (Ok image) s (Ok _) = (found : Bool) × PrintsAll (environment_in Little image.items None) [] true s found
+PrintsRead (Ok image) s (Ok _) = (found : Bool) × PrintsAll (environment_in Little image.items None) [] plain s found
 PrintsRead (Ok image) s (Err fault) =
-    (error : ToolError) × (fault ≡ tool_fault error) × Prints (environment_in Little image.items None) [] true s (Err error)
+    (error : ToolError) × (fault ≡ tool_fault error) × Prints (environment_in Little image.items None) [] plain s (Err error)
 PrintsRead (Err read.Failed) s answer = (answer ≡ Err told.CannotReadInput) × AreUnchanged s
 PrintsRead (Err read.Memory) s answer = (answer ≡ Err told.Memory) × AreUnchanged s
 

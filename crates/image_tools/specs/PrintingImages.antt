@@ -8,6 +8,7 @@ use Rattle.envimage.specs.declared.image.ByteOrder.{ByteOrder}
 use Rattle.envimage.specs.declared.image.ImageError.{ImageError}
 use Rattle.envtools.specs.Environment.{env_of}
 use Rattle.envtools.specs.Printing.{printed_output, printed_errors, all_found}
+use Rattle.envtools.specs.declared.print_form.PrintForm.{PrintForm}
 use Rattle.image_tools.specs.declared.error.ToolError.{ToolError}
 use Rattle.image_tools.specs.declared.error.ToolError.TheVariants.{Image, Write, Memory}
 
@@ -27,25 +28,25 @@ Finds answer (Err Memory) = (env : List Pair) × (answer ≡ Ok env)
 Finds answer (Err _) = ⊥
 
 -- The environment was found, and all that it prints was written.
-pub record PrintsAll (answer : Result (List Pair) ImageError) (names : List (List ℕ)) (header : Bool) (s : Outputs)
+pub record PrintsAll (answer : Result (List Pair) ImageError) (names : List (List ℕ)) (form : PrintForm) (s : Outputs)
     (found : Bool) : Type 0 where
   pub env : List Pair
   pub there : answer ≡ Ok env
   pub found_all : found ≡ all_found env names
-  pub output : Wrote s.out s.out' (printed_output env names header)
+  pub output : Wrote s.out s.out' (printed_output env names form)
   pub errors : Wrote s.err s.err' (printed_errors env names)
 
 -- The environment was found, and one output failed inside what it prints.
-pub record BreaksInPrinting (answer : Result (List Pair) ImageError) (names : List (List ℕ)) (header : Bool)
+pub record BreaksInPrinting (answer : Result (List Pair) ImageError) (names : List (List ℕ)) (form : PrintForm)
     (s : Outputs) : Type 0 where
   pub env : List Pair
   pub there : answer ≡ Ok env
-  pub broken : BreaksEither s.out s.out' s.err s.err' (printed_output env names header) (printed_errors env names)
+  pub broken : BreaksEither s.out s.out' s.err s.err' (printed_output env names form) (printed_errors env names)
 
 -- Each answer, and what is written then.
-abbrev pub Prints : Result (List Pair) ImageError → List (List ℕ) → Bool → Outputs → Result Bool ToolError → Type 0
-Prints answer names header s (Ok found) = PrintsAll answer names header s found
-Prints answer names header s (Err (Image e)) = (answer ≡ Err e) × (AreUnchanged s)
-Prints answer names header s (Err Write) = BreaksInPrinting answer names header s
-Prints answer names header s (Err Memory) = ((env : List Pair) × (answer ≡ Ok env)) × (AreUnchanged s)
-Prints answer names header s (Err _) = ⊥
+abbrev pub Prints : Result (List Pair) ImageError → List (List ℕ) → PrintForm → Outputs → Result Bool ToolError → Type 0
+Prints answer names form s (Ok found) = PrintsAll answer names form s found
+Prints answer names form s (Err (Image e)) = (answer ≡ Err e) × (AreUnchanged s)
+Prints answer names form s (Err Write) = BreaksInPrinting answer names form s
+Prints answer names form s (Err Memory) = ((env : List Pair) × (answer ≡ Ok env)) × (AreUnchanged s)
+Prints answer names form s (Err _) = ⊥

@@ -6,7 +6,7 @@ ghost use Rattle.output.specs.Outputs.{outputs};
 
 use crate::error::ToolError;
 use envimage::{ByteOrder, load};
-use envtools::print_data;
+use envtools::{PrintForm, print_data};
 use output::Out;
 use std::alloc::Global;
 
@@ -15,13 +15,14 @@ use std::alloc::Global;
 pub struct PrintAsk<'a> {
     /// The variables, in this order; none for all.
     pub names: &'a [&'a [u8]],
-    /// Whether `NAME=` is printed before a value. Without it, `names` is one name.
-    pub header: bool,
+    /// How each of them is printed. Without its header, `names` is one name.
+    pub form: PrintForm,
 }
 
 /// Prints the variables of an image, or of the current copy of a pair, as `printenv` does: all of
-/// them in order, or the named ones. Returns false if a name is missing. Without `header` only the
-/// value of the one name is printed. An error other than `Write` leaves both outputs as they were.
+/// them in order, or the named ones, in the form that is asked for. Returns false if a name is
+/// missing. Without the header only the value of the one name is printed. An error other than
+/// `Write` leaves both outputs as they were.
 pub fn print_bytes<O: Out, E: Out>(
     alloc: Global,
     first: &[u8],
@@ -31,11 +32,11 @@ pub fn print_bytes<O: Out, E: Out>(
     out: &mut O,
     err: &mut E,
 ) -> Result<bool, ToolError>
-    requires { ask.now.header ≡ false → length ask.now.names.now ≡ 1 }
+    requires { ask.now.form.header ≡ false → length ask.now.names.now ≡ 1 }
     ensures { Prints (environment_in order first.now (option_copied second.entry))
-        (map (λ n. n.now) ask.now.names.now) ask.now.header
+        (map (λ n. n.now) ask.now.names.now) ask.now.form
         (outputs (O.sink out.old) (O.sink out.new) (E.sink err.old) (E.sink err.new)) result }
 {
     let loaded = load(first, second, order)?;
-    Ok(print_data(alloc, loaded.body, ask.names, ask.header, out, err)?)
+    Ok(print_data(alloc, loaded.body, ask.names, ask.form, out, err)?)
 }

@@ -8,6 +8,7 @@ use crate::fault::Fault;
 use crate::fault_line::write_fault_of;
 use crate::print::{PrintAsk, print_bytes};
 use envimage::{ByteOrder, SIZE_MAX};
+use envtools::PrintForm;
 use locked_files::{ReadFault, read_up_to};
 use output::Out;
 use std::alloc::Global;
@@ -29,10 +30,12 @@ fn print_read<O: Out, E: Out>(
         Err(ReadFault::Failed) => return Err(Fault::CannotReadInput),
         Err(ReadFault::Memory) => return Err(Fault::Memory),
     };
-    let ask = PrintAsk {
-        names: &[],
+    let form = PrintForm {
         header: true,
+        escaped: false,
+        null: false,
     };
+    let ask = PrintAsk { names: &[], form };
     print_bytes(alloc, &image, None, ByteOrder::Little, &ask, out, err)?;
     Ok(())
 }

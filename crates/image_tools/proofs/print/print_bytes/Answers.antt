@@ -16,5 +16,5 @@ returns-in_err-print_data g c =
     let second = option_copied c.args.second in
     let p = err_from_is_err_and c.from_residual-in_err-print_data.result c.from_residual-in_err-print_data.ensures.1 in
     let answer : c.from_residual-in_err-print_data.result ≡ Err (print_fault c.in_err-print_data.field-0.0) = p.1 ∙ ap Err p.2 in
-    let P : Result Bool ToolError → Type 0 = Prints (environment_in c.args.order c.args.first.now second) names c.args.ask.now.header outputs in
-    subst P (sym answer) (print-refused c.args.order c.args.first.now second (loaded_shown c.in_ok-loaded.loaded) c.in_err-print_data.field-0.0 names c.args.ask.now.header outputs c.in_ok-loaded.ensures.answer c.in_err-print_data.ensures)
+    let P : Result Bool ToolError → Type 0 = Prints (environment_in c.args.order c.args.first.now second) names c.args.ask.now.form outputs in
+    subst P (sym answer) (print-refused c.args.order c.args.first.now second (loaded_shown c.in_ok-loaded.loaded) c.in_err-print_data.field-0.0 names c.args.ask.now.form outputs c.in_ok-loaded.ensures.answer c.in_err-print_data.ensures)
