@@ -4,6 +4,8 @@ use Rattle.std.specs.Prelude.{nat_lt, option_and_then}
 use Rattle.clap.specs.Words.{Text, fault_of, subcommand_of}
 use Rattle.clap.proofs.OnLiterals.{clap_on_literals}
 use Rattle.envimage.specs.declared.image.ByteOrder.TheVariants.{Big, Little}
+use Rattle.envtools.specs.Printing.{plain}
+use Rattle.envtools.specs.declared.print_form.PrintForm.{PrintForm}
 use Rattle.requests.specs.CommandAnswers.{asked}
 use Rattle.requests.specs.Answered.{IsAccepted}
 use Rattle.requests.specs.declared.called.CalledAs.{CalledAs}
@@ -19,6 +21,10 @@ AsksForAs called words what = IsAccepted ubtool words × (asked called words ≡
 -- the words are accepted and ask for this, called as ubtool
 abbrev pub AsksFor : List Text → Asked → Type 0
 AsksFor words what = AsksForAs Ubtool words what
+
+-- the value alone
+abbrev pub bare : PrintForm
+bare = record plain { header = false }
 
 -- `clap` accepts the words, and the program does not
 abbrev IsUnread : List Text → Type 0
@@ -52,9 +58,50 @@ two_names_printed = (refl, refl)
 
 -- printenv -- -x
 dashed_name : AsksFor (codes "printenv" ∷ codes "--" ∷ codes "-x" ∷ [])
-    (printing (codes "/etc/fw_env.config") true (codes "-x" ∷ []) Little)
+    (printing (codes "/etc/fw_env.config") plain (codes "-x" ∷ []) Little false)
 unfolding clap_on_literals ubtool
 dashed_name = (refl, refl)
+
+-- printenv -0
+null_ended : AsksFor (codes "printenv" ∷ codes "-0" ∷ [])
+    (printing (codes "/etc/fw_env.config") (record plain { null = true }) [] Little false)
+unfolding clap_on_literals ubtool
+null_ended = (refl, refl)
+
+-- printenv --escaped -n a
+escaped_value : AsksFor (codes "printenv" ∷ codes "--escaped" ∷ codes "-n" ∷ codes "a" ∷ [])
+    (printing (codes "/etc/fw_env.config") (record bare { escaped = true }) (codes "a" ∷ []) Little false)
+unfolding clap_on_literals ubtool
+escaped_value = (refl, refl)
+
+-- printenv --one-copy a
+printed_from_one : AsksFor (codes "printenv" ∷ codes "--one-copy" ∷ codes "a" ∷ [])
+    (printing (codes "/etc/fw_env.config") plain (codes "a" ∷ []) Little true)
+unfolding clap_on_literals ubtool
+printed_from_one = (refl, refl)
+
+-- setenv --one-copy a
+deleted_in_one : AsksFor (codes "setenv" ∷ codes "--one-copy" ∷ codes "a" ∷ [])
+    (setting (codes "/etc/fw_env.config") (codes "a") [] Little true)
+unfolding clap_on_literals ubtool
+deleted_in_one = (refl, refl)
+
+-- fw_setenv --one-copy -s -
+input_script_in_one : AsksForAs FwSetenv (codes "setenv" ∷ codes "--one-copy" ∷ codes "-s" ∷ codes "-" ∷ [])
+    (input_scripted (codes "/etc/fw_env.config") Little true)
+unfolding clap_on_literals ubtool
+input_script_in_one = (refl, refl)
+
+-- setenv -s f --one-copy
+script_in_one : AsksFor (codes "setenv" ∷ codes "-s" ∷ codes "f" ∷ codes "--one-copy" ∷ [])
+    (scripted (codes "/etc/fw_env.config") (codes "f") Little true)
+unfolding clap_on_literals ubtool
+script_in_one = (refl, refl)
+
+-- rehearse --one-copy
+rehearsed_from_one : IsRefused (codes "rehearse" ∷ codes "-d" ∷ codes "d" ∷ codes "--one-copy" ∷ [])
+unfolding clap_on_literals ubtool
+rehearsed_from_one = refl
 
 -- setenv
 no_name_set : AsksFor (codes "setenv" ∷ []) needs_name
@@ -63,7 +110,7 @@ no_name_set = (refl, refl)
 
 -- setenv a 1 2
 words_set : AsksFor (codes "setenv" ∷ codes "a" ∷ codes "1" ∷ codes "2" ∷ [])
-    (setting (codes "/etc/fw_env.config") (codes "a") (codes "1" ∷ codes "2" ∷ []) Little)
+    (setting (codes "/etc/fw_env.config") (codes "a") (codes "1" ∷ codes "2" ∷ []) Little false)
 unfolding clap_on_literals ubtool
 words_set = (refl, refl)
 
@@ -74,7 +121,7 @@ script_beside_name = (refl, refl)
 
 -- setenv -l d a 1
 locked_change : AsksFor (codes "setenv" ∷ codes "-l" ∷ codes "d" ∷ codes "a" ∷ codes "1" ∷ [])
-    (setting (codes "/etc/fw_env.config") (codes "a") (codes "1" ∷ []) Little)
+    (setting (codes "/etc/fw_env.config") (codes "a") (codes "1" ∷ []) Little false)
 unfolding clap_on_literals ubtool
 locked_change = (refl, refl)
 
@@ -106,25 +153,25 @@ locked_rehearsal = refl
 
 -- setenv -s f --big-endian
 big_script : AsksFor (codes "setenv" ∷ codes "-s" ∷ codes "f" ∷ codes "--big-endian" ∷ [])
-    (scripted (codes "/etc/fw_env.config") (codes "f") Big)
+    (scripted (codes "/etc/fw_env.config") (codes "f") Big false)
 unfolding clap_on_literals ubtool
 big_script = (refl, refl)
 
 -- setenv -s -: a file of that name
 dashed_script : AsksFor (codes "setenv" ∷ codes "-s" ∷ codes "-" ∷ [])
-    (scripted (codes "/etc/fw_env.config") (codes "-") Little)
+    (scripted (codes "/etc/fw_env.config") (codes "-") Little false)
 unfolding clap_on_literals ubtool
 dashed_script = (refl, refl)
 
 -- fw_setenv -s -: standard input
 input_script : AsksForAs FwSetenv (codes "setenv" ∷ codes "-s" ∷ codes "-" ∷ [])
-    (input_scripted (codes "/etc/fw_env.config") Little)
+    (input_scripted (codes "/etc/fw_env.config") Little false)
 unfolding clap_on_literals ubtool
 input_script = (refl, refl)
 
 -- fw_setenv -s f: a file
 named_script : AsksForAs FwSetenv (codes "setenv" ∷ codes "-s" ∷ codes "f" ∷ [])
-    (scripted (codes "/etc/fw_env.config") (codes "f") Little)
+    (scripted (codes "/etc/fw_env.config") (codes "f") Little false)
 unfolding clap_on_literals ubtool
 named_script = (refl, refl)
 

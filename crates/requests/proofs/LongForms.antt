@@ -7,7 +7,8 @@ use Rattle.envimage.specs.declared.image.ByteOrder.TheVariants.{Little}
 use Rattle.requests.specs.Asked.{printing, rehearsing, scripted}
 use Rattle.rehearse_terms.specs.Asking.{Listed, whole_page}
 use Rattle.command_line.specs.CommandLine.{ubtool}
-use Rattle.requests.proofs.CommandLineExamples.{AsksFor}
+use Rattle.envtools.specs.Printing.{plain}
+use Rattle.requests.proofs.CommandLineExamples.{AsksFor, bare}
 
 -- the words ask for the version alone
 abbrev AsksForVersion : List Text → Type 0
@@ -15,19 +16,25 @@ AsksForVersion words = fault_of ubtool words ≡ DisplayVersion ∷ []
 
 -- printenv --config f --noheader a
 long_print : AsksFor (codes "printenv" ∷ codes "--config" ∷ codes "f" ∷ codes "--noheader" ∷ codes "a" ∷ [])
-    (printing (codes "f") false (codes "a" ∷ []) Little)
+    (printing (codes "f") bare (codes "a" ∷ []) Little false)
 unfolding clap_on_literals ubtool
 long_print = (refl, refl)
 
 -- printenv --no-header --config=f a
 second_name : AsksFor (codes "printenv" ∷ codes "--no-header" ∷ codes "--config=f" ∷ codes "a" ∷ [])
-    (printing (codes "f") false (codes "a" ∷ []) Little)
+    (printing (codes "f") bare (codes "a" ∷ []) Little false)
 unfolding clap_on_literals ubtool
 second_name = (refl, refl)
 
+-- printenv --null
+long_null : AsksFor (codes "printenv" ∷ codes "--null" ∷ [])
+    (printing (codes "/etc/fw_env.config") (record plain { null = true }) [] Little false)
+unfolding clap_on_literals ubtool
+long_null = (refl, refl)
+
 -- setenv --script f
 long_script : AsksFor (codes "setenv" ∷ codes "--script" ∷ codes "f" ∷ [])
-    (scripted (codes "/etc/fw_env.config") (codes "f") Little)
+    (scripted (codes "/etc/fw_env.config") (codes "f") Little false)
 unfolding clap_on_literals ubtool
 long_script = (refl, refl)
 

@@ -9,6 +9,7 @@ use Rattle.clap.specs.Words.{Row, Text, all_of, first_of}
 use Rattle.clap.specs.ValueTests.{is_numeral}
 use Rattle.envimage.specs.declared.image.ByteOrder.{ByteOrder}
 use Rattle.envimage.specs.declared.image.ByteOrder.TheVariants.{Big, Little}
+use Rattle.envtools.specs.declared.print_form.PrintForm.{PrintForm}
 use Rattle.requests.specs.declared.called.CalledAs.{CalledAs}
 use Rattle.requests.specs.Called.{is_tool}
 use Rattle.rehearse_terms.specs.Asking.{Asking, Wanted, Listed, Alone}
@@ -25,10 +26,10 @@ pub record Endings : Type 0 where
 
 -- what a call asks for, or which of the program's own refusals it meets
 pub data Asked : Type 0 where
-  printing : (config : Text) (header : Bool) (names : List Text) (order : ByteOrder) → Asked
-  setting : (config : Text) (name : Text) (words : List Text) (order : ByteOrder) → Asked
-  scripted : (config : Text) (script : Text) (order : ByteOrder) → Asked
-  input_scripted : (config : Text) (order : ByteOrder) → Asked
+  printing : (config : Text) (form : PrintForm) (names : List Text) (order : ByteOrder) (one_copy : Bool) → Asked
+  setting : (config : Text) (name : Text) (words : List Text) (order : ByteOrder) (one_copy : Bool) → Asked
+  scripted : (config : Text) (script : Text) (order : ByteOrder) (one_copy : Bool) → Asked
+  input_scripted : (config : Text) (order : ByteOrder) (one_copy : Bool) → Asked
   rehearsing : (config : Text) (device_list : Text) (what : Asking) (order : ByteOrder) → Asked
   ending : (config : Text) (device_list : Text) (what : Endings) (order : ByteOrder) → Asked
   lock_needs_folder : Asked
@@ -84,31 +85,44 @@ has_no_folder rows = option_map_or (λ folder. length folder == 0) (first_of (co
 abbrev pub lock_of : List Row → Option Text
 lock_of rows = if has_no_folder rows then None else first_of (codes "lock") rows
 
+-- one copy of a pair is enough if the other cannot be read
+abbrev pub one_copy : List Row → Bool
+one_copy rows = is_set (codes "one-copy") rows
+
 -- ---- the four subcommands
+
+-- how a variable is printed
+abbrev pub print_form : List Row → PrintForm
+print_form rows = record {
+  header = not (is_set (codes "noheader") rows);
+  escaped = is_set (codes "escaped") rows;
+  null = is_set (codes "null") rows;
+}
 
 abbrev pub printing_asked : List Row → Asked
 printing_asked rows =
     let names = values_of (codes "names") rows in
-    let no_header = is_set (codes "noheader") rows in
-    if no_header && not (length names == 1) then header_needs_one
-    else printing (config_of rows) (not no_header) names (order_of rows)
+    let form = print_form rows in
+    if not form.header && not (length names == 1) then header_needs_one
+    else printing (config_of rows) form names (order_of rows) (one_copy rows)
 
 abbrev pub print_asked : List Row → Asked
 print_asked rows = if has_no_folder rows then lock_needs_folder else printing_asked rows
 
 -- the script at a path; if the program is called as one of U-Boot's tools and the path is `-`, the one on standard
 -- input
-abbrev pub script_asked : CalledAs → (config path : Text) → ByteOrder → Asked
-script_asked called config path order =
-    if is_tool called && bytes_eq path (codes "-") then input_scripted config order else scripted config path order
+abbrev pub script_asked : CalledAs → (config path : Text) → ByteOrder → (one_copy : Bool) → Asked
+script_asked called config path order one_copy =
+    if is_tool called && bytes_eq path (codes "-") then input_scripted config order one_copy
+    else scripted config path order one_copy
 
 -- from the script and the name that were given
 abbrev pub change_asked : CalledAs → Option Text → Option Text → List Row → Asked
 change_asked called (Some script) None rows =
-    script_asked called (config_of rows) script (order_of rows)
+    script_asked called (config_of rows) script (order_of rows) (one_copy rows)
 change_asked called (Some script) (Some name) rows = script_and_name
 change_asked called None (Some name) rows = setting (config_of rows) name
-    (values_of (codes "values") rows) (order_of rows)
+    (values_of (codes "values") rows) (order_of rows) (one_copy rows)
 change_asked called None None rows = needs_name
 
 abbrev pub set_asked : CalledAs → List Row → Asked

@@ -1,5 +1,5 @@
 -- What an answer of the reader of words says, and when each refusal comes. The refusals are ours.
-use Rattle.std.specs.Prelude.{◌≡◌, ◌⊎◌, List, map, Option, Some, None, Result, Ok, Err, option_and_then, string_bytes, String}
+use Rattle.std.specs.Prelude.{◌≡◌, ◌⊎◌, Bool, List, map, Option, Some, None, Result, Ok, Err, option_and_then, string_bytes, String}
 use Rattle.std.specs.declared.alloc.Global.{Global}
 use Rattle.clap.specs.Words.{IsAmong, Text, fault_of, subcommand_of}
 use Rattle.clap.specs.declared.error.kind.ErrorKind.{ErrorKind}
@@ -33,18 +33,18 @@ asking_of r = record {
 abbrev pub endings_of : EndingsAsk → what.Endings
 endings_of e = record { variable = string_bytes e.name; bounds = e.bounds; states = e.states; flow = e.flow }
 
-abbrev pub change_of : Text → Change → ByteOrder → Asked
-change_of config (One name words) order =
-    setting config (string_bytes name) (map string_bytes words.items) order
-change_of config (Script file) order = scripted config (string_bytes file) order
-change_of config Input order = input_scripted config order
+abbrev pub change_of : Text → Change → ByteOrder → (one_copy : Bool) → Asked
+change_of config (One name words) order one_copy =
+    setting config (string_bytes name) (map string_bytes words.items) order one_copy
+change_of config (Script file) order one_copy = scripted config (string_bytes file) order one_copy
+change_of config Input order one_copy = input_scripted config order one_copy
 
 -- what the value asks for, if it is neither a help text nor the version
 abbrev pub meaning_of : Ask → Option Asked
-meaning_of (Print config what order) =
-    Some (printing (string_bytes config) what.header (map string_bytes what.names.items) order)
-meaning_of (Setenv config change order) =
-    Some (change_of (string_bytes config) change order)
+meaning_of (Print config what order one_copy) =
+    Some (printing (string_bytes config) what.form (map string_bytes what.names.items) order one_copy)
+meaning_of (Setenv config change order one_copy) =
+    Some (change_of (string_bytes config) change order one_copy)
 meaning_of (Rehearse config list what order) =
     Some (rehearsing (string_bytes config) (string_bytes list) (asking_of what) order)
 meaning_of (Endings config list what order) =

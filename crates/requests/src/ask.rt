@@ -4,6 +4,7 @@ ghost use Rattle.rehearse_terms.specs.Asking.{HasRoom};
 ghost use Rattle.rehearse_terms.specs.WantedShown.{wanted_strings};
 
 use envimage::ByteOrder;
+use envtools::PrintForm;
 use rehearse_terms::{RunBounds, Wanted};
 use thiserror::Error;
 
@@ -40,6 +41,8 @@ pub enum Ask {
         what: PrintAsk,
         /// How the image's CRC is stored.
         order: ByteOrder,
+        /// Whether one copy of a pair is enough if the other cannot be read.
+        one_copy: bool,
     },
     /// To set or delete variables.
     Setenv {
@@ -49,6 +52,8 @@ pub enum Ask {
         change: Change,
         /// How the image's CRC is stored.
         order: ByteOrder,
+        /// Whether one copy of a pair is enough if the other cannot be read.
+        one_copy: bool,
     },
     /// To list the runs of a boot script.
     Rehearse {
@@ -83,8 +88,8 @@ pub enum Ask {
 pub struct PrintAsk {
     /// The variables to print, in this order; none for all.
     pub names: Vec<String>,
-    /// Whether `NAME=` is printed before a value. Without it, `names` is one name.
-    pub header: bool,
+    /// How each is printed. Without its header, `names` is one name.
+    pub form: PrintForm,
 }
 
 /// What `setenv` is to change.

@@ -1,5 +1,5 @@
 //! Reads the words of a call.
-ghost use Rattle.std.specs.Prelude.{◌≡◌, ◌≤◌, Some, None, codes, IfOk, IfSome, map, option_map, option_and_then, string_bytes};
+ghost use Rattle.std.specs.Prelude.{◌≡◌, ◌≤◌, Bool, Some, None, codes, IfOk, IfSome, map, option_map, option_and_then, string_bytes};
 ghost use Rattle.rehearse_terms.specs.Asking.{page_of};
 ghost use Rattle.rehearse_terms.specs.Asking.{HasRoom};
 ghost use Rattle.clap.specs.Words.{Text, first_of, found_of, rows_of, subcommand_rows_of};
@@ -19,6 +19,7 @@ use clap::ArgMatches;
 use clap::error::ErrorKind;
 use command_line::{FAILURES_MAX, ubtool};
 use envimage::ByteOrder;
+use envtools::PrintForm;
 use rehearse_terms::{Bounds, Page, RUN_DEVICES_MAX, RunBounds, STEPS_MAX, Wanted};
 use std::alloc::{AllocError, Global};
 use std::convert::AsStr;
@@ -153,22 +154,25 @@ fn print_ask(alloc: Global, matches: &ArgMatches<'_>) -> Result<Ask, UseError>
     if no_header && names.len() != 1 {
         return Err(UseError::HeaderNeedsOne);
     }
-    let what = PrintAsk {
-        names,
+    let form = PrintForm {
         header: !no_header,
+        escaped: is_set(matches, "escaped"),
+        null: is_set(matches, "null"),
     };
     Ok(Ask::Print {
         config: config_of(alloc, matches)?,
-        what,
+        what: PrintAsk { names, form },
         order: order_of(matches),
+        one_copy: is_set(matches, "one-copy"),
     })
 }
 
 /// The change by the script at a path. If the program was called as one of U-Boot's tools, the path
 /// `-` is standard input.
 fn script_change(called: CalledAs, path: String) -> Change
-    ensures { (config : Text) → (order : Order) →
-        change_of config result order ≡ script_asked called config (string_bytes path) order }
+    ensures { (config : Text) → (order : Order) → (one_copy : Bool) →
+        change_of config result order one_copy
+        ≡ script_asked called config (string_bytes path) order one_copy }
 {
     if called.is_tool() && path.as_str() == "-" {
         Change::Input
@@ -198,6 +202,7 @@ fn set_ask(alloc: Global, called: CalledAs, matches: &ArgMatches<'_>) -> Result<
         config: config_of(alloc, matches)?,
         change,
         order: order_of(matches),
+        one_copy: is_set(matches, "one-copy"),
     })
 }
 
