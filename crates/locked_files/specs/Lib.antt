@@ -2,6 +2,8 @@ pub mod FailureCounts
 pub mod Told
 pub mod FailedReads
 pub mod MachineShown
+pub mod Notes
+pub mod ProgramShown
 pub mod MemoryFiles
 pub mod CallOrder
 pub mod UntilFailedShown

@@ -4,45 +4,51 @@ ghost use Rattle.locked_files.specs.FailedReads.{file_fault_of};
 ghost use Rattle.locked_files.specs.declared.files.FileFault.TheVariants.{Failed, Memory};
 
 use crate::boot_partition::Switch;
-use crate::files::{FileFault, Files, LIMIT};
+use crate::files::{FileFault, Files, LIMIT, LockFault};
 use crate::input::{ReadFault, read_up_to};
 use crate::lock::{Lock, usual_lock};
-use std::alloc::Global;
-use std::fs::{File, OpenFile, OpenOptions};
-use std::io::{ErrorKind, Read, Seek, SeekFrom, Write};
-use std::rt;
+use crate::program::Program;
+use crate::writing::{is_synced, is_written};
+use std::alloc::{AllocGlobal, Global};
+use std::fs::{File, OpenOptions};
+use std::io::{Read, Seek, SeekFrom, Write};
+use std::rt::{self, Clock};
 
-/// The files of the machine, which the runtime reaches. A lock is held as long as these files last.
+/// The files of the machine, which the runtime reaches, and the program that uses them. A lock is
+/// held as long as these files last.
 #[derive(Drop)]
-pub struct Machine<'a, R> {
+pub struct Machine<'a, R, W> {
     rt: &'a R,
+    program: Program<'a, W>,
     faults: u64,
     lock: Lock,
 }
 
-impl<'a, R: rt::Files> Machine<'a, R> {
+impl<'a, R: rt::Files, W: Write> Machine<'a, R, W> {
     ghost use Rattle.locked_files.specs.FailureCounts.{CountsFault};
     ghost use Rattle.locked_files.specs.MachineShown.{faults_of, is_locked};
 
     /// The files that `rt` reaches; no failure is counted yet, and no lock is taken.
-    pub fn new(rt: &'a R) -> Machine<'a, R>
+    pub fn new(rt: &'a R, program: Program<'a, W>) -> Machine<'a, R, W>
         ensures sound { faults_of result ≡ 0 }
         ensures unlocked { is_locked result ≡ false }
     {
         Machine {
             rt,
+            program,
             faults: 0,
             lock: Lock::NotTaken,
         }
     }
 
     /// The same files under a lock that is held already.
-    pub fn under(rt: &'a R, lock: File) -> Machine<'a, R>
+    pub fn under(rt: &'a R, program: Program<'a, W>, lock: File) -> Machine<'a, R, W>
         ensures sound { faults_of result ≡ 0 }
         ensures locked { is_locked result ≡ true }
     {
         Machine {
             rt,
+            program,
             faults: 0,
             lock: Lock::Held(lock),
         }
@@ -107,26 +113,6 @@ fn read_from<R: rt::Files>(
     }
 }
 
-/// Writes the bytes, and returns whether all were written. No failed write is repeated.
-fn is_written<W: Write>(to: &mut W, bytes: &[u8]) -> bool {
-    let mut rest = bytes;
-    while !rest.is_empty() {
-        match to.write(rest) {
-            Ok(count) if count > 0 => rest = &rest[count..],
-            _ => return false,
-        }
-    }
-    to.flush().is_ok()
-}
-
-/// Whether the device has what was written. A file that cannot be asked counts as one that has.
-fn is_synced<F: OpenFile>(file: &F) -> bool {
-    match file.sync_all() {
-        Ok(()) => true,
-        Err(error) => error.kind() == ErrorKind::InvalidInput,
-    }
-}
-
 /// Writes all the bytes from `offset` on. Errors: `Failed`.
 fn write_through<R: rt::Files>(
     rt: &R,
@@ -160,7 +146,7 @@ fn write_to<R: rt::Files>(rt: &R, path: &str, offset: u64, bytes: &[u8]) -> Resu
     written
 }
 
-impl<R: rt::Files<File = File>> Files for Machine<'_, R> {
+impl<R: rt::Files<File = File> + Clock + AllocGlobal, W: Write> Files for Machine<'_, R, W> {
     ghost use Rattle.locked_files.specs.MachineShown.{faults_of, is_locked};
 
     ghost faults = { faults_of };
@@ -169,11 +155,12 @@ impl<R: rt::Files<File = File>> Files for Machine<'_, R> {
 
     ghost locked = { is_locked };
 
-    /// Takes the lock of U-Boot's tools. If its file cannot be opened or locked, there is no lock.
-    fn lock(&mut self) {
+    /// Takes the lock of U-Boot's tools. If there is no folder for its file, there is no lock.
+    fn lock(&mut self) -> Result<(), LockFault> {
         if let Lock::NotTaken = self.lock {
-            self.lock = usual_lock(self.rt);
+            self.lock = usual_lock(self.rt, &mut self.program)?;
         }
+        Ok(())
     }
 
     fn read_all(&mut self, alloc: Global, path: &str) -> Result<Vec<u8>, FileFault> {
