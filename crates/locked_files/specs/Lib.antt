@@ -4,6 +4,7 @@ pub mod FailedReads
 pub mod MachineShown
 pub mod Notes
 pub mod ProgramShown
+pub mod Replacing
 pub mod MemoryFiles
 pub mod CallOrder
 pub mod UntilFailedShown

@@ -116,8 +116,8 @@ pub trait Files {
         ensures told { IfTold (told self.old) (told self.new)
             (λ old new. ReadsAt path.now offset size old new result) };
 
-    /// Writes the bytes in place, from byte `offset` on, under the lock. No file is made or
-    /// shortened. If the device fails, a prefix of the bytes may be written.
+    /// Writes the bytes over those from byte `offset` on, under the lock. The file keeps its path and
+    /// its size, and there must be one. If the device fails, a prefix of the bytes may be written.
     ///
     /// Refusals: `Failed`, `Memory`.
     fn write_at(&mut self, path: &str, offset: u64, bytes: &[u8]) -> Result<(), FileFault>

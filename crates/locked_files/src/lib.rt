@@ -9,6 +9,7 @@ mod lock;
 mod machine;
 mod memory_files;
 mod program;
+mod replace;
 mod same_file;
 mod until_failed;
 mod writing;

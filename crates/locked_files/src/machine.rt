@@ -8,6 +8,7 @@ use crate::files::{FileFault, Files, LIMIT, LockFault};
 use crate::input::{ReadFault, read_up_to};
 use crate::lock::{Lock, usual_lock};
 use crate::program::Program;
+use crate::replace::is_replaced;
 use crate::writing::{is_synced, is_written};
 use std::alloc::{AllocGlobal, Global};
 use std::fs::{File, OpenOptions};
@@ -132,13 +133,37 @@ fn write_through<R: rt::Files>(
     }
 }
 
+/// Writes all the bytes from `offset` on. A regular file of as many bytes is replaced, if it can be;
+/// anything else is written in place. Errors: `Failed`, `Memory`, with nothing written.
+fn write_file<R: rt::Files<File = File> + AllocGlobal, W: Write>(
+    rt: &R,
+    program: &mut Program<'_, W>,
+    path: &str,
+    offset: u64,
+    bytes: &[u8],
+) -> Result<(), FileFault>
+    ensures { IfErr result (λ fault. (fault ≡ Failed) ⊎ (fault ≡ Memory)) }
+{
+    if offset == 0 && is_replaced(rt, program, path, bytes)? {
+        return Ok(());
+    }
+    write_through(rt, path, offset, bytes)
+}
+
 /// Writes all the bytes from `offset` on. A boot partition of an eMMC that the kernel keeps
-/// read-only can be written meanwhile, and is read-only again whatever happens. Errors: `Failed`.
-fn write_to<R: rt::Files>(rt: &R, path: &str, offset: u64, bytes: &[u8]) -> Result<(), FileFault>
-    ensures refusal { IfErr result (λ fault. fault ≡ Failed) }
+/// read-only can be written meanwhile, and is read-only again whatever happens. Errors: `Failed`,
+/// `Memory`, with nothing written.
+fn write_to<R: rt::Files<File = File> + AllocGlobal, W: Write>(
+    rt: &R,
+    program: &mut Program<'_, W>,
+    path: &str,
+    offset: u64,
+    bytes: &[u8],
+) -> Result<(), FileFault>
+    ensures { IfErr result (λ fault. (fault ≡ Failed) ⊎ (fault ≡ Memory)) }
 {
     let Some(switch) = Switch::on_at(rt, path) else {
-        return write_through(rt, path, offset, bytes);
+        return write_file(rt, program, path, offset, bytes);
     };
     switch.turn_off(rt);
     let written = write_through(rt, path, offset, bytes);
@@ -188,7 +213,7 @@ impl<R: rt::Files<File = File> + Clock + AllocGlobal, W: Write> Files for Machin
     }
 
     fn write_at(&mut self, path: &str, offset: u64, bytes: &[u8]) -> Result<(), FileFault> {
-        let written = write_to(self.rt, path, offset, bytes);
+        let written = write_to(self.rt, &mut self.program, path, offset, bytes);
         self.counted(written)
     }
 }
