@@ -9,10 +9,10 @@ mod words;
 
 use crate::program::{PROGRAM, REFUSED, run_check};
 use file_tools::{Build, StartError, Telling, buffered, end, finish, words_of_call};
-use locked_files::Machine;
+use locked_files::{Machine, Program};
 use output::{Out, Over, write_all};
 use std::io;
-use std::process::ExitCode;
+use std::process::{self, ExitCode};
 
 /// What this program is built for. A build for another processor, or with another kind of linking,
 /// has another word here.
@@ -26,7 +26,9 @@ fn run<E: Out>(rt: &HostRuntime, err: &mut Telling<E>) -> Result<u8, StartError>
     let args = words_of_call(rt)?;
     let words = args.get(1..).unwrap_or(&[]);
     let mut out = buffered(rt.alloc(), io::writer(rt))?;
-    let mut files = Machine::new(rt);
+    let stderr = rt.stderr();
+    let program = Program::new(PROGRAM, process::id(rt.process()), io::writer(&stderr));
+    let mut files = Machine::new(rt, program);
     let status = run_check(rt.alloc(), BUILD, words, &mut files, &mut out, err);
     Ok(finish(&mut out, err, PROGRAM, REFUSED, status))
 }

@@ -2,6 +2,9 @@ pub mod FailureCounts
 pub mod Told
 pub mod FailedReads
 pub mod MachineShown
+pub mod Notes
+pub mod ProgramShown
+pub mod Replacing
 pub mod MemoryFiles
 pub mod CallOrder
 pub mod UntilFailedShown

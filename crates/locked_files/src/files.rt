@@ -1,5 +1,5 @@
 //! Files by their paths.
-ghost use Rattle.std.specs.Prelude.{◌≡◌, ◌≢◌, ◌≤◌, ℕ, Bool, Option, IfOk, IsTrue, vec_len};
+ghost use Rattle.std.specs.Prelude.{◌≡◌, ◌≢◌, ◌≤◌, ℕ, Bool, Option, IfOk, IsTrue, OnErr, OnOk, vec_len};
 ghost use Rattle.locked_files.specs.declared.files.FileFault.TheVariants.{Memory};
 
 use std::alloc::{AllocError, AllocFailed, Global};
@@ -41,6 +41,17 @@ impl<T: Drop> From<AllocFailed<T>> for FileFault {
     }
 }
 
+/// Why the lock is not taken. The texts are those of U-Boot's tools.
+#[derive(Clone, Copy, Debug, Drop, PartialEq, Eq, Error)]
+pub enum LockFault {
+    /// The lock's file can neither be made nor opened, or is not a plain file.
+    #[error("Error opening lock file /var/lock/fw_printenv.lock")]
+    NoFile,
+    /// The lock's file cannot be locked.
+    #[error("Error locking file /var/lock/fw_printenv.lock")]
+    NoLock,
+}
+
 /// What a call does with the file at a path.
 #[derive(Clone, Copy, Debug, PartialEq, Eq)]
 pub enum Action {
@@ -68,10 +79,12 @@ pub trait Files {
     /// Whether the lock was taken.
     ghost locked: { Self → Bool };
 
-    /// Takes the lock, unless it was taken already. Waits while another call holds it. If it cannot
-    /// be had, the files are used without it.
-    fn lock(&mut self)
-        ensures taken { IsTrue (locked self.new) }
+    /// Takes the lock, unless it was taken already. Waits while another call holds it.
+    ///
+    /// Refusals: `NoFile`, `NoLock`.
+    fn lock(&mut self) -> Result<(), LockFault>
+        ensures taken { OnOk result (IsTrue (locked self.new)) }
+        ensures refused { OnErr result (locked self.new ≡ locked self.old) }
         ensures count { faults self.new ≡ faults self.old }
         ensures told { told self.new ≡ told self.old };
 
@@ -103,8 +116,8 @@ pub trait Files {
         ensures told { IfTold (told self.old) (told self.new)
             (λ old new. ReadsAt path.now offset size old new result) };
 
-    /// Writes the bytes in place, from byte `offset` on, under the lock. No file is made or
-    /// shortened. If the device fails, a prefix of the bytes may be written.
+    /// Writes the bytes over those from byte `offset` on, under the lock. The file keeps its path and
+    /// its size, and there must be one. If the device fails, a prefix of the bytes may be written.
     ///
     /// Refusals: `Failed`, `Memory`.
     fn write_at(&mut self, path: &str, offset: u64, bytes: &[u8]) -> Result<(), FileFault>

@@ -4,45 +4,52 @@ ghost use Rattle.locked_files.specs.FailedReads.{file_fault_of};
 ghost use Rattle.locked_files.specs.declared.files.FileFault.TheVariants.{Failed, Memory};
 
 use crate::boot_partition::Switch;
-use crate::files::{FileFault, Files, LIMIT};
+use crate::files::{FileFault, Files, LIMIT, LockFault};
 use crate::input::{ReadFault, read_up_to};
 use crate::lock::{Lock, usual_lock};
-use std::alloc::Global;
-use std::fs::{File, OpenFile, OpenOptions};
-use std::io::{ErrorKind, Read, Seek, SeekFrom, Write};
-use std::rt;
+use crate::program::Program;
+use crate::replace::is_replaced;
+use crate::writing::{is_synced, is_written};
+use std::alloc::{AllocGlobal, Global};
+use std::fs::{File, OpenOptions};
+use std::io::{Read, Seek, SeekFrom, Write};
+use std::rt::{self, Clock};
 
-/// The files of the machine, which the runtime reaches. A lock is held as long as these files last.
+/// The files of the machine, which the runtime reaches, and the program that uses them. A lock is
+/// held as long as these files last.
 #[derive(Drop)]
-pub struct Machine<'a, R> {
+pub struct Machine<'a, R, W> {
     rt: &'a R,
+    program: Program<'a, W>,
     faults: u64,
     lock: Lock,
 }
 
-impl<'a, R: rt::Files> Machine<'a, R> {
+impl<'a, R: rt::Files, W: Write> Machine<'a, R, W> {
     ghost use Rattle.locked_files.specs.FailureCounts.{CountsFault};
     ghost use Rattle.locked_files.specs.MachineShown.{faults_of, is_locked};
 
     /// The files that `rt` reaches; no failure is counted yet, and no lock is taken.
-    pub fn new(rt: &'a R) -> Machine<'a, R>
+    pub fn new(rt: &'a R, program: Program<'a, W>) -> Machine<'a, R, W>
         ensures sound { faults_of result ≡ 0 }
         ensures unlocked { is_locked result ≡ false }
     {
         Machine {
             rt,
+            program,
             faults: 0,
             lock: Lock::NotTaken,
         }
     }
 
     /// The same files under a lock that is held already.
-    pub fn under(rt: &'a R, lock: File) -> Machine<'a, R>
+    pub fn under(rt: &'a R, program: Program<'a, W>, lock: File) -> Machine<'a, R, W>
         ensures sound { faults_of result ≡ 0 }
         ensures locked { is_locked result ≡ true }
     {
         Machine {
             rt,
+            program,
             faults: 0,
             lock: Lock::Held(lock),
         }
@@ -107,26 +114,6 @@ fn read_from<R: rt::Files>(
     }
 }
 
-/// Writes the bytes, and returns whether all were written. No failed write is repeated.
-fn is_written<W: Write>(to: &mut W, bytes: &[u8]) -> bool {
-    let mut rest = bytes;
-    while !rest.is_empty() {
-        match to.write(rest) {
-            Ok(count) if count > 0 => rest = &rest[count..],
-            _ => return false,
-        }
-    }
-    to.flush().is_ok()
-}
-
-/// Whether the device has what was written. A file that cannot be asked counts as one that has.
-fn is_synced<F: OpenFile>(file: &F) -> bool {
-    match file.sync_all() {
-        Ok(()) => true,
-        Err(error) => error.kind() == ErrorKind::InvalidInput,
-    }
-}
-
 /// Writes all the bytes from `offset` on. Errors: `Failed`.
 fn write_through<R: rt::Files>(
     rt: &R,
@@ -146,13 +133,37 @@ fn write_through<R: rt::Files>(
     }
 }
 
+/// Writes all the bytes from `offset` on. A regular file of as many bytes is replaced, if it can be;
+/// anything else is written in place. Errors: `Failed`, `Memory`, with nothing written.
+fn write_file<R: rt::Files<File = File> + AllocGlobal, W: Write>(
+    rt: &R,
+    program: &mut Program<'_, W>,
+    path: &str,
+    offset: u64,
+    bytes: &[u8],
+) -> Result<(), FileFault>
+    ensures { IfErr result (λ fault. (fault ≡ Failed) ⊎ (fault ≡ Memory)) }
+{
+    if offset == 0 && is_replaced(rt, program, path, bytes)? {
+        return Ok(());
+    }
+    write_through(rt, path, offset, bytes)
+}
+
 /// Writes all the bytes from `offset` on. A boot partition of an eMMC that the kernel keeps
-/// read-only can be written meanwhile, and is read-only again whatever happens. Errors: `Failed`.
-fn write_to<R: rt::Files>(rt: &R, path: &str, offset: u64, bytes: &[u8]) -> Result<(), FileFault>
-    ensures refusal { IfErr result (λ fault. fault ≡ Failed) }
+/// read-only can be written meanwhile, and is read-only again whatever happens. Errors: `Failed`,
+/// `Memory`, with nothing written.
+fn write_to<R: rt::Files<File = File> + AllocGlobal, W: Write>(
+    rt: &R,
+    program: &mut Program<'_, W>,
+    path: &str,
+    offset: u64,
+    bytes: &[u8],
+) -> Result<(), FileFault>
+    ensures { IfErr result (λ fault. (fault ≡ Failed) ⊎ (fault ≡ Memory)) }
 {
     let Some(switch) = Switch::on_at(rt, path) else {
-        return write_through(rt, path, offset, bytes);
+        return write_file(rt, program, path, offset, bytes);
     };
     switch.turn_off(rt);
     let written = write_through(rt, path, offset, bytes);
@@ -160,7 +171,7 @@ fn write_to<R: rt::Files>(rt: &R, path: &str, offset: u64, bytes: &[u8]) -> Resu
     written
 }
 
-impl<R: rt::Files<File = File>> Files for Machine<'_, R> {
+impl<R: rt::Files<File = File> + Clock + AllocGlobal, W: Write> Files for Machine<'_, R, W> {
     ghost use Rattle.locked_files.specs.MachineShown.{faults_of, is_locked};
 
     ghost faults = { faults_of };
@@ -169,11 +180,12 @@ impl<R: rt::Files<File = File>> Files for Machine<'_, R> {
 
     ghost locked = { is_locked };
 
-    /// Takes the lock of U-Boot's tools. If its file cannot be opened or locked, there is no lock.
-    fn lock(&mut self) {
+    /// Takes the lock of U-Boot's tools. If there is no folder for its file, there is no lock.
+    fn lock(&mut self) -> Result<(), LockFault> {
         if let Lock::NotTaken = self.lock {
-            self.lock = usual_lock(self.rt);
+            self.lock = usual_lock(self.rt, &mut self.program)?;
         }
+        Ok(())
     }
 
     fn read_all(&mut self, alloc: Global, path: &str) -> Result<Vec<u8>, FileFault> {
@@ -201,7 +213,7 @@ impl<R: rt::Files<File = File>> Files for Machine<'_, R> {
     }
 
     fn write_at(&mut self, path: &str, offset: u64, bytes: &[u8]) -> Result<(), FileFault> {
-        let written = write_to(self.rt, path, offset, bytes);
+        let written = write_to(self.rt, &mut self.program, path, offset, bytes);
         self.counted(written)
     }
 }

@@ -1,5 +1,5 @@
 //! Files in memory, for tests.
-ghost use Rattle.std.specs.Prelude.{◌≡◌, ◌≢◌, ◌≤◌, ◌+◌, [], false, if◌then◌else◌, nat_le, Some, None, Ok, Err, IfOk, OnOk, OnErr, length, map, string_bytes, vec_len};
+ghost use Rattle.std.specs.Prelude.{◌≡◌, ◌≢◌, ◌≤◌, ◌+◌, [], false, if◌then◌else◌, nat_le, Some, None, Ok, Err, IfOk, IsTrue, OnOk, OnErr, length, map, string_bytes, vec_len};
 ghost use Rattle.std.specs.List.{position};
 ghost use Rattle.std.specs.Option.{option_copied};
 ghost use Rattle.std.specs.Str.{bytes_eq};
@@ -8,7 +8,7 @@ ghost use Rattle.locked_files.specs.MemoryFiles.{Gives, IsUnlessMemory, call_of,
 ghost use Rattle.locked_files.specs.Told.{ReadsAll, ReadsAt, WritesAt, calls_after, file_at, overwritten, read_limit};
 ghost use Rattle.locked_files.specs.declared.files.FileFault.TheVariants.{Memory, Short, TooLong};
 
-use crate::files::{Action, FileFault, Files, LIMIT};
+use crate::files::{Action, FileFault, Files, LIMIT, LockFault};
 use std::alloc::{AllocError, Global};
 
 /// A call that was answered.
@@ -225,8 +225,15 @@ impl Files for MemoryFiles {
 
     ghost locked = { is_locked };
 
-    fn lock(&mut self) {
+    /// The lock is never refused.
+    fn lock(&mut self) -> Result<(), LockFault>
+        ensures taken { IsTrue (is_locked self.new) }
+        ensures count { faults_of self.new ≡ faults_of self.old }
+        ensures told { memory_files_shown self.new ≡ memory_files_shown self.old }
+        ensures exact { result ≡ Ok tt }
+    {
         self.locked = true;
+        Ok(())
     }
 
     fn read_all(&mut self, alloc: Global, path: &str) -> Result<Vec<u8>, FileFault>

@@ -1,10 +1,10 @@
 //! Files, in memory and of the machine.
 
 use crate::case::{Case, text};
-use locked_files::{Files, LIMIT, Machine, MemoryFiles, read_up_to};
+use locked_files::{Files, LIMIT, Machine, MemoryFiles, Program, read_up_to};
 use std::alloc::{AllocError, Global};
 use std::fs::File;
-use std::{fs, process};
+use std::{fs, io, process};
 use test_rows::{number, shown, unescaped};
 
 /// The calls that were made, a line each.
@@ -61,7 +61,7 @@ pub(crate) fn told(case: &mut Case<'_>, word: &str, says: &str) -> anyhow::Resul
 fn write<F: Files>(alloc: Global, files: &mut F, path: &str, says: &str) -> anyhow::Result<String> {
     let (offset, bytes) = says.split_once(' ').unwrap_or((says, ""));
     let bytes = unescaped(alloc, bytes)?;
-    files.lock();
+    files.lock()?;
     files.write_at(path, u64::from(number(offset)?), &bytes)?;
     Ok(String::from_str(alloc, "written")?)
 }
@@ -114,9 +114,10 @@ fn asked(case: &mut Case<'_>, word: &str, says: &str) -> anyhow::Result<String> 
         String::from_str(case.alloc, path)?
     };
     let lock = File::open(case.rt, "/dev/null")?;
+    let program = Program::new("test_ubtool", process::id(case.rt.process()), io::sink());
     ask(
         case.alloc,
-        &mut Machine::under(case.rt, lock),
+        &mut Machine::under(case.rt, program, lock),
         path.as_str(),
         word,
         says,

@@ -3,10 +3,11 @@ ghost use Rattle.std.specs.Prelude.{◌≡◌};
 ghost use Rattle.ubtool.specs.declared.folder_lock.LockError.TheVariants.{Memory};
 
 use image_tools::WordForm;
-use locked_files::lock_file;
-use std::alloc::{AllocError, Global};
+use locked_files::{NotLocked, Program, lock_at};
+use std::alloc::{AllocError, AllocGlobal};
 use std::fs::File;
-use std::rt;
+use std::io::Write;
+use std::rt::{self, Clock};
 use thiserror::Error;
 
 /// Why the lock in a folder is not taken. The texts are those of U-Boot's tools.
@@ -31,18 +32,17 @@ impl From<AllocError> for LockError {
     }
 }
 
-/// Takes the lock in a folder, once no other call holds it. Errors: `NoFile`, `NoLock`, `Memory`.
-pub fn lock_in<R: rt::Files<File = File>>(
+/// Takes the lock in a folder, once no other call holds it. If this takes more than five seconds, the
+/// program says that it waits. Errors: `NoFile`, `NoLock`, `Memory`.
+pub fn lock_in<R: rt::Files<File = File> + Clock + AllocGlobal, W: Write>(
     rt: &R,
-    alloc: Global,
+    program: &mut Program<'_, W>,
     folder: &str,
 ) -> Result<File, LockError> {
-    let path = format!(in alloc; "{folder}/fw_printenv.lock")?;
-    let Some(file) = lock_file(rt, &path) else {
-        return Err(LockError::NoFile(WordForm(path)));
-    };
-    match file.lock() {
-        Ok(()) => Ok(file),
-        Err(_) => Err(LockError::NoLock(WordForm(path))),
+    let path = format!(in rt.alloc(); "{folder}/fw_printenv.lock")?;
+    match lock_at(rt, program, &path) {
+        Ok(file) => Ok(file),
+        Err(NotLocked::NoFolder | NotLocked::NoFile) => Err(LockError::NoFile(WordForm(path))),
+        Err(NotLocked::NoLock) => Err(LockError::NoLock(WordForm(path))),
     }
 }

@@ -7,12 +7,12 @@ mod folder_lock;
 use file_tools::{Build, StartError, Telling, buffered, end, finish, words_of_call};
 use folder_lock::{LockError, lock_in};
 use image_tools::write_fault_of;
-use locked_files::Machine;
+use locked_files::{Machine, Program};
 use output::{Out, Over, write_all};
 use requests::{CalledAs, called_as, read_lock, words_called};
 use std::fs::File;
-use std::io;
-use std::process::ExitCode;
+use std::io::{self, Write};
+use std::process::{self, ExitCode};
 use whole_program::{REFUSED, run_tool};
 
 /// What this program is built for. A build for another processor, or with another kind of linking,
@@ -26,16 +26,21 @@ const PROGRAM: &str = "ubtool";
 const OUT_OF_MEMORY: &[u8] = b"ubtool: out of memory\n";
 
 /// Takes the lock in the folder that the words name, if they name one. Errors: those of `lock_in`.
-fn named_lock(rt: &HostRuntime, words: &[String]) -> Result<Option<File>, LockError> {
+fn named_lock<W: Write>(
+    rt: &HostRuntime,
+    program: &mut Program<'_, W>,
+    words: &[String],
+) -> Result<Option<File>, LockError> {
     match read_lock(rt.alloc(), words)? {
-        Some(folder) => Ok(Some(lock_in(rt, rt.alloc(), &folder)?)),
+        Some(folder) => Ok(Some(lock_in(rt, program, &folder)?)),
         None => Ok(None),
     }
 }
 
 /// Does what the words ask for, over the machine's files and outputs, under a lock if one was taken. Returns the status.
-fn work<E: Out>(
+fn work<W: Write + Drop, E: Out>(
     rt: &HostRuntime,
+    program: Program<'_, W>,
     called: CalledAs,
     words: &[String],
     lock: Option<File>,
@@ -43,8 +48,8 @@ fn work<E: Out>(
 ) -> Result<u8, StartError> {
     let mut out = buffered(rt.alloc(), io::writer(rt))?;
     let mut files = match lock {
-        Some(lock) => Machine::under(rt, lock),
-        None => Machine::new(rt),
+        Some(lock) => Machine::under(rt, program, lock),
+        None => Machine::new(rt, program),
     };
     let mut input = rt.reader();
     let status = run_tool(
@@ -67,8 +72,14 @@ fn run<E: Out>(rt: &HostRuntime, err: &mut Telling<E>) -> Result<u8, StartError>
     let args = words_of_call(rt)?;
     let called = called_as(&args);
     let words = words_called(args)?;
-    match named_lock(rt, &words) {
-        Ok(lock) => work(rt, called, &words, lock, err),
+    let stderr = rt.stderr();
+    let mut program = Program::new(
+        called.name(),
+        process::id(rt.process()),
+        io::writer(&stderr),
+    );
+    match named_lock(rt, &mut program, &words) {
+        Ok(lock) => work(rt, program, called, &words, lock, err),
         Err(LockError::Memory) => Err(StartError::Memory),
         Err(error) => {
             write_fault_of(err, called.name(), &error);
