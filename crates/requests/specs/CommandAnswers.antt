@@ -41,9 +41,9 @@ change_of config Input order = input_scripted config order
 
 -- what the value asks for, if it is neither a help text nor the version
 abbrev pub meaning_of : Ask → Option Asked
-meaning_of (Print config what order) =
+meaning_of (Print config what order one_copy) =
     Some (printing (string_bytes config) what.header (map string_bytes what.names.items) order)
-meaning_of (Setenv config change order) =
+meaning_of (Setenv config change order one_copy) =
     Some (change_of (string_bytes config) change order)
 meaning_of (Rehearse config list what order) =
     Some (rehearsing (string_bytes config) (string_bytes list) (asking_of what) order)

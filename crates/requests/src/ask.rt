@@ -40,6 +40,8 @@ pub enum Ask {
         what: PrintAsk,
         /// How the image's CRC is stored.
         order: ByteOrder,
+        /// Whether one copy of a pair is enough, if the other cannot be read.
+        one_copy: bool,
     },
     /// To set or delete variables.
     Setenv {
@@ -49,6 +51,8 @@ pub enum Ask {
         change: Change,
         /// How the image's CRC is stored.
         order: ByteOrder,
+        /// Whether one copy of a pair is enough, if the other cannot be read.
+        one_copy: bool,
     },
     /// To list the runs of a boot script.
     Rehearse {

@@ -161,6 +161,7 @@ fn print_ask(alloc: Global, matches: &ArgMatches<'_>) -> Result<Ask, UseError>
         config: config_of(alloc, matches)?,
         what,
         order: order_of(matches),
+        one_copy: false,
     })
 }
 
@@ -198,6 +199,7 @@ fn set_ask(alloc: Global, called: CalledAs, matches: &ArgMatches<'_>) -> Result<
         config: config_of(alloc, matches)?,
         change,
         order: order_of(matches),
+        one_copy: false,
     })
 }
 
