@@ -33,6 +33,9 @@ pub enum Fault {
     /// Standard input has more bytes than are read.
     #[error("standard input is too long")]
     InputTooLong,
+    /// The script on standard input ends inside this line, counted from 1: it lacks the newline.
+    #[error("Line {0} not correctly terminated")]
+    InputCutOff(usize),
     /// The variable to be rehearsed is not set.
     #[error("no variable {0}")]
     NoSuchVariable(WordForm),

@@ -34,8 +34,8 @@ ubtool_free = refl
 pub accepted_answer : (called : CalledAs) (words : List Text) (a : Option Asked) (r : Result Ask UseError) → IsAccepted ubtool words → a ≡ asked called words → Says a r → Answers called words r
 accepted_answer called words a (Ok (ask.Help text)) fine is says = absurd says
 accepted_answer called words a (Ok ask.Version) fine is says = absurd says
-accepted_answer called words a (Ok (ask.Print config what order)) fine is says = (fine, says ∙ is)
-accepted_answer called words a (Ok (ask.Setenv config change order)) fine is says = (fine, says ∙ is)
+accepted_answer called words a (Ok (ask.Print config what order one_copy)) fine is says = (fine, says ∙ is)
+accepted_answer called words a (Ok (ask.Setenv config change order one_copy)) fine is says = (fine, says ∙ is)
 accepted_answer called words a (Ok (ask.Rehearse config list what order)) fine is says = (fine, says ∙ is)
 accepted_answer called words a (Ok (ask.Endings config list what order)) fine is says = (fine, says ∙ is)
 accepted_answer called words a (Err LockNeedsFolder) fine is says = (fine, says ∙ is)
