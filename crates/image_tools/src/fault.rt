@@ -3,7 +3,7 @@
 use crate::error::ToolError;
 use crate::word_form::WordForm;
 use envimage::ConfigError;
-use locked_files::FileFault;
+use locked_files::{FileFault, LockFault};
 use thiserror::Error;
 
 /// Why the program gave up. The text is what it reports.
@@ -15,6 +15,9 @@ pub enum Fault {
     /// A call from bytes to bytes was refused, for a reason other than memory.
     #[error("{0}")]
     Tool(ToolError),
+    /// The lock is refused.
+    #[error("{0}")]
+    Lock(LockFault),
     /// The device failed while the file was read.
     #[error("cannot read {0}")]
     CannotRead(WordForm),
@@ -58,6 +61,17 @@ impl From<ToolError> for Fault {
             ToolError::Memory => Fault::Memory,
             error => Fault::Tool(error),
         }
+    }
+}
+
+impl From<LockFault> for Fault {
+    ghost use Rattle.std.specs.Prelude.{◌≡◌};
+    ghost use Rattle.image_tools.specs.declared.fault.Fault.TheVariants.{Lock};
+
+    ghost from_gives = { λ error fault. fault ≡ Lock error };
+
+    fn from(error: LockFault) -> Fault {
+        Fault::Lock(error)
     }
 }
 

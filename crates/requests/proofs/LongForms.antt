@@ -1,5 +1,5 @@
 -- Worked calls with long options and for the version, computed.
-use Rattle.std.proofs.Common.{◌≡◌, false, refl, List, [], ◌∷◌, None, codes}
+use Rattle.std.proofs.Common.{◌≡◌, true, false, refl, List, [], ◌∷◌, None, codes}
 use Rattle.clap.specs.Words.{Text, fault_of}
 use Rattle.clap.specs.declared.error.kind.ErrorKind.TheVariants.{DisplayVersion}
 use Rattle.clap.proofs.OnLiterals.{clap_on_literals}
