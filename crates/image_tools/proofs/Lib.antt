@@ -3,3 +3,4 @@ pub mod PrintingLemmas
 pub mod SettingLemmas
 pub mod ImageLemmas
 pub mod LineLemmas
+pub mod SpareLemmas
