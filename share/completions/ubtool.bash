@@ -55,8 +55,11 @@ _ubtool() {
             mapfile -t COMPREPLY < <(compgen -W 'printenv setenv rehearse endings' -- "$word")
             return
             ;;
-        *-printenv) options='-c --config --big-endian -l --lock -n --noheader -h --help -V --version' ;;
-        *-setenv) options='-c --config --big-endian -l --lock -s --script -h --help -V --version' ;;
+        *-printenv)
+            options='-c --config --big-endian -l --lock --one-copy -n --noheader -0 --null --escaped'
+            options+=' -h --help -V --version'
+            ;;
+        *-setenv) options='-c --config --big-endian -l --lock --one-copy -s --script -h --help -V --version' ;;
         *-rehearse)
             options='-c --config --big-endian -d --device-list -b --variable --devices --steps --word --failures --after --limit'
             options+=' -h --help -V --version'

@@ -46,11 +46,15 @@ _ubtool() {
             case $words[1] in
                 help) (( CURRENT != 2 )) || _describe -t commands command commands ;;
                 printenv)
-                    _arguments -S $common $lock '(-n --noheader)'{-n,--noheader}'[print the value alone]' \
+                    _arguments -S $common $lock '--one-copy[use one copy if the other cannot be read]' \
+                        '(-n --noheader)'{-n,--noheader}'[print the value alone]' \
+                        '(-0 --null)'{-0,--null}'[end each variable with a NUL byte]' \
+                        '--escaped[print each variable on one line]' \
                         '*: :_ubtool_names'
                     ;;
                 setenv)
-                    _arguments -S $common $lock '(-s --script)'{-s,--script}'[script of changes]:script:_files' \
+                    _arguments -S $common $lock '--one-copy[use one copy if the other cannot be read]' \
+                        '(-s --script)'{-s,--script}'[script of changes]:script:_files' \
                         '1: :_ubtool_names' '*:value: '
                     ;;
                 rehearse)

@@ -1,6 +1,6 @@
 //! An output that knows whether anything was written to it.
 ghost use Rattle.std.specs.Prelude.{◌≡◌, ◌≤◌, IfOk, false, length, true};
-ghost use Rattle.std.specs.Io.KnownBytes.{WriteAppends};
+ghost use Rattle.std.specs.Io.KnownBytes.{Keeps, WriteAppends};
 ghost use Rattle.output.specs.Sink.{failures_after};
 ghost use Rattle.file_tools.specs.TellingShown.{has_told, out_of};
 
@@ -52,5 +52,14 @@ impl<E: Out> Out for Telling<E> {
     {
         self.told = true;
         self.out.write(bytes)
+    }
+
+    fn pass_on(&mut self)
+        ensures taken { Keeps (E.sink (out_of self.old)).taken (E.sink (out_of self.new)).taken }
+        ensures failures { (E.sink (out_of self.new)).failures
+            ≡ (E.sink (out_of self.old)).failures }
+        ensures told { has_told self.new ≡ has_told self.old }
+    {
+        self.out.pass_on();
     }
 }

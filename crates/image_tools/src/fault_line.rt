@@ -92,9 +92,10 @@ fn write_line<O: Out, E: fmt::Display>(
 }
 
 /// Writes one line for a fault of a program, such as `ubtool: output failed`. If the output fails, the
-/// rest is left out.
+/// rest is left out. The device has the line before the call returns.
 pub fn write_fault_of<O: Out, E: fmt::Display>(err: &mut O, program: &str, fault: &E)
     ensures { TellsLine program.now (O.sink err.old) (O.sink err.new) }
 {
     let _ = write_line(err, program, fault);
+    err.pass_on();
 }

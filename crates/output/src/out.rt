@@ -1,6 +1,6 @@
 //! Where bytes are written to.
 ghost use Rattle.std.specs.Prelude.{◌≡◌, ◌≤◌, length, IfOk};
-ghost use Rattle.std.specs.Io.KnownBytes.{WriteAppends};
+ghost use Rattle.std.specs.Io.KnownBytes.{Keeps, WriteAppends};
 ghost use Rattle.output.specs.Sink.{Sink, failures_after};
 
 use thiserror::Error;
@@ -26,4 +26,10 @@ pub trait Out {
         ensures taken { WriteAppends (sink self.old).taken (sink self.new).taken result bytes.now }
         ensures failures { (sink self.new).failures
             ≡ failures_after result bytes.now (sink self.old).failures };
+
+    /// Has the device take what it was not given yet, so that it has it before what comes next is
+    /// done. A failure of this is met, and counted, by a later call.
+    fn pass_on(&mut self)
+        ensures taken { Keeps (sink self.old).taken (sink self.new).taken }
+        ensures failures { (sink self.new).failures ≡ (sink self.old).failures };
 }

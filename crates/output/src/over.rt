@@ -85,4 +85,8 @@ impl<W: Write> Out for Over<W> {
             }
         }
     }
+
+    fn pass_on(&mut self) {
+        let _ = self.writer.flush();
+    }
 }

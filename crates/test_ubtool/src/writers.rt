@@ -112,4 +112,6 @@ impl Out for Tested {
         }
         Ok(taken)
     }
+
+    fn pass_on(&mut self) {}
 }
