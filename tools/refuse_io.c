@@ -1,11 +1,14 @@
 /* Put before libc by LD_PRELOAD, this refuses one call on files, or lets each move one byte, and tells of each call.
- *   REFUSE_CALL=read|write|lseek|open|fsync|close, REFUSE_NUMBER=N: the Nth call of that kind, counted from 1, fails with
- *       the error REFUSE_ERROR=EIO|ENOSPC|EINTR|EINVAL. A close that is refused has closed the file.
+ *   REFUSE_CALL=read|write|lseek|open|fsync|close|flock|chmod|chown|rename|unlink, REFUSE_NUMBER=N: the Nth call of that
+ *       kind, counted from 1, fails with the error REFUSE_ERROR=EIO|ENOSPC|EINTR|EINVAL|EBUSY|EPERM. A close that is
+ *       refused has closed the file.
  *   MOVE_ONE=1: each read and write moves at most one byte.
  *   KILL_AFTER=N: behind N bytes that were written to files (no standard output) the process is ended by SIGKILL.
  *   TELL_CALLS=PATH: a line `KIND FILE` for each call in its order, and `refused KIND FILE` for the refused one. FILE is
- *       the path that was opened, with `<` for reading and `>` for writing before it, or the number of the descriptor.
- * So pwrite and pread, which are written on in `write` and `read`, fdatasync in `fsync` and openat in `open`. */
+ *       the path that was opened, with `<` for reading and `>` for writing before it, or the number of the descriptor; of
+ *       a rename the new path.
+ * So pwrite and pread, which are written on in `write` and `read`, fdatasync in `fsync`, openat in `open`, fchmod in
+ * `chmod` and fchown in `chown`. */
 #define _GNU_SOURCE
 #include <dlfcn.h>
 #include <errno.h>
@@ -26,7 +29,16 @@ static int refused_error, moves_one, tells = -1;
 static long left = -1;
 
 static int error_of(const char *name) {
-    return strcmp(name, "ENOSPC") == 0 ? ENOSPC : strcmp(name, "EINTR") == 0 ? EINTR : strcmp(name, "EINVAL") == 0 ? EINVAL : EIO;
+    static const struct {
+        const char *name;
+        int error;
+    } errors[] = {{"ENOSPC", ENOSPC}, {"EINTR", EINTR}, {"EINVAL", EINVAL}, {"EBUSY", EBUSY}, {"EPERM", EPERM}};
+    for (size_t i = 0; i < sizeof errors / sizeof *errors; i++) {
+        if (strcmp(name, errors[i].name) == 0) {
+            return errors[i].error;
+        }
+    }
+    return EIO;
 }
 
 __attribute__((constructor)) static void prepare(void) {
@@ -165,6 +177,26 @@ int fsync(int file) {
 
 int fdatasync(int file) {
     return is_refused("fsync", name_of(file)) ? -1 : (int)syscall(SYS_fdatasync, file);
+}
+
+int flock(int file, int how) {
+    return is_refused("flock", name_of(file)) ? -1 : (int)syscall(SYS_flock, file, how);
+}
+
+int fchmod(int file, mode_t mode) {
+    return is_refused("chmod", name_of(file)) ? -1 : (int)syscall(SYS_fchmod, file, mode);
+}
+
+int fchown(int file, uid_t owner, gid_t group) {
+    return is_refused("chown", name_of(file)) ? -1 : (int)syscall(SYS_fchown, file, owner, group);
+}
+
+int rename(const char *from, const char *to) {
+    return is_refused("rename", to) ? -1 : (int)syscall(SYS_renameat2, AT_FDCWD, from, AT_FDCWD, to, 0);
+}
+
+int unlink(const char *path) {
+    return is_refused("unlink", path) ? -1 : (int)syscall(SYS_unlinkat, AT_FDCWD, path, 0);
 }
 
 int close(int file) {
