@@ -5,3 +5,4 @@ pub mod SetLemmas
 pub mod InputLemmas
 pub mod RunLemmas
 pub mod SourceLemmas
+mod InputExamples

@@ -37,6 +37,7 @@ prints-unread order config names header outputs old new (fault.FileShort path) h
 prints-unread order config names header outputs old new (fault.FileTooLong path) h = h
 prints-unread order config names header outputs old new fault.CannotReadInput h = h
 prints-unread order config names header outputs old new fault.InputTooLong h = h
+prints-unread order config names header outputs old new (fault.InputCutOff line) h = h
 prints-unread order config names header outputs old new (fault.NoSuchVariable name) h = h
 prints-unread order config names header outputs old new (fault.NotARun word) h = h
 prints-unread order config names header outputs old new fault.Memory h = h
@@ -58,6 +59,7 @@ prints-read order config names header outputs old new found (Err (fault.FileShor
 prints-read order config names header outputs old new found (Err (fault.FileTooLong path)) read h = absurd h
 prints-read order config names header outputs old new found (Err fault.CannotReadInput) read h = absurd h
 prints-read order config names header outputs old new found (Err fault.InputTooLong) read h = absurd h
+prints-read order config names header outputs old new found (Err (fault.InputCutOff line)) read h = absurd h
 prints-read order config names header outputs old new found (Err (fault.NoSuchVariable name)) read h = absurd h
 prints-read order config names header outputs old new found (Err (fault.NotARun word)) read h = absurd h
 prints-read order config names header outputs old new found (Err fault.Memory) read h = (found-reads config old new found read, tt)

@@ -57,6 +57,7 @@ sets-unread input order config change old new (fault.FileShort path) h = (h.0, i
 sets-unread input order config change old new (fault.FileTooLong path) h = (h.0, inl h.1)
 sets-unread input order config change old new fault.CannotReadInput h = (h.0, inl h.1)
 sets-unread input order config change old new fault.InputTooLong h = (h.0, inl h.1)
+sets-unread input order config change old new (fault.InputCutOff line) h = (h.0, inl h.1)
 sets-unread input order config change old new (fault.NoSuchVariable name) h = (h.0, inl h.1)
 sets-unread input order config change old new (fault.NotARun word) h = (h.0, inl h.1)
 sets-unread input order config change old new fault.Memory h = (h.0, tt)
@@ -72,6 +73,7 @@ sets-refused input order config change found x y z (fault.FileShort path) read h
 sets-refused input order config change found x y z (fault.FileTooLong path) read h = let c = refused-change input order config change found x y z (fault.FileTooLong path) read h in (c.0, inr c.1)
 sets-refused input order config change found x y z fault.CannotReadInput read h = let c = refused-change input order config change found x y z fault.CannotReadInput read h in (c.0, inr c.1)
 sets-refused input order config change found x y z fault.InputTooLong read h = let c = refused-change input order config change found x y z fault.InputTooLong read h in (c.0, inr c.1)
+sets-refused input order config change found x y z (fault.InputCutOff line) read h = let c = refused-change input order config change found x y z (fault.InputCutOff line) read h in (c.0, inr c.1)
 sets-refused input order config change found x y z (fault.NoSuchVariable name) read h = let c = refused-change input order config change found x y z (fault.NoSuchVariable name) read h in (c.0, inr c.1)
 sets-refused input order config change found x y z (fault.NotARun word) read h = let c = refused-change input order config change found x y z (fault.NotARun word) read h in (c.0, inr c.1)
 sets-refused input order config change found x y z fault.Memory read h = (OnlyReads-then x y z (found-reads config x y found read) h.0, tt)
@@ -107,5 +109,6 @@ sets-written input order config change found which bytes x y z w (Err (fault.Fil
 sets-written input order config change found which bytes x y z w (Err (fault.FileTooLong path)) read made h = absurd h
 sets-written input order config change found which bytes x y z w (Err fault.CannotReadInput) read made h = absurd h
 sets-written input order config change found which bytes x y z w (Err fault.InputTooLong) read made h = absurd h
+sets-written input order config change found which bytes x y z w (Err (fault.InputCutOff line)) read made h = absurd h
 sets-written input order config change found which bytes x y z w (Err (fault.NoSuchVariable name)) read made h = absurd h
 sets-written input order config change found which bytes x y z w (Err (fault.NotARun word)) read made h = absurd h

@@ -3,7 +3,7 @@
 ghost use Rattle.std.specs.Prelude.{◌≡◌, IfErr, IfOk, string_bytes};
 ghost use Rattle.locked_files.specs.Told.{IfTold};
 ghost use Rattle.file_tools.specs.Faults.{CountsTold, IsReadFault};
-ghost use Rattle.file_tools.specs.ReadingFiles.{ReadsCopy, ReadsInput, ReadsText};
+ghost use Rattle.file_tools.specs.ReadingFiles.{ReadsCopy, ReadsInput, ReadsText, cut_off_line};
 
 use envimage::Place;
 use image_tools::Fault;
@@ -34,7 +34,21 @@ pub fn read_text<F: Files>(alloc: Global, files: &mut F, path: String) -> Result
     }
 }
 
-/// Reads the whole text on an input, of at most `LIMIT` bytes. Reads at most one byte after them.
+/// The number of the line that ends without its newline, if there is one: the last line, counted
+/// from 1. An empty text has none.
+fn cut_off_line(text: &[u8]) -> Option<usize>
+    ensures { result ≡ cut_off_line text.now }
+{
+    match text.last() {
+        None | Some(b'\n') => None,
+        Some(_) => Some(text.iter().filter(|byte| **byte == b'\n').count() + 1),
+    }
+}
+
+/// Reads the whole text on an input, of at most `LIMIT` bytes. Reads at most one byte after them. A
+/// text whose last line lacks its newline is refused: more of it may have been meant to come.
+///
+/// Refusals in order: `CannotReadInput` or `Memory`, `InputTooLong`, `InputCutOff`.
 pub fn read_input<R: Read>(alloc: Global, input: &mut R) -> Result<Vec<u8>, Fault>
     ensures { ReadsInput (R.remaining input.old) result }
 {
@@ -46,7 +60,10 @@ pub fn read_input<R: Read>(alloc: Global, input: &mut R) -> Result<Vec<u8>, Faul
     if text.len() > LIMIT {
         return Err(Fault::InputTooLong);
     }
-    Ok(text)
+    match cut_off_line(&text) {
+        Some(line) => Err(Fault::InputCutOff(line)),
+        None => Ok(text),
+    }
 }
 
 /// Reads the copy at a place.
