@@ -3,6 +3,7 @@
 ghost use Rattle.std.specs.Prelude.{◌≡◌, IfErr, IfOk, string_bytes};
 ghost use Rattle.locked_files.specs.Told.{IfTold};
 ghost use Rattle.file_tools.specs.Faults.{CountsTold, IsReadFault};
+ghost use Rattle.file_tools.specs.OneCopy.{CountsSought, IsSoughtFault, SeeksCopy};
 ghost use Rattle.file_tools.specs.ReadingFiles.{ReadsCopy, ReadsInput, ReadsText, cut_off_line};
 
 use envimage::Place;
@@ -63,6 +64,40 @@ pub fn read_input<R: Read>(alloc: Global, input: &mut R) -> Result<Vec<u8>, Faul
     match cut_off_line(&text) {
         Some(line) => Err(Fault::InputCutOff(line)),
         None => Ok(text),
+    }
+}
+
+/// What became of a copy that may be lost.
+#[derive(Debug, Drop)]
+pub enum SoughtCopy {
+    /// It was read.
+    Read(StoredCopy),
+    /// It is lost: its place, and why.
+    Lost(Place, Fault),
+}
+
+/// Reads the copy at a place, or finds it lost: it cannot be read, or its file ends before it does.
+/// Errors: `Memory`.
+pub(crate) fn seek_copy<F: Files>(
+    alloc: Global,
+    files: &mut F,
+    place: Place,
+) -> Result<SoughtCopy, Fault>
+    ensures count { CountsSought (F.faults files.old) (F.faults files.new) result }
+    ensures lock { F.locked files.new ≡ F.locked files.old }
+    ensures fault { IsSoughtFault result }
+    ensures told { IfTold (F.told files.old) (F.told files.new)
+        (λ old new. SeeksCopy place old new result) }
+{
+    let Ok(path) = place.device.clone() else {
+        return Err(Fault::Memory);
+    };
+    match files.read_at(alloc, &path, place.offset, place.size) {
+        Ok(bytes) => Ok(SoughtCopy::Read(StoredCopy { place, bytes })),
+        Err(fault) => match Fault::of_read(path, fault) {
+            Fault::Memory => Err(Fault::Memory),
+            fault => Ok(SoughtCopy::Lost(place, fault)),
+        },
     }
 }
 
