@@ -1,19 +1,20 @@
 -- Printing what was read.
-use Rattle.std.proofs.Common.{◌≡◌, ℕ, Bool, List, Option, Some, None, Ok, Err, refl}
+use Rattle.std.proofs.Common.{◌≡◌, ℕ, Bool, List, Option, Some, None, Ok, Err, inl, inr, refl}
 use Rattle.std.specs.Prelude.{Result, option_map}
 use Rattle.envimage.specs.declared.image.ByteOrder.{ByteOrder}
 use Rattle.image_tools.specs.Errors.{tool_fault}
 use Rattle.image_tools.specs.PrintingImages.{Prints}
-use Rattle.output.specs.Outputs.{Outputs}
+use Rattle.output.specs.Outputs.{AreUnchanged, Outputs}
+use Rattle.output.specs.Sink.{Sink}
 use Rattle.locked_files.specs.Told.{Told}
 use Rattle.image_tools.specs.declared.error.ToolError.{ToolError}
 use Rattle.image_tools.specs.declared.error.ToolError.TheVariants.{Image, Env, Script, Rehearsal, Write, Memory}
 use Rattle.image_tools.specs.declared.fault.Fault.{Fault}
-use Rattle.image_tools.specs.declared.fault.Fault.TheVariants as fault
-use Rattle.file_tools.proofs.ReadingLemmas.{found-reads}
-use Rattle.file_tools.specs.Images.{Copy, HasRead, ReadsImages, copies}
+use Rattle.file_tools.specs.Images.{Copy, copies}
+use Rattle.file_tools.specs.OneCopy.{FindsImages}
 use Rattle.file_tools.specs.PrintingFiles.{PrintsCopies, PrintsFrom, environment, second_bytes}
 use Rattle.file_tools.specs.declared.images.Images.{Images}
+use Rattle.file_tools.specs.declared.one_copy.ImageSource.{ImageSource}
 use Rattle.file_tools.specs.declared.read.StoredCopy.{StoredCopy}
 
 -- a refusal of printing, reported as a fault
@@ -27,40 +28,15 @@ copies-refused order found names header outputs (Script error) h = absurd h
 copies-refused order found names header outputs (Rehearsal error) h = absurd h
 
 -- images that were refused
-pub prints-unread : (order : ByteOrder) (config : List ℕ) (names : List (List ℕ)) (header : Bool) (outputs : Outputs) (old new : Told) (f : Fault) → ReadsImages config old new (Err f)
-    → PrintsFrom order config names header outputs old new (Err f)
-prints-unread order config names header outputs old new (fault.Config error) h = h
-prints-unread order config names header outputs old new (fault.Tool error) h = absurd h.1
-prints-unread order config names header outputs old new (fault.CannotRead path) h = h
-prints-unread order config names header outputs old new (fault.CannotWrite path) h = h
-prints-unread order config names header outputs old new (fault.FileShort path) h = h
-prints-unread order config names header outputs old new (fault.FileTooLong path) h = h
-prints-unread order config names header outputs old new fault.CannotReadInput h = h
-prints-unread order config names header outputs old new fault.InputTooLong h = h
-prints-unread order config names header outputs old new (fault.NoSuchVariable name) h = h
-prints-unread order config names header outputs old new (fault.NotARun word) h = h
-prints-unread order config names header outputs old new fault.Memory h = h
+pub prints-unread : (program : List ℕ) (source : ImageSource) (names : List (List ℕ)) (header : Bool) (s : Outputs) (old new : Told) (f : Fault)
+    → FindsImages program source s.err s.err' old new (Err f) → AreUnchanged s → PrintsFrom program source names header s old new (Err f)
+prints-unread program source names header s old new f h same = inr (h.0, h.1, same)
 
 -- what reading and then printing did
-pub prints-read : (order : ByteOrder) (config : List ℕ) (names : List (List ℕ)) (header : Bool) (outputs : Outputs) (old new : Told) (found : List Copy) (r : Result Bool Fault)
-    → HasRead config old new found → PrintsCopies order found names header outputs r → PrintsFrom order config names header outputs old new r
-prints-read order config names header outputs old new found (Ok all) read h = record { found = found; read = read; so = h }
-prints-read order config names header outputs old new found (Err (fault.Tool (Image error))) read h = record { found = found; read = read; so = h.0 }
-prints-read order config names header outputs old new found (Err (fault.Tool Write)) read h = record { found = found; read = read; so = h }
-prints-read order config names header outputs old new found (Err (fault.Tool Memory)) read h = absurd h
-prints-read order config names header outputs old new found (Err (fault.Tool (Env error))) read h = absurd h
-prints-read order config names header outputs old new found (Err (fault.Tool (Script error))) read h = absurd h
-prints-read order config names header outputs old new found (Err (fault.Tool (Rehearsal error))) read h = absurd h
-prints-read order config names header outputs old new found (Err (fault.Config error)) read h = absurd h
-prints-read order config names header outputs old new found (Err (fault.CannotRead path)) read h = absurd h
-prints-read order config names header outputs old new found (Err (fault.CannotWrite path)) read h = absurd h
-prints-read order config names header outputs old new found (Err (fault.FileShort path)) read h = absurd h
-prints-read order config names header outputs old new found (Err (fault.FileTooLong path)) read h = absurd h
-prints-read order config names header outputs old new found (Err fault.CannotReadInput) read h = absurd h
-prints-read order config names header outputs old new found (Err fault.InputTooLong) read h = absurd h
-prints-read order config names header outputs old new found (Err (fault.NoSuchVariable name)) read h = absurd h
-prints-read order config names header outputs old new found (Err (fault.NotARun word)) read h = absurd h
-prints-read order config names header outputs old new found (Err fault.Memory) read h = (found-reads config old new found read, tt)
+pub prints-read : (program : List ℕ) (source : ImageSource) (names : List (List ℕ)) (header : Bool) (s : Outputs) (noted : Sink) (old new : Told) (images : Images) (r : Result Bool Fault)
+    → FindsImages program source s.err noted old new (Ok images) → PrintsCopies source.order (copies images) names header (record s { err = noted }) r
+    → PrintsFrom program source names header s old new r
+prints-read program source names header s noted old new images r read h = inl (record { found = copies images; noted = noted; read = read; so = h })
 
 -- the bytes of the images that were read
 pub image-bytes : (images : Images) → second_bytes (copies images) ≡ option_map (λ copy. copy.bytes.items) images.second

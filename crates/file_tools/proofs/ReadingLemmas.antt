@@ -5,7 +5,7 @@ use Rattle.std.specs.declared.alloc.Global.{Global}
 use Rattle.envimage.specs.Config.{PlaceShown, places}
 use Rattle.envimage.specs.Place.{place_shown}
 use Rattle.envimage.specs.declared.config.Place.{Place}
-use Rattle.locked_files.proofs.OrderLemmas.{OnlyReads-one, OnlyReads-part, OnlyReads-then, OnlyReads-whole}
+use Rattle.locked_files.proofs.OrderLemmas.{OnlyReads-none, OnlyReads-one, OnlyReads-part, OnlyReads-then, OnlyReads-whole}
 use Rattle.locked_files.specs.CallOrder.{OnlyReads, are_reads}
 use Rattle.locked_files.specs.Told.{IfTold, ReadsAll, ReadsAt, Told, Stored, file_at}
 use Rattle.image_tools.specs.FileFaults.{IsPathOf, read_fault}
@@ -16,7 +16,7 @@ use Rattle.locked_files.specs.declared.files.FileFault.TheVariants.{Failed, Shor
 use Rattle.image_tools.specs.declared.word_form.WordForm.{WordForm}
 use Rattle.locked_files.specs.declared.files.Action.{Action}
 use Rattle.locked_files.specs.declared.files.Action.TheVariants.{ReadAll}
-use Rattle.file_tools.specs.Images.{Copy, HasRead, Names, ReadsImages, ReadsSecond, OfSome, copies, copy_of, second_place}
+use Rattle.file_tools.specs.Images.{Copy, HasRead, Names, NamesPlaces, ReadsImages, ReadsPlaces, ReadsSecond, OfSome, copies, copy_of, second_place}
 use Rattle.file_tools.specs.ReadingFiles.{IsShort, Reads, ReadsCopy, ReadsText, bytes_at, read_of}
 use Rattle.file_tools.specs.declared.read.StoredCopy.{StoredCopy}
 
@@ -56,23 +56,30 @@ IfTold-weaker (Some x) (Some y) weaker h = weaker x y h
 
 -- ---- all of them together
 
-single-read : (config text : List ℕ) (x : Copy) (a b c : Told) → Reads (config, ReadAll) (file_at config a.stored) a b text → places text ≡ Ok (x.0 ∷ [])
-    → Reads (read_of x.0) (bytes_at x.0 b.stored) b c x.1 → HasRead config a c (x ∷ [])
-single-read config text x a b c first named second = record {
-  text = text;
-  there = first.found;
-  named = named;
+-- the places that a configuration names
+pub places-read : (config text : List ℕ) (named : Place × Option Place) (a b : Told) → Reads (config, ReadAll) (file_at config a.stored) a b text → Names (places text) (Ok named)
+    → ReadsPlaces config a b (Ok named)
+places-read config text named a b read is = record { text = text; there = read.found; names = is; calls = read.calls; stored = read.stored }
+
+pub named-reads : (config : List ℕ) (a b : Told) (named : List PlaceShown) → NamesPlaces config a b named → OnlyReads a b
+named-reads config a b named h = OnlyReads-one config ReadAll a b refl h.calls h.stored
+
+single-read : (config : List ℕ) (x : Copy) (a b c : Told) → NamesPlaces config a b (x.0 ∷ []) → Reads (read_of x.0) (bytes_at x.0 b.stored) b c x.1 → HasRead config a c (x ∷ [])
+single-read config x a b c first second = record {
+  text = first.text;
+  there = first.there;
+  named = first.names;
   bytes = ap (λ (o : Option (List ℕ)). o ∷ []) (sym (ap (λ (s : Stored). bytes_at x.0 s) first.stored) ∙ second.found);
   calls = second.calls ∙ ap (λ (cs : List (List ℕ × Action)). cs ++ read_of x.0 ∷ []) first.calls ∙ append_assoc a.calls ((config, ReadAll) ∷ []) (read_of x.0 ∷ []);
   stored = second.stored ∙ first.stored;
 }
 
-pair-read : (config text : List ℕ) (x y : Copy) (a b c d : Told) → Reads (config, ReadAll) (file_at config a.stored) a b text → places text ≡ Ok (x.0 ∷ y.0 ∷ [])
-    → Reads (read_of x.0) (bytes_at x.0 b.stored) b c x.1 → Reads (read_of y.0) (bytes_at y.0 c.stored) c d y.1 → HasRead config a d (x ∷ y ∷ [])
-pair-read config text x y a b c d first named second third = record {
-  text = text;
-  there = first.found;
-  named = named;
+pair-read : (config : List ℕ) (x y : Copy) (a b c d : Told) → NamesPlaces config a b (x.0 ∷ y.0 ∷ []) → Reads (read_of x.0) (bytes_at x.0 b.stored) b c x.1
+    → Reads (read_of y.0) (bytes_at y.0 c.stored) c d y.1 → HasRead config a d (x ∷ y ∷ [])
+pair-read config x y a b c d first second third = record {
+  text = first.text;
+  there = first.there;
+  named = first.names;
   bytes =
       let e : bytes_at x.0 a.stored ≡ Some x.1 = sym (ap (λ (s : Stored). bytes_at x.0 s) first.stored) ∙ second.found in
       let f : bytes_at y.0 a.stored ≡ Some y.1 = sym (ap (λ (s : Stored). bytes_at y.0 s) (second.stored ∙ first.stored)) ∙ third.found in
@@ -83,16 +90,15 @@ pair-read config text x y a b c d first named second third = record {
 }
 
 -- the text of the configuration, the first copy, and the second if there is one
-pub images-read : (config text : List ℕ) (p : Place) (q : Option Place) (x : StoredCopy) (y : Option StoredCopy) (a b c d : Told)
-    → Reads (config, ReadAll) (file_at config a.stored) a b text → places text ≡ Ok (place_shown p ∷ second_place q) → x.place ≡ p
-    → ReadsCopy p b c (Ok x) → ReadsSecond q c d (Ok y) → HasRead config a d (copies (record { first = x; second = y }))
-images-read config text p None x None a b c d first named place second third =
+pub images-read : (config : List ℕ) (p : Place) (q : Option Place) (x : StoredCopy) (y : Option StoredCopy) (a b c d : Told)
+    → ReadsPlaces config a b (Ok (p, q)) → x.place ≡ p → ReadsCopy p b c (Ok x) → ReadsSecond q c d (Ok y) → HasRead config a d (copies (record { first = x; second = y }))
+images-read config p None x None a b c d first place second third =
     subst (λ (t : Told). HasRead config a t (copy_of x ∷ [])) (sym third)
-    (single-read config text (copy_of x) a b c first (rw place named) (rw place second))
-images-read config text p (Some q) x (Some y) a b c d first named place second third =
-    pair-read config text (copy_of x) (copy_of y) a b c d first (rw (place, third.0) named) (rw place second) (rw third.0 third.1)
-images-read config text p None x (Some y) a b c d first named place second third = absurd third
-images-read config text p (Some q) x None a b c d first named place second third = absurd third
+    (single-read config (copy_of x) a b c (rw place first) (rw place second))
+images-read config p (Some q) x (Some y) a b c d first place second third =
+    pair-read config (copy_of x) (copy_of y) a b c d (rw (place, third.0) first) (rw place second) (rw third.0 third.1)
+images-read config p None x (Some y) a b c d first place second third = absurd third
+images-read config p (Some q) x None a b c d first place second third = absurd third
 
 -- ---- refusals
 
@@ -111,60 +117,50 @@ copy-refused place form old new TooLong is h = absurd h.part
 copy-refused place form old new Memory is h = (OnlyReads-part (place_shown place).device (place_shown place).offset (place_shown place).size old new (Err Memory) h, tt)
 
 -- the refusal of the configuration's file
-pub images-unread : (config : List ℕ) (old new : Told) (f : Fault) → ReadsText config old new (Err f) → ReadsImages config old new (Err f)
-images-unread config old new (fault.Config error) h = absurd h.1
-images-unread config old new (fault.Tool error) h = absurd h.1
-images-unread config old new (fault.CannotRead path) h = (h.0, inl h.1)
-images-unread config old new (fault.CannotWrite path) h = absurd h.1
-images-unread config old new (fault.FileShort path) h = absurd h.1
-images-unread config old new (fault.FileTooLong path) h = h
-images-unread config old new fault.CannotReadInput h = absurd h.1
-images-unread config old new fault.InputTooLong h = absurd h.1
-images-unread config old new (fault.NoSuchVariable name) h = absurd h.1
-images-unread config old new (fault.NotARun word) h = absurd h.1
-images-unread config old new fault.Memory h = h
+pub places-unread : (config : List ℕ) (old new : Told) (f : Fault) → ReadsText config old new (Err f) → ReadsPlaces config old new (Err f)
+places-unread config old new (fault.Config error) h = absurd h.1
+places-unread config old new f h = h
 
 -- the refusal of what the configuration says
-pub images-unnamed : (config text : List ℕ) (old new : Told) (f : Fault) → Reads (config, ReadAll) (file_at config old.stored) old new text → Names (places text) (Err f)
-    → ReadsImages config old new (Err f)
-images-unnamed config text old new (fault.Config error) read h = (OnlyReads-one config ReadAll old new refl read.calls read.stored, record { text = text; there = read.found; says = h })
-images-unnamed config text old new (fault.Tool error) read h = absurd h
-images-unnamed config text old new (fault.CannotRead path) read h = absurd h
-images-unnamed config text old new (fault.CannotWrite path) read h = absurd h
-images-unnamed config text old new (fault.FileShort path) read h = absurd h
-images-unnamed config text old new (fault.FileTooLong path) read h = absurd h
-images-unnamed config text old new fault.CannotReadInput read h = absurd h
-images-unnamed config text old new fault.InputTooLong read h = absurd h
-images-unnamed config text old new (fault.NoSuchVariable name) read h = absurd h
-images-unnamed config text old new (fault.NotARun word) read h = absurd h
-images-unnamed config text old new fault.Memory read h = absurd h
+pub places-unnamed : (config text : List ℕ) (old new : Told) (f : Fault) → Reads (config, ReadAll) (file_at config old.stored) old new text → Names (places text) (Err f)
+    → ReadsPlaces config old new (Err f)
+places-unnamed config text old new (fault.Config error) read h = (OnlyReads-one config ReadAll old new refl read.calls read.stored, record { text = text; there = read.found; says = h })
+places-unnamed config text old new f read h = absurd h
+
+-- what a configuration's text says
+pub places-told : (config text : List ℕ) (old new : Told) (r : Result (Place × Option Place) Fault) → Reads (config, ReadAll) (file_at config old.stored) old new text → Names (places text) r
+    → ReadsPlaces config old new r
+places-told config text old new (Ok named) read h = places-read config text named old new read h
+places-told config text old new (Err f) read h = places-unnamed config text old new f read h
+
+-- the images of a configuration that was refused
+pub images-unread : (config : List ℕ) (old new : Told) (f : Fault) → ReadsPlaces config old new (Err f) → ReadsImages config old new (Err f)
+images-unread config old new (fault.Config error) h = h
+images-unread config old new (fault.CannotRead path) h = (h.0, inl h.1)
+images-unread config old new (fault.FileTooLong path) h = h
+images-unread config old new fault.Memory h = h
+images-unread config old new f h = absurd h.1
 
 -- the refusal of a copy, after other reads; `named` are the places, and this is one of them
-copy-unread : (config text : List ℕ) (place : Place) (named : List PlaceShown) (a b c : Told) (f : Fault) → OnlyReads a b → file_at config a.stored ≡ Some text → places text ≡ Ok named
-    → ((IsSo : PlaceShown → Type 0) → IsSo (place_shown place) → OfSome IsSo named) → ReadsCopy place b c (Err f) → ReadsImages config a c (Err f)
-copy-unread config text place named a b c (fault.Config error) reads there is among h = absurd h.1
-copy-unread config text place named a b c (fault.Tool error) reads there is among h = absurd h.1
-copy-unread config text place named a b c (fault.CannotRead told) reads there is among h =
-    (OnlyReads-then a b c reads h.0, inr (record { text = text; there = there; says = (named, is, among (λ p. IsPathOf told p.device) h.1) }))
-copy-unread config text place named a b c (fault.CannotWrite path) reads there is among h = absurd h.1
-copy-unread config text place named a b c (fault.FileShort told) reads there is among h =
-    let short : IsShort a.stored (place_shown place) = subst (λ (s : Stored). IsShort s (place_shown place)) reads.stored h.1.1 in
-    (OnlyReads-then a b c reads h.0, record { text = text; there = there; says = (named, is, among (λ p. IsPathOf told p.device × IsShort a.stored p) (h.1.0, short)) })
-copy-unread config text place named a b c (fault.FileTooLong path) reads there is among h = absurd h.1
-copy-unread config text place named a b c fault.CannotReadInput reads there is among h = absurd h.1
-copy-unread config text place named a b c fault.InputTooLong reads there is among h = absurd h.1
-copy-unread config text place named a b c (fault.NoSuchVariable name) reads there is among h = absurd h.1
-copy-unread config text place named a b c (fault.NotARun word) reads there is among h = absurd h.1
-copy-unread config text place named a b c fault.Memory reads there is among h = (OnlyReads-then a b c reads h.0, tt)
+copy-unread : (config : List ℕ) (place : Place) (named : List PlaceShown) (a b c d : Told) (f : Fault) → NamesPlaces config a b named → OnlyReads b c
+    → ((IsSo : PlaceShown → Type 0) → IsSo (place_shown place) → OfSome IsSo named) → ReadsCopy place c d (Err f) → ReadsImages config a d (Err f)
+copy-unread config place named a b c d (fault.CannotRead told) first reads among h =
+    let all = OnlyReads-then a b c (named-reads config a b named first) reads in
+    (OnlyReads-then a c d all h.0, inr (record { text = first.text; there = first.there; says = (named, first.names, among (λ p. IsPathOf told p.device) h.1) }))
+copy-unread config place named a b c d (fault.FileShort told) first reads among h =
+    let all = OnlyReads-then a b c (named-reads config a b named first) reads in
+    let short : IsShort a.stored (place_shown place) = subst (λ (s : Stored). IsShort s (place_shown place)) all.stored h.1.1 in
+    (OnlyReads-then a c d all h.0, record { text = first.text; there = first.there; says = (named, first.names, among (λ p. IsPathOf told p.device × IsShort a.stored p) (h.1.0, short)) })
+copy-unread config place named a b c d fault.Memory first reads among h =
+    (OnlyReads-then a c d (OnlyReads-then a b c (named-reads config a b named first) reads) h.0, tt)
+copy-unread config place named a b c d f first reads among h = absurd h.1
 
-pub first-unread : (config text : List ℕ) (p : Place) (q : Option Place) (a b c : Told) (f : Fault) → Reads (config, ReadAll) (file_at config a.stored) a b text
-    → places text ≡ Ok (place_shown p ∷ second_place q) → ReadsCopy p b c (Err f) → ReadsImages config a c (Err f)
-first-unread config text p q a b c f read is h =
-    copy-unread config text p (place_shown p ∷ second_place q) a b c f (OnlyReads-one config ReadAll a b refl read.calls read.stored) read.found is (λ P so. inl so) h
+pub first-unread : (config : List ℕ) (p : Place) (q : Option Place) (a b c : Told) (f : Fault) → ReadsPlaces config a b (Ok (p, q)) → ReadsCopy p b c (Err f) → ReadsImages config a c (Err f)
+first-unread config p q a b c f first h =
+    copy-unread config p (place_shown p ∷ second_place q) a b b c f first (OnlyReads-none b) (λ P so. inl so) h
 
-pub second-unread : (config text : List ℕ) (p : Place) (q : Option Place) (x : StoredCopy) (a b c d : Told) (f : Fault) → Reads (config, ReadAll) (file_at config a.stored) a b text
-    → places text ≡ Ok (place_shown p ∷ second_place q) → ReadsCopy p b c (Ok x) → ReadsSecond q c d (Err f) → ReadsImages config a d (Err f)
-second-unread config text p None x a b c d f read is first h = absurd h
-second-unread config text p (Some q) x a b c d f read is first h =
-    let reads = OnlyReads-then a b c (OnlyReads-one config ReadAll a b refl read.calls read.stored) (copy-reads p b c (Ok x) first) in
-    copy-unread config text q (place_shown p ∷ place_shown q ∷ []) a c d f reads read.found is (λ P so. inr (inl so)) h
+pub second-unread : (config : List ℕ) (p : Place) (q : Option Place) (x : StoredCopy) (a b c d : Told) (f : Fault) → ReadsPlaces config a b (Ok (p, q)) → ReadsCopy p b c (Ok x)
+    → ReadsSecond q c d (Err f) → ReadsImages config a d (Err f)
+second-unread config p None x a b c d f first second h = absurd h
+second-unread config p (Some q) x a b c d f first second h =
+    copy-unread config q (place_shown p ∷ place_shown q ∷ []) a b c d f first (copy-reads p b c (Ok x) second) (λ P so. inr (inl so)) h

@@ -1,27 +1,34 @@
 -- Reading, changing and writing one after another.
-use Rattle.std.proofs.Common.{◌≡◌, ◌∙◌, ℕ, true, refl, sym, subst, List, [], Option, Ok, Err, inl, inr, append-nil}
-use Rattle.std.specs.Prelude.{Result, Vec}
+use Rattle.std.proofs.Common.{◌≡◌, ◌∙◌, ℕ, Bool, true, false, refl, sym, subst, List, [], Option, Ok, Err, inl, inr, append-nil}
+use Rattle.std.specs.Prelude.{IfErr, Result, Vec, string_bytes}
 use Rattle.std.specs.declared.alloc.Global.{Global}
+use Rattle.envimage.specs.Config.{PlaceShown}
 use Rattle.envimage.specs.declared.image.ByteOrder.{ByteOrder}
 use Rattle.envimage.specs.declared.image.Which.{Which}
 use Rattle.requests.specs.declared.ask.Change.{Change}
 use Rattle.requests.specs.declared.ask.Change.TheVariants.{Input, One, Script}
+use Rattle.output.specs.Sink.{Sink}
 use Rattle.locked_files.proofs.OrderLemmas.{OnlyReads-then}
-use Rattle.image_tools.proofs.SettingLemmas.{set-safe}
 use Rattle.locked_files.specs.CallOrder.{OnlyReads, are_reads}
-use Rattle.image_tools.specs.ChangingImages.{IsSafe}
 use Rattle.locked_files.specs.Told.{Stored, Told, WritesAt}
 use Rattle.locked_files.specs.declared.files.FileFault.{FileFault}
 use Rattle.locked_files.specs.declared.files.FileFault.TheVariants as file
-use Rattle.envimage.specs.Config.{PlaceShown}
+use Rattle.image_tools.proofs.SettingLemmas.{set-safe}
+use Rattle.image_tools.specs.ChangingImages.{IsSafe}
 use Rattle.image_tools.specs.FileFaults.{IsPathOf, written_fault}
 use Rattle.image_tools.specs.declared.fault.Fault.{Fault}
 use Rattle.image_tools.specs.declared.fault.Fault.TheVariants as fault
 use Rattle.image_tools.specs.declared.word_form.WordForm.{WordForm}
-use Rattle.file_tools.proofs.ReadingLemmas.{found-reads}
-use Rattle.file_tools.specs.Images.{Copy, HasRead, ReadsImages}
+use Rattle.file_tools.proofs.OneCopyLemmas.{source-reads}
+use Rattle.file_tools.proofs.SpareLemmas.{over-lost}
+use Rattle.file_tools.specs.Faults.{IsReadFault, IsWriteFault}
+use Rattle.file_tools.specs.Images.{Copy}
+use Rattle.file_tools.specs.Notes.{MayTell, TellsIf, TellsNotes}
+use Rattle.file_tools.specs.OneCopy.{FindsImages, HasFound}
+use Rattle.file_tools.specs.Overlap.{are_overlapping}
 use Rattle.file_tools.specs.PrintingFiles.{first_bytes, second_bytes}
-use Rattle.file_tools.specs.ChangingFiles.{Edits, HasEdited, IsChangeFault, IsPlaceOf, IsRefusedChange, Sets, WritesCopy, reads_of}
+use Rattle.file_tools.specs.ChangingFiles.{Edits, HasEdited, HasSet, IsChangeFault, IsPlaceOf, IsRefusedChange, Sets, WritesCopy, WritesIn, reads_of}
+use Rattle.file_tools.specs.declared.one_copy.ImageSource.{ImageSource}
 
 -- a change that was made only reads
 pub edit-reads : (input : Option (List ℕ)) (order : ByteOrder) (change : Change) (found : List Copy) (old new : Told) (which : Which) (bytes : List ℕ) → HasEdited input order change found old new which bytes
@@ -40,41 +47,28 @@ no-write input order (Script file) found stored path h = h
 no-write input order Input found stored path h = h
 
 -- the refusal of a change, seen from before the images were read
-refused-change : (input : Option (List ℕ)) (order : ByteOrder) (config : List ℕ) (change : Change) (found : List Copy) (x y z : Told) (f : Fault) → HasRead config x y found
-    → Edits input order change found y z (Err f) → OnlyReads x z × IsRefusedChange input order config change x f
-refused-change input order config change found x y z f read h = (
-  OnlyReads-then x y z (found-reads config x y found read) h.0,
-  record { found = found; after_images = y; read = read; refused = subst (λ (s : Stored). IsChangeFault input order change found s f) read.stored h.1 },
-)
+refused-change : (program : List ℕ) (input : Option (List ℕ)) (source : ImageSource) (change : Change) (found : List Copy) (err err' : Sink) (x y z : Told) (f : Fault)
+    → HasFound program source err err' x y found → Edits input source.order change found y z (Err f) → OnlyReads x z × IsRefusedChange program input source change err err' x f
+refused-change program input source change found err err' x y z f read h =
+    let reads = source-reads program source err err' x y found read in (
+      OnlyReads-then x y z reads h.0,
+      record { found = found; after_images = y; read = read; refused = subst (λ (s : Stored). IsChangeFault input source.order change found s f) reads.stored h.1 },
+    )
 
 -- images that were refused
-pub sets-unread : (input : Option (List ℕ)) (order : ByteOrder) (config : List ℕ) (change : Change) (old new : Told) (f : Fault) → ReadsImages config old new (Err f) → Sets input order config change old new (Err f)
-sets-unread input order config change old new (fault.Config error) h = (h.0, inl h.1)
-sets-unread input order config change old new (fault.Tool error) h = (h.0, inl h.1)
-sets-unread input order config change old new (fault.CannotRead path) h = (h.0, inl h.1)
-sets-unread input order config change old new (fault.CannotWrite path) h = absurd h.1
-sets-unread input order config change old new (fault.FileShort path) h = (h.0, inl h.1)
-sets-unread input order config change old new (fault.FileTooLong path) h = (h.0, inl h.1)
-sets-unread input order config change old new fault.CannotReadInput h = (h.0, inl h.1)
-sets-unread input order config change old new fault.InputTooLong h = (h.0, inl h.1)
-sets-unread input order config change old new (fault.NoSuchVariable name) h = (h.0, inl h.1)
-sets-unread input order config change old new (fault.NotARun word) h = (h.0, inl h.1)
-sets-unread input order config change old new fault.Memory h = (h.0, tt)
+pub sets-unread : (program : List ℕ) (input : Option (List ℕ)) (source : ImageSource) (change : Change) (err err' : Sink) (old new : Told) (f : Fault) → IsReadFault f → err' ≡ err
+    → FindsImages program source err err' old new (Err f) → Sets program input source change err err' old new (Err f)
+sets-unread program input source change err err' old new (fault.CannotWrite path) is quiet h = absurd is
+sets-unread program input source change err err' old new fault.Memory is quiet h = (h.0, tt)
+sets-unread program input source change err err' old new f is quiet h = (h.0, inl (h.1, quiet))
 
 -- a change that was refused
-pub sets-refused : (input : Option (List ℕ)) (order : ByteOrder) (config : List ℕ) (change : Change) (found : List Copy) (x y z : Told) (f : Fault) → HasRead config x y found
-    → Edits input order change found y z (Err f) → Sets input order config change x z (Err f)
-sets-refused input order config change found x y z (fault.Config error) read h = let c = refused-change input order config change found x y z (fault.Config error) read h in (c.0, inr c.1)
-sets-refused input order config change found x y z (fault.Tool error) read h = let c = refused-change input order config change found x y z (fault.Tool error) read h in (c.0, inr c.1)
-sets-refused input order config change found x y z (fault.CannotRead path) read h = let c = refused-change input order config change found x y z (fault.CannotRead path) read h in (c.0, inr c.1)
-sets-refused input order config change found x y z (fault.CannotWrite path) read h = absurd (no-write input order change found y.stored path h.1)
-sets-refused input order config change found x y z (fault.FileShort path) read h = let c = refused-change input order config change found x y z (fault.FileShort path) read h in (c.0, inr c.1)
-sets-refused input order config change found x y z (fault.FileTooLong path) read h = let c = refused-change input order config change found x y z (fault.FileTooLong path) read h in (c.0, inr c.1)
-sets-refused input order config change found x y z fault.CannotReadInput read h = let c = refused-change input order config change found x y z fault.CannotReadInput read h in (c.0, inr c.1)
-sets-refused input order config change found x y z fault.InputTooLong read h = let c = refused-change input order config change found x y z fault.InputTooLong read h in (c.0, inr c.1)
-sets-refused input order config change found x y z (fault.NoSuchVariable name) read h = let c = refused-change input order config change found x y z (fault.NoSuchVariable name) read h in (c.0, inr c.1)
-sets-refused input order config change found x y z (fault.NotARun word) read h = let c = refused-change input order config change found x y z (fault.NotARun word) read h in (c.0, inr c.1)
-sets-refused input order config change found x y z fault.Memory read h = (OnlyReads-then x y z (found-reads config x y found read) h.0, tt)
+pub sets-refused : (program : List ℕ) (input : Option (List ℕ)) (source : ImageSource) (change : Change) (found : List Copy) (err err' : Sink) (x y z : Told) (f : Fault)
+    → HasFound program source err err' x y found → Edits input source.order change found y z (Err f) → Sets program input source change err err' x z (Err f)
+sets-refused program input source change found err err' x y z (fault.CannotWrite path) read h = absurd (no-write input source.order change found y.stored path h.1)
+sets-refused program input source change found err err' x y z fault.Memory read h = (OnlyReads-then x y z (source-reads program source err err' x y found read) h.0, tt)
+sets-refused program input source change found err err' x y z f read h =
+    let c = refused-change program input source change found err err' x y z f read h in (c.0, inr c.1)
 
 -- a write of the copy that was refused
 pub write-refused : (which : Which) (found : List Copy) (bytes : List ℕ) (place : PlaceShown) (form : WordForm) (old new : Told) (k : FileFault) → IsPlaceOf which found place → IsPathOf form place.device
@@ -89,23 +83,56 @@ changed-safe : (input : Option (List ℕ)) (order : ByteOrder) (change : Change)
     → IsSafe order (first_bytes found) (second_bytes found) which bytes
 changed-safe input order change found old new which bytes made = set-safe order (first_bytes found) (second_bytes found) made.edit which bytes made.made
 
--- a change that was made, and the write of the copy
-pub sets-written : (input : Option (List ℕ)) (order : ByteOrder) (config : List ℕ) (change : Change) (found : List Copy) (which : Which) (bytes : Vec ℕ Global) (x y z w : Told) (r : Result (Unit {0}) Fault)
-    → HasRead config x y found → Edits input order change found y z (Ok (which, bytes)) → WritesCopy which found bytes.items z w r → Sets input order config change x w r
-sets-written input order config change found which bytes x y z w (Ok done) read made h =
-    record { found = found; which = which; bytes = bytes.items; after_images = y; read = read; after_change = z; edited = made; safe = changed-safe input order change found y z which bytes.items made; written = h }
-sets-written input order config change found which bytes x y z w (Err (fault.CannotWrite told)) read made h = record {
-  tried = record { found = found; which = which; bytes = bytes.items; after_images = y; read = read; after_change = z; edited = made; safe = changed-safe input order change found y z which bytes.items made; written = h.tried };
-  path = h.path;
+-- a change that was made, and the write of the copy that was tried
+abbrev has-set : (program : List ℕ) (input : Option (List ℕ)) (source : ImageSource) (change : Change) (found : List Copy) (which : Which) (bytes : List ℕ) (err noted err' : Sink) (x y z w : Told)
+    (r : Result (Unit {0}) FileFault) → HasFound program source err noted x y found → HasEdited input source.order change found y z which bytes → TellsIf program (are_overlapping found) noted err'
+    → WritesIn which found bytes z w r → HasSet program input source change err err' x w r
+has-set program input source change found which bytes err noted err' x y z w r read made warned h = record {
+  found = found;
+  which = which;
+  bytes = bytes;
+  after_images = y;
+  noted = noted;
+  read = read;
+  after_change = z;
+  edited = made;
+  safe = changed-safe input source.order change found y z which bytes made;
+  warned = warned;
+  written = h;
+  over_lost = over-lost source.one_copy (string_bytes source.config) read.lost x y found source.order made.edit which bytes h.place read.read made.made h.there;
 }
-sets-written input order config change found which bytes x y z w (Err fault.Memory) read made h =
-    (OnlyReads-then x z w (OnlyReads-then x y z (found-reads config x y found read) (edit-reads input order change found y z which bytes.items made)) h, tt)
-sets-written input order config change found which bytes x y z w (Err (fault.Config error)) read made h = absurd h
-sets-written input order config change found which bytes x y z w (Err (fault.Tool error)) read made h = absurd h
-sets-written input order config change found which bytes x y z w (Err (fault.CannotRead path)) read made h = absurd h
-sets-written input order config change found which bytes x y z w (Err (fault.FileShort path)) read made h = absurd h
-sets-written input order config change found which bytes x y z w (Err (fault.FileTooLong path)) read made h = absurd h
-sets-written input order config change found which bytes x y z w (Err fault.CannotReadInput) read made h = absurd h
-sets-written input order config change found which bytes x y z w (Err fault.InputTooLong) read made h = absurd h
-sets-written input order config change found which bytes x y z w (Err (fault.NoSuchVariable name)) read made h = absurd h
-sets-written input order config change found which bytes x y z w (Err (fault.NotARun word)) read made h = absurd h
+
+pub sets-written : (program : List ℕ) (input : Option (List ℕ)) (source : ImageSource) (change : Change) (found : List Copy) (which : Which) (bytes : Vec ℕ Global) (err noted err' : Sink) (x y z w : Told)
+    (r : Result (Unit {0}) Fault) → TellsIf program (are_overlapping found) noted err' → HasFound program source err noted x y found → Edits input source.order change found y z (Ok (which, bytes))
+    → WritesCopy which found bytes.items z w r → Sets program input source change err err' x w r
+sets-written program input source change found which bytes err noted err' x y z w (Ok done) warned read made h =
+    has-set program input source change found which bytes.items err noted err' x y z w (Ok done) read made warned h
+sets-written program input source change found which bytes err noted err' x y z w (Err (fault.CannotWrite told)) warned read made h =
+    record { tried = has-set program input source change found which bytes.items err noted err' x y z w (Err file.Failed) read made warned h.tried; path = h.path }
+sets-written program input source change found which bytes err noted err' x y z w (Err fault.Memory) warned read made h = (
+  OnlyReads-then x z w
+      (OnlyReads-then x y z (source-reads program source err noted x y found read) (edit-reads input source.order change found y z which bytes.items made))
+      h,
+  tt,
+)
+sets-written program input source change found which bytes err noted err' x y z w (Err f) warned read made h = absurd h
+
+-- ---- what is told
+
+may-if : (program : List ℕ) (is : Bool) (old new : Sink) → TellsIf program is old new → MayTell program true old new
+may-if program true old new h = inr h
+may-if program false old new h = inl h
+
+-- before a write
+pub notes-written : (program : List ℕ) (one_copy is : Bool) (r : Result (Unit {0}) Fault) (err noted err' : Sink) → IfErr r IsWriteFault → MayTell program one_copy err noted
+    → TellsIf program is noted err' → TellsNotes program one_copy r err err'
+notes-written program one_copy is (Ok done) err noted err' why first second = (noted, first, may-if program is noted err' second)
+notes-written program one_copy is (Err (fault.CannotWrite path)) err noted err' why first second = (noted, first, may-if program is noted err' second)
+notes-written program one_copy is (Err fault.Memory) err noted err' why first second = (noted, first, may-if program is noted err' second)
+notes-written program one_copy is (Err f) err noted err' why first second = absurd why
+
+-- without one
+pub notes-refused : (program : List ℕ) (one_copy : Bool) (f : Fault) (err noted : Sink) → MayTell program one_copy err noted → TellsNotes {T = Unit {0}} program one_copy (Err f) err noted
+notes-refused program one_copy (fault.CannotWrite path) err noted first = (noted, first, inl refl)
+notes-refused program one_copy fault.Memory err noted first = (noted, first, inl refl)
+notes-refused program one_copy f err noted first = first

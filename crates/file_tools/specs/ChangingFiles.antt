@@ -1,6 +1,6 @@
 -- What changing the environment in the images of a configuration does, on files whose contents are known, with an input
 -- whose bytes are known, or are not. It follows fw_setenv (U-Boot, tools/env README). The order of work is ours.
-use Rattle.std.specs.Prelude.{◌≡◌, ◌⊎◌, ℕ, List, [], ◌∷◌, ◌++◌, map, Option, Some, Result, Ok, Err, Vec, string_bytes}
+use Rattle.std.specs.Prelude.{◌≡◌, ◌⊎◌, IfSome, ℕ, List, [], ◌∷◌, ◌++◌, map, Option, Some, Result, Ok, Err, Vec, string_bytes}
 use Rattle.std.specs.declared.alloc.Global.{Global}
 use Rattle.envimage.specs.Config.{PlaceShown}
 use Rattle.envimage.specs.declared.image.ByteOrder.{ByteOrder}
@@ -24,9 +24,14 @@ use Rattle.locked_files.specs.declared.files.Action.TheVariants.{ReadAll}
 use Rattle.locked_files.specs.declared.files.FileFault.{FileFault}
 use Rattle.locked_files.specs.declared.files.FileFault.TheVariants.{Failed}
 use Rattle.image_tools.specs.declared.word_form.WordForm.{WordForm}
-use Rattle.file_tools.specs.Images.{Copy, HasRead, IsImagesFault}
+use Rattle.file_tools.specs.Images.{Copy}
+use Rattle.file_tools.specs.Notes.{TellsIf}
+use Rattle.file_tools.specs.OneCopy.{HasFound, IsUnfound}
+use Rattle.file_tools.specs.Overlap.{are_overlapping}
 use Rattle.file_tools.specs.PrintingFiles.{first_bytes, second_bytes}
 use Rattle.file_tools.specs.ReadingFiles.{IsInput, IsInputFault, IsTextFault}
+use Rattle.file_tools.specs.declared.one_copy.ImageSource.{ImageSource}
+use Rattle.output.specs.Sink.{Sink}
 
 -- which copy is written after an edit, and its bytes, or the refusal
 abbrev pub edited : ByteOrder → List Copy → Edit → Result (Which × List ℕ) ToolError
@@ -117,45 +122,52 @@ WritesCopy which found bytes old new (Err (CannotWrite told)) = FailsToWrite whi
 WritesCopy which found bytes old new (Err faults.Memory) = OnlyReads old new
 WritesCopy which found bytes old new (Err fault) = ⊥
 
--- The images were read, the change was made, and then one copy was written, or that write was tried. If only a prefix
--- of the bytes was written to a pair, loading gives what it gave before, or that copy is right.
-pub record HasSet (input : Option (List ℕ)) (order : ByteOrder) (config : List ℕ) (change : Change) (old new : Told)
-    (answer : Result (Unit {0}) FileFault) : Type 0 where
+-- The images were found, the change was made, and then one copy was written, or that write was tried. If only a prefix
+-- of the bytes was written to a pair, loading gives what it gave before, or that copy is right. If a copy was lost, its
+-- place is the one that is written. Before the write one line says whether the places of the copies share a byte.
+pub record HasSet (program : List ℕ) (input : Option (List ℕ)) (source : ImageSource) (change : Change)
+    (err err' : Sink) (old new : Told) (answer : Result (Unit {0}) FileFault) : Type 0 where
   pub found : List Copy
   pub which : Which
   pub bytes : List ℕ
   pub after_images : Told
-  pub read : HasRead config old after_images found
+  pub noted : Sink
+  pub read : HasFound program source err noted old after_images found
   pub after_change : Told
-  pub edited : HasEdited input order change found after_images after_change which bytes
-  pub safe : IsSafe order (first_bytes found) (second_bytes found) which bytes
+  pub edited : HasEdited input source.order change found after_images after_change which bytes
+  pub safe : IsSafe source.order (first_bytes found) (second_bytes found) which bytes
+  pub warned : TellsIf program (are_overlapping found) noted err'
   pub written : WritesIn which found bytes after_change new answer
+  pub over_lost : IfSome read.lost (λ lost. written.place ≡ lost)
 
 -- That write was tried and failed, and the fault names the device.
-pub record HasNotWritten (input : Option (List ℕ)) (order : ByteOrder) (config : List ℕ) (change : Change)
-    (old new : Told) (told : WordForm) : Type 0 where
-  pub tried : HasSet input order config change old new (Err Failed)
+pub record HasNotWritten (program : List ℕ) (input : Option (List ℕ)) (source : ImageSource) (change : Change)
+    (err err' : Sink) (old new : Told) (told : WordForm) : Type 0 where
+  pub tried : HasSet program input source change err err' old new (Err Failed)
   pub path : IsPathOf told tried.written.place.device
 
--- The images were read, and the change of them is refused for this.
-pub record IsRefusedChange (input : Option (List ℕ)) (order : ByteOrder) (config : List ℕ) (change : Change)
-    (old : Told) (fault : Fault) : Type 0 where
+-- The images were found, and the change of them is refused for this. Nothing is said of their places.
+pub record IsRefusedChange (program : List ℕ) (input : Option (List ℕ)) (source : ImageSource) (change : Change)
+    (err err' : Sink) (old : Told) (fault : Fault) : Type 0 where
   pub found : List Copy
   pub after_images : Told
-  pub read : HasRead config old after_images found
-  pub refused : IsChangeFault input order change found old.stored fault
+  pub read : HasFound program source err err' old after_images found
+  pub refused : IsChangeFault input source.order change found old.stored fault
 
 -- why nothing may be written: memory ran out; or the images are refused, or their change
-abbrev pub IsSetFault : (input : Option (List ℕ)) → ByteOrder → List ℕ → Change → Told → Fault → Type 0
-IsSetFault input order config change old faults.Memory = Unit {0}
-IsSetFault input order config change old fault = IsImagesFault config old.stored fault
-    ⊎ IsRefusedChange input order config change old fault
+abbrev pub IsSetFault : (program : List ℕ) → (input : Option (List ℕ)) → ImageSource → Change → (err err' : Sink) →
+    Told → Told → Fault → Type 0
+IsSetFault program input source change err err' old new faults.Memory = Unit {0}
+IsSetFault program input source change err err' old new fault =
+    (IsUnfound source.one_copy (string_bytes source.config) old new fault × (err' ≡ err))
+    ⊎ IsRefusedChange program input source change err err' old fault
 
 -- the change was written; or its write failed; or it was refused, and files were only read
-abbrev pub Sets : (input : Option (List ℕ)) → ByteOrder → List ℕ → Change → Told → Told → Result (Unit {0}) Fault →
-    Type 0
-Sets input order config change old new (Ok done) = HasSet input order config change old new (Ok done)
-Sets input order config change old new (Err (CannotWrite told)) =
-    HasNotWritten input order config change old new told
-Sets input order config change old new (Err fault) =
-    OnlyReads old new × IsSetFault input order config change old fault
+abbrev pub Sets : (program : List ℕ) → (input : Option (List ℕ)) → ImageSource → Change → (err err' : Sink) → Told →
+    Told → Result (Unit {0}) Fault → Type 0
+Sets program input source change err err' old new (Ok done) =
+    HasSet program input source change err err' old new (Ok done)
+Sets program input source change err err' old new (Err (CannotWrite told)) =
+    HasNotWritten program input source change err err' old new told
+Sets program input source change err err' old new (Err fault) =
+    OnlyReads old new × IsSetFault program input source change err err' old new fault

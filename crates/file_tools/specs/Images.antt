@@ -11,7 +11,7 @@ use Rattle.image_tools.specs.FileFaults.{IsPathOf}
 use Rattle.image_tools.specs.declared.fault.Fault.{Fault}
 use Rattle.image_tools.specs.declared.fault.Fault.TheVariants.{CannotRead, Config, FileShort, FileTooLong, Memory}
 use Rattle.locked_files.specs.declared.files.Action.TheVariants.{ReadAll}
-use Rattle.file_tools.specs.ReadingFiles.{IsShort, ReadsCopy, bytes_at, read_of}
+use Rattle.file_tools.specs.ReadingFiles.{IsShort, IsTextFault, ReadsCopy, bytes_at, read_of}
 use Rattle.file_tools.specs.declared.images.Images.{Images}
 use Rattle.file_tools.specs.declared.read.StoredCopy.{StoredCopy}
 
@@ -57,6 +57,14 @@ pub record HasRead (config : List ℕ) (old new : Told) (found : List Copy) : Ty
   pub calls : new.calls ≡ old.calls ++ (config, ReadAll) ∷ map (λ c. read_of c.0) found
   pub stored : new.stored ≡ old.stored
 
+-- The configuration was read, and names these places.
+pub record NamesPlaces (config : List ℕ) (old new : Told) (named : List PlaceShown) : Type 0 where
+  pub text : List ℕ
+  pub there : file_at config old.stored ≡ Some text
+  pub names : places text ≡ Ok named
+  pub calls : new.calls ≡ old.calls ++ (config, ReadAll) ∷ []
+  pub stored : new.stored ≡ old.stored
+
 -- this holds of one of the places
 abbrev pub OfSome : (PlaceShown → Type 0) → List PlaceShown → Type 0
 OfSome IsSo [] = ⊥
@@ -68,6 +76,17 @@ pub record FromConfig (config : List ℕ) (stored : Stored) (Says : Result (List
   pub text : List ℕ
   pub there : file_at config stored ≡ Some text
   pub says : Says (places text)
+
+-- why a configuration names no places: its file fails or is too long, or memory runs out; or it is refused. The fault
+-- names the file.
+abbrev pub IsConfigFault : List ℕ → Stored → Fault → Type 0
+IsConfigFault config stored (Config error) = FromConfig config stored (λ answer. AnswersPlaces answer (Err error))
+IsConfigFault config stored fault = IsTextFault config (file_at config stored) fault
+
+-- the places that a configuration names were read, or refused
+abbrev pub ReadsPlaces : List ℕ → Told → Told → Result (Place × Option Place) Fault → Type 0
+ReadsPlaces config old new (Ok named) = NamesPlaces config old new (place_shown named.0 ∷ second_place named.1)
+ReadsPlaces config old new (Err fault) = OnlyReads old new × IsConfigFault config old.stored fault
 
 -- the configuration names a place with this property
 abbrev pub NamesOne : (config : List ℕ) → Stored → (PlaceShown → Type 0) → Type 0

@@ -1,6 +1,9 @@
 pub mod Builds
 pub mod Faults
 pub mod Images
+pub mod Notes
+pub mod OneCopy
+pub mod Overlap
 pub mod PrintingFiles
 pub mod ReadingFiles
 pub mod Running

@@ -1,17 +1,21 @@
 -- What printing the images of a configuration does, from files whose contents are known. It follows fw_printenv
 -- (U-Boot, tools/env README).
-use Rattle.std.specs.Prelude.{◌≡◌, ℕ, Bool, List, [], ◌∷◌, Option, Some, None, Result, Ok, Err}
+use Rattle.std.specs.Prelude.{◌≡◌, ◌⊎◌, ℕ, Bool, List, [], ◌∷◌, Option, Some, None, Result, Ok, Err, string_bytes}
 use Rattle.envimage.specs.Data.{Pair}
 use Rattle.envimage.specs.declared.image.ByteOrder.{ByteOrder}
 use Rattle.envimage.specs.declared.image.ImageError.{ImageError}
 use Rattle.locked_files.specs.CallOrder.{OnlyReads}
 use Rattle.image_tools.specs.PrintingImages.{BreaksInPrinting, PrintsAll, environment_in}
 use Rattle.output.specs.Outputs.{AreUnchanged, Outputs}
+use Rattle.output.specs.Sink.{Sink}
 use Rattle.locked_files.specs.Told.{Told}
 use Rattle.image_tools.specs.declared.error.ToolError.TheVariants.{Image, Write}
 use Rattle.image_tools.specs.declared.fault.Fault.{Fault}
 use Rattle.image_tools.specs.declared.fault.Fault.TheVariants.{Memory, Tool}
-use Rattle.file_tools.specs.Images.{Copy, HasRead, IsImagesFault}
+use Rattle.file_tools.specs.Images.{Copy, HasRead}
+use Rattle.file_tools.specs.Notes.{MayTell}
+use Rattle.file_tools.specs.OneCopy.{HasFound, IsUnfound}
+use Rattle.file_tools.specs.declared.one_copy.ImageSource.{ImageSource}
 
 -- the bytes of the first copy, and of the second if there is one
 abbrev pub first_bytes : List Copy → List ℕ
@@ -42,19 +46,30 @@ pub record FromImages (config : List ℕ) (old new : Told) (IsSo : List Copy →
   pub read : HasRead config old new found
   pub so : IsSo found
 
--- the images of the configuration were read and printed, or refused; memory may run out at any time
-abbrev pub PrintsFrom : ByteOrder → List ℕ → List (List ℕ) → Bool → Outputs → Told → Told → Result Bool Fault → Type 0
-PrintsFrom order config names header outputs old new (Ok all) =
-    FromImages config old new (λ found. PrintsAll (environment order found) names header outputs all)
-PrintsFrom order config names header outputs old new (Err (Tool (Image error))) =
-    FromImages config old new (λ found. environment order found ≡ Err error)
-PrintsFrom order config names header outputs old new (Err (Tool Write)) =
-    FromImages config old new (λ found. BreaksInPrinting (environment order found) names header outputs)
-PrintsFrom order config names header outputs old new (Err fault) = OnlyReads old new
-    × IsImagesFault config old.stored fault
+-- The images of a source were found, and this holds of them and of the outputs from then on.
+pub record FromFound (program : List ℕ) (source : ImageSource) (s : Outputs) (old new : Told)
+    (IsSo : List Copy → Outputs → Type 0) : Type 0 where
+  pub found : List Copy
+  pub noted : Sink
+  pub read : HasFound program source s.err noted old new found
+  pub so : IsSo found (record s { err = noted })
 
--- a refusal other than that of an output leaves both as they were
-abbrev pub LeavesOutputs : Result Bool Fault → Outputs → Type 0
-LeavesOutputs (Ok all) outputs = Unit {0}
-LeavesOutputs (Err (Tool Write)) outputs = Unit {0}
-LeavesOutputs (Err fault) outputs = AreUnchanged outputs
+-- the images of a source are refused for this, and nothing is written
+abbrev pub IsNotFound : ImageSource → Outputs → Told → Told → Result Bool Fault → Type 0
+IsNotFound source outputs old new (Ok all) = ⊥
+IsNotFound source outputs old new (Err fault) = OnlyReads old new
+    × IsUnfound source.one_copy (string_bytes source.config) old new fault
+    × AreUnchanged outputs
+
+-- the images of the source were found and then printed, or they are refused
+abbrev pub PrintsFrom : (program : List ℕ) → ImageSource → List (List ℕ) → Bool → Outputs → Told → Told →
+    Result Bool Fault → Type 0
+PrintsFrom program source names header outputs old new answer =
+    FromFound program source outputs old new (λ found s. PrintsCopies source.order found names header s answer)
+    ⊎ IsNotFound source outputs old new answer
+
+-- a refusal other than that of an output leaves both as they were; it may only be told that a copy is lost
+abbrev pub LeavesOutputs : (program : List ℕ) → (one_copy : Bool) → Result Bool Fault → Outputs → Type 0
+LeavesOutputs program one_copy (Ok all) s = Unit {0}
+LeavesOutputs program one_copy (Err (Tool Write)) s = Unit {0}
+LeavesOutputs program one_copy (Err fault) s = (s.out' ≡ s.out) × MayTell program one_copy s.err s.err'

@@ -1,6 +1,8 @@
 -- What is read before an image is printed or changed, from files whose contents are known. The order of work is ours.
 -- The configuration is fw_env.config (U-Boot, tools/env README).
-use Rattle.std.specs.Prelude.{◌≡◌, ◌<◌, ◌+◌, IfSome, IsSomeAnd, ℕ, List, [], ◌∷◌, ◌++◌, take, drop, length, nat_le, Option, Some, None, Result, Ok, Err, Vec, if◌then◌else◌, option_and_then}
+use Rattle.std.specs.Prelude.{◌≡◌, ◌<◌, ◌≤◌, ◌+◌, ◌-◌, IfSome, IsSomeAnd, ℕ, Bool, true, List, [], ◌∷◌, ◌++◌, take, drop, length, nat_le, count_by, Option, Some, None, Result, Ok, Err, Vec, if◌then◌else◌, option_and_then}
+use Rattle.std.specs.List.{slice_get}
+use Rattle.std.specs.Option.{option_map_or}
 use Rattle.std.specs.declared.alloc.Global.{Global}
 use Rattle.envimage.specs.Config.{PlaceShown}
 use Rattle.envimage.specs.Place.{place_shown}
@@ -9,10 +11,11 @@ use Rattle.locked_files.specs.CallOrder.{OnlyReads}
 use Rattle.locked_files.specs.Told.{Stored, Told, file_at, read_limit}
 use Rattle.image_tools.specs.FileFaults.{IsPathOf}
 use Rattle.image_tools.specs.declared.fault.Fault.{Fault}
-use Rattle.image_tools.specs.declared.fault.Fault.TheVariants.{CannotRead, CannotReadInput, FileShort, FileTooLong, InputTooLong, Memory}
+use Rattle.image_tools.specs.declared.fault.Fault.TheVariants.{CannotRead, CannotReadInput, FileShort, FileTooLong, InputCutOff, InputTooLong, Memory}
 use Rattle.locked_files.specs.declared.files.Action.{Action}
 use Rattle.locked_files.specs.declared.files.Action.TheVariants.{ReadAll, ReadAt}
 use Rattle.file_tools.specs.declared.read.StoredCopy.{StoredCopy}
+use Rattle.text.specs.Lines.{is_newline}
 
 -- the bytes at a place, if its file has that many
 abbrev pub bytes_at : PlaceShown → Stored → Option (List ℕ)
@@ -54,14 +57,28 @@ abbrev pub ReadsText : List ℕ → Told → Told → Result (Vec ℕ Global) Fa
 ReadsText path old new (Ok text) = Reads (path, ReadAll) (file_at path old.stored) old new text.items
 ReadsText path old new (Err fault) = OnlyReads old new × IsTextFault path (file_at path old.stored) fault
 
--- the text is the whole input, if the input's bytes are known
-abbrev pub IsInput : Option (List ℕ) → List ℕ → Type 0
-IsInput input text = IfSome input (λ all. text ≡ all)
+-- the last byte ends a line, or there is none
+abbrev pub is_ended : List ℕ → Bool
+is_ended text = option_map_or is_newline (slice_get text (length text - 1)) true
 
--- why an input may be refused as a text: it fails; it is too long, if its bytes are known; or memory runs out
+-- the number of the line that ends without its newline, if there is one: the last line, counted from 1
+abbrev pub cut_off_line : List ℕ → Option ℕ
+cut_off_line text = if is_ended text then None else Some (count_by is_newline text + 1)
+
+-- the text is the whole input, if the input's bytes are known; no line of it is cut off
+abbrev pub IsInput : Option (List ℕ) → List ℕ → Type 0
+IsInput input text = IfSome input (λ all. text ≡ all) × (cut_off_line text ≡ None)
+
+-- the input is not too long, and its last line, which has this number, is cut off
+abbrev pub IsCutOff : ℕ → List ℕ → Type 0
+IsCutOff line all = (length all ≤ read_limit) × (cut_off_line all ≡ Some line)
+
+-- why an input may be refused as a text: it fails; it is too long or cut off, if its bytes are known; or memory runs
+-- out
 abbrev pub IsInputFault : Option (List ℕ) → Fault → Type 0
 IsInputFault input CannotReadInput = Unit {0}
 IsInputFault input InputTooLong = IfSome input (λ all. read_limit < length all)
+IsInputFault input (InputCutOff line) = IfSome input (IsCutOff line)
 IsInputFault input Memory = Unit {0}
 IsInputFault input _ = ⊥
 

@@ -10,7 +10,6 @@ use Rattle.locked_files.specs.Told.{Told}
 use Rattle.locked_files.specs.declared.files.Files.{Ghosts}
 use Rattle.image_tools.specs.FaultLines.{TellsLine}
 use Rattle.image_tools.specs.declared.fault.Fault.{Fault}
-use Rattle.file_tools.specs.Faults.{CountsTold}
 use Rattle.file_tools.specs.declared.starting.StartError.{StartError}
 
 -- What the files show at a moment: how often the device has failed, what is in the files, if that is known, and whether
@@ -24,13 +23,15 @@ pub record FilesShown : Type 0 where
 abbrev pub files_shown : {F : Type 0} → Ghosts F → F → FilesShown
 files_shown g files = record { faults = g.faults files; told = g.told files; locked = g.locked files }
 
--- Status 0: the words ask for something, and it was done; no call on files failed.
+-- Status 0: the words ask for something, and it was done; the calls on files that failed are counted as what was asked
+-- for allows.
 pub record HasDone {Ask : Type 0} (Answers : List Text → Result Ask UseError → Type 0)
+    (Counts : Ask → ℕ → ℕ → Result Bool Fault → Type 0)
     (Does : Ask → Option Told → Option Told → Outputs → Result Bool Fault → Type 0)
     (words : List Text) (before after : FilesShown) (outputs : Outputs) : Type 0 where
   pub ask : Ask
   pub asked : Answers words (Ok ask)
-  pub sound : after.faults ≡ before.faults
+  pub counts : Counts ask before.faults after.faults (Ok true)
   pub does : Does ask before.told after.told outputs (Ok true)
 
 -- a fault is reported last, in one line, and with any other answer nothing is reported
@@ -39,16 +40,17 @@ TellsLast program (Ok all) old new = new ≡ old
 TellsLast program (Err fault) old new = TellsLine program old new
 
 -- Status 1: the words ask for something. Either the answer is no, as for a missing variable; or it was refused, and one
--- line of the program is the last thing reported on the error output. A fault that says that a file failed is reported if one call on files
--- failed, and only then.
+-- line of the program is the last thing reported on the error output. The calls on files that failed are counted as what
+-- was asked for and the answer say.
 pub record HasRefused {Ask : Type 0} (program : List ℕ) (Answers : List Text → Result Ask UseError → Type 0)
+    (Counts : Ask → ℕ → ℕ → Result Bool Fault → Type 0)
     (Does : Ask → Option Told → Option Told → Outputs → Result Bool Fault → Type 0)
     (words : List Text) (before after : FilesShown) (outputs : Outputs) : Type 0 where
   pub ask : Ask
   pub asked : Answers words (Ok ask)
   pub answer : Result Bool Fault
   pub is_refusal : (answer ≡ Ok true) → ⊥
-  pub counts : CountsTold before.faults after.faults answer
+  pub counts : Counts ask before.faults after.faults answer
   pub told_from : Sink
   pub told : TellsLast program answer told_from outputs.err'
   pub does : Does ask before.told after.told (record outputs { err' = told_from }) answer

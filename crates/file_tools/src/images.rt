@@ -1,9 +1,11 @@
 //! The images that a configuration names.
 ghost use Rattle.std.specs.Prelude.{◌≡◌, IfErr, string_bytes};
 ghost use Rattle.envimage.specs.Config.{places};
+ghost use Rattle.envimage.specs.Place.{place_shown};
 ghost use Rattle.locked_files.specs.Told.{IfTold};
 ghost use Rattle.file_tools.specs.Faults.{CountsTold, IsReadFault};
-ghost use Rattle.file_tools.specs.Images.{Names, ReadsImages, ReadsSecond};
+ghost use Rattle.file_tools.specs.Images.{Names, ReadsImages, ReadsPlaces, ReadsSecond};
+ghost use Rattle.file_tools.specs.Overlap.{overlap};
 
 use crate::read::{StoredCopy, read_copy, read_text};
 use envimage::{ConfigError, Place, parse_config};
@@ -23,6 +25,8 @@ pub struct Images {
 impl Images {
     ghost use Rattle.std.specs.Prelude.{◌≡◌, option_map};
     ghost use Rattle.std.specs.Option.{option_copied};
+    ghost use Rattle.file_tools.specs.Images.{copies};
+    ghost use Rattle.file_tools.specs.Overlap.{are_overlapping};
 
     /// The bytes of a pair's second copy.
     pub fn second_bytes(&self) -> Option<&[u8]>
@@ -32,6 +36,30 @@ impl Images {
             Some(copy) => Some(&copy.bytes),
             None => None,
         }
+    }
+
+    /// Whether the places of a pair's two copies share a byte.
+    pub fn overlap(&self) -> bool
+        ensures { result ≡ are_overlapping (copies self.now) }
+    {
+        match &self.second {
+            Some(second) => share_a_byte(&self.first.place, &second.place),
+            None => false,
+        }
+    }
+}
+
+/// Whether two places share a byte of a file.
+fn share_a_byte(first: &Place, second: &Place) -> bool
+    ensures { result ≡ overlap (place_shown first.now) (place_shown second.now) }
+{
+    if first.device != second.device {
+        return false;
+    }
+    if first.offset <= second.offset {
+        second.offset - first.offset < first.size as u64 && second.size > 0
+    } else {
+        first.offset - second.offset < second.size as u64 && first.size > 0
     }
 }
 
@@ -48,6 +76,22 @@ fn places_in(alloc: Global, text: &[u8]) -> Result<(Place, Option<Place>), Fault
         return Err(Fault::Config(ConfigError::NoPlace));
     };
     Ok((first, places.next()))
+}
+
+/// Reads the text of a configuration. Returns the places that it names.
+pub(crate) fn read_places<F: Files>(
+    alloc: Global,
+    files: &mut F,
+    config: String,
+) -> Result<(Place, Option<Place>), Fault>
+    ensures count { CountsTold (F.faults files.old) (F.faults files.new) result }
+    ensures lock { F.locked files.new ≡ F.locked files.old }
+    ensures fault { IfErr result IsReadFault }
+    ensures told { IfTold (F.told files.old) (F.told files.new)
+        (λ old new. ReadsPlaces (string_bytes config) old new result) }
+{
+    let text = read_text(alloc, files, config)?;
+    places_in(alloc, &text)
 }
 
 /// The copy at the second place, if one is named.
@@ -80,8 +124,7 @@ pub fn read_images<F: Files>(alloc: Global, files: &mut F, config: String) -> Re
     ensures told { IfTold (F.told files.old) (F.told files.new)
         (λ old new. ReadsImages (string_bytes config) old new result) }
 {
-    let text = read_text(alloc, files, config)?;
-    let (first, second) = places_in(alloc, &text)?;
+    let (first, second) = read_places(alloc, files, config)?;
     let first = read_copy(alloc, files, first)?;
     let second = read_second(alloc, files, second)?;
     Ok(Images { first, second })

@@ -3,11 +3,12 @@ ghost use Rattle.std.specs.Prelude.{◌≡◌, IfErr, IfOk, false, length, map, 
 ghost use Rattle.output.specs.Outputs.{outputs};
 ghost use Rattle.locked_files.specs.Told.{IfTold};
 ghost use Rattle.image_tools.specs.declared.fault.Fault.TheVariants.{Memory};
-ghost use Rattle.file_tools.specs.Faults.{CountsTold};
+ghost use Rattle.file_tools.specs.Faults.{CountsReads};
 ghost use Rattle.file_tools.specs.Images.{copies};
 ghost use Rattle.file_tools.specs.PrintingFiles.{LeavesOutputs, PrintsCopies, PrintsFrom};
 
-use crate::images::{Images, read_images};
+use crate::images::Images;
+use crate::one_copy::{ImageSource, read_source};
 use envimage::ByteOrder;
 use image_tools::{Fault, print_bytes};
 use locked_files::Files;
@@ -49,30 +50,31 @@ fn print_images<O: Out, E: Out>(
     Ok(print_bytes(alloc, &images.first.bytes, second, order, &ask, out, err)?)
 }
 
-/// Prints the variables of the images that a configuration names: all of them, or the ones that are
-/// asked for, in this order. Returns false if a name is missing. Without `header` only the value of
-/// the one name is printed.
+/// Prints the variables of the images of a source: all of them, or the ones that are asked for, in
+/// this order. Returns false if a name is missing. Without `header` only the value of the one name is
+/// printed. If a copy is lost, and one is enough, that is reported on `err` first.
 pub fn print_files<F: Files, O: Out, E: Out>(
     alloc: Global,
     files: &mut F,
-    config: String,
+    program: &str,
+    source: ImageSource,
     what: &PrintAsk,
-    order: ByteOrder,
     out: &mut O,
     err: &mut E,
 ) -> Result<bool, Fault>
     requires { what.now.header ≡ false → length what.now.names.items ≡ 1 }
-    ensures count { CountsTold (F.faults files.old) (F.faults files.new) result }
+    ensures count { CountsReads source.one_copy (F.faults files.old) (F.faults files.new) result }
     ensures lock { F.locked files.new ≡ F.locked files.old }
     ensures told { IfTold (F.told files.old) (F.told files.new) (λ old new.
-        PrintsFrom order (string_bytes config) (map string_bytes what.now.names.items)
+        PrintsFrom program.now source (map string_bytes what.now.names.items)
         what.now.header
         (outputs (O.sink out.old) (O.sink out.new) (E.sink err.old) (E.sink err.new)) old new
         result) }
-    ensures outputs { LeavesOutputs result
+    ensures outputs { LeavesOutputs program.now source.one_copy result
         (outputs (O.sink out.old) (O.sink out.new) (E.sink err.old) (E.sink err.new)) }
 {
-    let images = read_images(alloc, files, config)?;
+    let order = source.order;
+    let images = read_source(alloc, files, program, source, err)?;
     let names = slices_of(alloc, &what.names)?;
     print_images(alloc, &images, order, &names, what.header, out, err)
 }

@@ -3,7 +3,8 @@
 ghost use Rattle.std.specs.Prelude.{◌≡◌, IfErr, IfOk, string_bytes};
 ghost use Rattle.locked_files.specs.Told.{IfTold};
 ghost use Rattle.file_tools.specs.Faults.{CountsTold, IsReadFault};
-ghost use Rattle.file_tools.specs.ReadingFiles.{ReadsCopy, ReadsInput, ReadsText};
+ghost use Rattle.file_tools.specs.OneCopy.{CountsSought, IsSoughtFault, SeeksCopy};
+ghost use Rattle.file_tools.specs.ReadingFiles.{ReadsCopy, ReadsInput, ReadsText, cut_off_line};
 
 use envimage::Place;
 use image_tools::Fault;
@@ -34,7 +35,21 @@ pub fn read_text<F: Files>(alloc: Global, files: &mut F, path: String) -> Result
     }
 }
 
-/// Reads the whole text on an input, of at most `LIMIT` bytes. Reads at most one byte after them.
+/// The number of the line that ends without its newline, if there is one: the last line, counted
+/// from 1. An empty text has none.
+fn cut_off_line(text: &[u8]) -> Option<usize>
+    ensures { result ≡ cut_off_line text.now }
+{
+    match text.last() {
+        None | Some(b'\n') => None,
+        Some(_) => Some(text.iter().filter(|byte| **byte == b'\n').count() + 1),
+    }
+}
+
+/// Reads the whole text on an input, of at most `LIMIT` bytes. Reads at most one byte after them. A
+/// text whose last line lacks its newline is refused: more of it may have been meant to come.
+///
+/// Refusals in order: `CannotReadInput` or `Memory`, `InputTooLong`, `InputCutOff`.
 pub fn read_input<R: Read>(alloc: Global, input: &mut R) -> Result<Vec<u8>, Fault>
     ensures { ReadsInput (R.remaining input.old) result }
 {
@@ -46,7 +61,44 @@ pub fn read_input<R: Read>(alloc: Global, input: &mut R) -> Result<Vec<u8>, Faul
     if text.len() > LIMIT {
         return Err(Fault::InputTooLong);
     }
-    Ok(text)
+    match cut_off_line(&text) {
+        Some(line) => Err(Fault::InputCutOff(line)),
+        None => Ok(text),
+    }
+}
+
+/// What became of a copy that may be lost.
+#[derive(Debug, Drop)]
+pub enum SoughtCopy {
+    /// It was read.
+    Read(StoredCopy),
+    /// It is lost: its place, and why.
+    Lost(Place, Fault),
+}
+
+/// Reads the copy at a place, or finds it lost: it cannot be read, or its file ends before it does.
+/// Errors: `Memory`.
+pub(crate) fn seek_copy<F: Files>(
+    alloc: Global,
+    files: &mut F,
+    place: Place,
+) -> Result<SoughtCopy, Fault>
+    ensures count { CountsSought (F.faults files.old) (F.faults files.new) result }
+    ensures lock { F.locked files.new ≡ F.locked files.old }
+    ensures fault { IsSoughtFault result }
+    ensures told { IfTold (F.told files.old) (F.told files.new)
+        (λ old new. SeeksCopy place old new result) }
+{
+    let Ok(path) = place.device.clone() else {
+        return Err(Fault::Memory);
+    };
+    match files.read_at(alloc, &path, place.offset, place.size) {
+        Ok(bytes) => Ok(SoughtCopy::Read(StoredCopy { place, bytes })),
+        Err(fault) => match Fault::of_read(path, fault) {
+            Fault::Memory => Err(Fault::Memory),
+            fault => Ok(SoughtCopy::Lost(place, fault)),
+        },
+    }
 }
 
 /// Reads the copy at a place.

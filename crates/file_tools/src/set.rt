@@ -1,17 +1,21 @@
 //! `setenv`, from files to one write.
-ghost use Rattle.std.specs.Prelude.{◌≡◌, IsTrue, string_bytes};
+ghost use Rattle.std.specs.Prelude.{◌≡◌, IfErr, IsTrue};
 ghost use Rattle.envimage.specs.Place.{place_shown};
 ghost use Rattle.locked_files.specs.Told.{IfTold};
-ghost use Rattle.file_tools.specs.Faults.{CountsTold};
+ghost use Rattle.file_tools.specs.Faults.{CountsReads, CountsTold, IsWriteFault};
 ghost use Rattle.file_tools.specs.Images.{copies};
 ghost use Rattle.file_tools.specs.ChangingFiles.{Edits, IsEdited, IsPlaceOf, Sets, WritesCopy};
+ghost use Rattle.file_tools.specs.Notes.{TellsNotes};
 
-use crate::images::{Images, read_images};
+use crate::images::Images;
+use crate::note::tell_overlap;
+use crate::one_copy::{ImageSource, read_source};
 use crate::print::slices_of;
 use crate::read::{read_input, read_text};
 use envimage::{ByteOrder, Place, Which};
 use image_tools::{Edit, Fault, set_bytes};
 use locked_files::Files;
+use output::Out;
 use requests::Change;
 use std::alloc::Global;
 use std::io::Read;
@@ -85,6 +89,7 @@ fn write_copy<F: Files>(
     requires { IsTrue (F.locked files.old) }
     ensures count { CountsTold (F.faults files.old) (F.faults files.new) result }
     ensures lock { F.locked files.new ≡ F.locked files.old }
+    ensures fault { IfErr result IsWriteFault }
     ensures told { IfTold (F.told files.old) (F.told files.new)
         (λ old new. WritesCopy which (copies images) bytes.now old new result) }
 {
@@ -95,25 +100,34 @@ fn write_copy<F: Files>(
     }
 }
 
-/// Changes the environment in the images that a configuration names, all of it under the lock. Reads
-/// the images, then the script, if there is one, from its file or from the input. At the end writes
-/// one copy; of a pair it is not the current one.
-pub fn set_files<R: Read, F: Files>(
+/// Changes the environment in the images of a source, all of it under the lock. Reads the images,
+/// then the script, if there is one, from its file or from the input. At the end writes one copy; of
+/// a pair it is not the current one. If a copy is lost, and one is enough, that is reported on `err`,
+/// and the lost copy is the one that is written.
+///
+/// Just before the write it is reported on `err` if the places of the two copies share a byte. The
+/// contract says what is on `err`, and not that it was there before the write.
+pub fn set_files<R: Read, F: Files, E: Out>(
     alloc: Global,
     input: &mut R,
     files: &mut F,
-    config: String,
+    program: &str,
+    source: ImageSource,
     change: Change,
-    order: ByteOrder,
+    err: &mut E,
 ) -> Result<(), Fault>
     requires { IsTrue (F.locked files.old) }
-    ensures count { CountsTold (F.faults files.old) (F.faults files.new) result }
+    ensures count { CountsReads source.one_copy (F.faults files.old) (F.faults files.new) result }
     ensures lock { F.locked files.new ≡ F.locked files.old }
-    ensures told { IfTold (F.told files.old) (F.told files.new)
-        (λ old new. Sets (R.remaining input.old) order (string_bytes config) change old new
-        result) }
+    ensures notes { TellsNotes program.now source.one_copy result (E.sink err.old)
+        (E.sink err.new) }
+    ensures told { IfTold (F.told files.old) (F.told files.new) (λ old new.
+        Sets program.now (R.remaining input.old) source change (E.sink err.old) (E.sink err.new)
+        old new result) }
 {
-    let images = read_images(alloc, files, config)?;
+    let order = source.order;
+    let images = read_source(alloc, files, program, source, err)?;
     let (which, bytes) = changed_copy(alloc, input, files, &images, order, change)?;
+    tell_overlap(err, program, &images);
     write_copy(files, images, which, &bytes)
 }

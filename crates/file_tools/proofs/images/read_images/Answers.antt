@@ -1,49 +1,43 @@
-use Rattle.std.proofs.Common.{◌≡◌, ◌∙◌, ◌∷◌, ap, List, ℕ, sym, subst, string_bytes, Ok, Err, Result}
+use Rattle.std.proofs.Common.{◌≡◌, ◌∙◌, ap, sym, subst, string_bytes, Err, Result}
 use Rattle.std.proofs.lemmas.Result.{err_from_is_err_and}
-use Rattle.envimage.specs.Config.{places}
-use Rattle.envimage.specs.Place.{place_shown}
 use Rattle.locked_files.proofs.ToldLemmas.{IfTold-then}
 use Rattle.locked_files.specs.Told.{IfTold}
 use Rattle.image_tools.specs.declared.fault.Fault.{Fault}
-use Rattle.file_tools.specs.Images.{Names, ReadsImages, second_place}
+use Rattle.file_tools.specs.Images.{ReadsImages}
 use Rattle.file_tools.specs.declared.images.Images.{Images}
-use Rattle.file_tools.proofs.ReadingLemmas.{IfTold-weaker, first-unread, images-read, images-unnamed, second-unread, then-three}
+use Rattle.file_tools.proofs.ReadingLemmas.{IfTold-weaker, first-unread, images-read, images-unread, second-unread, then-three}
 use Rattle.file_tools.proofs.images.read_images.Goals as goal
 
 pub returns-in_err-first-clause-told : goal.returns-in_err-first-clause-told
 returns-in_err-first-clause-told g c =
     let a = g.F.Files.told c.args.files.now in
-    let b = g.F.Files.told c.read_text.new.files in
+    let b = g.F.Files.told c.read_places.new.files in
     let config = string_bytes c.args.config in
     let fault = c.in_err-first.field-0.0 in
-    let p = err_from_is_err_and c.from_residual-in_err-first.result c.from_residual-in_err-first.ensures.1 in
-    let answer : c.from_residual-in_err-first.result ≡ Err fault = p.1 ∙ ap Err p.2 in
+    let p = err_from_is_err_and c.from_residual.result c.from_residual.ensures.1 in
+    let answer : c.from_residual.result ≡ Err fault = p.1 ∙ ap Err p.2 in
     let P : Result Images Fault → Type 0 = λ r. IfTold a b (λ old new. ReadsImages config old new r) in
-    let Q : List ℕ → Type 0 = λ text. Names (places text) (Err fault) in
-    let named : Q c.in_ok-text.text.items = subst Q c.deref.ensures.value c.in_err-first.ensures.named in
-    subst P (sym answer) (IfTold-weaker a b (λ x y h. images-unnamed config c.in_ok-text.text.items x y fault h named) c.in_ok-text.ensures.told)
+    subst P (sym answer) (IfTold-weaker a b (λ x y h. images-unread config x y fault h) c.in_err-first.ensures.told)
 
 pub returns-in_err-first-2-clause-told : goal.returns-in_err-first-2-clause-told
 returns-in_err-first-2-clause-told g c =
     let a = g.F.Files.told c.args.files.now in
-    let b = g.F.Files.told c.read_text.new.files in
+    let b = g.F.Files.told c.read_places.new.files in
     let d = g.F.Files.told c.read_copy.new.files in
     let config = string_bytes c.args.config in
     let fault = c.in_err-first-2.field-0.0 in
     let p = err_from_is_err_and c.from_residual-in_err-first-2.result c.from_residual-in_err-first-2.ensures.1 in
     let answer : c.from_residual-in_err-first-2.result ≡ Err fault = p.1 ∙ ap Err p.2 in
     let P : Result Images Fault → Type 0 = λ r. IfTold a d (λ old new. ReadsImages config old new r) in
-    let Q : List ℕ → Type 0 = λ text. places text ≡ Ok (place_shown c.in_ok-first.first ∷ second_place c.in_ok-first.second) in
-    let named : Q c.in_ok-text.text.items = subst Q c.deref.ensures.value c.in_ok-first.ensures.named in
     subst P (sym answer)
     (IfTold-then a b d
-    (λ x y z h i. first-unread config c.in_ok-text.text.items c.in_ok-first.first c.in_ok-first.second x y z fault h named i)
-    c.in_ok-text.ensures.told c.in_err-first-2.ensures.told)
+    (λ x y z h i. first-unread config c.in_ok-first.first c.in_ok-first.second x y z fault h i)
+    c.in_ok-first.ensures.told c.in_err-first-2.ensures.told)
 
 pub returns-in_err-second-clause-told : goal.returns-in_err-second-clause-told
 returns-in_err-second-clause-told g c =
     let a = g.F.Files.told c.args.files.now in
-    let b = g.F.Files.told c.read_text.new.files in
+    let b = g.F.Files.told c.read_places.new.files in
     let d = g.F.Files.told c.read_copy.new.files in
     let e = g.F.Files.told c.read_second.new.files in
     let config = string_bytes c.args.config in
@@ -51,22 +45,17 @@ returns-in_err-second-clause-told g c =
     let p = err_from_is_err_and c.from_residual-in_err-second.result c.from_residual-in_err-second.ensures.1 in
     let answer : c.from_residual-in_err-second.result ≡ Err fault = p.1 ∙ ap Err p.2 in
     let P : Result Images Fault → Type 0 = λ r. IfTold a e (λ old new. ReadsImages config old new r) in
-    let Q : List ℕ → Type 0 = λ text. places text ≡ Ok (place_shown c.in_ok-first.first ∷ second_place c.in_ok-first.second) in
-    let named : Q c.in_ok-text.text.items = subst Q c.deref.ensures.value c.in_ok-first.ensures.named in
     subst P (sym answer)
     (then-three a b d e
-    (λ x y z w h i j. second-unread config c.in_ok-text.text.items c.in_ok-first.first c.in_ok-first.second c.in_ok-first-2.first x y z w fault h named i j)
-    c.in_ok-text.ensures.told c.in_ok-first-2.ensures.told c.in_err-second.ensures.told)
+    (λ x y z w h i j. second-unread config c.in_ok-first.first c.in_ok-first.second c.in_ok-first-2.first x y z w fault h i j)
+    c.in_ok-first.ensures.told c.in_ok-first-2.ensures.told c.in_err-second.ensures.told)
 
 pub returns-clause-told : goal.returns-clause-told
 returns-clause-told g c =
     let a = g.F.Files.told c.args.files.now in
-    let b = g.F.Files.told c.read_text.new.files in
+    let b = g.F.Files.told c.read_places.new.files in
     let d = g.F.Files.told c.read_copy.new.files in
     let e = g.F.Files.told c.read_second.new.files in
-    let P : List ℕ → Type 0 = λ text. places text ≡ Ok (place_shown c.in_ok-first.first ∷ second_place c.in_ok-first.second) in
-    let named : P c.in_ok-text.text.items = subst P c.deref.ensures.value c.in_ok-first.ensures.named in
     then-three a b d e
-    (λ x y z w h i j. images-read (string_bytes c.args.config) c.in_ok-text.text.items c.in_ok-first.first c.in_ok-first.second c.in_ok-first-2.first c.in_ok-second.second x y z w h
-    named c.in_ok-first-2.ensures.place i j)
-    c.in_ok-text.ensures.told c.in_ok-first-2.ensures.told c.in_ok-second.ensures.told
+    (λ x y z w h i j. images-read (string_bytes c.args.config) c.in_ok-first.first c.in_ok-first.second c.in_ok-first-2.first c.in_ok-second.second x y z w h c.in_ok-first-2.ensures.place i j)
+    c.in_ok-first.ensures.told c.in_ok-first-2.ensures.told c.in_ok-second.ensures.told
