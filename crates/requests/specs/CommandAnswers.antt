@@ -42,7 +42,7 @@ change_of config Input order = input_scripted config order
 -- what the value asks for, if it is neither a help text nor the version
 abbrev pub meaning_of : Ask → Option Asked
 meaning_of (Print config what order) =
-    Some (printing (string_bytes config) what.header (map string_bytes what.names.items) order)
+    Some (printing (string_bytes config) what.form.header (map string_bytes what.names.items) order)
 meaning_of (Setenv config change order) =
     Some (change_of (string_bytes config) change order)
 meaning_of (Rehearse config list what order) =

@@ -4,6 +4,7 @@ ghost use Rattle.rehearse_terms.specs.Asking.{HasRoom};
 ghost use Rattle.rehearse_terms.specs.WantedShown.{wanted_strings};
 
 use envimage::ByteOrder;
+use envtools::PrintForm;
 use rehearse_terms::{RunBounds, Wanted};
 use thiserror::Error;
 
@@ -83,8 +84,8 @@ pub enum Ask {
 pub struct PrintAsk {
     /// The variables to print, in this order; none for all.
     pub names: Vec<String>,
-    /// Whether `NAME=` is printed before a value. Without it, `names` is one name.
-    pub header: bool,
+    /// How each of them is printed. Without its header, `names` is one name.
+    pub form: PrintForm,
 }
 
 /// What `setenv` is to change.

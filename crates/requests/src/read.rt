@@ -19,6 +19,7 @@ use clap::ArgMatches;
 use clap::error::ErrorKind;
 use command_line::{FAILURES_MAX, ubtool};
 use envimage::ByteOrder;
+use envtools::PrintForm;
 use rehearse_terms::{Bounds, Page, RUN_DEVICES_MAX, RunBounds, STEPS_MAX, Wanted};
 use std::alloc::{AllocError, Global};
 use std::convert::AsStr;
@@ -153,10 +154,12 @@ fn print_ask(alloc: Global, matches: &ArgMatches<'_>) -> Result<Ask, UseError>
     if no_header && names.len() != 1 {
         return Err(UseError::HeaderNeedsOne);
     }
-    let what = PrintAsk {
-        names,
+    let form = PrintForm {
         header: !no_header,
+        escaped: false,
+        null: false,
     };
+    let what = PrintAsk { names, form };
     Ok(Ask::Print {
         config: config_of(alloc, matches)?,
         what,
