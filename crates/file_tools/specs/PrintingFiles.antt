@@ -4,6 +4,7 @@ use Rattle.std.specs.Prelude.{◌≡◌, ℕ, Bool, List, [], ◌∷◌, Option,
 use Rattle.envimage.specs.Data.{Pair}
 use Rattle.envimage.specs.declared.image.ByteOrder.{ByteOrder}
 use Rattle.envimage.specs.declared.image.ImageError.{ImageError}
+use Rattle.envtools.specs.declared.print_form.PrintForm.{PrintForm}
 use Rattle.locked_files.specs.CallOrder.{OnlyReads}
 use Rattle.image_tools.specs.PrintingImages.{BreaksInPrinting, PrintsAll, environment_in}
 use Rattle.output.specs.Outputs.{AreUnchanged, Outputs}
@@ -27,14 +28,14 @@ abbrev pub environment : ByteOrder → List Copy → Result (List Pair) ImageErr
 environment order found = environment_in order (first_bytes found) (second_bytes found)
 
 -- each answer to printing the environment of copies
-abbrev pub PrintsCopies : ByteOrder → List Copy → List (List ℕ) → Bool → Outputs → Result Bool Fault → Type 0
-PrintsCopies order found names header outputs (Ok all) = PrintsAll (environment order found) names header outputs all
-PrintsCopies order found names header outputs (Err (Tool (Image error))) =
+abbrev pub PrintsCopies : ByteOrder → List Copy → List (List ℕ) → PrintForm → Outputs → Result Bool Fault → Type 0
+PrintsCopies order found names form outputs (Ok all) = PrintsAll (environment order found) names form outputs all
+PrintsCopies order found names form outputs (Err (Tool (Image error))) =
     (environment order found ≡ Err error) × AreUnchanged outputs
-PrintsCopies order found names header outputs (Err (Tool Write)) =
-    BreaksInPrinting (environment order found) names header outputs
-PrintsCopies order found names header outputs (Err Memory) = AreUnchanged outputs
-PrintsCopies order found names header outputs (Err fault) = ⊥
+PrintsCopies order found names form outputs (Err (Tool Write)) =
+    BreaksInPrinting (environment order found) names form outputs
+PrintsCopies order found names form outputs (Err Memory) = AreUnchanged outputs
+PrintsCopies order found names form outputs (Err fault) = ⊥
 
 -- Copies were read, and they have this property.
 pub record FromImages (config : List ℕ) (old new : Told) (IsSo : List Copy → Type 0) : Type 0 where
@@ -43,14 +44,14 @@ pub record FromImages (config : List ℕ) (old new : Told) (IsSo : List Copy →
   pub so : IsSo found
 
 -- the images of the configuration were read and printed, or refused; memory may run out at any time
-abbrev pub PrintsFrom : ByteOrder → List ℕ → List (List ℕ) → Bool → Outputs → Told → Told → Result Bool Fault → Type 0
-PrintsFrom order config names header outputs old new (Ok all) =
-    FromImages config old new (λ found. PrintsAll (environment order found) names header outputs all)
-PrintsFrom order config names header outputs old new (Err (Tool (Image error))) =
+abbrev pub PrintsFrom : ByteOrder → List ℕ → List (List ℕ) → PrintForm → Outputs → Told → Told → Result Bool Fault → Type 0
+PrintsFrom order config names form outputs old new (Ok all) =
+    FromImages config old new (λ found. PrintsAll (environment order found) names form outputs all)
+PrintsFrom order config names form outputs old new (Err (Tool (Image error))) =
     FromImages config old new (λ found. environment order found ≡ Err error)
-PrintsFrom order config names header outputs old new (Err (Tool Write)) =
-    FromImages config old new (λ found. BreaksInPrinting (environment order found) names header outputs)
-PrintsFrom order config names header outputs old new (Err fault) = OnlyReads old new
+PrintsFrom order config names form outputs old new (Err (Tool Write)) =
+    FromImages config old new (λ found. BreaksInPrinting (environment order found) names form outputs)
+PrintsFrom order config names form outputs old new (Err fault) = OnlyReads old new
     × IsImagesFault config old.stored fault
 
 -- a refusal other than that of an output leaves both as they were

@@ -9,6 +9,7 @@ ghost use Rattle.file_tools.specs.PrintingFiles.{LeavesOutputs, PrintsCopies, Pr
 
 use crate::images::{Images, read_images};
 use envimage::ByteOrder;
+use envtools::PrintForm;
 use image_tools::{Fault, print_bytes};
 use locked_files::Files;
 use output::Out;
@@ -36,22 +37,22 @@ fn print_images<O: Out, E: Out>(
     images: &Images,
     order: ByteOrder,
     names: &[&[u8]],
-    header: bool,
+    form: PrintForm,
     out: &mut O,
     err: &mut E,
 ) -> Result<bool, Fault>
-    requires { header ≡ false → length names.now ≡ 1 }
-    ensures { PrintsCopies order (copies images.now) (map (λ n. n.now) names.now) header
+    requires { form.header ≡ false → length names.now ≡ 1 }
+    ensures { PrintsCopies order (copies images.now) (map (λ n. n.now) names.now) form
         (outputs (O.sink out.old) (O.sink out.new) (E.sink err.old) (E.sink err.new)) result }
 {
     let second = images.second_bytes();
-    let ask = image_tools::PrintAsk { names, header };
+    let ask = image_tools::PrintAsk { names, form };
     Ok(print_bytes(alloc, &images.first.bytes, second, order, &ask, out, err)?)
 }
 
 /// Prints the variables of the images that a configuration names: all of them, or the ones that are
-/// asked for, in this order. Returns false if a name is missing. Without `header` only the value of
-/// the one name is printed.
+/// asked for, in this order, in the form that is asked for. Returns false if a name is missing.
+/// Without the header only the value of the one name is printed.
 pub fn print_files<F: Files, O: Out, E: Out>(
     alloc: Global,
     files: &mut F,
@@ -61,12 +62,12 @@ pub fn print_files<F: Files, O: Out, E: Out>(
     out: &mut O,
     err: &mut E,
 ) -> Result<bool, Fault>
-    requires { what.now.header ≡ false → length what.now.names.items ≡ 1 }
+    requires { what.now.form.header ≡ false → length what.now.names.items ≡ 1 }
     ensures count { CountsTold (F.faults files.old) (F.faults files.new) result }
     ensures lock { F.locked files.new ≡ F.locked files.old }
     ensures told { IfTold (F.told files.old) (F.told files.new) (λ old new.
         PrintsFrom order (string_bytes config) (map string_bytes what.now.names.items)
-        what.now.header
+        what.now.form
         (outputs (O.sink out.old) (O.sink out.new) (E.sink err.old) (E.sink err.new)) old new
         result) }
     ensures outputs { LeavesOutputs result
@@ -74,5 +75,5 @@ pub fn print_files<F: Files, O: Out, E: Out>(
 {
     let images = read_images(alloc, files, config)?;
     let names = slices_of(alloc, &what.names)?;
-    print_images(alloc, &images, order, &names, what.header, out, err)
+    print_images(alloc, &images, order, &names, what.form, out, err)
 }
