@@ -4,6 +4,7 @@ use Rattle.std.specs.Prelude.{◌≡◌, ◌⊎◌, ℕ, Bool, List, [], ◌∷�
 use Rattle.envimage.specs.Data.{Pair}
 use Rattle.envimage.specs.declared.image.ByteOrder.{ByteOrder}
 use Rattle.envimage.specs.declared.image.ImageError.{ImageError}
+use Rattle.envtools.specs.declared.print_form.PrintForm.{PrintForm}
 use Rattle.locked_files.specs.CallOrder.{OnlyReads}
 use Rattle.image_tools.specs.PrintingImages.{BreaksInPrinting, PrintsAll, environment_in}
 use Rattle.output.specs.Outputs.{AreUnchanged, Outputs}
@@ -31,14 +32,14 @@ abbrev pub environment : ByteOrder → List Copy → Result (List Pair) ImageErr
 environment order found = environment_in order (first_bytes found) (second_bytes found)
 
 -- each answer to printing the environment of copies
-abbrev pub PrintsCopies : ByteOrder → List Copy → List (List ℕ) → Bool → Outputs → Result Bool Fault → Type 0
-PrintsCopies order found names header outputs (Ok all) = PrintsAll (environment order found) names header outputs all
-PrintsCopies order found names header outputs (Err (Tool (Image error))) =
+abbrev pub PrintsCopies : ByteOrder → List Copy → List (List ℕ) → PrintForm → Outputs → Result Bool Fault → Type 0
+PrintsCopies order found names form outputs (Ok all) = PrintsAll (environment order found) names form outputs all
+PrintsCopies order found names form outputs (Err (Tool (Image error))) =
     (environment order found ≡ Err error) × AreUnchanged outputs
-PrintsCopies order found names header outputs (Err (Tool Write)) =
-    BreaksInPrinting (environment order found) names header outputs
-PrintsCopies order found names header outputs (Err Memory) = AreUnchanged outputs
-PrintsCopies order found names header outputs (Err fault) = ⊥
+PrintsCopies order found names form outputs (Err (Tool Write)) =
+    BreaksInPrinting (environment order found) names form outputs
+PrintsCopies order found names form outputs (Err Memory) = AreUnchanged outputs
+PrintsCopies order found names form outputs (Err fault) = ⊥
 
 -- Copies were read, and they have this property.
 pub record FromImages (config : List ℕ) (old new : Told) (IsSo : List Copy → Type 0) : Type 0 where
@@ -62,10 +63,10 @@ IsNotFound source outputs old new (Err fault) = OnlyReads old new
     × AreUnchanged outputs
 
 -- the images of the source were found and then printed, or they are refused
-abbrev pub PrintsFrom : (program : List ℕ) → ImageSource → List (List ℕ) → Bool → Outputs → Told → Told →
+abbrev pub PrintsFrom : (program : List ℕ) → ImageSource → List (List ℕ) → PrintForm → Outputs → Told → Told →
     Result Bool Fault → Type 0
-PrintsFrom program source names header outputs old new answer =
-    FromFound program source outputs old new (λ found s. PrintsCopies source.order found names header s answer)
+PrintsFrom program source names form outputs old new answer =
+    FromFound program source outputs old new (λ found s. PrintsCopies source.order found names form s answer)
     ⊎ IsNotFound source outputs old new answer
 
 -- a refusal other than that of an output leaves both as they were; it may only be told that a copy is lost

@@ -10,6 +10,7 @@ ghost use Rattle.file_tools.specs.PrintingFiles.{LeavesOutputs, PrintsCopies, Pr
 use crate::images::Images;
 use crate::one_copy::{ImageSource, read_source};
 use envimage::ByteOrder;
+use envtools::PrintForm;
 use image_tools::{Fault, print_bytes};
 use locked_files::Files;
 use output::Out;
@@ -37,22 +38,23 @@ fn print_images<O: Out, E: Out>(
     images: &Images,
     order: ByteOrder,
     names: &[&[u8]],
-    header: bool,
+    form: PrintForm,
     out: &mut O,
     err: &mut E,
 ) -> Result<bool, Fault>
-    requires { header ≡ false → length names.now ≡ 1 }
-    ensures { PrintsCopies order (copies images.now) (map (λ n. n.now) names.now) header
+    requires { form.header ≡ false → length names.now ≡ 1 }
+    ensures { PrintsCopies order (copies images.now) (map (λ n. n.now) names.now) form
         (outputs (O.sink out.old) (O.sink out.new) (E.sink err.old) (E.sink err.new)) result }
 {
     let second = images.second_bytes();
-    let ask = image_tools::PrintAsk { names, header };
+    let ask = image_tools::PrintAsk { names, form };
     Ok(print_bytes(alloc, &images.first.bytes, second, order, &ask, out, err)?)
 }
 
 /// Prints the variables of the images of a source: all of them, or the ones that are asked for, in
-/// this order. Returns false if a name is missing. Without `header` only the value of the one name is
-/// printed. If a copy is lost, and one is enough, that is reported on `err` first.
+/// this order, in the form that is asked for. Returns false if a name is missing. Without the header
+/// only the value of the one name is printed. If a copy is lost, and one is enough, that is reported
+/// on `err` first.
 pub fn print_files<F: Files, O: Out, E: Out>(
     alloc: Global,
     files: &mut F,
@@ -62,12 +64,12 @@ pub fn print_files<F: Files, O: Out, E: Out>(
     out: &mut O,
     err: &mut E,
 ) -> Result<bool, Fault>
-    requires { what.now.header ≡ false → length what.now.names.items ≡ 1 }
+    requires { what.now.form.header ≡ false → length what.now.names.items ≡ 1 }
     ensures count { CountsReads source.one_copy (F.faults files.old) (F.faults files.new) result }
     ensures lock { F.locked files.new ≡ F.locked files.old }
     ensures told { IfTold (F.told files.old) (F.told files.new) (λ old new.
         PrintsFrom program.now source (map string_bytes what.now.names.items)
-        what.now.header
+        what.now.form
         (outputs (O.sink out.old) (O.sink out.new) (E.sink err.old) (E.sink err.new)) old new
         result) }
     ensures outputs { LeavesOutputs program.now source.one_copy result
@@ -76,5 +78,5 @@ pub fn print_files<F: Files, O: Out, E: Out>(
     let order = source.order;
     let images = read_source(alloc, files, program, source, err)?;
     let names = slices_of(alloc, &what.names)?;
-    print_images(alloc, &images, order, &names, what.header, out, err)
+    print_images(alloc, &images, order, &names, what.form, out, err)
 }

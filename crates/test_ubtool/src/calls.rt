@@ -7,7 +7,7 @@ use crate::writers::Tested;
 use envimage::{
     ByteOrder, ConfigError, DataError, Place, Which, check_data, crc32, encode, parse_config,
 };
-use envtools::{Env, EnvError, ScriptError, apply_script};
+use envtools::{Env, EnvError, PrintForm, ScriptError, apply_script};
 use file_tools::Build;
 use image_tools::{Edit, PrintAsk, ToolError, print_bytes, run_input, set_bytes};
 use locked_files::MemoryFiles;
@@ -73,7 +73,7 @@ pub(crate) fn changed(
     set_bytes(alloc, first, second, order, edit)
 }
 
-/// Prints the image of a case: variables, or the value of one name alone.
+/// Prints the image of a case in its form: variables, or the value of one name alone.
 pub(crate) fn print<'a>(
     case: &Case<'_>,
     names: &'a [&'a [u8]],
@@ -81,10 +81,11 @@ pub(crate) fn print<'a>(
     out: &mut Tested,
     err: &mut Tested,
 ) -> Result<bool, ToolError> {
-    let ask = PrintAsk {
-        names,
+    let form = PrintForm {
         header: !is_value || names.len() != 1,
+        ..case.form
     };
+    let ask = PrintAsk { names, form };
     let second = case.second.as_ref().map(|bytes| bytes.as_slice());
     print_bytes(case.alloc, &case.first, second, case.order, &ask, out, err)
 }

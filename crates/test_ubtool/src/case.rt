@@ -4,7 +4,7 @@ use crate::readers::Source;
 use crate::writers::Mode;
 use crate::{commands, environments, faults, files, images, outputs, performing};
 use envimage::ByteOrder;
-use envtools::Env;
+use envtools::{Env, PrintForm};
 use locked_files::MemoryFiles;
 use requests::CalledAs;
 use std::alloc::{AllocError, Global};
@@ -20,6 +20,8 @@ pub(crate) struct Case<'a> {
     /// The second copy of a pair.
     pub(crate) second: Option<Vec<u8>>,
     pub(crate) order: ByteOrder,
+    /// How variables of the image are printed.
+    pub(crate) form: PrintForm,
     pub(crate) env: Env,
     /// The files that a call begins with.
     pub(crate) given: Vec<(String, Vec<u8>)>,
@@ -52,6 +54,11 @@ impl<'a> Case<'a> {
             first: Vec::new(alloc),
             second: None,
             order: ByteOrder::Little,
+            form: PrintForm {
+                header: true,
+                escaped: false,
+                null: false,
+            },
             env: Env::new(alloc),
             given: Vec::new(alloc),
             failing: None,
@@ -131,6 +138,8 @@ impl<'a> Case<'a> {
     fn choose(&mut self, word: &str) -> anyhow::Result<()> {
         match word {
             "big-endian" => self.order = ByteOrder::Big,
+            "escaped" => self.form.escaped = true,
+            "null" => self.form.null = true,
             "machine" => self.is_machine = true,
             "fw-tool" => self.called = CalledAs::FwSetenv,
             _ => anyhow::bail!("no row begins so"),

@@ -6,6 +6,7 @@
 //!
 //! - `first BYTES` and `second BYTES`, the image or the copies of a pair, `big-endian`, its byte order, and
 //!   `encode SIZE [FLAG]`, which puts the image of the environment after the first;
+//! - `escaped` and `null`, how `print` and `value` print;
 //! - `env CHANGE`, which changes the environment: `set`, `change`, `remove`, `script` and `data`; `env show` and
 //!   `env copy` tell it;
 //! - `file PATH BYTES`, `copy-of-file PATH`, a file with the image, and `failing N`, the call of files that fails;

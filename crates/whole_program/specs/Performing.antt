@@ -18,7 +18,7 @@ use Rattle.file_tools.specs.ChangingFiles.{Sets}
 
 -- a value without its name is asked for only with one name
 abbrev pub IsComplete : Ask → Type 0
-IsComplete (Print config what order) = what.header ≡ false → length what.names.items ≡ 1
+IsComplete (Print config what order) = what.form.header ≡ false → length what.names.items ≡ 1
 IsComplete ask = Unit {0}
 
 -- a change was made, which is all that the answer says
@@ -32,7 +32,7 @@ SetsOf input order config change old new (Err fault) = Sets input order config c
 abbrev pub Does : Build → (input : Option (List ℕ)) → Ask → Option Told → Option Told → Outputs → Result Bool Fault → Type 0
 Does build input (Print config what order) before after outputs result =
     IfTold before after (λ old new.
-    PrintsFrom order (string_bytes config) (map string_bytes what.names.items) what.header outputs old new result)
+    PrintsFrom order (string_bytes config) (map string_bytes what.names.items) what.form outputs old new result)
     × LeavesOutputs result outputs
 Does build input (Setenv config change order) before after outputs result =
     IfTold before after (λ old new. SetsOf input order (string_bytes config) change old new result)
