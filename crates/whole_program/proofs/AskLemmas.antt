@@ -102,10 +102,10 @@ asked-fit called words = by (subcommand_of ubtool words)
 
 -- what was asked for is complete
 pub answer-complete : (called : CalledAs) (words : List Text) (ask : Ask) → Answers called words (Ok ask) → IsComplete ask
-answer-complete called words (Print config what order) h =
-    let fit : IsFit (meaning_of (Print config what order)) = subst IsFit (sym h.1) (asked-fit called words) in
+answer-complete called words (Print config what order one_copy) h =
+    let fit : IsFit (meaning_of (Print config what order one_copy)) = subst IsFit (sym h.1) (asked-fit called words) in
     λ none. sym (length-map what.names.items string_bytes) ∙ fit none
-answer-complete called words (Setenv config change order) h = tt
+answer-complete called words (Setenv config change order one_copy) h = tt
 answer-complete called words (Rehearse config list what order) h = tt
 answer-complete called words (Endings config list what order) h = tt
 answer-complete called words (Help text) h = tt

@@ -5,5 +5,5 @@ use Rattle.requests.specs.declared.ask.Ask.TheVariants.{Setenv}
 
 -- whether the lock was taken before and after what is asked for: a change takes it, and nothing else does
 abbrev pub LocksFor : Ask → (before after : Bool) → Type 0
-LocksFor (Setenv config change order) before after = after ≡ true
+LocksFor (Setenv config change order one_copy) before after = after ≡ true
 LocksFor ask before after = after ≡ before

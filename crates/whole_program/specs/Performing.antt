@@ -1,11 +1,13 @@
 -- What is done for what is asked, on files whose contents are known. The subcommands follow fw_printenv and fw_setenv
 -- (U-Boot, tools/env README). The rehearsal is ours.
-use Rattle.std.specs.Prelude.{◌≡◌, ℕ, Bool, true, false, List, codes, length, map, Option, Result, Ok, Err, string_bytes}
+use Rattle.std.specs.Prelude.{◌≡◌, ℕ, Bool, true, false, List, codes, length, map, Option, Result, Ok, Err, String, string_bytes}
+use Rattle.std.specs.declared.alloc.Global.{Global}
 use Rattle.envimage.specs.declared.image.ByteOrder.{ByteOrder}
 use Rattle.requests.specs.declared.ask.Ask.{Ask}
 use Rattle.requests.specs.declared.ask.Ask.TheVariants.{Endings, Help, Print, Rehearse, Setenv, Version}
 use Rattle.requests.specs.declared.ask.Change.{Change}
-use Rattle.output.specs.Outputs.{AreUnchanged, Outputs}
+use Rattle.output.specs.Outputs.{Outputs}
+use Rattle.output.specs.Sink.{Sink}
 use Rattle.locked_files.specs.Told.{IfTold, Told}
 use Rattle.image_tools.specs.declared.fault.Fault.{Fault}
 use Rattle.file_tools.specs.Builds.{version_line}
@@ -15,37 +17,55 @@ use Rattle.whole_program.specs.EndingsOfFiles.{TellsFrom}
 use Rattle.file_tools.specs.PrintingFiles.{LeavesOutputs, PrintsFrom}
 use Rattle.whole_program.specs.RehearsingFiles.{LeavesOutput, RehearsesFrom}
 use Rattle.file_tools.specs.ChangingFiles.{Sets}
+use Rattle.file_tools.specs.Faults.{CountsReads, CountsTold}
+use Rattle.file_tools.specs.Notes.{TellsNotes}
+use Rattle.file_tools.specs.declared.one_copy.ImageSource.{ImageSource}
 
 -- a value without its name is asked for only with one name
 abbrev pub IsComplete : Ask → Type 0
-IsComplete (Print config what order) = what.form.header ≡ false → length what.names.items ≡ 1
+IsComplete (Print config what order one_copy) = what.form.header ≡ false → length what.names.items ≡ 1
 IsComplete ask = Unit {0}
 
--- a change was made, which is all that the answer says
-abbrev pub SetsOf : (input : Option (List ℕ)) → ByteOrder → List ℕ → Change → Told → Told → Result Bool Fault →
-    Type 0
-SetsOf input order config change old new (Ok all) = (all ≡ true) × Sets input order config change old new (Ok tt)
-SetsOf input order config change old new (Err fault) = Sets input order config change old new (Err fault)
+-- the images that are meant, and how they are read
+abbrev pub source_of : String Global → ByteOrder → (one_copy : Bool) → ImageSource
+source_of config order one_copy = record { config = config; order = order; one_copy = one_copy }
 
--- What a program of this build does for it, with an input of these bytes, if they are known, with the files before and
--- after, and on the outputs.
-abbrev pub Does : Build → (input : Option (List ℕ)) → Ask → Option Told → Option Told → Outputs → Result Bool Fault → Type 0
-Does build input (Print config what order) before after outputs result =
+-- a change was made, which is all that the answer says
+abbrev pub SetsOf : (program : List ℕ) → (input : Option (List ℕ)) → ImageSource → Change → (err err' : Sink) → Told →
+    Told → Result Bool Fault → Type 0
+SetsOf program input source change err err' old new (Ok all) =
+    (all ≡ true) × Sets program input source change err err' old new (Ok tt)
+SetsOf program input source change err err' old new (Err fault) =
+    Sets program input source change err err' old new (Err fault)
+
+-- the count of failures of the device: one more than the answer tells, if one copy of a pair is enough and one is lost
+abbrev pub Counts : Ask → ℕ → ℕ → Result Bool Fault → Type 0
+Counts (Print config what order one_copy) old new result = CountsReads one_copy old new result
+Counts (Setenv config change order one_copy) old new result = CountsReads one_copy old new result
+Counts ask old new result = CountsTold old new result
+
+-- What a program of this name and build does for it, with an input of these bytes, if they are known, with the files
+-- before and after, and on the outputs.
+abbrev pub Does : (program : List ℕ) → Build → (input : Option (List ℕ)) → Ask → Option Told → Option Told → Outputs →
+    Result Bool Fault → Type 0
+Does program build input (Print config what order one_copy) before after outputs result =
+    IfTold before after (λ old new. PrintsFrom program (source_of config order one_copy)
+    (map string_bytes what.names.items) what.form outputs old new result)
+    × LeavesOutputs program one_copy result outputs
+Does program build input (Setenv config change order one_copy) before after outputs result =
     IfTold before after (λ old new.
-    PrintsFrom order (string_bytes config) (map string_bytes what.names.items) what.form outputs old new result)
-    × LeavesOutputs result outputs
-Does build input (Setenv config change order) before after outputs result =
-    IfTold before after (λ old new. SetsOf input order (string_bytes config) change old new result)
-    × AreUnchanged outputs
-Does build input (Rehearse config device_list what order) before after outputs result =
+    SetsOf program input (source_of config order one_copy) change outputs.err outputs.err' old new result)
+    × (outputs.out' ≡ outputs.out)
+    × TellsNotes program one_copy result outputs.err outputs.err'
+Does program build input (Rehearse config device_list what order) before after outputs result =
     IfTold before after (λ old new.
     RehearsesFrom order (string_bytes config) (string_bytes device_list) what outputs.out outputs.out' old new result)
     × LeavesOutput result outputs.out outputs.out'
     × (outputs.err' ≡ outputs.err)
-Does build input (Endings config device_list what order) before after outputs result =
+Does program build input (Endings config device_list what order) before after outputs result =
     IfTold before after (λ old new.
     TellsFrom order (string_bytes config) (string_bytes device_list) what outputs.out outputs.out' old new result)
     × LeavesOutput result outputs.out outputs.out'
     × (outputs.err' ≡ outputs.err)
-Does build input (Help text) before after outputs result = Shows (string_bytes text) before after outputs result
-Does build input Version before after outputs result = Shows (version_line (codes "ubtool") build) before after outputs result
+Does program build input (Help text) before after outputs result = Shows (string_bytes text) before after outputs result
+Does program build input Version before after outputs result = Shows (version_line (codes "ubtool") build) before after outputs result

@@ -9,7 +9,7 @@ use Rattle.requests.specs.declared.ask.Ask.{Ask}
 use Rattle.requests.specs.declared.called.CalledAs.{CalledAs}
 use Rattle.image_tools.specs.Input.{PrintsInput, RefusesInput, TellsOnly}
 use Rattle.whole_program.specs.Locking.{LocksFor}
-use Rattle.whole_program.specs.Performing.{Does}
+use Rattle.whole_program.specs.Performing.{Counts, Does}
 use Rattle.file_tools.specs.Running.{FilesShown, HasDone, HasRefused, IsMisused}
 use Rattle.file_tools.specs.declared.build.Build.{Build}
 
@@ -28,7 +28,8 @@ pub record HasPrinted (input : Option (List ℕ)) (before after : FilesShown) (o
 pub record HasEnded (called : CalledAs) (build : Build) (input : Option (List ℕ)) (words : List Text)
     (before after : FilesShown) (outputs : Outputs) (status : ℕ) : Type 0 where
   pub bound : status ≤ 2
-  pub done : status ≡ 0 → HasDone (Answers called) (Does build input) words before after outputs
-  pub refused : status ≡ 1 → HasRefused (name_of called) (Answers called) (Does build input) words before after outputs
+  pub done : status ≡ 0 → HasDone (Answers called) Counts (Does (name_of called) build input) words before after outputs
+  pub refused : status ≡ 1 → HasRefused (name_of called) (Answers called) Counts (Does (name_of called) build input)
+      words before after outputs
   pub misused : status ≡ 2 → IsMisused (name_of called) (Answers called) words before after outputs
   pub lock : status ≤ 1 → (ask : Ask) × Answers called words (Ok ask) × LocksFor ask before.locked after.locked

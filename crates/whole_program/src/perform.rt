@@ -1,13 +1,12 @@
 //! Does what is asked for.
 ghost use Rattle.output.specs.Outputs.{outputs};
-ghost use Rattle.whole_program.specs.Performing.{Does, IsComplete};
-ghost use Rattle.file_tools.specs.Faults.{CountsTold};
+ghost use Rattle.whole_program.specs.Performing.{Counts, Does, IsComplete};
 ghost use Rattle.whole_program.specs.Locking.{LocksFor};
 
 use crate::endings::endings;
 use crate::rehearsing::rehearse;
 use crate::tool::PROGRAM;
-use file_tools::{Build, print_files, set_files, show_help, show_version};
+use file_tools::{Build, ImageSource, print_files, set_files, show_help, show_version};
 use image_tools::Fault;
 use locked_files::Files;
 use output::Out;
@@ -16,10 +15,11 @@ use std::alloc::Global;
 use std::io::Read;
 
 /// Does what is asked for. Takes the lock for a change, before its first read, and for nothing else.
-/// A script of changes may be on `input`, and the version names `build`. Returns false if a variable
-/// that was to be printed is missing.
+/// A script of changes may be on `input`, and the version names `build`. What is reported meanwhile has
+/// the name `program` in front. Returns false if a variable that was to be printed is missing.
 pub fn perform<R: Read, F: Files, O: Out, E: Out>(
     alloc: Global,
+    program: &str,
     build: Build,
     ask: Ask,
     input: &mut R,
@@ -28,9 +28,9 @@ pub fn perform<R: Read, F: Files, O: Out, E: Out>(
     err: &mut E,
 ) -> Result<bool, Fault>
     requires { IsComplete ask }
-    ensures count { CountsTold (F.faults files.old) (F.faults files.new) result }
+    ensures count { Counts ask (F.faults files.old) (F.faults files.new) result }
     ensures lock { LocksFor ask (F.locked files.old) (F.locked files.new) }
-    ensures does { Does build (R.remaining input.old) ask (F.told files.old) (F.told files.new)
+    ensures does { Does program.now build (R.remaining input.old) ask (F.told files.old) (F.told files.new)
         (outputs (O.sink out.old) (O.sink out.new) (E.sink err.old) (E.sink err.new)) result }
 {
     match ask {
@@ -38,14 +38,28 @@ pub fn perform<R: Read, F: Files, O: Out, E: Out>(
             config,
             what,
             order,
-        } => print_files(alloc, files, config, &what, order, out, err),
+            one_copy,
+        } => {
+            let source = ImageSource {
+                config,
+                order,
+                one_copy,
+            };
+            print_files(alloc, files, program, source, &what, out, err)
+        }
         Ask::Setenv {
             config,
             change,
             order,
+            one_copy,
         } => {
             files.lock();
-            match set_files(alloc, input, files, config, change, order) {
+            let source = ImageSource {
+                config,
+                order,
+                one_copy,
+            };
+            match set_files(alloc, input, files, program, source, change, err) {
                 Ok(()) => Ok(true),
                 Err(fault) => Err(fault),
             }

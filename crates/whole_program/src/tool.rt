@@ -37,8 +37,9 @@ fn run_words<S: AsStr, R: Read, F: Files, O: Out, E: Out>(
 {
     match read_command(alloc, called, words) {
         Ok(ask) => {
-            let answer = perform(alloc, build, ask, input, files, out, err);
-            status_of(err, called.name(), REFUSED, answer)
+            let program = called.name();
+            let answer = perform(alloc, program, build, ask, input, files, out, err);
+            status_of(err, program, REFUSED, answer)
         }
         Err(error) => {
             refuse(err, called.name(), &error);
