@@ -29,21 +29,21 @@ ends-low program (Ok true) told err' status ends = omega (arith, ends.0)
 ends-low program (Ok false) told err' status ends = omega (arith, ends.0)
 ends-low program (Err fault) told err' status ends = omega (arith, ends.0)
 
-pub status-done : {Ask : Type 0} {locked locked' : Bool} (program : List ℕ) (Answers : List Text → Result Ask UseError → Type 0) (Counts : Ask → ℕ → ℕ → Result Bool Fault → Type 0) (Does : Ask → Option Told → Option Told → Outputs → Result Bool Fault → Type 0)
+pub status-done : {Ask : Type 0} {locked locked' : Bool} (program : List ℕ) (Answers : List Text → Result Ask UseError → Type 0) (Leaves : Ask → Result Bool Fault → FilesShown → FilesShown → Type 0) (Does : Ask → Option Told → Option Told → Outputs → Result Bool Fault → Type 0)
     (words : List Text) (ask : Ask) (faults faults' : ℕ) (before after : Option Told) (out out' err told err' : Sink) (answer : Result Bool Fault) (status : ℕ)
-    → Answers words (Ok ask) → Counts ask faults faults' answer → Does ask before after (outputs out out' err told) answer → Ends program 1 answer told err' status → status ≡ 0
-    → HasDone Answers Counts Does words (files faults before locked) (files faults' after locked') (outputs out out' err err')
-status-done program Answers Counts Does words ask faults faults' before after out out' err told err' (Ok true) status asked counts does ends is =
-    record { ask = ask; asked = asked; counts = counts; does = subst (λ (e : Sink). Does ask before after (outputs out out' err e) (Ok true)) (sym ends.1) does }
-status-done program Answers Counts Does words ask faults faults' before after out out' err told err' (Ok false) status asked counts does ends is = let e : ⊥ = omega (arith, ends.0, is) in absurd e
-status-done program Answers Counts Does words ask faults faults' before after out out' err told err' (Err fault) status asked counts does ends is = let e : ⊥ = omega (arith, ends.0, is) in absurd e
+    → Answers words (Ok ask) → Leaves ask answer (files faults before locked) (files faults' after locked') → Does ask before after (outputs out out' err told) answer → Ends program 1 answer told err' status → status ≡ 0
+    → HasDone Answers Leaves Does words (files faults before locked) (files faults' after locked') (outputs out out' err err')
+status-done program Answers Leaves Does words ask faults faults' before after out out' err told err' (Ok true) status asked leaves does ends is =
+    record { ask = ask; asked = asked; leaves = leaves; does = subst (λ (e : Sink). Does ask before after (outputs out out' err e) (Ok true)) (sym ends.1) does }
+status-done program Answers Leaves Does words ask faults faults' before after out out' err told err' (Ok false) status asked leaves does ends is = let e : ⊥ = omega (arith, ends.0, is) in absurd e
+status-done program Answers Leaves Does words ask faults faults' before after out out' err told err' (Err fault) status asked leaves does ends is = let e : ⊥ = omega (arith, ends.0, is) in absurd e
 
-pub status-refused : {Ask : Type 0} {locked locked' : Bool} (program : List ℕ) (Answers : List Text → Result Ask UseError → Type 0) (Counts : Ask → ℕ → ℕ → Result Bool Fault → Type 0) (Does : Ask → Option Told → Option Told → Outputs → Result Bool Fault → Type 0)
+pub status-refused : {Ask : Type 0} {locked locked' : Bool} (program : List ℕ) (Answers : List Text → Result Ask UseError → Type 0) (Leaves : Ask → Result Bool Fault → FilesShown → FilesShown → Type 0) (Does : Ask → Option Told → Option Told → Outputs → Result Bool Fault → Type 0)
     (words : List Text) (ask : Ask) (faults faults' : ℕ) (before after : Option Told) (out out' err told err' : Sink) (answer : Result Bool Fault) (status : ℕ)
-    → Answers words (Ok ask) → Counts ask faults faults' answer → Does ask before after (outputs out out' err told) answer → Ends program 1 answer told err' status → status ≡ 1
-    → HasRefused program Answers Counts Does words (files faults before locked) (files faults' after locked') (outputs out out' err err')
-status-refused program Answers Counts Does words ask faults faults' before after out out' err told err' (Ok true) status asked counts does ends is = let e : ⊥ = omega (arith, ends.0, is) in absurd e
-status-refused program Answers Counts Does words ask faults faults' before after out out' err told err' (Ok false) status asked counts does ends is =
-    record { ask = ask; asked = asked; answer = Ok false; is_refusal = λ e. cc; counts = counts; told_from = told; told = ends.1; does = does }
-status-refused program Answers Counts Does words ask faults faults' before after out out' err told err' (Err fault) status asked counts does ends is =
-    record { ask = ask; asked = asked; answer = Err fault; is_refusal = λ e. cc; counts = counts; told_from = told; told = ends.1; does = does }
+    → Answers words (Ok ask) → Leaves ask answer (files faults before locked) (files faults' after locked') → Does ask before after (outputs out out' err told) answer → Ends program 1 answer told err' status → status ≡ 1
+    → HasRefused program Answers Leaves Does words (files faults before locked) (files faults' after locked') (outputs out out' err err')
+status-refused program Answers Leaves Does words ask faults faults' before after out out' err told err' (Ok true) status asked leaves does ends is = let e : ⊥ = omega (arith, ends.0, is) in absurd e
+status-refused program Answers Leaves Does words ask faults faults' before after out out' err told err' (Ok false) status asked leaves does ends is =
+    record { ask = ask; asked = asked; answer = Ok false; is_refusal = λ e. cc; leaves = leaves; told_from = told; told = ends.1; does = does }
+status-refused program Answers Leaves Does words ask faults faults' before after out out' err told err' (Err fault) status asked leaves does ends is =
+    record { ask = ask; asked = asked; answer = Err fault; is_refusal = λ e. cc; leaves = leaves; told_from = told; told = ends.1; does = does }

@@ -23,15 +23,14 @@ pub record FilesShown : Type 0 where
 abbrev pub files_shown : {F : Type 0} → Ghosts F → F → FilesShown
 files_shown g files = record { faults = g.faults files; told = g.told files; locked = g.locked files }
 
--- Status 0: the words ask for something, and it was done; the calls on files that failed are counted as what was asked
--- for allows.
+-- Status 0: the words ask for something, and it was done. What the files show then is as what was asked for allows.
 pub record HasDone {Ask : Type 0} (Answers : List Text → Result Ask UseError → Type 0)
-    (Counts : Ask → ℕ → ℕ → Result Bool Fault → Type 0)
+    (Leaves : Ask → Result Bool Fault → FilesShown → FilesShown → Type 0)
     (Does : Ask → Option Told → Option Told → Outputs → Result Bool Fault → Type 0)
     (words : List Text) (before after : FilesShown) (outputs : Outputs) : Type 0 where
   pub ask : Ask
   pub asked : Answers words (Ok ask)
-  pub counts : Counts ask before.faults after.faults (Ok true)
+  pub leaves : Leaves ask (Ok true) before after
   pub does : Does ask before.told after.told outputs (Ok true)
 
 -- a fault is reported last, in one line, and with any other answer nothing is reported
@@ -40,17 +39,17 @@ TellsLast program (Ok all) old new = new ≡ old
 TellsLast program (Err fault) old new = TellsLine program old new
 
 -- Status 1: the words ask for something. Either the answer is no, as for a missing variable; or it was refused, and one
--- line of the program is the last thing reported on the error output. The calls on files that failed are counted as what
--- was asked for and the answer say.
+-- line of the program is the last thing reported on the error output. What the files show then is as what was asked for and
+-- the answer say.
 pub record HasRefused {Ask : Type 0} (program : List ℕ) (Answers : List Text → Result Ask UseError → Type 0)
-    (Counts : Ask → ℕ → ℕ → Result Bool Fault → Type 0)
+    (Leaves : Ask → Result Bool Fault → FilesShown → FilesShown → Type 0)
     (Does : Ask → Option Told → Option Told → Outputs → Result Bool Fault → Type 0)
     (words : List Text) (before after : FilesShown) (outputs : Outputs) : Type 0 where
   pub ask : Ask
   pub asked : Answers words (Ok ask)
   pub answer : Result Bool Fault
   pub is_refusal : (answer ≡ Ok true) → ⊥
-  pub counts : Counts ask before.faults after.faults answer
+  pub leaves : Leaves ask answer before after
   pub told_from : Sink
   pub told : TellsLast program answer told_from outputs.err'
   pub does : Does ask before.told after.told (record outputs { err' = told_from }) answer

@@ -1,5 +1,5 @@
 -- What is done for what is asked, on files whose contents are known. Ours.
-use Rattle.std.specs.Prelude.{◌≡◌, ℕ, Bool, Option, Result, codes, string_bytes}
+use Rattle.std.specs.Prelude.{◌≡◌, Bool, Option, Result, codes, string_bytes}
 use Rattle.hushcheck.specs.Asked.{asked_by}
 use Rattle.hushcheck.specs.Checking.{ChecksFrom, LeavesOutput}
 use Rattle.hushcheck.specs.declared.ask.Ask.{Ask}
@@ -10,6 +10,7 @@ use Rattle.requests.specs.declared.answer.Answer.TheVariants.{Asks, Help, Versio
 use Rattle.image_tools.specs.declared.fault.Fault.{Fault}
 use Rattle.file_tools.specs.Builds.{version_line}
 use Rattle.file_tools.specs.Faults.{CountsTold}
+use Rattle.file_tools.specs.Running.{FilesShown}
 use Rattle.file_tools.specs.declared.build.Build.{Build}
 use Rattle.file_tools.specs.Showing.{Shows}
 
@@ -26,5 +27,5 @@ Does build (Help text) before after outputs result = Shows (string_bytes text) b
 Does build Version before after outputs result = Shows (version_line (codes "hushcheck") build) before after outputs result
 
 -- the answer tells each call on files that failed
-abbrev pub Counts : Answer Ask → ℕ → ℕ → Result Bool Fault → Type 0
-Counts ask old new result = CountsTold old new result
+abbrev pub Leaves : Answer Ask → Result Bool Fault → FilesShown → FilesShown → Type 0
+Leaves ask result before after = CountsTold before.faults after.faults result

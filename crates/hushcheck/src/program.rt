@@ -2,7 +2,7 @@
 ghost use Rattle.std.specs.Prelude.{◌≡◌, ◌≤◌, map};
 ghost use Rattle.output.specs.Sink.{Sink};
 ghost use Rattle.hushcheck.specs.CommandAnswers.{Answers};
-ghost use Rattle.hushcheck.specs.Doing.{Counts, Does};
+ghost use Rattle.hushcheck.specs.Doing.{Does, Leaves};
 ghost use Rattle.output.specs.Outputs.{outputs};
 ghost use Rattle.file_tools.specs.Faults.{CountsTold};
 ghost use Rattle.file_tools.specs.Running.{HasDone, IsMisused, files_shown};
@@ -67,16 +67,16 @@ pub fn run_check<S: AsStr, F: Files, O: Out, E: Out>(
     err: &mut E,
 ) -> u8
     ensures status { result ≤ 3 }
-    ensures done { result ≡ 0 → HasDone Answers Counts (Does build) (map S.text words.now)
+    ensures done { result ≡ 0 → HasDone Answers Leaves (Does build) (map S.text words.now)
         (files_shown F.Files files.old) (files_shown F.Files files.new)
         (outputs (O.sink out.old) (O.sink out.new) (E.sink err.old) (E.sink err.new)) }
-    ensures unsound { result ≡ 1 → IsUnsound PROGRAM.now Answers Counts (Does build) (map S.text words.now)
+    ensures unsound { result ≡ 1 → IsUnsound PROGRAM.now Answers Leaves (Does build) (map S.text words.now)
         (files_shown F.Files files.old) (files_shown F.Files files.new)
         (outputs (O.sink out.old) (O.sink out.new) (E.sink err.old) (E.sink err.new)) }
     ensures misused { result ≡ 2 → IsMisused PROGRAM.now Answers (map S.text words.now)
         (files_shown F.Files files.old) (files_shown F.Files files.new)
         (outputs (O.sink out.old) (O.sink out.new) (E.sink err.old) (E.sink err.new)) }
-    ensures refused { result ≡ 3 → IsRefused PROGRAM.now Answers Counts (Does build) (map S.text words.now)
+    ensures refused { result ≡ 3 → IsRefused PROGRAM.now Answers Leaves (Does build) (map S.text words.now)
         (files_shown F.Files files.old) (files_shown F.Files files.new)
         (outputs (O.sink out.old) (O.sink out.new) (E.sink err.old) (E.sink err.new)) }
 {

@@ -1,30 +1,49 @@
 -- What takes the lock, in worked cases.
-use Rattle.std.proofs.Common.{Bool, true, false, refl}
-use Rattle.std.specs.Prelude.{String}
+use Rattle.std.proofs.Common.{◌≡◌, ⊥, ℕ, Bool, true, false, refl, inl, inr, None, Ok, Err}
+use Rattle.std.specs.Prelude.{Result, String}
 use Rattle.std.specs.declared.alloc.Global.{Global}
 use Rattle.envimage.specs.declared.image.ByteOrder.{ByteOrder}
 use Rattle.requests.specs.declared.ask.Ask.TheVariants.{Print, Setenv, Version}
 use Rattle.requests.specs.declared.ask.Change.{Change}
 use Rattle.requests.specs.declared.ask.PrintAsk.{PrintAsk}
-use Rattle.whole_program.specs.Locking.{LocksFor}
+use Rattle.locked_files.specs.declared.files.LockFault.TheVariants.{NoFile}
+use Rattle.image_tools.specs.declared.fault.Fault.{Fault}
+use Rattle.image_tools.specs.declared.fault.Fault.TheVariants.{Lock, Memory}
+use Rattle.file_tools.specs.Running.{FilesShown}
+use Rattle.whole_program.specs.Locking.{IsLockedOut, LocksFor}
 
--- a change takes the lock, or goes on under a lock that is held already
-change_takes_it : (config : String Global) (change : Change) (order : ByteOrder) (one_copy : Bool) → LocksFor (Setenv config change order one_copy) false true
-change_takes_it config change order one_copy = refl
+-- files whose contents are not known, with so many failures, and with the lock or without it
+abbrev files : ℕ → Bool → FilesShown
+files faults locked = record { faults = faults; told = None; locked = locked }
 
-change_keeps_it : (config : String Global) (change : Change) (order : ByteOrder) (one_copy : Bool) → LocksFor (Setenv config change order one_copy) true true
-change_keeps_it config change order one_copy = refl
+module _ (config : String Global) (change : Change) (what : PrintAsk) (order : ByteOrder) (one_copy : Bool) where
+  -- a change takes the lock, or goes on under a lock that is held already
+  change_takes_it : LocksFor (Setenv config change order one_copy) (Ok true) (files 0 false) (files 0 true)
+  change_takes_it = inl refl
 
--- and is not made without it
-no_change_without_it : (config : String Global) (change : Change) (order : ByteOrder) (one_copy : Bool) → LocksFor (Setenv config change order one_copy) false false → ⊥
-no_change_without_it config change order one_copy h = cc
+  change_keeps_it : LocksFor (Setenv config change order one_copy) (Ok true) (files 0 true) (files 0 true)
+  change_keeps_it = inl refl
 
--- printing takes none, and keeps a lock that is held
-printing_takes_none : (config : String Global) (what : PrintAsk) (order : ByteOrder) (one_copy : Bool) → LocksFor (Print config what order one_copy) false true → ⊥
-printing_takes_none config what order one_copy h = cc
+  -- it is refused if the lock is, and touches no file then
+  refused_with_it : LocksFor (Setenv config change order one_copy) (Err (Lock NoFile)) (files 0 false) (files 0 false)
+  refused_with_it = inr (record { fault = NoFile; told = refl; untouched = refl })
 
-printing_keeps_it : (config : String Global) (what : PrintAsk) (order : ByteOrder) (one_copy : Bool) → LocksFor (Print config what order one_copy) true true
-printing_keeps_it config what order one_copy = refl
+  touching_without_it : IsLockedOut (Err (Lock NoFile)) (files 0 false) (files 1 false) → ⊥
+  touching_without_it h = let is = h.untouched in cc
 
-version_takes_none : LocksFor Version false true → ⊥
+  -- and is neither made nor refused for another reason without it
+  no_change_without_it : IsLockedOut (Ok true) (files 0 false) (files 0 false) → ⊥
+  no_change_without_it h = let is = h.told in cc
+
+  no_other_refusal_without_it : IsLockedOut (Err Memory) (files 0 false) (files 0 false) → ⊥
+  no_other_refusal_without_it h = let is = h.told in cc
+
+  -- printing takes none, and keeps a lock that is held
+  printing_takes_none : LocksFor (Print config what order one_copy) (Ok true) (files 0 false) (files 0 true) → ⊥
+  printing_takes_none h = cc
+
+  printing_keeps_it : LocksFor (Print config what order one_copy) (Ok true) (files 0 true) (files 0 true)
+  printing_keeps_it = refl
+
+version_takes_none : LocksFor Version (Ok true) (files 0 false) (files 0 true) → ⊥
 version_takes_none h = cc

@@ -1,9 +1,20 @@
 -- What takes the lock. That a change does, is U-Boot's rule (tools/env/fw_env_main.c); that nothing else does, is ours.
-use Rattle.std.specs.Prelude.{◌≡◌, Bool, true}
+use Rattle.std.specs.Prelude.{◌≡◌, ◌⊎◌, Bool, true, Result, Err}
 use Rattle.requests.specs.declared.ask.Ask.{Ask}
 use Rattle.requests.specs.declared.ask.Ask.TheVariants.{Setenv}
+use Rattle.locked_files.specs.declared.files.LockFault.{LockFault}
+use Rattle.image_tools.specs.declared.fault.Fault.{Fault}
+use Rattle.image_tools.specs.declared.fault.Fault.TheVariants.{Lock}
+use Rattle.file_tools.specs.Running.{FilesShown}
 
--- whether the lock was taken before and after what is asked for: a change takes it, and nothing else does
-abbrev pub LocksFor : Ask → (before after : Bool) → Type 0
-LocksFor (Setenv config change order one_copy) before after = after ≡ true
-LocksFor ask before after = after ≡ before
+-- The lock is refused, and no file was touched.
+pub record IsLockedOut (answer : Result Bool Fault) (before after : FilesShown) : Type 0 where
+  pub fault : LockFault
+  pub told : answer ≡ Err (Lock fault)
+  pub untouched : after ≡ before
+
+-- a change takes the lock, or it is refused and touches no file; nothing else takes it
+abbrev pub LocksFor : Ask → Result Bool Fault → (before after : FilesShown) → Type 0
+LocksFor (Setenv config change order one_copy) answer before after =
+    (after.locked ≡ true) ⊎ IsLockedOut answer before after
+LocksFor ask answer before after = after.locked ≡ before.locked

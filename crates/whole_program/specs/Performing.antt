@@ -1,6 +1,6 @@
 -- What is done for what is asked, on files whose contents are known. The subcommands follow fw_printenv and fw_setenv
 -- (U-Boot, tools/env README). The rehearsal is ours.
-use Rattle.std.specs.Prelude.{◌≡◌, ℕ, Bool, true, false, List, codes, length, map, Option, Result, Ok, Err, String, string_bytes}
+use Rattle.std.specs.Prelude.{◌≡◌, ◌⊎◌, ℕ, Bool, true, false, List, codes, length, map, Option, Result, Ok, Err, String, string_bytes}
 use Rattle.std.specs.declared.alloc.Global.{Global}
 use Rattle.envimage.specs.declared.image.ByteOrder.{ByteOrder}
 use Rattle.requests.specs.declared.ask.Ask.{Ask}
@@ -10,6 +10,10 @@ use Rattle.output.specs.Outputs.{Outputs}
 use Rattle.output.specs.Sink.{Sink}
 use Rattle.locked_files.specs.Told.{IfTold, Told}
 use Rattle.image_tools.specs.declared.fault.Fault.{Fault}
+use Rattle.image_tools.specs.declared.fault.Fault.TheVariants.{Lock}
+use Rattle.locked_files.specs.declared.files.LockFault.{LockFault}
+use Rattle.file_tools.specs.Running.{FilesShown}
+use Rattle.whole_program.specs.Locking.{LocksFor}
 use Rattle.file_tools.specs.Builds.{version_line}
 use Rattle.file_tools.specs.Showing.{Shows}
 use Rattle.file_tools.specs.declared.build.Build.{Build}
@@ -30,19 +34,31 @@ IsComplete ask = Unit {0}
 abbrev pub source_of : String Global → ByteOrder → (one_copy : Bool) → ImageSource
 source_of config order one_copy = record { config = config; order = order; one_copy = one_copy }
 
--- a change was made, which is all that the answer says
+-- The lock is refused: no file was read or written, and nothing was reported before.
+pub record IsUnlocked (fault : Fault) (err err' : Sink) (old new : Told) : Type 0 where
+  pub refused : LockFault
+  pub is : fault ≡ Lock refused
+  pub untouched : new ≡ old
+  pub quiet : err' ≡ err
+
+-- a change was made, which is all that the answer says; or it was refused, perhaps by the lock
 abbrev pub SetsOf : (program : List ℕ) → (input : Option (List ℕ)) → ImageSource → Change → (err err' : Sink) → Told →
     Told → Result Bool Fault → Type 0
 SetsOf program input source change err err' old new (Ok all) =
     (all ≡ true) × Sets program input source change err err' old new (Ok tt)
 SetsOf program input source change err err' old new (Err fault) =
-    Sets program input source change err err' old new (Err fault)
+    Sets program input source change err err' old new (Err fault) ⊎ IsUnlocked fault err err' old new
 
 -- the count of failures of the device: one more than the answer tells, if one copy of a pair is enough and one is lost
 abbrev pub Counts : Ask → ℕ → ℕ → Result Bool Fault → Type 0
 Counts (Print config what order one_copy) old new result = CountsReads one_copy old new result
 Counts (Setenv config change order one_copy) old new result = CountsReads one_copy old new result
 Counts ask old new result = CountsTold old new result
+
+-- what the files show afterwards: the failures that are counted, and the lock
+abbrev pub Leaves : Ask → Result Bool Fault → FilesShown → FilesShown → Type 0
+Leaves ask result before after =
+    Counts ask before.faults after.faults result × LocksFor ask result before after
 
 -- What a program of this name and build does for it, with an input of these bytes, if they are known, with the files
 -- before and after, and on the outputs.

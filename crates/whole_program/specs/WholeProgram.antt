@@ -1,15 +1,13 @@
 -- What the whole program `ubtool` has done when it ends with a status. Ours.
-use Rattle.std.specs.Prelude.{◌≡◌, ◌≤◌, ℕ, List, [], Option, Ok, codes}
+use Rattle.std.specs.Prelude.{◌≡◌, ◌≤◌, ℕ, List, [], Option, codes}
 use Rattle.clap.specs.Words.{Text}
 use Rattle.output.specs.Outputs.{Outputs}
 use Rattle.output.specs.Sink.{Wrote}
 use Rattle.requests.specs.Called.{name_of}
 use Rattle.requests.specs.CommandAnswers.{Answers}
-use Rattle.requests.specs.declared.ask.Ask.{Ask}
 use Rattle.requests.specs.declared.called.CalledAs.{CalledAs}
 use Rattle.image_tools.specs.Input.{PrintsInput, RefusesInput, TellsOnly}
-use Rattle.whole_program.specs.Locking.{LocksFor}
-use Rattle.whole_program.specs.Performing.{Counts, Does}
+use Rattle.whole_program.specs.Performing.{Does, Leaves}
 use Rattle.file_tools.specs.Running.{FilesShown, HasDone, HasRefused, IsMisused}
 use Rattle.file_tools.specs.declared.build.Build.{Build}
 
@@ -24,12 +22,11 @@ pub record HasPrinted (input : Option (List ℕ)) (before after : FilesShown) (o
     pub untouched : after ≡ before
 
 -- With words: they ask for something, and it was done or refused; or they were refused. A change was made under the
--- lock, and nothing else took it.
+-- lock, and nothing else took it (`Leaves`).
 pub record HasEnded (called : CalledAs) (build : Build) (input : Option (List ℕ)) (words : List Text)
     (before after : FilesShown) (outputs : Outputs) (status : ℕ) : Type 0 where
   pub bound : status ≤ 2
-  pub done : status ≡ 0 → HasDone (Answers called) Counts (Does (name_of called) build input) words before after outputs
-  pub refused : status ≡ 1 → HasRefused (name_of called) (Answers called) Counts (Does (name_of called) build input)
+  pub done : status ≡ 0 → HasDone (Answers called) Leaves (Does (name_of called) build input) words before after outputs
+  pub refused : status ≡ 1 → HasRefused (name_of called) (Answers called) Leaves (Does (name_of called) build input)
       words before after outputs
   pub misused : status ≡ 2 → IsMisused (name_of called) (Answers called) words before after outputs
-  pub lock : status ≤ 1 → (ask : Ask) × Answers called words (Ok ask) × LocksFor ask before.locked after.locked

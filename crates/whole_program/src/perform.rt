@@ -1,6 +1,7 @@
 //! Does what is asked for.
 ghost use Rattle.output.specs.Outputs.{outputs};
 ghost use Rattle.whole_program.specs.Performing.{Counts, Does, IsComplete};
+ghost use Rattle.file_tools.specs.Running.{files_shown};
 ghost use Rattle.whole_program.specs.Locking.{LocksFor};
 
 use crate::endings::endings;
@@ -14,7 +15,8 @@ use requests::Ask;
 use std::alloc::Global;
 use std::io::Read;
 
-/// Does what is asked for. Takes the lock for a change, before its first read, and for nothing else.
+/// Does what is asked for. Takes the lock for a change, before its first read, and for nothing else. If
+/// the lock is refused, no file is touched.
 /// A script of changes may be on `input`, and the version names `build`. What is reported meanwhile has
 /// the name `program` in front. Returns false if a variable that was to be printed is missing.
 pub fn perform<R: Read, F: Files, O: Out, E: Out>(
@@ -29,7 +31,8 @@ pub fn perform<R: Read, F: Files, O: Out, E: Out>(
 ) -> Result<bool, Fault>
     requires { IsComplete ask }
     ensures count { Counts ask (F.faults files.old) (F.faults files.new) result }
-    ensures lock { LocksFor ask (F.locked files.old) (F.locked files.new) }
+    ensures lock { LocksFor ask result (files_shown F.Files files.old)
+        (files_shown F.Files files.new) }
     ensures does { Does program.now build (R.remaining input.old) ask (F.told files.old) (F.told files.new)
         (outputs (O.sink out.old) (O.sink out.new) (E.sink err.old) (E.sink err.new)) result }
 {
@@ -53,7 +56,7 @@ pub fn perform<R: Read, F: Files, O: Out, E: Out>(
             order,
             one_copy,
         } => {
-            files.lock();
+            files.lock()?;
             let source = ImageSource {
                 config,
                 order,

@@ -3,7 +3,7 @@ use Rattle.file_tools.specs.Running.{Ends, Tells}
 use Rattle.output.specs.Outputs.{outputs}
 use Rattle.requests.specs.Called.{name_of}
 use Rattle.requests.specs.CommandAnswers.{Answers}
-use Rattle.whole_program.specs.Performing.{Counts, Does}
+use Rattle.whole_program.specs.Performing.{Does, Leaves}
 use Rattle.whole_program.proofs.AskLemmas.{answer-complete}
 use Rattle.file_tools.proofs.RunLemmas.{ends-low, never-misused, status-done, status-refused}
 use Rattle.whole_program.proofs.tool.run_words.Goals as goal
@@ -31,10 +31,9 @@ returns-in-Ok g c =
     let does = subst (λ (p : List ℕ). Does p c.args.build (g.R.Read.remaining c.args.input.now) c.in-Ok.ask before after (outputs out out' err told) answer) c.name-program.ensures c.perform-answer.ensures.does in
     record {
       bound = ends-low program answer told err' status ends;
-      done = λ is. status-done program (Answers c.args.called) Counts Doing words c.in-Ok.ask faults faults' before after out out' err told err' answer status c.in-Ok.ensures c.perform-answer.ensures.count does ends is;
-      refused = λ is. status-refused program (Answers c.args.called) Counts Doing words c.in-Ok.ask faults faults' before after out out' err told err' answer status c.in-Ok.ensures c.perform-answer.ensures.count does ends is;
+      done = λ is. status-done program (Answers c.args.called) Leaves Doing words c.in-Ok.ask faults faults' before after out out' err told err' answer status c.in-Ok.ensures (c.perform-answer.ensures.count, c.perform-answer.ensures.lock) does ends is;
+      refused = λ is. status-refused program (Answers c.args.called) Leaves Doing words c.in-Ok.ask faults faults' before after out out' err told err' answer status c.in-Ok.ensures (c.perform-answer.ensures.count, c.perform-answer.ensures.lock) does ends is;
       misused = λ is. absurd (never-misused program answer told err' status ends is);
-      lock = λ _. (c.in-Ok.ask, c.in-Ok.ensures, c.perform-answer.ensures.lock);
     }
 
 pub returns-in-Err : goal.returns-in-Err
@@ -43,5 +42,4 @@ returns-in-Err g c = record {
   done = λ is. let none : ⊥ = omega (arith, is) in absurd none;
   refused = λ is. let none : ⊥ = omega (arith, is) in absurd none;
   misused = λ _. record { error = c.in-Err.error; refused = c.in-Err.ensures; sound = refl; files = refl; lock = refl; output = refl; tells = subst (λ (p : List ℕ). Tells p c.in-Err.error (g.E.Out.sink c.args.err.now) (g.E.Out.sink c.refuse.new.err)) c.name.ensures c.refuse.ensures };
-  lock = λ low. let none : ⊥ = omega (arith, low) in absurd none;
 }
