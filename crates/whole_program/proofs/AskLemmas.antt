@@ -11,7 +11,7 @@ use Rattle.rehearse_terms.specs.declared.wanted.Page.{Page}
 use Rattle.rehearse_terms.specs.Bounds.{BoundsShown, bounds_of}
 use Rattle.requests.specs.CommandAnswers.{Answers, asked, meaning_of}
 use Rattle.requests.specs.Called.{is_tool}
-use Rattle.requests.specs.Asked.{Asked, asked_of, bounds_asked, change_asked, config_of, endings_asked, endings_with, has_no_folder, header_needs_one, input_scripted, is_set, listing_asked, lock_needs_folder, number_within, order_of, page_asked, print_asked, printing, printing_asked, rehearsal_of, rehearsal_with, rehearse_asked, run_bounds_asked, scripted, set_asked, too_many_devices, values_of, wanted_by, word_alone, word_asked}
+use Rattle.requests.specs.Asked.{Asked, asked_of, bounds_asked, change_asked, config_of, endings_asked, endings_with, has_no_folder, header_needs_one, input_scripted, is_set, listing_asked, lock_needs_folder, number_within, one_copy, order_of, page_asked, print_asked, print_form, printing, printing_asked, rehearsal_of, rehearsal_with, rehearse_asked, run_bounds_asked, scripted, set_asked, too_many_devices, values_of, wanted_by, word_alone, word_asked}
 use Rattle.command_line.specs.CommandLine.{most_failures, most_states, ubtool}
 use Rattle.requests.specs.declared.called.CalledAs.{CalledAs}
 use Rattle.requests.specs.declared.ask.Ask.{Ask}
@@ -20,7 +20,7 @@ use Rattle.whole_program.specs.Performing.{IsComplete}
 
 -- a value without its name is asked for only with one name
 abbrev IsFit : Option Asked → Type 0
-IsFit (Some (printing config header names order)) = header ≡ false → length names ≡ 1
+IsFit (Some (printing config form names order one_copy)) = form.header ≡ false → length names ≡ 1
 IsFit asked = Unit {0}
 
 either : (b : Bool) (x y : Option Asked) → IsFit x → IsFit y → IsFit (if b then x else y)
@@ -31,15 +31,15 @@ either-asked : (b : Bool) (x y : Asked) → IsFit (Some x) → IsFit (Some y) �
 either-asked true x y first second = first
 either-asked false x y first second = second
 
-print-fit : (no_header one : Bool) (config : Text) (names : List Text) (order : ByteOrder) → (length names == 1) ≡ one
-    → IsFit (Some (if no_header && not one then header_needs_one else printing config (not no_header) names order))
-print-fit true true config names order e = λ h. eqb-true (length names) 1 e
-print-fit true false config names order e = tt
-print-fit false one config names order e = λ h. let none : ⊥ = cc in absurd none
+print-fit : (header one : Bool) (what : Asked) → (one ≡ true → IsFit (Some what)) → (header ≡ true → IsFit (Some what))
+    → IsFit (Some (if not header && not one then header_needs_one else what))
+print-fit false true what of-one of-header = of-one refl
+print-fit false false what of-one of-header = tt
+print-fit true one what of-one of-header = of-header refl
 
 set-fit : (called : CalledAs) (script name : Option Text) (rows : List Row) → IsFit (Some (change_asked called script name rows))
 set-fit called (Some script) None rows =
-    either-asked (is_tool called && bytes_eq script (codes "-")) (input_scripted (config_of rows) (order_of rows)) (scripted (config_of rows) script (order_of rows)) tt tt
+    either-asked (is_tool called && bytes_eq script (codes "-")) (input_scripted (config_of rows) (order_of rows) (one_copy rows)) (scripted (config_of rows) script (order_of rows) (one_copy rows)) tt tt
 set-fit called (Some script) (Some name) rows = tt
 set-fit called None (Some name) rows = tt
 set-fit called None None rows = tt
@@ -84,7 +84,8 @@ asked-fit called words = by (subcommand_of ubtool words)
     of name rows =
         let names = values_of (codes "names") rows in
         let printed = either-asked (has_no_folder rows) lock_needs_folder (printing_asked rows) tt
-        (print-fit (is_set (codes "noheader") rows) (length names == 1) (config_of rows) names (order_of rows) refl) in
+        (print-fit (not (is_set (codes "noheader") rows)) (length names == 1) (printing (config_of rows) (print_form rows) names (order_of rows) (one_copy rows))
+        (λ e h. eqb-true (length names) 1 e) (λ is h. let none : ⊥ = cc in absurd none)) in
         let set = either-asked (has_no_folder rows) lock_needs_folder (change_asked called (first_of (codes "script") rows) (first_of (codes "name") rows) rows) tt
         (set-fit called (first_of (codes "script") rows) (first_of (codes "name") rows) rows) in
         let rehearsed = rehearse-fit (first_of (codes "device-list") rows) (page_asked rows) (number_within 0 most_failures (codes "failures") rows) rows in

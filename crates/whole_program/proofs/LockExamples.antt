@@ -1,5 +1,5 @@
 -- What takes the lock, in worked cases.
-use Rattle.std.proofs.Common.{◌≡◌, ⊥, ℕ, Bool, true, false, refl, inl, inr, None, Ok, Err}
+use Rattle.std.proofs.Common.{◌≡◌, ap, arith, ℕ, Bool, true, false, refl, inl, inr, None, Ok, Err}
 use Rattle.std.specs.Prelude.{Result, String}
 use Rattle.std.specs.declared.alloc.Global.{Global}
 use Rattle.envimage.specs.declared.image.ByteOrder.{ByteOrder}
@@ -29,7 +29,7 @@ module _ (config : String Global) (change : Change) (what : PrintAsk) (order : B
   refused_with_it = inr (record { fault = NoFile; told = refl; untouched = refl })
 
   touching_without_it : IsLockedOut (Err (Lock NoFile)) (files 0 false) (files 1 false) → ⊥
-  touching_without_it h = let is = h.untouched in cc
+  touching_without_it h = omega (arith, ap (λ (f : FilesShown). f.faults) h.untouched)
 
   -- and is neither made nor refused for another reason without it
   no_change_without_it : IsLockedOut (Ok true) (files 0 false) (files 0 false) → ⊥
