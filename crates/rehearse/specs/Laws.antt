@@ -43,7 +43,8 @@ abbrev pub LogIsWord : Type 0
 LogIsWord = (task : Task) (w : OutcomeWord) → kind task w ≡ Run →
     map (λ e. e.success) (asked_of (state_of (run_on task w)).log) ≡ map succeeds w
 
--- Over a device list that says of no answer that it stays, no command is told an answer again: they are all its log.
+-- Over a device list that says of no answer that it stays, no command is told an answer again, so the outcomes in the
+-- whole log are its word.
 abbrev pub WholeLogIsWord : Type 0
 WholeLogIsWord = (task : Task) (w : OutcomeWord) → SaysNothing Steady task.limits.devices → kind task w ≡ Run →
     map (λ e. e.success) (state_of (run_on task w)).log ≡ map succeeds w
