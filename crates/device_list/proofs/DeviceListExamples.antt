@@ -270,7 +270,7 @@ no_number = refl
 no_word : listed (codes "sub part list @=1") ≡ Err (BadLine 1)
 no_word = refl
 
--- a line that was accepted before there were `sub` lines says what it said then
+-- a command `sub`
 command_sub : listed (codes "sub") ≡ Ok (only ((codes "sub", quiet) ∷ []))
 command_sub = refl
 
@@ -283,7 +283,7 @@ command_sub_is_final = refl
 at_in_a_line_of_names : listed (codes "load @1=x") ≡ Ok (only ((codes "load", record { ends = false; stays = false; sets = (Variable (codes "@1"), codes "x") ∷ [] }) ∷ []))
 at_in_a_line_of_names = refl
 
--- and a line that was refused then and is not a `sub` line is refused
+-- a second word that is no setting, in a line that is no `sub` line
 sub_without_word : listed (codes "sub part") ≡ Err (BadLine 1)
 sub_without_word = refl
 
@@ -334,7 +334,7 @@ known_more = refl
 known_final : listed (codes "final known env") ≡ Err (BadLine 1)
 known_final = refl
 
--- a line that was accepted before there were `known` lines says what it said
+-- a command `known`
 command_known : listed (codes "known") ≡ Ok (only ((codes "known", quiet) ∷ []))
 command_known = refl
 

@@ -14,7 +14,7 @@ use Rattle.text.specs.Lines.{numbered_lines}
 use Rattle.std.proofs.Math.Bool.{or-false}
 use Rattle.device_list.specs.Verdict.{Text}
 use Rattle.device_list.specs.DeviceList.{Effect, Effects, Devices, DeviceLine, effect_at, changed_at, joint_behind, joined_behind, joined_by, joined, only, device_words, begins_comment, heading_of, line_of, known_named, with_known, is_steady_test, after_known, after_words, after_line, listed_lines}
-use Rattle.device_list.proofs.KnownLists.{known_was_bad, test_is_built_in}
+use Rattle.device_list.proofs.LineLemmas.{known_is_bad, test_is_built_in}
 use Rattle.device_list.specs.DeviceLaws.{line_said, with_said, lines_said, lines_at, same_word, whole_effect, LinesAreJoined}
 use Rattle.device_list.specs.declared.devices_error.DevicesError.{DevicesError}
 use Rattle.device_list.specs.declared.devices_error.DevicesError.TheVariants.{BadLine}
@@ -156,7 +156,7 @@ IsWhole-words devices next before number line (first ∷ words) e h =
     by None is true at false false (Err fault) line_is e = IsWhole-kept (record devices { test_stays = true }) next before (ok-same e) (IsWhole-test devices before h)
     by None is true at false false (Ok one) line_is e = absurd (let bad = sym (test_is_built_in number first words at) ∙ line_is in cc)
     by (Some name) is test at false false (Err fault) line_is e = IsWhole-kept (with_known devices name) next before (ok-same e) (IsWhole-known devices before name h)
-    by (Some name) is test at false false (Ok one) line_is e = absurd (let bad = sym (known_was_bad number first words name is) ∙ line_is in cc)
+    by (Some name) is test at false false (Ok one) line_is e = absurd (let bad = sym (known_is_bad number first words name is) ∙ line_is in cc)
 
 with_said-append : (o : Option DeviceLine) (more : List DeviceLine) → with_said o [] ++ more ≡ with_said o more
 with_said-append None more = refl

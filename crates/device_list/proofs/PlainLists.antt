@@ -9,14 +9,13 @@ use Rattle.text.specs.Lines.{numbered_lines}
 use Rattle.text.specs.Words.{is_blank, is_space, cut_front, onto_line, cut_behind, trimmed}
 use Rattle.device_list.specs.Verdict.{Text}
 use Rattle.builtins.specs.Builtins.{is_built_in}
-use Rattle.device_list.specs.DeviceList.{Effects, Devices, joined_in, only, with_line}
-use Rattle.device_list.specs.CallList.{call_words, call_line, call_lines}
+use Rattle.device_list.specs.DeviceList.{Effects, Devices, joined_in, only, with_line, after_words, after_line, listed_lines}
 use Rattle.device_list.specs.DeviceLaws.{quiet}
 use Rattle.device_list.specs.PlainList.{with_name, plain_line, plain_lines, PlainListsStand}
 use Rattle.device_list.specs.declared.devices_error.DevicesError.{DevicesError}
 use Rattle.device_list.specs.declared.devices_error.DevicesError.TheVariants.{BadLine, BuiltIn}
 use Rattle.device_list.proofs.JoinedLines.{ok-same}
-use Rattle.device_list.proofs.CallLists.{call_lists_stand}
+use Rattle.device_list.proofs.MarkLemmas.{by_lines}
 
 -- the commands of a list that has only names
 abbrev pub quiet_effects : List Text → Effects
@@ -104,49 +103,49 @@ accepted names = Ok (quiet_names names)
 
 module _ (names : List Text) (number : ℕ) (line : Text) where
   -- a comment
-  comment-words : (b : ℕ) (parts : List Text) → eqb b 35 ≡ true → call_words (quiet_names names) number line (full (onto_first b parts)) ≡ accepted names
+  comment-words : (b : ℕ) (parts : List Text) → eqb b 35 ≡ true → after_words (quiet_names names) number line (full (onto_first b parts)) ≡ accepted names
   comment-words b [] e = rw e refl
   comment-words b (part ∷ parts) e = rw (full-some b part parts, e) refl
 
-  comment-stands : (b : ℕ) (bytes : Text) → eqb b 35 ≡ true → call_words (quiet_names names) number line (words_in (b ∷ bytes)) ≡ accepted names
+  comment-stands : (b : ℕ) (bytes : Text) → eqb b 35 ≡ true → after_words (quiet_names names) number line (words_in (b ∷ bytes)) ≡ accepted names
   comment-stands b bytes e =
       let is : b ≡ 35 = eqb-true b 35 e in
       let no : is_space b ≡ false = ap is_space is in
-      ap (λ ws. call_words (quiet_names names) number line (full ws)) (slice_split-cons_no is_space b bytes no) ∙ comment-words b (slice_split is_space bytes) e
+      ap (λ ws. after_words (quiet_names names) number line (full ws)) (slice_split-cons_no is_space b bytes no) ∙ comment-words b (slice_split is_space bytes) e
 
   -- a name
   name-stands : (next : List Text) (b : ℕ) (bytes : Text) → eqb b 35 ≡ false → list_any is_space (b ∷ bytes) ≡ false → holds_nul line ≡ false
-      → cond (is_built_in (b ∷ bytes)) (Err (BuiltIn number)) (Ok (with_name names (b ∷ bytes))) ≡ Ok next → call_words (quiet_names names) number line (words_in (b ∷ bytes)) ≡ accepted next
+      → cond (is_built_in (b ∷ bytes)) (Err (BuiltIn number)) (Ok (with_name names (b ∷ bytes))) ≡ Ok next → after_words (quiet_names names) number line (words_in (b ∷ bytes)) ≡ accepted next
   name-stands next b bytes no_comment no_space no_nul e =
-      ap (λ ws. call_words (quiet_names names) number line (full ws)) (one_word (b ∷ bytes) no_space)
+      ap (λ ws. after_words (quiet_names names) number line (full ws)) (one_word (b ∷ bytes) no_space)
       ∙ rw (full-some b bytes [], no_comment, no_nul) (by (is_built_in (b ∷ bytes)) e)
     where
       by : (built_in : Bool) → cond built_in (Err (BuiltIn number)) (Ok (with_name names (b ∷ bytes))) ≡ Ok next → with_line (quiet_names names) (cond built_in (Err (BuiltIn number)) (Ok (record { name = b ∷ bytes; word = None; effect = quiet }))) ≡ accepted next
       by true e = cc
       by false e = ap (λ ds. let r : Result Devices DevicesError = Ok (only ds) in r) (joined-name names (b ∷ bytes)) ∙ ap accepted (ok-same e)
 
-  line-stands : (next : List Text) (word : Text) → holds_nul word ≡ holds_nul line → plain_line names number word ≡ Ok next → call_words (quiet_names names) number line (words_in word) ≡ accepted next
+  line-stands : (next : List Text) (word : Text) → holds_nul word ≡ holds_nul line → plain_line names number word ≡ Ok next → after_words (quiet_names names) number line (words_in word) ≡ accepted next
   line-stands next [] nul e = ap accepted (ok-same e)
   line-stands next (b ∷ bytes) nul e = by (eqb b 35) (list_any (λ c. is_space c || eqb c 0) (b ∷ bytes)) refl refl e
     where
       by : (comment gap : Bool) → eqb b 35 ≡ comment → list_any (λ c. is_space c || eqb c 0) (b ∷ bytes) ≡ gap
           → cond comment (Ok names) (cond gap (Err (BadLine number)) (cond (is_built_in (b ∷ bytes)) (Err (BuiltIn number)) (Ok (with_name names (b ∷ bytes))))) ≡ Ok next
-          → call_words (quiet_names names) number line (words_in (b ∷ bytes)) ≡ accepted next
+          → after_words (quiet_names names) number line (words_in (b ∷ bytes)) ≡ accepted next
       by true gap is_comment is_gap e = comment-stands b bytes is_comment ∙ ap accepted (ok-same e)
       by false true is_comment is_gap e = cc
       by false false is_comment is_gap e = let free = no_gap (b ∷ bytes) is_gap in name-stands next b bytes is_comment free.0 (sym nul ∙ free.1) e
 
 -- ---- all lines
 
-lines-stand : (lines : List (ℕ × Text)) (names done : List Text) → plain_lines names lines ≡ Ok done → call_lines (quiet_names names) lines ≡ accepted done
+lines-stand : (lines : List (ℕ × Text)) (names done : List Text) → plain_lines names lines ≡ Ok done → listed_lines (quiet_names names) lines ≡ accepted done
 lines-stand [] names done e = ap accepted (ok-same e)
 lines-stand (l ∷ lines) names done e = by (plain_line names l.0 (trimmed l.1)) refl e (λ next. lines-stand lines next done)
   where
     by : (r : Result (List Text) DevicesError) → plain_line names l.0 (trimmed l.1) ≡ r → ◌≡◌ {A = Result (List Text) DevicesError} (elim r [ Ok next ↦ plain_lines next lines | Err fault ↦ Err fault ]) (Ok done)
-        → ((next : List Text) → plain_lines next lines ≡ Ok done → call_lines (quiet_names next) lines ≡ accepted done)
-        → ◌≡◌ {A = Result Devices DevicesError} (elim (call_line (quiet_names names) l.0 l.1) [ Ok next ↦ call_lines next lines | Err fault ↦ Err fault ]) (accepted done)
+        → ((next : List Text) → plain_lines next lines ≡ Ok done → listed_lines (quiet_names next) lines ≡ accepted done)
+        → ◌≡◌ {A = Result Devices DevicesError} (elim (after_line (quiet_names names) l.0 l.1) [ Ok next ↦ listed_lines next lines | Err fault ↦ Err fault ]) (accepted done)
     by (Err fault) is f later = cc
-    by (Ok next) is f later = let this : call_line (quiet_names names) l.0 l.1 ≡ accepted next = line-stands names l.0 l.1 next (trimmed l.1) (trimmed-nul l.1) is in rw this (later next f)
+    by (Ok next) is f later = let this : after_line (quiet_names names) l.0 l.1 ≡ accepted next = line-stands names l.0 l.1 next (trimmed l.1) (trimmed-nul l.1) is in rw this (later next f)
 
 pub plain_lists_stand : PlainListsStand
-plain_lists_stand text names plain e = call_lists_stand text (quiet_names names) plain (lines-stand (numbered_lines text) [] names e)
+plain_lists_stand text names plain e = by_lines text plain ∙ lines-stand (numbered_lines text) [] names e

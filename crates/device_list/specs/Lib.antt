@@ -10,9 +10,7 @@ pub mod CommandsShown
 pub mod DeviceLaws
 pub mod DevicesShown
 pub mod PlainList
-pub mod EarlierList
-pub mod KnownList
-pub mod CallList
+pub mod Kinds
 pub mod DeviceListAnswers
 pub mod TextsShown
 pub mod NamedPlaces

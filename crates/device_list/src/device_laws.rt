@@ -1,9 +1,7 @@
 //! Laws of device lists, each the contract of a function that does nothing.
 
-ghost use Rattle.device_list.specs.CallList.{CallListsAsk, CallListsStand};
 ghost use Rattle.device_list.specs.DeviceLaws.{LinesAreJoined, NamesAreQuiet};
-ghost use Rattle.device_list.specs.EarlierList.{EarlierListsStand, EarlierCallsStand, EarlierSettingsStand};
-ghost use Rattle.device_list.specs.KnownList.{KnownListsAsk, KnownListsStand};
+ghost use Rattle.device_list.specs.Kinds.{LinesGoByKinds, ListsGoByKinds, FurtherKindsChangeNothing, KindsAreAll, UnusedKindsSayNothing};
 ghost use Rattle.device_list.specs.PlainList.{PlainListsStand};
 
 /// A name is listed if a line names it, and does what all lines of that name say. It is final if
@@ -27,46 +25,33 @@ pub fn plain_lists_stand()
     ensures { PlainListsStand }
 {}
 
-/// Every list in the earlier form, which has no `sub` lines, is accepted if it begins with no byte
-/// order mark, and says the same of the same names.
-#[tactic(auto, using(crate::proofs::EarlierLists::earlier_lists_stand))]
-pub fn earlier_lists_stand()
-    ensures { EarlierListsStand }
+/// With some kinds of lines alone, a line that uses only these is read as it is with every kind, and a
+/// line that uses another kind is a bad line.
+#[tactic(auto, using(crate::proofs::KindsOfLines::lines_go_by_kinds))]
+pub fn lines_go_by_kinds()
+    ensures { LinesGoByKinds }
 {}
 
-/// Over a list in the earlier form, the name alone decides what a call does, whatever its words
-/// are.
-#[tactic(auto, using(crate::proofs::EarlierLists::earlier_calls_stand))]
-pub fn earlier_calls_stand()
-    ensures { EarlierCallsStand }
+/// So a list whose lines use only some kinds is read the same with these kinds alone.
+#[tactic(auto, using(crate::proofs::KindsOfLines::lists_go_by_kinds))]
+pub fn lists_go_by_kinds()
+    ensures { ListsGoByKinds }
 {}
 
-/// Such a call sets the variables that the lines of its name set, whatever its words are.
-#[tactic(auto, using(crate::proofs::EarlierLists::earlier_settings_stand))]
-pub fn earlier_settings_stand()
-    ensures { EarlierSettingsStand }
+/// A list that is accepted with some kinds alone is accepted with every kind, and says the same.
+pub fn further_kinds_change_nothing()
+    ensures { FurtherKindsChangeNothing }
 {}
 
-/// Every list in the form before a command could be computed is accepted if it begins with no byte
-/// order mark, and says the same.
-pub fn call_lists_stand()
-    ensures { CallListsStand }
+/// A list read with every kind of `every_kind` is the list: there is no other kind.
+#[tactic(auto, using(crate::proofs::KindsOfLines::kinds_are_all))]
+pub fn kinds_are_all()
+    ensures { KindsAreAll }
 {}
 
-/// No command is computed over a list in that form.
-#[tactic(auto, using(crate::proofs::CallLists::call_lists_ask))]
-pub fn call_lists_ask()
-    ensures { CallListsAsk }
-{}
-
-/// Every list in the form before a command could be steady is accepted if it begins with no byte
-/// order mark, and says the same.
-pub fn known_lists_stand()
-    ensures { KnownListsStand }
-{}
-
-/// Over a list in that form, each device command asks each time.
-#[tactic(auto, using(crate::proofs::KnownLists::known_lists_ask))]
-pub fn known_lists_ask()
-    ensures { KnownListsAsk }
+/// A list says nothing of a kind that none of its lines uses: without `steady` lines no answer stays,
+/// without `known` lines no command is computed, and so on.
+#[tactic(auto, using(crate::proofs::UnusedKinds::unused_kinds_say_nothing))]
+pub fn unused_kinds_say_nothing()
+    ensures { UnusedKindsSayNothing }
 {}

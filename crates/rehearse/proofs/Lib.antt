@@ -14,11 +14,8 @@ pub mod ResumedLemmas
 pub mod ExampleRehearsals
 pub mod GivenRuns
 pub mod PlainRuns
-pub mod EarlierRuns
-pub mod CallRuns
-pub mod KnownRuns
 pub mod KeptLogs
-pub mod KnownLogs
+pub mod AskedLogs
 pub mod StayingAnswers
 mod ToldExamples
 mod RunsExamples

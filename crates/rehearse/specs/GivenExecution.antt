@@ -1,5 +1,5 @@
 -- Execution that is given what a command does that is not built in, and in which `test -e` asks each time: the recursion
--- of Execution.antt over the tree, for the laws of device lists in their older forms. Ours.
+-- of Execution.antt over the tree, for the laws of device lists of names alone. Ours.
 use Rattle.std.specs.Prelude.{ℕ, zero, suc, nat_lt, nat_eq, true, false, List, [], ◌∷◌, length, Some, None}
 use Rattle.hushlang.specs.Tree as tree
 use Rattle.hushlang.specs.Tree.{Script, AndOr, Joined, Command, Arms}

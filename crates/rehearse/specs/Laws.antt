@@ -2,6 +2,7 @@
 use Rattle.std.specs.Prelude.{ℕ, ◌+◌, ◌^◌, true, filter, List, [], ◌∷◌, ◌++◌, length, map, flat_map, take, drop, Option, Some, None, ◌≡◌, ◌≢◌, ◌↔◌, ◌≤◌, ◌<◌, codes}
 use Rattle.rehearse_terms.specs.Outcomes.{OutcomeWord, Outcome, Run, Short, common_prefix, comes_before, has_success, turned, is_within, first_run, first_from}
 use Rattle.rehearse_terms.specs.State.{Text, LoggedCommand, State, asked_of}
+use Rattle.device_list.specs.Kinds.{Steady, SaysNothing}
 use Rattle.rehearse.specs.Execution.{Ended, Dry, CutSteps, CutDevices, succeeds}
 use Rattle.rehearse.specs.Runs.{Task, run_on, state_of, steps, asked, kind, all_runs, runs, IsListed, rest}
 use Rattle.rehearse.specs.Listing.{listing, line, spelled, record_of, words_listed, closing}
@@ -41,6 +42,12 @@ RunsPartWhereAsked = (task : Task) (u v : OutcomeWord) → kind task u ≡ Run �
 abbrev pub LogIsWord : Type 0
 LogIsWord = (task : Task) (w : OutcomeWord) → kind task w ≡ Run →
     map (λ e. e.success) (asked_of (state_of (run_on task w)).log) ≡ map succeeds w
+
+-- Over a device list that says of no answer that it stays, no command is told an answer again, so the outcomes in the
+-- whole log are its word.
+abbrev pub WholeLogIsWord : Type 0
+WholeLogIsWord = (task : Task) (w : OutcomeWord) → SaysNothing Steady task.limits.devices → kind task w ≡ Run →
+    map (λ e. e.success) (state_of (run_on task w)).log ≡ map succeeds w
 
 -- Of two commands in the log of a run whose answers stay, with the same words, the later one has the answer of the earlier
 -- one. It was told it again, so it has no outcome of the word.

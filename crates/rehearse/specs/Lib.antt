@@ -5,9 +5,6 @@ pub mod Resuming
 pub mod Laws
 pub mod GivenExecution
 pub mod PlainExecution
-pub mod EarlierExecution
-pub mod KnownExecution
-pub mod CallExecution
 pub mod Parameters
 pub mod RunsToCome
 pub mod EndingsShown

@@ -1,5 +1,5 @@
--- Execution as it was when a device list had only names (PlainList.antt). A command of the list asks for an outcome and
--- changes nothing else. Everything else is defined by Execution.antt, over the tree as in GivenExecution.antt. Ours.
+-- Execution over a device list of names alone (PlainList.antt). A command of the list asks for an outcome and changes
+-- nothing else. Everything else is defined by Execution.antt, over the tree as in GivenExecution.antt. Ours.
 use Rattle.std.specs.Prelude.{◌≡◌, ℕ, nat_lt, true, false, List, [], ◌∷◌, ◌++◌, length, Option, None, Ok}
 use Rattle.std.specs.List.{list_any}
 use Rattle.std.specs.Str.{bytes_eq}

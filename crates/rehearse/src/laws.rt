@@ -1,7 +1,7 @@
 //! Laws of rehearsals. A call of one does nothing: its contract is the law.
 
 ghost use Rattle.rehearse.specs.Laws.{NoRunTwice, NoRunBeginsAnother, NoRunIsLonger, RunsAreThere, AnotherFollows};
-ghost use Rattle.rehearse.specs.Laws.{RunsPartWhereAsked, LogIsWord, AnswersStay};
+ghost use Rattle.rehearse.specs.Laws.{RunsPartWhereAsked, LogIsWord, WholeLogIsWord, AnswersStay};
 ghost use Rattle.rehearse.specs.Laws.{StepsAreBounded, DevicesAreBounded, CutAtStepBound, CutAtDeviceBound, AskedBelowBound};
 ghost use Rattle.rehearse.specs.Laws.{AskedInFront, SharedIsWithin};
 ghost use Rattle.rehearse.specs.Laws.{RunsBegin, RunsFollow, RunsStand, RunsAreRuns, RunsAreOrdered};
@@ -20,11 +20,13 @@ pub fn words_of_runs()
     ensures another { AnotherFollows }
 {}
 
-/// The outcomes in a run's log are its word, and two runs differ first at an outcome that a device
-/// command asks for. If the answers of two commands of the log stay, and their words are the same, the
+/// The outcomes in a run's log, without the commands that were told an answer again, are its word; if
+/// the device list says of no answer that it stays, there is no such command. Two runs differ first at
+/// an outcome that a device command asks for. If the answers of two commands of the log stay, and their words are the same, the
 /// later one has the answer of the earlier one, and no outcome of the word.
 pub fn outcomes_of_runs()
     ensures logged { LogIsWord }
+    ensures whole { WholeLogIsWord }
     ensures parted { RunsPartWhereAsked }
     ensures stays { AnswersStay }
 {}

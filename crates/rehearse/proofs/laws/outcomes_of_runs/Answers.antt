@@ -1,9 +1,13 @@
 use Rattle.rehearse.proofs.TaskChoices.{log_is_word, runs_part_where_asked}
+use Rattle.rehearse.proofs.AskedLogs.{whole_log_is_word}
 use Rattle.rehearse.proofs.StayingAnswers.{answers_stay}
 use Rattle.rehearse.proofs.laws.outcomes_of_runs.Goals as goal
 
 pub returns-clause-logged : goal.returns-clause-logged
 returns-clause-logged c = log_is_word
+
+pub returns-clause-whole : goal.returns-clause-whole
+returns-clause-whole c = whole_log_is_word
 
 pub returns-clause-parted : goal.returns-clause-parted
 returns-clause-parted c = runs_part_where_asked

@@ -4,13 +4,11 @@ use Rattle.std.proofs.lemmas.List.Elements.{filter-append}
 use Rattle.device_list.specs.Commands.{sets_in}
 use Rattle.device_list.specs.DeviceList.{Effect}
 use Rattle.rehearse.specs.Execution.{Limits, Answer, Ended, CutDevices, Request, take_outcome, device, logged, set_environment, boot}
-use Rattle.rehearse.specs.KnownExecution.{KnownLogIsWord}
-use Rattle.device_list.specs.KnownList.{AskEachTime}
+use Rattle.rehearse.specs.Laws.{WholeLogIsWord}
 use Rattle.rehearse_terms.specs.Outcomes.{OutcomeWord, Success, Failure}
 use Rattle.rehearse.specs.Runs.{run_on, state_of}
 use Rattle.rehearse_terms.specs.State.{Text, LoggedCommand, State, asked_of, start}
 use Rattle.rehearse.proofs.GivenRuns.{asks_anew}
-use Rattle.device_list.proofs.KnownLists.{known_lists_ask}
 use Rattle.rehearse.proofs.KeptLogs.{KeepsLog, run-keeps}
 use Rattle.rehearse.proofs.TaskChoices.{log_is_word}
 
@@ -38,18 +36,16 @@ asks-take r (Success ∷ rest) s fresh h =
     asks-boot r.effect.ends r.name (set_environment (sets_in r.words r.effect.sets) (logged Success r (record s { word = rest }))) (one_more s.log e fresh h)
 asks-take r (Failure ∷ rest) s fresh h = one_more s.log (record { success = false; words = r.name ∷ r.words; stays = r.effect.stays; again = r.again }) fresh h
 
-module _ (limits : Limits) (each : AskEachTime limits.devices) where
-  asks-device : (r : Request) → r.again ≡ false → r.effect.stays ≡ false → KeepsLog AllTook (device limits r)
-  asks-device r fresh anew s h =
-      subst (λ (a : Answer). AllAsked (state_of a)) (sym (asks_anew limits r s anew))
-      (by (nat_lt (length s.log) limits.device_bound))
-    where
-      by : (room : Bool) → AllAsked (state_of (elim room [ true ↦ take_outcome r s.word s | false ↦ Ended CutDevices s ]))
-      by true = asks-take r s.word s fresh h
-      by false = h
+asks-device : (limits : Limits) (r : Request) → r.again ≡ false → r.effect.stays ≡ false → KeepsLog AllTook (device limits r)
+asks-device limits r fresh anew s h =
+    subst (λ (a : Answer). AllAsked (state_of a)) (sym (asks_anew limits r s anew))
+    (by (nat_lt (length s.log) limits.device_bound))
+  where
+    by : (room : Bool) → AllAsked (state_of (elim room [ true ↦ take_outcome r s.word s | false ↦ Ended CutDevices s ]))
+    by true = asks-take r s.word s fresh h
+    by false = h
 
-pub known_log_is_word : KnownLogIsWord
-known_log_is_word text task w e run =
-    let each : AskEachTime task.limits.devices = known_lists_ask text task.limits.devices e in
-    let all : AllAsked (state_of (run_on task w)) = run-keeps AllTook task.limits (λ (effect : Effect). effect.stays ≡ false) each.test each.calls (asks-device task.limits each) task.limits.step_bound task.name task.text (start task.environment w) refl in
+pub whole_log_is_word : WholeLogIsWord
+whole_log_is_word task w each run =
+    let all : AllAsked (state_of (run_on task w)) = run-keeps AllTook task.limits (λ (effect : Effect). effect.stays ≡ false) each.1 each.0 (asks-device task.limits) task.limits.step_bound task.name task.text (start task.environment w) refl in
     ap (map (λ e. e.success)) (sym all) ∙ log_is_word task w run

@@ -1,0 +1,104 @@
+-- Lines that name no command, though their words begin as those of one.
+use Rattle.std.proofs.Common.{◌≡◌, ℕ, ◌+◌, take, drop, ◌&&◌, Bool, true, false, List, [], ◌∷◌, Option, Some, None, Err, codes, refl, sym, ap, ◌∙◌, inl, inr}
+use Rattle.std.proofs.lemmas.Bool.{cases_Bool, and_parts}
+use Rattle.std.proofs.lemmas.List.Folds.{list_any_at}
+use Rattle.std.proofs.lemmas.List.Quantifiers.{position-Some}
+use Rattle.std.specs.Cmp.Lexicographic.{bytes_decides}
+use Rattle.std.specs.Option.{is_some, option_map}
+use Rattle.std.specs.List.{list_any, position}
+use Rattle.std.specs.Str.{bytes_eq}
+use Rattle.text.specs.Words.{is_equals}
+use Rattle.device_list.specs.Verdict.{Text}
+use Rattle.device_list.specs.KnownCommands.{known_of}
+use Rattle.device_list.specs.DeviceList.{Setting, named, call_of, steady_of, heading_of, settings, setting, left_side, line_with, line_of, known_named, is_steady_test}
+use Rattle.device_list.specs.declared.devices_error.DevicesError.TheVariants.{BadLine, BuiltIn}
+
+-- ---- a word without `=` is not a setting
+
+not_found : (test : ℕ → Bool) (bytes : Text) → list_any test bytes ≡ false → position test bytes ≡ None
+not_found test bytes none = by (position test bytes) refl
+  where
+    by : (o : Option ℕ) → position test bytes ≡ o → o ≡ None
+    by None is = refl
+    by (Some at) is =
+        let found = position-Some test bytes at 0 is in
+        let some : list_any test bytes ≡ true = list_any_at test bytes at 0 found.0 found.1 in
+        absurd (let f = sym some ∙ none in cc)
+
+no_settings : (second : Text) (words : List Text) → list_any is_equals second ≡ false → settings false (second ∷ words) ≡ None
+no_settings second words none =
+    let gone : setting false second ≡ None =
+    ap (λ (o : Option ℕ). let r : Option Setting = elim o [ None ↦ None | Some at ↦ option_map (λ left. (left, drop (at + 1) second)) (left_side false (take at second)) ] in r) (not_found is_equals second none) in
+    ap (λ (o : Option Setting). let r : Option (List Setting) = elim o [ None ↦ None | Some one ↦ option_map (λ more. one ∷ more) (settings false words) ] in r) gone
+
+module _ (number : ℕ) where
+  pub named_is_bad : (ends stays : Bool) (first second : Text) (words : List Text) → list_any is_equals second ≡ false → line_of number (named ends stays first (second ∷ words)) ≡ Err (BadLine number)
+  named_is_bad ends stays first second words none = ap (line_with number (named ends stays first (second ∷ words))) (no_settings second words none)
+
+  call_is_bad : (ends : Bool) (first second : Text) (words : List Text) → bytes_eq first (codes "sub") ≡ false → list_any is_equals second ≡ false → line_of number (call_of ends false first (second ∷ words)) ≡ Err (BadLine number)
+  call_is_bad ends first second [] other none = named_is_bad ends false first second [] none
+  call_is_bad ends first second (third ∷ words) other none = rw other (named_is_bad ends false first second (third ∷ words) none)
+
+  -- `steady` as the name of a command, and `final`
+  pub steady_is_bad : (ends : Bool) (first second : Text) (words : List Text) → bytes_eq first (codes "steady") ≡ true → list_any is_equals second ≡ false → line_of number (call_of ends false first (second ∷ words)) ≡ Err (BadLine number)
+  steady_is_bad ends first second words e none =
+      let is : first ≡ codes "steady" = (bytes_decides first (codes "steady")).0 e in
+      call_is_bad ends first second words (ap (λ f. bytes_eq f (codes "sub")) is) none
+
+  pub final_is_bad : (first second : Text) (words : List Text) → bytes_eq first (codes "final") ≡ true → list_any is_equals second ≡ false → line_of number (steady_of false first (second ∷ words)) ≡ Err (BadLine number)
+  final_is_bad first second words e none =
+      let is : first ≡ codes "final" = (bytes_decides first (codes "final")).0 e in
+      (λ i. line_of number (steady_of false (is i) (second ∷ words))) ∙ call_is_bad false (codes "final") second words refl none
+
+-- ---- a `known` line names no command
+
+bad_name : (number : ℕ) (name : Text) → is_some (known_of name) ≡ true → line_of number (heading_of (codes "known") (name ∷ [])) ≡ Err (BadLine number)
+bad_name number name e = by (bytes_eq name (codes "env")) (bytes_eq name (codes "itest")) (bytes_eq name (codes "setexpr")) refl refl refl e
+  where
+    one : (known : Text) → line_of number (heading_of (codes "known") (known ∷ [])) ≡ Err (BadLine number) → name ≡ known → line_of number (heading_of (codes "known") (name ∷ [])) ≡ Err (BadLine number)
+    one known bad is = ap (λ (n : Text). line_of number (heading_of (codes "known") (n ∷ []))) is ∙ bad
+
+    by : (a b c : Bool) → bytes_eq name (codes "env") ≡ a → bytes_eq name (codes "itest") ≡ b → bytes_eq name (codes "setexpr") ≡ c → is_some (known_of name) ≡ true → line_of number (heading_of (codes "known") (name ∷ [])) ≡ Err (BadLine number)
+    by true b c p q r f = one (codes "env") refl ((bytes_decides name (codes "env")).0 p)
+    by false true c p q r f = one (codes "itest") refl ((bytes_decides name (codes "itest")).0 q)
+    by false false true p q r f = one (codes "setexpr") refl ((bytes_decides name (codes "setexpr")).0 r)
+    by false false false p q r f = absurd (let g : is_some (known_of name) ≡ false = rw (p, q, r) refl in let h = sym g ∙ f in cc)
+
+-- a line that has a command computed
+known_is : (first : Text) (words : List Text) (name : Text) → known_named first words ≡ Some name → (first ≡ codes "known") × (second : Text) × (words ≡ second ∷ []) × (is_some (known_of second) ≡ true)
+known_is first [] name e = cc
+known_is first (second ∷ third ∷ words) name e = cc
+known_is first (second ∷ []) name e =
+    elim (cases_Bool (bytes_eq first (codes "known") && is_some (known_of second))) [
+      | inl both ↦
+          let parts = and_parts (bytes_eq first (codes "known")) (is_some (known_of second)) both in
+          ((bytes_decides first (codes "known")).0 parts.0, second, refl, parts.1)
+      | inr neither ↦ absurd (let none : known_named first (second ∷ []) ≡ None = rw neither refl in let f = sym none ∙ e in cc)
+    ]
+
+pub known_is_bad : (number : ℕ) (first : Text) (words : List Text) (name : Text) → known_named first words ≡ Some name → line_of number (heading_of first words) ≡ Err (BadLine number)
+known_is_bad number first words name e =
+    let k = known_is first words name e in
+    (λ i. line_of number (heading_of (k.0 i) (k.2 i))) ∙ bad_name number k.1 k.3
+
+-- and is no `steady test` line
+pub known_is_no_test : (first : Text) (words : List Text) (name : Text) → known_named first words ≡ Some name → is_steady_test first words ≡ false
+known_is_no_test first words name e =
+    let k = known_is first words name e in
+    let other : is_steady_test (codes "known") (k.1 ∷ []) ≡ false = refl in
+    (λ i. is_steady_test (k.0 i) (k.2 i)) ∙ other
+
+-- ---- a `steady test` line names no command
+
+pub test_is : (first : Text) (words : List Text) → is_steady_test first words ≡ true → (first ≡ codes "steady") × (words ≡ codes "test" ∷ [])
+test_is first [] e = cc
+test_is first (second ∷ third ∷ words) e = cc
+test_is first (second ∷ []) e =
+    let both = and_parts (bytes_eq first (codes "steady")) (bytes_eq second (codes "test")) e in
+    ((bytes_decides first (codes "steady")).0 both.0, ap (λ (w : Text). w ∷ []) ((bytes_decides second (codes "test")).0 both.1))
+
+pub test_is_built_in : (number : ℕ) (first : Text) (words : List Text) → is_steady_test first words ≡ true → line_of number (heading_of first words) ≡ Err (BuiltIn number)
+test_is_built_in number first words e =
+    let t = test_is first words e in
+    let built_in : line_of number (heading_of (codes "steady") (codes "test" ∷ [])) ≡ Err (BuiltIn number) = refl in
+    (λ i. line_of number (heading_of (t.0 i) (t.1 i))) ∙ built_in
