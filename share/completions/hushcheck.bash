@@ -29,15 +29,35 @@ _hushcheck_names() {
     ubtool printenv "${from[@]}" 2>/dev/null </dev/null | sed -n 's/^\([A-Za-z0-9_.-]*\)=.*/\1/p'
 }
 
+# options: completions
+# _hushcheck_options COMMAND: the options of the command, in `options`.
+_hushcheck_options() {
+    case $1 in
+        hushcheck) options='-c --config --big-endian -d --device-list --all -h --help -V --version' ;;
+        *) options='' ;;
+    esac
+}
+
+# _hushcheck_value WORD: if the word is an option with a value, what the value is, in `value`.
+_hushcheck_value() {
+    case $1 in
+        -c | --config | -d | --device-list) value='file' ;;
+        *) value='' ;;
+    esac
+}
+# end
+
 _hushcheck() {
-    local options='-c --config --big-endian -d --device-list --all -h --help -V --version' line last word words number
+    local line last word options value='' words number
     _hushcheck_line
+    _hushcheck_options hushcheck
     word=${line[last]}
     COMPREPLY=()
     for ((number = 1; number < last; number++)); do
         [ "${line[number]}" != -- ] || options=''
     done
-    if [[ -n $options && ${line[last - 1]} =~ ^(-c|--config|-d|--device-list)$ ]]; then
+    [ -z "$options" ] || _hushcheck_value "${line[last - 1]}"
+    if [ "$value" = file ]; then
         compopt -o filenames 2>/dev/null
         mapfile -t COMPREPLY < <(compgen -f -- "$word")
         return

@@ -18,10 +18,18 @@ function __hushcheck_names
 end
 
 complete -c hushcheck -f
+# options: completions
+# Whether the word is an option whose value comes after it.
+function __hushcheck_takes_value
+    contains -- $argv[1] -c --config -d --device-list
+end
+
 complete -c hushcheck -s h -l help -d 'Print help'
 complete -c hushcheck -s V -l version -d 'Print version'
-complete -c hushcheck -s c -l config -r -F -d 'Configuration'
+complete -c hushcheck -s c -l config -r -F -d 'Configuration, at most 1048576 bytes'
 complete -c hushcheck -l big-endian -d 'The CRC is stored big-endian'
-complete -c hushcheck -s d -l device-list -r -F -d 'Device list'
-complete -c hushcheck -l all -d 'Check every variable'
+complete -c hushcheck -s d -l device-list -r -F -d 'Device list, at most 1048576 bytes, that the commands are looked up in'
+complete -c hushcheck -l all -d 'Check every variable of the image, after the NAMEs'
+# end
+
 complete -c hushcheck -a '(__hushcheck_names)' -d Variable

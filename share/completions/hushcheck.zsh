@@ -13,16 +13,29 @@ _hushcheck_names() {
     _wanted variables expl variable compadd -a names
 }
 
+# options: completions
+# _hushcheck_options COMMAND: the options of the command, as _arguments takes them, in `specs`.
+_hushcheck_options() {
+    case $1 in
+        hushcheck)
+            specs=(
+                '(-c --config)'{-c,--config}'[Configuration, at most 1048576 bytes]:file:_files'
+                '--big-endian[The CRC is stored big-endian]'
+                '(-d --device-list)'{-d,--device-list}'[Device list, at most 1048576 bytes, that the commands are looked up in]:file:_files'
+                '--all[Check every variable of the image, after the NAMEs]'
+                '(- *)'{-h,--help}'[Print help]'
+                '(- *)'{-V,--version}'[Print version]'
+            )
+            ;;
+    esac
+}
+# end
+
 _hushcheck() {
     local -A opt_args
-    _arguments -S \
-        '(-c --config)'{-c,--config}'[configuration]:configuration:_files' \
-        '--big-endian[the CRC is stored big-endian]' \
-        '(-d --device-list)'{-d,--device-list}'[device list]:device list:_files' \
-        '--all[check every variable]' \
-        '(- *)'{-h,--help}'[print help]' \
-        '(- *)'{-V,--version}'[print version]' \
-        '*: :_hushcheck_names'
+    local -a specs
+    _hushcheck_options hushcheck
+    _arguments -S $specs '*: :_hushcheck_names'
 }
 
 _hushcheck "$@"

@@ -29,12 +29,37 @@ _ubtool_names() {
     "$1" printenv "${from[@]}" 2>/dev/null </dev/null | sed -n 's/^\([A-Za-z0-9_.-]*\)=.*/\1/p'
 }
 
+# options: completions
+# _ubtool_options COMMAND: the options of the command, in `options`.
+_ubtool_options() {
+    case $1 in
+        printenv) options='-c --config --big-endian -l --lock --one-copy -n --noheader -0 --null --escaped -h --help -V --version' ;;
+        setenv) options='-c --config --big-endian -l --lock --one-copy -s --script -h --help -V --version' ;;
+        rehearse) options='-c --config --big-endian -d --device-list -b --variable --devices --steps --word --failures --after --limit -h --help -V --version' ;;
+        endings) options='-c --config --big-endian -d --device-list -b --variable --devices --steps --states --flow -h --help -V --version' ;;
+        *) options='' ;;
+    esac
+}
+
+# _ubtool_value WORD: if the word is an option with a value, what the value is, in `value`.
+_ubtool_value() {
+    case $1 in
+        -c | --config | -s | --script | -d | --device-list) value='file' ;;
+        -l | --lock) value='folder' ;;
+        -b | --variable) value='name' ;;
+        --devices | --steps | --word | --failures | --after | --limit | --states) value='other' ;;
+        *) value='' ;;
+    esac
+}
+# end
+
 # _ubtool_first: this is the first word of its subcommand that is no option.
 _ubtool_first() {
-    local number
+    local number value
     for ((number = 2; number < last; number++)); do
-        case ${line[number]} in
-            -c | --config | -l | --lock | -s | --script) ((number++)) ;;
+        _ubtool_value "${line[number]}"
+        case ${value:+with-value}${line[number]} in
+            with-value*) ((number++)) ;;
             -*) ;;
             *) return 1 ;;
         esac
@@ -42,7 +67,7 @@ _ubtool_first() {
 }
 
 _ubtool() {
-    local line last word options words='' number
+    local line last word options value='' words='' number
     _ubtool_line
     word=${line[last]}
     COMPREPLY=()
@@ -55,45 +80,35 @@ _ubtool() {
             mapfile -t COMPREPLY < <(compgen -W 'printenv setenv rehearse endings' -- "$word")
             return
             ;;
-        *-printenv)
-            options='-c --config --big-endian -l --lock --one-copy -n --noheader -0 --null --escaped'
-            options+=' -h --help -V --version'
-            ;;
-        *-setenv) options='-c --config --big-endian -l --lock --one-copy -s --script -h --help -V --version' ;;
-        *-rehearse)
-            options='-c --config --big-endian -d --device-list -b --variable --devices --steps --word --failures --after --limit'
-            options+=' -h --help -V --version'
-            ;;
-        *-endings)
-            options='-c --config --big-endian -d --device-list -b --variable --devices --steps --states --flow'
-            options+=' -h --help -V --version'
-            ;;
-        *) return ;;
+        *) _ubtool_options "${line[1]}" ;;
     esac
+    [ -n "$options" ] || return
     for ((number = 2; number < last; number++)); do
         [ "${line[number]}" != -- ] || options=''
     done
-    case ${options:+${line[last - 1]}} in
-        -c | --config | -d | --device-list | -s | --script)
+    [ -z "$options" ] || _ubtool_value "${line[last - 1]}"
+    case $value in
+        file)
             compopt -o filenames 2>/dev/null
             mapfile -t COMPREPLY < <(compgen -f -- "$word")
             return
             ;;
-        -l | --lock)
+        folder)
             compopt -o filenames 2>/dev/null
             mapfile -t COMPREPLY < <(compgen -d -- "$word")
             return
             ;;
-        --devices | --steps | --word | --failures | --after | --limit | --states) return ;;
+        other) return ;;
     esac
     if [[ $word == -* && -n $options ]]; then
         words=$options
-    elif [ "${line[1]}" = endings ]; then
-        case ${options:+${line[last - 1]}} in
-            -b | --variable) words=$(_ubtool_names "$1") ;;
-        esac
-    elif [ "${line[1]}" != setenv ] || _ubtool_first; then
+    elif [ "$value" = name ]; then
         words=$(_ubtool_names "$1")
+    else
+        case ${line[1]} in
+            printenv | rehearse) words=$(_ubtool_names "$1") ;;
+            setenv) ! _ubtool_first || words=$(_ubtool_names "$1") ;;
+        esac
     fi
     mapfile -t COMPREPLY < <(compgen -W "$words" -- "$word")
 }

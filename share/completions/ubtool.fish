@@ -27,12 +27,10 @@ function __ubtool_setenv_first
             set value
             continue
         end
-        switch $word
-            case -c --config -l --lock -s --script
-                set value yes
-            case '-*'
-            case '*'
-                return 1
+        if __ubtool_takes_value $word
+            set value yes
+        else if not string match -q -- '-*' $word
+            return 1
         end
     end
 end
@@ -44,8 +42,6 @@ function __ubtool_after_help
 end
 
 complete -c ubtool -f
-complete -c ubtool -s h -l help -d 'Print help'
-complete -c ubtool -s V -l version -d 'Print version'
 complete -c ubtool -n __fish_use_subcommand -a printenv -d 'Print variables of the environment'
 complete -c ubtool -n __fish_use_subcommand -a setenv -d 'Set or delete variables of the environment'
 complete -c ubtool -n __fish_use_subcommand -a rehearse -d 'List every run of a boot script'
@@ -54,29 +50,36 @@ complete -c ubtool -n __fish_use_subcommand -a help -d 'Print help'
 complete -c ubtool -n __fish_use_subcommand -a version -d 'Print version'
 complete -c ubtool -n __ubtool_after_help -a 'printenv setenv rehearse endings'
 
-set -l any '__fish_seen_subcommand_from printenv setenv rehearse endings'
-complete -c ubtool -n $any -s c -l config -r -F -d 'Configuration'
-complete -c ubtool -n $any -l big-endian -d 'The CRC is stored big-endian'
-complete -c ubtool -n '__fish_seen_subcommand_from printenv setenv' -s l -l lock -x -a '(__fish_complete_directories)' -d 'Folder of the lock file'
-complete -c ubtool -n '__fish_seen_subcommand_from printenv setenv' -l one-copy -d 'Use one copy if the other cannot be read'
-complete -c ubtool -n '__fish_seen_subcommand_from printenv' -s n -l noheader -d 'Print the value alone'
+# options: completions
+# Whether the word is an option whose value comes after it.
+function __ubtool_takes_value
+    contains -- $argv[1] -c --config -l --lock -s --script -d --device-list -b --variable --devices --steps --word --failures --after --limit --states
+end
+
+complete -c ubtool -s h -l help -d 'Print help'
+complete -c ubtool -s V -l version -d 'Print version'
+complete -c ubtool -n '__fish_seen_subcommand_from printenv setenv rehearse endings' -s c -l config -r -F -d 'Configuration, at most 1048576 bytes'
+complete -c ubtool -n '__fish_seen_subcommand_from printenv setenv rehearse endings' -l big-endian -d 'The CRC is stored big-endian'
+complete -c ubtool -n '__fish_seen_subcommand_from printenv' -s l -l lock -x -a '(__fish_complete_directories)' -d 'Wait for the lock file in DIR'
+complete -c ubtool -n '__fish_seen_subcommand_from setenv' -s l -l lock -x -a '(__fish_complete_directories)' -d 'Folder of the lock file'
+complete -c ubtool -n '__fish_seen_subcommand_from printenv setenv' -l one-copy -d 'If one copy of a pair cannot be read, use the other'
+complete -c ubtool -n '__fish_seen_subcommand_from printenv' -s n -l noheader -d 'Print the value alone, of exactly one NAME'
 complete -c ubtool -n '__fish_seen_subcommand_from printenv' -s 0 -l null -d 'End each variable with a NUL byte'
-complete -c ubtool -n '__fish_seen_subcommand_from printenv' -l escaped -d 'Print each variable on one line'
-complete -c ubtool -n '__fish_seen_subcommand_from setenv' -s s -l script -r -F -d 'Script of changes'
-
-set -l runs '__fish_seen_subcommand_from rehearse endings'
-complete -c ubtool -n $runs -s d -l device-list -r -F -d 'Device list'
-complete -c ubtool -n $runs -s b -l variable -x -a '(__ubtool_names)' -d 'Variable whose text is run'
-complete -c ubtool -n $runs -l devices -x -d 'At most so many device commands a run'
-complete -c ubtool -n $runs -l steps -x -d 'At most so many steps a run'
-
-set -l rehearse '__fish_seen_subcommand_from rehearse'
-complete -c ubtool -n $rehearse -l word -x -d 'Write the run of a word alone'
-complete -c ubtool -n $rehearse -l failures -x -d 'The runs in which at most so many device commands fail'
-complete -c ubtool -n $rehearse -l after -x -d 'Begin after the run of a word'
-complete -c ubtool -n $rehearse -l limit -x -d 'At most so many records'
-complete -c ubtool -n '__fish_seen_subcommand_from endings' -l states -x -d 'At most so many states'
-complete -c ubtool -n '__fish_seen_subcommand_from endings' -l flow -d 'Write the states as a graph'
+complete -c ubtool -n '__fish_seen_subcommand_from printenv' -l escaped -d 'Print newlines as \\n and other bytes by their digits'
+complete -c ubtool -n '__fish_seen_subcommand_from setenv' -s s -l script -r -F -d 'Script of changes, at most 1048576 bytes'
+complete -c ubtool -n '__fish_seen_subcommand_from rehearse endings' -s d -l device-list -r -F -d 'Device list, at most 1048576 bytes: a command that may fail a line'
+complete -c ubtool -n '__fish_seen_subcommand_from rehearse endings' -s b -l variable -x -a '(__ubtool_names)' -d 'Variable whose text is run'
+complete -c ubtool -n '__fish_seen_subcommand_from rehearse' -l devices -x -d 'At most N device commands a run, 0 to 32, with --word or --failures 3 to 1000'
+complete -c ubtool -n '__fish_seen_subcommand_from endings' -l devices -x -d 'At most N device commands a run, 0 to 1000'
+complete -c ubtool -n '__fish_seen_subcommand_from rehearse' -l steps -x -d 'At most N steps (commands begun) a run, 0 to 1000000'
+complete -c ubtool -n '__fish_seen_subcommand_from endings' -l steps -x -d 'At most N steps (commands begun) a run, 0 to 1000000'
+complete -c ubtool -n '__fish_seen_subcommand_from rehearse' -l word -x -d 'The run of WORD alone, . for the empty one'
+complete -c ubtool -n '__fish_seen_subcommand_from rehearse' -l failures -x -d 'The runs in which at most N device commands fail, 0 to 32'
+complete -c ubtool -n '__fish_seen_subcommand_from rehearse' -l after -x -d 'Begin after the run of WORD, . for the empty one'
+complete -c ubtool -n '__fish_seen_subcommand_from rehearse' -l limit -x -d 'At most N records, 1 to 4294967295'
+complete -c ubtool -n '__fish_seen_subcommand_from endings' -l states -x -d 'At most N states in all, 0 to 4294967295'
+complete -c ubtool -n '__fish_seen_subcommand_from endings' -l flow -d 'Write the states as a graph, a line each'
+# end
 
 complete -c ubtool -n '__fish_seen_subcommand_from printenv rehearse' -a '(__ubtool_names)' -d Variable
 complete -c ubtool -n __ubtool_setenv_first -a '(__ubtool_names)' -d Variable

@@ -13,23 +13,72 @@ _ubtool_names() {
     _wanted variables expl variable compadd -a names
 }
 
+# options: completions
+# _ubtool_options COMMAND: the options of the command, as _arguments takes them, in `specs`.
+_ubtool_options() {
+    case $1 in
+        printenv)
+            specs=(
+                '(-c --config)'{-c,--config}'[Configuration, at most 1048576 bytes]:file:_files'
+                '--big-endian[The CRC is stored big-endian]'
+                '(-l --lock)'{-l,--lock}'[Wait for the lock file in DIR]:folder:_files -/'
+                '--one-copy[If one copy of a pair cannot be read, use the other]'
+                '(-n --noheader)'{-n,--noheader}'[Print the value alone, of exactly one NAME]'
+                '(-0 --null)'{-0,--null}'[End each variable with a NUL byte]'
+                '--escaped[Print newlines as \\n and other bytes by their digits]'
+                '(- *)'{-h,--help}'[Print help]'
+                '(- *)'{-V,--version}'[Print version]'
+            )
+            ;;
+        setenv)
+            specs=(
+                '(-c --config)'{-c,--config}'[Configuration, at most 1048576 bytes]:file:_files'
+                '--big-endian[The CRC is stored big-endian]'
+                '(-l --lock)'{-l,--lock}'[Folder of the lock file]:folder:_files -/'
+                '--one-copy[If one copy of a pair cannot be read, use the other]'
+                '(-s --script)'{-s,--script}'[Script of changes, at most 1048576 bytes]:file:_files'
+                '(- *)'{-h,--help}'[Print help]'
+                '(- *)'{-V,--version}'[Print version]'
+            )
+            ;;
+        rehearse)
+            specs=(
+                '(-c --config)'{-c,--config}'[Configuration, at most 1048576 bytes]:file:_files'
+                '--big-endian[The CRC is stored big-endian]'
+                '(-d --device-list)'{-d,--device-list}'[Device list, at most 1048576 bytes\: a command that may fail a line]:file:_files'
+                '(-b --variable)'{-b,--variable}'[Variable whose text is run]:name:_ubtool_names'
+                '--devices[At most N device commands a run, 0 to 32, with --word or --failures 3 to 1000]:n: '
+                '--steps[At most N steps (commands begun) a run, 0 to 1000000]:n: '
+                '--word[The run of WORD alone, . for the empty one]:word: '
+                '--failures[The runs in which at most N device commands fail, 0 to 32]:n: '
+                '--after[Begin after the run of WORD, . for the empty one]:word: '
+                '--limit[At most N records, 1 to 4294967295]:n: '
+                '(- *)'{-h,--help}'[Print help]'
+                '(- *)'{-V,--version}'[Print version]'
+            )
+            ;;
+        endings)
+            specs=(
+                '(-c --config)'{-c,--config}'[Configuration, at most 1048576 bytes]:file:_files'
+                '--big-endian[The CRC is stored big-endian]'
+                '(-d --device-list)'{-d,--device-list}'[Device list, at most 1048576 bytes\: a command that may fail a line]:file:_files'
+                '(-b --variable)'{-b,--variable}'[Variable whose text is run]:name:_ubtool_names'
+                '--devices[At most N device commands a run, 0 to 1000]:n: '
+                '--steps[At most N steps (commands begun) a run, 0 to 1000000]:n: '
+                '--states[At most N states in all, 0 to 4294967295]:n: '
+                '--flow[Write the states as a graph, a line each]'
+                '(- *)'{-h,--help}'[Print help]'
+                '(- *)'{-V,--version}'[Print version]'
+            )
+            ;;
+    esac
+}
+# end
+
 _ubtool() {
     local curcontext=$curcontext state line
     local -A opt_args
-    local -a common runs lock commands words_alone
-    common=(
-        '(-c --config)'{-c,--config}'[configuration]:configuration:_files'
-        '--big-endian[the CRC is stored big-endian]'
-        '(- *)'{-h,--help}'[print help]'
-        '(- *)'{-V,--version}'[print version]'
-    )
-    runs=(
-        '(-d --device-list)'{-d,--device-list}'[device list]:device list:_files'
-        '(-b --variable)'{-b,--variable}'[variable whose text is run]: :_ubtool_names'
-        '--devices[at most so many device commands a run]:number: '
-        '--steps[at most so many steps a run]:number: '
-    )
-    lock=('(-l --lock)'{-l,--lock}'[folder of the lock file]:folder:_files -/')
+    local -a specs commands words_alone
     commands=(
         'printenv:print variables of the environment'
         'setenv:set or delete variables of the environment'
@@ -43,32 +92,12 @@ _ubtool() {
         command) _describe -t commands command commands -- words_alone ;;
         words)
             curcontext=${curcontext%:*:*}:ubtool-$words[1]:
+            _ubtool_options $words[1]
             case $words[1] in
                 help) (( CURRENT != 2 )) || _describe -t commands command commands ;;
-                printenv)
-                    _arguments -S $common $lock '--one-copy[use one copy if the other cannot be read]' \
-                        '(-n --noheader)'{-n,--noheader}'[print the value alone]' \
-                        '(-0 --null)'{-0,--null}'[end each variable with a NUL byte]' \
-                        '--escaped[print each variable on one line]' \
-                        '*: :_ubtool_names'
-                    ;;
-                setenv)
-                    _arguments -S $common $lock '--one-copy[use one copy if the other cannot be read]' \
-                        '(-s --script)'{-s,--script}'[script of changes]:script:_files' \
-                        '1: :_ubtool_names' '*:value: '
-                    ;;
-                rehearse)
-                    _arguments -S $common $runs \
-                        '--word[write the run of a word alone]:word: ' \
-                        '--failures[the runs in which at most so many device commands fail]:number: ' \
-                        '--after[begin after the run of a word]:word: ' \
-                        '--limit[at most so many records]:number: ' \
-                        '*: :_ubtool_names'
-                    ;;
-                endings)
-                    _arguments -S $common $runs '--states[at most so many states]:number: ' \
-                        '--flow[write the states as a graph]'
-                    ;;
+                printenv|rehearse) _arguments -S $specs '*: :_ubtool_names' ;;
+                setenv) _arguments -S $specs '1: :_ubtool_names' '*:value: ' ;;
+                endings) _arguments -S $specs ;;
             esac
             ;;
     esac
