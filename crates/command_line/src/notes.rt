@@ -77,8 +77,8 @@ copy that is not current is written, and becomes current.
 
 A line of a script is 'NAME VALUE', or 'NAME' alone to delete the variable.
 Lines that begin with # are skipped. A script has at most 1048576 bytes.
-The script of '-s -' is read from standard input, where the last line needs its
-newline.
+The script of '-s -' is read from standard input, where the
+last line needs its newline.
 
 Examples:
   fw_setenv bootdelay 3
