@@ -13,7 +13,7 @@ pub enum Op {
 }
 
 /// A piece of a word.
-#[derive(Debug, Drop)]
+#[derive(Debug, Drop, PartialEq, Eq)]
 pub enum Piece {
     /// Bytes as they are, at least one.
     Bytes(Vec<u8>),
@@ -26,7 +26,7 @@ pub enum Piece {
 }
 
 /// A word, as its pieces in order.
-#[derive(Debug, Drop)]
+#[derive(Debug, Drop, PartialEq, Eq)]
 pub struct Word {
     /// No two pieces of bytes are next to each other.
     pub pieces: Vec<Piece>,
