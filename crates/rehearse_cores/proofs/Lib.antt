@@ -1,2 +1,3 @@
 pub mod SameScriptLemmas
+pub mod EqualLemmas
 pub mod AnswerLemmas

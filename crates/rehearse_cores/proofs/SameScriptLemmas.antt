@@ -1,10 +1,8 @@
 -- Two lists that are read side by side.
 use Rattle.bootstore.specs.Moment.{RunningFrame}
-use Rattle.std.proofs.Common.{ℕ, suc, drop, reverse, ◌+◌, ◌≤◌, ◌<◌, List, [], ◌∷◌, ◌++◌, map, take, get_or, length, refl, sym, ap, ◌∙◌, ◌≡◌, append_assoc, append-nil, arith, eqb-true, Bool, true, false, not, ◌==◌, IsTrue, Option, Some, None, Vec}
+use Rattle.std.proofs.Common.{ℕ, suc, drop, reverse, ◌+◌, ◌≤◌, ◌<◌, List, [], ◌∷◌, ◌++◌, map, take, get_or, length, refl, sym, ap, ◌∙◌, ◌≡◌, append_assoc, append-nil, arith, eqb-true, Bool, true, not, ◌==◌, IsTrue, Option, Some, None, Vec}
 use Rattle.std.specs.Prelude.{is_some}
-use Rattle.std.specs.Str.{bytes_eq}
-use Rattle.std.proofs.lemmas.Slice.Eq.{bytes_eq-Decides}
-use Rattle.std.proofs.Math.Bool.{beq}
+use Rattle.std.proofs.lemmas.Bool.{not-false}
 use Rattle.std.specs.declared.alloc.Global.{Global}
 use Rattle.std.specs.declared.rc.Rc.{Rc}
 use Rattle.hushlang.specs.Tree as tree
@@ -62,48 +60,28 @@ pub told_end : {X Y : Type 0} (f : X → Y) (all items others : List X) (i : ℕ
 told_end f all items others i b le inv e h =
     e ∙ ap (λ l. length l == 0) (none_mapped f others (sym (ap (map f) (drop_all i items le)) ∙ same_rest f all items others i inv h))
 
-pub told_bytes : (xs ys : List ℕ) → true ≡ not (bytes_eq xs ys) → xs ≡ ys → ⊥
-told_bytes xs ys e h = let f = (bytes_eq-Decides xs ys).1 h in let g : true ≡ not true = e ∙ ap not f in cc
-
 -- ---- what parts of scripts say
 
 pub empty_of : {X : Type 0} (xs : List X) (b : Bool) → b ≡ (length xs == 0) → IsTrue b → xs ≡ []
 empty_of [] b e h = refl
 empty_of (x ∷ xs) b e h = absurd (let z = eqb-true (length (x ∷ xs)) 0 (sym e ∙ h) in omega arith)
 
-not_not : (b : Bool) → false ≡ not b → b ≡ true
-not_not true e = refl
-not_not false e = absurd (let f = e in cc)
-
-pub same_bytes : (xs ys : List ℕ) → false ≡ not (bytes_eq xs ys) → xs ≡ ys
-same_bytes xs ys e = (bytes_eq-Decides xs ys).0 (not_not (bytes_eq xs ys) e)
-
-pub same_flag : (p q : Bool) → not (beq p q) ≡ false → p ≡ q
-same_flag true true e = refl
-same_flag true false e = absurd (let f = e in cc)
-same_flag false true e = absurd (let f = e in cc)
-same_flag false false e = refl
-
-pub same_value : (x y : Vec ℕ Global × Word) → x.0.items ≡ y.0.items → view.word x.1 ≡ view.word y.1 → view.value x ≡ view.value y
-same_value x y e f = ap (λ (n : List ℕ). (n, view.word x.1)) e ∙ ap (λ (w : tree.Word). (y.0.items, w)) f
-
 pub same_simple : (a b : Command) (m n : Call) (xs ys : List Word) → a ≡ Simple m → b ≡ Simple n → map view.word xs ≡ view.call m → map view.word ys ≡ view.call n → map view.word xs ≡ map view.word ys → view.command a ≡ view.command b
 same_simple a b m n xs ys e f is js h =
     ap view.command e ∙ command_simple m ∙ ap tree.Simple (sym is ∙ h ∙ js) ∙ sym (command_simple n) ∙ sym (ap view.command f)
 
-pub same_assign : (a b : Command) (ws vs : Vec (Vec ℕ Global × Word) Global) (xs ys : List (Vec ℕ Global × Word)) → a ≡ Assign ws → b ≡ Assign vs → xs ≡ ws.items → ys ≡ vs.items → map view.value xs ≡ map view.value ys → view.command a ≡ view.command b
-same_assign a b ws vs xs ys e f is js h =
-    ap view.command e ∙ command_assign ws ∙ ap tree.Assign (sym (ap (map view.value) is) ∙ h ∙ ap (map view.value) js) ∙ sym (command_assign vs) ∙ sym (ap view.command f)
+pub same_assign : (a b : Command) (ws vs : Vec (Vec ℕ Global × Word) Global) → a ≡ Assign ws → b ≡ Assign vs → map view.value ws.items ≡ map view.value vs.items → view.command a ≡ view.command b
+same_assign a b ws vs e f h = ap view.command e ∙ command_assign ws ∙ ap tree.Assign h ∙ sym (command_assign vs) ∙ sym (ap view.command f)
 
 pub same_loop : (a b : Command) (p q : Bool) (c d c' d' : Rc Script Global) → a ≡ Loop p c d → b ≡ Loop q c' d' → p ≡ q → view.script c.value ≡ view.script c'.value → view.script d.value ≡ view.script d'.value → view.command a ≡ view.command b
 same_loop a b p q c d c' d' e f u h k =
     ap view.command e ∙ command_loop p c d ∙ ap (λ (x : Bool). tree.Loop x (view.script c.value) (view.script d.value)) u
     ∙ ap (λ (x : tree.Script). tree.Loop q x (view.script d.value)) h ∙ ap (tree.Loop q (view.script c'.value)) k ∙ sym (command_loop q c' d') ∙ sym (ap view.command f)
 
-pub same_for : (a b : Command) (n m : Vec ℕ Global) (ws vs : Vec Word Global) (xs ys : List Word) (d d' : Rc Script Global) → a ≡ For n ws d → b ≡ For m vs d' → n.items ≡ m.items → xs ≡ ws.items → ys ≡ vs.items → map view.word xs ≡ map view.word ys → view.script d.value ≡ view.script d'.value → view.command a ≡ view.command b
-same_for a b n m ws vs xs ys d d' e f g is js h k =
+pub same_for : (a b : Command) (n m : Vec ℕ Global) (ws vs : Vec Word Global) (d d' : Rc Script Global) → a ≡ For n ws d → b ≡ For m vs d' → n.items ≡ m.items → map view.word ws.items ≡ map view.word vs.items → view.script d.value ≡ view.script d'.value → view.command a ≡ view.command b
+same_for a b n m ws vs d d' e f g h k =
     ap view.command e ∙ command_for n ws d ∙ ap (λ (x : List ℕ). tree.For x (map view.word ws.items) (view.script d.value)) g
-    ∙ ap (λ (x : List tree.Word). tree.For m.items x (view.script d.value)) (sym (ap (map view.word) is) ∙ h ∙ ap (map view.word) js)
+    ∙ ap (λ (x : List tree.Word). tree.For m.items x (view.script d.value)) h
     ∙ ap (tree.For m.items (map view.word vs.items)) k ∙ sym (command_for m vs d') ∙ sym (ap view.command f)
 
 abbrev Arms : Type 0
@@ -230,11 +208,10 @@ told_simple a b m n xs ys e f is js h =
     ∙ words_in_simple (view.call m) (view.call n) (both_say a b (tree.Simple (view.call m)) (tree.Simple (view.call n)) (ap view.command e ∙ command_simple m) (ap view.command f ∙ command_simple n) h)
     ∙ sym js
 
-pub told_assign : (a b : Command) (ws vs : Vec (Vec ℕ Global × Word) Global) (xs ys : List (Vec ℕ Global × Word)) → a ≡ Assign ws → b ≡ Assign vs → xs ≡ ws.items → ys ≡ vs.items → view.command a ≡ view.command b → map view.value xs ≡ map view.value ys
-told_assign a b ws vs xs ys e f is js h =
-    ap (map view.value) is
-    ∙ values_in_assign (map view.value ws.items) (map view.value vs.items) (both_say a b (tree.Assign (map view.value ws.items)) (tree.Assign (map view.value vs.items)) (ap view.command e ∙ command_assign ws) (ap view.command f ∙ command_assign vs) h)
-    ∙ sym (ap (map view.value) js)
+pub told_assign : (a b : Command) (ws vs : Vec (Vec ℕ Global × Word) Global) → a ≡ Assign ws → b ≡ Assign vs → view.command a ≡ view.command b → map view.value ws.items ≡ map view.value vs.items
+told_assign a b ws vs e f h =
+    values_in_assign (map view.value ws.items) (map view.value vs.items)
+    (both_say a b (tree.Assign (map view.value ws.items)) (tree.Assign (map view.value vs.items)) (ap view.command e ∙ command_assign ws) (ap view.command f ∙ command_assign vs) h)
 
 pub told_loop : (a b : Command) (p q : Bool) (c d c' d' : Rc Script Global) → a ≡ Loop p c d → b ≡ Loop q c' d' → view.command a ≡ view.command b → (p ≡ q) × (view.script c.value ≡ view.script c'.value) × (view.script d.value ≡ view.script d'.value)
 told_loop a b p q c d c' d' e f h =
@@ -330,14 +307,8 @@ other_for a b n ws d e apart (is_if ws' o' f) h = absurd (let m = same_number a 
 other_for a b n ws d e apart (is_loop p' c' d' f) h = absurd (let m = same_number a b (is_for n ws d e) (is_loop p' c' d' f) h in omega (arith, m))
 other_for a b n ws d e apart (is_for n' ws' d' f) h = apart n' ws' d' f
 
-pub told_flag : (p q : Bool) → not (beq p q) ≡ true → p ≡ q → ⊥
-told_flag true true e h = let f = e in cc
-told_flag true false e h = let f = h in cc
-told_flag false true e h = let f = h in cc
-told_flag false false e h = let f = e in cc
-
 pub told_none : (o o' : Option (Rc Script Global)) (b : Bool) → o ≡ None → is_some o' ≡ not b → view.script_in o ≡ view.script_in o' → IsTrue b
-told_none o None b e f h = not_not b f
+told_none o None b e f h = not-false b (sym f)
 told_none o (Some d) b e f h = absurd (let g : None ≡ Some (view.script d.value) = sym (ap view.script_in e) ∙ h in cc)
 
 pub told_body : (o o' : Option (Rc Script Global)) (d d' : Rc Script Global) (s s' : Script) → o ≡ Some d → o' ≡ Some d' → s ≡ d.value → s' ≡ d'.value → view.script_in o ≡ view.script_in o' → view.script s ≡ view.script s'

@@ -4,7 +4,7 @@ ghost use Rattle.rehearse_terms.specs.State.{answers_in};
 ghost use Rattle.rehearse_cores.specs.Cores.{core_shown, core_of, pairs_shown, answers_shown};
 
 use crate::environments::Environments;
-use crate::same_scripts::{same_frame, same_texts};
+use crate::same_scripts::same_frame;
 use crate::words::copy_words;
 use bootstore::{Frame, LogEntry, Store, StoreError, Variables};
 use std::alloc::Global;
@@ -137,7 +137,7 @@ fn same_answers(log: &[LogEntry], answers: &[(Vec<Vec<u8>>, bool)]) -> bool
             if entry.success != other.1 {
                 return false;
             }
-            if !same_texts(&entry.words, &other.0) {
+            if entry.words != other.0 {
                 return false;
             }
             others = more;

@@ -1,36 +1,40 @@
 use Rattle.std.proofs.Common.{refl, sym, ap, ◌∙◌, rules, ◌≡◌, ◌∷◌, map, length}
 use Rattle.hushlang.specs.Tree as tree
 use Rattle.hushlang.specs.declared.tree.Op.{Op}
-use Rattle.rehearse_cores.proofs.same_scripts.+same.Goals.{same_command-then-until-until_there-via-then-until-until_there, same_command-then-until-until_there-via-else-until-until_there+then-not-same_script, same_command-then-ne-via-then-ne, same_command-then-ne-via-else-ne+then-not-same_words, same_list-then-ne-via-then-ne, same_list-then-ne-via-else-ne+then-not-same_command-2}
+use Rattle.rehearse_cores.proofs.same_scripts.+same.Goals.{same_command-then-until-until_there-via-then-until-until_there, same_command-then-until-until_there-via-else-until-until_there+then-not-same_script, same_command-then-ne-via-then-ne, same_command-then-ne-via-else-ne+then-ne-2, same_list-then-ne-via-then-ne, same_list-then-ne-via-else-ne+then-not-same_command-2}
 use Rattle.hushlang.specs.TreesShown as view
-use Rattle.rehearse_cores.proofs.SameScriptLemmas.{same_simple, same_assign, same_loop, same_for, same_if, same_body, same_none, same_lists, same_joins, same_end, same_flag, same_bytes, empty_of, told_step, told_end, none_left, told_bytes, told_flag, told_none, told_body, told_no_body, told_lists, told_first, told_joins, told_simple, told_assign, told_loop, told_for, told_if, other_simple, other_assign, other_if, other_loop, other_for, kind}
+use Rattle.rehearse_cores.proofs.SameScriptLemmas.{same_simple, same_assign, same_loop, same_for, same_if, same_body, same_none, same_lists, same_joins, same_end, empty_of, told_step, told_end, none_left, told_none, told_body, told_no_body, told_lists, told_first, told_joins, told_simple, told_assign, told_loop, told_for, told_if, other_simple, other_assign, other_if, other_loop, other_for, kind}
+use Rattle.std.specs.Cmp.{booleans_Decides}
+use Rattle.std.proofs.lemmas.Slice.Eq.{bytes_eq-Decides}
+use Rattle.rehearse_cores.proofs.EqualLemmas.{same_by, other_by, words_decided, values_decided}
 use Rattle.rehearse_cores.proofs.same_scripts.+same.Goals as goal
 
 pub same_command-returns-in-Simple-b-clause-same : goal.same_command-returns-in-Simple-b-clause-same
-same_command-returns-in-Simple-b-clause-same t c = λ h. same_simple c.args.a.now c.args.b.now c.in-Simple.call c.in-Simple-b.other c.words.result.now c.words-in-Simple-b.result.now c.in-Simple.is c.in-Simple-b.is c.words.ensures c.words-in-Simple-b.ensures (c.same_words.ensures.same h)
+same_command-returns-in-Simple-b-clause-same t c = λ h. same_simple c.args.a.now c.args.b.now c.in-Simple.call c.in-Simple-b.other c.words.result.now c.words-in-Simple-b.result.now c.in-Simple.is c.in-Simple-b.is c.words.ensures c.words-in-Simple-b.ensures ((words_decided c.words.result.now c.words-in-Simple-b.result.now).0 (sym c.eq.ensures ∙ h))
 
 pub same_command-returns-in-Assign-b-clause-same : goal.same_command-returns-in-Assign-b-clause-same
-same_command-returns-in-Assign-b-clause-same t c = λ h. same_assign c.args.a.now c.args.b.now c.in-Assign.values c.in-Assign-b.others c.deref.result.now c.deref-in-Assign-b.result.now c.in-Assign.is c.in-Assign-b.is c.deref.ensures.value c.deref-in-Assign-b.ensures.value (c.same_values.ensures.same h)
+same_command-returns-in-Assign-b-clause-same t c = λ h.
+    same_assign c.args.a.now c.args.b.now c.in-Assign.values c.in-Assign-b.others c.in-Assign.is c.in-Assign-b.is ((values_decided c.in-Assign.values.items c.in-Assign-b.others.items).0 (sym c.eq-in-Assign-b.ensures ∙ h))
 
 pub same_command-returns-in-Some-other_there-clause-same : goal.same_command-returns-in-Some-other_there-clause-same
 same_command-returns-in-Some-other_there-clause-same t c = λ h.
-    same_if c.args.a.now c.args.b.now c.in-If.arms c.in-If-b.arms_there c.in-If.other c.in-If-b.other_there c.deref-in-If-b.result.now c.deref-in-If-b-2.result.now c.in-If.is c.in-If-b.is c.deref-in-If-b.ensures.value c.deref-in-If-b-2.ensures.value (c.if-not-same_arms.ensures.same refl)
+    same_if c.args.a.now c.args.b.now c.in-If.arms c.in-If-b.arms_there c.in-If.other c.in-If-b.other_there c.deref.result.now c.deref-in-If-b.result.now c.in-If.is c.in-If-b.is c.deref.ensures.value c.deref-in-If-b.ensures.value (c.if-not-same_arms.ensures.same refl)
     (same_body c.in-If.other c.in-If-b.other_there c.in-Some.body c.in-Some-other_there.body_there c.deref-in-Some-other_there.result.now c.deref-in-Some-other_there-2.result.now c.in-Some.is c.in-Some-other_there.is c.deref-in-Some-other_there.ensures c.deref-in-Some-other_there-2.ensures (c.same_script.ensures.same h))
 
 pub same_command-returns-in-None-clause-same : goal.same_command-returns-in-None-clause-same
 same_command-returns-in-None-clause-same t c = λ h.
-    same_if c.args.a.now c.args.b.now c.in-If.arms c.in-If-b.arms_there c.in-If.other c.in-If-b.other_there c.deref-in-If-b.result.now c.deref-in-If-b-2.result.now c.in-If.is c.in-If-b.is c.deref-in-If-b.ensures.value c.deref-in-If-b-2.ensures.value (c.if-not-same_arms.ensures.same refl)
+    same_if c.args.a.now c.args.b.now c.in-If.arms c.in-If-b.arms_there c.in-If.other c.in-If-b.other_there c.deref.result.now c.deref-in-If-b.result.now c.in-If.is c.in-If-b.is c.deref.ensures.value c.deref-in-If-b.ensures.value (c.if-not-same_arms.ensures.same refl)
     (same_none c.in-If.other c.in-If-b.other_there c.is_none.result c.in-None.is c.is_none.ensures h)
 
 pub same_command-returns-else-not-same_script-clause-same : goal.same_command-returns-else-not-same_script-clause-same
 same_command-returns-else-not-same_script-clause-same t c = λ h.
-    same_loop c.args.a.now c.args.b.now c.in-Loop.until c.in-Loop-b.until_there c.in-Loop.cond c.in-Loop.body c.in-Loop-b.cond_there c.in-Loop-b.body_there c.in-Loop.is c.in-Loop-b.is (same_flag c.in-Loop.until c.in-Loop-b.until_there c.if-until-until_there.false)
+    same_loop c.args.a.now c.args.b.now c.in-Loop.until c.in-Loop-b.until_there c.in-Loop.cond c.in-Loop.body c.in-Loop-b.cond_there c.in-Loop-b.body_there c.in-Loop.is c.in-Loop-b.is (same_by (booleans_Decides c.in-Loop.until c.in-Loop-b.until_there) (sym c.if-until-until_there.false))
     (sym (ap view.script c.deref-else-until-until_there.ensures) ∙ c.if-not-same_script.ensures.same refl ∙ ap view.script c.deref-else-until-until_there-2.ensures)
     (sym (ap view.script c.deref-in-Loop-b.ensures) ∙ c.same_script-in-Loop-b.ensures.same h ∙ ap view.script c.deref-in-Loop-b-2.ensures)
 
-pub same_command-returns-else-not-same_words-clause-same : goal.same_command-returns-else-not-same_words-clause-same
-same_command-returns-else-not-same_words-clause-same t c = λ h.
-    same_for c.args.a.now c.args.b.now c.in-For.name c.in-For-b.name_there c.in-For.words c.in-For-b.words_there c.deref-else-ne.result.now c.deref-else-ne-2.result.now c.in-For.body c.in-For-b.body_there c.in-For.is c.in-For-b.is (same_bytes c.in-For.name.items c.in-For-b.name_there.items c.if-ne.ensures) c.deref-else-ne.ensures.value c.deref-else-ne-2.ensures.value (c.if-not-same_words.ensures.same refl)
+pub same_command-returns-else-ne-2-clause-same : goal.same_command-returns-else-ne-2-clause-same
+same_command-returns-else-ne-2-clause-same t c = λ h.
+    same_for c.args.a.now c.args.b.now c.in-For.name c.in-For-b.name_there c.in-For.words c.in-For-b.words_there c.in-For.body c.in-For-b.body_there c.in-For.is c.in-For-b.is (same_by (bytes_eq-Decides c.in-For.name.items c.in-For-b.name_there.items) c.if-ne.ensures) (same_by (words_decided c.in-For.words.items c.in-For-b.words_there.items) c.if-ne-2.ensures)
     (sym (ap view.script c.deref-in-For-b.ensures) ∙ c.same_script-in-For-b.ensures.same h ∙ ap view.script c.deref-in-For-b-2.ensures)
 
 pub same_list-returns-clause-same : goal.same_list-returns-clause-same
@@ -59,29 +63,29 @@ same_arms-returns-clause-told t c = λ h.
 
 pub same_command-returns-then-not-same_arms-clause-told : goal.same_command-returns-then-not-same_arms-clause-told
 same_command-returns-then-not-same_arms-clause-told t c = λ h.
-    c.if-not-same_arms.ensures.told (ap (map view.arm) c.deref-in-If-b.ensures.value ∙ (told_if c.args.a.now c.args.b.now c.in-If.arms c.in-If-b.arms_there c.in-If.other c.in-If-b.other_there c.in-If.is c.in-If-b.is h).0 ∙ sym (ap (map view.arm) c.deref-in-If-b-2.ensures.value))
+    c.if-not-same_arms.ensures.told (ap (map view.arm) c.deref.ensures.value ∙ (told_if c.args.a.now c.args.b.now c.in-If.arms c.in-If-b.arms_there c.in-If.other c.in-If-b.other_there c.in-If.is c.in-If-b.is h).0 ∙ sym (ap (map view.arm) c.deref-in-If-b.ensures.value))
 
 pub same_command-returns-then-until-until_there-clause-told : goal.same_command-returns-then-until-until_there-clause-told
 same_command-returns-then-until-until_there-clause-told t c = λ h.
     elim c.then-until-until_there.branch [
-      | same_command-then-until-until_there-via-then-until-until_there w ↦ absurd (told_flag c.in-Loop.until c.in-Loop-b.until_there w.if-until-until_there.true (told_loop c.args.a.now c.args.b.now c.in-Loop.until c.in-Loop-b.until_there c.in-Loop.cond c.in-Loop.body c.in-Loop-b.cond_there c.in-Loop-b.body_there c.in-Loop.is c.in-Loop-b.is h).0)
+      | same_command-then-until-until_there-via-then-until-until_there w ↦ absurd (other_by (booleans_Decides c.in-Loop.until c.in-Loop-b.until_there) (sym w.if-until-until_there.true) (told_loop c.args.a.now c.args.b.now c.in-Loop.until c.in-Loop-b.until_there c.in-Loop.cond c.in-Loop.body c.in-Loop-b.cond_there c.in-Loop-b.body_there c.in-Loop.is c.in-Loop-b.is h).0)
       | same_command-then-until-until_there-via-else-until-until_there+then-not-same_script w ↦ w.if-not-same_script.ensures.told (ap view.script w.deref-else-until-until_there.ensures ∙ (told_loop c.args.a.now c.args.b.now c.in-Loop.until c.in-Loop-b.until_there c.in-Loop.cond c.in-Loop.body c.in-Loop-b.cond_there c.in-Loop-b.body_there c.in-Loop.is c.in-Loop-b.is h).1 ∙ sym (ap view.script w.deref-else-until-until_there-2.ensures))
     ]
 
 pub same_command-returns-then-ne-clause-told : goal.same_command-returns-then-ne-clause-told
 same_command-returns-then-ne-clause-told t c = λ h.
     elim c.then-ne.branch [
-      | same_command-then-ne-via-then-ne w ↦ absurd (told_bytes c.in-For.name.items c.in-For-b.name_there.items w.if-ne.ensures (told_for c.args.a.now c.args.b.now c.in-For.name c.in-For-b.name_there c.in-For.words c.in-For-b.words_there c.in-For.body c.in-For-b.body_there c.in-For.is c.in-For-b.is h).0)
-      | same_command-then-ne-via-else-ne+then-not-same_words w ↦ w.if-not-same_words.ensures.told (ap (map view.word) w.deref-else-ne.ensures.value ∙ (told_for c.args.a.now c.args.b.now c.in-For.name c.in-For-b.name_there c.in-For.words c.in-For-b.words_there c.in-For.body c.in-For-b.body_there c.in-For.is c.in-For-b.is h).1 ∙ sym (ap (map view.word) w.deref-else-ne-2.ensures.value))
+      | same_command-then-ne-via-then-ne w ↦ absurd (other_by (bytes_eq-Decides c.in-For.name.items c.in-For-b.name_there.items) w.if-ne.ensures (told_for c.args.a.now c.args.b.now c.in-For.name c.in-For-b.name_there c.in-For.words c.in-For-b.words_there c.in-For.body c.in-For-b.body_there c.in-For.is c.in-For-b.is h).0)
+      | same_command-then-ne-via-else-ne+then-ne-2 w ↦ absurd (other_by (words_decided c.in-For.words.items c.in-For-b.words_there.items) w.if-ne-2.ensures (told_for c.args.a.now c.args.b.now c.in-For.name c.in-For-b.name_there c.in-For.words c.in-For-b.words_there c.in-For.body c.in-For-b.body_there c.in-For.is c.in-For-b.is h).1)
     ]
 
 pub same_command-returns-in-Simple-b-clause-told : goal.same_command-returns-in-Simple-b-clause-told
 same_command-returns-in-Simple-b-clause-told t c = λ h.
-    c.same_words.ensures.told (told_simple c.args.a.now c.args.b.now c.in-Simple.call c.in-Simple-b.other c.words.result.now c.words-in-Simple-b.result.now c.in-Simple.is c.in-Simple-b.is c.words.ensures c.words-in-Simple-b.ensures h)
+    c.eq.ensures ∙ (words_decided c.words.result.now c.words-in-Simple-b.result.now).1 (told_simple c.args.a.now c.args.b.now c.in-Simple.call c.in-Simple-b.other c.words.result.now c.words-in-Simple-b.result.now c.in-Simple.is c.in-Simple-b.is c.words.ensures c.words-in-Simple-b.ensures h)
 
 pub same_command-returns-in-Assign-b-clause-told : goal.same_command-returns-in-Assign-b-clause-told
 same_command-returns-in-Assign-b-clause-told t c = λ h.
-    c.same_values.ensures.told (told_assign c.args.a.now c.args.b.now c.in-Assign.values c.in-Assign-b.others c.deref.result.now c.deref-in-Assign-b.result.now c.in-Assign.is c.in-Assign-b.is c.deref.ensures.value c.deref-in-Assign-b.ensures.value h)
+    c.eq-in-Assign-b.ensures ∙ (values_decided c.in-Assign.values.items c.in-Assign-b.others.items).1 (told_assign c.args.a.now c.args.b.now c.in-Assign.values c.in-Assign-b.others c.in-Assign.is c.in-Assign-b.is h)
 
 pub same_command-returns-in-Some-other_there-clause-told : goal.same_command-returns-in-Some-other_there-clause-told
 same_command-returns-in-Some-other_there-clause-told t c = λ h.
@@ -99,8 +103,8 @@ pub same_command-returns-else-not-same_script-clause-told : goal.same_command-re
 same_command-returns-else-not-same_script-clause-told t c = λ h.
     c.same_script-in-Loop-b.ensures.told (ap view.script c.deref-in-Loop-b.ensures ∙ (told_loop c.args.a.now c.args.b.now c.in-Loop.until c.in-Loop-b.until_there c.in-Loop.cond c.in-Loop.body c.in-Loop-b.cond_there c.in-Loop-b.body_there c.in-Loop.is c.in-Loop-b.is h).2 ∙ sym (ap view.script c.deref-in-Loop-b-2.ensures))
 
-pub same_command-returns-else-not-same_words-clause-told : goal.same_command-returns-else-not-same_words-clause-told
-same_command-returns-else-not-same_words-clause-told t c = λ h.
+pub same_command-returns-else-ne-2-clause-told : goal.same_command-returns-else-ne-2-clause-told
+same_command-returns-else-ne-2-clause-told t c = λ h.
     c.same_script-in-For-b.ensures.told (ap view.script c.deref-in-For-b.ensures ∙ (told_for c.args.a.now c.args.b.now c.in-For.name c.in-For-b.name_there c.in-For.words c.in-For-b.words_there c.in-For.body c.in-For-b.body_there c.in-For.is c.in-For-b.is h).2 ∙ sym (ap view.script c.deref-in-For-b-2.ensures))
 
 pub same_command-returns-in_default : goal.same_command-returns-in_default
