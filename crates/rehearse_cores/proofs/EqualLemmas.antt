@@ -29,7 +29,7 @@ other_by {r = r} d e = (Decides-not r d).0 (sym e)
 -- ---- lists
 
 -- two lists, by what a view sees of their items
-decided : {X Y : Type 0} {E : X → X → Bool} (f : X → Y) → ((a b : X) → Decides (E a b) (f a ≡ f b)) → (xs ys : List X) → Decides (pointwise E xs ys) (map f xs ≡ map f ys)
+pub decided : {X Y : Type 0} {E : X → X → Bool} (f : X → Y) → ((a b : X) → Decides (E a b) (f a ≡ f b)) → (xs ys : List X) → Decides (pointwise E xs ys) (map f xs ≡ map f ys)
 decided f each [] [] = (λ t. refl, λ e. refl)
 decided f each [] (y ∷ ys) = (λ t. absurd (let u = t in cc), λ e. absurd (let u = e in cc))
 decided f each (x ∷ xs) [] = (λ t. absurd (let u = t in cc), λ e. absurd (let u = e in cc))
@@ -65,10 +65,10 @@ words_decided = decided view.word word_decided
 
 -- ---- assignments
 
-abbrev Value : Type 0
+abbrev pub Value : Type 0
 Value = Vec ℕ Global × Word
 
-abbrev value_eq : Value → Value → Bool
+abbrev pub value_eq : Value → Value → Bool
 value_eq a b = bytes_eq a.0.items b.0.items && word_eq.ghosts.eq a.1 b.1
 
 value_decided : (a b : Value) → Decides (value_eq a b) (view.value a ≡ view.value b)

@@ -4,7 +4,7 @@ use Rattle.std.specs.declared.alloc.Global.{Global}
 use Rattle.text.specs.TextsShown.{bytes_of_words}
 use Rattle.rehearse_terms.specs.State.{Text, LoggedCommand, answers_in}
 use Rattle.rehearse_cores.specs.Cores.{answers_shown}
-use Rattle.rehearse_cores.proofs.SameScriptLemmas.{pairs_step, pairs_first, pairs_rest, pairs_none, told_empty}
+use Rattle.rehearse_cores.proofs.SideBySide.{pairs_step, pairs_first, pairs_rest, pairs_none, told_empty}
 use Rattle.std.specs.Cmp.{booleans_Decides}
 use Rattle.rehearse_cores.proofs.EqualLemmas.{same_by, other_by, texts_decided}
 use Rattle.rehearse_cores.proofs.AnswerLemmas.{answer_of, answers_first, answers_skipped, answers_past}

@@ -1,7 +1,7 @@
 use Rattle.std.proofs.Common.{rules, ◌≡◌, [], ◌∷◌, List, ℕ, Vec, length, ap, sym, ◌∙◌}
 use Rattle.std.specs.declared.alloc.Global.{Global}
 use Rattle.rehearse_cores.specs.Cores.{pairs_shown}
-use Rattle.rehearse_cores.proofs.SameScriptLemmas.{same_pair, pairs_step, pairs_rest, pairs_first, told_empty, pairs_none}
+use Rattle.rehearse_cores.proofs.SideBySide.{same_pair, pairs_step, pairs_rest, pairs_first, told_empty, pairs_none}
 use Rattle.std.proofs.lemmas.Slice.Eq.{bytes_eq-Decides}
 use Rattle.rehearse_cores.proofs.EqualLemmas.{same_by, other_by}
 use Rattle.rehearse_cores.proofs.cores.same_pairs.Goals as goal
