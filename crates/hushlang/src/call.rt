@@ -121,6 +121,23 @@ impl Call {
     }
 }
 
+/// Calls are the same if their words are. What is found once follows from the words, and of the place
+/// nothing is promised.
+impl PartialEq for Call {
+    ghost use Rattle.std.specs.Cmp.{on_per};
+    ghost use Rattle.std.specs.Cmp.Lexicographic.{pointwise, lists_per};
+    ghost use Rattle.hushlang.specs.contracts.tree.WordPartialEq.TheImpl as words;
+    ghost use Rattle.hushlang.specs.contracts.tree.WordPartialEq.TheImpl.Laws.{laws-law};
+
+    ghost eq = { λ a b. pointwise words.ghosts.eq a.words.items b.words.items };
+
+    ghost laws = { on_per (λ call. call.words.items) (lists_per laws-law) };
+
+    fn eq(&self, other: &Call) -> bool {
+        self.words == other.words
+    }
+}
+
 impl fmt::Debug for Call {
     fn fmt<W: fmt::Write>(&self, f: &mut fmt::Formatter<W>) -> fmt::Result {
         f.debug_struct("Call")

@@ -13,7 +13,7 @@ pub enum Op {
 }
 
 /// A piece of a word.
-#[derive(Debug, Drop)]
+#[derive(Debug, Drop, PartialEq, Eq)]
 pub enum Piece {
     /// Bytes as they are, at least one.
     Bytes(Vec<u8>),
@@ -26,7 +26,7 @@ pub enum Piece {
 }
 
 /// A word, as its pieces in order.
-#[derive(Debug, Drop)]
+#[derive(Debug, Drop, PartialEq, Eq)]
 pub struct Word {
     /// No two pieces of bytes are next to each other.
     pub pieces: Vec<Piece>,
@@ -34,7 +34,7 @@ pub struct Word {
 
 /// And-or lists, one after another. A text without a command has none.
 #[cycle(tree)]
-#[derive(Debug, Drop)]
+#[derive(Debug, Drop, PartialEq)]
 pub struct Script {
     /// The lists in order.
     pub lists: Vec<AndOr>,
@@ -42,7 +42,7 @@ pub struct Script {
 
 /// A command, and the commands joined to it, from the left with equal rank.
 #[cycle(tree)]
-#[derive(Debug, Drop)]
+#[derive(Debug, Drop, PartialEq)]
 pub struct AndOr {
     /// The first command.
     pub first: Command,
@@ -52,7 +52,7 @@ pub struct AndOr {
 
 /// A command. Its parts are shared, so that a child is held without a copy.
 #[cycle(tree)]
-#[derive(Debug, Drop)]
+#[derive(Debug, Drop, PartialEq)]
 pub enum Command {
     /// A simple command.
     Simple(Call),

@@ -1,2 +1,4 @@
-pub mod SameScriptLemmas
+pub mod SideBySide
+pub mod EqualLemmas
+pub mod TreeEqualLemmas
 pub mod AnswerLemmas

@@ -4,7 +4,6 @@ ghost use Rattle.rehearse_terms.specs.State.{answers_in};
 ghost use Rattle.rehearse_cores.specs.Cores.{core_shown, core_of, pairs_shown, answers_shown};
 
 use crate::environments::Environments;
-use crate::same_scripts::{same_frame, same_texts};
 use crate::words::copy_words;
 use bootstore::{Frame, LogEntry, Store, StoreError, Variables};
 use std::alloc::Global;
@@ -105,6 +104,14 @@ pub(crate) fn same_pairs(variables: Variables<'_>, pairs: &[(Vec<u8>, Vec<u8>)])
     others.is_empty()
 }
 
+/// Whether both frames are the same: what they run says the same, and both are at the same place.
+fn same_frame(a: &Frame, b: &Frame) -> bool
+    ensures same { IsTrue result → a.now ≡ b.now }
+    ensures told { a.now ≡ b.now → IsTrue result }
+{
+    a.at() == b.at() && a.kind() == b.kind() && a.words() == b.words() && a.script() == b.script()
+}
+
 /// Whether both lists of frames are the same.
 fn same_frames(a: &[Frame], b: &[Frame]) -> bool
     ensures same { IsTrue result → a.now ≡ b.now }
@@ -137,7 +144,7 @@ fn same_answers(log: &[LogEntry], answers: &[(Vec<Vec<u8>>, bool)]) -> bool
             if entry.success != other.1 {
                 return false;
             }
-            if !same_texts(&entry.words, &other.0) {
+            if entry.words != other.0 {
                 return false;
             }
             others = more;

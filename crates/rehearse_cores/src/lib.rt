@@ -4,7 +4,6 @@
 mod cores;
 mod environments;
 mod hashing;
-mod same_scripts;
 mod words;
 
 pub use cores::{Core, has_core, take_core};

@@ -2,7 +2,7 @@ use Rattle.std.proofs.Common.{ap, sym, ◌∙◌, ℕ, Vec}
 use Rattle.std.specs.declared.alloc.Global.{Global}
 use Rattle.rehearse_cores.specs.Cores.{CoreShown, pairs_shown, answers_shown}
 use Rattle.rehearse_terms.specs.State.{answers_in}
-use Rattle.rehearse_cores.proofs.SameScriptLemmas.{told_frames}
+use Rattle.rehearse_cores.proofs.SideBySide.{told_frames}
 use Rattle.rehearse_cores.proofs.cores.has_core.Goals as goal
 
 pub returns-then-not-same_answers-clause-told : goal.returns-then-not-same_answers-clause-told

@@ -1,13 +1,15 @@
-use Rattle.std.proofs.Common.{rules, refl, length, sym, ap, ◌∙◌, ◌≡◌, List, ◌∷◌, Bool, ◌++◌, ◌+◌, drop, Vec, ℕ}
+use Rattle.std.proofs.Common.{rules, length, sym, ap, ◌∙◌, ◌≡◌, List, ◌∷◌, Bool, ◌++◌, ◌+◌, drop, Vec, ℕ}
 use Rattle.std.specs.Borrow.{Bor}
 use Rattle.std.specs.declared.alloc.Global.{Global}
 use Rattle.text.specs.TextsShown.{bytes_of_words}
 use Rattle.rehearse_terms.specs.State.{Text, LoggedCommand, answers_in}
 use Rattle.rehearse_cores.specs.Cores.{answers_shown}
-use Rattle.rehearse_cores.proofs.SameScriptLemmas.{same_flag, told_flag, pairs_step, pairs_first, pairs_rest, pairs_none, told_empty}
+use Rattle.rehearse_cores.proofs.SideBySide.{pairs_step, pairs_first, pairs_rest, pairs_none, told_empty}
+use Rattle.std.specs.Cmp.{booleans_Decides}
+use Rattle.rehearse_cores.proofs.EqualLemmas.{same_by, other_by, texts_decided}
 use Rattle.rehearse_cores.proofs.AnswerLemmas.{answer_of, answers_first, answers_skipped, answers_past}
 use Rattle.rehearse_cores.proofs.cores.same_answers.Goals as goal
-use Rattle.rehearse_cores.proofs.cores.same_answers.Goals.{then-has_answer+in-Some+else-entry-other+else-not-same_texts, else-has_answer}
+use Rattle.rehearse_cores.proofs.cores.same_answers.Goals.{then-has_answer+in-Some+else-entry-other+else-ne, else-has_answer}
 
 abbrev Kept : Type 0
 Kept = Vec (Vec ℕ Global) Global × Bool
@@ -22,12 +24,12 @@ loop-entry-preserved c =
     let e : LoggedCommand = c.entry-item.result in
     let front = c.loop-entry.invariant.0 in
     elim c.if-has_answer.branch [
-      | then-has_answer+in-Some+else-entry-other+else-not-same_texts w ↦
+      | then-has_answer+in-Some+else-entry-other+else-ne w ↦
           let first = answers_first log i e c.loop-entry-test.true c.entry-item.is (sym w.if-has_answer.ensures) in
           let other : Kept = w.in-Some.other.now in
           let split : c.loop-entry.others.now ≡ other ∷ w.in-Some.more.now = search rules in
-          let texts : bytes_of_words c.entry.inside.words.items ≡ bytes_of_words other.0.items = ap bytes_of_words (sym w.deref.ensures.value) ∙ w.if-not-same_texts.ensures.same refl ∙ ap bytes_of_words w.deref-then-has_answer.ensures.value in
-          let flag : c.entry.inside.success ≡ other.1 = same_flag c.entry.inside.success other.1 w.if-entry-other.false in
+          let texts : bytes_of_words c.entry.inside.words.items ≡ bytes_of_words other.0.items = same_by (texts_decided c.entry.inside.words.items other.0.items) w.if-ne.ensures in
+          let flag : c.entry.inside.success ≡ other.1 = same_by (booleans_Decides c.entry.inside.success other.1) (sym w.if-entry-other.false) in
           let same : answer_of e ≡ kept_as other = sym (ap answer_of c.entry.view_is) ∙ (λ j. (texts j, flag j)) in
           let step = pairs_step front (answers_in (drop (i + 1) log)) (answers_shown w.in-Some.more.now) (answer_of e) (kept_as other) (answers_in log) (answers_shown c.args.answers.now) (answers_in (drop i log)) (answers_shown c.loop-entry.others.now) first (ap answers_shown split) same c.loop-entry.invariant.1 c.loop-entry.invariant.2 in
           (step.0, step.1, ap (λ (b : Bor (List Kept)). step.0 ++ answers_shown b.now) w.others-is ∙ step.2)
@@ -45,10 +47,10 @@ returns-then-entry-other-clause-told c = λ h.
     let first = answers_first log i e c.loop-entry-test.true c.entry-item.is (sym c.if-has_answer.ensures) in
     let split : c.loop-entry.others.now ≡ other ∷ c.in-Some.more.now = search rules in
     let same = pairs_first c.loop-entry.invariant.0 (answers_in (drop (i + 1) log)) (answers_shown c.in-Some.more.now) (answer_of e) (kept_as other) (answers_in log) (answers_shown c.args.answers.now) (answers_in (drop i log)) (answers_shown c.loop-entry.others.now) first (ap answers_shown split) c.loop-entry.invariant.1 c.loop-entry.invariant.2 h in
-    absurd (told_flag c.entry.inside.success other.1 c.if-entry-other.true (ap (λ (x : LoggedCommand). x.success) c.entry.view_is ∙ sym (ap (λ (a : List Text × Bool). a.1) same)))
+    absurd (other_by (booleans_Decides c.entry.inside.success other.1) (sym c.if-entry-other.true) (ap (λ (x : LoggedCommand). x.success) c.entry.view_is ∙ sym (ap (λ (a : List Text × Bool). a.1) same)))
 
-pub returns-then-not-same_texts-clause-told : goal.returns-then-not-same_texts-clause-told
-returns-then-not-same_texts-clause-told c = λ h.
+pub returns-then-ne-clause-told : goal.returns-then-ne-clause-told
+returns-then-ne-clause-told c = λ h.
     let log = c.args.log.now in
     let i = c.loop-entry.entry-index in
     let e : LoggedCommand = c.entry-item.result in
@@ -56,8 +58,7 @@ returns-then-not-same_texts-clause-told c = λ h.
     let first = answers_first log i e c.loop-entry-test.true c.entry-item.is (sym c.if-has_answer.ensures) in
     let split : c.loop-entry.others.now ≡ other ∷ c.in-Some.more.now = search rules in
     let same = pairs_first c.loop-entry.invariant.0 (answers_in (drop (i + 1) log)) (answers_shown c.in-Some.more.now) (answer_of e) (kept_as other) (answers_in log) (answers_shown c.args.answers.now) (answers_in (drop i log)) (answers_shown c.loop-entry.others.now) first (ap answers_shown split) c.loop-entry.invariant.1 c.loop-entry.invariant.2 h in
-    c.if-not-same_texts.ensures.told
-    (ap bytes_of_words c.deref.ensures.value ∙ ap (λ (x : LoggedCommand). x.words) c.entry.view_is ∙ sym (ap (λ (a : List Text × Bool). a.0) same) ∙ ap bytes_of_words (sym c.deref-then-has_answer.ensures.value))
+    absurd (other_by (texts_decided c.entry.inside.words.items other.0.items) c.if-ne.ensures (ap (λ (x : LoggedCommand). x.words) c.entry.view_is ∙ sym (ap (λ (a : List Text × Bool). a.0) same)))
 
 pub returns-in_default-clause-told : goal.returns-in_default-clause-told
 returns-in_default-clause-told c = λ h.

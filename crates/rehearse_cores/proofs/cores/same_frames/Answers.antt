@@ -1,6 +1,6 @@
 use Rattle.std.proofs.Common.{rules, ◌≡◌, ◌∷◌, ap, map}
 use Rattle.bootstore.specs.Moment.{RunningFrame}
-use Rattle.rehearse_cores.proofs.SameScriptLemmas.{told_step, told_end}
+use Rattle.rehearse_cores.proofs.SideBySide.{told_step, told_end}
 use Rattle.rehearse_cores.proofs.cores.same_frames.Goals as goal
 
 pub returns-then-not-same_frame-clause-told : goal.returns-then-not-same_frame-clause-told
