@@ -1,28 +1,25 @@
 -- Two lists that are read side by side.
 use Rattle.bootstore.specs.Moment.{RunningFrame}
 use Rattle.std.proofs.Common.{ℕ, suc, drop, reverse, ◌≤◌, ◌<◌, List, [], ◌∷◌, ◌++◌, map, take, get_or, length, refl, sym, ap, ◌∙◌, ◌≡◌, append_assoc, arith, Bool, ◌==◌, IsTrue}
-use Rattle.std.proofs.lemmas.List.{map-append, take-append-drop, append_cancel_left, drop_all, reverse-reverse}
+use Rattle.std.proofs.lemmas.List.{take-append-drop, append_cancel_left, drop_all, reverse-reverse}
 use Rattle.std.proofs.Math.Seq.{drop-cons}
 
-same_rest : {X Y : Type 0} (f : X → Y) (all items others : List X) (i : ℕ) → map f all ≡ map f (take i items) ++ map f others → map f items ≡ map f all → map f (drop i items) ≡ map f others
-same_rest f all items others i inv h =
-    append_cancel_left (map f (take i items)) (map f (drop i items)) (map f others) (sym (map-append f (take i items) (drop i items)) ∙ ap (map f) (take-append-drop i items) ∙ h ∙ inv)
+same_rest : {X : Type 0} (all items others : List X) (i : ℕ) → all ≡ take i items ++ others → items ≡ all → drop i items ≡ others
+same_rest all items others i inv h = append_cancel_left (take i items) (drop i items) others (take-append-drop i items ∙ h ∙ inv)
 
 first_same : {Y : Type 0} (x y : Y) (xs ys : List Y) → x ∷ xs ≡ y ∷ ys → x ≡ y
 first_same x y xs ys e = cc
 
-pub told_step : {X Y : Type 0} (f : X → Y) (all items others more : List X) (i : ℕ) (x y : X) → i < length items → x ≡ get_or items i x → map f all ≡ map f (take i items) ++ map f others → others ≡ y ∷ more → map f items ≡ map f all → f x ≡ f y
-told_step f all items others more i x y lt is inv split h =
-    ap f is ∙ first_same (f (get_or items i x)) (f y) (map f (drop (suc i) items)) (map f more)
-    (sym (ap (map f) (drop-cons items i x lt)) ∙ same_rest f all items others i inv h ∙ ap (map f) split)
+pub told_step : {X : Type 0} (all items others more : List X) (i : ℕ) (x y : X) → i < length items → x ≡ get_or items i x → all ≡ take i items ++ others → others ≡ y ∷ more → items ≡ all → x ≡ y
+told_step all items others more i x y lt is inv split h =
+    is ∙ first_same (get_or items i x) y (drop (suc i) items) more (sym (drop-cons items i x lt) ∙ same_rest all items others i inv h ∙ split)
+
+pub told_end : {X : Type 0} (all items others : List X) (i : ℕ) (b : Bool) → length items ≤ i → all ≡ take i items ++ others → b ≡ (length others == 0) → items ≡ all → IsTrue b
+told_end all items others i b le inv e h = e ∙ ap (λ l. length l == 0) (sym (same_rest all items others i inv h) ∙ drop_all i items le)
 
 none_mapped : {X Y : Type 0} (f : X → Y) (xs : List X) → [] ≡ map f xs → xs ≡ []
 none_mapped f [] e = refl
 none_mapped f (x ∷ xs) e = absurd (let g = ap length e in omega arith)
-
-pub told_end : {X Y : Type 0} (f : X → Y) (all items others : List X) (i : ℕ) (b : Bool) → length items ≤ i → map f all ≡ map f (take i items) ++ map f others → b ≡ (length others == 0) → map f items ≡ map f all → IsTrue b
-told_end f all items others i b le inv e h =
-    e ∙ ap (λ l. length l == 0) (none_mapped f others (sym (ap (map f) (drop_all i items le)) ∙ same_rest f all items others i inv h))
 
 -- ---- pairs that are read beside an iterator
 
