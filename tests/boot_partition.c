@@ -1,16 +1,19 @@
 /* A shim before the C library that stands for the kernel's switch of an eMMC boot partition, for tests/boot_partition. A digit
  * that is written to a file force_ro makes the device DEVICE read-only (1) or not (0), and is noted in the file SWITCHED.
- * REFUSED says which write fails: `device`, `off` or `on`, each the first of its kind. */
+ * REFUSED says which call fails, each the first of its kind: a write to the `device`, or one that turns the switch `off` or
+ * `on`; or an open of the switch, to `look` at it, to write it (`open`), or to write it once more (`reopen`). */
 #define _GNU_SOURCE
 #include <dlfcn.h>
 #include <errno.h>
 #include <fcntl.h>
+#include <stdarg.h>
 #include <linux/fs.h>
 #include <stdio.h>
 #include <stdlib.h>
 #include <string.h>
 #include <sys/ioctl.h>
 #include <sys/stat.h>
+#include <sys/syscall.h>
 #include <unistd.h>
 
 static ssize_t (*real_write)(int, const void *, size_t);
@@ -38,6 +41,46 @@ static void turn(char digit) {
     }
     close(device);
     close(note);
+}
+
+static int open_file(int folder, const char *path, int how, mode_t mode) {
+    static int opened;
+    const char *name = strrchr(path, '/');
+    if (name != NULL && strcmp(name, "/force_ro") == 0) {
+        const char *kind = (how & O_ACCMODE) == O_RDONLY ? "look" : opened++ == 0 ? "open" : "reopen";
+        if (is_refused(kind)) {
+            return -1;
+        }
+    }
+    return (int)syscall(SYS_openat, folder, path, how, mode);
+}
+
+static mode_t mode_of(int how, va_list rest) {
+    return (how & O_CREAT) != 0 ? va_arg(rest, mode_t) : 0;
+}
+
+int open(const char *path, int how, ...) {
+    va_list rest;
+    va_start(rest, how);
+    mode_t mode = mode_of(how, rest);
+    va_end(rest);
+    return open_file(AT_FDCWD, path, how, mode);
+}
+
+int open64(const char *path, int how, ...) {
+    va_list rest;
+    va_start(rest, how);
+    mode_t mode = mode_of(how, rest);
+    va_end(rest);
+    return open_file(AT_FDCWD, path, how, mode);
+}
+
+int openat(int folder, const char *path, int how, ...) {
+    va_list rest;
+    va_start(rest, how);
+    mode_t mode = mode_of(how, rest);
+    va_end(rest);
+    return open_file(folder, path, how, mode);
 }
 
 ssize_t write(int file, const void *bytes, size_t size) {
