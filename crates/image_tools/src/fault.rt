@@ -39,12 +39,6 @@ pub enum Fault {
     /// The script on standard input ends inside this line, counted from 1: it lacks the newline.
     #[error("Line {0} not correctly terminated")]
     InputCutOff(usize),
-    /// The variable to be rehearsed is not set.
-    #[error("no variable {0}")]
-    NoSuchVariable(WordForm),
-    /// The rehearsal has no run of this word, which is printed as it was given.
-    #[error("no run has the word {0}")]
-    NotARun(WordForm),
     /// Memory ran out.
     #[error("out of memory")]
     Memory,
