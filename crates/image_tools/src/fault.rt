@@ -1,4 +1,4 @@
-//! The faults that the program reports, each in one line.
+//! The faults that the programs share, each reported in one line.
 
 use crate::error::ToolError;
 use crate::word_form::WordForm;
@@ -6,7 +6,7 @@ use envimage::ConfigError;
 use locked_files::{FileFault, LockFault};
 use thiserror::Error;
 
-/// Why the program gave up. The text is what it reports.
+/// Why a program gave up. The text is what it reports.
 #[derive(Debug, Drop, Error)]
 pub enum Fault {
     /// The configuration was refused.
