@@ -9,7 +9,7 @@ use Rattle.output.specs.Outputs.{AreUnchanged, Outputs}
 use Rattle.output.specs.Sink.{Sink}
 use Rattle.locked_files.specs.Told.{Told}
 use Rattle.image_tools.specs.declared.error.ToolError.{ToolError}
-use Rattle.image_tools.specs.declared.error.ToolError.TheVariants.{Image, Env, Script, Rehearsal, Write, Memory}
+use Rattle.image_tools.specs.declared.error.ToolError.TheVariants.{Image, Env, Script, Write, Memory}
 use Rattle.image_tools.specs.declared.fault.Fault.{Fault}
 use Rattle.file_tools.specs.Images.{Copy, copies}
 use Rattle.file_tools.specs.OneCopy.{FindsImages}
@@ -26,7 +26,6 @@ copies-refused order found names form outputs Write h = h
 copies-refused order found names form outputs Memory h = h.1
 copies-refused order found names form outputs (Env error) h = absurd h
 copies-refused order found names form outputs (Script error) h = absurd h
-copies-refused order found names form outputs (Rehearsal error) h = absurd h
 
 -- images that were refused
 pub prints-unread : (program : List ℕ) (source : ImageSource) (names : List (List ℕ)) (form : PrintForm) (s : Outputs) (old new : Told) (f : Fault)

@@ -6,7 +6,6 @@ use Rattle.clap.specs.Words.{Text}
 use Rattle.requests.specs.declared.ask.UseError.{UseError}
 use Rattle.output.specs.Outputs.{Outputs, outputs}
 use Rattle.locked_files.specs.Told.{Told}
-use Rattle.image_tools.specs.declared.fault.Fault.{Fault}
 use Rattle.file_tools.specs.Running.{Ends, FilesShown, HasDone, HasRefused}
 
 -- the files at a moment
@@ -14,7 +13,7 @@ abbrev files : ℕ → Option Told → Bool → FilesShown
 files faults told locked = record { faults = faults; told = told; locked = locked }
 
 -- words that were understood do not end as misused ones
-pub never-misused : (program : List ℕ) (answer : Result Bool Fault) (told err' : Sink) (status : ℕ) → Ends program 1 answer told err' status → status ≡ 2 → ⊥
+pub never-misused : {Fault : Type 0} (program : List ℕ) (answer : Result Bool Fault) (told err' : Sink) (status : ℕ) → Ends program 1 answer told err' status → status ≡ 2 → ⊥
 never-misused program (Ok true) told err' status ends is = omega (arith, ends.0, is)
 never-misused program (Ok false) told err' status ends is = omega (arith, ends.0, is)
 never-misused program (Err fault) told err' status ends is = omega (arith, ends.0, is)
@@ -24,12 +23,12 @@ pub printed-low : (status : ℕ) → (status ≡ 0) ⊎ (status ≡ 1) → statu
 printed-low status (inl is) = omega (arith, is)
 printed-low status (inr is) = omega (arith, is)
 
-pub ends-low : (program : List ℕ) (answer : Result Bool Fault) (told err' : Sink) (status : ℕ) → Ends program 1 answer told err' status → status ≤ 2
+pub ends-low : {Fault : Type 0} (program : List ℕ) (answer : Result Bool Fault) (told err' : Sink) (status : ℕ) → Ends program 1 answer told err' status → status ≤ 2
 ends-low program (Ok true) told err' status ends = omega (arith, ends.0)
 ends-low program (Ok false) told err' status ends = omega (arith, ends.0)
 ends-low program (Err fault) told err' status ends = omega (arith, ends.0)
 
-pub status-done : {Ask : Type 0} {locked locked' : Bool} (program : List ℕ) (Answers : List Text → Result Ask UseError → Type 0) (Leaves : Ask → Result Bool Fault → FilesShown → FilesShown → Type 0) (Does : Ask → Option Told → Option Told → Outputs → Result Bool Fault → Type 0)
+pub status-done : {Ask Fault : Type 0} {locked locked' : Bool} (program : List ℕ) (Answers : List Text → Result Ask UseError → Type 0) (Leaves : Ask → Result Bool Fault → FilesShown → FilesShown → Type 0) (Does : Ask → Option Told → Option Told → Outputs → Result Bool Fault → Type 0)
     (words : List Text) (ask : Ask) (faults faults' : ℕ) (before after : Option Told) (out out' err told err' : Sink) (answer : Result Bool Fault) (status : ℕ)
     → Answers words (Ok ask) → Leaves ask answer (files faults before locked) (files faults' after locked') → Does ask before after (outputs out out' err told) answer → Ends program 1 answer told err' status → status ≡ 0
     → HasDone Answers Leaves Does words (files faults before locked) (files faults' after locked') (outputs out out' err err')
@@ -38,7 +37,7 @@ status-done program Answers Leaves Does words ask faults faults' before after ou
 status-done program Answers Leaves Does words ask faults faults' before after out out' err told err' (Ok false) status asked leaves does ends is = let e : ⊥ = omega (arith, ends.0, is) in absurd e
 status-done program Answers Leaves Does words ask faults faults' before after out out' err told err' (Err fault) status asked leaves does ends is = let e : ⊥ = omega (arith, ends.0, is) in absurd e
 
-pub status-refused : {Ask : Type 0} {locked locked' : Bool} (program : List ℕ) (Answers : List Text → Result Ask UseError → Type 0) (Leaves : Ask → Result Bool Fault → FilesShown → FilesShown → Type 0) (Does : Ask → Option Told → Option Told → Outputs → Result Bool Fault → Type 0)
+pub status-refused : {Ask Fault : Type 0} {locked locked' : Bool} (program : List ℕ) (Answers : List Text → Result Ask UseError → Type 0) (Leaves : Ask → Result Bool Fault → FilesShown → FilesShown → Type 0) (Does : Ask → Option Told → Option Told → Outputs → Result Bool Fault → Type 0)
     (words : List Text) (ask : Ask) (faults faults' : ℕ) (before after : Option Told) (out out' err told err' : Sink) (answer : Result Bool Fault) (status : ℕ)
     → Answers words (Ok ask) → Leaves ask answer (files faults before locked) (files faults' after locked') → Does ask before after (outputs out out' err told) answer → Ends program 1 answer told err' status → status ≡ 1
     → HasRefused program Answers Leaves Does words (files faults before locked) (files faults' after locked') (outputs out out' err err')

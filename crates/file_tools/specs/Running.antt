@@ -1,5 +1,5 @@
--- What a whole program has done when it ends with a status, by what it answers to its words and what is done for that.
--- The statuses are ours.
+-- What a whole program has done when it ends with a status, by what it answers to its words, what is done for that and
+-- why that may be refused (`Fault`). The statuses are ours.
 use Rattle.std.specs.Prelude.{◌≡◌, ◌⊎◌, ℕ, Bool, true, false, List, Option, Result, Ok, Err, string_bytes}
 use Rattle.clap.specs.Words.{Text}
 use Rattle.output.specs.Sink.{BrokeOff, Sink, Wrote}
@@ -9,7 +9,6 @@ use Rattle.output.specs.Outputs.{Outputs}
 use Rattle.locked_files.specs.Told.{Told}
 use Rattle.locked_files.specs.declared.files.Files.{Ghosts}
 use Rattle.image_tools.specs.FaultLines.{TellsLine}
-use Rattle.image_tools.specs.declared.fault.Fault.{Fault}
 use Rattle.file_tools.specs.declared.starting.StartError.{StartError}
 
 -- What the files show at a moment: how often the device has failed, what is in the files, if that is known, and whether
@@ -24,7 +23,7 @@ abbrev pub files_shown : {F : Type 0} → Ghosts F → F → FilesShown
 files_shown g files = record { faults = g.faults files; told = g.told files; locked = g.locked files }
 
 -- Status 0: the words ask for something, and it was done. What the files show then is as what was asked for allows.
-pub record HasDone {Ask : Type 0} (Answers : List Text → Result Ask UseError → Type 0)
+pub record HasDone {Ask Fault : Type 0} (Answers : List Text → Result Ask UseError → Type 0)
     (Leaves : Ask → Result Bool Fault → FilesShown → FilesShown → Type 0)
     (Does : Ask → Option Told → Option Told → Outputs → Result Bool Fault → Type 0)
     (words : List Text) (before after : FilesShown) (outputs : Outputs) : Type 0 where
@@ -34,14 +33,14 @@ pub record HasDone {Ask : Type 0} (Answers : List Text → Result Ask UseError �
   pub does : Does ask before.told after.told outputs (Ok true)
 
 -- a fault is reported last, in one line, and with any other answer nothing is reported
-abbrev pub TellsLast : (program : List ℕ) → Result Bool Fault → Sink → Sink → Type 0
+abbrev pub TellsLast : {Fault : Type 0} → (program : List ℕ) → Result Bool Fault → Sink → Sink → Type 0
 TellsLast program (Ok all) old new = new ≡ old
 TellsLast program (Err fault) old new = TellsLine program old new
 
 -- Status 1: the words ask for something. Either the answer is no, as for a missing variable; or it was refused, and one
 -- line of the program is the last thing reported on the error output. What the files show then is as what was asked for and
 -- the answer say.
-pub record HasRefused {Ask : Type 0} (program : List ℕ) (Answers : List Text → Result Ask UseError → Type 0)
+pub record HasRefused {Ask Fault : Type 0} (program : List ℕ) (Answers : List Text → Result Ask UseError → Type 0)
     (Leaves : Ask → Result Bool Fault → FilesShown → FilesShown → Type 0)
     (Does : Ask → Option Told → Option Told → Outputs → Result Bool Fault → Type 0)
     (words : List Text) (before after : FilesShown) (outputs : Outputs) : Type 0 where
@@ -78,7 +77,7 @@ EndsAs (Err error) status = status ≡ 2
 
 -- The status of an answer, which leaves the error output as it is if there is no fault. A fault is reported in one line,
 -- and has the status with which the program says that something was refused.
-abbrev pub Ends : (program : List ℕ) → (refused : ℕ) → Result Bool Fault → Sink → Sink → ℕ → Type 0
+abbrev pub Ends : {Fault : Type 0} → (program : List ℕ) → (refused : ℕ) → Result Bool Fault → Sink → Sink → ℕ → Type 0
 Ends program refused (Ok true) old new status = (status ≡ 0) × (new ≡ old)
 Ends program refused (Ok false) old new status = (status ≡ 1) × (new ≡ old)
 Ends program refused (Err fault) old new status = (status ≡ refused) × TellsLine program old new

@@ -8,6 +8,7 @@ use crate::telling::Telling;
 use image_tools::{Fault, ToolError, write_fault_of};
 use output::{Out, Over, write_all};
 use requests::UseError;
+use std::fmt;
 use std::io::Write;
 
 /// Reports why the words of a program are refused: what `clap` says of them as it is, and any other
@@ -24,7 +25,12 @@ pub fn refuse<E: Out>(err: &mut E, program: &str, error: &UseError)
 }
 
 /// The status of an answer: 0 or 1, or `refused` if it is a fault, which is reported in one line.
-pub fn status_of<E: Out>(err: &mut E, program: &str, refused: u8, answer: Result<bool, Fault>) -> u8
+pub fn status_of<E: Out, F: fmt::Display + Drop>(
+    err: &mut E,
+    program: &str,
+    refused: u8,
+    answer: Result<bool, F>,
+) -> u8
     ensures { Ends program.now refused answer (E.sink err.old) (E.sink err.new) result }
 {
     match answer {

@@ -5,16 +5,17 @@ use Rattle.std.specs.declared.alloc.Global.{Global}
 use Rattle.envimage.specs.Data.{Pair}
 use Rattle.envimage.specs.declared.image.ByteOrder.{ByteOrder}
 use Rattle.envimage.specs.declared.image.ImageError.{ImageError}
+use Rattle.envimage.specs.declared.image.ImageError.TheVariants as image
 use Rattle.output.specs.Sink.{Sink}
 use Rattle.hushcheck.specs.Asked.{Asked}
 use Rattle.hushcheck.specs.Checking.{AreFound, ChecksFrom, ChecksText, FromFiles, Given, IsUnread, LeavesOutput, Lists, ReadsList, given, given_by, TellsAll, IsBadList, BreaksOff, WritesFront}
 use Rattle.hushcheck_core.specs.Names.{Text}
 use Rattle.device_list.specs.DeviceList.{Devices}
 use Rattle.device_list.specs.declared.devices_error.DevicesError.{DevicesError}
-use Rattle.rehearse.specs.declared.rehearse_error.RehearseError.TheVariants as rehearsal
-use Rattle.image_tools.specs.Errors.{tool_fault}
+use Rattle.hushcheck.specs.Faults.{CountsShared, of_image}
+use Rattle.hushcheck.specs.declared.fault.CheckFault.{CheckFault}
+use Rattle.hushcheck.specs.declared.fault.CheckFault.TheVariants.{DeviceList, Shared}
 use Rattle.image_tools.specs.PrintingImages.{Finds, environment_in}
-use Rattle.image_tools.specs.declared.error.ToolError.{ToolError}
 use Rattle.image_tools.specs.declared.error.ToolError.TheVariants as tool
 use Rattle.image_tools.specs.declared.fault.Fault.{Fault}
 use Rattle.image_tools.specs.declared.fault.Fault.TheVariants as fault
@@ -38,7 +39,7 @@ bytes_if text = option_map (λ v. v.items) text
 -- ---- reads that were refused
 
 -- checking gives no such refusal
-unread : (asked : Asked) (out : Sink) (old new : Told) (f : Fault) → OnlyReads old new → IsUnread asked.config asked.device_list old f → ChecksFrom asked out out old new (Err f)
+unread : (asked : Asked) (out : Sink) (old new : Told) (f : Fault) → OnlyReads old new → IsUnread asked.config asked.device_list old f → ChecksFrom asked out out old new (Err (Shared f))
 unread asked out old new (fault.Config error) reads h = (reads, h)
 unread asked out old new (fault.Tool error) reads h = absurd (none asked.device_list h)
   where
@@ -54,12 +55,10 @@ unread asked out old new fault.CannotReadInput reads h = (reads, h)
 unread asked out old new fault.InputTooLong reads h = (reads, h)
 unread asked out old new (fault.InputCutOff line) reads h = (reads, h)
 unread asked out old new (fault.Lock error) reads h = (reads, h)
-unread asked out old new (fault.NoSuchVariable name) reads h = (reads, h)
-unread asked out old new (fault.NotARun word) reads h = (reads, h)
 unread asked out old new fault.Memory reads h = (reads, inl refl)
 
 -- the refusal of the images
-pub checks-unread : (asked : Asked) (out : Sink) (old new : Told) (f : Fault) → ReadsImages asked.config old new (Err f) → ChecksFrom asked out out old new (Err f)
+pub checks-unread : (asked : Asked) (out : Sink) (old new : Told) (f : Fault) → ReadsImages asked.config old new (Err f) → ChecksFrom asked out out old new (Err (Shared f))
 checks-unread asked out old new f h = unread asked out old new f h.0 (by asked.device_list)
   where
     by : (list : Option Text) → IsUnread asked.config list old f
@@ -67,7 +66,7 @@ checks-unread asked out old new f h = unread asked out old new f h.0 (by asked.d
     by (Some list) = inl h.1
 
 -- the refusal of the device list
-pub checks-unlisted : (asked : Asked) (out : Sink) (found : List Copy) (x y z : Told) (f : Fault) → HasRead asked.config x y found → ReadsList asked.device_list y z (Err f) → ChecksFrom asked out out x z (Err f)
+pub checks-unlisted : (asked : Asked) (out : Sink) (found : List Copy) (x y z : Told) (f : Fault) → HasRead asked.config x y found → ReadsList asked.device_list y z (Err f) → ChecksFrom asked out out x z (Err (Shared f))
 checks-unlisted asked out found x y z f read h =
     let both = by asked.device_list h in
     unread asked out x z f both.0 both.1
@@ -100,80 +99,103 @@ module _ (asked : Asked) (out out' : Sink) (found : List Copy) (text : Option (V
   from-files : (IsSo : Given → Type 0) → IsSo here → FromFiles asked x z IsSo
   from-files IsSo so = are-found asked.config asked.device_list found x y z text (λ copies list. IsSo (given_by asked.order copies list asked.names asked.all)) read listed so
 
-  pub checks-found : (sound : Bool) → ChecksText here out out' (Ok sound) → ChecksFrom asked out out' x z (Ok sound)
-  checks-found sound h = from-files (λ g. TellsAll g out out' sound) h
-
-  pub checks-refused : (error : ToolError) → ChecksText here out out' (Err error) → ChecksFrom asked out out' x z (Err (tool_fault error))
-  checks-refused (tool.Image error) h = from-files (λ g. g.env ≡ Err error) h.0
-  checks-refused (tool.Env error) h = absurd h
-  checks-refused (tool.Script error) h = absurd h
-  checks-refused (tool.Rehearsal (rehearsal.DeviceList error)) h = from-files (λ g. IsBadList g error) h.0
-  checks-refused (tool.Rehearsal rehearsal.NoSuchVariable) h = absurd h
-  checks-refused (tool.Rehearsal rehearsal.NotARun) h = absurd h
-  checks-refused (tool.Rehearsal rehearsal.States) h = absurd h
-  checks-refused (tool.Rehearsal rehearsal.Write) h = absurd h
-  checks-refused (tool.Rehearsal rehearsal.Memory) h = absurd h
-  checks-refused (tool.Rehearsal rehearsal.Failed) h = absurd h
-  checks-refused tool.Write h = from-files (λ g. BreaksOff g out out') h
-  checks-refused tool.Memory h = (only-read asked.config asked.device_list found x y z text read listed, by h)
+  -- what is not refused so by the texts: the images and the list were read
+  pub checks-read : (answer : Result Bool CheckFault) → ChecksText here out out' answer → ChecksFrom asked out out' x z answer
+  checks-read (Ok sound) h = from-files (λ g. TellsAll g out out' sound) h
+  checks-read (Err (DeviceList error)) h = from-files (λ g. IsBadList g error) h.0
+  checks-read (Err (Shared (fault.Tool (tool.Image error)))) h = from-files (λ g. g.env ≡ Err error) h.0
+  checks-read (Err (Shared (fault.Tool tool.Write))) h = from-files (λ g. BreaksOff g out out') h
+  checks-read (Err (Shared fault.Memory)) h = (only-read asked.config asked.device_list found x y z text read listed, by h)
     where
-      by : ChecksText here out out' (Err tool.Memory) → (out' ≡ out) ⊎ FromFiles asked x z (λ g. WritesFront g out out')
+      by : ChecksText here out out' (Err (Shared fault.Memory)) → (out' ≡ out) ⊎ FromFiles asked x z (λ g. WritesFront g out out')
       by (inl same) = inl same
       by (inr front) = inr (from-files (λ g. WritesFront g out out') front)
+  checks-read (Err (Shared (fault.Tool (tool.Env error)))) h = absurd h
+  checks-read (Err (Shared (fault.Tool (tool.Script error)))) h = absurd h
+  checks-read (Err (Shared (fault.Tool tool.Memory))) h = absurd h
+  checks-read (Err (Shared (fault.Config error))) h = absurd h
+  checks-read (Err (Shared (fault.Lock error))) h = absurd h
+  checks-read (Err (Shared (fault.CannotRead path))) h = absurd h
+  checks-read (Err (Shared (fault.CannotWrite path))) h = absurd h
+  checks-read (Err (Shared (fault.FileShort path))) h = absurd h
+  checks-read (Err (Shared (fault.FileTooLong path))) h = absurd h
+  checks-read (Err (Shared fault.CannotReadInput)) h = absurd h
+  checks-read (Err (Shared fault.InputTooLong)) h = absurd h
+  checks-read (Err (Shared (fault.InputCutOff line))) h = absurd h
 
--- ---- the output, over any files
+-- ---- the answer, over any files
 
-pub leaves-refused : (g : Given) (out out' : Sink) (error : ToolError) → ChecksText g out out' (Err error) → LeavesOutput (Err (tool_fault error)) out out'
-leaves-refused g out out' (tool.Image error) h = h.1
-leaves-refused g out out' (tool.Env error) h = absurd h
-leaves-refused g out out' (tool.Script error) h = absurd h
-leaves-refused g out out' (tool.Rehearsal (rehearsal.DeviceList error)) h = h.1
-leaves-refused g out out' (tool.Rehearsal rehearsal.NoSuchVariable) h = absurd h
-leaves-refused g out out' (tool.Rehearsal rehearsal.NotARun) h = absurd h
-leaves-refused g out out' (tool.Rehearsal rehearsal.States) h = absurd h
-leaves-refused g out out' (tool.Rehearsal rehearsal.Write) h = absurd h
-leaves-refused g out out' (tool.Rehearsal rehearsal.Memory) h = absurd h
-leaves-refused g out out' (tool.Rehearsal rehearsal.Failed) h = absurd h
-leaves-refused g out out' tool.Write h = tt
-leaves-refused g out out' tool.Memory h = tt
+pub leaves-output : (g : Given) (out out' : Sink) (answer : Result Bool CheckFault) → ChecksText g out out' answer → LeavesOutput answer out out'
+leaves-output g out out' (Ok sound) h = tt
+leaves-output g out out' (Err (DeviceList error)) h = h.1
+leaves-output g out out' (Err (Shared (fault.Tool (tool.Image error)))) h = h.1
+leaves-output g out out' (Err (Shared (fault.Tool tool.Write))) h = tt
+leaves-output g out out' (Err (Shared fault.Memory)) h = tt
+leaves-output g out out' (Err (Shared (fault.Tool (tool.Env error)))) h = absurd h
+leaves-output g out out' (Err (Shared (fault.Tool (tool.Script error)))) h = absurd h
+leaves-output g out out' (Err (Shared (fault.Tool tool.Memory))) h = absurd h
+leaves-output g out out' (Err (Shared (fault.Config error))) h = absurd h
+leaves-output g out out' (Err (Shared (fault.Lock error))) h = absurd h
+leaves-output g out out' (Err (Shared (fault.CannotRead path))) h = absurd h
+leaves-output g out out' (Err (Shared (fault.CannotWrite path))) h = absurd h
+leaves-output g out out' (Err (Shared (fault.FileShort path))) h = absurd h
+leaves-output g out out' (Err (Shared (fault.FileTooLong path))) h = absurd h
+leaves-output g out out' (Err (Shared fault.CannotReadInput)) h = absurd h
+leaves-output g out out' (Err (Shared fault.InputTooLong)) h = absurd h
+leaves-output g out out' (Err (Shared (fault.InputCutOff line))) h = absurd h
+
+-- checking itself reads no file
+pub counts-none : (g : Given) (out out' : Sink) (count : ℕ) (answer : Result Bool CheckFault) → ChecksText g out out' answer → CountsShared count count answer
+counts-none g out out' count (Ok sound) h = refl
+counts-none g out out' count (Err (DeviceList error)) h = refl
+counts-none g out out' count (Err (Shared (fault.CannotRead path))) h = absurd h
+counts-none g out out' count (Err (Shared (fault.CannotWrite path))) h = absurd h
+counts-none g out out' count (Err (Shared (fault.Tool error))) h = refl
+counts-none g out out' count (Err (Shared fault.Memory)) h = refl
+counts-none g out out' count (Err (Shared (fault.Config error))) h = refl
+counts-none g out out' count (Err (Shared (fault.Lock error))) h = refl
+counts-none g out out' count (Err (Shared (fault.FileShort path))) h = refl
+counts-none g out out' count (Err (Shared (fault.FileTooLong path))) h = refl
+counts-none g out out' count (Err (Shared fault.CannotReadInput)) h = refl
+counts-none g out out' count (Err (Shared fault.InputTooLong)) h = refl
+counts-none g out out' count (Err (Shared (fault.InputCutOff line))) h = refl
 
 -- ---- one environment
 
 -- what is said of the environment that was found, by the names as they are given
-pub texts-in : (answer : Result (List Pair) ImageError) (env : List Pair) (devices : Result (Option Devices) DevicesError) (names names' : List Text) (all : Bool) (old new : Sink) (told : Result Bool ToolError) → answer ≡ Ok env
+pub texts-in : (answer : Result (List Pair) ImageError) (env : List Pair) (devices : Result (Option Devices) DevicesError) (names names' : List Text) (all : Bool) (old new : Sink) (told : Result Bool CheckFault) → answer ≡ Ok env
     → names ≡ names' → ChecksText (given (Ok env) devices names all) old new told → ChecksText (given answer devices names' all) old new told
 texts-in answer env devices names names' all old new told found same h =
     subst (λ (e : Result (List Pair) ImageError). ChecksText (given e devices names' all) old new told) (sym found)
     (subst (λ (ns : List Text). ChecksText (given (Ok env) devices ns all) old new told) same h)
 
 -- the refusal of the image
-pub no-texts : (answer : Result (List Pair) ImageError) (devices : Result (Option Devices) DevicesError) (names : List Text) (all : Bool) (old : Sink) (error : ToolError) → Finds answer (Err error)
-    → ChecksText (given answer devices names all) old old (Err error)
-no-texts answer devices names all old (tool.Image error) h = (h, refl)
-no-texts answer devices names all old (tool.Env error) h = absurd h
-no-texts answer devices names all old (tool.Script error) h = absurd h
-no-texts answer devices names all old (tool.Rehearsal error) h = absurd h
-no-texts answer devices names all old tool.Write h = absurd h
-no-texts answer devices names all old tool.Memory h = inl refl
+pub no-texts : (answer : Result (List Pair) ImageError) (devices : Result (Option Devices) DevicesError) (names : List Text) (all : Bool) (old : Sink) (error : ImageError) → Finds answer (Err error)
+    → ChecksText (given answer devices names all) old old (Err (of_image error))
+no-texts answer devices names all old image.WrongSize h = (h, refl)
+no-texts answer devices names all old image.BadCrc h = (h, refl)
+no-texts answer devices names all old (image.Content error) h = (h, refl)
+no-texts answer devices names all old image.TooLarge h = (h, refl)
+no-texts answer devices names all old image.Memory h = inl refl
 
 -- the refusal of the device list
-pub no-list : (answer : Result (Option Devices) DevicesError) (env : List Pair) (names : List Text) (all : Bool) (old : Sink) (error : ToolError) → Lists answer (Err error)
+pub no-list : (answer : Result (Option Devices) DevicesError) (env : List Pair) (names : List Text) (all : Bool) (old : Sink) (error : CheckFault) → Lists answer (Err error)
     → ChecksText (given (Ok env) answer names all) old old (Err error)
-no-list answer env names all old (tool.Image error) h = absurd h
-no-list answer env names all old (tool.Env error) h = absurd h
-no-list answer env names all old (tool.Script error) h = absurd h
-no-list answer env names all old (tool.Rehearsal (rehearsal.DeviceList error)) h = (record { env = env; there = refl; refused = h }, refl)
-no-list answer env names all old (tool.Rehearsal rehearsal.NoSuchVariable) h = absurd h
-no-list answer env names all old (tool.Rehearsal rehearsal.NotARun) h = absurd h
-no-list answer env names all old (tool.Rehearsal rehearsal.States) h = absurd h
-no-list answer env names all old (tool.Rehearsal rehearsal.Write) h = absurd h
-no-list answer env names all old (tool.Rehearsal rehearsal.Memory) h = absurd h
-no-list answer env names all old (tool.Rehearsal rehearsal.Failed) h = absurd h
-no-list answer env names all old tool.Write h = absurd h
-no-list answer env names all old tool.Memory h = inl refl
+no-list answer env names all old (DeviceList error) h = (record { env = env; there = refl; refused = h }, refl)
+no-list answer env names all old (Shared fault.Memory) h = inl refl
+no-list answer env names all old (Shared (fault.Tool error)) h = absurd h
+no-list answer env names all old (Shared (fault.Config error)) h = absurd h
+no-list answer env names all old (Shared (fault.Lock error)) h = absurd h
+no-list answer env names all old (Shared (fault.CannotRead path)) h = absurd h
+no-list answer env names all old (Shared (fault.CannotWrite path)) h = absurd h
+no-list answer env names all old (Shared (fault.FileShort path)) h = absurd h
+no-list answer env names all old (Shared (fault.FileTooLong path)) h = absurd h
+no-list answer env names all old (Shared fault.CannotReadInput) h = absurd h
+no-list answer env names all old (Shared fault.InputTooLong) h = absurd h
+no-list answer env names all old (Shared (fault.InputCutOff line)) h = absurd h
 
 -- the same check with a device list that is another way to write this one
-pub listed-as : (answer answer' : Result (Option Devices) DevicesError) (env : List Pair) (names : List Text) (all : Bool) (old new : Sink) (told : Result Bool ToolError) → answer ≡ answer'
+pub listed-as : (answer answer' : Result (Option Devices) DevicesError) (env : List Pair) (names : List Text) (all : Bool) (old new : Sink) (told : Result Bool CheckFault) → answer ≡ answer'
     → ChecksText (given (Ok env) answer names all) old new told → ChecksText (given (Ok env) answer' names all) old new told
 listed-as answer answer' env names all old new told e h = subst (λ (d : Result (Option Devices) DevicesError). ChecksText (given (Ok env) d names all) old new told) e h
 

@@ -7,18 +7,17 @@ use Rattle.output.specs.Sink.{BrokeOff, Sink, Wrote}
 use Rattle.envimage.specs.declared.image.ByteOrder.{ByteOrder}
 use Rattle.envimage.specs.declared.image.ImageError.{ImageError}
 use Rattle.hushcheck.specs.Asked.{Asked}
+use Rattle.hushcheck.specs.declared.fault.CheckFault.{CheckFault}
+use Rattle.hushcheck.specs.declared.fault.CheckFault.TheVariants.{DeviceList, Shared}
 use Rattle.hushcheck_core.specs.Names.{Text}
 use Rattle.hushcheck_core.specs.Report.{BeginsCheck, Checks, asked_names}
 use Rattle.device_list.specs.DeviceList.{Devices, listed}
 use Rattle.device_list.specs.declared.devices_error.DevicesError.{DevicesError}
-use Rattle.rehearse.specs.declared.rehearse_error.RehearseError.TheVariants.{DeviceList}
 use Rattle.locked_files.specs.CallOrder.{OnlyReads}
 use Rattle.locked_files.specs.Told.{Told}
-use Rattle.image_tools.specs.declared.error.ToolError.{ToolError}
-use Rattle.image_tools.specs.declared.error.ToolError.TheVariants.{Image, Memory, Rehearsal, Write}
+use Rattle.image_tools.specs.declared.error.ToolError.TheVariants.{Image, Write}
 use Rattle.image_tools.specs.declared.fault.Fault.{Fault}
-use Rattle.image_tools.specs.declared.fault.Fault.TheVariants as fault
-use Rattle.image_tools.specs.declared.fault.Fault.TheVariants.{Tool}
+use Rattle.image_tools.specs.declared.fault.Fault.TheVariants.{Memory, Tool}
 use Rattle.file_tools.specs.Images.{Copy, IsImagesFault}
 use Rattle.file_tools.specs.PrintingFiles.{FromImages, environment}
 use Rattle.file_tools.specs.ReadingFiles.{ReadsText}
@@ -53,10 +52,10 @@ given_by order found list names all = given (environment order found) (list_in l
 -- ---- one environment
 
 -- the device list, or why there is none
-abbrev pub Lists : Result (Option Devices) DevicesError → Result (Option Devices) ToolError → Type 0
+abbrev pub Lists : Result (Option Devices) DevicesError → Result (Option Devices) CheckFault → Type 0
 Lists answer (Ok devices) = answer ≡ Ok devices
-Lists answer (Err (Rehearsal (DeviceList fault))) = answer ≡ Err fault
-Lists answer (Err Memory) = Unit {0}
+Lists answer (Err (DeviceList fault)) = answer ≡ Err fault
+Lists answer (Err (Shared Memory)) = Unit {0}
 Lists answer (Err _) = ⊥
 
 -- The environment and the device list are right, and this is what is reported.
@@ -94,12 +93,12 @@ abbrev pub WritesFront : Given → (old new : Sink) → Type 0
 WritesFront g old new = (told : Text) × BeginTexts g told × WroteFront old new told
 
 -- each answer to checking the texts, and what is written then
-abbrev pub ChecksText : Given → Sink → Sink → Result Bool ToolError → Type 0
+abbrev pub ChecksText : Given → Sink → Sink → Result Bool CheckFault → Type 0
 ChecksText g old new (Ok sound) = TellsAll g old new sound
-ChecksText g old new (Err (Image error)) = (g.env ≡ Err error) × (new ≡ old)
-ChecksText g old new (Err (Rehearsal (DeviceList fault))) = IsBadList g fault × (new ≡ old)
-ChecksText g old new (Err Write) = BreaksOff g old new
-ChecksText g old new (Err Memory) = (new ≡ old) ⊎ WritesFront g old new
+ChecksText g old new (Err (Shared (Tool (Image error)))) = (g.env ≡ Err error) × (new ≡ old)
+ChecksText g old new (Err (DeviceList fault)) = IsBadList g fault × (new ≡ old)
+ChecksText g old new (Err (Shared (Tool Write))) = BreaksOff g old new
+ChecksText g old new (Err (Shared Memory)) = (new ≡ old) ⊎ WritesFront g old new
 ChecksText g old new (Err _) = ⊥
 
 -- ---- files
@@ -130,19 +129,18 @@ FromFiles asked old new IsSo =
 
 -- The images and the device list were read and the texts checked, or the image or the list is refused; or a read is
 -- refused, and files were only read. Memory may run out at any time, also when lines were written.
-abbrev pub ChecksFrom : Asked → (out out' : Sink) → (old new : Told) → Result Bool Fault → Type 0
+abbrev pub ChecksFrom : Asked → (out out' : Sink) → (old new : Told) → Result Bool CheckFault → Type 0
 ChecksFrom asked out out' old new (Ok sound) = FromFiles asked old new (λ g. TellsAll g out out' sound)
-ChecksFrom asked out out' old new (Err (Tool (Image error))) = FromFiles asked old new (λ g. g.env ≡ Err error)
-ChecksFrom asked out out' old new (Err (Tool (Rehearsal (DeviceList fault)))) =
-    FromFiles asked old new (λ g. IsBadList g fault)
-ChecksFrom asked out out' old new (Err (Tool Write)) = FromFiles asked old new (λ g. BreaksOff g out out')
-ChecksFrom asked out out' old new (Err fault.Memory) =
+ChecksFrom asked out out' old new (Err (Shared (Tool (Image error)))) = FromFiles asked old new (λ g. g.env ≡ Err error)
+ChecksFrom asked out out' old new (Err (DeviceList fault)) = FromFiles asked old new (λ g. IsBadList g fault)
+ChecksFrom asked out out' old new (Err (Shared (Tool Write))) = FromFiles asked old new (λ g. BreaksOff g out out')
+ChecksFrom asked out out' old new (Err (Shared Memory)) =
     OnlyReads old new × ((out' ≡ out) ⊎ FromFiles asked old new (λ g. WritesFront g out out'))
-ChecksFrom asked out out' old new (Err fault) = OnlyReads old new × IsUnread asked.config asked.device_list old fault
+ChecksFrom asked out out' old new (Err (Shared fault)) = OnlyReads old new × IsUnread asked.config asked.device_list old fault
 
 -- a refusal leaves the output as it was, unless it says that the output failed or that memory ran out
-abbrev pub LeavesOutput : Result Bool Fault → (old new : Sink) → Type 0
+abbrev pub LeavesOutput : Result Bool CheckFault → (old new : Sink) → Type 0
 LeavesOutput (Ok sound) old new = Unit {0}
-LeavesOutput (Err (Tool Write)) old new = Unit {0}
-LeavesOutput (Err fault.Memory) old new = Unit {0}
+LeavesOutput (Err (Shared (Tool Write))) old new = Unit {0}
+LeavesOutput (Err (Shared Memory)) old new = Unit {0}
 LeavesOutput (Err fault) old new = new ≡ old

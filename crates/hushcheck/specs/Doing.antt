@@ -2,14 +2,14 @@
 use Rattle.std.specs.Prelude.{◌≡◌, Bool, Option, Result, codes, string_bytes}
 use Rattle.hushcheck.specs.Asked.{asked_by}
 use Rattle.hushcheck.specs.Checking.{ChecksFrom, LeavesOutput}
+use Rattle.hushcheck.specs.Faults.{CountsShared, IsShared}
 use Rattle.hushcheck.specs.declared.ask.Ask.{Ask}
+use Rattle.hushcheck.specs.declared.fault.CheckFault.{CheckFault}
 use Rattle.output.specs.Outputs.{Outputs}
 use Rattle.locked_files.specs.Told.{IfTold, Told}
 use Rattle.requests.specs.declared.answer.Answer.{Answer}
 use Rattle.requests.specs.declared.answer.Answer.TheVariants.{Asks, Help, Version}
-use Rattle.image_tools.specs.declared.fault.Fault.{Fault}
 use Rattle.file_tools.specs.Builds.{version_line}
-use Rattle.file_tools.specs.Faults.{CountsTold}
 use Rattle.file_tools.specs.Running.{FilesShown}
 use Rattle.file_tools.specs.declared.build.Build.{Build}
 use Rattle.file_tools.specs.Showing.{Shows}
@@ -17,15 +17,16 @@ use Rattle.file_tools.specs.Showing.{Shows}
 -- What a program of this build does for it, with the files before and after, and on the outputs. With status 0 each
 -- text is well-formed, each name that was asked for is set and the device list lacks no command, or the help or the
 -- version was shown.
-abbrev pub Does : Build → Answer Ask → Option Told → Option Told → Outputs → Result Bool Fault → Type 0
+abbrev pub Does : Build → Answer Ask → Option Told → Option Told → Outputs → Result Bool CheckFault → Type 0
 Does build (Asks ask) before after outputs result =
     IfTold before after (λ old new.
     ChecksFrom (asked_by ask.config ask.devices_file ask.what ask.order) outputs.out outputs.out' old new result)
     × LeavesOutput result outputs.out outputs.out'
     × (outputs.err' ≡ outputs.err)
-Does build (Help text) before after outputs result = Shows (string_bytes text) before after outputs result
-Does build Version before after outputs result = Shows (version_line (codes "hushcheck") build) before after outputs result
+Does build (Help text) before after outputs result = IsShared (Shows (string_bytes text) before after outputs) result
+Does build Version before after outputs result =
+    IsShared (Shows (version_line (codes "hushcheck") build) before after outputs) result
 
 -- the answer tells each call on files that failed
-abbrev pub Leaves : Answer Ask → Result Bool Fault → FilesShown → FilesShown → Type 0
-Leaves ask result before after = CountsTold before.faults after.faults result
+abbrev pub Leaves : Answer Ask → Result Bool CheckFault → FilesShown → FilesShown → Type 0
+Leaves ask result before after = CountsShared before.faults after.faults result

@@ -3,6 +3,7 @@
 
 mod ask;
 mod command;
+mod fault;
 mod program;
 mod texts;
 mod words;

@@ -4,15 +4,15 @@ ghost use Rattle.output.specs.Sink.{Sink};
 ghost use Rattle.hushcheck.specs.CommandAnswers.{Answers};
 ghost use Rattle.hushcheck.specs.Doing.{Does, Leaves};
 ghost use Rattle.output.specs.Outputs.{outputs};
-ghost use Rattle.file_tools.specs.Faults.{CountsTold};
+ghost use Rattle.hushcheck.specs.Faults.{CountsShared};
 ghost use Rattle.file_tools.specs.Running.{HasDone, IsMisused, files_shown};
 ghost use Rattle.hushcheck.specs.Statuses.{IsRefused, IsUnsound};
 
 use crate::ask::Ask;
+use crate::fault::CheckFault;
 use crate::texts::check_files;
 use crate::words::read_words;
 use file_tools::{Build, refuse, show_help, show_version, status_of};
-use image_tools::Fault;
 use locked_files::Files;
 use output::Out;
 use requests::Answer;
@@ -30,8 +30,8 @@ fn perform<F: Files, O: Out>(
     ask: Answer<Ask>,
     files: &mut F,
     out: &mut O,
-) -> Result<bool, Fault>
-    ensures count { CountsTold (F.faults files.old) (F.faults files.new) result }
+) -> Result<bool, CheckFault>
+    ensures count { CountsShared (F.faults files.old) (F.faults files.new) result }
     ensures does { (err : Sink) → Does build ask (F.told files.old) (F.told files.new)
         (outputs (O.sink out.old) (O.sink out.new) err err) result }
 {
@@ -44,8 +44,8 @@ fn perform<F: Files, O: Out>(
                 order,
             },
         ) => check_files(alloc, files, config, devices_file, &what, order, out),
-        Answer::Help(text) => show_help(out, &text),
-        Answer::Version => show_version(out, PROGRAM, build),
+        Answer::Help(text) => Ok(show_help(out, &text)?),
+        Answer::Version => Ok(show_version(out, PROGRAM, build)?),
     }
 }
 

@@ -5,10 +5,12 @@ ghost use Rattle.hushcheck.specs.Asked.{asked_by};
 ghost use Rattle.hushcheck.specs.Checking.{ChecksFrom, ChecksText, LeavesOutput, Lists, ReadsList, given, given_by, list_in};
 ghost use Rattle.locked_files.specs.Told.{IfTold};
 ghost use Rattle.file_tools.specs.Faults.{CountsTold};
+ghost use Rattle.hushcheck.specs.Faults.{CountsShared};
 ghost use Rattle.file_tools.specs.Images.{copies};
 
 use crate::ask::CheckAsk;
-use device_list::Devices;
+use crate::fault::CheckFault;
+use device_list::{Devices, DevicesError};
 use envimage::ByteOrder;
 use envtools::Env;
 use file_tools::{Images, read_images, read_text, slices_of};
@@ -16,17 +18,20 @@ use hushcheck_core::{CheckError, asked_names, check};
 use image_tools::{Fault, ToolError, env_of_image};
 use locked_files::Files;
 use output::Out;
-use rehearse::read_devices;
 use std::alloc::Global;
 
 /// The device list of a text, if there is one.
-fn list_of(alloc: Global, text: Option<&[u8]>) -> Result<Option<Devices>, ToolError>
+fn list_of(alloc: Global, text: Option<&[u8]>) -> Result<Option<Devices>, CheckFault>
     ensures { Lists (list_in (option_copied text.entry)) result }
 {
     let Some(text) = text else {
         return Ok(None);
     };
-    Ok(Some(read_devices(alloc, text)?))
+    match Devices::parse(alloc, text) {
+        Ok(devices) => Ok(Some(devices)),
+        Err(DevicesError::Memory) => Err(CheckFault::Shared(Fault::Memory)),
+        Err(fault) => Err(CheckFault::DeviceList(fault)),
+    }
 }
 
 /// Checks the texts of an environment, with this device list if there is one, and writes what is
@@ -39,17 +44,17 @@ fn check_with<O: Out>(
     names: &[&[u8]],
     all: bool,
     out: &mut O,
-) -> Result<bool, ToolError>
+) -> Result<bool, CheckFault>
     ensures { ChecksText (given (Ok env.now) (Ok (option_map (λ d. d.now) devices.entry))
         (map (λ n. n.now) names.now) all) (O.sink out.old) (O.sink out.new) result }
 {
     let Ok(names) = asked_names(alloc, env, names, all) else {
-        return Err(ToolError::Memory);
+        return Err(CheckFault::Shared(Fault::Memory));
     };
     match check(alloc, devices, env, &names, out) {
         Ok(sound) => Ok(sound),
-        Err(CheckError::Write) => Err(ToolError::Write),
-        Err(CheckError::Memory) => Err(ToolError::Memory),
+        Err(CheckError::Write) => Err(CheckFault::Shared(Fault::Tool(ToolError::Write))),
+        Err(CheckError::Memory) => Err(CheckFault::Shared(Fault::Memory)),
     }
 }
 
@@ -61,7 +66,7 @@ fn check_env<O: Out>(
     names: &[&[u8]],
     all: bool,
     out: &mut O,
-) -> Result<bool, ToolError>
+) -> Result<bool, CheckFault>
     ensures { ChecksText (given (Ok env.now) (list_in (option_copied list.entry))
         (map (λ n. n.now) names.now) all) (O.sink out.old) (O.sink out.new) result }
 {
@@ -77,13 +82,13 @@ fn check_images<O: Out>(
     what: &CheckAsk,
     order: ByteOrder,
     out: &mut O,
-) -> Result<bool, ToolError>
+) -> Result<bool, CheckFault>
     ensures { ChecksText (given_by order (copies images.now) (option_copied list.entry)
         (map string_bytes what.now.names.items) what.now.all) (O.sink out.old)
         (O.sink out.new) result }
 {
     let Ok(names) = slices_of(alloc, &what.names) else {
-        return Err(ToolError::Memory);
+        return Err(CheckFault::Shared(Fault::Memory));
     };
     let second = images.second_bytes();
     let env = env_of_image(alloc, &images.first.bytes, second, order)?;
@@ -116,8 +121,8 @@ pub fn check_files<F: Files, O: Out>(
     what: &CheckAsk,
     order: ByteOrder,
     out: &mut O,
-) -> Result<bool, Fault>
-    ensures count { CountsTold (F.faults files.old) (F.faults files.new) result }
+) -> Result<bool, CheckFault>
+    ensures count { CountsShared (F.faults files.old) (F.faults files.new) result }
     ensures told { IfTold (F.told files.old) (F.told files.new) (λ old new.
         ChecksFrom (asked_by config list what.now order) (O.sink out.old) (O.sink out.new) old new
         result) }
@@ -125,8 +130,5 @@ pub fn check_files<F: Files, O: Out>(
 {
     let images = read_images(alloc, files, config)?;
     let list = read_list(alloc, files, list)?;
-    match check_images(alloc, &images, list.as_deref(), what, order, out) {
-        Ok(sound) => Ok(sound),
-        Err(error) => Err(error.into()),
-    }
+    check_images(alloc, &images, list.as_deref(), what, order, out)
 }

@@ -72,7 +72,6 @@ input-refused left s read tool.Write is p =
     ]
 input-refused left s read (tool.Env e) is p = absurd p
 input-refused left s read (tool.Script e) is p = absurd p
-input-refused left s read (tool.Rehearsal e) is p = absurd p
 
 -- ---- the error output of an input that is refused
 
@@ -92,7 +91,6 @@ input-untold answer s tool.Memory p = unwritten s.err s.err' p.1.err
 input-untold answer s tool.Write p = elim p.broken [ inl b ↦ front-quiet s.err s.err' b.1 | inr b ↦ inr b.1 ]
 input-untold answer s (tool.Env e) p = absurd p
 input-untold answer s (tool.Script e) p = absurd p
-input-untold answer s (tool.Rehearsal e) p = absurd p
 
 -- ---- what was read, or why nothing was
 

@@ -7,10 +7,8 @@ use Rattle.envtools.specs.declared.print.PrintDataError.{PrintDataError}
 use Rattle.envtools.specs.declared.print.PrintDataError.TheVariants as print
 use Rattle.envtools.specs.declared.script.ScriptError.{ScriptError}
 use Rattle.envtools.specs.declared.script.ScriptError.TheVariants as script
-use Rattle.rehearse.specs.declared.rehearse_error.RehearseError.{RehearseError}
-use Rattle.rehearse.specs.declared.rehearse_error.RehearseError.TheVariants as rehearsal
 use Rattle.image_tools.specs.declared.error.ToolError.{ToolError}
-use Rattle.image_tools.specs.declared.error.ToolError.TheVariants.{Image, Env, Script, Rehearsal, Write, Memory}
+use Rattle.image_tools.specs.declared.error.ToolError.TheVariants.{Image, Env, Script, Write, Memory}
 use Rattle.image_tools.specs.declared.fault.Fault.{Fault}
 use Rattle.image_tools.specs.declared.fault.Fault.TheVariants as told
 
@@ -35,11 +33,6 @@ abbrev pub script_fault : ScriptError → ToolError
 script_fault (script.BadName line) = Script (script.BadName line)
 script_fault (script.BadValue line) = Script (script.BadValue line)
 script_fault script.Memory = Memory
-
-abbrev pub rehearse_fault : RehearseError → ToolError
-rehearse_fault rehearsal.Write = Write
-rehearse_fault rehearsal.Memory = Memory
-rehearse_fault error = Rehearsal error
 
 -- what a program reports of it
 abbrev pub tool_fault : ToolError → Fault

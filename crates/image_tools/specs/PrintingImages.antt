@@ -6,6 +6,7 @@ use Rattle.output.specs.Sink.{Wrote}
 use Rattle.output.specs.Outputs.{AreUnchanged, BreaksEither, Outputs}
 use Rattle.envimage.specs.declared.image.ByteOrder.{ByteOrder}
 use Rattle.envimage.specs.declared.image.ImageError.{ImageError}
+use Rattle.envimage.specs.declared.image.ImageError.TheVariants as image
 use Rattle.envtools.specs.Environment.{env_of}
 use Rattle.envtools.specs.Printing.{printed_output, printed_errors, all_found}
 use Rattle.envtools.specs.declared.print_form.PrintForm.{PrintForm}
@@ -21,11 +22,10 @@ environment_in order first second = environment (load_of order first second)
     environment (Err e) = Err e
 
 -- the environment that was found, or why there is none
-abbrev pub Finds : Result (List Pair) ImageError → Result (List Pair) ToolError → Type 0
+abbrev pub Finds : Result (List Pair) ImageError → Result (List Pair) ImageError → Type 0
 Finds answer (Ok env) = answer ≡ Ok env
-Finds answer (Err (Image error)) = answer ≡ Err error
-Finds answer (Err Memory) = (env : List Pair) × (answer ≡ Ok env)
-Finds answer (Err _) = ⊥
+Finds answer (Err image.Memory) = (env : List Pair) × (answer ≡ Ok env)
+Finds answer (Err error) = answer ≡ Err error
 
 -- The environment was found, and all that it prints was written.
 pub record PrintsAll (answer : Result (List Pair) ImageError) (names : List (List ℕ)) (form : PrintForm) (s : Outputs)

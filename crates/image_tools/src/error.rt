@@ -2,7 +2,6 @@
 
 use envimage::ImageError;
 use envtools::{EnvError, PrintDataError, PrintError, ScriptError};
-use rehearse::RehearseError;
 use std::alloc::AllocError;
 use thiserror::Error;
 
@@ -18,9 +17,6 @@ pub enum ToolError {
     /// The script, for a reason other than memory.
     #[error("{0}")]
     Script(ScriptError),
-    /// The rehearsal, for a reason other than memory and the output.
-    #[error("{0}")]
-    Rehearsal(RehearseError),
     /// An output failed.
     #[error("output failed")]
     Write,
@@ -104,21 +100,6 @@ impl From<ScriptError> for ToolError {
         match error {
             ScriptError::Memory => ToolError::Memory,
             error => ToolError::Script(error),
-        }
-    }
-}
-
-impl From<RehearseError> for ToolError {
-    ghost use Rattle.std.specs.Prelude.{◌≡◌};
-    ghost use Rattle.image_tools.specs.Errors.{rehearse_fault};
-
-    ghost from_gives = { λ error e. e ≡ rehearse_fault error };
-
-    fn from(error: RehearseError) -> ToolError {
-        match error {
-            RehearseError::Write => ToolError::Write,
-            RehearseError::Memory => ToolError::Memory,
-            error => ToolError::Rehearsal(error),
         }
     }
 }

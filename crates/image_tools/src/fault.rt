@@ -1,4 +1,4 @@
-//! The faults that the program reports, each in one line.
+//! The faults that the programs share, each reported in one line.
 
 use crate::error::ToolError;
 use crate::word_form::WordForm;
@@ -6,7 +6,7 @@ use envimage::ConfigError;
 use locked_files::{FileFault, LockFault};
 use thiserror::Error;
 
-/// Why the program gave up. The text is what it reports.
+/// Why a program gave up. The text is what it reports.
 #[derive(Debug, Drop, Error)]
 pub enum Fault {
     /// The configuration was refused.
@@ -39,12 +39,6 @@ pub enum Fault {
     /// The script on standard input ends inside this line, counted from 1: it lacks the newline.
     #[error("Line {0} not correctly terminated")]
     InputCutOff(usize),
-    /// The variable to be rehearsed is not set.
-    #[error("no variable {0}")]
-    NoSuchVariable(WordForm),
-    /// The rehearsal has no run of this word, which is printed as it was given.
-    #[error("no run has the word {0}")]
-    NotARun(WordForm),
     /// Memory ran out.
     #[error("out of memory")]
     Memory,

@@ -2,20 +2,22 @@
 ghost use Rattle.std.specs.Option.{option_copied};
 ghost use Rattle.image_tools.specs.PrintingImages.{Finds, environment_in};
 
-use crate::error::ToolError;
-use envimage::{ByteOrder, load};
+use envimage::{ByteOrder, ImageError, load};
 use envtools::Env;
 use std::alloc::Global;
 
-/// The environment of an image, or of the current copy of a pair. Errors: `Image`, `Memory`.
+/// The environment of an image, or of the current copy of a pair. Errors: those of `load`, `Memory`.
 pub fn env_of_image(
     alloc: Global,
     first: &[u8],
     second: Option<&[u8]>,
     order: ByteOrder,
-) -> Result<Env, ToolError>
+) -> Result<Env, ImageError>
     ensures { Finds (environment_in order first.now (option_copied second.entry)) result }
 {
     let loaded = load(first, second, order)?;
-    Ok(Env::from_checked(alloc, loaded.body)?)
+    match Env::from_checked(alloc, loaded.body) {
+        Ok(env) => Ok(env),
+        Err(_) => Err(ImageError::Memory),
+    }
 }

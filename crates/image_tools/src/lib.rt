@@ -16,6 +16,5 @@ pub use fault::Fault;
 pub use fault_line::write_fault_of;
 pub use image_env::env_of_image;
 pub use print::{PrintAsk, print_bytes};
-pub use rehearse::RehearseError;
 pub use standard_input::run_input;
 pub use word_form::WordForm;

@@ -15,7 +15,7 @@ use rehearse_runs::{Ask as RehearseAsk, Finish};
 use rehearse_terms::{Bounds, Page, Wanted};
 use requests::CalledAs;
 use std::alloc::Global;
-use whole_program::{rehearse_bytes, run_tool};
+use whole_program::{RehearsalError, rehearse_bytes, run_tool};
 
 pub(crate) fn crc(bytes: &[u8]) -> u32 {
     crc32(bytes)
@@ -96,7 +96,7 @@ pub(crate) fn rehearse(
     name: &[u8],
     steps: u32,
     out: &mut Tested,
-) -> anyhow::Result<Result<Finish, ToolError>> {
+) -> anyhow::Result<Result<Finish, RehearsalError>> {
     let Some(bounds) = Bounds::new(16, steps) else {
         anyhow::bail!("no bounds");
     };

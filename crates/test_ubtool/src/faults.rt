@@ -4,12 +4,14 @@ use crate::case::{Case, text};
 use device_list::DevicesError;
 use envimage::{ConfigError, DataError, ImageError};
 use envtools::{EnvError, ScriptError};
-use image_tools::{Fault, RehearseError, ToolError, WordForm, write_fault_of};
+use image_tools::{Fault, ToolError, WordForm, write_fault_of};
 use locked_files::FileFault;
 use output::Over;
+use rehearse_runs::RehearseError;
 use std::alloc::Global;
 use std::fmt::Display;
 use test_rows::{number, shown};
+use whole_program::{ProgramFault, RehearsalError};
 
 /// The line that is written for a fault.
 fn line_of<E: Display>(alloc: Global, fault: &E) -> anyhow::Result<String> {
@@ -35,11 +37,8 @@ fn of_configs(alloc: Global, lines: &mut String) -> anyhow::Result<()> {
     Ok(())
 }
 
-/// The lines of all faults whose texts have no word of the call.
-fn all(case: &Case<'_>) -> anyhow::Result<String> {
-    let alloc = case.alloc;
-    let mut lines = String::new(alloc);
-    of_configs(alloc, &mut lines)?;
+/// The lines of the faults of images, changes and scripts, of an output and of memory.
+fn of_tools(alloc: Global, lines: &mut String) -> anyhow::Result<()> {
     for error in [
         ToolError::Image(ImageError::WrongSize),
         ToolError::Image(ImageError::BadCrc),
@@ -51,15 +50,38 @@ fn all(case: &Case<'_>) -> anyhow::Result<String> {
         ToolError::Env(EnvError::BadValue),
         ToolError::Script(ScriptError::BadName(5)),
         ToolError::Script(ScriptError::BadValue(6)),
-        ToolError::Rehearsal(RehearseError::DeviceList(DevicesError::BadLine(7))),
-        ToolError::Rehearsal(RehearseError::DeviceList(DevicesError::BuiltIn(8))),
-        ToolError::Rehearsal(RehearseError::DeviceList(DevicesError::ByteOrderMark)),
         ToolError::Write,
         ToolError::Memory,
     ] {
         let line = line_of(alloc, &Fault::from(error))?;
         lines.push_str(format!(in alloc; "{error:?}: {line}\n")?.as_str())?;
     }
+    Ok(())
+}
+
+/// The lines of the faults of rehearsals.
+fn of_rehearsals(alloc: Global, lines: &mut String) -> anyhow::Result<()> {
+    for error in [
+        RehearsalError::Rehearsal(RehearseError::DeviceList(DevicesError::BadLine(7))),
+        RehearsalError::Rehearsal(RehearseError::DeviceList(DevicesError::BuiltIn(8))),
+        RehearsalError::Rehearsal(RehearseError::DeviceList(DevicesError::ByteOrderMark)),
+        RehearsalError::Image(ImageError::BadCrc),
+        RehearsalError::Write,
+        RehearsalError::Memory,
+    ] {
+        let line = line_of(alloc, &ProgramFault::from(error))?;
+        lines.push_str(format!(in alloc; "{error:?}: {line}\n")?.as_str())?;
+    }
+    Ok(())
+}
+
+/// The lines of all faults whose texts have no word of the call.
+fn all(case: &Case<'_>) -> anyhow::Result<String> {
+    let alloc = case.alloc;
+    let mut lines = String::new(alloc);
+    of_configs(alloc, &mut lines)?;
+    of_tools(alloc, &mut lines)?;
+    of_rehearsals(alloc, &mut lines)?;
     Ok(lines)
 }
 
@@ -68,12 +90,12 @@ fn one(case: &Case<'_>, says: &str) -> anyhow::Result<String> {
     let (kind, says) = says.split_once(' ').unwrap_or((says, ""));
     let word = text(case.alloc, says)?;
     let fault = match kind {
-        "failed" => Fault::of_read(word, FileFault::Failed),
-        "short" => Fault::of_read(word, FileFault::Short),
-        "too-long" => Fault::of_read(word, FileFault::TooLong),
-        "write" => Fault::of_write(word, FileFault::Failed),
-        "no-variable" => Fault::NoSuchVariable(WordForm(word)),
-        _ => Fault::NotARun(WordForm(word)),
+        "failed" => Fault::of_read(word, FileFault::Failed).into(),
+        "short" => Fault::of_read(word, FileFault::Short).into(),
+        "too-long" => Fault::of_read(word, FileFault::TooLong).into(),
+        "write" => Fault::of_write(word, FileFault::Failed).into(),
+        "no-variable" => ProgramFault::NoSuchVariable(WordForm(word)),
+        _ => ProgramFault::NotARun(WordForm(word)),
     };
     line_of(case.alloc, &fault)
 }

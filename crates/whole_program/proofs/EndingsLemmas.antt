@@ -6,9 +6,9 @@ use Rattle.envimage.specs.declared.image.ByteOrder.{ByteOrder}
 use Rattle.requests.specs.declared.ask.EndingsAsk.{EndingsAsk}
 use Rattle.whole_program.specs.EndingsOfImages.{RefusesEndings, TellsEndings}
 use Rattle.whole_program.specs.Given.{Given, given_all}
-use Rattle.image_tools.specs.declared.error.ToolError.{ToolError}
+use Rattle.whole_program.specs.declared.rehearsal_error.RehearsalError.{RehearsalError}
 use Rattle.rehearse.specs.declared.rehearse_error.RehearseError.TheVariants as rehearsal
-use Rattle.image_tools.specs.declared.error.ToolError.TheVariants as tool
+use Rattle.whole_program.specs.declared.rehearsal_error.RehearsalError.TheVariants as refused
 use Rattle.locked_files.specs.Told.{Told}
 use Rattle.file_tools.proofs.PrintLemmas.{image-bytes}
 use Rattle.whole_program.proofs.RehearseLemmas.{first-bytes}
@@ -25,20 +25,18 @@ module _ (order : ByteOrder) (config list : List ℕ) (what : EndingsAsk) (out o
   from-files : (IsSo : Given → Type 0) → IsSo (endings_of order (copies sources.images) sources.device_list.items what) → FromFiles order config list what x z IsSo
   from-files IsSo so = so-of-sources config list sources x z (λ copies bytes. IsSo (endings_of order copies bytes what)) read so
 
-  pub tells-refused : (error : ToolError) → RefusesEndings (endings_of order (copies sources.images) sources.device_list.items what) what.flow what.states out out' error
+  pub tells-refused : (error : RehearsalError) → RefusesEndings (endings_of order (copies sources.images) sources.device_list.items what) what.flow what.states out out' error
       → TellsFrom order config list what out out' x z (Err (endings_refusal what error))
-  tells-refused (tool.Image error) h = from-files (λ g. RefusesEndings g what.flow what.states out out' (tool.Image error)) h
-  tells-refused (tool.Env error) h = absurd h
-  tells-refused (tool.Script error) h = absurd h
-  tells-refused (tool.Rehearsal (rehearsal.DeviceList error)) h = from-files (λ g. RefusesEndings g what.flow what.states out out' (tool.Rehearsal (rehearsal.DeviceList error))) h
-  tells-refused (tool.Rehearsal rehearsal.NoSuchVariable) h = (refl, from-files (λ g. RefusesEndings g what.flow what.states out out' (tool.Rehearsal rehearsal.NoSuchVariable)) h)
-  tells-refused (tool.Rehearsal rehearsal.NotARun) h = absurd h
-  tells-refused (tool.Rehearsal rehearsal.Write) h = absurd h
-  tells-refused (tool.Rehearsal rehearsal.Memory) h = absurd h
-  tells-refused (tool.Rehearsal rehearsal.Failed) h = absurd h
-  tells-refused (tool.Rehearsal rehearsal.States) h = from-files (λ g. RefusesEndings g what.flow what.states out out' (tool.Rehearsal rehearsal.States)) h
-  tells-refused tool.Write h = from-files (λ g. RefusesEndings g what.flow what.states out out' tool.Write) h
-  tells-refused tool.Memory h = (only-read config list sources x z read, h.1)
+  tells-refused (refused.Image error) h = from-files (λ g. RefusesEndings g what.flow what.states out out' (refused.Image error)) h
+  tells-refused (refused.Rehearsal (rehearsal.DeviceList error)) h = from-files (λ g. RefusesEndings g what.flow what.states out out' (refused.Rehearsal (rehearsal.DeviceList error))) h
+  tells-refused (refused.Rehearsal rehearsal.NoSuchVariable) h = (refl, from-files (λ g. RefusesEndings g what.flow what.states out out' (refused.Rehearsal rehearsal.NoSuchVariable)) h)
+  tells-refused (refused.Rehearsal rehearsal.NotARun) h = absurd h
+  tells-refused (refused.Rehearsal rehearsal.Write) h = absurd h
+  tells-refused (refused.Rehearsal rehearsal.Memory) h = absurd h
+  tells-refused (refused.Rehearsal rehearsal.Failed) h = absurd h
+  tells-refused (refused.Rehearsal rehearsal.States) h = from-files (λ g. RefusesEndings g what.flow what.states out out' (refused.Rehearsal rehearsal.States)) h
+  tells-refused refused.Write h = from-files (λ g. RefusesEndings g what.flow what.states out out' refused.Write) h
+  tells-refused refused.Memory h = (only-read config list sources x z read, h.1)
 
 -- ---- what the endings of copies are computed from
 
@@ -52,6 +50,6 @@ pub endings-given : (order : ByteOrder) (images : Images) (list : List ℕ) (wha
 endings-given order images list what first second given_list variable e f l v =
     ap (λ (x : List ℕ). given_all order first second x variable what.bounds) l ∙ made order _ _ _ _ list _ _ what (e ∙ first-bytes images) (f ∙ sym (image-bytes images)) v
 
-pub copies-told : (g : Given) (flow : Bool) (states : ℕ) (out out' : Sink) (r : Result (Unit {0}) ToolError) → IfOk r (λ done. TellsEndings g flow states out out') → IfErr r (λ e. RefusesEndings g flow states out out' e) → TellsCopies g flow states out out' r
+pub copies-told : (g : Given) (flow : Bool) (states : ℕ) (out out' : Sink) (r : Result (Unit {0}) RehearsalError) → IfOk r (λ done. TellsEndings g flow states out out') → IfErr r (λ e. RefusesEndings g flow states out out' e) → TellsCopies g flow states out out' r
 copies-told g flow states out out' (Ok done) ok err = ok
 copies-told g flow states out out' (Err error) ok err = err

@@ -10,7 +10,7 @@ use Rattle.rehearse_endings.specs.declared.telling.EndingsAsk.{EndingsAsk}
 use Rattle.rehearse.specs.declared.rehearse_error.RehearseError.{RehearseError}
 use Rattle.rehearse.specs.declared.rehearse_error.RehearseError.TheVariants as rehearsal
 use Rattle.whole_program.specs.EndingsOfImages.{RefusesEndings, TellsEndings, endings_given}
-use Rattle.image_tools.specs.Errors.{rehearse_fault}
+use Rattle.whole_program.specs.Faults.{rehearse_error}
 use Rattle.image_tools.specs.PrintingImages.{environment_in}
 use Rattle.whole_program.specs.Headline.{HasDevices}
 
@@ -24,7 +24,7 @@ pub tells-image : (order : ByteOrder) (first : List ℕ) (second : Option (List 
 tells-image order first second list ask environment old new image h = with_image order first second list ask environment _ image h
 
 pub refused-endings : (order : ByteOrder) (first : List ℕ) (second : Option (List ℕ)) (list : Text) (ask : EndingsAsk) (environment : List Pair) (old new : Sink) (error : RehearseError) → environment_in order first second ≡ Ok environment
-    → below.RefusesEndings environment list ask old new error → RefusesEndings (endings_given order first second list ask) ask.flow ask.states old new (rehearse_fault error)
+    → below.RefusesEndings environment list ask old new error → RefusesEndings (endings_given order first second list ask) ask.flow ask.states old new (rehearse_error error)
 refused-endings order first second list ask environment old new (rehearsal.DeviceList fault) image h = (record { environment = environment; image = image }, h.0, h.1)
 refused-endings order first second list ask environment old new rehearsal.NoSuchVariable image h = (with_image order first second list ask environment _ image h.0, h.1)
 refused-endings order first second list ask environment old new rehearsal.States image h = (with_image order first second list ask environment _ image h.0, h.1)

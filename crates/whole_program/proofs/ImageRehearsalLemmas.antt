@@ -10,29 +10,29 @@ use Rattle.rehearse_runs.specs.RehearsedEnvironment as below
 use Rattle.rehearse_runs.specs.declared.listing.Finish.{Finish}
 use Rattle.rehearse.specs.declared.rehearse_error.RehearseError.{RehearseError}
 use Rattle.rehearse.specs.declared.rehearse_error.RehearseError.TheVariants as rehearsal
-use Rattle.image_tools.specs.Errors.{rehearse_fault}
+use Rattle.whole_program.specs.Faults.{image_error, rehearse_error}
 use Rattle.whole_program.specs.Given.{given}
 use Rattle.whole_program.specs.Headline.{Rehearses}
 use Rattle.image_tools.specs.PrintingImages.{Finds, environment_in}
 use Rattle.whole_program.specs.Refusing.{Refuses}
-use Rattle.image_tools.specs.declared.error.ToolError.{ToolError}
-use Rattle.image_tools.specs.declared.error.ToolError.TheVariants as tool
+use Rattle.whole_program.specs.declared.rehearsal_error.RehearsalError.{RehearsalError}
+use Rattle.whole_program.specs.declared.rehearsal_error.RehearsalError.TheVariants as refused
+use Rattle.envimage.specs.declared.image.ImageError.TheVariants as faulty
 
 -- what holds of the refusal of an image, and if memory runs out
-pub unfound : (answer : Result (List Pair) ImageError) (IsSo : ToolError → Type 0) → ((fault : ImageError) → answer ≡ Err fault → IsSo (tool.Image fault)) → ((env : List Pair) → answer ≡ Ok env → IsSo tool.Memory)
-    → (error : ToolError) → Finds answer (Err error) → IsSo error
-unfound answer IsSo refused memory (tool.Image fault) h = refused fault h
-unfound answer IsSo refused memory (tool.Env error) h = absurd h
-unfound answer IsSo refused memory (tool.Script error) h = absurd h
-unfound answer IsSo refused memory (tool.Rehearsal error) h = absurd h
-unfound answer IsSo refused memory tool.Write h = absurd h
-unfound answer IsSo refused memory tool.Memory h = memory h.0 h.1
+pub unfound : (answer : Result (List Pair) ImageError) (IsSo : RehearsalError → Type 0) → ((fault : ImageError) → answer ≡ Err fault → IsSo (refused.Image fault)) → ((env : List Pair) → answer ≡ Ok env → IsSo refused.Memory)
+    → (error : ImageError) → Finds answer (Err error) → IsSo (image_error error)
+unfound answer IsSo told memory faulty.WrongSize h = told faulty.WrongSize h
+unfound answer IsSo told memory faulty.BadCrc h = told faulty.BadCrc h
+unfound answer IsSo told memory (faulty.Content fault) h = told (faulty.Content fault) h
+unfound answer IsSo told memory faulty.TooLarge h = told faulty.TooLarge h
+unfound answer IsSo told memory faulty.Memory h = memory h.0 h.1
 
 module _ (order : ByteOrder) (first : List ℕ) (second : Option (List ℕ)) (list : Text) (asking : Asking) (environment : List Pair) (old new : Sink) (image : environment_in order first second ≡ Ok environment) where
   pub rehearses-image : (finish : Finish) → below.WithDevices list (λ devices. below.Rehearses (below.task_asked environment devices asking) asking old new finish) → Rehearses (given order first second list asking) old new finish
   rehearses-image finish h = record { environment = environment; devices = h.devices; image = image; device_list = h.listed_as; so = h.so }
 
-  pub refused-image : (error : RehearseError) → below.RefusesAsk environment list asking old new error → Refuses (given order first second list asking) old new (rehearse_fault error)
+  pub refused-image : (error : RehearseError) → below.RefusesAsk environment list asking old new error → Refuses (given order first second list asking) old new (rehearse_error error)
   refused-image (rehearsal.DeviceList fault) h = (record { environment = environment; image = image }, h.0, h.1)
   refused-image rehearsal.NoSuchVariable h = (record { environment = environment; devices = h.devices; image = image; device_list = h.listed_as; so = h.so.0 }, h.so.1)
   refused-image rehearsal.NotARun h = (record { environment = environment; devices = h.devices; image = image; device_list = h.listed_as; so = h.so.0 }, h.so.1)

@@ -7,7 +7,7 @@ use Rattle.requests.specs.declared.ask.Ask.TheVariants.{Print, Setenv, Version}
 use Rattle.requests.specs.declared.ask.Change.{Change}
 use Rattle.requests.specs.declared.ask.PrintAsk.{PrintAsk}
 use Rattle.locked_files.specs.declared.files.LockFault.TheVariants.{NoFile}
-use Rattle.image_tools.specs.declared.fault.Fault.{Fault}
+use Rattle.whole_program.specs.declared.fault.ProgramFault.TheVariants.{Shared}
 use Rattle.image_tools.specs.declared.fault.Fault.TheVariants.{Lock, Memory}
 use Rattle.file_tools.specs.Running.{FilesShown}
 use Rattle.whole_program.specs.Locking.{IsLockedOut, LocksFor}
@@ -25,17 +25,17 @@ module _ (config : String Global) (change : Change) (what : PrintAsk) (order : B
   change_keeps_it = inl refl
 
   -- it is refused if the lock is, and touches no file then
-  refused_with_it : LocksFor (Setenv config change order one_copy) (Err (Lock NoFile)) (files 0 false) (files 0 false)
+  refused_with_it : LocksFor (Setenv config change order one_copy) (Err (Shared (Lock NoFile))) (files 0 false) (files 0 false)
   refused_with_it = inr (record { fault = NoFile; told = refl; untouched = refl })
 
-  touching_without_it : IsLockedOut (Err (Lock NoFile)) (files 0 false) (files 1 false) → ⊥
+  touching_without_it : IsLockedOut (Err (Shared (Lock NoFile))) (files 0 false) (files 1 false) → ⊥
   touching_without_it h = omega (arith, ap (λ (f : FilesShown). f.faults) h.untouched)
 
   -- and is neither made nor refused for another reason without it
   no_change_without_it : IsLockedOut (Ok true) (files 0 false) (files 0 false) → ⊥
   no_change_without_it h = let is = h.told in cc
 
-  no_other_refusal_without_it : IsLockedOut (Err Memory) (files 0 false) (files 0 false) → ⊥
+  no_other_refusal_without_it : IsLockedOut (Err (Shared Memory)) (files 0 false) (files 0 false) → ⊥
   no_other_refusal_without_it h = let is = h.told in cc
 
   -- printing takes none, and keeps a lock that is held

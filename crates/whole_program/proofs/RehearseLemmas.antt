@@ -14,9 +14,9 @@ use Rattle.whole_program.specs.Given.{Given, given}
 use Rattle.whole_program.specs.Headline.{Rehearses}
 use Rattle.whole_program.specs.Refusing.{Refuses}
 use Rattle.locked_files.specs.Told.{Told}
-use Rattle.image_tools.specs.declared.error.ToolError.{ToolError}
+use Rattle.whole_program.specs.declared.rehearsal_error.RehearsalError.{RehearsalError}
 use Rattle.rehearse.specs.declared.rehearse_error.RehearseError.TheVariants as rehearsal
-use Rattle.image_tools.specs.declared.error.ToolError.TheVariants as tool
+use Rattle.whole_program.specs.declared.rehearsal_error.RehearsalError.TheVariants as refused
 use Rattle.file_tools.proofs.PrintLemmas.{image-bytes}
 use Rattle.file_tools.proofs.SourceLemmas.{so-of-sources}
 use Rattle.file_tools.specs.Images.{copies}
@@ -41,24 +41,22 @@ module _ (order : ByteOrder) (config list : List ℕ) (what : RehearseAsk) (out 
   rehearses-found finish h = (refl, from-files (λ g. (f : Finish) × Rehearses g out out' f) (finish, h))
 
   no-run : (given : Option (String Global)) → wanted_word what.wanted ≡ given
-      → FromFiles order config list what x z (λ g. Refuses g out out' (tool.Rehearsal rehearsal.NotARun)) → RehearsesFrom order config list what out out' x z (Err (no_run_of given))
+      → FromFiles order config list what x z (λ g. Refuses g out out' (refused.Rehearsal rehearsal.NotARun)) → RehearsesFrom order config list what out out' x z (Err (no_run_of given))
   no-run None is h = h
   no-run (Some word) is h = (ap (option_map path_form) (sym is), h)
 
-  pub rehearses-refused : (error : ToolError) → RehearsesCopies (rehearsal_of order (copies sources.images) sources.device_list.items what) out out' (Err error)
+  pub rehearses-refused : (error : RehearsalError) → RehearsesCopies (rehearsal_of order (copies sources.images) sources.device_list.items what) out out' (Err error)
       → RehearsesFrom order config list what out out' x z (Err (refusal_of what error))
-  rehearses-refused (tool.Image error) h = from-files (λ g. Refuses g out out' (tool.Image error)) h
-  rehearses-refused (tool.Env error) h = absurd h
-  rehearses-refused (tool.Script error) h = absurd h
-  rehearses-refused (tool.Rehearsal (rehearsal.DeviceList error)) h = from-files (λ g. Refuses g out out' (tool.Rehearsal (rehearsal.DeviceList error))) h
-  rehearses-refused (tool.Rehearsal rehearsal.NoSuchVariable) h = (refl, from-files (λ g. Refuses g out out' (tool.Rehearsal rehearsal.NoSuchVariable)) h)
-  rehearses-refused (tool.Rehearsal rehearsal.States) h = absurd h
-  rehearses-refused (tool.Rehearsal rehearsal.Write) h = absurd h
-  rehearses-refused (tool.Rehearsal rehearsal.Memory) h = absurd h
-  rehearses-refused (tool.Rehearsal rehearsal.Failed) h = absurd h
-  rehearses-refused (tool.Rehearsal rehearsal.NotARun) h = no-run (wanted_word what.wanted) refl (from-files (λ g. Refuses g out out' (tool.Rehearsal rehearsal.NotARun)) h)
-  rehearses-refused tool.Write h = from-files (λ g. Refuses g out out' tool.Write) h
-  rehearses-refused tool.Memory h = inr (from-files (λ g. RunsOut g out out') h)
+  rehearses-refused (refused.Image error) h = from-files (λ g. Refuses g out out' (refused.Image error)) h
+  rehearses-refused (refused.Rehearsal (rehearsal.DeviceList error)) h = from-files (λ g. Refuses g out out' (refused.Rehearsal (rehearsal.DeviceList error))) h
+  rehearses-refused (refused.Rehearsal rehearsal.NoSuchVariable) h = (refl, from-files (λ g. Refuses g out out' (refused.Rehearsal rehearsal.NoSuchVariable)) h)
+  rehearses-refused (refused.Rehearsal rehearsal.States) h = absurd h
+  rehearses-refused (refused.Rehearsal rehearsal.Write) h = absurd h
+  rehearses-refused (refused.Rehearsal rehearsal.Memory) h = absurd h
+  rehearses-refused (refused.Rehearsal rehearsal.Failed) h = absurd h
+  rehearses-refused (refused.Rehearsal rehearsal.NotARun) h = no-run (wanted_word what.wanted) refl (from-files (λ g. Refuses g out out' (refused.Rehearsal rehearsal.NotARun)) h)
+  rehearses-refused refused.Write h = from-files (λ g. Refuses g out out' refused.Write) h
+  rehearses-refused refused.Memory h = inr (from-files (λ g. RunsOut g out out') h)
 
 -- ---- what the rehearsal of copies is given
 
@@ -81,12 +79,10 @@ pub same-asking : (variable variable' : List ℕ) (bounds bounds' : BoundsShown)
     → asking_made variable bounds wanted names ≡ asking_made variable' bounds' wanted' names'
 same-asking variable variable' bounds bounds' wanted wanted' names names' v b w n = rw (v, b, w, n) refl
 
-pub copies-rehearsed : (g : Given) (out out' : Sink) (r : Result Finish ToolError) → IfOk r (λ finish. Rehearses g out out' finish) → IfErr r (λ e. Refuses g out out' e) → RehearsesCopies g out out' r
+pub copies-rehearsed : (g : Given) (out out' : Sink) (r : Result Finish RehearsalError) → IfOk r (λ finish. Rehearses g out out' finish) → IfErr r (λ e. Refuses g out out' e) → RehearsesCopies g out out' r
 copies-rehearsed g out out' (Ok finish) ok err = ok
-copies-rehearsed g out out' (Err (tool.Image error)) ok err = err
-copies-rehearsed g out out' (Err (tool.Env error)) ok err = err
-copies-rehearsed g out out' (Err (tool.Script error)) ok err = err
-copies-rehearsed g out out' (Err (tool.Rehearsal error)) ok err = err
-copies-rehearsed g out out' (Err tool.Write) ok err = err
-copies-rehearsed g out out' (Err tool.Memory) ok (inl same) = inl same.1
-copies-rehearsed g out out' (Err tool.Memory) ok (inr h) = inr h
+copies-rehearsed g out out' (Err (refused.Image error)) ok err = err
+copies-rehearsed g out out' (Err (refused.Rehearsal error)) ok err = err
+copies-rehearsed g out out' (Err refused.Write) ok err = err
+copies-rehearsed g out out' (Err refused.Memory) ok (inl same) = inl same.1
+copies-rehearsed g out out' (Err refused.Memory) ok (inr h) = inr h

@@ -5,14 +5,17 @@ use Rattle.output.specs.Sink.{Sink}
 use Rattle.envimage.specs.declared.image.ByteOrder.{ByteOrder}
 use Rattle.requests.specs.declared.ask.EndingsAsk.{EndingsAsk}
 use Rattle.whole_program.specs.EndingsOfImages.{RefusesEndings, TellsEndings}
-use Rattle.image_tools.specs.Errors.{tool_fault}
 use Rattle.image_tools.specs.FileFaults.{path_form}
 use Rattle.whole_program.specs.Given.{Given, given_all}
-use Rattle.image_tools.specs.declared.error.ToolError.{ToolError}
 use Rattle.rehearse.specs.declared.rehearse_error.RehearseError.TheVariants as rehearsal
 use Rattle.image_tools.specs.declared.error.ToolError.TheVariants as tool
-use Rattle.image_tools.specs.declared.fault.Fault.{Fault}
-use Rattle.image_tools.specs.declared.fault.Fault.TheVariants.{Memory, NoSuchVariable, Tool}
+use Rattle.whole_program.specs.Faults.{reported}
+use Rattle.whole_program.specs.declared.fault.ProgramFault.{ProgramFault}
+use Rattle.whole_program.specs.declared.fault.ProgramFault.TheVariants as program
+use Rattle.whole_program.specs.declared.fault.ProgramFault.TheVariants.{NoSuchVariable, Shared}
+use Rattle.whole_program.specs.declared.rehearsal_error.RehearsalError.{RehearsalError}
+use Rattle.whole_program.specs.declared.rehearsal_error.RehearsalError.TheVariants as refused
+use Rattle.image_tools.specs.declared.fault.Fault.TheVariants.{Memory, Tool}
 use Rattle.locked_files.specs.CallOrder.{OnlyReads}
 use Rattle.locked_files.specs.Told.{Told}
 use Rattle.file_tools.specs.Images.{Copy}
@@ -25,12 +28,12 @@ endings_of order found device_list what =
     given_all order (first_bytes found) (second_bytes found) device_list (string_bytes what.name) what.bounds
 
 -- how a refusal is reported: a variable that is not set, by its name
-abbrev pub endings_refusal : EndingsAsk → ToolError → Fault
-endings_refusal what (tool.Rehearsal rehearsal.NoSuchVariable) = NoSuchVariable (path_form what.name)
-endings_refusal what error = tool_fault error
+abbrev pub endings_refusal : EndingsAsk → RehearsalError → ProgramFault
+endings_refusal what (refused.Rehearsal rehearsal.NoSuchVariable) = NoSuchVariable (path_form what.name)
+endings_refusal what error = reported error
 
 -- each answer to the endings of copies
-abbrev pub TellsCopies : Given → (flow : Bool) → (states : ℕ) → (old new : Sink) → Result (Unit {0}) ToolError → Type 0
+abbrev pub TellsCopies : Given → (flow : Bool) → (states : ℕ) → (old new : Sink) → Result (Unit {0}) RehearsalError → Type 0
 TellsCopies g flow states old new (Ok done) = TellsEndings g flow states old new
 TellsCopies g flow states old new (Err error) = RefusesEndings g flow states old new error
 
@@ -43,14 +46,21 @@ FromFiles order config device_list what old new IsSo =
 -- The images and the device list were read, and the lines were written; or the endings are refused; or a read is
 -- refused, and files were only read. If memory runs out, nothing is written.
 abbrev pub TellsFrom : ByteOrder → (config device_list : List ℕ) → EndingsAsk → (out out' : Sink) → (old new : Told) →
-    Result Bool Fault → Type 0
+    Result Bool ProgramFault → Type 0
 TellsFrom order config device_list what out out' old new (Ok all) =
     (all ≡ true) × FromFiles order config device_list what old new (λ g. TellsEndings g what.flow what.states out out')
-TellsFrom order config device_list what out out' old new (Err Memory) = OnlyReads old new × (out' ≡ out)
-TellsFrom order config device_list what out out' old new (Err (Tool tool.Memory)) = ⊥
-TellsFrom order config device_list what out out' old new (Err (Tool error)) =
-    FromFiles order config device_list what old new (λ g. RefusesEndings g what.flow what.states out out' error)
+TellsFrom order config device_list what out out' old new (Err (Shared Memory)) = OnlyReads old new × (out' ≡ out)
+TellsFrom order config device_list what out out' old new (Err (Shared (Tool (tool.Image error)))) =
+    FromFiles order config device_list what old new (λ g.
+    RefusesEndings g what.flow what.states out out' (refused.Image error))
+TellsFrom order config device_list what out out' old new (Err (Shared (Tool tool.Write))) =
+    FromFiles order config device_list what old new (λ g. RefusesEndings g what.flow what.states out out' refused.Write)
+TellsFrom order config device_list what out out' old new (Err (Shared (Tool error))) = ⊥
+TellsFrom order config device_list what out out' old new (Err (Shared fault)) = IsUnread config device_list old new fault
 TellsFrom order config device_list what out out' old new (Err (NoSuchVariable name)) =
     (name ≡ path_form what.name) × FromFiles order config device_list what old new (λ g.
-    RefusesEndings g what.flow what.states out out' (tool.Rehearsal rehearsal.NoSuchVariable))
-TellsFrom order config device_list what out out' old new (Err fault) = IsUnread config device_list old new fault
+    RefusesEndings g what.flow what.states out out' (refused.Rehearsal rehearsal.NoSuchVariable))
+TellsFrom order config device_list what out out' old new (Err (program.NotARun word)) = ⊥
+TellsFrom order config device_list what out out' old new (Err (program.Rehearsal error)) =
+    FromFiles order config device_list what old new (λ g.
+    RefusesEndings g what.flow what.states out out' (refused.Rehearsal error))

@@ -12,8 +12,8 @@ use Rattle.whole_program.specs.Given.{Given, given_all}
 use Rattle.image_tools.specs.PrintingImages.{environment_in}
 use Rattle.whole_program.specs.Headline.{HasDevices}
 use Rattle.whole_program.specs.Refusing.{HasImage}
-use Rattle.image_tools.specs.declared.error.ToolError.{ToolError}
-use Rattle.image_tools.specs.declared.error.ToolError.TheVariants.{Image, Rehearsal, Write, Memory}
+use Rattle.whole_program.specs.declared.rehearsal_error.RehearsalError.{RehearsalError}
+use Rattle.whole_program.specs.declared.rehearsal_error.RehearsalError.TheVariants.{Image, Rehearsal, Write, Memory}
 
 -- what is given: all runs of the variable that is asked for, within its bounds
 abbrev pub endings_given : ByteOrder → List ℕ → Option (List ℕ) → Text → EndingsAsk → Given
@@ -29,7 +29,7 @@ abbrev pub BreaksOff : Given → (flow : Bool) → (states : ℕ) → (old new :
 BreaksOff g flow states old new =
     HasDevices g (λ found. (text : Text) × AreLines flow states found text × BrokeOff old new text)
 
-abbrev pub RefusesEndings : Given → (flow : Bool) → (states : ℕ) → (old new : Sink) → ToolError → Type 0
+abbrev pub RefusesEndings : Given → (flow : Bool) → (states : ℕ) → (old new : Sink) → RehearsalError → Type 0
 RefusesEndings g flow states old new (Image fault) = (environment_in g.order g.first g.second ≡ Err fault) × (new ≡ old)
 RefusesEndings g flow states old new (Rehearsal (DeviceList fault)) =
     HasImage g × (listed g.device_list ≡ Err fault) × (new ≡ old)

@@ -3,18 +3,19 @@ use Rattle.std.specs.Prelude.{◌≡◌, ◌⊎◌, Bool, true, Result, Err}
 use Rattle.requests.specs.declared.ask.Ask.{Ask}
 use Rattle.requests.specs.declared.ask.Ask.TheVariants.{Setenv}
 use Rattle.locked_files.specs.declared.files.LockFault.{LockFault}
-use Rattle.image_tools.specs.declared.fault.Fault.{Fault}
+use Rattle.whole_program.specs.declared.fault.ProgramFault.{ProgramFault}
+use Rattle.whole_program.specs.declared.fault.ProgramFault.TheVariants.{Shared}
 use Rattle.image_tools.specs.declared.fault.Fault.TheVariants.{Lock}
 use Rattle.file_tools.specs.Running.{FilesShown}
 
 -- The lock is refused, and no file was touched.
-pub record IsLockedOut (answer : Result Bool Fault) (before after : FilesShown) : Type 0 where
+pub record IsLockedOut (answer : Result Bool ProgramFault) (before after : FilesShown) : Type 0 where
   pub fault : LockFault
-  pub told : answer ≡ Err (Lock fault)
+  pub told : answer ≡ Err (Shared (Lock fault))
   pub untouched : after ≡ before
 
 -- a change takes the lock, or it is refused and touches no file; nothing else takes it
-abbrev pub LocksFor : Ask → Result Bool Fault → (before after : FilesShown) → Type 0
+abbrev pub LocksFor : Ask → Result Bool ProgramFault → (before after : FilesShown) → Type 0
 LocksFor (Setenv config change order one_copy) answer before after =
     (after.locked ≡ true) ⊎ IsLockedOut answer before after
 LocksFor ask answer before after = after.locked ≡ before.locked

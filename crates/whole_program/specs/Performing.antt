@@ -21,7 +21,9 @@ use Rattle.whole_program.specs.EndingsOfFiles.{TellsFrom}
 use Rattle.file_tools.specs.PrintingFiles.{LeavesOutputs, PrintsFrom}
 use Rattle.whole_program.specs.RehearsingFiles.{LeavesOutput, RehearsesFrom}
 use Rattle.file_tools.specs.ChangingFiles.{Sets}
-use Rattle.file_tools.specs.Faults.{CountsReads, CountsTold}
+use Rattle.file_tools.specs.Faults.{CountsReads}
+use Rattle.whole_program.specs.Faults.{CountsShared, IsShared}
+use Rattle.whole_program.specs.declared.fault.ProgramFault.{ProgramFault}
 use Rattle.file_tools.specs.Notes.{TellsNotes}
 use Rattle.file_tools.specs.declared.one_copy.ImageSource.{ImageSource}
 
@@ -50,29 +52,31 @@ SetsOf program input source change err err' old new (Err fault) =
     Sets program input source change err err' old new (Err fault) ⊎ IsUnlocked fault err err' old new
 
 -- the count of failures of the device: one more than the answer tells, if one copy of a pair is enough and one is lost
-abbrev pub Counts : Ask → ℕ → ℕ → Result Bool Fault → Type 0
-Counts (Print config what order one_copy) old new result = CountsReads one_copy old new result
-Counts (Setenv config change order one_copy) old new result = CountsReads one_copy old new result
-Counts ask old new result = CountsTold old new result
+abbrev pub Counts : Ask → ℕ → ℕ → Result Bool ProgramFault → Type 0
+Counts (Print config what order one_copy) old new result = IsShared (CountsReads one_copy old new) result
+Counts (Setenv config change order one_copy) old new result = IsShared (CountsReads one_copy old new) result
+Counts ask old new result = CountsShared old new result
 
 -- what the files show afterwards: the failures that are counted, and the lock
-abbrev pub Leaves : Ask → Result Bool Fault → FilesShown → FilesShown → Type 0
+abbrev pub Leaves : Ask → Result Bool ProgramFault → FilesShown → FilesShown → Type 0
 Leaves ask result before after =
     Counts ask before.faults after.faults result × LocksFor ask result before after
 
 -- What a program of this name and build does for it, with an input of these bytes, if they are known, with the files
 -- before and after, and on the outputs.
 abbrev pub Does : (program : List ℕ) → Build → (input : Option (List ℕ)) → Ask → Option Told → Option Told → Outputs →
-    Result Bool Fault → Type 0
-Does program build input (Print config what order one_copy) before after outputs result =
+    Result Bool ProgramFault → Type 0
+Does program build input (Print config what order one_copy) before after outputs result = IsShared (λ answer.
     IfTold before after (λ old new. PrintsFrom program (source_of config order one_copy)
-    (map string_bytes what.names.items) what.form outputs old new result)
-    × LeavesOutputs program one_copy result outputs
-Does program build input (Setenv config change order one_copy) before after outputs result =
+    (map string_bytes what.names.items) what.form outputs old new answer)
+    × LeavesOutputs program one_copy answer outputs)
+    result
+Does program build input (Setenv config change order one_copy) before after outputs result = IsShared (λ answer.
     IfTold before after (λ old new.
-    SetsOf program input (source_of config order one_copy) change outputs.err outputs.err' old new result)
+    SetsOf program input (source_of config order one_copy) change outputs.err outputs.err' old new answer)
     × (outputs.out' ≡ outputs.out)
-    × TellsNotes program one_copy result outputs.err outputs.err'
+    × TellsNotes program one_copy answer outputs.err outputs.err')
+    result
 Does program build input (Rehearse config device_list what order) before after outputs result =
     IfTold before after (λ old new.
     RehearsesFrom order (string_bytes config) (string_bytes device_list) what outputs.out outputs.out' old new result)
@@ -83,5 +87,7 @@ Does program build input (Endings config device_list what order) before after ou
     TellsFrom order (string_bytes config) (string_bytes device_list) what outputs.out outputs.out' old new result)
     × LeavesOutput result outputs.out outputs.out'
     × (outputs.err' ≡ outputs.err)
-Does program build input (Help text) before after outputs result = Shows (string_bytes text) before after outputs result
-Does program build input Version before after outputs result = Shows (version_line (codes "ubtool") build) before after outputs result
+Does program build input (Help text) before after outputs result =
+    IsShared (Shows (string_bytes text) before after outputs) result
+Does program build input Version before after outputs result =
+    IsShared (Shows (version_line (codes "ubtool") build) before after outputs) result

@@ -9,15 +9,15 @@ use Rattle.rehearse.specs.declared.rehearse_error.RehearseError.TheVariants.{Dev
 use Rattle.whole_program.specs.Given.{Given}
 use Rattle.whole_program.specs.Headline.{HasDevices, LeavesRecords, LeavesPrefix}
 use Rattle.image_tools.specs.PrintingImages.{environment_in}
-use Rattle.image_tools.specs.declared.error.ToolError.{ToolError}
-use Rattle.image_tools.specs.declared.error.ToolError.TheVariants.{Image, Rehearsal, Write, Memory}
+use Rattle.whole_program.specs.declared.rehearsal_error.RehearsalError.{RehearsalError}
+use Rattle.whole_program.specs.declared.rehearsal_error.RehearsalError.TheVariants.{Image, Rehearsal, Write, Memory}
 
 -- the image is right
 pub record HasImage (g : Given) : Type 0 where
   pub environment : List Pair
   pub image : environment_in g.order g.first g.second ≡ Ok environment
 
-abbrev pub Refuses : Given → (old new : Sink) → ToolError → Type 0
+abbrev pub Refuses : Given → (old new : Sink) → RehearsalError → Type 0
 Refuses g old new (Image fault) = (environment_in g.order g.first g.second ≡ Err fault) × (new ≡ old)
 Refuses g old new (Rehearsal (DeviceList fault)) = HasImage g × (listed g.device_list ≡ Err fault) × (new ≡ old)
 Refuses g old new (Rehearsal NoSuchVariable) = HasDevices g (λ found. found ≡ None) × (new ≡ old)

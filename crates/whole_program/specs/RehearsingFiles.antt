@@ -7,18 +7,21 @@ use Rattle.rehearse_runs.specs.declared.listing.Finish.{Finish}
 use Rattle.requests.specs.CommandAnswers.{asking_of}
 use Rattle.requests.specs.declared.ask.RehearseAsk.{RehearseAsk}
 use Rattle.rehearse_terms.specs.WantedShown.{wanted_word}
-use Rattle.image_tools.specs.Errors.{tool_fault}
 use Rattle.image_tools.specs.FileFaults.{path_form}
 use Rattle.whole_program.specs.Given.{Given, given}
 use Rattle.whole_program.specs.Headline.{LeavesRecords, Rehearses}
 use Rattle.locked_files.specs.CallOrder.{OnlyReads}
 use Rattle.whole_program.specs.Refusing.{Refuses}
 use Rattle.locked_files.specs.Told.{Told}
-use Rattle.image_tools.specs.declared.error.ToolError.{ToolError}
 use Rattle.rehearse.specs.declared.rehearse_error.RehearseError.TheVariants as rehearsal
 use Rattle.image_tools.specs.declared.error.ToolError.TheVariants as tool
-use Rattle.image_tools.specs.declared.fault.Fault.{Fault}
-use Rattle.image_tools.specs.declared.fault.Fault.TheVariants.{Memory, NoSuchVariable, NotARun, Tool}
+use Rattle.whole_program.specs.Faults.{reported}
+use Rattle.whole_program.specs.declared.fault.ProgramFault.{ProgramFault}
+use Rattle.whole_program.specs.declared.fault.ProgramFault.TheVariants as program
+use Rattle.whole_program.specs.declared.fault.ProgramFault.TheVariants.{NoSuchVariable, NotARun, Shared}
+use Rattle.whole_program.specs.declared.rehearsal_error.RehearsalError.{RehearsalError}
+use Rattle.whole_program.specs.declared.rehearsal_error.RehearsalError.TheVariants as refused
+use Rattle.image_tools.specs.declared.fault.Fault.TheVariants.{Memory, Tool}
 use Rattle.file_tools.specs.Images.{Copy, copies}
 use Rattle.file_tools.specs.PrintingFiles.{first_bytes, second_bytes}
 use Rattle.file_tools.specs.Sources.{AreRead, IsUnread}
@@ -29,23 +32,23 @@ rehearsal_of order found device_list what =
     given order (first_bytes found) (second_bytes found) device_list (asking_of what)
 
 -- how a refusal is reported: a variable that is not set by its name, and a word that spells no run as it was given
-abbrev pub no_run_of : Option (String Global) → Fault
-no_run_of None = Tool (tool.Rehearsal rehearsal.NotARun)
+abbrev pub no_run_of : Option (String Global) → ProgramFault
+no_run_of None = program.Rehearsal rehearsal.NotARun
 no_run_of (Some word) = NotARun (path_form word)
 
-abbrev pub refusal_of : RehearseAsk → ToolError → Fault
-refusal_of what (tool.Rehearsal rehearsal.NoSuchVariable) = NoSuchVariable (path_form what.name)
-refusal_of what (tool.Rehearsal rehearsal.NotARun) = no_run_of (wanted_word what.wanted)
-refusal_of what error = tool_fault error
+abbrev pub refusal_of : RehearseAsk → RehearsalError → ProgramFault
+refusal_of what (refused.Rehearsal rehearsal.NoSuchVariable) = NoSuchVariable (path_form what.name)
+refusal_of what (refused.Rehearsal rehearsal.NotARun) = no_run_of (wanted_word what.wanted)
+refusal_of what error = reported error
 
 -- running out of memory leaves the output as it was, or whole records of the listing
 abbrev pub RunsOut : Given → (old new : Sink) → Type 0
 RunsOut g old new = (new ≡ old) ⊎ LeavesRecords g old new
 
 -- each answer to the rehearsal of copies
-abbrev pub RehearsesCopies : Given → (old new : Sink) → Result Finish ToolError → Type 0
+abbrev pub RehearsesCopies : Given → (old new : Sink) → Result Finish RehearsalError → Type 0
 RehearsesCopies g old new (Ok finish) = Rehearses g old new finish
-RehearsesCopies g old new (Err tool.Memory) = RunsOut g old new
+RehearsesCopies g old new (Err refused.Memory) = RunsOut g old new
 RehearsesCopies g old new (Err error) = Refuses g old new error
 
 -- the images and the device list were read, and the rehearsal of what they give has this property
@@ -58,27 +61,32 @@ FromFiles order config device_list what old new IsSo =
 -- fault names what the words said; or a read is refused, and files were only read. If memory runs out while they are
 -- read, nothing is written; if it runs out later, whole records may be written.
 abbrev pub RehearsesFrom : ByteOrder → (config device_list : List ℕ) → RehearseAsk → (out out' : Sink) →
-    (old new : Told) → Result Bool Fault → Type 0
+    (old new : Told) → Result Bool ProgramFault → Type 0
 RehearsesFrom order config device_list what out out' old new (Ok all) =
     (all ≡ true) × FromFiles order config device_list what old new (λ g. (finish : Finish)
     × Rehearses g out out' finish)
-RehearsesFrom order config device_list what out out' old new (Err Memory) =
+RehearsesFrom order config device_list what out out' old new (Err (Shared Memory)) =
     (OnlyReads old new × (out' ≡ out)) ⊎ FromFiles order config device_list what old new (λ g. RunsOut g out out')
-RehearsesFrom order config device_list what out out' old new (Err (Tool tool.Memory)) = ⊥
-RehearsesFrom order config device_list what out out' old new (Err (Tool error)) =
-    FromFiles order config device_list what old new (λ g. Refuses g out out' error)
+RehearsesFrom order config device_list what out out' old new (Err (Shared (Tool (tool.Image error)))) =
+    FromFiles order config device_list what old new (λ g. Refuses g out out' (refused.Image error))
+RehearsesFrom order config device_list what out out' old new (Err (Shared (Tool tool.Write))) =
+    FromFiles order config device_list what old new (λ g. Refuses g out out' refused.Write)
+RehearsesFrom order config device_list what out out' old new (Err (Shared (Tool error))) = ⊥
+RehearsesFrom order config device_list what out out' old new (Err (Shared fault)) =
+    IsUnread config device_list old new fault
 RehearsesFrom order config device_list what out out' old new (Err (NoSuchVariable name)) =
     (name ≡ path_form what.name)
-    × FromFiles order config device_list what old new (λ g. Refuses g out out' (tool.Rehearsal rehearsal.NoSuchVariable))
+    × FromFiles order config device_list what old new (λ g. Refuses g out out' (refused.Rehearsal rehearsal.NoSuchVariable))
 RehearsesFrom order config device_list what out out' old new (Err (NotARun word)) =
     (Some word ≡ option_map path_form (wanted_word what.wanted))
-    × FromFiles order config device_list what old new (λ g. Refuses g out out' (tool.Rehearsal rehearsal.NotARun))
-RehearsesFrom order config device_list what out out' old new (Err fault) = IsUnread config device_list old new fault
+    × FromFiles order config device_list what old new (λ g. Refuses g out out' (refused.Rehearsal rehearsal.NotARun))
+RehearsesFrom order config device_list what out out' old new (Err (program.Rehearsal error)) =
+    FromFiles order config device_list what old new (λ g. Refuses g out out' (refused.Rehearsal error))
 
 -- over any files: a reported failure of the output is counted, and any refusal but this and memory leaves the output as
 -- it was
-abbrev pub LeavesOutput : Result Bool Fault → (old new : Sink) → Type 0
+abbrev pub LeavesOutput : Result Bool ProgramFault → (old new : Sink) → Type 0
 LeavesOutput (Ok all) old new = new.failures ≡ old.failures
-LeavesOutput (Err (Tool tool.Write)) old new = new.failures ≡ counted old.failures
-LeavesOutput (Err Memory) old new = new.failures ≡ old.failures
+LeavesOutput (Err (Shared (Tool tool.Write))) old new = new.failures ≡ counted old.failures
+LeavesOutput (Err (Shared Memory)) old new = new.failures ≡ old.failures
 LeavesOutput (Err fault) old new = new ≡ old

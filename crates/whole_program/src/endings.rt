@@ -2,26 +2,29 @@
 ghost use Rattle.std.specs.Prelude.{◌≡◌, string_bytes};
 ghost use Rattle.locked_files.specs.Told.{IfTold};
 ghost use Rattle.whole_program.specs.EndingsOfFiles.{TellsCopies, TellsFrom, endings_of, endings_refusal};
-ghost use Rattle.file_tools.specs.Faults.{CountsTold};
+ghost use Rattle.whole_program.specs.Faults.{CountsShared};
 ghost use Rattle.file_tools.specs.Images.{copies};
 ghost use Rattle.whole_program.specs.RehearsingFiles.{LeavesOutput};
 
+use crate::fault::ProgramFault;
 use crate::image_endings::endings_bytes;
+use crate::rehearsal_error::RehearsalError;
 use envimage::ByteOrder;
 use file_tools::{Sources, read_sources};
-use image_tools::{Fault, RehearseError, ToolError, WordForm};
+use image_tools::WordForm;
 use locked_files::Files;
 use output::Out;
+use rehearse::RehearseError;
 use requests::EndingsAsk;
 use std::alloc::Global;
 
 /// How a refusal of the endings is reported.
-fn refusal_of(error: ToolError, what: EndingsAsk) -> Fault
+fn refusal_of(error: RehearsalError, what: EndingsAsk) -> ProgramFault
     ensures { result ≡ endings_refusal what error }
 {
     match error {
-        ToolError::Rehearsal(RehearseError::NoSuchVariable) => {
-            Fault::NoSuchVariable(WordForm(what.name))
+        RehearsalError::Rehearsal(RehearseError::NoSuchVariable) => {
+            ProgramFault::NoSuchVariable(WordForm(what.name))
         }
         error => error.into(),
     }
@@ -34,7 +37,7 @@ fn endings_of_sources<O: Out>(
     order: ByteOrder,
     what: &EndingsAsk,
     out: &mut O,
-) -> Result<(), ToolError>
+) -> Result<(), RehearsalError>
     ensures { TellsCopies (endings_of order (copies sources.now.images)
         sources.now.device_list.items what.now) what.now.flow what.now.states (O.sink out.old)
         (O.sink out.new) result }
@@ -68,8 +71,8 @@ pub fn endings<F: Files, O: Out>(
     what: EndingsAsk,
     order: ByteOrder,
     out: &mut O,
-) -> Result<bool, Fault>
-    ensures count { CountsTold (F.faults files.old) (F.faults files.new) result }
+) -> Result<bool, ProgramFault>
+    ensures count { CountsShared (F.faults files.old) (F.faults files.new) result }
     ensures lock { F.locked files.new ≡ F.locked files.old }
     ensures told { IfTold (F.told files.old) (F.told files.new) (λ old new.
         TellsFrom order (string_bytes config) (string_bytes device_list) what (O.sink out.old)

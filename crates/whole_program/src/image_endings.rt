@@ -3,8 +3,9 @@ ghost use Rattle.std.specs.Prelude.{IfOk, IfErr};
 ghost use Rattle.std.specs.Option.{option_copied};
 ghost use Rattle.whole_program.specs.EndingsOfImages.{RefusesEndings, TellsEndings, endings_given};
 
+use crate::rehearsal_error::RehearsalError;
 use envimage::ByteOrder;
-use image_tools::{ToolError, env_of_image};
+use image_tools::env_of_image;
 use output::Out;
 use rehearse_endings::{EndingsAsk, endings_env};
 use std::alloc::Global;
@@ -25,7 +26,7 @@ pub fn endings_bytes<O: Out>(
     devices_text: &[u8],
     ask: &EndingsAsk<'_>,
     out: &mut O,
-) -> Result<(), ToolError>
+) -> Result<(), RehearsalError>
     ensures ok { IfOk result (λ _. TellsEndings
         (endings_given order first.now (option_copied second.entry) devices_text.now ask.now)
         ask.now.flow ask.now.states (O.sink out.old) (O.sink out.new)) }

@@ -9,8 +9,9 @@ ghost use Rattle.whole_program.specs.Given.{given};
 ghost use Rattle.whole_program.specs.Headline.{Rehearses};
 ghost use Rattle.whole_program.specs.Refusing.{Refuses};
 
+use crate::rehearsal_error::RehearsalError;
 use envimage::ByteOrder;
-use image_tools::{ToolError, env_of_image};
+use image_tools::env_of_image;
 use output::Out;
 use rehearse_runs::{Ask, Finish, rehearse_env};
 use std::alloc::Global;
@@ -31,7 +32,7 @@ pub fn rehearse_bytes<O: Out>(
     devices_text: &[u8],
     ask: &Ask<'_>,
     out: &mut O,
-) -> Result<Finish, ToolError>
+) -> Result<Finish, RehearsalError>
     requires { HasRoom (page_of (wanted_slices ask.now.wanted)) }
     ensures ok { IfOk result (λ finish. Rehearses
         (given order first.now (option_copied second.entry) devices_text.now (asking_of ask.now))

@@ -5,10 +5,10 @@ ghost use Rattle.file_tools.specs.Running.{files_shown};
 ghost use Rattle.whole_program.specs.Locking.{LocksFor};
 
 use crate::endings::endings;
+use crate::fault::ProgramFault;
 use crate::rehearsing::rehearse;
 use crate::tool::PROGRAM;
 use file_tools::{Build, ImageSource, print_files, set_files, show_help, show_version};
-use image_tools::Fault;
 use locked_files::Files;
 use output::Out;
 use requests::Ask;
@@ -28,7 +28,7 @@ pub fn perform<R: Read, F: Files, O: Out, E: Out>(
     files: &mut F,
     out: &mut O,
     err: &mut E,
-) -> Result<bool, Fault>
+) -> Result<bool, ProgramFault>
     requires { IsComplete ask }
     ensures count { Counts ask (F.faults files.old) (F.faults files.new) result }
     ensures lock { LocksFor ask result (files_shown F.Files files.old)
@@ -48,7 +48,7 @@ pub fn perform<R: Read, F: Files, O: Out, E: Out>(
                 order,
                 one_copy,
             };
-            print_files(alloc, files, program, source, &what, out, err)
+            Ok(print_files(alloc, files, program, source, &what, out, err)?)
         }
         Ask::Setenv {
             config,
@@ -62,10 +62,8 @@ pub fn perform<R: Read, F: Files, O: Out, E: Out>(
                 order,
                 one_copy,
             };
-            match set_files(alloc, input, files, program, source, change, err) {
-                Ok(()) => Ok(true),
-                Err(fault) => Err(fault),
-            }
+            set_files(alloc, input, files, program, source, change, err)?;
+            Ok(true)
         }
         Ask::Rehearse {
             config,
@@ -79,7 +77,7 @@ pub fn perform<R: Read, F: Files, O: Out, E: Out>(
             what,
             order,
         } => endings(alloc, files, config, devices_file, what, order, out),
-        Ask::Help(text) => show_help(out, &text),
-        Ask::Version => show_version(out, PROGRAM, build),
+        Ask::Help(text) => Ok(show_help(out, &text)?),
+        Ask::Version => Ok(show_version(out, PROGRAM, build)?),
     }
 }

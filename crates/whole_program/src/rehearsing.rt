@@ -1,30 +1,33 @@
 //! `rehearse`, from files to the listing.
 ghost use Rattle.std.specs.Prelude.{◌≡◌, string_bytes};
 ghost use Rattle.locked_files.specs.Told.{IfTold};
-ghost use Rattle.file_tools.specs.Faults.{CountsTold};
+ghost use Rattle.whole_program.specs.Faults.{CountsShared};
 ghost use Rattle.file_tools.specs.Images.{copies};
 ghost use Rattle.whole_program.specs.RehearsingFiles.{LeavesOutput, RehearsesCopies, RehearsesFrom, refusal_of, rehearsal_of};
 
+use crate::fault::ProgramFault;
 use crate::image_rehearsal::rehearse_bytes;
+use crate::rehearsal_error::RehearsalError;
 use envimage::ByteOrder;
 use file_tools::{Sources, read_sources, slices_of};
-use image_tools::{Fault, RehearseError, ToolError, WordForm};
+use image_tools::WordForm;
 use locked_files::Files;
 use output::Out;
+use rehearse::RehearseError;
 use rehearse_runs::Finish;
 use requests::RehearseAsk;
 use std::alloc::Global;
 
 /// How a refusal of a rehearsal is reported.
-fn refusal_of(error: ToolError, what: RehearseAsk) -> Fault
+fn refusal_of(error: RehearsalError, what: RehearseAsk) -> ProgramFault
     ensures { result ≡ refusal_of what error }
 {
     match (error, what.wanted.into_word()) {
-        (ToolError::Rehearsal(RehearseError::NoSuchVariable), _) => {
-            Fault::NoSuchVariable(WordForm(what.name))
+        (RehearsalError::Rehearsal(RehearseError::NoSuchVariable), _) => {
+            ProgramFault::NoSuchVariable(WordForm(what.name))
         }
-        (ToolError::Rehearsal(RehearseError::NotARun), Some(word)) => {
-            Fault::NotARun(WordForm(word))
+        (RehearsalError::Rehearsal(RehearseError::NotARun), Some(word)) => {
+            ProgramFault::NotARun(WordForm(word))
         }
         (error, _) => error.into(),
     }
@@ -37,12 +40,12 @@ fn rehearse_sources<O: Out>(
     order: ByteOrder,
     what: &RehearseAsk,
     out: &mut O,
-) -> Result<Finish, ToolError>
+) -> Result<Finish, RehearsalError>
     ensures { RehearsesCopies (rehearsal_of order (copies sources.now.images)
         sources.now.device_list.items what.now) (O.sink out.old) (O.sink out.new) result }
 {
     let Ok(names) = slices_of(alloc, &what.names) else {
-        return Err(ToolError::Memory);
+        return Err(RehearsalError::Memory);
     };
     let ask = rehearse_runs::Ask {
         name: what.name.as_bytes(),
@@ -72,8 +75,8 @@ pub fn rehearse<F: Files, O: Out>(
     what: RehearseAsk,
     order: ByteOrder,
     out: &mut O,
-) -> Result<bool, Fault>
-    ensures count { CountsTold (F.faults files.old) (F.faults files.new) result }
+) -> Result<bool, ProgramFault>
+    ensures count { CountsShared (F.faults files.old) (F.faults files.new) result }
     ensures lock { F.locked files.new ≡ F.locked files.old }
     ensures told { IfTold (F.told files.old) (F.told files.new) (λ old new.
         RehearsesFrom order (string_bytes config) (string_bytes device_list) what (O.sink out.old)

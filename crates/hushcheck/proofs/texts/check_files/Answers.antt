@@ -1,12 +1,13 @@
 use Rattle.std.proofs.Common.{◌≡◌, ◌∙◌, ap, sym, subst, Bool, Ok, Err, Result, List, ℕ, Option}
 use Rattle.std.proofs.lemmas.Result.{err_from_is_err_and}
-use Rattle.image_tools.specs.declared.fault.Fault.{Fault}
+use Rattle.hushcheck.specs.declared.fault.CheckFault.{CheckFault}
+use Rattle.hushcheck.specs.declared.fault.CheckFault.TheVariants.{Shared}
 use Rattle.locked_files.proofs.ToldLemmas.{IfTold-then}
 use Rattle.locked_files.specs.Told.{IfTold}
 use Rattle.file_tools.specs.Images.{copies}
 use Rattle.hushcheck.specs.Asked.{Asked, asked_by}
 use Rattle.hushcheck.specs.Checking.{ChecksFrom, ChecksText, given_by}
-use Rattle.hushcheck.proofs.CheckLemmas.{bytes_if, checks-found, checks-refused, checks-unlisted}
+use Rattle.hushcheck.proofs.CheckLemmas.{bytes_if, checks-read, checks-unlisted}
 use Rattle.hushcheck.proofs.texts.check_files.Goals as goal
 
 pub returns-in_err-list-clause-told : goal.returns-in_err-list-clause-told
@@ -18,8 +19,8 @@ returns-in_err-list-clause-told g c =
     let asked : Asked = asked_by c.args.config c.args.list c.args.what.now c.args.order in
     let fault = c.in_err-list.field-0.0 in
     let p = err_from_is_err_and c.from_residual-in_err-list.result c.from_residual-in_err-list.ensures.1 in
-    let answer : c.from_residual-in_err-list.result ≡ Err fault = p.1 ∙ ap Err p.2 in
-    let P : Result Bool Fault → Type 0 = λ r. IfTold a d (λ old new. ChecksFrom asked out out old new r) in
+    let answer : c.from_residual-in_err-list.result ≡ Err (Shared fault) = p.1 ∙ ap Err p.2 in
+    let P : Result Bool CheckFault → Type 0 = λ r. IfTold a d (λ old new. ChecksFrom asked out out old new r) in
     subst P (sym answer)
     (IfTold-then a b d (λ x y z h i. checks-unlisted asked out (copies c.in_ok-images.images) x y z fault h i) c.in_ok-images.ensures.told c.in_err-list.ensures.told)
 
@@ -33,22 +34,6 @@ returns-clause-told g c =
     let asked : Asked = asked_by c.args.config c.args.list c.args.what.now c.args.order in
     let found = copies c.in_ok-images.images in
     let text = c.in_ok-list.list in
-    let Q : Option (List ℕ) → Type 0 = λ t. ChecksText (given_by asked.order found t asked.names asked.all) out out' (Err c.in-Err.error) in
-    let refused : Q (bytes_if text) = subst Q c.as_deref.ensures.value c.in-Err.ensures in
-    let P : Fault → Type 0 = λ f. IfTold a d (λ old new. ChecksFrom asked out out' old new (Err f)) in
-    subst P (sym c.into.ensures)
-    (IfTold-then a b d (λ x y z h i. checks-refused asked out out' found text x y z h i c.in-Err.error refused) c.in_ok-images.ensures.told c.in_ok-list.ensures.told)
-
-pub returns-in-Ok-clause-told : goal.returns-in-Ok-clause-told
-returns-in-Ok-clause-told g c =
-    let a = g.F.Files.told c.args.files.now in
-    let b = g.F.Files.told c.read_images.new.files in
-    let d = g.F.Files.told c.read_list.new.files in
-    let out = g.O.Out.sink c.args.out.now in
-    let out' = g.O.Out.sink c.check_images.new.out in
-    let asked : Asked = asked_by c.args.config c.args.list c.args.what.now c.args.order in
-    let found = copies c.in_ok-images.images in
-    let text = c.in_ok-list.list in
-    let Q : Option (List ℕ) → Type 0 = λ t. ChecksText (given_by asked.order found t asked.names asked.all) out out' (Ok c.in-Ok.sound) in
-    let checked : Q (bytes_if text) = subst Q c.as_deref.ensures.value c.in-Ok.ensures in
-    IfTold-then a b d (λ x y z h i. checks-found asked out out' found text x y z h i c.in-Ok.sound checked) c.in_ok-images.ensures.told c.in_ok-list.ensures.told
+    let Q : Option (List ℕ) → Type 0 = λ t. ChecksText (given_by asked.order found t asked.names asked.all) out out' c.check_images.result in
+    let checked : Q (bytes_if text) = subst Q c.as_deref.ensures.value c.check_images.ensures in
+    IfTold-then a b d (λ x y z h i. checks-read asked out out' found text x y z h i c.check_images.result checked) c.in_ok-images.ensures.told c.in_ok-list.ensures.told

@@ -2,7 +2,8 @@ use Rattle.std.proofs.Common.{◌≡◌, ◌∙◌, ap, sym, subst, Bool, Err, R
 use Rattle.std.proofs.lemmas.Result.{err_from_is_err_and}
 use Rattle.std.specs.Option.{option_copied}
 use Rattle.std.specs.Prelude.{map, string_bytes}
-use Rattle.image_tools.specs.declared.error.ToolError.{ToolError}
+use Rattle.hushcheck.specs.Faults.{of_image}
+use Rattle.hushcheck.specs.declared.fault.CheckFault.{CheckFault}
 use Rattle.image_tools.specs.PrintingImages.{Finds}
 use Rattle.file_tools.specs.Images.{copies}
 use Rattle.file_tools.specs.PrintingFiles.{environment}
@@ -17,8 +18,8 @@ returns-in_err-env g c =
     let devices = list_in (option_copied c.args.list) in
     let names = map string_bytes c.args.what.now.names.items in
     let p = err_from_is_err_and c.from_residual.result c.from_residual.ensures.1 in
-    let is : c.from_residual.result ≡ Err c.in_err-env.field-0.0 = p.1 ∙ ap Err p.2 in
-    let P : Result Bool ToolError → Type 0 = λ r. ChecksText (given answer devices names c.args.what.now.all) out out r in
+    let is : c.from_residual.result ≡ Err (of_image c.in_err-env.field-0.0) = p.1 ∙ ap Err p.2 in
+    let P : Result Bool CheckFault → Type 0 = λ r. ChecksText (given answer devices names c.args.what.now.all) out out r in
     subst P (sym is) (no-texts answer devices names c.args.what.now.all out c.in_err-env.field-0.0
     (subst (λ e. Finds e (Err c.in_err-env.field-0.0)) (sym (found-in c.args.order c.args.images.now c.deref-2.result.now (option_copied c.second_bytes-second.result) c.deref-2.ensures.value c.second_bytes-second.ensures)) c.in_err-env.ensures))
 

@@ -1,6 +1,6 @@
 use Rattle.std.proofs.Common.{sym, subst, string_bytes, Err}
 use Rattle.locked_files.specs.Told.{IfTold}
-use Rattle.image_tools.specs.declared.fault.Fault.{Fault}
+use Rattle.whole_program.specs.declared.fault.ProgramFault.{ProgramFault}
 use Rattle.whole_program.specs.EndingsOfFiles.{TellsFrom}
 use Rattle.whole_program.proofs.EndingsLemmas.{tells-refused}
 use Rattle.file_tools.proofs.SourceLemmas.{IfTold-weaker}
@@ -15,6 +15,6 @@ returns-in-Err-clause-told g c =
     let config = string_bytes c.args.config in
     let list = string_bytes c.args.device_list in
     let sources = c.in_ok-sources.sources in
-    let P : Fault → Type 0 = λ f. IfTold a b (λ old new. TellsFrom c.args.order config list c.args.what out out' old new (Err f)) in
+    let P : ProgramFault → Type 0 = λ f. IfTold a b (λ old new. TellsFrom c.args.order config list c.args.what out out' old new (Err f)) in
     subst P (sym c.refusal_of.ensures)
     (IfTold-weaker a b (λ x z read. tells-refused c.args.order config list c.args.what out out' sources x z read c.in-Err.error c.in-Err.ensures) c.in_ok-sources.ensures.told)

@@ -3,11 +3,11 @@ use Rattle.std.proofs.lemmas.Result.{err_from_is_err_and}
 use Rattle.std.specs.Option.{option_copied}
 use Rattle.rehearse_runs.specs.AskShown.{asking_of}
 use Rattle.rehearse_runs.specs.declared.listing.Finish.{Finish}
-use Rattle.image_tools.specs.Errors.{rehearse_fault}
+use Rattle.whole_program.specs.Faults.{image_error, rehearse_error}
 use Rattle.whole_program.specs.Given.{given}
 use Rattle.image_tools.specs.PrintingImages.{environment_in}
 use Rattle.whole_program.specs.Refusing.{Refuses}
-use Rattle.image_tools.specs.declared.error.ToolError.{ToolError}
+use Rattle.whole_program.specs.declared.rehearsal_error.RehearsalError.{RehearsalError}
 use Rattle.whole_program.proofs.ImageRehearsalLemmas.{rehearses-image, refused-image, unfound}
 use Rattle.whole_program.proofs.image_rehearsal.rehearse_bytes.Goals as goal
 
@@ -16,9 +16,9 @@ returns-in_err-env-clause-err g c =
     let second = option_copied c.args.second in
     let out = g.O.Out.sink c.args.out.now in
     let p = err_from_is_err_and c.from_residual.result c.from_residual.ensures.1 in
-    let answer : c.from_residual.result ≡ Err c.in_err-env.field-0.0 = p.1 ∙ ap Err p.2 in
-    let IsSo : ToolError → Type 0 = Refuses (given c.args.order c.args.first.now second c.args.devices_text.now (asking_of c.args.ask.now)) out out in
-    let P : Result Finish ToolError → Type 0 = λ r. IfErr r IsSo in
+    let answer : c.from_residual.result ≡ Err (image_error c.in_err-env.field-0.0) = p.1 ∙ ap Err p.2 in
+    let IsSo : RehearsalError → Type 0 = Refuses (given c.args.order c.args.first.now second c.args.devices_text.now (asking_of c.args.ask.now)) out out in
+    let P : Result Finish RehearsalError → Type 0 = λ r. IfErr r IsSo in
     subst P (sym answer) (unfound (environment_in c.args.order c.args.first.now second) IsSo (λ fault h. (h, refl)) (λ env h. inl (record { environment = env; image = h }, refl)) c.in_err-env.field-0.0 c.in_err-env.ensures)
 
 pub returns-in_err-rehearse_env-clause-err : goal.returns-in_err-rehearse_env-clause-err
@@ -27,8 +27,8 @@ returns-in_err-rehearse_env-clause-err g c =
     let out = g.O.Out.sink c.args.out.now in
     let out' = g.O.Out.sink c.rehearse_env.new.out in
     let p = err_from_is_err_and c.from_residual-in_err-rehearse_env.result c.from_residual-in_err-rehearse_env.ensures.1 in
-    let answer : c.from_residual-in_err-rehearse_env.result ≡ Err (rehearse_fault c.in_err-rehearse_env.field-0.0) = p.1 ∙ ap Err p.2 in
-    let P : Result Finish ToolError → Type 0 = λ r. IfErr r (λ e. Refuses (given c.args.order c.args.first.now second c.args.devices_text.now (asking_of c.args.ask.now)) out out' e) in
+    let answer : c.from_residual-in_err-rehearse_env.result ≡ Err (rehearse_error c.in_err-rehearse_env.field-0.0) = p.1 ∙ ap Err p.2 in
+    let P : Result Finish RehearsalError → Type 0 = λ r. IfErr r (λ e. Refuses (given c.args.order c.args.first.now second c.args.devices_text.now (asking_of c.args.ask.now)) out out' e) in
     subst P (sym answer) (refused-image c.args.order c.args.first.now second c.args.devices_text.now (asking_of c.args.ask.now) _ out out' c.in_ok-env.ensures c.in_err-rehearse_env.field-0.0 c.in_err-rehearse_env.ensures.err)
 
 pub returns-clause-ok : goal.returns-clause-ok
