@@ -1,5 +1,5 @@
 #!/bin/sh
-# growth_late.sh PROGRAM: runs the part `long` of the built program crates/test_tool/out/test_tool, a script of
+# growth_late.sh PROGRAM: runs the part `long` of the built program crates/tests_growths/out/tests_growths, a script of
 # 1,000 commands and then seven device commands, with growth number 100,000 of memory refused. A rehearsal that ran
 # every run from its start would make so many; this one ends before, with each command begun once.
 set -eu

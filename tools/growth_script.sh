@@ -1,5 +1,5 @@
 #!/bin/sh
-# growth_script.sh PROGRAM: runs the part `script` of the built program crates/test_tool/out/test_tool once for
+# growth_script.sh PROGRAM: runs the part `script` of the built program crates/tests_growths/out/tests_growths once for
 # each growth of memory that it makes, with that one growth refused, until a run meets no refusal. Whichever growth is
 # refused, the variables are those after the first lines of the script, never fewer lines than at the growth before; and
 # refused growths reach the last line.

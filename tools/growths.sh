@@ -1,5 +1,5 @@
 #!/bin/sh
-# growths.sh PROGRAM PART: runs a part of the built program crates/test_tool/out/test_tool, as `store`, once for
+# growths.sh PROGRAM PART: runs a part of the built program crates/tests_growths/out/tests_growths, as `store`, once for
 # each growth of memory that it makes, with that one growth refused, until a run meets no refusal. The program prints a
 # line NAME:STATE for the beginning and after each change, and a line `refused NAME:STATE` after a change that was
 # refused for want of memory, which it then makes again. So, of each run:

@@ -1,8 +1,4 @@
-pub mod ScriptCode
-pub mod Moment
-pub mod Record
-pub mod Slots
-pub mod Table
-pub mod Scripts
-pub mod Present
-pub mod StoredState
+pub use Rattle.bootstore_state.specs.Record
+pub use Rattle.bootstore_state.specs.Moment
+pub use Rattle.bootstore_state.specs.StoredState
+pub use Rattle.bootstore_state.specs.Table

@@ -1,17 +1,7 @@
-//! The state of a run of a boot script. It can be marked, and a run can go back to it.
+//! Stores: the state of a script that runs, and how to go back to a marked state. What callers need is found under this name.
 #![tactic(auto)]
 
-mod frame;
-pub mod laws;
-mod log;
-mod present;
-mod scripts;
-mod store;
-mod table;
-
-pub use frame::{At, Frame, FrameKind};
-pub use log::LogEntry;
-pub use present::{Present, Scope};
-pub use scripts::{Scripts, TextFound, read_script};
-pub use store::{Store, StoreError};
-pub use table::{Place, Table, Variables};
+pub use bootstore_copies::Plain;
+pub use bootstore_state::{At, Frame, FrameKind, LogEntry, Scope, Store, StoreError, Variables};
+pub use bootstore_trail::Trail;
+pub use envtools::Env;

@@ -1,8 +1,8 @@
 -- Worked examples of device lists, computed.
 use Rattle.std.proofs.Common.{◌≡◌, true, false, [], ◌∷◌, ◌++◌, Some, None, Ok, Err, refl}
 use Rattle.std.specs.Prelude.{codes}
-use Rattle.device_list.specs.Verdict.{Text}
-use Rattle.device_list.specs.Commands.{sets_in}
+use Rattle.text.specs.Lines.{Text}
+use Rattle.device_list.specs.Called.{sets_in}
 use Rattle.device_list.specs.DeviceList.{Variable, WordAt, LastWord, Effect, Devices, only, effect_of, listed}
 use Rattle.device_list.specs.PlainList.{plain_names}
 use Rattle.device_list.specs.declared.devices_error.DevicesError.TheVariants.{BadLine, BuiltIn, ByteOrderMark}

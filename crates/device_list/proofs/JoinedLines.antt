@@ -12,7 +12,7 @@ use Rattle.std.specs.Map.{lookup}
 use Rattle.std.specs.Str.{bytes_eq}
 use Rattle.text.specs.Lines.{numbered_lines}
 use Rattle.std.proofs.Math.Bool.{or-false}
-use Rattle.device_list.specs.Verdict.{Text}
+use Rattle.text.specs.Lines.{Text}
 use Rattle.device_list.specs.DeviceList.{Effect, Effects, Devices, DeviceLine, effect_at, changed_at, joint_behind, joined_behind, joined_by, joined, only, device_words, begins_comment, heading_of, line_of, known_named, with_known, is_steady_test, after_known, after_words, after_line, listed_lines}
 use Rattle.device_list.proofs.LineLemmas.{known_is_bad, test_is_built_in}
 use Rattle.device_list.specs.DeviceLaws.{line_said, with_said, lines_said, lines_at, same_word, whole_effect, LinesAreJoined}

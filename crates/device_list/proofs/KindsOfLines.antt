@@ -7,7 +7,7 @@ use Rattle.std.specs.List.{list_any, list_all}
 use Rattle.std.specs.Str.{bytes_eq}
 use Rattle.text.specs.Lines.{numbered_lines}
 use Rattle.text.specs.Words.{is_equals}
-use Rattle.device_list.specs.Verdict.{Text}
+use Rattle.text.specs.Lines.{Text}
 use Rattle.device_list.specs.DeviceList.{Devices, DeviceLine, Heading, named, call_of, steady_of, heading_of, line_of, with_line, with_known, known_named, is_steady_test, after_known, device_words, begins_comment, after_words, after_line, only, is_marked, listed_lines}
 use Rattle.device_list.specs.Kinds.{Kind, Settings, Final, Sub, Known, Steady, every_kind, has, has_words, uses, kinds_said, uses_only, call_among, steady_among, heading_among, said_among, words_among, line_among, lines_among, LinesGoByKinds, ListsGoByKinds, FurtherKindsChangeNothing, KindsAreAll}
 use Rattle.device_list.specs.declared.devices_error.DevicesError.{DevicesError}

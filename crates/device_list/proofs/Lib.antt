@@ -1,7 +1,7 @@
 pub mod DeviceLemmas
-pub mod ComputedLemmas
 mod DeviceListExamples
 mod KindExamples
+mod CalledExamples
 pub mod MarkLemmas
 pub mod LineLemmas
 pub mod KindsOfLines
@@ -11,6 +11,3 @@ pub mod MapLemmas
 pub mod PlaceLemmas
 pub mod QuietNames
 pub mod PlainLists
-pub mod VerdictLemmas
-mod VerdictExamples
-mod ComputedExamples

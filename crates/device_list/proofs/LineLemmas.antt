@@ -8,8 +8,8 @@ use Rattle.std.specs.Option.{is_some, option_map}
 use Rattle.std.specs.List.{list_any, position}
 use Rattle.std.specs.Str.{bytes_eq}
 use Rattle.text.specs.Words.{is_equals}
-use Rattle.device_list.specs.Verdict.{Text}
-use Rattle.device_list.specs.KnownCommands.{known_of}
+use Rattle.text.specs.Lines.{Text}
+use Rattle.commands.specs.KnownCommands.{known_of}
 use Rattle.device_list.specs.DeviceList.{Setting, named, call_of, steady_of, heading_of, settings, setting, left_side, line_with, line_of, known_named, is_steady_test}
 use Rattle.device_list.specs.declared.devices_error.DevicesError.TheVariants.{BadLine, BuiltIn}
 

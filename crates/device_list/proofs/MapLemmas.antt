@@ -6,7 +6,7 @@ use Rattle.std.specs.Str.{bytes_eq}
 use Rattle.std.specs.Map.{lookup, set_value}
 use Rattle.std.proofs.lemmas.List.{map-append}
 use Rattle.indexmap.specs.IndexMap.{IndexMap, insert_entry}
-use Rattle.device_list.specs.Verdict.{Text}
+use Rattle.text.specs.Lines.{Text}
 use Rattle.device_list.specs.DeviceList.{Devices, is_listed, joint, changed_at}
 use Rattle.device_list.specs.DevicesShown.{Bytes, setting_shown}
 use Rattle.device_list.specs.CommandsShown.{listed_shown, found_shown, commands_shown, table_shown, subs_shown}

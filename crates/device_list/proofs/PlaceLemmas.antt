@@ -8,7 +8,7 @@ use Rattle.std.proofs.lemmas.Option.{slice_get-map, slice_get_within, get_or_fro
 use Rattle.std.proofs.lemmas.List.Elements.{All-nil, All-cons, All-head, All-tail, All-get_or}
 use Rattle.std.proofs.lemmas.Slice.Eq.{bytes_eq-Decides}
 use Rattle.indexmap.specs.IndexMap.{insert_entry}
-use Rattle.device_list.specs.Verdict.{Text}
+use Rattle.text.specs.Lines.{Text}
 use Rattle.device_list.specs.DeviceList.{Effect, Effects, Devices, effect_in, sub_effect, effect_of}
 use Rattle.device_list.specs.DevicesShown.{Bytes}
 use Rattle.device_list.specs.NamedPlaces.{at_place, IsPlaced, placed_sub, placed_effect}

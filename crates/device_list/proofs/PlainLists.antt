@@ -7,7 +7,7 @@ use Rattle.std.specs.List.{list_any, slice_split, onto_first}
 use Rattle.std.specs.Str.{bytes_eq}
 use Rattle.text.specs.Lines.{numbered_lines}
 use Rattle.text.specs.Words.{is_blank, is_space, cut_front, onto_line, cut_behind, trimmed}
-use Rattle.device_list.specs.Verdict.{Text}
+use Rattle.text.specs.Lines.{Text}
 use Rattle.builtins.specs.Builtins.{is_built_in}
 use Rattle.device_list.specs.DeviceList.{Effects, Devices, joined_in, only, with_line, after_words, after_line, listed_lines}
 use Rattle.device_list.specs.DeviceLaws.{quiet}

@@ -5,7 +5,7 @@ use Rattle.std.specs.Str.{bytes_eq}
 use Rattle.std.proofs.lemmas.Bool.{and_parts}
 use Rattle.std.proofs.lemmas.Bool.Decides.{nat_tests}
 use Rattle.text.specs.Lines.{numbered_lines}
-use Rattle.device_list.specs.Verdict.{Text}
+use Rattle.text.specs.Lines.{Text}
 use Rattle.builtins.specs.Builtins.{is_built_in}
 use Rattle.device_list.specs.DeviceList.{Effect, Effects, Devices, effect_in, effect_of, joint, joined_in, only, device_words, begins_comment, with_line, after_words, after_line, listed_lines}
 use Rattle.device_list.specs.DeviceLaws.{quiet, is_name_alone, NamesAreQuiet}

@@ -7,7 +7,7 @@ use Rattle.std.specs.List.{list_any, list_all, AllByRecursion}
 use Rattle.std.specs.Map.{lookup}
 use Rattle.std.specs.Str.{bytes_eq}
 use Rattle.text.specs.Lines.{numbered_lines}
-use Rattle.device_list.specs.Verdict.{Text}
+use Rattle.text.specs.Lines.{Text}
 use Rattle.builtins.specs.Builtins.{is_built_in}
 use Rattle.device_list.specs.DeviceList.{Effect, Effects, Devices, Setting, DeviceLine, Heading, effect_in, effect_at, joint, joint_behind, joined_behind, joined_by, joined, changed_at, only, listed, device_words, begins_comment, heading_of, settings, line_with, line_of, known_named, with_known, is_steady_test, after_known, after_words, after_line, listed_lines}
 use Rattle.device_list.specs.Kinds.{Kind, Settings, Final, Sub, Known, Steady, every_kind, same_kind, has, has_words, uses, kinds_said, kinds_of, EachCall, SaysNothing, UnusedKindsSayNothing}

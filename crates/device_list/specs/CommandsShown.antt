@@ -2,7 +2,7 @@
 use Rattle.std.specs.Prelude.{List, map}
 use Rattle.std.specs.Borrow.{Bor}
 use Rattle.indexmap.specs.IndexMap.{IndexMap}
-use Rattle.device_list.specs.Verdict.{Text}
+use Rattle.text.specs.Lines.{Text}
 use Rattle.device_list.specs.DeviceList.{Effect, Effects}
 use Rattle.device_list.specs.DevicesShown.{Bytes, setting_shown, settings_shown}
 use Rattle.device_list.specs.declared.device_tables.Effect.{Effect as LentEffect}

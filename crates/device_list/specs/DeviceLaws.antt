@@ -4,7 +4,7 @@ use Rattle.std.specs.Str.{bytes_eq}
 use Rattle.std.specs.List.{list_any, list_all, flat_map}
 use Rattle.std.specs.Result.{result_ok}
 use Rattle.text.specs.Lines.{numbered_lines}
-use Rattle.device_list.specs.Verdict.{Text}
+use Rattle.text.specs.Lines.{Text}
 use Rattle.device_list.specs.DeviceList.{Effect, Devices, DeviceLine, effect_at, effect_of, device_words, begins_comment, heading_of, line_of, listed}
 
 -- the command that a line names, if it names one, in a list without a faulty line

@@ -7,10 +7,10 @@ use Rattle.text.specs.Bytes as ascii
 use Rattle.text.specs.Lines.{numbered_lines}
 use Rattle.text.specs.Numbers.{digit_of, value_in}
 use Rattle.text.specs.Words.{is_equals, is_space, trimmed}
-use Rattle.device_list.specs.Verdict.{Text}
+use Rattle.text.specs.Lines.{Text}
 use Rattle.builtins.specs.Builtins.{is_built_in}
-use Rattle.device_list.specs.KnownCommands.{known_of}
-use Rattle.device_list.specs.Computed.{Computed, computes}
+use Rattle.commands.specs.KnownCommands.{known_of}
+use Rattle.commands.specs.Computed.{Computed, computes}
 use Rattle.device_list.specs.declared.devices_error.DevicesError.{DevicesError}
 use Rattle.device_list.specs.declared.devices_error.DevicesError.TheVariants.{BadLine, BuiltIn, ByteOrderMark}
 

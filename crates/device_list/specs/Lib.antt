@@ -1,16 +1,9 @@
 pub mod DeviceList
-pub mod Verdict
-pub mod KnownCommands
-pub mod KnownCommandsShown
-pub mod Hexadecimal
-pub mod Computed
-pub mod ComputedShown
-pub mod Commands
+pub mod Called
 pub mod CommandsShown
 pub mod DeviceLaws
 pub mod DevicesShown
 pub mod PlainList
 pub mod Kinds
 pub mod DeviceListAnswers
-pub mod TextsShown
 pub mod NamedPlaces

@@ -3,7 +3,7 @@ use Rattle.std.specs.Prelude.{◌≡◌, ℕ, List, [], ◌∷◌, Option, Some,
 use Rattle.std.specs.List.{All}
 use Rattle.std.specs.Map.{lookup}
 use Rattle.std.specs.Str.{bytes_eq}
-use Rattle.device_list.specs.Verdict.{Text}
+use Rattle.text.specs.Lines.{Text}
 use Rattle.device_list.specs.DeviceList.{Effect, Effects, Devices, effect_in}
 use Rattle.device_list.specs.DevicesShown.{Bytes}
 use Rattle.device_list.specs.declared.device_tables.Places.{Places}

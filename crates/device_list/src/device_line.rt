@@ -5,7 +5,7 @@ ghost use Rattle.text.specs.Words.{is_equals};
 ghost use Rattle.device_list.specs.DeviceList.{device_words, named, call_of, steady_of, heading_of, known_named, is_steady_test, begins_comment};
 ghost use Rattle.device_list.specs.DevicesShown.{heading_shown};
 
-use crate::known_commands::known_of;
+use commands::known_of;
 use std::alloc::{AllocError, Global};
 use text::{is_space, trimmed};
 

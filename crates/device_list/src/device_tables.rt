@@ -4,17 +4,16 @@ ghost use Rattle.device_list.specs.DeviceList.{only, changed_at, joined_in, join
 ghost use Rattle.device_list.specs.CommandsShown.{commands_shown, subs_shown, listed_shown, found_shown};
 ghost use Rattle.std.specs.List.{list_any};
 ghost use Rattle.std.specs.Str.{bytes_eq};
-ghost use Rattle.device_list.specs.TextsShown.{texts};
+ghost use Rattle.commands.specs.TextsShown.{texts};
 ghost use Rattle.device_list.specs.NamedPlaces.{at_place};
 
-use crate::computed::{Computed, computes};
 use crate::device_line::{
     begins_comment, device_words, has_nul, heading_of, is_steady_test, known_named,
 };
 use crate::devices_error::DevicesError;
-use crate::known_commands::known_of;
 use crate::setting::{Setting, settings};
 use builtins::is_built_in;
+use commands::{Computed, computes, known_of};
 use indexmap::IndexMap;
 use std::alloc::{AllocError, Global};
 use std::marker::Model;
@@ -141,7 +140,7 @@ fn is_among(names: &[Vec<u8>], name: &[u8]) -> bool
 impl Model for DeviceTables {
     ghost use Rattle.device_list.specs.DeviceList as spec;
     ghost use Rattle.device_list.specs.CommandsShown.{commands_shown, subs_shown};
-    ghost use Rattle.device_list.specs.TextsShown.{texts};
+    ghost use Rattle.commands.specs.TextsShown.{texts};
 
     ghost Value = { spec.Devices };
 
@@ -155,7 +154,7 @@ impl Model for DeviceTables {
 
 impl DeviceTables {
     ghost use Rattle.device_list.specs.CommandsShown.{lent_effect};
-    ghost use Rattle.device_list.specs.ComputedShown.{call_shown};
+    ghost use Rattle.commands.specs.ComputedShown.{call_shown};
     ghost use Rattle.device_list.specs.DeviceListAnswers.{AddsLine, IsListed};
     ghost use Rattle.device_list.specs.NamedPlaces.{IsPlaced, ArePlaced, in_sub, placed_sub, placed_effect};
 

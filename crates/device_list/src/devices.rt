@@ -5,13 +5,13 @@ ghost use Rattle.std.specs.Str.{bytes_eq};
 ghost use Rattle.device_list.specs.DeviceList.{effect_of, computed_by, is_listed};
 ghost use Rattle.device_list.specs.DeviceListAnswers.{IsListed};
 ghost use Rattle.device_list.specs.CommandsShown.{lent_effect};
-ghost use Rattle.device_list.specs.ComputedShown.{call_shown};
+ghost use Rattle.commands.specs.ComputedShown.{call_shown};
 ghost use Rattle.device_list.specs.NamedPlaces.{IsPlaced};
-ghost use Rattle.device_list.specs.TextsShown.{texts};
+ghost use Rattle.commands.specs.TextsShown.{texts};
 
-use crate::computed::Computed;
 use crate::device_tables::{DeviceTables, Effect, Places};
 use crate::devices_error::DevicesError;
+use commands::Computed;
 use indexmap::IndexMap;
 use std::alloc::Global;
 use std::marker::Model;

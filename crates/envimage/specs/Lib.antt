@@ -6,3 +6,4 @@ pub mod Entries
 pub mod Image
 pub mod Laws
 pub mod Place
+pub use Rattle.output.specs.Sink

@@ -16,4 +16,5 @@ pub use content::{DataError, check_data, entries};
 pub use crc::crc32;
 pub use encoding::encode;
 pub use image::{ByteOrder, COPY_MIN, ImageError, Loaded, SINGLE_MIN, SIZE_MAX, Which, load};
+pub use output::{Out, OutFault, Over};
 pub use walk::Entries;

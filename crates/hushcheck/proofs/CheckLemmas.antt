@@ -1,210 +1,293 @@
--- Checking the texts of what was read.
-use Rattle.std.proofs.Common.{◌≡◌, ◌∙◌, ℕ, refl, ap, sym, subst, List, Option, Some, None, Result, Ok, Err, ◌⊎◌, inl, inr, Bool}
-use Rattle.std.specs.Prelude.{Vec, option_map}
-use Rattle.std.specs.declared.alloc.Global.{Global}
+-- One turn of a check: the names so far, what was reported of them, and how much is left.
+use Rattle.std.proofs.Common.{◌≡◌, ℕ, zero, suc, ◌+◌, ◌-◌, ◌<◌, ◌≤◌, ◌⊎◌, inl, inr, Bool, true, false, ◌&&◌, ◌||◌, List, [], ◌∷◌, ◌++◌, length, take, drop, get_or, Contains, Option, Some, refl, sym, ap, subst, ◌∙◌, append_assoc, arith}
+use Rattle.std.specs.Cmp.Lexicographic.{bytes_decides, nat_list_eq_equiv}
+use Rattle.std.proofs.Math.Bool.{and_assoc}
+use Rattle.std.proofs.lemmas.Bool.{cases_Bool, cases_lt}
+use Rattle.std.proofs.lemmas.List.{append-nil, get_or_append_left, length-append, take-append-drop, take-append-le, take_all}
+use Rattle.std.proofs.lemmas.List.Folds.{list_any-append, list_all-append}
+use Rattle.std.proofs.lemmas.Grind.{flat_map-append}
+use Rattle.std.proofs.Math.Seq.{get_or-append_seam, take-append_seam}
+use Rattle.std.specs.List.{flat_map, list_all, list_any}
 use Rattle.envimage.specs.Data.{Pair}
-use Rattle.envimage.specs.declared.image.ByteOrder.{ByteOrder}
-use Rattle.envimage.specs.declared.image.ImageError.{ImageError}
-use Rattle.envimage.specs.declared.image.ImageError.TheVariants as image
-use Rattle.output.specs.Sink.{Sink}
-use Rattle.hushcheck.specs.Asked.{Asked}
-use Rattle.hushcheck.specs.Checking.{AreFound, ChecksFrom, ChecksText, FromFiles, Given, IsUnread, LeavesOutput, Lists, ReadsList, given, given_by, TellsAll, IsBadList, BreaksOff, WritesFront}
-use Rattle.hushcheck_core.specs.Names.{Text}
+use Rattle.envtools.specs.Environment.{same}
+use Rattle.envtools.specs.Printing.{all_found}
 use Rattle.device_list.specs.DeviceList.{Devices}
-use Rattle.device_list.specs.declared.devices_error.DevicesError.{DevicesError}
-use Rattle.hushcheck.specs.Faults.{CountsShared, of_image}
-use Rattle.hushcheck.specs.declared.fault.CheckFault.{CheckFault}
-use Rattle.hushcheck.specs.declared.fault.CheckFault.TheVariants.{DeviceList, Shared}
-use Rattle.image_tools.specs.PrintingImages.{Finds, environment_in}
-use Rattle.image_tools.specs.declared.error.ToolError.TheVariants as tool
-use Rattle.image_tools.specs.declared.fault.Fault.{Fault}
-use Rattle.image_tools.specs.declared.fault.Fault.TheVariants as fault
-use Rattle.locked_files.proofs.OrderLemmas.{OnlyReads-one, OnlyReads-then}
-use Rattle.locked_files.specs.CallOrder.{OnlyReads}
-use Rattle.locked_files.specs.Told.{Stored, Told, file_at}
-use Rattle.locked_files.specs.declared.files.Action.TheVariants.{ReadAll}
-use Rattle.file_tools.proofs.PrintLemmas.{image-bytes}
-use Rattle.file_tools.proofs.ReadingLemmas.{found-reads}
-use Rattle.file_tools.proofs.SourceLemmas.{are-read}
-use Rattle.file_tools.specs.Images.{Copy, HasRead, ReadsImages, copies}
-use Rattle.file_tools.specs.PrintingFiles.{FromImages, environment, first_bytes, second_bytes}
-use Rattle.file_tools.specs.declared.images.Images.{Images}
-use Rattle.file_tools.specs.declared.read.StoredCopy.{StoredCopy}
-use Rattle.file_tools.specs.ReadingFiles.{IsTextFault}
+use Rattle.hushcheck.specs.Names.{Text, run_by_name, run_by_value}
+use Rattle.hushcheck.specs.Order.{IsReached, is_asked, is_run, once, with_name, with_names}
+use Rattle.hushcheck.specs.Report.{BeginsCheck, Checks, is_fine, is_sound, lines_of}
+use Rattle.hushcheck.proofs.OrderLemmas.{with_names-append}
 
--- the bytes of a text, if there is one
-abbrev pub bytes_if : Option (Vec ℕ Global) → Option Text
-bytes_if text = option_map (λ v. v.items) text
+-- ---- names that are added after others
 
--- ---- reads that were refused
+-- the names come after those that are there
+abbrev Extends : List Text → List Text → Type 0
+Extends names more = (extra : List Text) × (more ≡ names ++ extra)
 
--- checking gives no such refusal
-unread : (asked : Asked) (out : Sink) (old new : Told) (f : Fault) → OnlyReads old new → IsUnread asked.config asked.device_list old f → ChecksFrom asked out out old new (Err (Shared f))
-unread asked out old new (fault.Config error) reads h = (reads, h)
-unread asked out old new (fault.Tool error) reads h = absurd (none asked.device_list h)
+extends_name : (names : List Text) (name : Text) → Extends names (with_name names name)
+extends_name names name =
+    elim (cases_Bool (list_any (same name) names)) [
+      | inl there ↦ ([], rw there (sym (append-nil names)))
+      | inr new ↦ (name ∷ [], rw new refl)
+    ]
+
+pub extends : (names more : List Text) → Extends names (with_names names more)
+extends names [] = ([], sym (append-nil names))
+extends names (n ∷ more) =
+    let one = extends_name names n in
+    let others = extends (with_name names n) more in
+    (one.0 ++ others.0, others.1 ∙ ap (λ ns. ns ++ others.0) one.1 ∙ append_assoc names one.0 others.0)
+
+length-with_name : (names : List Text) (name : Text) → length (with_name names name) ≤ length names + 1
+length-with_name names name =
+    elim (cases_Bool (list_any (same name) names)) [
+      | inl there ↦ rw there (omega arith)
+      | inr new ↦ rw new (let l = length-append names (name ∷ []) in omega (arith, l))
+    ]
+
+pub length-with_names : (names more : List Text) → length (with_names names more) ≤ length names + length more
+length-with_names names [] = omega arith
+length-with_names names (n ∷ more) = let one = length-with_name names n in let rest = length-with_names (with_name names n) more in omega (arith, one, rest)
+
+-- ---- each name once
+
+abbrev pub AreNew : List Text → Type 0
+AreNew names = (k : ℕ) → k < length names → list_any (same (get_or names k [])) (take k names) ≡ false
+
+new-push : (names : List Text) (name : Text) → AreNew names → list_any (same name) names ≡ false → AreNew (names ++ name ∷ [])
+new-push names name all new k within =
+    elim (cases_lt k (length names)) [
+      | inl before ↦ let e = get_or_append_left names (name ∷ []) [] k before in let t = take-append-le k names (name ∷ []) (omega (arith, before)) in rw (e, t) (all k before)
+      | inr last ↦
+          let l = length-append names (name ∷ []) in
+          let is : length names ≡ k = omega (arith, l, within, last) in
+          let P : ℕ → Type 0 = λ j. list_any (same (get_or (names ++ name ∷ []) j [])) (take j (names ++ name ∷ [])) ≡ false in
+          let e = get_or-append_seam names name [] [] in let t = take-append_seam names (name ∷ []) in
+          subst P is (rw (e, t) new)
+    ]
+
+new-with_name : (names : List Text) (name : Text) → AreNew names → AreNew (with_name names name)
+new-with_name names name all =
+    elim (cases_Bool (list_any (same name) names)) [
+      | inl there ↦ rw there all
+      | inr new ↦ rw new (new-push names name all new)
+    ]
+
+new-with_names : (names more : List Text) → AreNew names → AreNew (with_names names more)
+new-with_names names [] all = all
+new-with_names names (n ∷ more) all = new-with_names (with_name names n) more (new-with_name names n all)
+
+pub new-once : (names more : List Text) → names ≡ once more → AreNew names
+new-once names more e = subst AreNew (sym e) (new-with_names [] more (λ k within. absurd (omega (arith, within))))
+
+-- ---- names that have something in common
+
+contains_tail : (x : Text) (xs : List Text) (m : Text) → Contains xs m → Contains (x ∷ xs) m
+contains_tail x xs m c = (suc c.0, (let h = c.1 in omega (arith, h)), c.2)
+
+contains_head : (x : Text) (xs : List Text) → Contains (x ∷ xs) x
+contains_head x xs = (0, omega arith, refl)
+
+contains-push : (names : List Text) (n m : Text) → Contains (names ++ n ∷ []) m → Contains names m ⊎ (n ≡ m)
+contains-push [] n m (zero, h, e) = inr e
+contains-push [] n m (suc k, h, e) = absurd (omega (arith, h))
+contains-push (x ∷ xs) n m (zero, h, e) = inl (0, omega arith, e)
+contains-push (x ∷ xs) n m (suc k, h, e) =
+    elim (contains-push xs n m (k, omega (arith, h), e)) [
+      | inl there ↦ inl (contains_tail x xs m there)
+      | inr last ↦ inr last
+    ]
+
+module _ (Good : Text → Type 0) where
+  abbrev AreGood : List Text → Type 0
+  AreGood names = (m : Text) → Contains names m → Good m
+
+  good-with_name : (names : List Text) (n : Text) → AreGood names → Good n → AreGood (with_name names n)
+  good-with_name names n all good =
+      elim (cases_Bool (list_any (same n) names)) [
+        | inl there ↦ rw there all
+        | inr new ↦ rw new (λ m c. elim (contains-push names n m c) [ inl before ↦ all m before | inr last ↦ subst Good last good ])
+      ]
+
+  pub good-with_names : (names more : List Text) → AreGood names → AreGood more → AreGood (with_names names more)
+  good-with_names names [] all others = all
+  good-with_names names (n ∷ more) all others =
+      good-with_names (with_name names n) more (good-with_name names n all (others n (contains_head n more))) (λ m c. others m (contains_tail n more m c))
+
+-- ---- how many names may still come: names that the texts run and that had no turn
+
+abbrev left_of : Bool → ℕ → ℕ
+left_of true n = 0
+left_of false n = n
+
+abbrev pub left : List Pair → List Text → ℕ
+left [] done = 0
+left (p ∷ env) done = left_of (list_any (same p.0) done) (length (run_by_value (Some p.1))) + left env done
+
+any_push : (p n : Text) (done : List Text) → list_any (same p) (done ++ n ∷ []) ≡ (list_any (same p) done || (same p n || false))
+any_push p n done = list_any-append (same p) done (n ∷ [])
+
+less_of : (a b : Bool) (r : ℕ) → left_of (a || b) r ≤ left_of a r
+less_of true b r = omega arith
+less_of false true r = omega arith
+less_of false false r = omega arith
+
+left-push : (env : List Pair) (done : List Text) (n : Text) → left env (done ++ n ∷ []) ≤ left env done
+left-push [] done n = omega arith
+left-push (p ∷ env) done n =
+    let e = any_push p.0 n done in
+    let one = less_of (list_any (same p.0) done) (same p.0 n || false) (length (run_by_value (Some p.1))) in
+    let rest = left-push env done n in
+    rw e (omega (arith, one, rest))
+
+pub left-turn : (env : List Pair) (done : List Text) (n : Text) → list_any (same n) done ≡ false → left env (done ++ n ∷ []) + length (run_by_name env n) ≤ left env done
+left-turn [] done n new = omega arith
+left-turn (p ∷ env) done n new =
+    elim (cases_Bool (same n p.0)) [
+      | inl is ↦
+          let eq : n ≡ p.0 = (bytes_decides n p.0).0 is in
+          let fresh : list_any (same p.0) done ≡ false = subst (λ x. list_any (same x) done ≡ false) eq new in
+          let there : same p.0 n ≡ true = nat_list_eq_equiv.symm p.0 n ∙ is in
+          let e = any_push p.0 n done in
+          let rest = left-push env done n in
+          rw (is, e, fresh, there) (omega (arith, rest))
+      | inr other ↦
+          let away : same p.0 n ≡ false = nat_list_eq_equiv.symm p.0 n ∙ other in
+          let e = any_push p.0 n done in
+          let one = less_of (list_any (same p.0) done) (false || false) (length (run_by_value (Some p.1))) in
+          let rest = left-turn env done n new in
+          rw (other, e, away) (omega (arith, one, rest))
+    ]
+
+-- ---- one turn
+
+module _ (devices : Option Devices) (env : List Pair) (asked : List Text) (names : List Text) (at : ℕ) where
+  -- the names so far are in order, and so is what was reported of the names before a place
+  pub record Standing (told : Text) (sound : Bool) : Type 0 where
+    pub within : at ≤ length names
+    pub in_turn : names ≡ once (asked ++ flat_map (run_by_name env) (take at names))
+    pub reached : (m : Text) → Contains names m → IsReached env asked m
+    pub told_is : told ≡ flat_map (lines_of devices env) (take at names)
+    pub sound_is : sound ≡ is_sound devices env asked (take at names)
+
+-- before the first turn
+pub standing_first : (devices : Option Devices) (env : List Pair) (asked names : List Text) (told : Text) (sound : Bool) → names ≡ once asked → told ≡ [] → sound ≡ all_found env asked → Standing devices env asked names 0 told sound
+standing_first devices env asked names told sound e t s = record {
+  within = omega arith;
+  in_turn = e ∙ ap once (sym (append-nil asked));
+  reached = subst (λ ns. (m : Text) → Contains ns m → IsReached env asked m) (sym e) (good-with_names (IsReached env asked) [] asked (λ m c. absurd (let h = c.1 in omega (arith, h))) (λ m c. is_asked m c));
+  told_is = t;
+  sound_is = s ∙ sym (and_true (all_found env asked));
+}
   where
-    none : (list : Option Text) → IsUnread asked.config list old (fault.Tool error) → ⊥
-    none None h = h
-    none (Some list) (inl h) = h
-    none (Some list) (inr h) = h.refused
-unread asked out old new (fault.CannotRead path) reads h = (reads, h)
-unread asked out old new (fault.CannotWrite path) reads h = (reads, h)
-unread asked out old new (fault.FileShort path) reads h = (reads, h)
-unread asked out old new (fault.FileTooLong path) reads h = (reads, h)
-unread asked out old new fault.CannotReadInput reads h = (reads, h)
-unread asked out old new fault.InputTooLong reads h = (reads, h)
-unread asked out old new (fault.InputCutOff line) reads h = (reads, h)
-unread asked out old new (fault.Lock error) reads h = (reads, h)
-unread asked out old new fault.Memory reads h = (reads, inl refl)
+    and_true : (b : Bool) → (b && true) ≡ b
+    and_true true = refl
+    and_true false = refl
 
--- the refusal of the images
-pub checks-unread : (asked : Asked) (out : Sink) (old new : Told) (f : Fault) → ReadsImages asked.config old new (Err f) → ChecksFrom asked out out old new (Err (Shared f))
-checks-unread asked out old new f h = unread asked out old new f h.0 (by asked.device_list)
+and_end : (b c : Bool) → (b && (c && true)) ≡ (b && c)
+and_end true true = refl
+and_end true false = refl
+and_end false c = refl
+
+take_suc : (names : List Text) (at : ℕ) → at < length names → take (at + 1) names ≡ take at names ++ get_or names at [] ∷ []
+take_suc [] at h = absurd (omega (arith, h))
+take_suc (n ∷ names) zero h = refl
+take_suc (n ∷ names) (suc at) h = let e : suc at + 1 ≡ suc (at + 1) = omega arith in ap (λ k. take k (n ∷ names)) e ∙ ap (λ ns. n ∷ ns) (take_suc names at (omega (arith, h)))
+
+-- the names before the next place
+pub take_turn : (names more : List Text) (at : ℕ) → at < length names → take (at + 1) (with_names names more) ≡ take at names ++ get_or names at [] ∷ []
+take_turn names more at within =
+    let x = extends names more in
+    ap (take (at + 1)) x.1 ∙ take-append-le (at + 1) names x.0 (omega (arith, within)) ∙ take_suc names at within
+
+one_more : {X : Type 0} (f : Text → List X) (xs : List Text) (x : Text) → flat_map f (xs ++ x ∷ []) ≡ flat_map f xs ++ f x
+one_more f xs x = flat_map-append f xs (x ∷ []) ∙ ap (λ ys. flat_map f xs ++ ys) (append-nil (f x))
+
+-- after one more turn
+pub standing_next : (devices : Option Devices) (env : List Pair) (asked names names' : List Text) (at : ℕ) (told told' : Text) (sound sound' : Bool) → at < length names → Standing devices env asked names at told sound
+    → names' ≡ with_names names (run_by_name env (get_or names at []))
+    → told' ≡ told ++ lines_of devices env (get_or names at [])
+    → sound' ≡ (sound && is_fine devices env (get_or names at []))
+    → Standing devices env asked names' (at + 1) told' sound'
+standing_next devices env asked names names' at told told' sound sound' within s e t w =
+    let n = get_or names at [] in
+    let more = run_by_name env n in
+    let front : take (at + 1) names' ≡ take at names ++ n ∷ [] = ap (take (at + 1)) e ∙ take_turn names more at within in
+    let x = extends names more in
+    let long : length names' ≡ length names + length x.0 = ap (λ ns. length ns) (e ∙ x.1) ∙ length-append names x.0 in
+    let before = flat_map (run_by_name env) (take at names) in
+    record {
+      within = omega (arith, long, within);
+      in_turn =
+          e ∙ ap (λ ns. with_names ns more) s.in_turn ∙ sym (with_names-append [] (asked ++ before) more)
+          ∙ ap once (append_assoc asked before more ∙ ap (λ ns. asked ++ ns) (sym (ap (flat_map (run_by_name env)) front ∙ one_more (run_by_name env) (take at names) n)));
+      reached = subst (λ ns. (m : Text) → Contains ns m → IsReached env asked m) (sym e)
+          (good-with_names (IsReached env asked) names more s.reached (λ m c. is_run n m (s.reached n (at, within, refl_at names at within)) c));
+      told_is = t ∙ ap (λ ts. ts ++ lines_of devices env n) s.told_is ∙ sym (ap (flat_map (lines_of devices env)) front ∙ one_more (lines_of devices env) (take at names) n);
+      sound_is =
+          w ∙ ap (λ b. b && is_fine devices env n) s.sound_is ∙ and_assoc (all_found env asked) (list_all (is_fine devices env) (take at names)) (is_fine devices env n)
+          ∙ ap (λ b. all_found env asked && b) (sym (ap (list_all (is_fine devices env)) front ∙ list_all-append (is_fine devices env) (take at names) (n ∷ []) ∙ and_end (list_all (is_fine devices env) (take at names)) (is_fine devices env n)));
+    }
   where
-    by : (list : Option Text) → IsUnread asked.config list old f
-    by None = h.1
-    by (Some list) = inl h.1
+    refl_at : (xs : List Text) (k : ℕ) → k < length xs → get_or xs k (get_or xs k []) ≡ get_or xs k []
+    refl_at [] k h = absurd (omega (arith, h))
+    refl_at (y ∷ ys) zero h = refl
+    refl_at (y ∷ ys) (suc k) h = refl_at ys k (omega (arith, h))
 
--- the refusal of the device list
-pub checks-unlisted : (asked : Asked) (out : Sink) (found : List Copy) (x y z : Told) (f : Fault) → HasRead asked.config x y found → ReadsList asked.device_list y z (Err f) → ChecksFrom asked out out x z (Err (Shared f))
-checks-unlisted asked out found x y z f read h =
-    let both = by asked.device_list h in
-    unread asked out x z f both.0 both.1
+-- fewer names are left
+pub left_less : (devices : Option Devices) (env : List Pair) (asked names names' : List Text) (at : ℕ) (told : Text) (sound : Bool) → at < length names → Standing devices env asked names at told sound
+    → names' ≡ with_names names (run_by_name env (get_or names at []))
+    → left env (take (at + 1) names') + (length names' - (at + 1)) < left env (take at names) + (length names - at)
+left_less devices env asked names names' at told sound within s e =
+    let n = get_or names at [] in
+    let more = run_by_name env n in
+    let front : take (at + 1) names' ≡ take at names ++ n ∷ [] = ap (take (at + 1)) e ∙ take_turn names more at within in
+    let new = new-once names (asked ++ flat_map (run_by_name env) (take at names)) s.in_turn at within in
+    let fewer : left env (take (at + 1) names') + length more ≤ left env (take at names) = rw front (left-turn env (take at names) n new) in
+    let long : length names' ≤ length names + length more = rw e (length-with_names names more) in
+    omega (arith, fewer, long, within)
+
+-- after the last turn
+pub standing_last : (devices : Option Devices) (env : List Pair) (asked names : List Text) (at : ℕ) (told : Text) (sound : Bool) → length names ≤ at → Standing devices env asked names at told sound → Checks devices env asked told sound
+standing_last devices env asked names at told sound past s =
+    let all : take at names ≡ names = take_all at names past in
+    record {
+      order = names;
+      is_order = record {
+        in_turn = s.in_turn ∙ ap (λ ns. once (asked ++ flat_map (run_by_name env) ns)) all;
+        reached = s.reached;
+      };
+      told_is = s.told_is ∙ ap (flat_map (lines_of devices env)) all;
+      sound_is = s.sound_is ∙ ap (is_sound devices env asked) all;
+    }
+
+-- before the first turn nothing is told
+pub begins_first : (devices : Option Devices) (env : List Pair) (asked : List Text) → BeginsCheck devices env asked []
+begins_first devices env asked = record {
+  turns = [];
+  behind = once (asked ++ []);
+  in_turn = refl;
+  reached = λ name c. absurd (let h = c.1 in omega (arith, h));
+  told_is = refl;
+}
+
+-- in a turn
+pub begins_next : (devices : Option Devices) (env : List Pair) (asked names : List Text) (at : ℕ) (told : Text) (sound : Bool) → at < length names → Standing devices env asked names at told sound
+    → BeginsCheck devices env asked (told ++ lines_of devices env (get_or names at []))
+begins_next devices env asked names at told sound within s =
+    let n = get_or names at [] in
+    let more = run_by_name env n in
+    let next = standing_next devices env asked names (with_names names more) at told (told ++ lines_of devices env n) sound (sound && is_fine devices env n) within s refl refl refl in
+    let all = with_names names more in
+    record {
+      turns = take (at + 1) all;
+      behind = drop (at + 1) all;
+      in_turn = sym next.in_turn ∙ sym (take-append-drop (at + 1) all);
+      reached = λ name c. next.reached name (front_there (at + 1) all name c);
+      told_is = next.told_is;
+    }
   where
-    by : (list : Option Text) → ReadsList list y z (Err f) → OnlyReads x z × IsUnread asked.config list x f
-    by None h = absurd h
-    by (Some list) h =
-        let refused : IsTextFault list (file_at list x.stored) f = subst (λ (s : Stored). IsTextFault list (file_at list s) f) read.stored h.1 in
-        (OnlyReads-then x y z (found-reads asked.config x y found read) h.0, inr (record { found = found; after_images = y; read = read; refused = refused }))
-
--- ---- the texts of what was read
-
-are-found : (config : Text) (list : Option Text) (found : List Copy) (x y z : Told) (text : Option (Vec ℕ Global)) (IsSo : List Copy → Option Text → Type 0) → HasRead config x y found
-    → ReadsList list y z (Ok text) → IsSo found (bytes_if text) → AreFound config list x z IsSo
-are-found config None found x y z None IsSo read listed so = subst (λ (t : Told). FromImages config x t (λ copies. IsSo copies None)) (sym listed) (record { found = found; read = read; so = so })
-are-found config None found x y z (Some text) IsSo read listed so = absurd listed
-are-found config (Some list) found x y z None IsSo read listed so = absurd listed
-are-found config (Some list) found x y z (Some text) IsSo read listed so = are-read config list found text x y z (λ copies bytes. IsSo copies (Some bytes)) read listed so
-
-only-read : (config : Text) (list : Option Text) (found : List Copy) (x y z : Told) (text : Option (Vec ℕ Global)) → HasRead config x y found → ReadsList list y z (Ok text) → OnlyReads x z
-only-read config None found x y z None read listed = subst (λ (t : Told). OnlyReads x t) (sym listed) (found-reads config x y found read)
-only-read config None found x y z (Some text) read listed = absurd listed
-only-read config (Some list) found x y z None read listed = absurd listed
-only-read config (Some list) found x y z (Some text) read listed = OnlyReads-then x y z (found-reads config x y found read) (OnlyReads-one list ReadAll y z refl listed.calls listed.stored)
-
-module _ (asked : Asked) (out out' : Sink) (found : List Copy) (text : Option (Vec ℕ Global)) (x y z : Told) (read : HasRead asked.config x y found) (listed : ReadsList asked.device_list y z (Ok text)) where
-  abbrev pub here : Given
-  here = given_by asked.order found (bytes_if text) asked.names asked.all
-
-  from-files : (IsSo : Given → Type 0) → IsSo here → FromFiles asked x z IsSo
-  from-files IsSo so = are-found asked.config asked.device_list found x y z text (λ copies list. IsSo (given_by asked.order copies list asked.names asked.all)) read listed so
-
-  -- what is not refused so by the texts: the images and the list were read
-  pub checks-read : (answer : Result Bool CheckFault) → ChecksText here out out' answer → ChecksFrom asked out out' x z answer
-  checks-read (Ok sound) h = from-files (λ g. TellsAll g out out' sound) h
-  checks-read (Err (DeviceList error)) h = from-files (λ g. IsBadList g error) h.0
-  checks-read (Err (Shared (fault.Tool (tool.Image error)))) h = from-files (λ g. g.env ≡ Err error) h.0
-  checks-read (Err (Shared (fault.Tool tool.Write))) h = from-files (λ g. BreaksOff g out out') h
-  checks-read (Err (Shared fault.Memory)) h = (only-read asked.config asked.device_list found x y z text read listed, by h)
-    where
-      by : ChecksText here out out' (Err (Shared fault.Memory)) → (out' ≡ out) ⊎ FromFiles asked x z (λ g. WritesFront g out out')
-      by (inl same) = inl same
-      by (inr front) = inr (from-files (λ g. WritesFront g out out') front)
-  checks-read (Err (Shared (fault.Tool (tool.Env error)))) h = absurd h
-  checks-read (Err (Shared (fault.Tool (tool.Script error)))) h = absurd h
-  checks-read (Err (Shared (fault.Tool tool.Memory))) h = absurd h
-  checks-read (Err (Shared (fault.Config error))) h = absurd h
-  checks-read (Err (Shared (fault.Lock error))) h = absurd h
-  checks-read (Err (Shared (fault.CannotRead path))) h = absurd h
-  checks-read (Err (Shared (fault.CannotWrite path))) h = absurd h
-  checks-read (Err (Shared (fault.FileShort path))) h = absurd h
-  checks-read (Err (Shared (fault.FileTooLong path))) h = absurd h
-  checks-read (Err (Shared fault.CannotReadInput)) h = absurd h
-  checks-read (Err (Shared fault.InputTooLong)) h = absurd h
-  checks-read (Err (Shared (fault.InputCutOff line))) h = absurd h
-
--- ---- the answer, over any files
-
-pub leaves-output : (g : Given) (out out' : Sink) (answer : Result Bool CheckFault) → ChecksText g out out' answer → LeavesOutput answer out out'
-leaves-output g out out' (Ok sound) h = tt
-leaves-output g out out' (Err (DeviceList error)) h = h.1
-leaves-output g out out' (Err (Shared (fault.Tool (tool.Image error)))) h = h.1
-leaves-output g out out' (Err (Shared (fault.Tool tool.Write))) h = tt
-leaves-output g out out' (Err (Shared fault.Memory)) h = tt
-leaves-output g out out' (Err (Shared (fault.Tool (tool.Env error)))) h = absurd h
-leaves-output g out out' (Err (Shared (fault.Tool (tool.Script error)))) h = absurd h
-leaves-output g out out' (Err (Shared (fault.Tool tool.Memory))) h = absurd h
-leaves-output g out out' (Err (Shared (fault.Config error))) h = absurd h
-leaves-output g out out' (Err (Shared (fault.Lock error))) h = absurd h
-leaves-output g out out' (Err (Shared (fault.CannotRead path))) h = absurd h
-leaves-output g out out' (Err (Shared (fault.CannotWrite path))) h = absurd h
-leaves-output g out out' (Err (Shared (fault.FileShort path))) h = absurd h
-leaves-output g out out' (Err (Shared (fault.FileTooLong path))) h = absurd h
-leaves-output g out out' (Err (Shared fault.CannotReadInput)) h = absurd h
-leaves-output g out out' (Err (Shared fault.InputTooLong)) h = absurd h
-leaves-output g out out' (Err (Shared (fault.InputCutOff line))) h = absurd h
-
--- checking itself reads no file
-pub counts-none : (g : Given) (out out' : Sink) (count : ℕ) (answer : Result Bool CheckFault) → ChecksText g out out' answer → CountsShared count count answer
-counts-none g out out' count (Ok sound) h = refl
-counts-none g out out' count (Err (DeviceList error)) h = refl
-counts-none g out out' count (Err (Shared (fault.CannotRead path))) h = absurd h
-counts-none g out out' count (Err (Shared (fault.CannotWrite path))) h = absurd h
-counts-none g out out' count (Err (Shared (fault.Tool error))) h = refl
-counts-none g out out' count (Err (Shared fault.Memory)) h = refl
-counts-none g out out' count (Err (Shared (fault.Config error))) h = refl
-counts-none g out out' count (Err (Shared (fault.Lock error))) h = refl
-counts-none g out out' count (Err (Shared (fault.FileShort path))) h = refl
-counts-none g out out' count (Err (Shared (fault.FileTooLong path))) h = refl
-counts-none g out out' count (Err (Shared fault.CannotReadInput)) h = refl
-counts-none g out out' count (Err (Shared fault.InputTooLong)) h = refl
-counts-none g out out' count (Err (Shared (fault.InputCutOff line))) h = refl
-
--- ---- one environment
-
--- what is said of the environment that was found, by the names as they are given
-pub texts-in : (answer : Result (List Pair) ImageError) (env : List Pair) (devices : Result (Option Devices) DevicesError) (names names' : List Text) (all : Bool) (old new : Sink) (told : Result Bool CheckFault) → answer ≡ Ok env
-    → names ≡ names' → ChecksText (given (Ok env) devices names all) old new told → ChecksText (given answer devices names' all) old new told
-texts-in answer env devices names names' all old new told found same h =
-    subst (λ (e : Result (List Pair) ImageError). ChecksText (given e devices names' all) old new told) (sym found)
-    (subst (λ (ns : List Text). ChecksText (given (Ok env) devices ns all) old new told) same h)
-
--- the refusal of the image
-pub no-texts : (answer : Result (List Pair) ImageError) (devices : Result (Option Devices) DevicesError) (names : List Text) (all : Bool) (old : Sink) (error : ImageError) → Finds answer (Err error)
-    → ChecksText (given answer devices names all) old old (Err (of_image error))
-no-texts answer devices names all old image.WrongSize h = (h, refl)
-no-texts answer devices names all old image.BadCrc h = (h, refl)
-no-texts answer devices names all old (image.Content error) h = (h, refl)
-no-texts answer devices names all old image.TooLarge h = (h, refl)
-no-texts answer devices names all old image.Memory h = inl refl
-
--- the refusal of the device list
-pub no-list : (answer : Result (Option Devices) DevicesError) (env : List Pair) (names : List Text) (all : Bool) (old : Sink) (error : CheckFault) → Lists answer (Err error)
-    → ChecksText (given (Ok env) answer names all) old old (Err error)
-no-list answer env names all old (DeviceList error) h = (record { env = env; there = refl; refused = h }, refl)
-no-list answer env names all old (Shared fault.Memory) h = inl refl
-no-list answer env names all old (Shared (fault.Tool error)) h = absurd h
-no-list answer env names all old (Shared (fault.Config error)) h = absurd h
-no-list answer env names all old (Shared (fault.Lock error)) h = absurd h
-no-list answer env names all old (Shared (fault.CannotRead path)) h = absurd h
-no-list answer env names all old (Shared (fault.CannotWrite path)) h = absurd h
-no-list answer env names all old (Shared (fault.FileShort path)) h = absurd h
-no-list answer env names all old (Shared (fault.FileTooLong path)) h = absurd h
-no-list answer env names all old (Shared fault.CannotReadInput) h = absurd h
-no-list answer env names all old (Shared fault.InputTooLong) h = absurd h
-no-list answer env names all old (Shared (fault.InputCutOff line)) h = absurd h
-
--- the same check with a device list that is another way to write this one
-pub listed-as : (answer answer' : Result (Option Devices) DevicesError) (env : List Pair) (names : List Text) (all : Bool) (old new : Sink) (told : Result Bool CheckFault) → answer ≡ answer'
-    → ChecksText (given (Ok env) answer names all) old new told → ChecksText (given (Ok env) answer' names all) old new told
-listed-as answer answer' env names all old new told e h = subst (λ (d : Result (Option Devices) DevicesError). ChecksText (given (Ok env) d names all) old new told) e h
-
--- the environment of the images, by the bytes of their copies
-pub found-in : (order : ByteOrder) (images : Images) (first : List ℕ) (second : Option (List ℕ)) → first ≡ images.first.bytes.items → second ≡ option_map (λ copy. copy.bytes.items) images.second
-    → environment order (copies images) ≡ environment_in order first second
-found-in order images first second f s =
-    ap (λ x. environment_in order x (second_bytes (copies images))) (by images.first images.second ∙ sym f) ∙ ap (λ y. environment_in order first y) (image-bytes images ∙ sym s)
-  where
-    by : (x : StoredCopy) (y : Option StoredCopy) → first_bytes (copies (record { first = x; second = y })) ≡ x.bytes.items
-    by x None = refl
-    by x (Some y) = refl
+    front_there : (k : ℕ) (xs : List Text) (m : Text) → Contains (take k xs) m → Contains xs m
+    front_there zero xs m c = absurd (let h = c.1 in omega (arith, h))
+    front_there (suc k) [] m c = c
+    front_there (suc k) (x ∷ xs) m (zero, h, e) = (0, omega arith, e)
+    front_there (suc k) (x ∷ xs) m (suc i, h, e) = let there = front_there k xs m (i, omega (arith, h), e) in contains_tail x xs m there

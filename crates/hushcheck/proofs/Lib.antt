@@ -1,3 +1,12 @@
-pub mod AnswerLemmas
+pub mod PlaceLemmas
+pub mod OrderLemmas
+pub mod ShownLemmas
+pub mod WalkLemmas
 pub mod CheckLemmas
-pub mod StatusLemmas
+pub mod LinesLemmas
+pub mod CallsLemmas
+pub mod AskedLemmas
+pub mod TellingLemmas
+pub mod CheckExamples
+pub mod CallsExamples
+mod ShownExamples

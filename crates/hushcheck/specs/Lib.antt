@@ -1,7 +1,9 @@
-pub mod CommandLine
-pub mod Asked
-pub mod CommandAnswers
-pub mod Faults
-pub mod Checking
-pub mod Doing
-pub mod Statuses
+pub mod Place
+pub mod Shown
+pub mod Names
+pub mod Order
+pub mod Places
+pub mod Calls
+pub mod Remarks
+pub mod Report
+pub mod Telling

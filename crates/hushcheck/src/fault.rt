@@ -1,39 +1,44 @@
-//! The faults that the program reports, each in one line.
+//! Why a text is refused, in words.
+ghost use Rattle.std.specs.Prelude.{◌≡◌};
+ghost use Rattle.hushcheck.specs.Report as spec;
 
-use device_list::DevicesError;
-use envimage::ImageError;
-use image_tools::{Fault, ToolError};
-use thiserror::Error;
+use hushlang::SyntaxError;
 
-/// Why the program gave up. The text is what it reports.
-#[derive(Debug, Drop, Error)]
-pub enum CheckFault {
-    /// A fault of the images, of files, of the output or of memory, which other programs report too.
-    #[error("{0}")]
-    Shared(Fault),
-    /// The device list, for a reason other than memory.
-    #[error("{0}")]
-    DeviceList(DevicesError),
-}
-
-impl From<Fault> for CheckFault {
-    ghost use Rattle.std.specs.Prelude.{◌≡◌};
-    ghost use Rattle.hushcheck.specs.declared.fault.CheckFault.TheVariants.{Shared};
-
-    ghost from_gives = { λ fault told. told ≡ Shared fault };
-
-    fn from(fault: Fault) -> CheckFault {
-        CheckFault::Shared(fault)
+/// The byte at which a text is refused.
+pub(crate) fn byte_of(error: SyntaxError) -> usize
+    ensures { result ≡ spec.byte_of error }
+{
+    match error {
+        SyntaxError::OpenQuote(at)
+        | SyntaxError::LoneBackslash(at)
+        | SyntaxError::OpenBrace(at)
+        | SyntaxError::BadVariable(at)
+        | SyntaxError::SingleAmp(at)
+        | SyntaxError::SinglePipe(at)
+        | SyntaxError::Unexpected(at)
+        | SyntaxError::MissingWord(at)
+        | SyntaxError::AssignmentBeforeCommand(at)
+        | SyntaxError::TooDeep(at) => at,
+        SyntaxError::Memory => 0,
     }
 }
 
-impl From<ImageError> for CheckFault {
-    ghost use Rattle.std.specs.Prelude.{◌≡◌};
-    ghost use Rattle.hushcheck.specs.Faults.{of_image};
-
-    ghost from_gives = { λ error told. told ≡ of_image error };
-
-    fn from(error: ImageError) -> CheckFault {
-        CheckFault::Shared(Fault::from(ToolError::from(error)))
+/// What is wrong there, in a text of this many bytes.
+pub(crate) fn what_of(size: usize, error: SyntaxError) -> &'static [u8]
+    ensures { result.now ≡ spec.what_of size error }
+{
+    match error {
+        SyntaxError::OpenQuote(_) => b"the quote is not closed",
+        SyntaxError::LoneBackslash(_) => b"the backslash is the last byte",
+        SyntaxError::OpenBrace(_) => b"the brace is not closed",
+        SyntaxError::BadVariable(_) => b"the braces hold no name",
+        SyntaxError::SingleAmp(_) => b"a single &",
+        SyntaxError::SinglePipe(_) => b"a single |",
+        SyntaxError::Unexpected(at) if at == size => b"unexpected end of the text",
+        SyntaxError::Unexpected(_) => b"unexpected token",
+        SyntaxError::MissingWord(_) => b"a word is missing",
+        SyntaxError::AssignmentBeforeCommand(_) => b"an assignment stands before the command",
+        SyntaxError::TooDeep(_) => b"nested too deep",
+        SyntaxError::Memory => b"out of memory",
     }
 }

@@ -4,7 +4,7 @@ use Rattle.std.specs.declared.alloc.Global.{Global}
 use Rattle.std.specs.declared.vec.Vec.{Vec}
 use Rattle.hushlang.specs.Tree.{Word}
 use Rattle.hushlang.specs.Expansion.{Atom, Kept, Separator, Mark, Parameters, value_of, split_atom, kept_bytes, atoms, size, most_bytes}
-use Rattle.hushlang.specs.declared.expand.Gathering.{Gathering}
+use Rattle.hushlang.specs.declared.expanding.Gathering.{Gathering}
 
 -- the fields that are whole, the one on the way, and whether it has begun
 pub record FieldsSoFar : Type 0 where

@@ -5,7 +5,7 @@ ghost use Rattle.hushlang.specs.KnownFields as spec;
 ghost use Rattle.hushlang.specs.TreesShown as view;
 ghost use Rattle.hushlang.specs.declared.token.SyntaxError.TheVariants.{Memory};
 
-use crate::expand::{ExpandError, Vars, expand};
+use crate::expanding::{ExpandError, Vars, expand};
 use crate::token::SyntaxError;
 use crate::tree::{Piece, Word};
 use std::alloc::Global;

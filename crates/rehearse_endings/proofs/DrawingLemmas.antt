@@ -1,14 +1,14 @@
 -- What the nodes of a flow draw: ends, device commands that ask, and other moments of the same core.
 use Rattle.std.proofs.Common.{ℕ, zero, suc, Bool, false, not, cond, map, List, [], ◌∷◌, ◌++◌, length, Option, Some, None, refl, sym, ap, ◌∙◌, ◌≡◌, append_assoc, append-nil, inl, inr, arith}
 use Rattle.std.specs.List.{slice_get}
-use Rattle.bootstore.specs.Moment.{Moment}
+use Rattle.bootstore_state.specs.Moment.{Moment}
 use Rattle.rehearse_terms.specs.Outcomes.{OutcomeWord, Outcome, Success, Failure, WordKind, Short}
 use Rattle.std.proofs.lemmas.List.{map-append}
 use Rattle.std.proofs.lemmas.List.Elements.{filter-append}
 use Rattle.rehearse_terms.specs.State.{Text, State, LoggedCommand, asked_of}
-use Rattle.bootstore.specs.StoredState.{state_at}
-use Rattle.device_list.specs.Commands.{sets_in}
-use Rattle.rehearse.specs.Execution.{Limits, Answer, Ending, CutDevices, CutSteps, End, Unknown, Syntax, Size, Booted, Request, take_outcome, set_environment, logged, succeeds}
+use Rattle.bootstore_state.specs.StoredState.{state_at}
+use Rattle.device_list.specs.Called.{sets_in}
+use Rattle.rehearse_rules.specs.Execution.{Limits, Answer, Ending, CutDevices, CutSteps, End, Unknown, Syntax, Size, Booted, Request, take_outcome, set_environment, logged, succeeds}
 use Rattle.rehearse_machine.specs.Came.{Came, Over, Wants}
 use Rattle.rehearse_machine.specs.Places.{frames_of}
 use Rattle.rehearse_machine.specs.Meaning.{continue}
@@ -17,10 +17,10 @@ use Rattle.rehearse_machine.specs.declared.rehearsal.Stop.{Stop}
 use Rattle.rehearse_endings.specs.Elsewhere.{HaveFurther, IsAlike, same}
 use Rattle.rehearse_endings.specs.Futures as futures
 use Rattle.rehearse_endings.specs.Futures.{came_kind, came_to_end, came_log, IsSameCame, CameCut, CameAlike}
-use Rattle.rehearse_rows.specs.Flow.{Node, Asks, Ends, Answered, asked_in, Seen, behind, stands_at, goes_on, walk}
+use Rattle.rehearse_states.specs.Flow.{Node, Asks, Ends, Answered, asked_in, Seen, behind, stands_at, goes_on, walk}
 use Rattle.rehearse_endings.specs.DrawnRuns.{further, seen_behind, Draws, seen_at}
-use Rattle.rehearse_rows.specs.Drawing.{HasMore}
-use Rattle.rehearse_cores.specs.Words.{words_in}
+use Rattle.rehearse_states.specs.Drawing.{HasMore}
+use Rattle.rehearse_states.specs.Words.{words_in}
 use Rattle.rehearse_endings.specs.Searching.{future, seen_from}
 use Rattle.rehearse_endings.proofs.ElsewhereLemmas.{Alike-boot}
 use Rattle.rehearse_endings.proofs.FrameLemmas.{continue_alike}

@@ -7,14 +7,15 @@ use Rattle.rehearse_terms.specs.Outcomes.{OutcomeWord, Outcome, Success, Failure
 use Rattle.hushlang.specs.Tree as tree
 use Rattle.hushlang.specs.Tree.{Script, AndOr, Joined, Command, Arms}
 use Rattle.rehearse_terms.specs.State.{Text, get, Memory, State, with_value, LoggedCommand, asked_of, answers_in, same_words}
-use Rattle.rehearse.specs.Parameters.{parameters_in}
+use Rattle.rehearse_rules.specs.Parameters.{parameters_in}
 use Rattle.hushlang.specs.Expansion.{fields, joined, size, most_bytes}
 use Rattle.hushlang.specs.Trees.{tree_of}
-use Rattle.device_list.specs.Verdict.{verdict}
-use Rattle.device_list.specs.Commands.{Called, ChangesVariables, WritesText, RunsTexts, Tests, Exits, BuiltIn, Device, NoCommand, called_by, sets_in, asks_device, exit_status, variables_changed, text_written}
-use Rattle.rehearse.specs.Execution.{Limits, Answer, Normal, Exit, Ended, Dry, Ending, CutDevices, CutSteps, Unknown, Syntax, Size, go_on, remember, set_status, set_local, status_when, goes, holds, begin, take_outcome, with_outcome, outcome_when, succeeds, told, told_again, tell_or_take, device, Request, test_effect, logged, set_environment, boot, text_end, run_text, run_all, command, simple, sized, assign, turns, for_each, exec_script, exec_list, exec_joined, exec_command, exec_arms, exec}
-use Rattle.rehearse.specs.Runs.{state_of}
-use Rattle.rehearse.proofs.TakenOutcomes.{Track-of, KeepsAll, Keeps-script, Keeps-joined, Keeps-arms, Keeps-exec, Keeps-run, Keeps-turns, Keeps-for, Keeps-if, Keeps-stays, after_condition, Keeps-after_condition, Keeps-ended, Keeps-simple, Keeps-sized, Keeps-assign}
+use Rattle.commands.specs.Verdict.{verdict}
+use Rattle.device_list.specs.Called.{Called, BuiltIn, Device, NoCommand, called_by, sets_in}
+use Rattle.commands.specs.BuiltInCommands.{ChangesVariables, WritesText, RunsTexts, Tests, Exits, asks_device, exit_status, variables_changed, text_written}
+use Rattle.rehearse_rules.specs.Execution.{Limits, Answer, Normal, Exit, Ended, Dry, Ending, CutDevices, CutSteps, Unknown, Syntax, Size, go_on, remember, set_status, set_local, status_when, goes, holds, begin, take_outcome, with_outcome, outcome_when, succeeds, told, told_again, tell_or_take, device, Request, test_effect, logged, set_environment, boot, text_end, run_text, run_all, command, simple, sized, assign, turns, for_each, exec_script, exec_list, exec_joined, exec_command, exec_arms, exec}
+use Rattle.rehearse_rules.specs.Runs.{state_of}
+use Rattle.rehearse_rules.proofs.TakenOutcomes.{Track-of, KeepsAll, Keeps-script, Keeps-joined, Keeps-arms, Keeps-exec, Keeps-run, Keeps-turns, Keeps-for, Keeps-if, Keeps-stays, after_condition, Keeps-after_condition, Keeps-ended, Keeps-simple, Keeps-sized, Keeps-assign}
 use Rattle.rehearse_endings.specs.Elsewhere.{elsewhere, devices_of, HaveFurther, AreApart, IsBeyond, IsAlike, same, cut_here, beyond, Alike}
 
 -- a change of memory in which the text before affects only the text after

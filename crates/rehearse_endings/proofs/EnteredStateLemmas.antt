@@ -2,9 +2,9 @@
 use Rattle.std.proofs.Common.{ℕ, ◌+◌, ◌≤◌, ◌<◌, List, [], ◌∷◌, ◌++◌, length, sym, ap, subst, ◌∙◌, ◌≡◌, arith, append_assoc, append-nil, length-append}
 use Rattle.std.specs.Prelude.{Result, Err, IfErr}
 use Rattle.std.specs.List.{AllByRecursion}
-use Rattle.bootstore.specs.Moment.{Moment}
+use Rattle.bootstore_state.specs.Moment.{Moment}
 use Rattle.rehearse_terms.specs.Outcomes.{OutcomeWord, Outcome, Success, Failure}
-use Rattle.rehearse.specs.Runs.{Task, kind, run_on}
+use Rattle.rehearse_rules.specs.Runs.{Task, kind, run_on}
 use Rattle.rehearse_machine.specs.declared.rehearsal.Stop.{Stop}
 use Rattle.rehearse_machine.specs.declared.rehearsal.Stop.TheVariants.{Asks}
 use Rattle.rehearse_endings.specs.Futures.{came_kind}
@@ -12,8 +12,8 @@ use Rattle.rehearse_endings.proofs.SearchLemmas.{kind_settled}
 use Rattle.rehearse_machine.specs.StoppedTexts.{StoppedAt}
 use Rattle.rehearse_endings.specs.States.{Asked, IsMet, IsUnlike, NoTwoAlike, HasStates, Entered, BeginsWith, IsNewAt, HasEntered}
 use Rattle.rehearse_endings.specs.Searching.{IsKept}
-use Rattle.rehearse_cores.specs.Cores.{CoreShown}
-use Rattle.rehearse_rows.specs.Summaries.{Summary}
+use Rattle.rehearse_states.specs.Cores.{CoreShown}
+use Rattle.rehearse_states.specs.Summaries.{Summary}
 use Rattle.rehearse_endings.specs.declared.sum_error.SumError.{SumError}
 use Rattle.rehearse_endings.specs.declared.sum_error.SumError.TheVariants.{States}
 use Rattle.rehearse_endings.specs.declared.table.Table.{Table}

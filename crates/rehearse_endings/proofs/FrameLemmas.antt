@@ -2,8 +2,8 @@
 use Rattle.std.proofs.Common.{ℕ, Bool, true, false, List, [], ◌∷◌, refl, sym, subst, arith, nat_eq}
 use Rattle.hushlang.specs.Tree.{Script}
 use Rattle.rehearse_terms.specs.State.{State, LoggedCommand}
-use Rattle.rehearse.specs.Execution.{Limits, Answer, Normal, Exit, Ended, Dry, run_all, for_each}
-use Rattle.rehearse.proofs.TakenOutcomes.{KeepsAll, Keeps-script, Keeps-joined, Keeps-arms, Keeps-exec, Keeps-run, Keeps-turns, Keeps-for, Keeps-if, after_condition, Keeps-after_condition}
+use Rattle.rehearse_rules.specs.Execution.{Limits, Answer, Normal, Exit, Ended, Dry, run_all, for_each}
+use Rattle.rehearse_rules.proofs.TakenOutcomes.{KeepsAll, Keeps-script, Keeps-joined, Keeps-arms, Keeps-exec, Keeps-run, Keeps-turns, Keeps-for, Keeps-if, after_condition, Keeps-after_condition}
 use Rattle.rehearse_machine.specs.Came.{settled}
 use Rattle.rehearse_machine.specs.Frames.{Frame, Lists, Linked, IfCondition, LoopCondition, LoopBody, ForBody, RunNames, RunText}
 use Rattle.rehearse_machine.specs.Meaning.{first_or_next, full, script, joined_of, arms_of, again, resume, continue}

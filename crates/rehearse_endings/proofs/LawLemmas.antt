@@ -1,10 +1,10 @@
 -- Laws of the rows of endings.
 use Rattle.std.proofs.Common.{◌≡◌, ◌≢◌, true, false, List, [], ◌∷◌, ◌++◌, map, ap, subst, ◌∙◌, append_assoc}
 use Rattle.std.specs.List.{list_any}
-use Rattle.rehearse.specs.Execution.{Ending}
-use Rattle.rehearse.specs.Runs.{Task, all_runs}
-use Rattle.rehearse_rows.specs.Endings.{Row, ending_eq, with_row, merge, one_run, ending, endings}
-use Rattle.rehearse_rows.proofs.RowsOfRuns.{AreApart, Misses, apart_on, either_left, either_right, ending_itself}
+use Rattle.rehearse_rules.specs.Execution.{Ending}
+use Rattle.rehearse_rules.specs.Runs.{Task, all_runs}
+use Rattle.rehearse_states.specs.Endings.{Row, ending_eq, with_row, merge, one_run, ending, endings}
+use Rattle.rehearse_states.proofs.RowsOfRuns.{AreApart, Misses, apart_on, either_left, either_right, ending_itself}
 
 -- ---- no two rows have the same ending
 

@@ -2,10 +2,10 @@
 use Rattle.std.proofs.Common.{◌≡◌, ℕ, ◌+◌, Bool, true, false, cond, List, [], ◌∷◌, ◌++◌, map, filter, length, refl, sym, ap, subst, ◌∙◌, arith}
 use Rattle.std.specs.List.{list_any}
 use Rattle.rehearse_terms.specs.Outcomes.{OutcomeWord}
-use Rattle.rehearse.specs.Execution.{Ending}
-use Rattle.rehearse.specs.Runs.{Task, all_runs}
-use Rattle.rehearse_rows.specs.Endings.{Row, ending_eq, joined, with_row, merge, one_run, ending, endings}
-use Rattle.rehearse_rows.proofs.RowsOfRuns.{AreApart, Misses, either_left, either_right, ending_itself, ending_same}
+use Rattle.rehearse_rules.specs.Execution.{Ending}
+use Rattle.rehearse_rules.specs.Runs.{Task, all_runs}
+use Rattle.rehearse_states.specs.Endings.{Row, ending_eq, joined, with_row, merge, one_run, ending, endings}
+use Rattle.rehearse_states.proofs.RowsOfRuns.{AreApart, Misses, either_left, either_right, ending_itself, ending_same}
 use Rattle.rehearse_endings.proofs.LawLemmas.{apart_merge, missed_in}
 
 -- ---- what rows count for an ending

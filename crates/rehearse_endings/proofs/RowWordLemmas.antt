@@ -3,11 +3,11 @@ use Rattle.std.proofs.Common.{◌≡◌, ◌<◌, ◌≤◌, nat_le, Bool, true,
 use Rattle.std.proofs.lemmas.Bool.{leb-true, leb-false}
 use Rattle.std.specs.List.{list_any}
 use Rattle.rehearse_terms.specs.Outcomes.{OutcomeWord, failures}
-use Rattle.rehearse.specs.Execution.{Ending}
-use Rattle.rehearse.specs.Runs.{Task, all_runs}
-use Rattle.rehearse_rows.specs.Endings.{Row, ending_eq, joined, with_row, merge, one_run, ending, endings}
+use Rattle.rehearse_rules.specs.Execution.{Ending}
+use Rattle.rehearse_rules.specs.Runs.{Task, all_runs}
+use Rattle.rehearse_states.specs.Endings.{Row, ending_eq, joined, with_row, merge, one_run, ending, endings}
 use Rattle.rehearse_endings.specs.Laws.{Each, IsFirst, IsFewest}
-use Rattle.rehearse_rows.proofs.RowsOfRuns.{AreApart, Misses, row_if, apart_on, either_left, either_right, neither, ending_itself, ending_same, stands_on, stands_new}
+use Rattle.rehearse_states.proofs.RowsOfRuns.{AreApart, Misses, row_if, apart_on, either_left, either_right, neither, ending_itself, ending_same, stands_on, stands_new}
 
 -- ---- each of some words
 

@@ -4,15 +4,16 @@ use Rattle.std.specs.FinMap.{entries}
 use Rattle.hushlang.specs.Tree as tree
 use Rattle.hushlang.specs.Tree.{Script}
 use Rattle.hushlang.specs.Expansion.{fields, size, most_bytes}
-use Rattle.bootstore.specs.Moment.{Moment, RunningFrame}
+use Rattle.bootstore_state.specs.Moment.{Moment, RunningFrame}
 use Rattle.std.specs.Map.{lookup}
 use Rattle.rehearse_terms.specs.Outcomes.{OutcomeWord, Success}
 use Rattle.rehearse_terms.specs.State.{Text, State, Variables, LoggedCommand, answers_in, same_words}
-use Rattle.rehearse.specs.Parameters.{parameters_in}
-use Rattle.bootstore.specs.StoredState.{state_at}
-use Rattle.device_list.specs.Verdict.{verdict}
-use Rattle.device_list.specs.Commands.{Called, ChangesVariables, WritesText, RunsTexts, Tests, Exits, BuiltIn, NoCommand, Device, called_by, sets_in, asks_device, exit_status}
-use Rattle.rehearse.specs.Execution.{Limits, CutDevices, Size, Request, test_effect, told, told_again, logged, set_environment, set_status, status_when, take_outcome}
+use Rattle.rehearse_rules.specs.Parameters.{parameters_in}
+use Rattle.bootstore_state.specs.StoredState.{state_at}
+use Rattle.commands.specs.Verdict.{verdict}
+use Rattle.device_list.specs.Called.{Called, BuiltIn, NoCommand, Device, called_by, sets_in}
+use Rattle.commands.specs.BuiltInCommands.{ChangesVariables, WritesText, RunsTexts, Tests, Exits, asks_device, exit_status}
+use Rattle.rehearse_rules.specs.Execution.{Limits, CutDevices, Size, Request, test_effect, told, told_again, logged, set_environment, set_status, status_when, take_outcome}
 use Rattle.rehearse_machine.specs.Came.{Came}
 use Rattle.rehearse_machine.specs.Meaning.{continue, comes_to}
 use Rattle.rehearse_machine.specs.Places.{PlaceNext, GoOn, AskOn, StopOn, next_of, frames_of, left, to_run, place_exit, place_boot, place_tell_or_ask, place_ask, place_called, place_fields}

@@ -4,41 +4,41 @@ use Rattle.std.proofs.lemmas.List.{length-map}
 use Rattle.std.proofs.lemmas.List.Elements.{All-append}
 use Rattle.std.proofs.lemmas.Bool.{ltb-true}
 use Rattle.std.specs.Prelude.{nat_lt, MatchOption, ⊤}
-use Rattle.bootstore.specs.Record.{Record, with_mark, gone_back, returned}
+use Rattle.bootstore_state.specs.Record.{Record, with_mark, gone_back, returned}
 use Rattle.rehearse_terms.specs.Bounds.{most_steps}
 use Rattle.rehearse_machine.specs.Machine.{outcome_when, Stops, IsAsking, asked_at}
-use Rattle.bootstore.specs.Moment.{Moment}
+use Rattle.bootstore_state.specs.Moment.{Moment}
 use Rattle.rehearse_terms.specs.Outcomes.{OutcomeWord, Outcome, Success, Failure}
 use Rattle.rehearse_terms.specs.State.{State, LoggedCommand, asked_of, start}
-use Rattle.bootstore.specs.StoredState.{state_at}
-use Rattle.rehearse.specs.Execution.{Limits, Answer, Normal, Exit, Ended, Dry, Ending, succeeds}
-use Rattle.rehearse.specs.Runs.{Task, run_on, state_of, kind, kind_of, ending_of}
-use Rattle.rehearse.proofs.TakenOutcomes.{answers, GoesTo, Track-of}
-use Rattle.rehearse.proofs.BoundLemmas.{devices_are_bounded}
-use Rattle.rehearse.proofs.TaskChoices.{Keeps-run_on, task_chooses}
+use Rattle.bootstore_state.specs.StoredState.{state_at}
+use Rattle.rehearse_rules.specs.Execution.{Limits, Answer, Normal, Exit, Ended, Dry, Ending, succeeds}
+use Rattle.rehearse_rules.specs.Runs.{Task, run_on, state_of, kind, kind_of, ending_of}
+use Rattle.rehearse_rules.proofs.TakenOutcomes.{answers, GoesTo, Track-of}
+use Rattle.rehearse_rules.proofs.BoundLemmas.{devices_are_bounded}
+use Rattle.rehearse_rules.proofs.TaskChoices.{Keeps-run_on, task_chooses}
 use Rattle.rehearse_machine.specs.Came.{Came, Wants, settled}
-use Rattle.rehearse.specs.EndingsShown.{halt_shown}
-use Rattle.rehearse.specs.declared.halt.Halt.{Halt}
+use Rattle.rehearse_rules.specs.EndingsShown.{halt_shown}
+use Rattle.rehearse_rules.specs.declared.halt.Halt.{Halt}
 use Rattle.rehearse_machine.specs.declared.rehearsal.Stop.{Stop}
 use Rattle.rehearse_machine.specs.declared.rehearsal.Stop.TheVariants.{Asks, Ends}
 use Rattle.rehearse_machine.specs.StoppedTexts.{StoppedAt}
 use Rattle.rehearse_machine.proofs.StoppedTextLemmas.{asked_within, stopped_on}
 use Rattle.rehearse_endings.specs.Futures.{came_kind, came_ending, came_state, came_steps, came_devices, HaveSameCore}
-use Rattle.rehearse_rows.specs.Endings.{Row, HasRows, ending, endings}
-use Rattle.rehearse_cores.specs.Cores.{CoreShown, core_shown, core_of}
-use Rattle.rehearse_rows.specs.Summaries.{Summary, summary_of_sides, summary_at_end}
+use Rattle.rehearse_states.specs.Endings.{Row, HasRows, ending, endings}
+use Rattle.rehearse_states.specs.Cores.{CoreShown, core_shown, core_of}
+use Rattle.rehearse_states.specs.Summaries.{Summary, summary_of_sides, summary_at_end}
 use Rattle.rehearse_endings.specs.SummedRuns.{Sums, FitsIf, Fits, moved_by, moved_on, of_end, of_sides, Summed}
-use Rattle.rehearse_rows.specs.RowsShown.{saturated, of_both_up, summary_shown, saturated_summary}
+use Rattle.rehearse_states.specs.RowsShown.{saturated, of_both_up, summary_shown, saturated_summary}
 use Rattle.rehearse_endings.specs.Searching.{future, IsReached, IsEntry, AreEntries, IsKept}
 use Rattle.rehearse_endings.specs.declared.table.Entry.{Entry}
-use Rattle.rehearse_rows.specs.declared.summary.Summary as kept
-use Rattle.rehearse_rows.specs.Flow.{Node, asked_in}
+use Rattle.rehearse_states.specs.declared.summary.Summary as kept
+use Rattle.rehearse_states.specs.Flow.{Node, asked_in}
 use Rattle.rehearse_endings.specs.DrawnRuns.{Draws, seen_at}
-use Rattle.rehearse_rows.specs.Drawing.{HasMore}
+use Rattle.rehearse_states.specs.Drawing.{HasMore}
 use Rattle.rehearse_endings.proofs.DrawingLemmas.{draws_on, draws_there}
 use Rattle.rehearse_endings.proofs.SummaryLemmas.{rows_as, sums_same, came_same, sums_there, sums_end, sums_sides}
-use Rattle.rehearse_rows.proofs.RowsOfRuns.{are_rows}
-use Rattle.rehearse_rows.proofs.SaturatedCountLemmas.{both_up}
+use Rattle.rehearse_states.proofs.RowsOfRuns.{are_rows}
+use Rattle.rehearse_states.proofs.SaturatedCountLemmas.{both_up}
 
 -- ---- a text that has stopped
 

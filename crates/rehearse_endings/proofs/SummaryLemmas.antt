@@ -1,16 +1,16 @@
 -- Summaries: of an end, of both sides, and of another moment of the same core.
 use Rattle.std.proofs.Common.{ℕ, suc, ◌+◌, ◌≤◌, ◌<◌, max, Bool, true, false, ◌||◌, List, [], ◌∷◌, length, refl, sym, ap, subst, ◌∙◌, ◌≡◌, inl, inr, arith}
-use Rattle.bootstore.specs.Moment.{Moment}
+use Rattle.bootstore_state.specs.Moment.{Moment}
 use Rattle.rehearse_terms.specs.Outcomes.{OutcomeWord, Success, Failure, WordKind}
-use Rattle.bootstore.specs.StoredState.{state_at}
-use Rattle.rehearse.specs.Execution.{Limits, Ending, End, CutDevices, CutSteps, Unknown, Syntax, Size, Booted}
+use Rattle.bootstore_state.specs.StoredState.{state_at}
+use Rattle.rehearse_rules.specs.Execution.{Limits, Ending, End, CutDevices, CutSteps, Unknown, Syntax, Size, Booted}
 use Rattle.rehearse_machine.specs.Came.{Came, Over, Wants}
 use Rattle.rehearse_machine.specs.Machine.{IsAsking, asked_at}
 use Rattle.rehearse_endings.specs.Elsewhere.{IsCutBy}
 use Rattle.rehearse_endings.specs.Futures as futures
 use Rattle.rehearse_endings.specs.Futures.{came_kind, came_ending, came_steps, came_devices, IsSameCame, CameCut, CameAlike}
-use Rattle.rehearse_rows.specs.Endings.{Row, HasRows, ends, asks}
-use Rattle.rehearse_rows.specs.Summaries.{Summary, is_cut_steps, is_cut_devices}
+use Rattle.rehearse_states.specs.Endings.{Row, HasRows, ends, asks}
+use Rattle.rehearse_states.specs.Summaries.{Summary, is_cut_steps, is_cut_devices}
 use Rattle.rehearse_endings.specs.SummedRuns.{Sums, FitsIf, Fits, moved_on, of_end, of_sides}
 use Rattle.rehearse_endings.proofs.SameCoreLemmas.{asked_alike}
 

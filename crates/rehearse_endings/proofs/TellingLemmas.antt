@@ -4,8 +4,8 @@ use Rattle.output.specs.Sink.{Sink}
 use Rattle.device_list.specs.DeviceList.{Devices, listed}
 use Rattle.rehearse_terms.specs.State.{Text}
 use Rattle.rehearse_machine.specs.Tasks.{task_set}
-use Rattle.rehearse.specs.declared.rehearse_error.RehearseError.{RehearseError}
-use Rattle.rehearse.specs.declared.rehearse_error.RehearseError.TheVariants.{DeviceList, NoSuchVariable, NotARun, States, Write, Memory, Failed}
+use Rattle.rehearse_rules.specs.declared.rehearse_error.RehearseError.{RehearseError}
+use Rattle.rehearse_rules.specs.declared.rehearse_error.RehearseError.TheVariants.{DeviceList, NoSuchVariable, NotARun, States, Write, Memory, Failed}
 use Rattle.rehearse_endings.specs.TellingEndings.{IsUntold, RefusesEndings}
 use Rattle.rehearse_endings.specs.declared.telling.EndingsAsk.{EndingsAsk}
 

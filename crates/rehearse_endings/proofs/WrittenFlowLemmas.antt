@@ -6,26 +6,26 @@ use Rattle.std.specs.declared.alloc.Global.{Global}
 use Rattle.std.proofs.lemmas.Grind.{reverse_onto}
 use Rattle.std.proofs.lemmas.List.{length-map, length-reverse}
 use Rattle.std.proofs.lemmas.Option.{slice_get-map}
-use Rattle.bootstore.specs.Moment.{Moment}
+use Rattle.bootstore_state.specs.Moment.{Moment}
 use Rattle.rehearse_terms.specs.Outcomes.{OutcomeWord, Outcome, Success, Failure}
 use Rattle.rehearse_terms.specs.State.{Text}
-use Rattle.bootstore.specs.StoredState.{state_at}
-use Rattle.rehearse.specs.Execution.{Limits, Answer, Normal, Exit, Ended, Dry}
-use Rattle.rehearse.specs.Runs.{Task, run_on}
+use Rattle.bootstore_state.specs.StoredState.{state_at}
+use Rattle.rehearse_rules.specs.Execution.{Limits, Answer, Normal, Exit, Ended, Dry}
+use Rattle.rehearse_rules.specs.Runs.{Task, run_on}
 use Rattle.rehearse_machine.specs.Came.{Came, Wants, settled}
-use Rattle.rehearse.specs.EndingsShown.{halt_shown}
+use Rattle.rehearse_rules.specs.EndingsShown.{halt_shown}
 use Rattle.rehearse_machine.specs.Machine.{IsAsking, Stops, asked_at}
-use Rattle.rehearse.specs.declared.halt.Halt.{Halt}
+use Rattle.rehearse_rules.specs.declared.halt.Halt.{Halt}
 use Rattle.rehearse_machine.specs.declared.rehearsal.Stop.{Stop}
 use Rattle.rehearse_machine.specs.declared.rehearsal.Stop.TheVariants as stops
-use Rattle.rehearse_rows.specs.Flow.{Node, Asks, Ends, next, behind, stands_at, goes_on, walk, numbered, asked_in, seen_of, IsFlow}
+use Rattle.rehearse_states.specs.Flow.{Node, Asks, Ends, next, behind, stands_at, goes_on, walk, numbered, asked_in, seen_of, IsFlow}
 use Rattle.rehearse_endings.specs.Futures.{came_log}
-use Rattle.rehearse_rows.specs.Drawing.{node_shown, nodes_shown, HasMore, renumbered}
+use Rattle.rehearse_states.specs.Drawing.{node_shown, nodes_shown, HasMore, renumbered}
 use Rattle.rehearse_endings.specs.DrawnRuns.{seen_behind, seen_at, Draws}
-use Rattle.rehearse_cores.specs.Words.{words_in}
+use Rattle.rehearse_states.specs.Words.{words_in}
 use Rattle.rehearse_endings.specs.Searching.{future, seen_from, IsReached, AreEntries}
-use Rattle.rehearse_rows.specs.declared.flow.Flow.{Flow}
-use Rattle.rehearse_rows.specs.declared.flow.Node as rt
+use Rattle.rehearse_states.specs.declared.flow.Flow.{Flow}
+use Rattle.rehearse_states.specs.declared.flow.Node as rt
 use Rattle.rehearse_endings.specs.declared.table.Table.{Table}
 use Rattle.rehearse_endings.proofs.AskingCommandLemmas.{asks_anew}
 use Rattle.rehearse_endings.proofs.DrawingLemmas.{draws_on, end_drawn, words_logged, asks_drawn}

@@ -1,12 +1,12 @@
 -- What the nodes of a flow draw: the runs that come after a moment, as a walk sees them. Ours.
 use Rattle.std.specs.Prelude.{◌≡◌, ℕ, zero, suc, List, [], ◌∷◌, ◌++◌, length}
 use Rattle.std.specs.List.{slice_get}
-use Rattle.bootstore.specs.Moment.{Moment}
+use Rattle.bootstore_state.specs.Moment.{Moment}
 use Rattle.rehearse_terms.specs.Outcomes.{OutcomeWord}
-use Rattle.rehearse.specs.Execution.{Limits}
+use Rattle.rehearse_rules.specs.Execution.{Limits}
 use Rattle.rehearse_machine.specs.Came.{Came}
 use Rattle.rehearse_machine.specs.Machine.{asked_at}
-use Rattle.rehearse_rows.specs.Flow.{Node, Answered, asked_in, Seen, walk}
+use Rattle.rehearse_states.specs.Flow.{Node, Answered, asked_in, Seen, walk}
 use Rattle.rehearse_endings.specs.Futures.{came_kind, came_to_end, came_log}
 
 -- the commands after the first n

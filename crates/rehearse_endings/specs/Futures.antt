@@ -1,11 +1,11 @@
 -- What is to come after a device command asks, for every rest of the word. Ours.
 use Rattle.std.specs.Prelude.{◌≡◌, ℕ, suc, ◌+◌, ◌<◌, ◌⊎◌, List, length, Option, Some, None}
 use Rattle.std.specs.FinMap.{entries}
-use Rattle.bootstore.specs.Moment.{Moment}
+use Rattle.bootstore_state.specs.Moment.{Moment}
 use Rattle.rehearse_terms.specs.Outcomes.{WordKind, Short}
 use Rattle.rehearse_terms.specs.State.{State, LoggedCommand, answers_in}
-use Rattle.rehearse.specs.Execution.{Limits, Ending, End}
-use Rattle.rehearse.specs.Runs.{taken_kind}
+use Rattle.rehearse_rules.specs.Execution.{Limits, Ending, End}
+use Rattle.rehearse_rules.specs.Runs.{taken_kind}
 use Rattle.rehearse_machine.specs.Came.{Came, Over, Wants}
 use Rattle.rehearse_endings.specs.Elsewhere.{HaveFurther, IsCutBy}
 

@@ -1,9 +1,9 @@
 -- What the rows of endings say of the list of all runs. Ours.
 use Rattle.std.specs.Prelude.{◌≡◌, ◌≢◌, ◌<◌, ◌≤◌, List, [], ◌∷◌, ◌++◌, length, filter}
 use Rattle.rehearse_terms.specs.Outcomes.{OutcomeWord, failures}
-use Rattle.rehearse.specs.Runs.{Task, all_runs}
-use Rattle.rehearse_rows.specs.Endings.{Row, ending_eq, ending, endings}
-use Rattle.rehearse_rows.specs.EndingLines.{counted}
+use Rattle.rehearse_rules.specs.Runs.{Task, all_runs}
+use Rattle.rehearse_states.specs.Endings.{Row, ending_eq, ending, endings}
+use Rattle.rehearse_states.specs.EndingLines.{counted}
 
 -- each run is counted, and only once
 abbrev pub RunsAreCounted : Type 0

@@ -1,18 +1,18 @@
 -- What a search from a text that has stopped comes to. Ours.
 use Rattle.std.specs.Prelude.{◌≡◌, ◌+◌, ◌*◌, ◌≤◌, List, [], length}
-use Rattle.bootstore.specs.Record.{Record}
+use Rattle.bootstore_state.specs.Record.{Record}
 use Rattle.rehearse_terms.specs.Bounds.{most_steps}
 use Rattle.rehearse_terms.specs.Outcomes.{OutcomeWord}
-use Rattle.rehearse.specs.Runs.{Task}
+use Rattle.rehearse_rules.specs.Runs.{Task}
 use Rattle.rehearse_machine.specs.declared.rehearsal.Stop.{Stop}
 use Rattle.rehearse_machine.specs.StoppedTexts.{StoppedAt}
 use Rattle.rehearse_endings.specs.DrawnRuns.{Draws}
-use Rattle.rehearse_rows.specs.Drawing.{HasMore, nodes_shown}
+use Rattle.rehearse_states.specs.Drawing.{HasMore, nodes_shown}
 use Rattle.rehearse_endings.specs.SummedRuns.{Summed}
-use Rattle.rehearse_rows.specs.RowsShown.{summary_shown}
+use Rattle.rehearse_states.specs.RowsShown.{summary_shown}
 use Rattle.rehearse_endings.specs.Searching.{future, seen_from, AreEntries}
 use Rattle.rehearse_endings.specs.States.{Asked, Entered, IsNewAt, HasEntered}
-use Rattle.rehearse_rows.specs.declared.summary.Summary.{Summary}
+use Rattle.rehearse_states.specs.declared.summary.Summary.{Summary}
 use Rattle.rehearse_endings.specs.declared.table.Table.{Table}
 
 -- everything after the stop is searched: the summary says what is to come, and the table has what was entered

@@ -1,22 +1,22 @@
 -- The search through the states in which device commands ask. Ours.
 use Rattle.std.specs.Prelude.{◌≡◌, ℕ, ◌≤◌, List, [], ◌∷◌, ◌++◌, length, All}
-use Rattle.bootstore.specs.Moment.{Moment}
+use Rattle.bootstore_state.specs.Moment.{Moment}
 use Rattle.rehearse_terms.specs.Outcomes.{OutcomeWord}
-use Rattle.bootstore.specs.StoredState.{state_at}
-use Rattle.rehearse.specs.Execution.{Limits}
-use Rattle.rehearse.specs.Runs.{Task}
+use Rattle.bootstore_state.specs.StoredState.{state_at}
+use Rattle.rehearse_rules.specs.Execution.{Limits}
+use Rattle.rehearse_rules.specs.Runs.{Task}
 use Rattle.rehearse_machine.specs.Came.{Came, Over}
-use Rattle.rehearse.specs.EndingsShown.{halt_shown}
+use Rattle.rehearse_rules.specs.EndingsShown.{halt_shown}
 use Rattle.rehearse_machine.specs.Machine.{IsAsking, asked_at}
 use Rattle.rehearse_machine.specs.declared.rehearsal.Stop.{Stop}
 use Rattle.rehearse_machine.specs.declared.rehearsal.Stop.TheVariants.{Asks, Ends}
 use Rattle.rehearse_machine.specs.StoppedTexts.{StoppedAt}
-use Rattle.rehearse_cores.specs.Cores.{CoreShown, core_shown, core_of}
-use Rattle.rehearse_rows.specs.Flow.{Node, Seen, asked_in}
+use Rattle.rehearse_states.specs.Cores.{CoreShown, core_shown, core_of}
+use Rattle.rehearse_states.specs.Flow.{Node, Seen, asked_in}
 use Rattle.rehearse_endings.specs.DrawnRuns.{Draws, seen_behind, seen_at}
-use Rattle.rehearse_rows.specs.Summaries.{Summary}
+use Rattle.rehearse_states.specs.Summaries.{Summary}
 use Rattle.rehearse_endings.specs.SummedRuns.{Sums}
-use Rattle.rehearse_rows.specs.RowsShown.{summary_shown, saturated_summary}
+use Rattle.rehearse_states.specs.RowsShown.{summary_shown, saturated_summary}
 use Rattle.rehearse_endings.specs.declared.table.Entry.{Entry}
 
 -- what is to come of a text that has stopped

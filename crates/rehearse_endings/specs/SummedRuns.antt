@@ -1,13 +1,13 @@
 -- What a summary says of the runs to come, and where else it may be used. Ours.
 use Rattle.std.specs.Prelude.{◌≡◌, ℕ, ◌+◌, ◌-◌, ◌≤◌, length, Bool, true, false}
-use Rattle.bootstore.specs.Moment.{Moment}
+use Rattle.bootstore_state.specs.Moment.{Moment}
 use Rattle.rehearse_terms.specs.Outcomes.{OutcomeWord}
-use Rattle.rehearse.specs.Execution.{Limits, Ending, CutDevices, CutSteps}
+use Rattle.rehearse_rules.specs.Execution.{Limits, Ending, CutDevices, CutSteps}
 use Rattle.rehearse_machine.specs.Came.{Came}
 use Rattle.rehearse_endings.specs.Futures.{came_kind, came_ending, came_steps, came_devices, HaveSameCore}
-use Rattle.rehearse_rows.specs.Endings.{HasRows, of_both}
-use Rattle.rehearse_rows.specs.Summaries.{Summary, summary_at_end, summary_of_sides}
-use Rattle.rehearse_rows.specs.RowsShown.{saturated_summary}
+use Rattle.rehearse_states.specs.Endings.{HasRows, of_both}
+use Rattle.rehearse_states.specs.Summaries.{Summary, summary_at_end, summary_of_sides}
+use Rattle.rehearse_states.specs.RowsShown.{saturated_summary}
 
 -- the summary of what f comes to, for every word
 pub record Sums (f : OutcomeWord → Came) (s : Summary) : Type 0 where

@@ -3,15 +3,15 @@ use Rattle.std.specs.Prelude.{◌≡◌, ℕ, ◌+◌, ◌≤◌, Bool, true, fa
 use Rattle.output.specs.Sink.{Sink, Wrote, BrokeOff}
 use Rattle.rehearse_terms.specs.State.{Text}
 use Rattle.device_list.specs.DeviceList.{Devices, listed}
-use Rattle.rehearse.specs.Runs.{Task, all_runs}
+use Rattle.rehearse_rules.specs.Runs.{Task, all_runs}
 use Rattle.rehearse_machine.specs.Tasks.{task_set}
-use Rattle.rehearse_rows.specs.Endings.{endings}
-use Rattle.rehearse_rows.specs.Flow.{Node, IsFlow, flow_text}
-use Rattle.rehearse_rows.specs.EndingLines.{endings_text}
+use Rattle.rehearse_states.specs.Endings.{endings}
+use Rattle.rehearse_states.specs.Flow.{Node, IsFlow, flow_text}
+use Rattle.rehearse_states.specs.EndingLines.{endings_text}
 use Rattle.rehearse_endings.specs.States.{HasStates}
 use Rattle.rehearse_endings.specs.declared.telling.EndingsAsk.{EndingsAsk}
-use Rattle.rehearse.specs.declared.rehearse_error.RehearseError.{RehearseError}
-use Rattle.rehearse.specs.declared.rehearse_error.RehearseError.TheVariants.{DeviceList, NoSuchVariable, States, Write, Memory}
+use Rattle.rehearse_rules.specs.declared.rehearse_error.RehearseError.{RehearseError}
+use Rattle.rehearse_rules.specs.declared.rehearse_error.RehearseError.TheVariants.{DeviceList, NoSuchVariable, States, Write, Memory}
 
 -- the device list is valid, and the task has this property, if the variable is set
 pub record HasDevices (environment : List (Text × Text)) (devices_text : Text) (ask : EndingsAsk)

@@ -4,10 +4,10 @@ ghost use Rattle.rehearse_terms.specs.Bounds.{most_steps};
 ghost use Rattle.rehearse_terms.specs.Outcomes.{OutcomeWord};
 ghost use Rattle.rehearse_machine.specs.Tasks.{task_in};
 ghost use Rattle.rehearse_machine.specs.StoppedTexts.{StoppedAt};
-ghost use Rattle.rehearse_rows.specs.RowsShown.{rows_shown, saturated};
-ghost use Rattle.rehearse_rows.specs.Endings.{endings};
-ghost use Rattle.rehearse_rows.specs.Flow.{IsFlow};
-ghost use Rattle.rehearse_rows.specs.Drawing.{nodes_shown};
+ghost use Rattle.rehearse_states.specs.RowsShown.{rows_shown, saturated};
+ghost use Rattle.rehearse_states.specs.Endings.{endings};
+ghost use Rattle.rehearse_states.specs.Flow.{IsFlow};
+ghost use Rattle.rehearse_states.specs.Drawing.{nodes_shown};
 ghost use Rattle.rehearse_endings.specs.Searching.{IsReached, AreEntries};
 ghost use Rattle.rehearse_endings.specs.States.{Asked, HasStates, Entered, IsNewAt};
 ghost use Rattle.rehearse_endings.specs.Searched.{IsSearched};
@@ -15,10 +15,9 @@ ghost use Rattle.rehearse_endings.specs.declared.sum_error.SumError.TheVariants.
 
 use crate::sum_error::SumError;
 use crate::table::Table;
-use bootstore::Store;
-use rehearse_cores::{hash_of, words_at};
+use bootstore_state::Store;
 use rehearse_machine::{Rehearsal, Stop, begin, resume};
-use rehearse_rows::{Node, Row, Summary, of_end, of_sides};
+use rehearse_states::{Node, Row, Summary, hash_of, of_end, of_sides, words_at};
 
 /// How the runs of a script end.
 #[derive(Drop)]

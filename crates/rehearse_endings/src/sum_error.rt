@@ -2,7 +2,7 @@
 ghost use Rattle.std.specs.Prelude.{◌≡◌};
 ghost use Rattle.rehearse_endings.specs.declared.sum_error.SumError.TheVariants.{Memory};
 
-use bootstore::StoreError;
+use bootstore_state::StoreError;
 use std::alloc::{AllocError, AllocFailed};
 use thiserror::Error;
 

@@ -3,17 +3,16 @@ ghost use Rattle.std.specs.Prelude.{◌≡◌, ◌≢◌, ◌≤◌, ◌<◌, �
 ghost use Rattle.rehearse_machine.specs.Machine.{IsAsking, asked_at};
 ghost use Rattle.rehearse_machine.specs.MovesShown.{limits_of};
 ghost use Rattle.rehearse_endings.specs.SummedRuns.{Summed, FitsIf, moved_by};
-ghost use Rattle.rehearse_rows.specs.RowsShown.{summary_shown};
+ghost use Rattle.rehearse_states.specs.RowsShown.{summary_shown};
 ghost use Rattle.rehearse_endings.specs.Searching.{AreEntries, IsKept};
-ghost use Rattle.rehearse_cores.specs.Cores.{core_shown, core_of};
+ghost use Rattle.rehearse_states.specs.Cores.{core_shown, core_of};
 ghost use Rattle.rehearse_endings.specs.DrawnRuns.{Draws, seen_at};
-ghost use Rattle.rehearse_rows.specs.Drawing.{nodes_shown};
+ghost use Rattle.rehearse_states.specs.Drawing.{nodes_shown};
 
 use crate::sum_error::SumError;
-use bootstore::{Store, StoreError};
+use bootstore_state::{Store, StoreError};
 use device_list::Devices;
-use rehearse_cores::{Core, Environments, has_core, take_core};
-use rehearse_rows::{Flow, Summary, copy_rows};
+use rehearse_states::{Core, Environments, Flow, Summary, copy_rows, has_core, take_core};
 use rehearse_terms::RunBounds;
 use std::alloc::Global;
 use std::collections::HashMap;

@@ -9,13 +9,13 @@ ghost use Rattle.rehearse_endings.specs.TellingEndings.{AreLines, IsUntold, Tell
 
 use crate::searching::sum_endings;
 use crate::sum_error::SumError;
-use bootstore::Store;
+use bootstore_state::Store;
 use device_list::Devices;
 use envtools::Env;
 use output::{Out, write_all};
-use rehearse::{RehearseError, read_devices};
 use rehearse_machine::Rehearsal;
-use rehearse_rows::{flow_text_of, text_of};
+use rehearse_rules::{RehearseError, read_devices};
+use rehearse_states::{flow_text_of, text_of};
 use rehearse_terms::RunBounds;
 use std::alloc::Global;
 

@@ -2,8 +2,8 @@
 use Rattle.std.proofs.Common.{true, false, [], ◌∷◌, None, codes, refl, ◌≡◌}
 use Rattle.rehearse_terms.specs.State.{Text}
 use Rattle.device_list.specs.DeviceList.{Variable, LastWord, Effect, Devices, only}
-use Rattle.rehearse.specs.Runs.{Task}
-use Rattle.rehearse.proofs.ExampleRehearsals.{limits, bootcmd, bootcmd_among, z, listed, works, ends_along, listed_along, works_along, along, working}
+use Rattle.rehearse_rules.specs.Runs.{Task}
+use Rattle.rehearse_rules.proofs.ExampleRehearsals.{limits, bootcmd, bootcmd_among, z, listed, works, ends_along, listed_along, works_along, along, working}
 
 abbrev final : Effect
 final = record { ends = true; stays = false; sets = [] }

@@ -6,11 +6,11 @@ use Rattle.rehearse_terms.specs.Outcomes.{Success, Failure}
 use Rattle.hushlang.specs.Trees.{tree_of}
 use Rattle.rehearse_terms.specs.State.{Text}
 use Rattle.device_list.specs.DeviceList.{Variable, only}
-use Rattle.rehearse.specs.Execution.{End, CutSteps, Size}
-use Rattle.rehearse.specs.Runs.{steps, work}
+use Rattle.rehearse_rules.specs.Execution.{End, CutSteps, Size}
+use Rattle.rehearse_rules.specs.Runs.{steps, work}
 use Rattle.device_list.specs.DeviceLaws.{is_name_alone}
 use Rattle.text.specs.Lines.{numbered_lines}
-use Rattle.rehearse.proofs.ExampleRehearsals.{only_load, limits, bootcmd, bootcmd_among, z, listed, told_of, told, told_within, times}
+use Rattle.rehearse_rules.proofs.ExampleRehearsals.{only_load, limits, bootcmd, bootcmd_among, z, listed, told_of, told, told_within, times}
 
 -- a list whose comment has two words
 names_alone_beside_a_comment : map (λ l. is_name_alone l.1) (numbered_lines (codes "# d\nload\n\nmmc")) ≡ false ∷ true ∷ true ∷ true ∷ []

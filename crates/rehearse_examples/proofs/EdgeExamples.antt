@@ -3,9 +3,9 @@ use Rattle.std.proofs.Common.{◌≡◌, ℕ, [], ◌∷◌, ◌++◌, None, Som
 use Rattle.rehearse_terms.specs.Outcomes.{Success}
 use Rattle.rehearse_terms.specs.State.{Text}
 use Rattle.device_list.specs.DeviceList.{Variable, Devices, only}
-use Rattle.rehearse.specs.Execution.{End, CutSteps, Syntax, Size}
-use Rattle.rehearse.specs.Runs.{Task}
-use Rattle.rehearse.proofs.ExampleRehearsals.{only_load, limits, bootcmd, bootcmd_among, z, listed, listed_after, Told, told_of, told, told_with, told_within, letters}
+use Rattle.rehearse_rules.specs.Execution.{End, CutSteps, Syntax, Size}
+use Rattle.rehearse_rules.specs.Runs.{Task}
+use Rattle.rehearse_rules.proofs.ExampleRehearsals.{only_load, limits, bootcmd, bootcmd_among, z, listed, listed_after, Told, told_of, told, told_with, told_within, letters}
 
 abbrev v : Text → Text → Text × Text
 v name value = (name, value)

@@ -1,8 +1,8 @@
 -- Each rule of execution on its own, computed: what the text of `bootcmd` writes, and how its run ends.
 use Rattle.std.proofs.Common.{◌≡◌, ℕ, [], ◌∷◌, None, codes, refl, map}
 use Rattle.rehearse_terms.specs.State.{Text, Variables}
-use Rattle.rehearse.specs.Execution.{End, CutSteps, Unknown, Syntax, Size}
-use Rattle.rehearse.proofs.ExampleRehearsals.{only_load, limits, bootcmd, bootcmd_among, listed, Told, told_of, told, told_with, told_within, write, letters}
+use Rattle.rehearse_rules.specs.Execution.{End, CutSteps, Unknown, Syntax, Size}
+use Rattle.rehearse_rules.proofs.ExampleRehearsals.{only_load, limits, bootcmd, bootcmd_among, listed, Told, told_of, told, told_with, told_within, write, letters}
 
 -- `&&` and `||` have the same rank, and a skipped command leaves the status as it is
 joined_commands : map told (codes "true || echo a && echo b" ∷ codes "false && echo a || echo b" ∷ codes "false && echo a; echo $?" ∷ codes "false || false || echo a" ∷ []) ≡ write (codes "b\n" ∷ codes "b\n" ∷ codes "1\n" ∷ codes "a\n" ∷ [])

@@ -3,12 +3,12 @@ use Rattle.std.proofs.Common.{ℕ, true, false, [], ◌∷◌, ◌++◌, Some, N
 use Rattle.std.specs.Fmt.{digits}
 use Rattle.hushlang.specs.Expansion.{fields, joined, atoms}
 use Rattle.rehearse_terms.specs.Bounds.{are_bounds}
-use Rattle.rehearse.specs.Laws.{failing}
+use Rattle.rehearse_rules.specs.Laws.{failing}
 use Rattle.rehearse_terms.specs.Outcomes.{Success, Failure}
 use Rattle.hushlang.specs.Trees.{tree_of}
 use Rattle.rehearse_terms.specs.State.{Text}
-use Rattle.rehearse.specs.Runs.{Task, runs, all_runs, work}
-use Rattle.rehearse.proofs.ExampleRehearsals.{only_load, limits, bootcmd, z, listed, listed_after, works, times, is_listed, ends_along, ends_behind, listed_along, listed_behind, works_along, along, behind, working}
+use Rattle.rehearse_rules.specs.Runs.{Task, runs, all_runs, work}
+use Rattle.rehearse_rules.proofs.ExampleRehearsals.{only_load, limits, bootcmd, z, listed, listed_after, works, times, is_listed, ends_along, ends_behind, listed_along, listed_behind, works_along, along, behind, working}
 
 -- ---- two attempts to load, and the status of the last
 

@@ -4,8 +4,8 @@ use Rattle.std.specs.Fmt.{digits}
 use Rattle.hushlang.specs.Expansion.{fields, joined, atoms}
 use Rattle.hushlang.specs.Trees.{tree_of}
 use Rattle.rehearse_terms.specs.State.{get}
-use Rattle.rehearse.specs.Runs.{run_on, state_of}
-use Rattle.rehearse.proofs.ExampleRehearsals.{usual, bootcmd, z, listed, ends_along, listed_along, along}
+use Rattle.rehearse_rules.specs.Runs.{run_on, state_of}
+use Rattle.rehearse_rules.proofs.ExampleRehearsals.{usual, bootcmd, z, listed, ends_along, listed_along, along}
 
 -- a value that is doubled until the words of a command have too many bytes
 doubled_until_too_large : listed (bootcmd usual (codes "setenv a 0123456789abcdef; while true; do setenv a $a$a; done")) z None ≡ codes "run .\nunset z\nstop size\ndone\n"

@@ -3,8 +3,8 @@ use Rattle.std.proofs.Common.{ℕ, [], ◌∷◌, ◌++◌, None, codes, refl, �
 use Rattle.std.specs.Fmt.{digits}
 use Rattle.hushlang.specs.Expansion.{fields, joined, atoms}
 use Rattle.hushlang.specs.Trees.{tree_of}
-use Rattle.rehearse.specs.Runs.{Task, runs, work}
-use Rattle.rehearse.proofs.ExampleRehearsals.{only_load, limits, bootcmd, z, listed, times, ends_along, listed_along, along}
+use Rattle.rehearse_rules.specs.Runs.{Task, runs, work}
+use Rattle.rehearse_rules.proofs.ExampleRehearsals.{only_load, limits, bootcmd, z, listed, times, ends_along, listed_along, along}
 
 -- ---- many runs
 

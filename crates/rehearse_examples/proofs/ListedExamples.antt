@@ -3,8 +3,8 @@ use Rattle.std.proofs.Common.{◌≡◌, [], ◌∷◌, None, Result, Ok, Err, c
 use Rattle.rehearse_terms.specs.State.{Text}
 use Rattle.device_list.specs.DeviceList.{Devices, only, listed as devices_listed}
 use Rattle.device_list.specs.declared.devices_error.DevicesError.{DevicesError}
-use Rattle.rehearse.specs.Execution.{Limits}
-use Rattle.rehearse.proofs.ExampleRehearsals.{limits, bootcmd, bootcmd_among, z, listed, ends_along, listed_along, along}
+use Rattle.rehearse_rules.specs.Execution.{Limits}
+use Rattle.rehearse_rules.proofs.ExampleRehearsals.{limits, bootcmd, bootcmd_among, z, listed, ends_along, listed_along, along}
 
 abbrev devices_in : Result Devices DevicesError → Devices
 devices_in (Ok devices) = devices

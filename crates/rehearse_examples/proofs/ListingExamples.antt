@@ -6,8 +6,8 @@ use Rattle.hushlang.specs.Expansion.{fields, joined, atoms}
 use Rattle.rehearse_terms.specs.Outcomes.{Success, Failure, Run, Short, Long}
 use Rattle.hushlang.specs.Trees.{tree_of}
 use Rattle.rehearse_terms.specs.State.{Text}
-use Rattle.rehearse.specs.Runs.{Task, task_of, kind, runs, work}
-use Rattle.rehearse.proofs.ExampleRehearsals.{only_load, limits, usual, cut_listing, bootcmd, bootcmd_among, z, listed, listed_after, works, ends_along, ends_behind, listed_along, listed_behind, works_along, along, behind, working}
+use Rattle.rehearse_rules.specs.Runs.{Task, task_of, kind, runs, work}
+use Rattle.rehearse_rules.proofs.ExampleRehearsals.{only_load, limits, usual, cut_listing, bootcmd, bootcmd_among, z, listed, listed_after, works, ends_along, ends_behind, listed_along, listed_behind, works_along, along, behind, working}
 
 -- ---- two attempts to load, and the status of the last: every variable is listed
 

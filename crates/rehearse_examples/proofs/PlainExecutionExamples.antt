@@ -5,10 +5,10 @@ use Rattle.hushlang.specs.Expansion.{fields, joined, atoms}
 use Rattle.hushlang.specs.Trees.{tree_of}
 use Rattle.rehearse_terms.specs.State.{Text, Variables}
 use Rattle.device_list.specs.PlainList.{plain_names}
-use Rattle.rehearse.specs.PlainExecution.{PlainTask, plain_runs, plain_record}
-use Rattle.rehearse.specs.Listing.{listing}
+use Rattle.rehearse_rules.specs.PlainExecution.{PlainTask, plain_runs, plain_record}
+use Rattle.rehearse_rules.specs.Listing.{listing}
 use Rattle.device_list.specs.declared.devices_error.DevicesError.{DevicesError}
-use Rattle.rehearse.proofs.ExampleRehearsals.{z}
+use Rattle.rehearse_rules.proofs.ExampleRehearsals.{z}
 
 unfoldable plain_listed : PlainTask → List Text → Text
 unfolding tree_of fields joined atoms digits

@@ -6,10 +6,10 @@ use Rattle.std.specs.Fmt.{digits}
 use Rattle.hushlang.specs.Expansion.{fields, joined, atoms}
 use Rattle.hushlang.specs.Trees.{tree_of}
 use Rattle.device_list.specs.DeviceList.{only}
-use Rattle.rehearse.specs.Listing.{record_of}
-use Rattle.rehearse.specs.Runs.{Task, runs}
-use Rattle.rehearse.specs.Resuming.{Point, whole, resume_point_of}
-use Rattle.rehearse.proofs.ExampleRehearsals.{only_load, limits, bootcmd, listed, listed_after}
+use Rattle.rehearse_rules.specs.Listing.{record_of}
+use Rattle.rehearse_rules.specs.Runs.{Task, runs}
+use Rattle.rehearse_rules.specs.Resuming.{Point, whole, resume_point_of}
+use Rattle.rehearse_rules.proofs.ExampleRehearsals.{only_load, limits, bootcmd, listed, listed_after}
 
 abbrev two_attempts : Task
 two_attempts = bootcmd (limits only_load 2 10000) (codes "load a || load b; echo $?")

@@ -3,9 +3,9 @@ use Rattle.std.proofs.Common.{◌≡◌, ℕ, false, [], ◌∷◌, None, Some, 
 use Rattle.rehearse_terms.specs.Outcomes.{Success, Failure}
 use Rattle.rehearse_terms.specs.State.{Text, Variables}
 use Rattle.device_list.specs.DeviceList.{Devices}
-use Rattle.rehearse.specs.Execution.{End, CutSteps, Unknown, Syntax, Size}
-use Rattle.rehearse.specs.Runs.{Task}
-use Rattle.rehearse.proofs.ExampleRehearsals.{Told, only_load, limits, bootcmd, bootcmd_among, z, listed, listed_after, told_of, told, told_with, told_within, write}
+use Rattle.rehearse_rules.specs.Execution.{End, CutSteps, Unknown, Syntax, Size}
+use Rattle.rehearse_rules.specs.Runs.{Task}
+use Rattle.rehearse_rules.proofs.ExampleRehearsals.{Told, only_load, limits, bootcmd, bootcmd_among, z, listed, listed_after, told_of, told, told_with, told_within, write}
 
 abbrev listing_with : ℕ → Text → Text
 listing_with devices text = listed (bootcmd (limits only_load devices 10000) text) z None

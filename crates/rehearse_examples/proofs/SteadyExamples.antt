@@ -2,9 +2,9 @@
 use Rattle.std.proofs.Common.{true, false, [], ◌∷◌, Some, None, codes, refl, ◌≡◌}
 use Rattle.device_list.specs.DeviceList.{Variable, LastWord, Effect, Devices, effect_of, only}
 use Rattle.device_list.specs.DeviceLaws.{quiet}
-use Rattle.rehearse.specs.Laws.{failing}
-use Rattle.rehearse.specs.Runs.{Task}
-use Rattle.rehearse.proofs.ExampleRehearsals.{limits, bootcmd, bootcmd_among, z, listed, ends_along, listed_along, along}
+use Rattle.rehearse_rules.specs.Laws.{failing}
+use Rattle.rehearse_rules.specs.Runs.{Task}
+use Rattle.rehearse_rules.proofs.ExampleRehearsals.{limits, bootcmd, bootcmd_among, z, listed, ends_along, listed_along, along}
 
 abbrev steady : Effect
 steady = record { ends = false; stays = true; sets = [] }

@@ -1,6 +1,6 @@
 -- Worked examples, computed: loops and texts that go on to the usual bound of 10,000 steps.
 use Rattle.std.proofs.Common.{None, codes, refl, ◌≡◌}
-use Rattle.rehearse.proofs.ExampleRehearsals.{usual, cut_listing, bootcmd, z, listed, ends_along, listed_along, along}
+use Rattle.rehearse_rules.proofs.ExampleRehearsals.{usual, cut_listing, bootcmd, z, listed, ends_along, listed_along, along}
 
 -- the usual step bound is reached too
 usual_bound_of_steps : listed (bootcmd usual (codes "while true; do true; done")) z None ≡ cut_listing

@@ -9,16 +9,16 @@ use Rattle.hushlang.specs.TreesShown as view
 use Rattle.hushlang.specs.Expansion as expansion
 use Rattle.hushlang.specs.Expansion.{joined, most_bytes}
 use Rattle.hushlang.proofs.ExpandLemmas.{drop_next}
-use Rattle.bootstore.specs.declared.store.StoreError.{StoreError}
-use Rattle.bootstore.specs.declared.frame.At.{At}
-use Rattle.bootstore.specs.Moment.{RunningFrame}
-use Rattle.bootstore.specs.Record.{Record, changed, stepped, with_local, without_first}
+use Rattle.bootstore_state.specs.declared.store.StoreError.{StoreError}
+use Rattle.bootstore_state.specs.declared.frame.At.{At}
+use Rattle.bootstore_state.specs.Moment.{RunningFrame}
+use Rattle.bootstore_state.specs.Record.{Record, changed, stepped, with_local, without_first}
 use Rattle.rehearse_terms.specs.Outcomes.{OutcomeWord}
 use Rattle.rehearse_terms.specs.State.{Text, State}
-use Rattle.rehearse.specs.Parameters.{parameters_in}
-use Rattle.bootstore.specs.StoredState.{state_at}
-use Rattle.rehearse.specs.Execution.{Limits, Size, CutSteps, set_local, set_status}
-use Rattle.rehearse.specs.declared.halt.Halt.TheVariants as halts
+use Rattle.rehearse_rules.specs.Parameters.{parameters_in}
+use Rattle.bootstore_state.specs.StoredState.{state_at}
+use Rattle.rehearse_rules.specs.Execution.{Limits, Size, CutSteps, set_local, set_status}
+use Rattle.rehearse_rules.specs.declared.halt.Halt.TheVariants as halts
 use Rattle.rehearse_machine.specs.declared.ask.Step.{Step}
 use Rattle.rehearse_machine.specs.declared.ask.Step.TheVariants as steps
 use Rattle.rehearse_machine.specs.Places.{PlaceNext, GoOn, StopOn, place, moved_to, behind, place_assign, place_command}

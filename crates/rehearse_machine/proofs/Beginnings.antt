@@ -3,16 +3,16 @@ use Rattle.std.proofs.Common.{ℕ, suc, Bool, true, false, List, ◌∷◌, Resu
 use Rattle.hushlang.specs.Tree as tree
 use Rattle.hushlang.specs.Expansion as expansion
 use Rattle.hushlang.specs.Expansion.{fields, size, most_bytes}
-use Rattle.bootstore.specs.declared.store.StoreError.{StoreError}
-use Rattle.bootstore.specs.declared.frame.At.{At}
-use Rattle.bootstore.specs.Moment.{RunningFrame}
-use Rattle.bootstore.specs.Record.{Record, stepped, moved}
+use Rattle.bootstore_state.specs.declared.store.StoreError.{StoreError}
+use Rattle.bootstore_state.specs.declared.frame.At.{At}
+use Rattle.bootstore_state.specs.Moment.{RunningFrame}
+use Rattle.bootstore_state.specs.Record.{Record, stepped, moved}
 use Rattle.rehearse_terms.specs.Outcomes.{OutcomeWord}
 use Rattle.rehearse_terms.specs.State.{Text, State}
-use Rattle.rehearse.specs.Parameters.{parameters_in}
-use Rattle.bootstore.specs.StoredState.{state_at}
-use Rattle.rehearse.specs.Execution.{Limits, Size, CutSteps}
-use Rattle.rehearse.specs.declared.halt.Halt.TheVariants as halts
+use Rattle.rehearse_rules.specs.Parameters.{parameters_in}
+use Rattle.bootstore_state.specs.StoredState.{state_at}
+use Rattle.rehearse_rules.specs.Execution.{Limits, Size, CutSteps}
+use Rattle.rehearse_rules.specs.declared.halt.Halt.TheVariants as halts
 use Rattle.rehearse_machine.specs.declared.ask.Step.{Step}
 use Rattle.rehearse_machine.specs.declared.ask.Step.TheVariants as steps
 use Rattle.rehearse_machine.specs.Places.{PlaceNext, StopOn, place, moved_to, behind, place_counted, place_fitting}

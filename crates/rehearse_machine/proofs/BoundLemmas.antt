@@ -4,8 +4,8 @@ use Rattle.hushlang.specs.Tree as tree
 use Rattle.hushlang.specs.Tree.{Script, AndOr, Command, Arms, IsProperList, IsProperCommand, HoldsCommand}
 use Rattle.hushlang.specs.Expansion.{fields}
 use Rattle.rehearse_terms.specs.State.{State}
-use Rattle.rehearse.specs.Parameters.{parameters_in}
-use Rattle.rehearse.specs.Execution.{Limits, Answer, Ended, CutSteps, begin, simple, sized, assign, turns, for_each, exec_script, exec_list, exec_command, exec_arms}
+use Rattle.rehearse_rules.specs.Parameters.{parameters_in}
+use Rattle.rehearse_rules.specs.Execution.{Limits, Answer, Ended, CutSteps, begin, simple, sized, assign, turns, for_each, exec_script, exec_list, exec_command, exec_arms}
 
 module _ (limits : Limits) (left : ℕ) (text : Script → State → Answer) where
   pub Cut-begin : (s : State) (f : State → Answer) → limits.step_bound ≤ s.steps → begin limits f s ≡ Ended CutSteps s

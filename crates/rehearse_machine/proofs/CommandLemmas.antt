@@ -14,8 +14,8 @@ use Rattle.hushlang.specs.Tree as tree
 use Rattle.hushlang.specs.Tree.{Script, Command}
 use Rattle.hushlang.specs.TreesShown as view
 use Rattle.hushlang.proofs.ViewLemmas.{command_simple, command_assign, command_loop, command_for, command_if}
-use Rattle.bootstore.specs.declared.frame.At.{At}
-use Rattle.bootstore.specs.Moment.{RunningFrame}
+use Rattle.bootstore_state.specs.declared.frame.At.{At}
+use Rattle.bootstore_state.specs.Moment.{RunningFrame}
 use Rattle.rehearse_terms.specs.State.{State}
 use Rattle.rehearse_machine.specs.Places.{GoOn, drop_arms, place, moved_to, in_turn, block_frame, condition_ends, loop_ends, phase_move}
 use Rattle.rehearse_machine.proofs.ArmLemmas.{Arm}

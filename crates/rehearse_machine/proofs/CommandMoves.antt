@@ -5,22 +5,24 @@ use Rattle.std.specs.List.{join_with_byte}
 use Rattle.std.proofs.lemmas.Bool.{lt-leb}
 use Rattle.std.proofs.Math.Dec.{eqb, eqb-suc-zero}
 use Rattle.std.specs.declared.alloc.Global.{Global}
-use Rattle.bootstore.specs.declared.store.StoreError.{StoreError}
-use Rattle.bootstore.specs.Moment.{Moment, RunningFrame}
+use Rattle.bootstore_state.specs.declared.store.StoreError.{StoreError}
+use Rattle.bootstore_state.specs.Moment.{Moment, RunningFrame}
 use Rattle.text.specs.TextsShown.{bytes_of_words}
-use Rattle.bootstore.specs.Record.{Record, changed, with_environment, with_status}
+use Rattle.bootstore_state.specs.Record.{Record, changed, with_environment, with_status}
 use Rattle.hushlang.specs.Tree.{Script}
 use Rattle.rehearse_terms.specs.Outcomes.{OutcomeWord}
 use Rattle.rehearse_terms.specs.State.{Text, Variables, State, with_value, without}
-use Rattle.bootstore.specs.StoredState.{state_at}
+use Rattle.bootstore_state.specs.StoredState.{state_at}
 use Rattle.builtins.specs.Builtins.{Builtin, builtin_named, builtin_of}
-use Rattle.rehearse.proofs.GivenRuns.{called_apart}
-use Rattle.device_list.specs.Commands.{Called, ChangesVariables, WritesText, Tests, BuiltIn, Device, NoCommand, carried, deed_of, listed_by, other_called, asks_device, is_bad_name, setenv, variables_changed, text_written, is_digit, decimal_from}
-use Rattle.rehearse.specs.Execution.{Limits, Request, test_effect, remember, set_status, status_when}
-use Rattle.device_list.specs.Verdict.{verdict}
-use Rattle.device_list.specs.Computed.{Computed}
+use Rattle.rehearse_rules.proofs.GivenRuns.{called_apart}
+use Rattle.device_list.specs.Called.{Called, BuiltIn, Device, NoCommand, listed_by, other_called}
+use Rattle.commands.specs.BuiltInCommands.{ChangesVariables, WritesText, Tests, carried, deed_of, asks_device, setenv, variables_changed, text_written, is_digit, decimal_from}
+use Rattle.commands.specs.VariableNames.{is_bad_name}
+use Rattle.rehearse_rules.specs.Execution.{Limits, Request, test_effect, remember, set_status, status_when}
+use Rattle.commands.specs.Verdict.{verdict}
+use Rattle.commands.specs.Computed.{Computed}
 use Rattle.device_list.specs.DeviceList.{Effect, Devices, computed_by, effect_of}
-use Rattle.bootstore.proofs.StateLemmas.{stored_changes, stored_deletions}
+use Rattle.bootstore_state.proofs.StateLemmas.{stored_changes, stored_deletions}
 use Rattle.rehearse_machine.specs.declared.ask.Step.{Step}
 use Rattle.rehearse_machine.specs.declared.ask.Step.TheVariants as steps
 use Rattle.rehearse_machine.specs.Places.{GoOn, place_ask, place_called, place_fields}

@@ -6,15 +6,15 @@ use Rattle.std.specs.FinMap.{entries}
 use Rattle.std.proofs.Math.ListN.{drop_of_length-le}
 use Rattle.std.specs.declared.alloc.Global.{Global}
 use Rattle.hushlang.proofs.ExpandLemmas.{drop_next}
-use Rattle.bootstore.specs.declared.store.StoreError.{StoreError}
-use Rattle.bootstore.specs.Record.{Record, changed, with_environment, with_status}
-use Rattle.bootstore.specs.StoredState.{state_at}
-use Rattle.bootstore.proofs.StateLemmas.{stored_changes, stored_deletions}
+use Rattle.bootstore_state.specs.declared.store.StoreError.{StoreError}
+use Rattle.bootstore_state.specs.Record.{Record, changed, with_environment, with_status}
+use Rattle.bootstore_state.specs.StoredState.{state_at}
+use Rattle.bootstore_state.proofs.StateLemmas.{stored_changes, stored_deletions}
 use Rattle.text.specs.TextsShown.{bytes_of_words}
 use Rattle.rehearse_terms.specs.Outcomes.{OutcomeWord}
 use Rattle.rehearse_terms.specs.State.{Text, Variables, Memory, get, with_value, without}
-use Rattle.device_list.specs.Commands.{changed_by, deletions}
-use Rattle.rehearse.specs.Execution.{remember}
+use Rattle.commands.specs.BuiltInCommands.{changed_by, deletions}
+use Rattle.rehearse_rules.specs.Execution.{remember}
 use Rattle.rehearse_machine.specs.MovesShown.{Keeps, Changes, Changed}
 use Rattle.rehearse_machine.proofs.StoreMoves.{keeps_both, keeps_change}
 

@@ -3,14 +3,14 @@ use Rattle.std.proofs.Common.{ℕ, suc, true, false, List, [], ◌∷◌, length
 use Rattle.std.specs.Prelude.{Vec}
 use Rattle.std.proofs.Math.Dec.{eqb, eqb-suc-zero}
 use Rattle.std.specs.declared.alloc.Global.{Global}
-use Rattle.bootstore.specs.declared.frame.At.{At}
-use Rattle.bootstore.specs.declared.frame.FrameKind.TheVariants as kinds
-use Rattle.bootstore.specs.declared.store.StoreError.{StoreError}
-use Rattle.bootstore.specs.Moment.{RunningFrame}
-use Rattle.bootstore.specs.Record.{Record}
+use Rattle.bootstore_state.specs.declared.frame.At.{At}
+use Rattle.bootstore_state.specs.declared.frame.FrameKind.TheVariants as kinds
+use Rattle.bootstore_state.specs.declared.store.StoreError.{StoreError}
+use Rattle.bootstore_state.specs.Moment.{RunningFrame}
+use Rattle.bootstore_state.specs.Record.{Record}
 use Rattle.text.specs.TextsShown.{bytes_of_words}
 use Rattle.rehearse_terms.specs.State.{Text, State}
-use Rattle.rehearse.specs.Execution.{set_status}
+use Rattle.rehearse_rules.specs.Execution.{set_status}
 use Rattle.rehearse_machine.specs.declared.ask.Step.{Step}
 use Rattle.rehearse_machine.specs.Places.{GoOn, place, moved_to, values_frame, for_begins}
 use Rattle.rehearse_machine.specs.MovesShown.{Comes, under}

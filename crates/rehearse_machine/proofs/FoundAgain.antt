@@ -8,15 +8,15 @@ use Rattle.hushlang.specs.declared.call.Call.{Call}
 use Rattle.hushlang.specs.declared.tree.Command.{Command as CommandCode, Simple}
 use Rattle.hushlang.specs.Expansion as expansion
 use Rattle.hushlang.specs.Expansion.{fields, size, most_bytes}
-use Rattle.bootstore.specs.declared.frame.At.{At}
-use Rattle.bootstore.specs.Moment.{RunningFrame}
-use Rattle.bootstore.specs.Record.{Record}
+use Rattle.bootstore_state.specs.declared.frame.At.{At}
+use Rattle.bootstore_state.specs.Moment.{RunningFrame}
+use Rattle.bootstore_state.specs.Record.{Record}
 use Rattle.rehearse_terms.specs.Outcomes as outcomes
 use Rattle.rehearse_terms.specs.State.{Text}
-use Rattle.rehearse.specs.Parameters.{parameters_in}
-use Rattle.bootstore.specs.StoredState.{state_at}
-use Rattle.rehearse.specs.Execution.{Limits, Size}
-use Rattle.rehearse.specs.declared.halt.Halt.TheVariants as halts
+use Rattle.rehearse_rules.specs.Parameters.{parameters_in}
+use Rattle.bootstore_state.specs.StoredState.{state_at}
+use Rattle.rehearse_rules.specs.Execution.{Limits, Size}
+use Rattle.rehearse_rules.specs.declared.halt.Halt.TheVariants as halts
 use Rattle.rehearse_machine.specs.declared.ask.Step.TheVariants as steps
 use Rattle.rehearse_machine.specs.Places.{StopOn, list_at, command_in, command_at, place_fields}
 use Rattle.rehearse_machine.specs.AskingCommand.{command_in_front, words_of, words_in_front, fields_again}

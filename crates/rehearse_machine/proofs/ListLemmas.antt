@@ -9,10 +9,10 @@ use Rattle.hushlang.specs.Tree as tree
 use Rattle.hushlang.specs.Tree.{AndOr, Command}
 use Rattle.hushlang.specs.TreesShown as view
 use Rattle.hushlang.proofs.ViewLemmas.{list_of}
-use Rattle.bootstore.specs.declared.frame.At.{At}
-use Rattle.bootstore.specs.Moment.{RunningFrame}
+use Rattle.bootstore_state.specs.declared.frame.At.{At}
+use Rattle.bootstore_state.specs.Moment.{RunningFrame}
 use Rattle.rehearse_terms.specs.State.{State}
-use Rattle.rehearse.specs.Execution.{Limits, goes}
+use Rattle.rehearse_rules.specs.Execution.{Limits, goes}
 use Rattle.rehearse_machine.specs.Places.{GoOn, joined_at, place, moved_to, behind, place_command, place_joined, place_begins}
 use Rattle.rehearse_machine.proofs.Beginnings.{chosen, passed}
 

@@ -4,17 +4,18 @@ use Rattle.hushlang.specs.Tree as tree
 use Rattle.hushlang.specs.Tree.{Script, Command, Arms, IsProper, IsProperCommand, HoldsCommand}
 use Rattle.hushlang.specs.Expansion.{fields, joined, size, most_bytes}
 use Rattle.hushlang.specs.Trees.{tree_of}
-use Rattle.device_list.specs.Verdict.{verdict}
+use Rattle.commands.specs.Verdict.{verdict}
 use Rattle.rehearse_terms.specs.Outcomes.{OutcomeWord, Success}
 use Rattle.rehearse_terms.specs.State.{Text, get, State}
-use Rattle.rehearse.specs.Parameters.{parameters_in}
-use Rattle.device_list.specs.Commands.{Called, ChangesVariables, WritesText, RunsTexts, Tests, Exits, BuiltIn, NoCommand, Device, called_by, asks_device, exit_status, sets_in}
-use Rattle.rehearse.specs.Execution.{Limits, Answer, Normal, Exit, Ended, Dry, Ending, CutDevices, CutSteps, Unknown, Syntax, Size, go_on, set_status, set_local, status_when, goes, holds, begin, tell_or_take, told, told_again, logged, boot, set_environment, Booted, device, Request, test_effect, text_end, run_text, run_all, command, simple, sized, assign, turns, for_each}
+use Rattle.rehearse_rules.specs.Parameters.{parameters_in}
+use Rattle.device_list.specs.Called.{Called, BuiltIn, NoCommand, Device, called_by, sets_in}
+use Rattle.commands.specs.BuiltInCommands.{ChangesVariables, WritesText, RunsTexts, Tests, Exits, asks_device, exit_status}
+use Rattle.rehearse_rules.specs.Execution.{Limits, Answer, Normal, Exit, Ended, Dry, Ending, CutDevices, CutSteps, Unknown, Syntax, Size, go_on, set_status, set_local, status_when, goes, holds, begin, tell_or_take, told, told_again, logged, boot, set_environment, Booted, device, Request, test_effect, text_end, run_text, run_all, command, simple, sized, assign, turns, for_each}
 use Rattle.rehearse_machine.specs.Frames.{Frame, Lists, Linked, IfCondition, LoopCondition, LoopBody, ForBody, RunNames, RunText, Next, Go, Stop, tell_or_ask, boot_next, leave, begin_assign, begin_for, begin_arms, begin_tree, begin_text, begin_names, begin_exit, fitting, ask, begin_called, begin_fields, counted, begin_command, move}
 use Rattle.rehearse_machine.specs.Came.{Over, Wants}
 use Rattle.rehearse_machine.specs.Meaning.{with, full, script, one, joined_of, arms_of, again, resume, continue, comes_to, AreProperFrames}
-use Rattle.rehearse.proofs.GrowingSteps.{Grew, AtLeast-track, Grew-block}
-use Rattle.rehearse.proofs.TakenOutcomes.{KeepsAll, after_condition, Keeps-script, Keeps-exec}
+use Rattle.rehearse_rules.proofs.GrowingSteps.{Grew, AtLeast-track, Grew-block}
+use Rattle.rehearse_rules.proofs.TakenOutcomes.{KeepsAll, after_condition, Keeps-script, Keeps-exec}
 use Rattle.hushlang.proofs.ProperLemmas.{trees_are_proper}
 use Rattle.rehearse_machine.proofs.BoundLemmas.{Cut-block}
 use Rattle.rehearse_machine.proofs.StepBoundLemmas.{same_go_on, same_if, closed_exec, same_turns}

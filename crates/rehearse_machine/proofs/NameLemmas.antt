@@ -8,16 +8,16 @@ use Rattle.hushlang.specs.Tree.{Script}
 use Rattle.hushlang.specs.TreesShown as view
 use Rattle.hushlang.specs.declared.tree.AndOr.{AndOr as ListCode}
 use Rattle.hushlang.specs.declared.tree.Script.{Script as Code, out-Script}
-use Rattle.bootstore.specs.declared.store.StoreError.{StoreError}
-use Rattle.bootstore.specs.declared.frame.At.{At}
-use Rattle.bootstore.specs.Moment.{RunningFrame}
-use Rattle.bootstore.specs.Record.{Record, changed, with_status, without_frame}
+use Rattle.bootstore_state.specs.declared.store.StoreError.{StoreError}
+use Rattle.bootstore_state.specs.declared.frame.At.{At}
+use Rattle.bootstore_state.specs.Moment.{RunningFrame}
+use Rattle.bootstore_state.specs.Record.{Record, changed, with_status, without_frame}
 use Rattle.rehearse_terms.specs.Outcomes.{OutcomeWord}
 use Rattle.hushlang.specs.Trees.{tree_of}
 use Rattle.rehearse_terms.specs.State.{Text, State, get}
-use Rattle.bootstore.specs.StoredState.{state_at}
-use Rattle.rehearse.specs.Execution.{set_status, Syntax}
-use Rattle.bootstore.proofs.StateLemmas.{stored_values}
+use Rattle.bootstore_state.specs.StoredState.{state_at}
+use Rattle.rehearse_rules.specs.Execution.{set_status, Syntax}
+use Rattle.bootstore_state.proofs.StateLemmas.{stored_values}
 use Rattle.rehearse_machine.specs.Frames.{begun_text}
 use Rattle.rehearse_machine.specs.Places.{PlaceNext, GoOn, StopOn, place, moved_to, in_turn, text_frame, place_name, place_text, place_tree}
 use Rattle.rehearse_machine.specs.MovesShown.{under, Keeps, Does, Comes}

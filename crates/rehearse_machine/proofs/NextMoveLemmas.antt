@@ -3,13 +3,13 @@ use Rattle.std.proofs.Common.{ℕ, Bool, true, nat_le, List, [], ◌∷◌, ◌+
 use Rattle.std.specs.Prelude.{slice_get}
 use Rattle.hushlang.specs.Tree as tree
 use Rattle.hushlang.specs.Expansion.{fields, size, most_bytes}
-use Rattle.bootstore.specs.declared.store.StoreError.{StoreError}
-use Rattle.bootstore.specs.Moment.{Moment, RunningFrame}
-use Rattle.bootstore.specs.Record.{Record, stepped, without_first}
-use Rattle.bootstore.specs.StoredState.{state_at}
+use Rattle.bootstore_state.specs.declared.store.StoreError.{StoreError}
+use Rattle.bootstore_state.specs.Moment.{Moment, RunningFrame}
+use Rattle.bootstore_state.specs.Record.{Record, stepped, without_first}
+use Rattle.bootstore_state.specs.StoredState.{state_at}
 use Rattle.rehearse_terms.specs.Outcomes.{OutcomeWord}
 use Rattle.rehearse_terms.specs.State.{Text, State}
-use Rattle.rehearse.specs.Execution.{Limits}
+use Rattle.rehearse_rules.specs.Execution.{Limits}
 use Rattle.rehearse_machine.specs.declared.ask.Step.{Step}
 use Rattle.rehearse_machine.specs.declared.next_move.Next.{Next}
 use Rattle.rehearse_machine.specs.declared.next_move.Next.TheVariants as nexts

@@ -3,17 +3,17 @@ use Rattle.std.proofs.Common.{ℕ, Bool, true, false, List, [], ◌∷◌, ◌+�
 use Rattle.std.proofs.Math.ListN.{drop_of_length-le}
 use Rattle.std.specs.FinMap.{entries}
 use Rattle.hushlang.proofs.ExpandLemmas.{drop_next}
-use Rattle.bootstore.specs.Moment.{RunningFrame}
-use Rattle.bootstore.specs.Record.{Record, changed, with_environment, with_device, with_status}
+use Rattle.bootstore_state.specs.Moment.{RunningFrame}
+use Rattle.bootstore_state.specs.Record.{Record, changed, with_environment, with_device, with_status}
 use Rattle.rehearse_terms.specs.Outcomes.{OutcomeWord, Outcome, Success, Failure}
-use Rattle.device_list.specs.Commands.{variable_of, sets_in}
+use Rattle.device_list.specs.Called.{variable_of, sets_in}
 use Rattle.device_list.specs.DeviceList as says
 use Rattle.device_list.specs.DevicesShown.{setting_shown}
 use Rattle.device_list.specs.declared.setting.Setting.{Setting}
 use Rattle.rehearse_terms.specs.State.{Text, Variables, State, LoggedCommand}
-use Rattle.bootstore.specs.StoredState.{state_at}
-use Rattle.rehearse.specs.Execution.{Request, Booted, remember, succeeds, status_when, logged, with_all, set_environment}
-use Rattle.bootstore.proofs.StateLemmas.{stored_changes}
+use Rattle.bootstore_state.specs.StoredState.{state_at}
+use Rattle.rehearse_rules.specs.Execution.{Request, Booted, remember, succeeds, status_when, logged, with_all, set_environment}
+use Rattle.bootstore_state.proofs.StateLemmas.{stored_changes}
 use Rattle.rehearse_machine.specs.declared.ask.Step.{Step}
 use Rattle.rehearse_machine.specs.declared.ask.Step.TheVariants as steps
 use Rattle.rehearse_machine.specs.Places.{GoOn, StopOn, place_boot, place_answered}

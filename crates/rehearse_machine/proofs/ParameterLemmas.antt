@@ -10,11 +10,11 @@ use Rattle.std.specs.Ordering.{nat_cmp, eq_by_cmp}
 use Rattle.std.proofs.lemmas.Cmp.{nat_list_cmp_total}
 use Rattle.std.specs.Cmp.Lexicographic.{slice_cmp}
 use Rattle.hushlang.specs.Expansion as expansion
-use Rattle.bootstore.specs.Moment.{Bytes, Variables, Moment}
+use Rattle.bootstore_state.specs.Moment.{Bytes, Variables, Moment}
 use Rattle.rehearse_terms.specs.Outcomes.{OutcomeWord}
 use Rattle.rehearse_terms.specs.State.{Text, value_in}
-use Rattle.rehearse.specs.Parameters.{parameters_in}
-use Rattle.bootstore.specs.StoredState.{state_at}
+use Rattle.rehearse_rules.specs.Parameters.{parameters_in}
+use Rattle.bootstore_state.specs.StoredState.{state_at}
 use Rattle.rehearse_machine.specs.Variables.{in_front, all_variables}
 
 abbrev pub over : Option Bytes → Option Bytes → Option Bytes

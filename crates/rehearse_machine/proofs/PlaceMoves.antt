@@ -6,18 +6,19 @@ use Rattle.hushlang.specs.Tree as tree
 use Rattle.hushlang.specs.Tree.{Script, AndOr, Joined, Command, Arms}
 use Rattle.hushlang.specs.Expansion.{fields, joined, size, most_bytes}
 use Rattle.hushlang.specs.declared.tree.Op.{Op}
-use Rattle.bootstore.specs.declared.frame.At.{At}
-use Rattle.bootstore.specs.declared.frame.FrameKind.{FrameKind}
-use Rattle.bootstore.specs.declared.frame.FrameKind.TheVariants as kinds
-use Rattle.bootstore.specs.Moment.{RunningFrame}
-use Rattle.bootstore.specs.Record.{without_first}
+use Rattle.bootstore_state.specs.declared.frame.At.{At}
+use Rattle.bootstore_state.specs.declared.frame.FrameKind.{FrameKind}
+use Rattle.bootstore_state.specs.declared.frame.FrameKind.TheVariants as kinds
+use Rattle.bootstore_state.specs.Moment.{RunningFrame}
+use Rattle.bootstore_state.specs.Record.{without_first}
 use Rattle.rehearse_terms.specs.Outcomes.{Outcome, Success, Failure}
 use Rattle.hushlang.specs.Trees.{tree_of}
 use Rattle.rehearse_terms.specs.State.{Text, get, State}
-use Rattle.rehearse.specs.Parameters.{parameters_in}
-use Rattle.device_list.specs.Verdict.{verdict}
-use Rattle.device_list.specs.Commands.{Called, ChangesVariables, WritesText, RunsTexts, Tests, Exits, BuiltIn, NoCommand, Device, called_by, sets_in, asks_device, exit_status}
-use Rattle.rehearse.specs.Execution.{Limits, End, CutDevices, CutSteps, Size, set_status, set_local, status_when, goes, holds, Request, test_effect, outcome_when, told, told_again, logged, set_environment}
+use Rattle.rehearse_rules.specs.Parameters.{parameters_in}
+use Rattle.commands.specs.Verdict.{verdict}
+use Rattle.device_list.specs.Called.{Called, BuiltIn, NoCommand, Device, called_by, sets_in}
+use Rattle.commands.specs.BuiltInCommands.{ChangesVariables, WritesText, RunsTexts, Tests, Exits, asks_device, exit_status}
+use Rattle.rehearse_rules.specs.Execution.{Limits, End, CutDevices, CutSteps, Size, set_status, set_local, status_when, goes, holds, Request, test_effect, outcome_when, told, told_again, logged, set_environment}
 use Rattle.rehearse_machine.specs.Frames.{Frame, Lists, Linked, IfCondition, LoopCondition, LoopBody, ForBody, Next, Go, Stop, leave, boot_next, answered, tell_or_ask, begin_assign, begin_for, begin_arms, begun_text, begin_tree, begin_text, begin_names, begin_exit, fitting, ask, begin_called, begin_fields, counted, begin_command, move}
 use Rattle.rehearse_machine.specs.Places.{list_at, drop_lists, joined_at, drop_joined, second, command_in, command_at, drop_arms, place, from_command, condition_frame, phase, from_turn, script_frames, for_frame, run_frame, frames_by, frames_of, PlaceNext, GoOn, StopOn, next_of, moved_to, behind, in_turn, text_frame, block_frame, is_run, to_run, left, place_exit, place_boot, place_answered, place_tell_or_ask, place_assign, place_tree, place_text, place_name, run_move, for_turn, for_move, for_begins, place_arms, condition_ends, phase_move, place_fitting, place_ask, place_called, place_fields, place_counted, place_command, place_joined, place_begins, place_turn, place_list, place_by, place_move}
 use Rattle.rehearse_machine.proofs.Beginnings.{chosen, passed}

@@ -5,9 +5,9 @@ use Rattle.hushlang.specs.Tree.{Script, IsProper}
 use Rattle.rehearse_terms.specs.Outcomes.{OutcomeWord, Outcome, Success, Failure}
 use Rattle.hushlang.specs.Trees.{tree_of}
 use Rattle.rehearse_terms.specs.State.{Text, State, start}
-use Rattle.device_list.specs.Commands.{sets_in}
-use Rattle.rehearse.specs.Execution.{Syntax, Booted, Request, take_outcome, boot, logged, set_environment}
-use Rattle.rehearse.specs.Runs.{Task, run_on}
+use Rattle.device_list.specs.Called.{sets_in}
+use Rattle.rehearse_rules.specs.Execution.{Syntax, Booted, Request, take_outcome, boot, logged, set_environment}
+use Rattle.rehearse_rules.specs.Runs.{Task, run_on}
 use Rattle.hushlang.proofs.ProperLemmas.{trees_are_proper}
 use Rattle.rehearse_machine.specs.Frames.{Frame, Lists, Next, Go, Ask, Stop, move, boot_next, answered, begun_text}
 use Rattle.rehearse_machine.specs.Came.{settled}

@@ -5,11 +5,12 @@ use Rattle.hushlang.specs.Tree.{Script, AndOr, Joined, Command, Arms, IsProper, 
 use Rattle.hushlang.specs.Expansion.{fields, size, most_bytes}
 use Rattle.hushlang.specs.Trees.{tree_of}
 use Rattle.rehearse_terms.specs.State.{Text, get, State}
-use Rattle.rehearse.specs.Parameters.{parameters_in}
-use Rattle.device_list.specs.Commands.{Called, ChangesVariables, WritesText, RunsTexts, Tests, Exits, BuiltIn, NoCommand, Device, called_by}
-use Rattle.rehearse.specs.Execution.{Limits, Answer, Normal, Exit, Ended, Dry, CutSteps, Syntax, Size, go_on, set_status, set_local, goes, holds, begin, text_end, run_text, run_all, command, simple, sized, turns, for_each, exec_script, exec_list, exec_joined, exec_command, exec_arms, exec}
-use Rattle.rehearse.proofs.GrowingSteps.{AtLeast, Grew, AtLeast-track, Grew-block}
-use Rattle.rehearse.proofs.TakenOutcomes.{KeepsAll, after_condition, Keeps-script, Keeps-list, Keeps-one, Keeps-exec, Keeps-text}
+use Rattle.rehearse_rules.specs.Parameters.{parameters_in}
+use Rattle.device_list.specs.Called.{Called, BuiltIn, NoCommand, Device, called_by}
+use Rattle.commands.specs.BuiltInCommands.{ChangesVariables, WritesText, RunsTexts, Tests, Exits}
+use Rattle.rehearse_rules.specs.Execution.{Limits, Answer, Normal, Exit, Ended, Dry, CutSteps, Syntax, Size, go_on, set_status, set_local, goes, holds, begin, text_end, run_text, run_all, command, simple, sized, turns, for_each, exec_script, exec_list, exec_joined, exec_command, exec_arms, exec}
+use Rattle.rehearse_rules.proofs.GrowingSteps.{AtLeast, Grew, AtLeast-track, Grew-block}
+use Rattle.rehearse_rules.proofs.TakenOutcomes.{KeepsAll, after_condition, Keeps-script, Keeps-list, Keeps-one, Keeps-exec, Keeps-text}
 use Rattle.hushlang.proofs.ProperLemmas.{trees_are_proper}
 use Rattle.rehearse_machine.proofs.BoundLemmas.{Cut-block, Cut-turns}
 

@@ -1,12 +1,12 @@
 -- What a text that stopped says of the run on its outcomes.
 use Rattle.std.proofs.Common.{◌≡◌, ◌<◌, [], ◌∷◌, ◌++◌, length, sym, ap, ◌∙◌, append_assoc, append-nil}
-use Rattle.bootstore.specs.Moment.{Moment}
-use Rattle.bootstore.specs.StoredState.{state_at}
+use Rattle.bootstore_state.specs.Moment.{Moment}
+use Rattle.bootstore_state.specs.StoredState.{state_at}
 use Rattle.rehearse_terms.specs.Outcomes.{OutcomeWord, Outcome, Short}
 use Rattle.rehearse_terms.specs.State.{State}
-use Rattle.rehearse.specs.Execution.{Answer, Normal, Exit, Ended, Dry}
-use Rattle.rehearse.specs.Runs.{Task, run_on, kind, kind_of}
-use Rattle.rehearse.proofs.TaskChoices.{dry_within}
+use Rattle.rehearse_rules.specs.Execution.{Answer, Normal, Exit, Ended, Dry}
+use Rattle.rehearse_rules.specs.Runs.{Task, run_on, kind, kind_of}
+use Rattle.rehearse_rules.proofs.TaskChoices.{dry_within}
 use Rattle.rehearse_machine.specs.Came.{Wants, settled}
 use Rattle.rehearse_machine.specs.Machine.{Stops, asked_at}
 use Rattle.rehearse_machine.specs.StoppedTexts.{StoppedAt}

@@ -1,17 +1,17 @@
 -- Where a text stops, and how an outcome continues it.
 use Rattle.std.proofs.Common.{ℕ, ◌+◌, Bool, true, false, List, [], ◌∷◌, Result, Ok, Err, refl, sym, ap, subst, ◌∙◌, ◌≡◌, ◌≤◌, None, arith}
 use Rattle.std.specs.Prelude.{IfOk, OnOk}
-use Rattle.bootstore.specs.declared.store.StoreError.{StoreError}
-use Rattle.bootstore.specs.Moment.{RunningFrame, Moment}
-use Rattle.bootstore.specs.Record.{Record}
+use Rattle.bootstore_state.specs.declared.store.StoreError.{StoreError}
+use Rattle.bootstore_state.specs.Moment.{RunningFrame, Moment}
+use Rattle.bootstore_state.specs.Record.{Record}
 use Rattle.rehearse_terms.specs.Outcomes.{OutcomeWord, Outcome, Success, Failure}
 use Rattle.rehearse_terms.specs.State.{State}
-use Rattle.bootstore.specs.StoredState.{state_at}
-use Rattle.device_list.specs.Commands.{sets_in}
-use Rattle.rehearse.specs.Execution.{Limits, Request, logged, set_environment}
-use Rattle.rehearse.specs.Runs.{Task}
+use Rattle.bootstore_state.specs.StoredState.{state_at}
+use Rattle.device_list.specs.Called.{sets_in}
+use Rattle.rehearse_rules.specs.Execution.{Limits, Request, logged, set_environment}
+use Rattle.rehearse_rules.specs.Runs.{Task}
 use Rattle.rehearse_machine.specs.declared.ask.Ask.{Ask}
-use Rattle.rehearse.specs.declared.halt.Halt.{Halt}
+use Rattle.rehearse_rules.specs.declared.halt.Halt.{Halt}
 use Rattle.rehearse_machine.specs.declared.ask.Step.{Step}
 use Rattle.rehearse_machine.specs.declared.ask.Step.TheVariants as steps
 use Rattle.rehearse_machine.specs.declared.rehearsal.Stop.{Stop}

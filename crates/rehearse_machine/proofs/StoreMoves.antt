@@ -1,13 +1,13 @@
 -- Moves of a store, one after another.
 use Rattle.std.proofs.Common.{ℕ, List, [], ◌∷◌, Result, Ok, Err, refl, sym, ap, subst, ◌∙◌, ◌≡◌, arith}
-use Rattle.bootstore.specs.declared.frame.At.{At}
-use Rattle.bootstore.specs.declared.store.StoreError.{StoreError}
-use Rattle.bootstore.specs.Moment.{Moment, RunningFrame}
-use Rattle.bootstore.specs.Record.{Record, changed, with_place, with_frame, without_frame, with_status, moved}
+use Rattle.bootstore_state.specs.declared.frame.At.{At}
+use Rattle.bootstore_state.specs.declared.store.StoreError.{StoreError}
+use Rattle.bootstore_state.specs.Moment.{Moment, RunningFrame}
+use Rattle.bootstore_state.specs.Record.{Record, changed, with_place, with_frame, without_frame, with_status, moved}
 use Rattle.rehearse_terms.specs.Outcomes.{OutcomeWord}
 use Rattle.rehearse_terms.specs.State.{State}
-use Rattle.bootstore.specs.StoredState.{state_at}
-use Rattle.rehearse.specs.Execution.{set_status}
+use Rattle.bootstore_state.specs.StoredState.{state_at}
+use Rattle.rehearse_rules.specs.Execution.{set_status}
 use Rattle.rehearse_machine.specs.Places.{PlaceNext, GoOn, moved_to}
 use Rattle.rehearse_machine.specs.MovesShown.{under, IsTop, Keeps, Does, Comes}
 use Rattle.rehearse_machine.specs.declared.ask.Step.{Step}

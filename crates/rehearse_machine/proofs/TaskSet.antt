@@ -7,15 +7,15 @@ use Rattle.std.specs.Ordering.{nat_cmp}
 use Rattle.std.specs.Cmp.Lexicographic.{slice_cmp, texts_ties}
 use Rattle.std.proofs.lemmas.Cmp.{nat_list_cmp_total}
 use Rattle.std.proofs.Math.Bool.{or-false}
-use Rattle.bootstore.specs.Moment as stored
-use Rattle.bootstore.specs.Moment.{set_in_turn, environment_of}
+use Rattle.bootstore_state.specs.Moment as stored
+use Rattle.bootstore_state.specs.Moment.{set_in_turn, environment_of}
 use Rattle.envtools.specs.Environment.{value_of, same}
 use Rattle.rehearse_terms.specs.State.{Text, get}
 use Rattle.device_list.specs.DeviceList.{Devices}
 use Rattle.rehearse_terms.specs.Bounds.{BoundsShown}
-use Rattle.rehearse.specs.Runs.{Task}
+use Rattle.rehearse_rules.specs.Runs.{Task}
 use Rattle.rehearse_machine.specs.Tasks.{task_shown, task_set}
-use Rattle.bootstore.proofs.StateLemmas.{stored_values}
+use Rattle.bootstore_state.proofs.StateLemmas.{stored_values}
 
 abbrev is_there : Option Text → Bool
 is_there None = false

@@ -7,14 +7,14 @@ use Rattle.hushlang.specs.Tree as tree
 use Rattle.hushlang.specs.Tree.{Script}
 use Rattle.hushlang.specs.TreesShown as view
 use Rattle.hushlang.specs.declared.tree.Script.{Script as Code}
-use Rattle.bootstore.specs.Moment as stored
-use Rattle.bootstore.specs.Record.{Record, beginning, started, changed, with_frame}
+use Rattle.bootstore_state.specs.Moment as stored
+use Rattle.bootstore_state.specs.Record.{Record, beginning, started, changed, with_frame}
 use Rattle.rehearse_terms.specs.Outcomes.{OutcomeWord}
 use Rattle.hushlang.specs.Trees.{tree_of}
 use Rattle.rehearse_terms.specs.State.{Text, Variables, get, State, start}
-use Rattle.rehearse.specs.Execution.{Limits, Normal, Syntax}
-use Rattle.rehearse.specs.Runs.{Task, run_on}
-use Rattle.bootstore.proofs.StateLemmas.{stored_values, stored_starts}
+use Rattle.rehearse_rules.specs.Execution.{Limits, Normal, Syntax}
+use Rattle.rehearse_rules.specs.Runs.{Task, run_on}
+use Rattle.bootstore_state.proofs.StateLemmas.{stored_values, stored_starts}
 use Rattle.hushlang.proofs.ProperLemmas.{trees_are_proper}
 use Rattle.rehearse_machine.specs.Frames.{Frame, Lists, begun_text}
 use Rattle.rehearse_machine.specs.Places.{frames_of, text_frame}

@@ -6,11 +6,11 @@ use Rattle.std.specs.Cmp.Lexicographic.{pointwise}
 use Rattle.std.specs.Str.{bytes_eq}
 use Rattle.std.specs.declared.alloc.Global.{Global}
 use Rattle.hushlang.proofs.ExpandLemmas.{drop_next}
-use Rattle.bootstore.specs.declared.store.StoreError.{StoreError}
-use Rattle.bootstore.specs.Record.{Record}
-use Rattle.bootstore.specs.StoredState.{state_at}
+use Rattle.bootstore_state.specs.declared.store.StoreError.{StoreError}
+use Rattle.bootstore_state.specs.Record.{Record}
+use Rattle.bootstore_state.specs.StoredState.{state_at}
 use Rattle.rehearse_terms.specs.State.{Text, LoggedCommand, same_words, answer_in}
-use Rattle.rehearse.specs.Execution.{Limits, Request, CutDevices, succeeds, outcome_when, told}
+use Rattle.rehearse_rules.specs.Execution.{Limits, Request, CutDevices, succeeds, outcome_when, told}
 use Rattle.rehearse_machine.specs.declared.ask.Step.{Step}
 use Rattle.rehearse_machine.specs.Places.{StopOn, place_answered, place_ask, place_tell_or_ask}
 use Rattle.rehearse_machine.specs.MovesShown.{Comes}

@@ -1,12 +1,12 @@
 -- Turns of the machine over a store.
 use Rattle.std.proofs.Common.{ℕ, [], refl, sym, ap, subst, ◌∙◌, ◌≡◌, inl, inr, ◌<◌, ◌≤◌, arith}
 use Rattle.std.specs.FinMap.{entries}
-use Rattle.bootstore.specs.Moment.{Moment}
-use Rattle.bootstore.specs.Record.{Record}
+use Rattle.bootstore_state.specs.Moment.{Moment}
+use Rattle.bootstore_state.specs.Record.{Record}
 use Rattle.rehearse_terms.specs.Outcomes.{OutcomeWord}
 use Rattle.rehearse_terms.specs.State.{State}
-use Rattle.bootstore.specs.StoredState.{state_at}
-use Rattle.rehearse.specs.Execution.{Limits}
+use Rattle.bootstore_state.specs.StoredState.{state_at}
+use Rattle.rehearse_rules.specs.Execution.{Limits}
 use Rattle.rehearse_machine.specs.declared.ask.Step.{Step}
 use Rattle.rehearse_machine.specs.declared.ask.Step.TheVariants as steps
 use Rattle.rehearse_machine.specs.Frames.{Next, Go, Ask, Stop, move}

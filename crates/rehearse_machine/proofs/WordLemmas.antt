@@ -3,17 +3,17 @@ use Rattle.std.proofs.Common.{ℕ, suc, List, ◌∷◌, length, get_or, Option,
 use Rattle.std.specs.Prelude.{slice_get, Vec, option_map}
 use Rattle.std.proofs.lemmas.Option.{slice_get_read, slice_get_past, slice_get-map}
 use Rattle.std.specs.declared.alloc.Global.{Global}
-use Rattle.bootstore.specs.declared.frame.At.{At}
-use Rattle.bootstore.specs.declared.store.StoreError.{StoreError}
-use Rattle.bootstore.specs.Moment.{RunningFrame}
+use Rattle.bootstore_state.specs.declared.frame.At.{At}
+use Rattle.bootstore_state.specs.declared.store.StoreError.{StoreError}
+use Rattle.bootstore_state.specs.Moment.{RunningFrame}
 use Rattle.text.specs.TextsShown.{bytes_of_words}
-use Rattle.bootstore.specs.Record.{Record, changed, with_local}
+use Rattle.bootstore_state.specs.Record.{Record, changed, with_local}
 use Rattle.hushlang.specs.Tree.{Script}
 use Rattle.rehearse_terms.specs.Outcomes.{OutcomeWord}
 use Rattle.rehearse_terms.specs.State.{Text, Variables}
-use Rattle.bootstore.specs.StoredState.{state_at}
-use Rattle.rehearse.specs.Execution.{set_local}
-use Rattle.bootstore.proofs.StateLemmas.{stored_changes}
+use Rattle.bootstore_state.specs.StoredState.{state_at}
+use Rattle.rehearse_rules.specs.Execution.{set_local}
+use Rattle.bootstore_state.proofs.StateLemmas.{stored_changes}
 use Rattle.rehearse_machine.specs.declared.ask.Step.{Step}
 use Rattle.rehearse_machine.specs.Places.{GoOn, place, moved_to, block_frame, for_turn}
 use Rattle.rehearse_machine.specs.MovesShown.{Comes, Keeps, under}

@@ -3,10 +3,10 @@ use Rattle.std.specs.Prelude.{◌≡◌, ℕ, zero, suc, List, [], ◌∷◌, Op
 use Rattle.hushlang.specs.Tree as tree
 use Rattle.hushlang.specs.Tree.{Command}
 use Rattle.hushlang.specs.Expansion.{fields}
-use Rattle.bootstore.specs.Moment.{RunningFrame}
+use Rattle.bootstore_state.specs.Moment.{RunningFrame}
 use Rattle.rehearse_terms.specs.State.{State}
-use Rattle.rehearse.specs.Parameters.{parameters_in}
-use Rattle.rehearse.specs.Execution.{Limits, End}
+use Rattle.rehearse_rules.specs.Parameters.{parameters_in}
+use Rattle.rehearse_rules.specs.Execution.{Limits, End}
 use Rattle.rehearse_machine.specs.Places.{PlaceNext, GoOn, AskOn, StopOn, list_at, command_at, place_fitting, place_fields}
 
 -- the command before the place of a frame

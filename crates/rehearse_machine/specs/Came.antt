@@ -1,6 +1,6 @@
 -- What a run comes to: its end, or a device command that finds no outcome left. Ours.
 use Rattle.rehearse_terms.specs.State.{State}
-use Rattle.rehearse.specs.Execution.{Answer, Normal, Exit, Ended, Dry, Ending, End}
+use Rattle.rehearse_rules.specs.Execution.{Answer, Normal, Exit, Ended, Dry, Ending, End}
 
 -- the run is over, or a device command found no outcome left
 pub data Came : Type 0 where

@@ -1,16 +1,16 @@
 -- What the machine promises: where a text stops, and what is still to come there for every rest of the word. Ours.
 use Rattle.std.specs.Prelude.{◌≡◌, ◌≤◌, []}
-use Rattle.bootstore.specs.Moment.{Moment}
+use Rattle.bootstore_state.specs.Moment.{Moment}
 use Rattle.rehearse_terms.specs.Outcomes.{OutcomeWord}
-use Rattle.bootstore.specs.StoredState.{state_at}
-use Rattle.rehearse.specs.Execution.{Limits, Request}
-pub use Rattle.rehearse.specs.Execution.{outcome_when}
+use Rattle.bootstore_state.specs.StoredState.{state_at}
+use Rattle.rehearse_rules.specs.Execution.{Limits, Request}
+pub use Rattle.rehearse_rules.specs.Execution.{outcome_when}
 use Rattle.rehearse_machine.specs.Places.{AskOn, next_of}
 use Rattle.rehearse_machine.specs.AskingCommand.{found_again}
 use Rattle.rehearse_machine.specs.Came.{Came, Over, Wants}
 use Rattle.rehearse_machine.specs.Meaning.{comes_to}
 use Rattle.rehearse_machine.specs.Turning.{IsSound}
-use Rattle.rehearse.specs.EndingsShown.{halt_shown}
+use Rattle.rehearse_rules.specs.EndingsShown.{halt_shown}
 use Rattle.rehearse_machine.specs.declared.rehearsal.Stop.{Stop}
 use Rattle.rehearse_machine.specs.declared.rehearsal.Stop.TheVariants.{Asks, Ends}
 

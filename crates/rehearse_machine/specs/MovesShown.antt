@@ -1,20 +1,20 @@
 -- What the program's moves and endings say.
 use Rattle.std.specs.Prelude.{◌≡◌, ℕ, ◌+◌, List, ◌∷◌, length, nat_le, nat_lt, Bool, true, false, Option, Some, None, Vec, Result, Ok, Err}
-use Rattle.bootstore.specs.Moment.{Moment, RunningFrame}
+use Rattle.bootstore_state.specs.Moment.{Moment, RunningFrame}
 use Rattle.text.specs.TextsShown.{bytes_of_words}
-use Rattle.bootstore.specs.Record.{Record, without_first, stepped}
+use Rattle.bootstore_state.specs.Record.{Record, without_first, stepped}
 use Rattle.std.specs.declared.alloc.Global.{Global}
 use Rattle.hushlang.specs.Expansion.{size, most_bytes}
 use Rattle.rehearse_terms.specs.Outcomes.{OutcomeWord}
-use Rattle.bootstore.specs.declared.store.StoreError.{StoreError}
+use Rattle.bootstore_state.specs.declared.store.StoreError.{StoreError}
 use Rattle.rehearse_terms.specs.State.{Text, Memory, State}
-use Rattle.bootstore.specs.StoredState.{state_at}
+use Rattle.bootstore_state.specs.StoredState.{state_at}
 use Rattle.device_list.specs.DeviceList.{Devices}
 use Rattle.device_list.specs.CommandsShown.{lent_effect}
 use Rattle.rehearse_terms.specs.Bounds.{BoundsShown}
-use Rattle.rehearse.specs.Execution.{Limits, Request, remember}
+use Rattle.rehearse_rules.specs.Execution.{Limits, Request, remember}
 use Rattle.rehearse_machine.specs.Places.{PlaceNext, GoOn, AskOn, StopOn}
-use Rattle.rehearse.specs.EndingsShown.{halt_shown}
+use Rattle.rehearse_rules.specs.EndingsShown.{halt_shown}
 use Rattle.rehearse_machine.specs.declared.ask.Ask.{Ask}
 use Rattle.rehearse_machine.specs.declared.ask.Step.{Step}
 use Rattle.rehearse_machine.specs.declared.ask.Step.TheVariants as steps

@@ -3,10 +3,10 @@ use Rattle.std.specs.Prelude.{◌≡◌, ℕ, ◌+◌, ◌^◌, ◌<◌, List, �
 use Rattle.hushlang.specs.Tree as tree
 use Rattle.hushlang.specs.TreesShown as view
 use Rattle.hushlang.specs.Expansion.{fields}
-use Rattle.bootstore.specs.Moment.{RunningFrame}
+use Rattle.bootstore_state.specs.Moment.{RunningFrame}
 use Rattle.rehearse_terms.specs.State.{State}
-use Rattle.rehearse.specs.Parameters.{parameters_in}
-use Rattle.rehearse.specs.Execution.{Limits, set_status}
+use Rattle.rehearse_rules.specs.Parameters.{parameters_in}
+use Rattle.rehearse_rules.specs.Execution.{Limits, set_status}
 use Rattle.rehearse_machine.specs.declared.next_move.Next.{Next}
 use Rattle.rehearse_machine.specs.declared.next_move.Next.TheVariants as nexts
 use Rattle.rehearse_machine.specs.Places.{PlaceNext, GoOn, moved_to, block_frame, place_command, place_counted, place_fitting, for_begins, for_move, run_move, command_at, list_at}

@@ -1,8 +1,8 @@
 -- Where the text of a rehearsal stopped. Ours.
 use Rattle.std.specs.Prelude.{◌++◌}
-use Rattle.bootstore.specs.Moment.{Moment}
+use Rattle.bootstore_state.specs.Moment.{Moment}
 use Rattle.rehearse_terms.specs.Outcomes.{OutcomeWord}
-use Rattle.rehearse.specs.Runs.{Task, run_on}
+use Rattle.rehearse_rules.specs.Runs.{Task, run_on}
 use Rattle.rehearse_machine.specs.Came.{settled}
 use Rattle.rehearse_machine.specs.Machine.{Stops}
 use Rattle.rehearse_machine.specs.declared.rehearsal.Stop.{Stop}

@@ -1,11 +1,11 @@
 -- The task that a rehearsal is: a variable of an environment, a device list and bounds. Ours.
 use Rattle.std.specs.Prelude.{[], Option, unwrap_or, List}
 use Rattle.std.specs.FinMap.{entries}
-use Rattle.bootstore.specs.Moment.{environment_of}
+use Rattle.bootstore_state.specs.Moment.{environment_of}
 use Rattle.rehearse_terms.specs.State.{Text, get}
 use Rattle.device_list.specs.DeviceList.{Devices}
 use Rattle.rehearse_terms.specs.Bounds.{BoundsShown}
-use Rattle.rehearse.specs.Runs.{Task, task_of}
+use Rattle.rehearse_rules.specs.Runs.{Task, task_of}
 use Rattle.rehearse_machine.specs.declared.rehearsal.Rehearsal.{Rehearsal}
 
 -- the rehearsal of a variable of an environment

@@ -1,11 +1,11 @@
 -- What moves of a store come to, in turns. Each turn begins a step or comes to the end.
 use Rattle.std.specs.Prelude.{◌≡◌, ℕ, ◌<◌, ◌≤◌, []}
 use Rattle.std.specs.FinMap.{entries}
-use Rattle.bootstore.specs.Moment.{Moment}
-use Rattle.bootstore.specs.Record.{Record}
+use Rattle.bootstore_state.specs.Moment.{Moment}
+use Rattle.bootstore_state.specs.Record.{Record}
 use Rattle.rehearse_terms.specs.Outcomes.{OutcomeWord}
-use Rattle.bootstore.specs.StoredState.{state_at}
-use Rattle.rehearse.specs.Execution.{Limits, Normal}
+use Rattle.bootstore_state.specs.StoredState.{state_at}
+use Rattle.rehearse_rules.specs.Execution.{Limits, Normal}
 use Rattle.rehearse_machine.specs.declared.ask.Step.{Step}
 use Rattle.rehearse_machine.specs.declared.ask.Step.TheVariants as steps
 use Rattle.rehearse_machine.specs.Frames.{Next, Go, Ask, Stop}

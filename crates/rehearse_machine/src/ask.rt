@@ -1,7 +1,7 @@
 //! The result of one move of the machine.
 
 use device_list::Effect;
-use rehearse::Halt;
+use rehearse_rules::Halt;
 
 /// A device command that asks for its outcome.
 #[derive(Drop)]

@@ -9,12 +9,10 @@ use crate::list_commands::command_of;
 use crate::named::look_up;
 use crate::simple::run_fields;
 use crate::steps::expanded;
-use bootstore::{Frame, Store, StoreError};
+use bootstore_state::{Frame, Store, StoreError};
 use device_list::Devices;
-use hushlang::call::Call;
-use hushlang::expand::Fields;
-use hushlang::tree::Command;
-use rehearse::Halt;
+use hushlang::{Call, Command, Fields};
+use rehearse_rules::Halt;
 use rehearse_terms::RunBounds;
 use std::alloc::Global;
 

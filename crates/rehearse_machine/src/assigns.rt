@@ -9,9 +9,9 @@ ghost use Rattle.rehearse_machine.specs.MovesShown.{Moves, limits_of};
 use crate::ask::Step;
 use crate::frames::{behind, finish};
 use crate::steps::{count, expanded_one};
-use bootstore::{Frame, Store, StoreError};
-use hushlang::tree::Word;
-use rehearse::Halt;
+use bootstore_state::{Frame, Store, StoreError};
+use hushlang::Word;
+use rehearse_rules::Halt;
 use rehearse_terms::RunBounds;
 use std::alloc::Global;
 

@@ -6,8 +6,8 @@ ghost use Rattle.rehearse_machine.specs.NextMoves.{Continues, ContinuesAt};
 
 use crate::frames::{behind, in_turn};
 use crate::next_move::Next;
-use bootstore::Frame;
-use hushlang::tree::Script;
+use bootstore_state::Frame;
+use hushlang::Script;
 use std::rc::Rc;
 
 /// The arms of an `if` from this one on begin: its condition, or the `else` block if there is no

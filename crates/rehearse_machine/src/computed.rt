@@ -2,16 +2,16 @@
 ghost use Rattle.std.specs.Prelude.{◌≡◌, cond, is_some, false, string_bytes, IfOk, None};
 ghost use Rattle.std.specs.FinMap.{entries};
 ghost use Rattle.std.specs.Fmt.{digits};
-ghost use Rattle.bootstore.specs.Record.{changed, with_environment};
+ghost use Rattle.bootstore_state.specs.Record.{changed, with_environment};
 ghost use Rattle.text.specs.TextsShown.{bytes_of_words};
-ghost use Rattle.device_list.specs.Commands as says;
-ghost use Rattle.device_list.specs.ComputedShown.{computed_shown};
+ghost use Rattle.commands.specs.BuiltInCommands as says;
+ghost use Rattle.commands.specs.ComputedShown.{computed_shown};
 ghost use Rattle.rehearse_terms.specs.State.{get, with_value};
 ghost use Rattle.rehearse_machine.specs.MovesShown.{Changed};
 
-use crate::commands::setenv;
-use bootstore::{Store, StoreError};
-use device_list::Computed;
+use crate::built_in::setenv;
+use bootstore_state::{Store, StoreError};
+use commands::Computed;
 use std::alloc::{AllocError, Global};
 
 /// Whether an environment variable is set.

@@ -6,8 +6,8 @@ ghost use Rattle.rehearse_machine.specs.MovesShown.{Moves};
 
 use crate::ask::Step;
 use crate::frames::{block, enter, in_turn, leave};
-use bootstore::{Frame, Store, StoreError};
-use hushlang::tree::Script;
+use bootstore_state::{Frame, Store, StoreError};
+use hushlang::Script;
 use std::rc::Rc;
 
 /// Goes on with a `for` whose variable has this name: with its body and the next field, or after it

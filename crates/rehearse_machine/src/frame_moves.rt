@@ -13,9 +13,9 @@ use crate::list_commands::command_of;
 use crate::lists::begin_in_list;
 use crate::next_move::Next;
 use crate::scripts::end_block;
-use bootstore::{Frame, FrameKind, Store, StoreError, TextFound};
-use hushlang::tree::{Command, Script};
-use rehearse::Halt;
+use bootstore_state::{Frame, FrameKind, Store, StoreError, TextFound};
+use hushlang::{Command, Script};
+use rehearse_rules::Halt;
 use std::rc::Rc;
 
 /// What a frame that runs a script does next: its list goes on, or the script has ended.

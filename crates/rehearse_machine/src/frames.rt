@@ -1,14 +1,14 @@
 //! Places in scripts.
 ghost use Rattle.std.specs.Prelude.{◌≡◌, suc, ◌∷◌, ◌+◌, ◌<◌, ◌^◌};
 ghost use Rattle.hushlang.specs.TreesShown as view;
-ghost use Rattle.bootstore.specs.Moment.{RunningFrame};
-ghost use Rattle.rehearse.specs.Execution.{set_status};
+ghost use Rattle.bootstore_state.specs.Moment.{RunningFrame};
+ghost use Rattle.rehearse_rules.specs.Execution.{set_status};
 ghost use Rattle.rehearse_machine.specs.Places.{place, block_frame, text_frame, moved_to, GoOn};
 ghost use Rattle.rehearse_machine.specs.MovesShown.{Comes, Moves, under};
 
 use crate::ask::Step;
-use bootstore::{At, Frame, FrameKind, Store, StoreError};
-use hushlang::tree::Script;
+use bootstore_state::{At, Frame, FrameKind, Store, StoreError};
+use hushlang::Script;
 use std::rc::Rc;
 
 /// A place in a script, at a command that has not begun.

@@ -6,7 +6,7 @@ mod ask;
 mod asking;
 mod assigns;
 mod blocks;
-mod commands;
+mod built_in;
 mod computed;
 mod for_turn;
 mod frame_moves;

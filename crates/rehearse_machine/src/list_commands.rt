@@ -3,7 +3,7 @@ ghost use Rattle.std.specs.Prelude.{◌≡◌, ◌+◌, ◌<◌, ◌^◌, IsSome
 ghost use Rattle.hushlang.specs.TreesShown as view;
 ghost use Rattle.rehearse_machine.specs.Places.{command_in};
 
-use hushlang::tree::{AndOr, Command};
+use hushlang::{AndOr, Command};
 
 /// The command of a list with this number.
 #[inline(always)]

@@ -1,15 +1,15 @@
 //! What a list of a script does next.
 ghost use Rattle.std.specs.Prelude.{◌≡◌, ◌+◌, ◌<◌, ◌^◌};
 ghost use Rattle.hushlang.specs.TreesShown as view;
-ghost use Rattle.rehearse.specs.Execution.{goes};
+ghost use Rattle.rehearse_rules.specs.Execution.{goes};
 ghost use Rattle.rehearse_machine.specs.Places.{place_begins};
 ghost use Rattle.rehearse_machine.specs.NextMoves.{ContinuesAt, HasRoom};
 
 use crate::frames::{behind, place};
 use crate::next_move::Next;
 use crate::scripts::begin_command;
-use bootstore::Frame;
-use hushlang::tree::{AndOr, Op};
+use bootstore_state::Frame;
+use hushlang::{AndOr, Op};
 
 /// Whether the command after an operator runs with this status.
 #[inline(always)]

@@ -13,10 +13,10 @@ use crate::named::look_up;
 use crate::next_move::Next;
 use crate::simple::{begin_for, call};
 use crate::steps::expanded;
-use bootstore::{Frame, Store, StoreError};
+use bootstore_state::{Frame, Store, StoreError};
 use device_list::Devices;
-use hushlang::expand::Fields;
-use rehearse::Halt;
+use hushlang::Fields;
+use rehearse_rules::Halt;
 use rehearse_terms::RunBounds;
 use std::alloc::Global;
 

@@ -1,7 +1,7 @@
 //! The variables and the status of a run, which words expand by.
 
-use bootstore::Store;
-use hushlang::expand::Vars;
+use bootstore_state::Store;
+use hushlang::Vars;
 
 /// The variables and the status that a store has.
 #[derive(Drop)]

@@ -9,7 +9,7 @@ ghost use Rattle.text.specs.TextsShown.{bytes_of_words};
 
 use builtins::Builtin;
 use device_list::Devices;
-use hushlang::call::Call;
+use hushlang::Call;
 
 /// What fields name.
 #[derive(Clone, Copy)]

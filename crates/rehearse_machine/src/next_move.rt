@@ -1,8 +1,7 @@
 //! What the innermost frame does next, as a value: it is found by looking at the frame, before the store changes.
 
-use bootstore::At;
-use hushlang::call::Call;
-use hushlang::tree::{Script, Word};
+use bootstore_state::At;
+use hushlang::{Call, Script, Word};
 use std::rc::Rc;
 
 /// What the innermost frame does next. The first four begin no step.

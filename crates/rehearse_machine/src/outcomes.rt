@@ -1,21 +1,22 @@
 //! Outcomes of device commands.
 ghost use Rattle.std.specs.Prelude.{◌≡◌, ◌∷◌, [], false, map, option_map, if◌then◌else◌};
 ghost use Rattle.text.specs.TextsShown.{bytes_of_words};
-ghost use Rattle.device_list.specs.Commands.{named_by, variable_of, sets_in};
+ghost use Rattle.device_list.specs.Called.{named_by, variable_of, sets_in};
 ghost use Rattle.device_list.specs.DevicesShown.{left_shown, setting_shown};
 ghost use Rattle.rehearse_terms.specs.Outcomes.{Outcome};
-ghost use Rattle.rehearse.specs.Execution.{succeeds, with_all};
+ghost use Rattle.rehearse_rules.specs.Execution.{succeeds, with_all};
 ghost use Rattle.device_list.specs.CommandsShown.{lent_effect};
 ghost use Rattle.device_list.specs.DeviceList.{Devices as ListedDevices};
 ghost use Rattle.rehearse_machine.specs.Places.{place_answered, place_ask};
 ghost use Rattle.rehearse_machine.specs.MovesShown.{Changed, Comes, request_shown, limits_of};
 
 use crate::ask::{Ask, Step};
-use crate::commands::copied;
+use crate::built_in::copied;
 use crate::told::told;
-use bootstore::{LogEntry, Store, StoreError};
-use device_list::{Effect, LeftSide, Setting, is_bad_name};
-use rehearse::Halt;
+use bootstore_state::{LogEntry, Store, StoreError};
+use commands::is_bad_name;
+use device_list::{Effect, LeftSide, Setting};
+use rehearse_rules::Halt;
 use rehearse_terms::RunBounds;
 use std::alloc::Global;
 

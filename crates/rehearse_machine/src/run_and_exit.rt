@@ -6,11 +6,11 @@ ghost use Rattle.rehearse_machine.specs.Places.{left, to_run, GoOn, names_frame}
 ghost use Rattle.rehearse_machine.specs.MovesShown.{Comes};
 
 use crate::ask::Step;
-use crate::commands::copied;
+use crate::built_in::copied;
 use crate::frames::place;
-use bootstore::{Frame, FrameKind, Store, StoreError};
-use hushlang::tree::Script;
-use rehearse::Halt;
+use bootstore_state::{Frame, FrameKind, Store, StoreError};
+use hushlang::Script;
+use rehearse_rules::Halt;
 use std::alloc::Global;
 use std::rc::Rc;
 

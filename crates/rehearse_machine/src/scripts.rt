@@ -7,8 +7,8 @@ ghost use Rattle.rehearse_machine.specs.NextMoves.{Continues, ContinuesAt, HasRo
 use crate::blocks::{begin_arms, begin_loop, end_condition, end_loop_condition};
 use crate::frames::behind;
 use crate::next_move::Next;
-use bootstore::Frame;
-use hushlang::tree::Command;
+use bootstore_state::Frame;
+use hushlang::Command;
 
 /// Goes on after a block of a command, which was in this turn of the command.
 pub(crate) fn end_block<'c>(

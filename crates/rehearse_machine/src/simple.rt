@@ -6,32 +6,33 @@ ghost use Rattle.hushlang.specs.TreesShown as view;
 ghost use Rattle.hushlang.specs.Tree as tree;
 ghost use Rattle.hushlang.specs.Expansion as expansion;
 ghost use Rattle.rehearse_terms.specs.State.{Text};
-ghost use Rattle.rehearse.specs.Parameters.{parameters_in};
-ghost use Rattle.rehearse.specs.Execution.{Limits, set_status};
-ghost use Rattle.device_list.specs.Commands as says;
+ghost use Rattle.rehearse_rules.specs.Parameters.{parameters_in};
+ghost use Rattle.rehearse_rules.specs.Execution.{Limits, set_status};
+ghost use Rattle.commands.specs.BuiltInCommands as says;
+ghost use Rattle.device_list.specs.Called as called;
 ghost use Rattle.text.specs.TextsShown.{bytes_of_words};
 ghost use Rattle.device_list.specs.DeviceList.{Devices as ListedDevices};
 ghost use Rattle.rehearse_machine.specs.Places.{place_fields, place_called, place_exit, place_command, place_counted, place_fitting, for_begins, GoOn};
 ghost use Rattle.rehearse_machine.specs.Places.{behind as goes_behind};
-ghost use Rattle.bootstore.specs.Moment.{RunningFrame};
+ghost use Rattle.bootstore_state.specs.Moment.{RunningFrame};
 ghost use Rattle.rehearse_machine.specs.Variables.{parameters_at};
 ghost use Rattle.rehearse_machine.specs.MovesShown.{Comes, IsExpanded, Moves, limits_of};
 ghost use Rattle.rehearse_machine.specs.CalledShown.{builtin_called};
 
 use crate::ask::Step;
-use crate::commands::{asks_device, copied, echo, exit_status, setenv};
+use crate::built_in::{asks_device, copied, echo, exit_status, setenv};
 use crate::computed::carry_out;
 use crate::frames::{behind, enter, finish, place};
 use crate::named::Named;
 use crate::outcomes::ask;
 use crate::run_and_exit::{begin_run, leave_text};
 use crate::steps::{count, expanded};
-use bootstore::{At, Frame, FrameKind, Store, StoreError};
+use bootstore_state::{At, Frame, FrameKind, Store, StoreError};
 use builtins::Builtin;
-use device_list::{Devices, Effect, verdict};
-use hushlang::expand::Fields;
-use hushlang::tree::{Script, Word};
-use rehearse::Halt;
+use commands::verdict;
+use device_list::{Devices, Effect};
+use hushlang::{Fields, Script, Word};
+use rehearse_rules::Halt;
 use rehearse_terms::RunBounds;
 use std::alloc::Global;
 use std::rc::Rc;
@@ -54,7 +55,7 @@ fn run_names<'d, S: Store>(
 ) -> Result<Step<'d>, StoreError>
     ensures { (limits : Limits) (name : Text) → Comes result (S.record_of store.old)
         (S.record_of store.new)
-        (place_called limits (says.BuiltIn says.RunsTexts) name (bytes_of_words names.now)
+        (place_called limits (called.BuiltIn says.RunsTexts) name (bytes_of_words names.now)
         (view.script script.now.value) (S.record_of store.old).present.frames) }
 {
     if names.is_empty() {
@@ -75,7 +76,7 @@ fn run_test<'d, S: Store>(
     words: &[Vec<u8>],
 ) -> Result<Step<'d>, StoreError>
     ensures { (script : tree.Script) → Comes result (S.record_of store.old) (S.record_of store.new)
-        (place_called (limits_of devices.now bounds) (says.BuiltIn says.Tests) name.now
+        (place_called (limits_of devices.now bounds) (called.BuiltIn says.Tests) name.now
         (bytes_of_words words.now) script (S.record_of store.old).present.frames) }
 {
     if asks_device(words) {
@@ -154,7 +155,7 @@ fn run_other<'d, S: Store>(
 ) -> Result<Step<'d>, StoreError>
     ensures { (script : tree.Script) → Comes result (S.record_of store.old) (S.record_of store.new)
         (place_called (limits_of devices.now bounds)
-        (says.other_called devices.now name.now (bytes_of_words words.now)) name.now
+        (called.other_called devices.now name.now (bytes_of_words words.now)) name.now
         (bytes_of_words words.now) script (S.record_of store.old).present.frames) }
 {
     if let Some(computed) = devices.computed(name, words) {

@@ -6,9 +6,8 @@ ghost use Rattle.rehearse_machine.specs.Variables.{parameters_at};
 ghost use Rattle.rehearse_machine.specs.MovesShown.{IsExpanded, IsExpandedOne, IsCounted};
 
 use crate::memory::Memory;
-use bootstore::{Store, StoreError};
-use hushlang::expand::{ExpandError, Fields, expand_one};
-use hushlang::tree::Word;
+use bootstore_state::{Store, StoreError};
+use hushlang::{ExpandError, Fields, Word, expand_one};
 use rehearse_terms::RunBounds;
 use std::alloc::Global;
 

@@ -2,10 +2,10 @@
 ghost use Rattle.std.specs.Prelude.{◌≡◌, ◌∷◌, ◌&&◌, not, false};
 ghost use Rattle.text.specs.TextsShown.{bytes_of_words};
 ghost use Rattle.device_list.specs.CommandsShown.{lent_effect};
-ghost use Rattle.rehearse.specs.Execution.{told};
+ghost use Rattle.rehearse_rules.specs.Execution.{told};
 ghost use Rattle.rehearse_terms.specs.State.{same_words, answer_in};
 
-use bootstore::{LogEntry, Store};
+use bootstore_state::{LogEntry, Store};
 use device_list::Effect;
 
 /// Whether the words of a logged command are these, the name first.

@@ -7,9 +7,9 @@ use Rattle.std.specs.declared.alloc.Global.{Global}
 use Rattle.std.specs.declared.vec.Vec.{Vec}
 use Rattle.text.specs.TextsShown.{bytes_of_words}
 use Rattle.rehearse_terms.specs.State.{Text, Variables, State, LoggedCommand}
-use Rattle.rehearse.specs.Execution.{Ending}
+use Rattle.rehearse_rules.specs.Execution.{Ending}
 use Rattle.text.specs.Escapes.{word_form}
-use Rattle.rehearse.specs.Listing.{line, digit_when, device_line, text_lines, variable_line, variable_lines, asked_line, last_line}
+use Rattle.rehearse_rules.specs.Listing.{line, digit_when, device_line, text_lines, variable_line, variable_lines, asked_line, last_line}
 use Rattle.rehearse_records.specs.Recording.{printed, entry_line, set_line, named_line, recorded}
 
 module _ {X : Type 0} (g : X → Text) where

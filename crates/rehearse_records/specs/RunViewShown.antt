@@ -1,10 +1,10 @@
 -- What contracts see of a run that is shown. Ours.
 use Rattle.std.specs.Prelude.{List}
-use Rattle.bootstore.specs.Moment.{Moment}
-use Rattle.bootstore.specs.declared.store.Store.{Ghosts}
+use Rattle.bootstore_state.specs.Moment.{Moment}
+use Rattle.bootstore_state.specs.declared.store.Store.{Ghosts}
 use Rattle.rehearse_terms.specs.State.{Text}
-use Rattle.rehearse.specs.Execution as spec
-use Rattle.rehearse.specs.EndingsShown.{ending_shown}
+use Rattle.rehearse_rules.specs.Execution as spec
+use Rattle.rehearse_rules.specs.EndingsShown.{ending_shown}
 use Rattle.rehearse_records.specs.declared.run_view.RunView.{RunView}
 
 -- the digits of its word

@@ -6,19 +6,19 @@ ghost use Rattle.text.specs.Bytes as ascii;
 ghost use Rattle.text.specs.Escapes.{word_form};
 ghost use Rattle.output.specs.Sink.{Prints};
 ghost use Rattle.text.specs.TextsShown.{bytes_of_words};
-ghost use Rattle.bootstore.specs.StoredState.{state_at};
-ghost use Rattle.rehearse.specs.Listing.{line, digit_when, text_lines, variable_lines, last_line};
+ghost use Rattle.bootstore_state.specs.StoredState.{state_at};
+ghost use Rattle.rehearse_rules.specs.Listing.{line, digit_when, text_lines, variable_lines, last_line};
 ghost use Rattle.output.specs.Paging.{Puts};
 ghost use Rattle.rehearse_records.specs.Recording.{printed, entry_line, set_line, named_line, recorded};
 ghost use Rattle.text.specs.TextsShown.{spaced};
 ghost use Rattle.rehearse_records.specs.RunViewShown.{shown_word, shown_moment, shown_ending};
-ghost use Rattle.rehearse.specs.EndingsShown.{ending_shown};
+ghost use Rattle.rehearse_rules.specs.EndingsShown.{ending_shown};
 
 use crate::line_pieces::{Piece, is_plain_text, is_plain_word, put_pieces, put_word};
 use crate::run_view::RunView;
-use bootstore::{LogEntry, Store, Variables};
+use bootstore_state::{LogEntry, Store, Variables};
 use output::{BytePage, Out, OutFault, flush, put};
-use rehearse::Ending;
+use rehearse_rules::Ending;
 
 /// Puts the first line of a record, with the digits of its word.
 fn put_first<O: Out>(out: &mut O, page: &mut BytePage, word: &[u8]) -> Result<(), OutFault>

@@ -4,8 +4,8 @@ ghost use Rattle.std.specs.FinMap.{entries};
 ghost use Rattle.text.specs.TextsShown.{option_bytes};
 ghost use Rattle.rehearse_terms.specs.State.{get};
 
-use bootstore::{LogEntry, Store, Variables};
-use rehearse::Ending;
+use bootstore_state::{LogEntry, Store, Variables};
+use rehearse_rules::Ending;
 
 /// A run. All its parts are borrowed.
 #[derive(Drop)]
@@ -17,7 +17,7 @@ pub struct RunView<'v, S: Store> {
 
 impl<'v, S: Store> RunView<'v, S> {
     ghost use Rattle.rehearse_records.specs.RunViewShown.{shown_word, shown_moment, shown_ending, shown_marks};
-    ghost use Rattle.rehearse.specs.EndingsShown.{ending_shown};
+    ghost use Rattle.rehearse_rules.specs.EndingsShown.{ending_shown};
 
     /// The run in a store.
     pub fn new(word: &'v [u8], ending: Ending<'v>, store: &'v S) -> Self

@@ -5,14 +5,14 @@ use Rattle.std.proofs.lemmas.List.{length-map}
 use Rattle.std.proofs.lemmas.List.Sums.{length-filter, count_by-le-length}
 use Rattle.std.proofs.lemmas.Grind.{pow_more}
 use Rattle.std.proofs.Math.Pow.{pow_mono}
-use Rattle.bootstore.specs.Record.{Record, fresh}
+use Rattle.bootstore_state.specs.Record.{Record, fresh}
 use Rattle.rehearse_terms.specs.Bounds.{are_bounds, are_few, few_failures, most_devices, most_run_devices, most_steps}
 use Rattle.rehearse_terms.specs.Outcomes.{OutcomeWord, Success, Failure, words, is_run_kind, is_within, few_of}
 use Rattle.rehearse_terms.specs.State.{Text}
-use Rattle.rehearse.specs.Runs.{Task, kind, all_runs, runs, steps}
+use Rattle.rehearse_rules.specs.Runs.{Task, kind, all_runs, runs, steps}
 use Rattle.rehearse_runs.specs.Phases.{AreDigits, HasBudget, HasBegun}
 use Rattle.std.proofs.lemmas.Bool.{leb-true}
-use Rattle.rehearse.proofs.FewFailures.{few_runs_if, power-le}
+use Rattle.rehearse_rules.proofs.FewFailures.{few_runs_if, power-le}
 use Rattle.rehearse_runs.proofs.WorkLemmas.{begun_first}
 
 -- ---- there are few runs

@@ -1,22 +1,22 @@
 -- The runs after a word, and the kinds of texts.
 use Rattle.std.proofs.Common.{◌≡◌, ℕ, ◌+◌, ◌≤◌, true, false, List, [], ◌∷◌, length, map, refl, sym, ap, subst, ◌∙◌, length-append, zero-add, Some, arith}
-use Rattle.bootstore.specs.Record.{Record, fresh}
+use Rattle.bootstore_state.specs.Record.{Record, fresh}
 use Rattle.rehearse_terms.specs.Bounds.{most_run_devices}
 use Rattle.rehearse_terms.specs.Outcomes.{OutcomeWord, Success, Failure, Run, Short, is_within}
 use Rattle.rehearse_terms.specs.State.{Text, State}
-use Rattle.rehearse.specs.Runs.{Task, kind, IsListed, rest, steps}
-use Rattle.rehearse.specs.Listing.{outcome_digit}
+use Rattle.rehearse_rules.specs.Runs.{Task, kind, IsListed, rest, steps}
+use Rattle.rehearse_rules.specs.Listing.{outcome_digit}
 use Rattle.rehearse_runs.specs.RunsShown.{outcomes}
 use Rattle.rehearse_runs.specs.Phases.{AreDigits, StandsOn, HasBegun, shown_at}
 use Rattle.rehearse_runs.proofs.WorkLemmas.{begun_behind, none_in_front}
 use Rattle.rehearse_runs.specs.Walking.{IsShortBehind, ReachedFirst, WalksTo}
 use Rattle.rehearse_runs.specs.Behind.{GoesOnBehind, IsNoRun, IsNotListed, HasKind, runs_behind}
-use Rattle.rehearse.specs.declared.halt.Halt.{Halt}
+use Rattle.rehearse_rules.specs.declared.halt.Halt.{Halt}
 use Rattle.rehearse_runs.specs.declared.runs.Phase.TheVariants.{At}
 use Rattle.rehearse_runs.specs.declared.walking.Walked.{Walked}
 use Rattle.rehearse_runs.specs.declared.walking.Walked.TheVariants as walked
 use Rattle.rehearse_runs.proofs.AdvanceLemmas.{AreBounds, are_within, few_runs}
-use Rattle.rehearse.proofs.TaskChoices.{task_stands}
+use Rattle.rehearse_rules.proofs.TaskChoices.{task_stands}
 
 read_word : (w : OutcomeWord) → outcomes (map outcome_digit w) ≡ w
 read_word [] = refl

@@ -1,11 +1,11 @@
 -- A run that is given, and what the rehearsal then keeps.
 use Rattle.std.proofs.Common.{◌≡◌, ℕ, ◌+◌, ◌≤◌, Bool, true, false, [], ◌∷◌, length, Option, Some, refl, sym, ap, subst, ◌∙◌, arith}
-use Rattle.bootstore.specs.Record.{Record}
+use Rattle.bootstore_state.specs.Record.{Record}
 use Rattle.rehearse_terms.specs.Bounds.{most_run_devices}
 use Rattle.rehearse_terms.specs.Outcomes.{OutcomeWord, common_prefix}
 use Rattle.rehearse_terms.specs.State.{Text, State}
-use Rattle.rehearse.specs.Runs.{Task, runs, IsListed, rest, steps, asked}
-use Rattle.rehearse.specs.declared.halt.Halt.{Halt}
+use Rattle.rehearse_rules.specs.Runs.{Task, runs, IsListed, rest, steps, asked}
+use Rattle.rehearse_rules.specs.declared.halt.Halt.{Halt}
 use Rattle.rehearse_runs.specs.declared.runs.Phase.{Phase}
 use Rattle.rehearse_runs.specs.declared.runs.Phase.TheVariants.{Fresh, At}
 use Rattle.rehearse_runs.specs.RunsShown.{outcomes, given_if, to_come_after, steps_shared}
@@ -13,7 +13,7 @@ use Rattle.rehearse_runs.specs.Phases.{AreDigits, HasBudget, StandsOn, StandsAt,
 use Rattle.rehearse_runs.specs.Searching.{FoundFirst, FoundBehind, FoundNext}
 use Rattle.rehearse_runs.specs.Giving.{GivesWord}
 use Rattle.rehearse_runs.proofs.WorkLemmas.{answers_more, begun_more}
-use Rattle.rehearse.proofs.TaskChoices.{rest_is_listed, runs_are_runs}
+use Rattle.rehearse_rules.proofs.TaskChoices.{rest_is_listed, runs_are_runs}
 
 module _ (task : Task) (start : Option OutcomeWord) (has : Bool) (u : OutcomeWord) (phase : Phase) (halt : Halt) (w : OutcomeWord) (begun begun' : ℕ) (live : is_failed phase ≡ false) (has_begun : HasBegun task start (given_if has u) (to_come_after has task u) begun) (first : to_come_after has task u ≡ w ∷ rest task w) (e : begun' + steps_shared task (given_if has u) w ≡ begun + steps task w) (l : steps_shared task (given_if has u) w ≤ steps task w) where
   gives : GivesWord (shown_at task start has u begun phase) (shown_at task start true w begun' (At halt))

@@ -7,12 +7,12 @@ use Rattle.std.proofs.lemmas.Bool.{eqb-true}
 use Rattle.output.specs.Sink.{Sink, Wrote, BrokeOff}
 use Rattle.envtools.specs.Environment.{value_of}
 use Rattle.rehearse_terms.specs.Asking.{Alone, Asking, Listed, whole_page}
-use Rattle.rehearse.specs.RunsToCome.{AreToCome, GivesNoRun, SpellsNoRun}
-use Rattle.rehearse.specs.Listing.{outcome_digit, spelled, record_of, line}
+use Rattle.rehearse_rules.specs.RunsToCome.{AreToCome, GivesNoRun, SpellsNoRun}
+use Rattle.rehearse_rules.specs.Listing.{outcome_digit, spelled, record_of, line}
 use Rattle.rehearse_terms.specs.Outcomes.{Outcome, OutcomeWord, Success, Failure}
 use Rattle.rehearse_terms.specs.State.{Text}
 use Rattle.device_list.specs.DeviceList.{Devices, listed}
-use Rattle.rehearse.specs.Runs.{Task}
+use Rattle.rehearse_rules.specs.Runs.{Task}
 use Rattle.rehearse_machine.specs.Tasks.{task_shown, task_set}
 use Rattle.rehearse_terms.specs.Bounds.{BoundsShown}
 use Rattle.rehearse_runs.specs.AskShown.{asking_by, asking_for, asking_of}
@@ -27,8 +27,8 @@ use Rattle.rehearse_terms.specs.declared.wanted.Page.{Page}
 use Rattle.rehearse_terms.specs.declared.wanted.Wanted.{Wanted}
 use Rattle.rehearse_runs.specs.declared.listing.Finish.{Finish}
 use Rattle.rehearse_runs.specs.declared.listing.Finish.TheVariants.{Done}
-use Rattle.rehearse.specs.declared.rehearse_error.RehearseError.{RehearseError}
-use Rattle.rehearse.specs.declared.rehearse_error.RehearseError.TheVariants.{DeviceList, NoSuchVariable, NotARun, States, Write, Memory, Failed}
+use Rattle.rehearse_rules.specs.declared.rehearse_error.RehearseError.{RehearseError}
+use Rattle.rehearse_rules.specs.declared.rehearse_error.RehearseError.TheVariants.{DeviceList, NoSuchVariable, NotARun, States, Write, Memory, Failed}
 use Rattle.rehearse_machine.proofs.TaskSet.{task_is_set}
 
 -- ---- a word as it is printed, and its digits

@@ -5,13 +5,13 @@ use Rattle.std.specs.List.{flat_map}
 use Rattle.std.proofs.lemmas.List.Concat.{flat_map-append}
 use Rattle.output.specs.Sink.{Sink, Wrote, BrokeOff}
 use Rattle.output.proofs.SinkLemmas.{Wrote-none, Wrote-append, BrokeOff-after, BrokeOff-before}
-use Rattle.bootstore.specs.declared.store.Store.{Ghosts}
+use Rattle.bootstore_state.specs.declared.store.Store.{Ghosts}
 use Rattle.rehearse_terms.specs.Outcomes.{OutcomeWord}
 use Rattle.rehearse_terms.specs.State.{Text, State}
-use Rattle.bootstore.specs.StoredState.{state_at}
-use Rattle.rehearse.specs.Execution.{Ending}
-use Rattle.rehearse.specs.Runs.{Task, run_on, state_of, ending_of}
-use Rattle.rehearse.specs.Listing.{outcome_digit, record_text, record_of, words_listed, closing, listing, last_of, line, spelled, page_words, page_closing, page_text}
+use Rattle.bootstore_state.specs.StoredState.{state_at}
+use Rattle.rehearse_rules.specs.Execution.{Ending}
+use Rattle.rehearse_rules.specs.Runs.{Task, run_on, state_of, ending_of}
+use Rattle.rehearse_rules.specs.Listing.{outcome_digit, record_text, record_of, words_listed, closing, listing, last_of, line, spelled, page_words, page_closing, page_text}
 use Rattle.rehearse_terms.specs.Asking.{HasRoom}
 use Rattle.rehearse_terms.specs.declared.wanted.Page.{Page}
 use Rattle.rehearse_records.specs.Recording.{recorded, printed}
@@ -22,8 +22,8 @@ use Rattle.std.proofs.Math.Dec.{eqb-suc-zero}
 use Rattle.std.proofs.lemmas.Bool.{lt-leb, le-leb}
 use Rattle.rehearse_runs.specs.Giving.{ShowsRun, GivesWord, GivesNone, GivesUp, Gives}
 use Rattle.rehearse_runs.specs.Giving as giving
-use Rattle.rehearse.specs.declared.rehearse_error.RehearseError.{RehearseError}
-use Rattle.rehearse.specs.declared.rehearse_error.RehearseError.TheVariants.{DeviceList, NoSuchVariable, NotARun, States, Write, Memory, Failed}
+use Rattle.rehearse_rules.specs.declared.rehearse_error.RehearseError.{RehearseError}
+use Rattle.rehearse_rules.specs.declared.rehearse_error.RehearseError.TheVariants.{DeviceList, NoSuchVariable, NotARun, States, Write, Memory, Failed}
 use Rattle.rehearse_runs.specs.declared.listing.Finish.{Finish}
 use Rattle.rehearse_runs.specs.declared.listing.Finish.TheVariants.{Done, More}
 use Rattle.rehearse_runs.specs.ListingRuns.{Breaks, Lists, left_out, finish_at, finish_of, IsLeft, Takes, Recorded, WroteRecords, FailsInListing, BreaksInListing, reached, lowered}

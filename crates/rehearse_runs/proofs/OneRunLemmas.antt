@@ -3,15 +3,15 @@ use Rattle.std.proofs.Common.{ℕ, ◌≡◌, ◌∙◌, List, [], ◌++◌, Res
 use Rattle.std.specs.Prelude.{codes}
 use Rattle.output.specs.Sink.{Sink, Wrote, BrokeOff, Prints}
 use Rattle.output.proofs.SinkLemmas.{Wrote-append, BrokeOff-after}
-use Rattle.bootstore.specs.Moment.{Moment}
-use Rattle.bootstore.specs.Record.{Record}
-use Rattle.bootstore.specs.declared.store.Store.{Ghosts}
-use Rattle.rehearse.specs.Listing.{line}
+use Rattle.bootstore_state.specs.Moment.{Moment}
+use Rattle.bootstore_state.specs.Record.{Record}
+use Rattle.bootstore_state.specs.declared.store.Store.{Ghosts}
+use Rattle.rehearse_rules.specs.Listing.{line}
 use Rattle.rehearse_terms.specs.State.{Text}
-use Rattle.bootstore.specs.StoredState.{state_at}
-use Rattle.rehearse.specs.Runs.{Task}
-use Rattle.rehearse.specs.EndingsShown.{halt_shown}
-use Rattle.rehearse.specs.declared.halt.Halt.{Halt}
+use Rattle.bootstore_state.specs.StoredState.{state_at}
+use Rattle.rehearse_rules.specs.Runs.{Task}
+use Rattle.rehearse_rules.specs.EndingsShown.{halt_shown}
+use Rattle.rehearse_rules.specs.declared.halt.Halt.{Halt}
 use Rattle.rehearse_runs.specs.Behind.{IsNoRun}
 use Rattle.rehearse_records.specs.Recording.{recorded}
 use Rattle.rehearse_runs.specs.RunAlone.{BreaksInside, IsRunOf, WritesAlone, alone_text}

@@ -1,26 +1,26 @@
 -- A rehearsal and what is shown of it.
 use Rattle.std.proofs.Common.{◌≡◌, ◌≢◌, ◌↔◌, ◌≤◌, length, Bool, true, false, List, [], ◌∷◌, map, refl, sym, ap, subst, ◌∙◌, unwrap_or}
-use Rattle.bootstore.specs.Moment.{Moment}
-use Rattle.bootstore.specs.Record.{Record}
-use Rattle.bootstore.specs.declared.store.Store.{Ghosts}
+use Rattle.bootstore_state.specs.Moment.{Moment}
+use Rattle.bootstore_state.specs.Record.{Record}
+use Rattle.bootstore_state.specs.declared.store.Store.{Ghosts}
 use Rattle.rehearse_terms.specs.Bounds.{most_run_devices}
 use Rattle.rehearse_terms.specs.Outcomes.{OutcomeWord, has_success}
 use Rattle.rehearse_terms.specs.State.{Text}
-use Rattle.bootstore.specs.StoredState.{state_at}
-use Rattle.rehearse.specs.Runs.{Task, IsListed, rest, runs, run_on, state_of, ending_of}
-use Rattle.rehearse.specs.Listing.{outcome_digit}
+use Rattle.bootstore_state.specs.StoredState.{state_at}
+use Rattle.rehearse_rules.specs.Runs.{Task, IsListed, rest, runs, run_on, state_of, ending_of}
+use Rattle.rehearse_rules.specs.Listing.{outcome_digit}
 use Rattle.rehearse_runs.specs.RunsShown.{outcomes, given_if, to_come_after, has_words, successes}
 use Rattle.rehearse_runs.specs.Searching.{AreMarks}
 use Rattle.rehearse_runs.proofs.WorkLemmas.{few_marks, marks_within}
-use Rattle.rehearse.specs.EndingsShown.{halt_shown}
+use Rattle.rehearse_rules.specs.EndingsShown.{halt_shown}
 use Rattle.rehearse_runs.specs.Phases.{StandsAt, IsRunIf, AreDigits, shows_run}
 use Rattle.rehearse_records.specs.RunViewShown.{shown_word, shown_moment, shown_ending, shown_marks}
 use Rattle.rehearse_runs.specs.Giving.{ShowsRun}
-use Rattle.rehearse.specs.declared.halt.Halt.{Halt}
+use Rattle.rehearse_rules.specs.declared.halt.Halt.{Halt}
 use Rattle.rehearse_runs.specs.declared.runs.Phase.{Phase}
 use Rattle.rehearse_runs.specs.declared.runs.Phase.TheVariants.{At}
 use Rattle.rehearse_records.specs.declared.run_view.RunView.{RunView}
-use Rattle.rehearse.proofs.TaskChoices.{another_follows, runs_are_there}
+use Rattle.rehearse_rules.proofs.TaskChoices.{another_follows, runs_are_there}
 
 -- the run in a store is the one that is shown
 pub stood : {S : Type 0} (g : Ghosts S) (task : Task) (digits : Text) (has : Bool) (r : Record) (phase : Phase) (halt : Halt) (v : RunView S)

@@ -1,31 +1,31 @@
 -- The search for the next run, over the words of runs.
 use Rattle.std.proofs.Common.{◌≡◌, ℕ, zero, suc, ◌+◌, ◌-◌, cond, ◌<◌, ◌≤◌, Bool, true, false, List, [], ◌∷◌, ◌++◌, length, map, Option, Some, None, option_map, pred, refl, sym, ap, subst, ◌∙◌, append_assoc, append-nil, arith, Result, Ok, Err}
-use Rattle.bootstore.specs.Moment.{Moment}
+use Rattle.bootstore_state.specs.Moment.{Moment}
 use Rattle.rehearse_terms.specs.Bounds.{most_steps}
 use Rattle.rehearse_terms.specs.Outcomes.{OutcomeWord, Outcome, Success, Failure, WordKind, Run, Short, Long, failures, allows, one_less, turned, beyond, first_run, first_from, common_prefix}
 use Rattle.rehearse_terms.specs.State.{Text, State}
-use Rattle.bootstore.specs.StoredState.{state_at}
-use Rattle.rehearse.specs.Execution.{Answer, Normal, Exit, Ended, Dry, Ending}
-use Rattle.rehearse.specs.Runs.{Task, run_on, kind, kind_of, taken_kind, state_of, ending_of, runs, IsListed, rest, asked}
+use Rattle.bootstore_state.specs.StoredState.{state_at}
+use Rattle.rehearse_rules.specs.Execution.{Answer, Normal, Exit, Ended, Dry, Ending}
+use Rattle.rehearse_rules.specs.Runs.{Task, run_on, kind, kind_of, taken_kind, state_of, ending_of, runs, IsListed, rest, asked}
 use Rattle.std.proofs.Math.Dec.{leb-suc-zero, leb-suc-suc}
 use Rattle.std.proofs.lemmas.Bool.{ne_eqb}
-use Rattle.rehearse.specs.Listing.{outcome_digit}
+use Rattle.rehearse_rules.specs.Listing.{outcome_digit}
 use Rattle.rehearse_runs.specs.RunsShown.{outcomes, outcome_of}
-use Rattle.rehearse.specs.EndingsShown.{halt_shown}
+use Rattle.rehearse_rules.specs.EndingsShown.{halt_shown}
 use Rattle.rehearse_runs.specs.Phases.{AreDigits}
 use Rattle.rehearse_machine.specs.Came.{Came, Over, Wants, settled}
 use Rattle.rehearse_machine.specs.Machine.{Stops, asked_at, outcome_when}
 use Rattle.std.specs.Prelude.{IfOk, nat_lt}
 use Rattle.std.proofs.lemmas.Option.{same_Some}
-use Rattle.bootstore.specs.Record.{Record, gone_back, returned}
-use Rattle.bootstore.specs.declared.store.StoreError.{StoreError}
-use Rattle.rehearse.specs.declared.halt.Halt.{Halt}
+use Rattle.bootstore_state.specs.Record.{Record, gone_back, returned}
+use Rattle.bootstore_state.specs.declared.store.StoreError.{StoreError}
+use Rattle.rehearse_rules.specs.declared.halt.Halt.{Halt}
 use Rattle.rehearse_runs.specs.Searching.{AreMarks, MarksIf, Found, FoundFirst, FoundBehind, may_fail}
 use Rattle.rehearse_machine.specs.StoppedTexts.{StoppedAt}
 use Rattle.rehearse_machine.specs.declared.rehearsal.Stop.{Stop}
 use Rattle.rehearse_machine.specs.declared.rehearsal.Stop.TheVariants.{Asks, Ends}
 use Rattle.rehearse_machine.proofs.StoppedTextLemmas.{dry_there, asked_within, asked_kind, stopped_on}
-use Rattle.rehearse.proofs.TaskChoices.{no_run_is_longer, task_begins, task_goes_on}
+use Rattle.rehearse_rules.proofs.TaskChoices.{no_run_is_longer, task_begins, task_goes_on}
 
 -- after a failure one less may fail
 lt_less : (k most : ℕ) → nat_lt (suc k) most ≡ nat_lt k (most - 1)

@@ -1,15 +1,15 @@
 -- The work of the words that were given.
 use Rattle.std.proofs.Common.{◌≡◌, ℕ, ◌+◌, ◌-◌, ◌<◌, ◌≤◌, List, [], ◌∷◌, ◌++◌, length, take, Option, Some, None, refl, sym, ap, subst, ◌∙◌, append_assoc, length-append, arith}
-use Rattle.bootstore.specs.Moment.{Moment}
-use Rattle.rehearse.specs.Listing.{last_of}
+use Rattle.bootstore_state.specs.Moment.{Moment}
+use Rattle.rehearse_rules.specs.Listing.{last_of}
 use Rattle.rehearse_terms.specs.Bounds.{most_run_devices}
 use Rattle.rehearse_terms.specs.Outcomes.{OutcomeWord, Success, Failure, Run, common_prefix}
-use Rattle.rehearse.specs.Runs.{Task, kind, runs, rest, steps, asked, work_from}
+use Rattle.rehearse_rules.specs.Runs.{Task, kind, runs, rest, steps, asked, work_from}
 use Rattle.rehearse_runs.specs.RunsShown.{words_made, in_front_of, work_of, steps_shared, successes, last_answer}
 use Rattle.rehearse_runs.specs.Phases.{HasBegun}
 use Rattle.rehearse_runs.specs.Searching.{AreMarks}
 use Rattle.rehearse_runs.proofs.SearchLemmas.{cut_of}
-use Rattle.rehearse.proofs.TaskChoices.{no_run_is_longer}
+use Rattle.rehearse_rules.proofs.TaskChoices.{no_run_is_longer}
 
 -- ---- the words before the ones to come
 

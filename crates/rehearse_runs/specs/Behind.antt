@@ -3,11 +3,11 @@ use Rattle.std.specs.Prelude.{◌≡◌, ◌≢◌, [], true, false, map, Option
 use Rattle.rehearse_terms.specs.Outcomes as outcomes
 use Rattle.rehearse_terms.specs.Outcomes.{OutcomeWord}
 use Rattle.rehearse_terms.specs.State.{Text}
-use Rattle.rehearse.specs.Runs.{Task, kind, IsListed, rest, steps}
-use Rattle.rehearse.specs.Listing.{outcome_digit}
+use Rattle.rehearse_rules.specs.Runs.{Task, kind, IsListed, rest, steps}
+use Rattle.rehearse_rules.specs.Listing.{outcome_digit}
 use Rattle.rehearse_runs.specs.RunsShown.{RunsShown}
-use Rattle.rehearse.specs.declared.rehearse_error.RehearseError.{RehearseError}
-use Rattle.rehearse.specs.declared.rehearse_error.RehearseError.TheVariants.{NoSuchVariable, Memory, NotARun}
+use Rattle.rehearse_rules.specs.declared.rehearse_error.RehearseError.{RehearseError}
+use Rattle.rehearse_rules.specs.declared.rehearse_error.RehearseError.TheVariants.{NoSuchVariable, Memory, NotARun}
 use Rattle.rehearse_runs.specs.declared.trying.WordKind.{WordKind}
 use Rattle.rehearse_runs.specs.declared.trying.WordKind.TheVariants.{Run, Short, Long}
 

@@ -4,12 +4,12 @@ use Rattle.std.specs.List.{flat_map}
 use Rattle.output.specs.Sink.{Sink, Wrote, BrokeOff}
 use Rattle.rehearse_terms.specs.Outcomes.{OutcomeWord}
 use Rattle.rehearse_terms.specs.State.{Text}
-use Rattle.rehearse.specs.Listing.{line, record_of, page_words, page_closing, page_text}
+use Rattle.rehearse_rules.specs.Listing.{line, record_of, page_words, page_closing, page_text}
 use Rattle.rehearse_terms.specs.declared.wanted.Page.{Page}
 use Rattle.rehearse_runs.specs.RunsShown.{RunsShown, last_answer}
 use Rattle.rehearse_runs.specs.UnfinishedListings.{BreaksOff, LacksMemory}
-use Rattle.rehearse.specs.declared.rehearse_error.RehearseError.{RehearseError}
-use Rattle.rehearse.specs.declared.rehearse_error.RehearseError.TheVariants.{Memory, Write, Failed}
+use Rattle.rehearse_rules.specs.declared.rehearse_error.RehearseError.{RehearseError}
+use Rattle.rehearse_rules.specs.declared.rehearse_error.RehearseError.TheVariants.{Memory, Write, Failed}
 use Rattle.rehearse_runs.specs.declared.listing.Finish.{Finish}
 use Rattle.rehearse_runs.specs.declared.listing.Finish.TheVariants.{Done, More}
 

@@ -1,17 +1,17 @@
 -- How far a rehearsal is. Ours.
 use Rattle.std.specs.Prelude.{◌≡◌, ◌++◌, Option, Some, None, ℕ, ◌+◌, ◌*◌, ◌^◌, ◌≤◌, Bool, true, false, List, [], length, map, ⊤}
-use Rattle.bootstore.specs.Record.{Record}
+use Rattle.bootstore_state.specs.Record.{Record}
 use Rattle.rehearse_terms.specs.Bounds.{most_steps}
 use Rattle.rehearse_terms.specs.Outcomes.{OutcomeWord}
 use Rattle.rehearse_terms.specs.State.{Text}
-use Rattle.bootstore.specs.StoredState.{state_at}
-use Rattle.rehearse.specs.Runs.{Task, run_on, state_of, ending_of, runs, IsListed, rest}
-use Rattle.rehearse.specs.Listing.{outcome_digit}
+use Rattle.bootstore_state.specs.StoredState.{state_at}
+use Rattle.rehearse_rules.specs.Runs.{Task, run_on, state_of, ending_of, runs, IsListed, rest}
+use Rattle.rehearse_rules.specs.Listing.{outcome_digit}
 use Rattle.output.specs.ByteArrayShown.{Held}
 use Rattle.rehearse_runs.specs.RunsShown.{RunsShown, outcomes, to_come_after, given_if, words_made, in_front_of, work_of, last_answer}
-use Rattle.rehearse.specs.EndingsShown.{halt_shown}
+use Rattle.rehearse_rules.specs.EndingsShown.{halt_shown}
 use Rattle.rehearse_runs.specs.Searching.{AreMarks}
-use Rattle.rehearse.specs.declared.halt.Halt.{Halt}
+use Rattle.rehearse_rules.specs.declared.halt.Halt.{Halt}
 use Rattle.rehearse_runs.specs.declared.runs.Phase.{Phase}
 use Rattle.rehearse_runs.specs.declared.runs.Phase.TheVariants.{Fresh, At, Over, Failed}
 

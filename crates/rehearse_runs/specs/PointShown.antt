@@ -1,9 +1,9 @@
 -- What contracts see of a point to resume at.
 use Rattle.std.specs.Prelude.{ℕ, true, false, List, Option, Some, None, drop}
 use Rattle.std.specs.Borrow.{Bor}
-use Rattle.rehearse.specs.Resuming as spec
+use Rattle.rehearse_rules.specs.Resuming as spec
 use Rattle.rehearse_terms.specs.State.{Text}
-use Rattle.rehearse.specs.Resuming.{is_first_line}
+use Rattle.rehearse_rules.specs.Resuming.{is_first_line}
 use Rattle.rehearse_runs.specs.declared.resuming.Point.{Point}
 
 abbrev pub point_of : Point → spec.Point

@@ -1,22 +1,22 @@
 -- What a rehearsal of an environment writes. Ours. The words in quotation marks are those of the headline
--- (whole_program/specs/Headline.antt), and each is explained at its line.
+-- (ubtool/specs/Headline.antt), and each is explained at its line.
 use Rattle.std.specs.Prelude.{◌≡◌, ◌⊎◌, false, List, Option, Some, None, Ok, Err}
 use Rattle.output.specs.Sink.{Sink, Wrote}
 use Rattle.rehearse_terms.specs.Asking.{Asking, Listed, Wanted, page_of, whole_page}
-use Rattle.rehearse.specs.RunsToCome.{AreToCome, GivesNoRun}
+use Rattle.rehearse_rules.specs.RunsToCome.{AreToCome, GivesNoRun}
 use Rattle.rehearse_terms.specs.Bounds.{BoundsShown}
 use Rattle.device_list.specs.DeviceList.{Devices, listed}
-use Rattle.rehearse.specs.Listing.{record_of, page_text}
+use Rattle.rehearse_rules.specs.Listing.{record_of, page_text}
 use Rattle.rehearse_terms.specs.Outcomes.{OutcomeWord}
-use Rattle.rehearse.specs.Runs.{Task}
+use Rattle.rehearse_rules.specs.Runs.{Task}
 use Rattle.rehearse_terms.specs.State.{Text}
 use Rattle.rehearse_machine.specs.Tasks.{task_set}
 use Rattle.rehearse_runs.specs.ListingRuns.{finish_of}
 use Rattle.rehearse_runs.specs.RunsShown.{RunsShown}
 use Rattle.rehearse_runs.specs.UnfinishedListings.{BreaksOff, LacksMemory}
 use Rattle.rehearse_runs.specs.declared.listing.Finish.{Finish}
-use Rattle.rehearse.specs.declared.rehearse_error.RehearseError.{RehearseError}
-use Rattle.rehearse.specs.declared.rehearse_error.RehearseError.TheVariants.{DeviceList, NoSuchVariable, NotARun, Write, Memory}
+use Rattle.rehearse_rules.specs.declared.rehearse_error.RehearseError.{RehearseError}
+use Rattle.rehearse_rules.specs.declared.rehearse_error.RehearseError.TheVariants.{DeviceList, NoSuchVariable, NotARun, Write, Memory}
 
 -- the rehearsal that an environment, a device list and what is asked give, if the variable is set
 abbrev pub task_asked : List (Text × Text) → Devices → Asking → Option Task

@@ -1,13 +1,13 @@
 -- What writing the run of one word does. Ours.
 use Rattle.std.specs.Prelude.{◌≡◌, ◌++◌, List, codes}
 use Rattle.output.specs.Sink.{Sink, Wrote, BrokeOff}
-use Rattle.rehearse.specs.RunsToCome.{SpellsNoRun}
-use Rattle.rehearse.specs.Listing.{spelled, record_of, line}
+use Rattle.rehearse_rules.specs.RunsToCome.{SpellsNoRun}
+use Rattle.rehearse_rules.specs.Listing.{spelled, record_of, line}
 use Rattle.rehearse_terms.specs.Outcomes.{OutcomeWord, Run}
-use Rattle.rehearse.specs.Runs.{Task, kind}
+use Rattle.rehearse_rules.specs.Runs.{Task, kind}
 use Rattle.rehearse_terms.specs.State.{Text}
-use Rattle.rehearse.specs.declared.rehearse_error.RehearseError.{RehearseError}
-use Rattle.rehearse.specs.declared.rehearse_error.RehearseError.TheVariants.{NotARun, Write, Memory}
+use Rattle.rehearse_rules.specs.declared.rehearse_error.RehearseError.{RehearseError}
+use Rattle.rehearse_rules.specs.declared.rehearse_error.RehearseError.TheVariants.{NotARun, Write, Memory}
 
 -- the text is the printed word of a run
 pub record IsRunOf (task : Task) (printed : Text) : Type 0 where

@@ -3,7 +3,7 @@ use Rattle.std.specs.Prelude.{ℕ, suc, ◌+◌, ◌-◌, length, take, Bool, tr
 use Rattle.text.specs.Bytes as ascii
 use Rattle.rehearse_terms.specs.Outcomes.{OutcomeWord, Outcome, Success, Failure, common_prefix}
 use Rattle.rehearse_terms.specs.State.{Text}
-use Rattle.rehearse.specs.Runs.{Task, runs, rest, steps, asked, work, work_from}
+use Rattle.rehearse_rules.specs.Runs.{Task, runs, rest, steps, asked, work, work_from}
 
 -- the rehearsal, the word given to `after`, the words that `next` gave since, the words still to come, the last word
 -- that was given either way, whether it failed as memory ran out, whether a run is shown, and the steps begun

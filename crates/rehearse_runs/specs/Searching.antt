@@ -1,14 +1,14 @@
 -- The search for the next run. Ours.
 use Rattle.std.specs.Prelude.{ℕ, ◌≡◌, ◌+◌, ◌≤◌, Bool, true, false, Option, None, List, [], ◌∷◌, ◌++◌, Some}
-use Rattle.bootstore.specs.Moment.{Moment}
-use Rattle.bootstore.specs.Record.{Record, with_mark}
+use Rattle.bootstore_state.specs.Moment.{Moment}
+use Rattle.bootstore_state.specs.Record.{Record, with_mark}
 use Rattle.rehearse_terms.specs.Bounds.{most_steps}
 use Rattle.rehearse_terms.specs.Outcomes.{OutcomeWord, Failure, Run, failures, allows, turned, first_from, common_prefix}
-use Rattle.bootstore.specs.StoredState.{state_at}
-use Rattle.rehearse.specs.Runs.{Task, run_on, state_of, ending_of, kind, runs, rest, asked}
-use Rattle.rehearse.specs.EndingsShown.{halt_shown}
+use Rattle.bootstore_state.specs.StoredState.{state_at}
+use Rattle.rehearse_rules.specs.Runs.{Task, run_on, state_of, ending_of, kind, runs, rest, asked}
+use Rattle.rehearse_rules.specs.EndingsShown.{halt_shown}
 use Rattle.rehearse_machine.specs.StoppedTexts.{StoppedAt}
-use Rattle.rehearse.specs.declared.halt.Halt.{Halt}
+use Rattle.rehearse_rules.specs.declared.halt.Halt.{Halt}
 use Rattle.rehearse_machine.specs.declared.rehearsal.Stop.TheVariants.{Asks}
 
 -- whether one more device command may fail after a word

@@ -2,9 +2,9 @@
 use Rattle.std.specs.Prelude.{◌≡◌, ◌++◌, List}
 use Rattle.std.specs.List.{flat_map}
 use Rattle.output.specs.Sink.{Sink, Wrote, BrokeOff}
-use Rattle.rehearse.specs.Listing.{record_of, page_text, page_words}
+use Rattle.rehearse_rules.specs.Listing.{record_of, page_text, page_words}
 use Rattle.rehearse_terms.specs.Outcomes.{OutcomeWord}
-use Rattle.rehearse.specs.Runs.{Task}
+use Rattle.rehearse_rules.specs.Runs.{Task}
 use Rattle.rehearse_terms.specs.State.{Text}
 use Rattle.rehearse_terms.specs.declared.wanted.Page.{Page}
 

@@ -1,17 +1,17 @@
 -- The walk along the digits of a word. Ours.
 use Rattle.std.specs.Prelude.{◌≡◌, ◌≢◌, ◌+◌, ◌≤◌, Bool, [], ◌∷◌, ◌++◌, map, Option, Some, None}
 use Rattle.std.specs.Borrow.{Bor}
-use Rattle.bootstore.specs.Record.{Record}
+use Rattle.bootstore_state.specs.Record.{Record}
 use Rattle.rehearse_terms.specs.Bounds.{most_steps}
 use Rattle.rehearse_terms.specs.Outcomes.{OutcomeWord, Outcome, Run, Short, Long}
 use Rattle.rehearse_terms.specs.State.{Text}
-use Rattle.bootstore.specs.StoredState.{state_at}
-use Rattle.rehearse.specs.Runs.{Task, run_on, state_of, ending_of, kind}
-use Rattle.rehearse.specs.Listing.{outcome_digit}
-use Rattle.rehearse.specs.EndingsShown.{halt_shown}
+use Rattle.bootstore_state.specs.StoredState.{state_at}
+use Rattle.rehearse_rules.specs.Runs.{Task, run_on, state_of, ending_of, kind}
+use Rattle.rehearse_rules.specs.Listing.{outcome_digit}
+use Rattle.rehearse_rules.specs.EndingsShown.{halt_shown}
 use Rattle.rehearse_machine.specs.Machine.{outcome_when}
 use Rattle.rehearse_runs.specs.Searching.{AreMarks}
-use Rattle.rehearse.specs.declared.halt.Halt.{Halt}
+use Rattle.rehearse_rules.specs.declared.halt.Halt.{Halt}
 use Rattle.rehearse_runs.specs.declared.walking.Walked.{Walked}
 use Rattle.rehearse_runs.specs.declared.walking.Walked.TheVariants as walked
 

@@ -14,8 +14,8 @@ mod walking;
 
 pub use ask::Ask;
 pub use listing::{Finish, write_listing};
-pub use rehearse::{Ending, RehearseError};
 pub use rehearse_records::RunView;
+pub use rehearse_rules::{Ending, RehearseError};
 pub use rehearsing::rehearse_env;
 pub use resuming::{Point, resume_point};
 pub use runs::Runs;

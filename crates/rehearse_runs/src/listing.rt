@@ -1,16 +1,16 @@
 //! The listing of runs.
 ghost use Rattle.std.specs.Prelude.{◌≡◌, map, codes, ◌++◌, false, IfOk, OnOk, IfErr};
 ghost use Rattle.output.specs.Sink.{Prints};
-ghost use Rattle.rehearse.specs.Listing.{line};
+ghost use Rattle.rehearse_rules.specs.Listing.{line};
 ghost use Rattle.rehearse_terms.specs.Asking.{HasRoom};
 ghost use Rattle.rehearse_records.specs.Recording.{printed};
 ghost use Rattle.rehearse_runs.specs.ListingRuns.{reached, lowered, WroteRecords, Lists, Breaks};
 
 use crate::runs::Runs;
-use bootstore::Store;
+use bootstore_state::Store;
 use output::{Out, OutFault, write_all, write_parts};
-use rehearse::RehearseError;
 use rehearse_records::write_record;
+use rehearse_rules::RehearseError;
 use rehearse_terms::Page;
 
 /// How a listing finishes.

@@ -1,8 +1,8 @@
 //! The run of one word.
 ghost use Rattle.std.specs.Prelude.{◌≡◌, ◌++◌, [], map, codes, IfOk, IfErr};
 ghost use Rattle.output.specs.Sink.{Prints};
-ghost use Rattle.rehearse.specs.Listing.{line};
-ghost use Rattle.bootstore.specs.StoredState.{state_at};
+ghost use Rattle.rehearse_rules.specs.Listing.{line};
+ghost use Rattle.bootstore_state.specs.StoredState.{state_at};
 ghost use Rattle.rehearse_machine.specs.Tasks.{task_in};
 ghost use Rattle.rehearse_records.specs.Recording.{recorded};
 ghost use Rattle.rehearse_records.specs.RunViewShown.{shown_word, shown_moment, shown_ending};
@@ -10,11 +10,11 @@ ghost use Rattle.rehearse_runs.specs.RunAlone.{BreaksAlone, WritesAlone};
 
 use crate::ask::digits_of;
 use crate::walking::{Walked, walk_to};
-use bootstore::Store;
+use bootstore_state::Store;
 use output::{Bytes, Out, OutFault, write_all};
-use rehearse::RehearseError;
 use rehearse_machine::Rehearsal;
 use rehearse_records::{RunView, write_record};
+use rehearse_rules::RehearseError;
 
 /// Writes the record of a run, and `done`.
 fn write_one<S: Store, O: Out>(

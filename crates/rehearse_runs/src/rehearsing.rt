@@ -13,12 +13,12 @@ use crate::ask::{Ask, digits_of};
 use crate::listing::{Finish, write_listing};
 use crate::one_run::write_run;
 use crate::runs::Runs;
-use bootstore::Store;
+use bootstore_state::Store;
 use device_list::Devices;
 use envtools::Env;
 use output::Out;
-use rehearse::{RehearseError, read_devices};
 use rehearse_machine::Rehearsal;
+use rehearse_rules::{RehearseError, read_devices};
 use rehearse_terms::{Bounds, Page, RunBounds, Wanted};
 use std::alloc::Global;
 

@@ -10,7 +10,7 @@ pub struct Point<'a> {
     pub length: usize,
 }
 
-ghost use Rattle.rehearse.specs.Resuming.{ended_lines, is_last_line, resume_point_of};
+ghost use Rattle.rehearse_rules.specs.Resuming.{ended_lines, is_last_line, resume_point_of};
 ghost use Rattle.rehearse_runs.specs.PointShown.{point_if, name_if, first_word};
 
 /// The first line that a newline ends, and what is after the newline.

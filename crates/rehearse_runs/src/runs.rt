@@ -2,7 +2,7 @@
 ghost use Rattle.std.specs.Prelude.{◌≡◌, [], false, true, map, option_map, IfSome, IsSome, None};
 ghost use Rattle.text.specs.TextsShown.{option_bytes};
 ghost use Rattle.rehearse_terms.specs.Bounds.{are_bounds};
-ghost use Rattle.rehearse.specs.Listing.{outcome_digit};
+ghost use Rattle.rehearse_rules.specs.Listing.{outcome_digit};
 ghost use Rattle.rehearse_terms.specs.Outcomes.{has_success};
 ghost use Rattle.envtools.specs.Environment.{value_of};
 ghost use Rattle.rehearse_machine.specs.Tasks.{task_in, task_set, task_shown};
@@ -12,13 +12,13 @@ ghost use Rattle.std.specs.Borrow.{sem};
 use crate::failing::{allows, is_within};
 use crate::searching::{Digits, first_run, next_run};
 use crate::walking::{Walked, walk_to};
-use bootstore::Store;
+use bootstore_state::Store;
 use device_list::Devices;
 use envtools::Env;
 use output::Bytes;
-use rehearse::{Halt, RehearseError};
 use rehearse_machine::Rehearsal;
 use rehearse_records::RunView;
+use rehearse_rules::{Halt, RehearseError};
 use rehearse_terms::Bounds;
 use std::alloc::Global;
 use std::marker::Model;
@@ -118,7 +118,7 @@ impl<'a, S: Store> Model for Runs<'a, S> {
 impl<'a, S: Store> Runs<'a, S> {
     ghost use Rattle.rehearse_runs.specs.RunsShown.{RunsShown, new_runs};
     ghost use Rattle.std.specs.Prelude.{IfOk, OnOk, IfErr, OnErr, Some};
-    ghost use Rattle.rehearse.specs.declared.rehearse_error.RehearseError.TheVariants.{NoSuchVariable};
+    ghost use Rattle.rehearse_rules.specs.declared.rehearse_error.RehearseError.TheVariants.{NoSuchVariable};
     ghost use Rattle.rehearse_runs.specs.Giving.{Advances, IsView, Lent};
     ghost use Rattle.rehearse_runs.specs.Behind.{GoesOnBehind, RefusesWord};
 

@@ -6,13 +6,13 @@ ghost use Rattle.rehearse_runs.specs.Searching.{AreMarks, MarksIf, Found, FoundF
 ghost use Rattle.rehearse_machine.specs.StoppedTexts.{StoppedAt};
 ghost use Rattle.rehearse_machine.specs.Tasks.{task_in};
 ghost use Rattle.rehearse_terms.specs.Bounds.{most_run_devices, most_steps};
-ghost use Rattle.rehearse.specs.Runs.{IsListed};
+ghost use Rattle.rehearse_rules.specs.Runs.{IsListed};
 
 use crate::failing::{allows, failures, may_fail};
-use bootstore::{Store, StoreError};
+use bootstore_state::{Store, StoreError};
 use output::Bytes;
-use rehearse::Halt;
 use rehearse_machine::{Rehearsal, Stop, begin, resume};
+use rehearse_rules::Halt;
 
 /// The digits of a word.
 pub(crate) type Digits = Bytes<1000>;

@@ -2,16 +2,16 @@
 ghost use Rattle.std.specs.Prelude.{◌≡◌, IfOk, OnOk, IfErr, IsSome, Some, None};
 ghost use Rattle.envtools.specs.Environment.{value_of};
 ghost use Rattle.rehearse_machine.specs.Tasks.{task_shown, task_set};
-ghost use Rattle.rehearse.specs.declared.rehearse_error.RehearseError.TheVariants.{NoSuchVariable};
+ghost use Rattle.rehearse_rules.specs.declared.rehearse_error.RehearseError.TheVariants.{NoSuchVariable};
 ghost use Rattle.rehearse_runs.specs.Behind.{kind_shown, HasKind, RefusesTry};
 
 use crate::runs::rehearsal_of;
 use crate::searching::Digits;
 use crate::walking::{Walked, walk_to};
-use bootstore::Store;
+use bootstore_state::Store;
 use device_list::Devices;
 use envtools::Env;
-use rehearse::RehearseError;
+use rehearse_rules::RehearseError;
 use rehearse_terms::Bounds;
 use std::alloc::Global;
 

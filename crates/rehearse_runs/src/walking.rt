@@ -1,7 +1,7 @@
 //! The walk along the digits of a word.
 ghost use Rattle.std.specs.Prelude.{◌≡◌, ◌+◌, ◌-◌, ◌*◌, ◌<◌, ◌≤◌, ◌^◌, ◌∷◌, [], ◌++◌, IfOk, OnOk};
 ghost use Rattle.rehearse_terms.specs.Bounds.{most_steps};
-ghost use Rattle.rehearse.specs.Listing.{outcome_digit};
+ghost use Rattle.rehearse_rules.specs.Listing.{outcome_digit};
 ghost use Rattle.rehearse_runs.specs.RunsShown.{outcomes};
 ghost use Rattle.rehearse_machine.specs.Machine.{outcome_when};
 ghost use Rattle.rehearse_runs.specs.Searching.{AreMarks};
@@ -12,10 +12,10 @@ ghost use Rattle.rehearse_machine.specs.declared.rehearsal.Stop.TheVariants.{Ask
 
 use crate::failing::may_fail;
 use crate::searching::mark_if;
-use bootstore::{Store, StoreError};
+use bootstore_state::{Store, StoreError};
 use output::Bytes;
-use rehearse::Halt;
 use rehearse_machine::{Rehearsal, Stop, begin, resume};
+use rehearse_rules::Halt;
 
 /// Where a walk ends.
 #[derive(Drop)]

@@ -24,11 +24,6 @@ with_value variables name value = put (slice_cmp nat_cmp) name value variables
 abbrev pub without : Variables → Text → Variables
 without variables name = filter (λ e. not (eq_by_cmp (slice_cmp nat_cmp) name e.0)) variables
 
--- not the name of a variable: empty, with `=` in it, or beginning with `-`
-abbrev pub is_bad_name : Text → Bool
-is_bad_name [] = true
-is_bad_name (b ∷ name) = nat_eq b ascii.minus || nat_eq b ascii.equals || list_any (nat_eq ascii.equals) name
-
 -- what a script reads and writes
 pub record Memory : Type 0 where
   pub environment : Variables

@@ -1,4 +1,4 @@
-use Rattle.rehearse_rows.proofs.EndingLineLemmas.{counted_all}
+use Rattle.rehearse_states.proofs.EndingLineLemmas.{counted_all}
 use Rattle.rehearse_endings.proofs.LawLemmas.{no_ending_twice}
 use Rattle.rehearse_endings.proofs.RowCountLemmas.{rows_count_runs}
 use Rattle.rehearse_endings.proofs.RowWordLemmas.{rows_tell_of_runs}

@@ -3,14 +3,14 @@ use Rattle.rehearse_terms.specs.Outcomes.{Success, Failure}
 use Rattle.rehearse_machine.specs.Tasks.{task_in}
 use Rattle.rehearse_machine.specs.declared.rehearsal.Stop.{Stop}
 use Rattle.rehearse_machine.specs.declared.rehearsal.Stop.TheVariants.{Asks}
-use Rattle.rehearse_cores.specs.Cores.{core_shown}
-use Rattle.rehearse_rows.specs.RowsShown.{summary_shown}
+use Rattle.rehearse_states.specs.Cores.{core_shown}
+use Rattle.rehearse_states.specs.RowsShown.{summary_shown}
 use Rattle.rehearse_endings.specs.SummedRuns.{Summed}
 use Rattle.text.specs.TextsShown.{bytes_of_words}
 use Rattle.std.proofs.lemmas.List.{length-map}
 use Rattle.rehearse_endings.specs.DrawnRuns.{Draws}
-use Rattle.rehearse_rows.specs.Drawing.{node_shown, nodes_shown}
-use Rattle.rehearse_rows.specs.declared.flow.Flow.{Flow}
+use Rattle.rehearse_states.specs.Drawing.{node_shown, nodes_shown}
+use Rattle.rehearse_states.specs.declared.flow.Flow.{Flow}
 use Rattle.rehearse_endings.specs.Searching.{future, seen_from}
 use Rattle.rehearse_endings.specs.States.{HasStates}
 use Rattle.rehearse_machine.proofs.StoppedTextLemmas.{stopped_on}

@@ -1,12 +1,12 @@
 use Rattle.std.proofs.Common.{ℕ, ◌+◌, [], length, ap, sym, subst, ◌∙◌, Err}
 use Rattle.std.proofs.lemmas.List.{length-map}
-use Rattle.rehearse_rows.specs.Drawing.{node_shown, nodes_shown}
+use Rattle.rehearse_states.specs.Drawing.{node_shown, nodes_shown}
 use Rattle.rehearse_endings.proofs.WrittenFlowLemmas.{whole_flow}
 use Rattle.std.proofs.lemmas.Result.{err_from_is_err_and}
 use Rattle.rehearse_endings.specs.States.{HasStates}
 use Rattle.rehearse_endings.proofs.EnteredStateLemmas.{first_entered, first_new, whole_states, refused_as}
 use Rattle.rehearse_machine.specs.Tasks.{task_in}
-use Rattle.rehearse_rows.specs.RowsShown.{summary_shown}
+use Rattle.rehearse_states.specs.RowsShown.{summary_shown}
 use Rattle.rehearse_endings.proofs.SearchLemmas.{reached_first, whole_rows}
 use Rattle.rehearse_endings.proofs.searching.sum_endings.Goals as goal
 

@@ -1,5 +1,5 @@
 use Rattle.std.proofs.Common.{◌≡◌, ◌∙◌, ap, rules, sym, subst, Option, Some}
-use Rattle.rehearse.specs.Runs.{Task}
+use Rattle.rehearse_rules.specs.Runs.{Task}
 use Rattle.rehearse_machine.specs.Tasks.{task_in, task_set, task_shown}
 use Rattle.rehearse_machine.proofs.TaskSet.{task_is_set, task_is_unset}
 use Rattle.rehearse_endings.specs.TellingEndings.{AreLines}

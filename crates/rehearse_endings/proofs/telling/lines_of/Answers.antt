@@ -1,9 +1,9 @@
 use Rattle.std.proofs.Common.{rules, refl, sym, subst, ◌≡◌, Bool, true, false}
 use Rattle.rehearse_machine.specs.Tasks.{task_in}
-use Rattle.rehearse_rows.specs.Drawing.{nodes_shown}
-use Rattle.rehearse_rows.specs.RowsShown.{rows_shown}
+use Rattle.rehearse_states.specs.Drawing.{nodes_shown}
+use Rattle.rehearse_states.specs.RowsShown.{rows_shown}
 use Rattle.rehearse_endings.specs.TellingEndings.{Tells}
-use Rattle.rehearse_rows.proofs.EndingLineLemmas.{text_told}
+use Rattle.rehearse_states.proofs.EndingLineLemmas.{text_told}
 use Rattle.rehearse_endings.proofs.telling.lines_of.Goals as goal
 
 pub returns-then-flow-clause-ok : goal.returns-then-flow-clause-ok

@@ -2,12 +2,12 @@ use Rattle.std.proofs.Common.{Bool, ap, ◌∙◌, subst, List, ℕ, Vec, Global
 use Rattle.hushlang.specs.TreesShown as view
 use Rattle.hushlang.specs.Tree.{Script, Word}
 use Rattle.hushlang.specs.Expansion.{fields}
-use Rattle.bootstore.specs.Moment.{RunningFrame}
+use Rattle.bootstore_state.specs.Moment.{RunningFrame}
 use Rattle.text.specs.TextsShown.{bytes_of_words}
-use Rattle.bootstore.specs.StoredState.{state_at}
+use Rattle.bootstore_state.specs.StoredState.{state_at}
 use Rattle.rehearse_machine.specs.AskingCommand.{words_in_front, fields_again}
 use Rattle.rehearse_machine.specs.Places.{StopOn, place_fields}
-use Rattle.rehearse.specs.Execution.{End}
+use Rattle.rehearse_rules.specs.Execution.{End}
 use Rattle.rehearse_machine.specs.Variables.{parameters_at}
 use Rattle.rehearse_machine.specs.MovesShown.{limits_of, under, IsExpanded}
 use Rattle.rehearse_machine.proofs.NextMoveLemmas.{known_before}

@@ -1,5 +1,5 @@
 use Rattle.std.proofs.Common.{subst, sym, Bool}
-use Rattle.bootstore.specs.Record.{Record}
+use Rattle.bootstore_state.specs.Record.{Record}
 use Rattle.rehearse_machine.specs.MovesShown.{limits_of, IsCounted, IsTop}
 use Rattle.rehearse_machine.proofs.AssignLemmas.{assign_begins}
 use Rattle.rehearse_machine.proofs.assigns.begin_assign.Goals as goal

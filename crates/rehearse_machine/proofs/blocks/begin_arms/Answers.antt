@@ -1,6 +1,6 @@
 use Rattle.std.proofs.Common.{ap, ◌∙◌, suc, refl}
 use Rattle.hushlang.specs.TreesShown as view
-use Rattle.bootstore.specs.declared.frame.At.{At}
+use Rattle.bootstore_state.specs.declared.frame.At.{At}
 use Rattle.rehearse_machine.specs.Places.{place}
 use Rattle.rehearse_machine.proofs.ArmLemmas.{arm_entered, other_entered, none_entered}
 use Rattle.rehearse_machine.proofs.blocks.begin_arms.Goals as goal

@@ -1,6 +1,6 @@
 use Rattle.std.proofs.Common.{ap, ◌∙◌, sym, ℕ, suc, nat_eq, add-one, map, refl}
 use Rattle.hushlang.specs.TreesShown as view
-use Rattle.bootstore.specs.declared.frame.At.{At}
+use Rattle.bootstore_state.specs.declared.frame.At.{At}
 use Rattle.rehearse_machine.specs.Places.{place, place_arms, drop_arms}
 use Rattle.rehearse_machine.proofs.ArmLemmas.{block_entered, next_arm, past_arms, not_zero}
 use Rattle.rehearse_machine.proofs.blocks.end_condition.Goals as goal

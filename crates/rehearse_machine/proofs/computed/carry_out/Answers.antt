@@ -1,7 +1,7 @@
 use Rattle.std.proofs.Common.{ap, sym}
-use Rattle.device_list.specs.Commands.{changed_by, carried}
-use Rattle.device_list.specs.ComputedShown.{computed_shown}
-use Rattle.device_list.specs.declared.computed.Computed.{Computed}
+use Rattle.commands.specs.BuiltInCommands.{changed_by, carried}
+use Rattle.commands.specs.ComputedShown.{computed_shown}
+use Rattle.commands.specs.declared.computed.Computed.{Computed}
 use Rattle.rehearse_machine.proofs.ComputedLemmas.{changed_as}
 use Rattle.rehearse_machine.proofs.computed.carry_out.Goals as goal
 

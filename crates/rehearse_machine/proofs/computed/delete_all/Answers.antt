@@ -1,7 +1,7 @@
 use Rattle.std.proofs.Common.{ℕ, List, None, ap, ◌∙◌}
 use Rattle.std.specs.Option.{is_some}
 use Rattle.std.specs.FinMap.{entries}
-use Rattle.bootstore.specs.Record.{changed, with_environment}
+use Rattle.bootstore_state.specs.Record.{changed, with_environment}
 use Rattle.rehearse_terms.specs.State.{get}
 use Rattle.rehearse_machine.proofs.ComputedLemmas.{none_deleted, next_deleted, all_deleted}
 use Rattle.rehearse_machine.proofs.computed.delete_all.Goals as goal

@@ -1,7 +1,7 @@
 use Rattle.std.proofs.Common.{ap, sym, ◌∙◌}
 use Rattle.std.specs.Option.{is_some}
 use Rattle.text.specs.TextsShown.{option_bytes}
-use Rattle.bootstore.proofs.StateLemmas.{stored_values}
+use Rattle.bootstore_state.proofs.StateLemmas.{stored_values}
 use Rattle.rehearse_machine.proofs.computed.is_set.Goals as goal
 
 pub returns-in-Some : goal.returns-in-Some

@@ -1,6 +1,6 @@
 use Rattle.std.proofs.Common.{ℕ, List, Some, false, ap, ◌∙◌}
 use Rattle.std.specs.Fmt.{digits}
-use Rattle.bootstore.specs.Record.{changed, with_environment}
+use Rattle.bootstore_state.specs.Record.{changed, with_environment}
 use Rattle.rehearse_machine.proofs.ComputedLemmas.{sets_value}
 use Rattle.rehearse_machine.proofs.computed.set_number.Goals as goal
 

@@ -1,8 +1,8 @@
 use Rattle.std.proofs.Common.{sym, ap, ◌∙◌, suc, subst, Some, Option}
 use Rattle.hushlang.specs.TreesShown as view
 use Rattle.hushlang.specs.declared.tree.Script.{Script as Code}
-use Rattle.bootstore.specs.declared.frame.At.{At}
-use Rattle.bootstore.specs.Record.{Record}
+use Rattle.bootstore_state.specs.declared.frame.At.{At}
+use Rattle.bootstore_state.specs.Record.{Record}
 use Rattle.rehearse_terms.specs.State.{Text}
 use Rattle.rehearse_machine.specs.Places.{GoOn, for_turn, place, block_frame}
 use Rattle.rehearse_machine.specs.MovesShown.{under, IsTop}

@@ -2,8 +2,8 @@ use Rattle.std.proofs.Common.{ap, ◌∙◌, sym, subst, suc, List, length}
 use Rattle.std.proofs.Math.Dec.{eqb}
 use Rattle.hushlang.specs.declared.tree.AndOr.{AndOr as ListCode}
 use Rattle.hushlang.specs.declared.tree.Script.{Script as Code, out-Script}
-use Rattle.bootstore.specs.declared.frame.At.{At}
-use Rattle.bootstore.specs.Record.{Record}
+use Rattle.bootstore_state.specs.declared.frame.At.{At}
+use Rattle.bootstore_state.specs.Record.{Record}
 use Rattle.rehearse_machine.specs.MovesShown.{IsTop}
 use Rattle.rehearse_machine.specs.Places.{place}
 use Rattle.rehearse_machine.proofs.NameLemmas.{text_goes, text_empty}

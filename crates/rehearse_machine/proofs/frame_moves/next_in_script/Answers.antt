@@ -1,7 +1,7 @@
 use Rattle.std.proofs.Common.{◌∷◌, ap, ◌∙◌, sym, Option, Some, None}
 use Rattle.hushlang.specs.TreesShown as view
 use Rattle.hushlang.specs.Tree.{AndOr}
-use Rattle.bootstore.specs.declared.frame.At.{At}
+use Rattle.bootstore_state.specs.declared.frame.At.{At}
 use Rattle.rehearse_machine.specs.Places.{GoOn, moved_to, place, place_list}
 use Rattle.rehearse_machine.proofs.PartLemmas.{list_found, list_missing, list_goes, block_ends}
 use Rattle.rehearse_machine.proofs.frame_moves.next_in_script.Goals as goal

@@ -1,8 +1,8 @@
 use Rattle.std.proofs.Common.{ap, ◌∙◌, sym, subst}
-use Rattle.bootstore.specs.Record.{Record}
-use Rattle.bootstore.specs.Scripts.{text_found}
-use Rattle.bootstore.specs.declared.frame.At.{At}
-use Rattle.bootstore.proofs.TableLemmas.{clone_text}
+use Rattle.bootstore_state.specs.Record.{Record}
+use Rattle.bootstore_state.specs.Scripts.{text_found}
+use Rattle.bootstore_state.specs.declared.frame.At.{At}
+use Rattle.bootstore_state.proofs.TableLemmas.{clone_text}
 use Rattle.rehearse_machine.specs.MovesShown.{IsTop}
 use Rattle.rehearse_machine.proofs.WordLemmas.{word_some}
 use Rattle.rehearse_machine.proofs.NameLemmas.{unset_found, no_script_found, text_found_comes}

@@ -1,5 +1,5 @@
 use Rattle.std.proofs.Common.{ap, ◌∙◌, sym}
-use Rattle.bootstore.specs.declared.frame.FrameKind.{FrameKind}
+use Rattle.bootstore_state.specs.declared.frame.FrameKind.{FrameKind}
 use Rattle.rehearse_machine.specs.Places.{place_by}
 use Rattle.rehearse_machine.proofs.frame_moves.next_of.Goals as goal
 

@@ -1,9 +1,9 @@
 use Rattle.std.proofs.Common.{ap, ◌∙◌, sym, ◌≡◌, ℕ, suc, add-one}
 use Rattle.hushlang.specs.TreesShown as view
-use Rattle.bootstore.specs.declared.frame.At.{At}
+use Rattle.bootstore_state.specs.declared.frame.At.{At}
 use Rattle.rehearse_machine.specs.Places.{place, place_begins}
 use Rattle.rehearse_machine.proofs.ListLemmas.{first_begins, list_ends, join_begins, join_skipped}
-use Rattle.rehearse.specs.Execution.{goes}
+use Rattle.rehearse_rules.specs.Execution.{goes}
 use Rattle.rehearse_machine.proofs.lists.begin_in_list.Goals as goal
 
 pub returns-then-at-eq0-clause-next : goal.returns-then-at-eq0-clause-next

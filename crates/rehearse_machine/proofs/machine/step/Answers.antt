@@ -5,8 +5,8 @@ use Rattle.hushlang.specs.Expansion.{fields}
 use Rattle.hushlang.specs.Tree.{Word}
 use Rattle.hushlang.specs.declared.tree.Script.{Script as Code}
 use Rattle.rehearse_terms.specs.State.{Text}
-use Rattle.bootstore.specs.Moment.{RunningFrame}
-use Rattle.bootstore.specs.declared.frame.At.{At}
+use Rattle.bootstore_state.specs.Moment.{RunningFrame}
+use Rattle.bootstore_state.specs.declared.frame.At.{At}
 use Rattle.rehearse_machine.specs.declared.next_move.Next.TheVariants as nexts
 use Rattle.rehearse_machine.specs.Places.{GoOn, place, block_frame, moved_to}
 use Rattle.rehearse_machine.specs.Variables.{parameters_at}

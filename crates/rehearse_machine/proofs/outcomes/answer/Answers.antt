@@ -1,13 +1,13 @@
 use Rattle.std.proofs.Common.{refl, ap, sym, ◌∙◌, [], ◌∷◌, ◌≡◌, Bool, true, false, map, if◌then◌else◌}
 use Rattle.text.specs.TextsShown.{bytes_of_words}
-use Rattle.bootstore.proofs.TableLemmas.{clone_text}
-use Rattle.device_list.specs.Commands.{sets_in}
+use Rattle.bootstore_state.proofs.TableLemmas.{clone_text}
+use Rattle.device_list.specs.Called.{sets_in}
 use Rattle.device_list.specs.DevicesShown.{setting_shown}
 use Rattle.rehearse_terms.specs.State.{Text, LoggedCommand}
-use Rattle.bootstore.specs.StoredState.{state_at}
-use Rattle.rehearse.specs.Execution.{succeeds, status_when}
+use Rattle.bootstore_state.specs.StoredState.{state_at}
+use Rattle.rehearse_rules.specs.Execution.{succeeds, status_when}
 use Rattle.rehearse_machine.specs.MovesShown.{request_shown}
-use Rattle.rehearse.specs.declared.halt.Halt.TheVariants as halts
+use Rattle.rehearse_rules.specs.declared.halt.Halt.TheVariants as halts
 use Rattle.rehearse_machine.specs.declared.ask.Step.TheVariants as steps
 use Rattle.rehearse_machine.proofs.OutcomeLemmas.{logged_state, logged_frames, logged_keeps, success_does, failure_does, booted, stayed}
 use Rattle.rehearse_machine.proofs.outcomes.answer.Goals as goal

@@ -1,7 +1,7 @@
 use Rattle.std.proofs.Common.{subst, ◌≡◌, sym, ap, ◌∙◌, Some, false, length, arith, is_some}
 use Rattle.text.specs.TextsShown.{bytes_of_words}
 use Rattle.device_list.specs.CommandsShown.{lent_effect}
-use Rattle.rehearse.specs.Execution.{Request, outcome_when, told}
+use Rattle.rehearse_rules.specs.Execution.{Request, outcome_when, told}
 use Rattle.rehearse_machine.specs.MovesShown.{limits_of, Comes, request_shown}
 use Rattle.rehearse_machine.specs.Places.{place_answered}
 use Rattle.rehearse_machine.proofs.ToldLemmas.{outcome_succeeds, room_for, ask_comes, told_comes}

@@ -1,13 +1,13 @@
 use Rattle.std.proofs.Common.{List, ℕ, ap, sym, ◌∙◌}
 use Rattle.std.specs.Prelude.{option_map}
 use Rattle.hushlang.specs.TreesShown as view
-use Rattle.bootstore.specs.Moment.{environment_of}
-use Rattle.bootstore.specs.Record.{Record}
+use Rattle.bootstore_state.specs.Moment.{environment_of}
+use Rattle.bootstore_state.specs.Record.{Record}
 use Rattle.hushlang.specs.Trees.{tree_of}
-use Rattle.rehearse.specs.Execution.{Syntax}
-use Rattle.bootstore.specs.StoredState.{state_at}
-use Rattle.rehearse.specs.Runs.{run_on}
-use Rattle.bootstore.proofs.StateLemmas.{stored_starts}
+use Rattle.rehearse_rules.specs.Execution.{Syntax}
+use Rattle.bootstore_state.specs.StoredState.{state_at}
+use Rattle.rehearse_rules.specs.Runs.{run_on}
+use Rattle.bootstore_state.proofs.StateLemmas.{stored_starts}
 use Rattle.rehearse_machine.specs.Came.{Over, settled}
 use Rattle.rehearse_machine.specs.Tasks.{task_in}
 use Rattle.rehearse_machine.specs.Turning.{to_come}

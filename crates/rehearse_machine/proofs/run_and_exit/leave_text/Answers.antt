@@ -1,10 +1,10 @@
 use Rattle.std.proofs.Common.{ap, sym, ◌∙◌, refl, subst, ℕ}
-use Rattle.bootstore.specs.Record.{Record, without_frame}
-use Rattle.rehearse.specs.Execution.{End}
+use Rattle.bootstore_state.specs.Record.{Record, without_frame}
+use Rattle.rehearse_rules.specs.Execution.{End}
 use Rattle.rehearse_machine.specs.MovesShown.{Keeps}
 use Rattle.rehearse_machine.proofs.StoreMoves.{keeps_both, keeps_change}
 use Rattle.rehearse_terms.specs.State.{State}
-use Rattle.bootstore.specs.StoredState.{state_at}
+use Rattle.bootstore_state.specs.StoredState.{state_at}
 use Rattle.rehearse_machine.specs.Places.{left, to_run, StopOn}
 use Rattle.rehearse_machine.proofs.PlaceMoves.{stops_at_run, goes_below, ends_at_none}
 use Rattle.rehearse_machine.proofs.run_and_exit.leave_text.Goals as goal

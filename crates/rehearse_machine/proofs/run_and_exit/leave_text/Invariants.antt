@@ -1,6 +1,6 @@
 use Rattle.std.proofs.Common.{◌≡◌, length}
 use Rattle.rehearse_terms.specs.Outcomes.{OutcomeWord}
-use Rattle.bootstore.specs.StoredState.{state_at}
+use Rattle.bootstore_state.specs.StoredState.{state_at}
 use Rattle.rehearse_machine.specs.Places.{to_run}
 use Rattle.rehearse_machine.specs.MovesShown.{Keeps}
 use Rattle.rehearse_machine.proofs.run_and_exit.leave_text.Given as goal

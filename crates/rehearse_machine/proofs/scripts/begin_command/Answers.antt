@@ -6,7 +6,7 @@ use Rattle.hushlang.specs.Expansion.{fields}
 use Rattle.std.specs.Prelude.{Vec}
 use Rattle.std.specs.declared.alloc.Global.{Global}
 use Rattle.hushlang.specs.declared.tree.Word.{Word}
-use Rattle.rehearse.specs.Parameters.{parameters_in}
+use Rattle.rehearse_rules.specs.Parameters.{parameters_in}
 use Rattle.rehearse_machine.specs.Places.{place_arms, place_command, place_counted, place_fitting, for_begins}
 use Rattle.rehearse_machine.proofs.ArmLemmas.{Arm}
 use Rattle.rehearse_machine.proofs.CommandLemmas.{says_if, says_loop, says_simple, says_assign, says_for}

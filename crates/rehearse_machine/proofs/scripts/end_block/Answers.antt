@@ -1,5 +1,5 @@
 use Rattle.std.proofs.Common.{ap, ◌∙◌, sym, suc}
-use Rattle.bootstore.specs.declared.frame.At.{At}
+use Rattle.bootstore_state.specs.declared.frame.At.{At}
 use Rattle.rehearse_machine.specs.Places.{place}
 use Rattle.rehearse_machine.proofs.CommandLemmas.{if_ends, loop_checked, loop_again, no_block_simple, no_block_assign, no_block_for}
 use Rattle.rehearse_machine.proofs.NextMoveLemmas.{has_room}

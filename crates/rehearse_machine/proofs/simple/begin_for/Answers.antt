@@ -2,7 +2,7 @@ use Rattle.std.proofs.Common.{◌∙◌, ap, map, refl, subst, sym, Bool}
 use Rattle.hushlang.specs.TreesShown as view
 use Rattle.hushlang.specs.Expansion.{fields}
 use Rattle.text.specs.TextsShown.{bytes_of_words}
-use Rattle.bootstore.specs.Record.{Record}
+use Rattle.bootstore_state.specs.Record.{Record}
 use Rattle.rehearse_machine.specs.Variables.{parameters_at}
 use Rattle.rehearse_machine.specs.MovesShown.{limits_of, under, IsCounted, IsExpanded, IsTop}
 use Rattle.rehearse_machine.specs.Places.{for_begins}

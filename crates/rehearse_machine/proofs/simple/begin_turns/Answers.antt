@@ -4,7 +4,7 @@ use Rattle.hushlang.specs.declared.tree.Script.{Script as Code}
 use Rattle.std.specs.Prelude.{Vec}
 use Rattle.std.specs.declared.alloc.Global.{Global}
 use Rattle.text.specs.TextsShown.{bytes_of_words}
-use Rattle.bootstore.specs.declared.frame.At.{At}
+use Rattle.bootstore_state.specs.declared.frame.At.{At}
 use Rattle.rehearse_machine.specs.Places.{place}
 use Rattle.rehearse_machine.proofs.ForLemmas.{no_words, some_words, values_are, for_ends, for_turns}
 use Rattle.rehearse_machine.proofs.simple.begin_turns.Goals as goal

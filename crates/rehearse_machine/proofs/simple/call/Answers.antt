@@ -1,10 +1,10 @@
 use Rattle.std.proofs.Common.{◌≡◌, sym, ap, ◌∙◌, List, ◌∷◌, refl, subst, Bool}
 use Rattle.hushlang.specs.TreesShown as view
 use Rattle.hushlang.specs.Tree.{Script}
-use Rattle.bootstore.specs.Moment.{RunningFrame}
+use Rattle.bootstore_state.specs.Moment.{RunningFrame}
 use Rattle.text.specs.TextsShown.{bytes_of_words}
-use Rattle.bootstore.specs.Record.{Record, with_place, moved}
-use Rattle.bootstore.specs.StoredState.{state_at}
+use Rattle.bootstore_state.specs.Record.{Record, with_place, moved}
+use Rattle.bootstore_state.specs.StoredState.{state_at}
 use Rattle.hushlang.specs.Expansion.{fields}
 use Rattle.rehearse_machine.specs.Variables.{parameters_at}
 use Rattle.rehearse_machine.specs.MovesShown.{limits_of, under, Keeps, IsCounted, IsExpanded}

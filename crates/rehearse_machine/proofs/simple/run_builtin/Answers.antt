@@ -1,7 +1,8 @@
 use Rattle.std.proofs.Common.{ap, refl}
 use Rattle.hushlang.specs.TreesShown as view
 use Rattle.text.specs.TextsShown.{bytes_of_words}
-use Rattle.device_list.specs.Commands as says
+use Rattle.commands.specs.BuiltInCommands as says
+use Rattle.device_list.specs.Called as called
 use Rattle.rehearse_machine.specs.MovesShown.{limits_of}
 use Rattle.rehearse_machine.specs.CalledShown.{builtin_called}
 use Rattle.rehearse_machine.proofs.CommandMoves.{change_does, writing_does, named_comes}
@@ -16,12 +17,12 @@ pub returns-in-Run : goal.returns-in-Run
 returns-in-Run g c =
     let limits = limits_of c.args.devices.now c.args.bounds in
     let name = c.args.name.now in
-    named_comes limits name (bytes_of_words c.args.words.now) (view.script c.args.script.now.value) _ c.run_names.result _ _ (builtin_called c.args.builtin) (says.BuiltIn says.RunsTexts) (ap builtin_called c.in-Run.is) (c.run_names.ensures limits name)
+    named_comes limits name (bytes_of_words c.args.words.now) (view.script c.args.script.now.value) _ c.run_names.result _ _ (builtin_called c.args.builtin) (called.BuiltIn says.RunsTexts) (ap builtin_called c.in-Run.is) (c.run_names.ensures limits name)
 
 pub returns-in-Test : goal.returns-in-Test
 returns-in-Test g c =
     let script = view.script c.args.script.now.value in
-    named_comes (limits_of c.args.devices.now c.args.bounds) c.args.name.now (bytes_of_words c.args.words.now) script _ c.run_test.result _ _ (builtin_called c.args.builtin) (says.BuiltIn says.Tests) (ap builtin_called c.in-Test.is) (c.run_test.ensures script)
+    named_comes (limits_of c.args.devices.now c.args.bounds) c.args.name.now (bytes_of_words c.args.words.now) script _ c.run_test.result _ _ (builtin_called c.args.builtin) (called.BuiltIn says.Tests) (ap builtin_called c.in-Test.is) (c.run_test.ensures script)
 
 pub returns-in_ok-echo-in-Echo : goal.returns-in_ok-echo-in-Echo
 returns-in_ok-echo-in-Echo g c =

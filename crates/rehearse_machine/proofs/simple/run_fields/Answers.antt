@@ -2,7 +2,7 @@ use Rattle.std.proofs.Common.{None, option_map, ap, sym, subst, ◌∙◌, List,
 use Rattle.builtins.specs.BuiltinsShown.{builtin_shown}
 use Rattle.hushlang.specs.TreesShown as view
 use Rattle.text.specs.TextsShown.{bytes_of_words}
-use Rattle.device_list.specs.Commands.{other_called}
+use Rattle.device_list.specs.Called.{other_called}
 use Rattle.rehearse_machine.specs.MovesShown.{Comes, limits_of}
 use Rattle.rehearse_machine.specs.Places.{place_called}
 use Rattle.rehearse_machine.proofs.CommandMoves.{fields_called}

@@ -1,8 +1,9 @@
 use Rattle.std.proofs.Common.{◌≡◌, Some, None, option_map, ap, sym, refl, ◌∙◌}
 use Rattle.text.specs.TextsShown.{bytes_of_words}
-use Rattle.device_list.specs.Commands.{carried, other_called}
+use Rattle.device_list.specs.Called.{other_called}
+use Rattle.commands.specs.BuiltInCommands.{carried}
 use Rattle.device_list.specs.CommandsShown.{lent_effect}
-use Rattle.device_list.specs.ComputedShown.{computed_shown, call_shown}
+use Rattle.commands.specs.ComputedShown.{computed_shown, call_shown}
 use Rattle.device_list.specs.DeviceList.{computed_by, effect_of}
 use Rattle.rehearse_machine.specs.MovesShown.{limits_of}
 use Rattle.rehearse_machine.proofs.CommandMoves.{change_does, device_comes, other_computed, other_listed}

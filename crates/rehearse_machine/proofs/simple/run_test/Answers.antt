@@ -1,7 +1,8 @@
 use Rattle.std.proofs.Common.{sym, ap, refl, Bool, [], false}
 use Rattle.text.specs.TextsShown.{bytes_of_words}
-use Rattle.device_list.specs.Commands as says
-use Rattle.device_list.specs.Commands.{asks_device}
+use Rattle.commands.specs.BuiltInCommands as says
+use Rattle.device_list.specs.Called as called
+use Rattle.commands.specs.BuiltInCommands.{asks_device}
 use Rattle.device_list.specs.DeviceList.{Effect}
 use Rattle.rehearse_machine.specs.MovesShown.{limits_of}
 use Rattle.rehearse_machine.proofs.CommandMoves.{test_comes}
@@ -10,6 +11,6 @@ use Rattle.rehearse_machine.proofs.simple.run_test.Goals as goal
 pub returns-then-asks_device : goal.returns-then-asks_device
 returns-then-asks_device g c script =
     let devices = c.args.devices.now in
-    test_comes (limits_of devices c.args.bounds) (g.S.Store.record_of c.args.store.now) (g.S.Store.record_of c.ask.new.store) c.args.name.now (bytes_of_words c.args.words.now) script c.ask.result (says.BuiltIn says.Tests) (record { ends = false; stays = c.test_stays.result; sets = [] })
+    test_comes (limits_of devices c.args.bounds) (g.S.Store.record_of c.args.store.now) (g.S.Store.record_of c.ask.new.store) c.args.name.now (bytes_of_words c.args.words.now) script c.ask.result (called.BuiltIn says.Tests) (record { ends = false; stays = c.test_stays.result; sets = [] })
     refl (sym c.if-asks_device.ensures)
     (ap (λ (b : Bool). let e : Effect = record { ends = false; stays = b; sets = [] } in e) c.test_stays.ensures) (c.ask.ensures devices)

@@ -2,8 +2,8 @@ use Rattle.std.proofs.Common.{◌++◌, [], map, List, ℕ, Bor}
 use Rattle.std.specs.Prelude.{codes}
 use Rattle.std.proofs.lemmas.Result.{err_from_is_err_and}
 use Rattle.std.specs.List.{flat_map}
-use Rattle.bootstore.specs.StoredState.{state_at}
-use Rattle.rehearse.specs.Listing.{line, text_lines, variable_lines, last_line}
+use Rattle.bootstore_state.specs.StoredState.{state_at}
+use Rattle.rehearse_rules.specs.Listing.{line, text_lines, variable_lines, last_line}
 use Rattle.rehearse_records.specs.Recording.{printed, entry_line}
 use Rattle.rehearse_records.specs.RunViewShown.{shown_word, shown_moment, shown_ending}
 use Rattle.rehearse_records.proofs.RecordParts.{record_parts}

@@ -1,6 +1,6 @@
 use Rattle.std.specs.Prelude.{codes}
 use Rattle.output.proofs.SinkLemmas.{BrokeOff-before}
-use Rattle.rehearse.specs.Listing.{line}
+use Rattle.rehearse_rules.specs.Listing.{line}
 use Rattle.rehearse_runs.proofs.OneRunLemmas.{Prints-behind}
 use Rattle.rehearse_runs.proofs.one_run.write_one.Goals as goal
 

@@ -1,5 +1,5 @@
 use Rattle.std.proofs.Common.{◌≡◌, map, rules, subst, Some}
-use Rattle.rehearse.specs.Runs.{Task}
+use Rattle.rehearse_rules.specs.Runs.{Task}
 use Rattle.rehearse_machine.specs.Tasks.{task_set, task_shown}
 use Rattle.rehearse_machine.proofs.TaskSet.{task_is_set}
 use Rattle.rehearse_runs.specs.RunAlone.{BreaksAlone, WritesAlone}

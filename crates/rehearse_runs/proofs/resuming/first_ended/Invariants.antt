@@ -1,5 +1,5 @@
 use Rattle.std.proofs.Common.{◌≡◌, [], take, drop}
-use Rattle.rehearse.specs.Resuming.{ended_lines}
+use Rattle.rehearse_rules.specs.Resuming.{ended_lines}
 use Rattle.rehearse_runs.proofs.resuming.first_ended.Given as goal
 
 -- no newline was found so far

@@ -1,5 +1,5 @@
 use Rattle.std.proofs.Common.{◌≡◌, ◌-◌, [], length, ◌≤◌}
-use Rattle.rehearse.specs.Resuming.{ended_lines, point_in, resume_point_of}
+use Rattle.rehearse_rules.specs.Resuming.{ended_lines, point_in, resume_point_of}
 use Rattle.rehearse_runs.specs.PointShown.{point_if, name_if}
 use Rattle.rehearse_runs.proofs.resuming.resume_point.Given as goal
 

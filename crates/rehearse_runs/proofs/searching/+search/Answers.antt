@@ -1,6 +1,6 @@
 use Rattle.std.proofs.Common.{◌≡◌, List, [], ◌∷◌, length, length-append, arith, ap, sym, ◌∙◌, ℕ, ◌+◌}
 use Rattle.rehearse_terms.specs.Outcomes.{first_from}
-use Rattle.rehearse.specs.Runs.{kind}
+use Rattle.rehearse_rules.specs.Runs.{kind}
 use Rattle.rehearse_runs.specs.RunsShown.{outcomes}
 use Rattle.rehearse_runs.specs.Searching.{MarksIf}
 use Rattle.rehearse_machine.specs.Tasks.{task_in}

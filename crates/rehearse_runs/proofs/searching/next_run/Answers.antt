@@ -1,7 +1,7 @@
 use Rattle.std.proofs.Common.{refl}
 use Rattle.rehearse_runs.specs.RunsShown.{outcomes}
 use Rattle.rehearse_machine.specs.Tasks.{task_in}
-use Rattle.rehearse.proofs.TaskChoices.{task_ends}
+use Rattle.rehearse_rules.proofs.TaskChoices.{task_ends}
 use Rattle.rehearse_runs.proofs.SearchLemmas.{back_at, marks_behind, found_behind}
 use Rattle.rehearse_runs.proofs.searching.next_run.Goals as goal
 

@@ -1,7 +1,7 @@
 use Rattle.std.proofs.Common.{◌≡◌, ap, sym, ◌∙◌, Option, Some, None, option_map}
 use Rattle.std.specs.Option.{option_copied}
 use Rattle.device_list.specs.DeviceList.{Effect, Devices, sub_effect, effect_at}
-use Rattle.device_list.specs.TextsShown.{texts}
+use Rattle.commands.specs.TextsShown.{texts}
 use Rattle.device_list.specs.CommandsShown.{listed_shown, found_shown}
 use Rattle.device_list.proofs.MapLemmas.{looked_up}
 use Rattle.device_list.proofs.device_tables.DeviceTables.effect.Goals as goal

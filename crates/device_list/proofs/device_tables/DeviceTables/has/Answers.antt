@@ -1,5 +1,5 @@
 use Rattle.std.proofs.Common.{sym, ◌∙◌, refl, true, false}
-use Rattle.device_list.specs.TextsShown.{texts}
+use Rattle.commands.specs.TextsShown.{texts}
 use Rattle.device_list.proofs.MapLemmas.{has-either}
 use Rattle.device_list.proofs.device_tables.DeviceTables.has.Goals as goal
 

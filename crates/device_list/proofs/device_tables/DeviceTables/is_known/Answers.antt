@@ -4,7 +4,7 @@ use Rattle.std.specs.List.{list_any}
 use Rattle.std.specs.Str.{bytes_eq}
 use Rattle.std.specs.declared.alloc.Global.{Global}
 use Rattle.device_list.specs.DeviceList.{Devices}
-use Rattle.device_list.proofs.ComputedLemmas.{any_text}
+use Rattle.commands.proofs.ComputedLemmas.{any_text}
 use Rattle.device_list.proofs.device_tables.DeviceTables.is_known.Goals as goal
 
 pub returns : goal.returns

@@ -1,6 +1,6 @@
 use Rattle.std.proofs.Common.{◌∙◌, sym, subst}
 use Rattle.std.proofs.lemmas.List.Elements.{All-same}
-use Rattle.device_list.specs.Verdict.{Text}
+use Rattle.text.specs.Lines.{Text}
 use Rattle.device_list.specs.NamedPlaces.{IsPlaced}
 use Rattle.device_list.proofs.PlaceLemmas.{Named, named-inserted}
 use Rattle.device_list.proofs.device_tables.DeviceTables.names.Goals as goal

@@ -1,7 +1,7 @@
 use Rattle.std.proofs.Common.{◌≡◌, ap, sym, ◌∙◌, Option, Some, None, option_map}
 use Rattle.device_list.specs.DeviceList.{Effect, Devices}
 use Rattle.device_list.specs.NamedPlaces.{at_place, placed_sub}
-use Rattle.device_list.specs.TextsShown.{texts}
+use Rattle.commands.specs.TextsShown.{texts}
 use Rattle.device_list.specs.CommandsShown.{listed_shown, found_shown}
 use Rattle.device_list.proofs.PlaceLemmas.{at_place-shown}
 use Rattle.device_list.proofs.device_tables.DeviceTables.placed_effect.Goals as goal

@@ -1,7 +1,7 @@
 use Rattle.std.proofs.Common.{ap, ◌∙◌}
 use Rattle.device_list.specs.DeviceList.{Devices}
 use Rattle.device_list.specs.NamedPlaces.{placed_effect}
-use Rattle.device_list.specs.TextsShown.{texts}
+use Rattle.commands.specs.TextsShown.{texts}
 use Rattle.device_list.proofs.PlaceLemmas.{placed-effect}
 use Rattle.device_list.proofs.devices.Devices.effect_near.Goals as goal
 

@@ -1,6 +1,6 @@
 use Rattle.std.proofs.Common.{refl, get_or}
 use Rattle.rehearse_machine.specs.MovesShown.{limits_of}
-use Rattle.rehearse_rows.specs.Drawing.{nodes_shown}
+use Rattle.rehearse_states.specs.Drawing.{nodes_shown}
 use Rattle.rehearse_endings.specs.declared.table.Entry.{Entry}
 use Rattle.rehearse_endings.proofs.SearchLemmas.{entry_in, look_there, place_there, some_there}
 use Rattle.rehearse_endings.proofs.table.Table.find.Goals as goal

@@ -1,6 +1,6 @@
 use Rattle.std.proofs.Common.{ℕ, Option, ◌≡◌, rules, ap, sym, subst, true, Some, ◌∙◌}
 use Rattle.rehearse_terms.specs.Outcomes.{is_within}
-use Rattle.rehearse.specs.Runs.{Task}
+use Rattle.rehearse_rules.specs.Runs.{Task}
 use Rattle.rehearse_runs.specs.Walking.{WalksTo}
 use Rattle.rehearse_runs.specs.Behind.{GoesOnBehind}
 use Rattle.rehearse_runs.specs.Phases.{shown_at}

@@ -1,0 +1,45 @@
+//! A copy of a present state.
+ghost use Rattle.std.specs.Prelude.{◌≡◌, IfOk};
+ghost use Rattle.bootstore_state.specs.Present.{moment_of};
+
+use bootstore_state::{Frame, LogEntry, Present};
+use std::alloc::{AllocError, Global};
+
+/// A copy of a log. Errors: memory ran out.
+fn copy_log(alloc: Global, log: &[LogEntry]) -> Result<Vec<LogEntry>, AllocError>
+    ensures { IfOk result (λ copies. copies.items ≡ log.now) }
+{
+    let mut copies = Vec::new(alloc);
+    for entry in log {
+        copies.push(entry.copy()?)?;
+    }
+    Ok(copies)
+}
+
+/// A copy of frames, which share their scripts with these. Errors: memory ran out.
+fn copy_frames(alloc: Global, frames: &[Frame]) -> Result<Vec<Frame>, AllocError>
+    ensures { IfOk result (λ copies. copies.items ≡ frames.now) }
+{
+    let mut copies = Vec::new(alloc);
+    for frame in frames {
+        copies.push(frame.copy()?)?;
+    }
+    Ok(copies)
+}
+
+/// A copy of a state. Its frames share their scripts with these. Errors: memory ran out.
+pub(crate) fn copy_of(present: &Present, alloc: Global) -> Result<Present, AllocError>
+    ensures { IfOk result (λ copy. moment_of copy ≡ moment_of present.now) }
+{
+    let log = copy_log(alloc, &present.log)?;
+    let frames = copy_frames(alloc, &present.frames)?;
+    Ok(Present {
+        environment: present.environment.copy()?,
+        locals: present.locals.copy()?,
+        status: present.status,
+        text: present.text.clone()?,
+        log,
+        steps: present.steps,
+        frames,
+    })
+}

@@ -1,0 +1,13 @@
+use Rattle.std.proofs.Common.{Some, sym, ap, subst, ◌∙◌}
+use Rattle.hushlang.specs.TreesShown as view
+use Rattle.hushlang.specs.declared.tree.Script.{Script as Code}
+use Rattle.hushlang.specs.Trees.{tree_of}
+use Rattle.bootstore_state.specs.Scripts.{AreOfTexts}
+use Rattle.bootstore_state.proofs.KeptScripts.{scripts_kept}
+use Rattle.bootstore_state.proofs.scripts.Scripts.keep.Goals as goal
+
+pub invariant_of-self-2-clause-texts : goal.invariant_of-self-2-clause-texts
+invariant_of-self-2-clause-texts c =
+    subst AreOfTexts (sym c.in_ok-insert.ensures.entries)
+    (scripts_kept c.make_room.new.self.kept.entries c.in_ok-key.key c.in_ok-clone.field-0 c.make_room.new.self.texts
+    (ap tree_of c.in_ok-key.ensures.items ∙ c.requires ∙ ap (λ (x : Code). Some (view.script x)) (sym c.in_ok-clone.ensures.cases)))

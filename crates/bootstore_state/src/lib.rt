@@ -1,0 +1,17 @@
+//! The state of a run of a boot script. It can be marked, and a run can go back to it.
+#![tactic(auto)]
+
+mod frame;
+pub mod laws;
+mod log;
+mod present;
+mod scripts;
+mod store;
+mod table;
+
+pub use frame::{At, Frame, FrameKind};
+pub use log::LogEntry;
+pub use present::{Present, Scope};
+pub use scripts::{Scripts, TextFound, read_script};
+pub use store::{Store, StoreError};
+pub use table::{Place, Table, Variables};

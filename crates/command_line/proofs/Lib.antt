@@ -1,2 +1,0 @@
-pub mod ArgumentLemmas
-pub mod MadeLemmas

@@ -1,7 +1,0 @@
-use Rattle.std.proofs.Common.{take, map}
-use Rattle.clap.specs.Words.{with_rule}
-use Rattle.command_line.specs.Arguments.{Adds, rule_of_row}
-use Rattle.command_line.proofs.argument.with_arguments.Given as goal
-
-abbrev pub invariant-loop-row : goal.invariant-loop-row
-invariant-loop-row l = Adds with_rule l.initial.command (map rule_of_row (take l.row-index l.rows)) l.command

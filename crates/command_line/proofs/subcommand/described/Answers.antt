@@ -1,1 +1,0 @@
-use Rattle.command_line.proofs.subcommand.described.Goals as goal

@@ -1,7 +1,0 @@
-use Rattle.std.proofs.Common.{take, map}
-use Rattle.clap.specs.Words.{with_subcommand}
-use Rattle.command_line.specs.Arguments.{Adds, shape_of_row}
-use Rattle.command_line.proofs.subcommand.with_subcommands.Given as goal
-
-abbrev pub invariant-loop-row : goal.invariant-loop-row
-invariant-loop-row l = Adds with_subcommand l.initial.command (map shape_of_row (take l.row-index l.rows)) l.command

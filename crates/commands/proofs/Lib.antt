@@ -1,0 +1,4 @@
+pub mod ComputedLemmas
+pub mod VerdictLemmas
+mod VerdictExamples
+mod ComputedExamples

@@ -1,0 +1,9 @@
+pub mod Verdict
+pub mod KnownCommands
+pub mod KnownCommandsShown
+pub mod Hexadecimal
+pub mod Computed
+pub mod ComputedShown
+pub mod TextsShown
+pub mod VariableNames
+pub mod BuiltInCommands

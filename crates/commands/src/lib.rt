@@ -1,0 +1,16 @@
+//! What the commands of a script mean: the words after `test`, names of variables, and the computed commands.
+#![tactic(auto)]
+
+mod computed;
+mod hexadecimal;
+mod itest;
+mod known_commands;
+mod number;
+mod setexpr;
+mod truth;
+mod variable_name;
+
+pub use computed::{Computed, computes};
+pub use known_commands::{Known, known_of};
+pub use truth::verdict;
+pub use variable_name::is_bad_name;

@@ -1,0 +1,57 @@
+-- What a name calls (ours, as the device list is).
+use Rattle.std.specs.Prelude.{◌-◌, cond, List, [], ◌∷◌, length, Option, Some, None, slice_get}
+use Rattle.builtins.specs.Builtins.{builtin_of}
+use Rattle.commands.specs.BuiltInCommands.{Deed, ChangesVariables, carried, deed_of}
+use Rattle.device_list.specs.DeviceList.{LeftSide, Variable, WordAt, LastWord, Setting, Effect, Devices, effect_of, computed_by}
+use Rattle.rehearse_terms.specs.State.{Text}
+use Rattle.commands.specs.VariableNames.{is_bad_name}
+
+-- what the fields of a command call
+pub data Called : Type 0 where
+  BuiltIn : Deed → Called
+  Device : Effect → Called
+  NoCommand : Called
+
+-- the variable that a word of a call names, if the word is the name of one
+abbrev pub named_by : Option Text → Option Text
+named_by None = None
+named_by (Some word) = cond (is_bad_name word) None (Some word)
+
+-- the variable that the left side of a setting means in a call with these words
+abbrev pub variable_of : LeftSide → List Text → Option Text
+variable_of (Variable name) words = Some name
+variable_of (WordAt place) words = named_by (slice_get words place)
+variable_of LastWord words = named_by (slice_get words (length words - 1))
+
+-- what a call with these words sets; a word that names no variable sets nothing
+abbrev pub sets_in : List Text → List Setting → List (Text × Text)
+sets_in words [] = []
+sets_in words (set ∷ sets) =
+    elim (variable_of set.0 words) [
+      | None ↦ sets_in words sets
+      | Some name ↦ (name, set.1) ∷ sets_in words sets
+    ]
+
+abbrev pub listed_by : Devices → (name : Text) → (words : List Text) → Called
+listed_by devices name words = elim (effect_of devices name words) [ Some effect ↦ Device effect | None ↦ NoCommand ]
+
+-- a built-in command, or else a call of a command of the device list
+abbrev pub called_by_name : Devices → (name : Text) → (words : List Text) → Called
+called_by_name devices name words =
+    elim (builtin_of name) [ Some builtin ↦ BuiltIn (deed_of builtin) | None ↦ listed_by devices name words ]
+
+-- a call that is computed changes variables as a built-in command does
+abbrev pub called_by : Devices → (name : Text) → (words : List Text) → Called
+called_by devices name words =
+    elim (computed_by devices name words) [
+      | Some computed ↦ BuiltIn (ChangesVariables (λ ws. carried computed))
+      | None ↦ called_by_name devices name words
+    ]
+
+-- what a call is that is not of a built-in command: it is computed, or it goes by the list
+abbrev pub other_called : Devices → (name : Text) → (words : List Text) → Called
+other_called devices name words =
+    elim (computed_by devices name words) [
+      | Some computed ↦ BuiltIn (ChangesVariables (λ ws. carried computed))
+      | None ↦ listed_by devices name words
+    ]

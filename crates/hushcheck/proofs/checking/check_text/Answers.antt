@@ -1,0 +1,8 @@
+use Rattle.std.proofs.lemmas.Result.{err_from_is_err_and}
+use Rattle.hushcheck.proofs.TellingLemmas.{front-nothing}
+use Rattle.hushcheck.proofs.checking.check_text.Goals as goal
+
+pub returns-in_err-calls-in-Ok-clause-lines : goal.returns-in_err-calls-in-Ok-clause-lines
+returns-in_err-calls-in-Ok-clause-lines g c =
+    let p = err_from_is_err_and c.from_residual.result c.from_residual.ensures.1 in
+    rw (p.1, p.2) (front-nothing (g.O.Out.sink c.args.out.now) _)

@@ -1,0 +1,139 @@
+-- What is found in the calls of a text: a command that the device list lacks, and a name of `run` that is not followed.
+-- Ours.
+use Rattle.std.specs.Prelude.{◌||◌, ◌++◌, ℕ, Bool, true, false, not, List, [], ◌∷◌, length, map, filter, drop, Option, Some, None, codes, is_some, if◌then◌else◌}
+use Rattle.std.specs.List.{flat_map, fold, list_any}
+use Rattle.std.specs.Str.{bytes_eq}
+use Rattle.hushlang.specs.CursorShown.{input_in}
+use Rattle.hushlang.specs.Grammar.{is_word}
+use Rattle.hushlang.specs.Token.{Token}
+use Rattle.hushlang.specs.Tree.{Script, Empty, Runs, AndOr, Starts, Joined, Alone, Joins, Command, Simple, Assign, If, Loop, For, Arms, NoElse, Else, Arm, Word}
+use Rattle.builtins.specs.Builtins.{is_built_in}
+use Rattle.device_list.specs.DeviceList.{Devices, is_listed}
+use Rattle.text.specs.Escapes.{word_form}
+use Rattle.hushcheck.specs.Names.{Text, is_run, written_out}
+use Rattle.hushcheck.specs.Places.{lines_at}
+
+-- ---- what a device list lacks
+
+-- a line of the list names the command, or has it computed
+abbrev pub is_in_list : Devices → Text → Bool
+is_in_list devices name = is_listed devices name || list_any (bytes_eq name) devices.known
+
+-- The command is neither built in nor in the list. Without a list nothing is lacking.
+abbrev pub is_lacking : Option Devices → Text → Bool
+is_lacking None name = false
+is_lacking (Some devices) name = not (is_built_in name || is_in_list devices name)
+
+-- ---- how far a text is read
+
+-- the place of each word of a text, from its tokens
+abbrev pub word_places : List Token → List ℕ
+word_places tokens = map (λ t. t.start) (filter is_word tokens)
+
+-- what is reported of a word
+pub data Remark : Type 0 where
+  -- a name of `run` holds a variable
+  NotFollowed : Remark
+  -- the device list lacks a command
+  Lacks : (name : Text) → Remark
+
+-- the device list, the places of the words that are left, what was found at which places, and whether a command is
+-- lacking
+pub record Reading : Type 0 where
+  pub devices : Option Devices
+  pub left : List ℕ
+  pub found : List (ℕ × Remark)
+  pub lacks : Bool
+
+-- the place of the next word
+abbrev pub first_place : List ℕ → ℕ
+first_place [] = 0
+first_place (place ∷ places) = place
+
+abbrev pub skip : ℕ → Reading → Reading
+skip count r = record r { left = drop count r.left }
+
+-- something is found at the next word
+abbrev pub find : Remark → Reading → Reading
+find what r = record r { found = r.found ++ (first_place r.left, what) ∷ [] }
+
+-- ---- the words of a call
+
+-- a name of `run`: it is followed if it is written out
+abbrev pub after_operand : Reading → Word → Reading
+after_operand r word = skip 1 (if is_some (written_out word) then r else find NotFollowed r)
+
+abbrev pub find_lacking : Text → Reading → Reading
+find_lacking name r = record (find (Lacks name) r) { lacks = true }
+
+-- the first word of a call: the command, if it is written out
+abbrev pub after_name : Reading → Option Text → Reading
+after_name r None = r
+after_name r (Some name) = if is_lacking r.devices name then find_lacking name r else r
+
+abbrev pub after_words : Reading → List Word → Reading
+after_words r [] = r
+after_words r (word ∷ words) =
+    if is_run (written_out word) then fold after_operand (skip 1 r) words
+    else skip (length words) (skip 1 (after_name r (written_out word)))
+
+-- ---- the tree in the order of the text: each reserved word and each word of a `for` or of an assignment is one word
+
+abbrev mutual
+  pub after_script : Reading → Script → Reading
+  after_script r Empty = r
+  after_script r (Runs list more) = after_script (after_list r list) more
+
+  pub after_list : Reading → AndOr → Reading
+  after_list r (Starts first rest) = after_joined (after_command r first) rest
+
+  pub after_joined : Reading → Joined → Reading
+  after_joined r Alone = r
+  after_joined r (Joins op command rest) = after_joined (after_command r command) rest
+
+  pub after_command : Reading → Command → Reading
+  after_command r (Simple words) = after_words r words
+  after_command r (Assign values) = skip (length values) r
+  -- `fi` is the last word
+  after_command r (If arms) = skip 1 (after_arms r arms)
+  -- `while` or `until`, the condition, `do`, the body, `done`
+  after_command r (Loop until cond body) = skip 1 (after_script (skip 1 (after_script (skip 1 r) cond)) body)
+  -- `for NAME in WORD..`, and `do`, the body, `done`
+  after_command r (For name words body) = skip 1 (after_script (skip 1 (skip (length words) (skip 3 r))) body)
+
+  -- `if` or `elif`, the condition, `then`, the block; `else` and its block
+  pub after_arms : Reading → Arms → Reading
+  after_arms r NoElse = r
+  after_arms r (Else body) = after_script (skip 1 r) body
+  after_arms r (Arm cond body more) = after_arms (after_script (skip 1 (after_script (skip 1 r) cond)) body) more
+
+abbrev pub after_arm : Reading → Script × Script → Reading
+after_arm r arm = after_script (skip 1 (after_script (skip 1 r) arm.0)) arm.1
+
+-- ---- a whole text
+
+abbrev pub begun : Option Devices → (text : Text) → Reading
+begun devices text = record {
+  devices = devices;
+  left = word_places (input_in text).tokens;
+  found = [];
+  lacks = false;
+}
+
+-- what is read of the script that a text is
+abbrev pub calls_of : Option Devices → (text : Text) → Script → Reading
+calls_of devices text script = after_script (begun devices text) script
+
+-- ---- the lines
+
+abbrev pub remark_text : Remark → Text
+remark_text NotFollowed = codes "note: not followed, since the name holds a variable"
+remark_text (Lacks name) = codes "the device list lacks " ++ word_form name
+
+-- the lines of a word
+abbrev pub remark_lines : (name text : Text) → ℕ × Remark → Text
+remark_lines name text found = lines_at name text found.0 (remark_text found.1)
+
+-- the lines of all that was found, in the order of the text
+abbrev pub found_lines : (name text : Text) → List (ℕ × Remark) → Text
+found_lines name text found = flat_map (remark_lines name text) found

@@ -1,0 +1,119 @@
+-- What is reported of each text. Ours; the faults are those of the language.
+use Rattle.std.specs.Prelude.{◌≡◌, ◌==◌, ◌&&◌, ◌++◌, ℕ, Bool, true, false, not, List, [], length, map, Option, Some, None, Result, Ok, Err, Contains, codes, if◌then◌else◌}
+use Rattle.std.specs.List.{flat_map, list_all}
+use Rattle.envimage.specs.Data.{Pair}
+use Rattle.envtools.specs.Environment.{value_of}
+use Rattle.envtools.specs.Printing.{all_found}
+use Rattle.hushlang.specs.CursorShown.{input_in}
+use Rattle.hushlang.specs.AfterCompound.{straight}
+use Rattle.hushlang.specs.Tree.{Script}
+use Rattle.hushlang.specs.declared.token.SyntaxError.{SyntaxError}
+use Rattle.hushlang.specs.declared.token.SyntaxError.TheVariants.{OpenQuote, LoneBackslash, OpenBrace, BadVariable, SingleAmp, SinglePipe, Unexpected, MissingWord, AssignmentBeforeCommand, TooDeep, Memory}
+use Rattle.hushcheck.specs.Names.{Text, read_in, run_by_name}
+use Rattle.hushcheck.specs.Order.{IsOrder, IsReached, once}
+use Rattle.hushcheck.specs.Places.{lines_at}
+use Rattle.hushcheck.specs.Calls.{calls_of, found_lines}
+use Rattle.device_list.specs.DeviceList.{Devices}
+use Rattle.text.specs.Escapes.{word_form}
+
+-- the byte at which a text is refused
+abbrev pub byte_of : SyntaxError → ℕ
+byte_of (OpenQuote at) = at
+byte_of (LoneBackslash at) = at
+byte_of (OpenBrace at) = at
+byte_of (BadVariable at) = at
+byte_of (SingleAmp at) = at
+byte_of (SinglePipe at) = at
+byte_of (Unexpected at) = at
+byte_of (MissingWord at) = at
+byte_of (AssignmentBeforeCommand at) = at
+byte_of (TooDeep at) = at
+byte_of Memory = 0
+
+-- what is wrong there, in a text of this many bytes
+abbrev pub what_of : ℕ → SyntaxError → Text
+what_of size (OpenQuote at) = codes "the quote is not closed"
+what_of size (LoneBackslash at) = codes "the backslash is the last byte"
+what_of size (OpenBrace at) = codes "the brace is not closed"
+what_of size (BadVariable at) = codes "the braces hold no name"
+what_of size (SingleAmp at) = codes "a single &"
+what_of size (SinglePipe at) = codes "a single |"
+what_of size (Unexpected at) = if at == size then codes "unexpected end of the text" else codes "unexpected token"
+what_of size (MissingWord at) = codes "a word is missing"
+what_of size (AssignmentBeforeCommand at) = codes "an assignment stands before the command"
+what_of size (TooDeep at) = codes "nested too deep"
+what_of size Memory = codes "out of memory"
+
+-- the place at which a text is refused, and what is wrong there
+abbrev pub fault_lines : (name text : Text) → SyntaxError → Text
+fault_lines name text error = lines_at name text (byte_of error) (what_of (length text) error)
+
+-- a word that U-Boot's old shell refuses in a text that is well-formed
+abbrev pub warned_at : (name text : Text) → Option ℕ → Text
+warned_at name text None = []
+warned_at name text (Some at) = lines_at name text at (codes "warning: U-Boot's old shell wants ; before this word")
+
+abbrev pub warning_lines : (name text : Text) → Text
+warning_lines name text = warned_at name text (straight (input_in text).tokens)
+
+-- the lines of a text that was read, or refused: the warning comes before what is reported of the calls
+abbrev pub lines_read : Option Devices → (name text : Text) → Result Script SyntaxError → Text
+lines_read devices name text (Ok script) =
+    word_form name ++ codes ": ok\n" ++ warning_lines name text
+    ++ found_lines name text (calls_of devices text script).found
+lines_read devices name text (Err error) = fault_lines name text error
+
+abbrev pub lines_of_text : Option Devices → (name text : Text) → Text
+lines_of_text devices name text = lines_read devices name text (read_in text)
+
+-- the lines of a variable
+abbrev pub lines_of_value : Option Devices → Text → Option Text → Text
+lines_of_value devices name None = word_form name ++ codes ": not set\n"
+lines_of_value devices name (Some text) = lines_of_text devices name text
+
+abbrev pub lines_of : Option Devices → List Pair → Text → Text
+lines_of devices env name = lines_of_value devices name (value_of env name)
+
+-- the text is well-formed, and the device list lacks no command of it
+abbrev pub is_fine_read : Option Devices → (text : Text) → Result Script SyntaxError → Bool
+is_fine_read devices text (Ok script) = not (calls_of devices text script).lacks
+is_fine_read devices text (Err error) = false
+
+abbrev pub is_fine_text : Option Devices → (text : Text) → Bool
+is_fine_text devices text = is_fine_read devices text (read_in text)
+
+-- a variable that is not set has no text that could be wrong
+abbrev pub is_fine_value : Option Devices → Option Text → Bool
+is_fine_value devices None = true
+is_fine_value devices (Some text) = is_fine_text devices text
+
+abbrev pub is_fine : Option Devices → List Pair → Text → Bool
+is_fine devices env name = is_fine_value devices (value_of env name)
+
+-- all is well: each name that is asked for is set, and each text that is reached is fine
+abbrev pub is_sound : Option Devices → List Pair → (asked order : List Text) → Bool
+is_sound devices env asked order = all_found env asked && list_all (is_fine devices env) order
+
+-- the lines of the names that are reached, in their order, and whether all is well
+pub record Checks (devices : Option Devices) (env : List Pair) (asked : List Text) (told : Text) (sound : Bool) :
+    Type 0 where
+  pub order : List Text
+  pub is_order : IsOrder env asked order
+  pub told_is : told ≡ flat_map (lines_of devices env) order
+  pub sound_is : sound ≡ is_sound devices env asked order
+
+-- What is told of a check that does not come to its end: the lines of the names whose turn has come, which are the first
+-- of those that are asked for and that the texts of these run.
+pub record BeginsCheck (devices : Option Devices) (env : List Pair) (asked : List Text) (told : Text) : Type 0 where
+  pub turns : List Text
+  pub behind : List Text
+  pub in_turn : once (asked ++ flat_map (run_by_name env) turns) ≡ turns ++ behind
+  pub reached : (name : Text) → Contains turns name → IsReached env asked name
+  pub told_is : told ≡ flat_map (lines_of devices env) turns
+
+-- ---- which names are asked for
+
+-- the names that the call gives, and with `--all` every variable after them, in the environment's order
+abbrev pub asked_names : (all : Bool) → List Pair → (given : List Text) → List Text
+asked_names true env given = given ++ map (λ p. p.0) env
+asked_names false env given = given

@@ -1,0 +1,76 @@
+//! Names in order, each once.
+ghost use Rattle.std.specs.Prelude.{◌≡◌, ◌^◌, ◌<◌, [], length, map, IfOk, OnOk, slice_get, slice_index_or};
+ghost use Rattle.std.specs.Option.{option_copied};
+ghost use Rattle.hushcheck.specs.Order.{once, with_name};
+
+use indexmap::IndexSet;
+use std::alloc::{AllocError, Global};
+use std::marker::Model;
+
+/// Names in the order in which they came, each once.
+#[derive(Drop)]
+pub(crate) struct Names {
+    names: IndexSet<Vec<u8>>,
+}
+
+impl Model for Names {
+    ghost use Rattle.std.specs.Prelude.{List, ℕ, map};
+
+    ghost Value = { List (List ℕ) };
+
+    ghost view = { λ n. map (λ name. name.items) n.names.keys };
+}
+
+impl Names {
+    /// No names.
+    pub(crate) fn new(alloc: Global) -> Names
+        ensures { result ≡ [] }
+    {
+        Names {
+            names: IndexSet::new(alloc),
+        }
+    }
+
+    /// How many there are.
+    pub(crate) fn len(&self) -> usize
+        ensures count { result ≡ length self.now }
+        ensures small { result < 2 ^ 63 }
+    {
+        self.names.len()
+    }
+
+    /// The name at a place.
+    fn get(&self, at: usize) -> Option<&[u8]>
+        ensures { option_copied result ≡ slice_get self.now at }
+    {
+        let name = self.names.get_index(at)?;
+        Some(name.as_slice())
+    }
+
+    /// The name at a place that has one.
+    pub(crate) fn name_at(&self, at: usize) -> &[u8]
+        requires { at < length self.now }
+        ensures { result.now ≡ slice_index_or self.now at [] }
+    {
+        self.get(at).unwrap()
+    }
+
+    /// Adds a name after the others, if it is new. Errors: memory ran out.
+    pub(crate) fn add(&mut self, name: Vec<u8>) -> Result<(), AllocError>
+        ensures { OnOk result (self.new ≡ with_name self.old name.items) }
+    {
+        self.names.insert(name)?;
+        Ok(())
+    }
+}
+
+/// The names that are asked for, each once.
+pub(crate) fn asked_names(alloc: Global, asked: &[&[u8]]) -> Result<Names, AllocError>
+    ensures { IfOk result (λ names. names ≡ once (map (λ name. name.now) asked.now)) }
+{
+    let mut names = Names::new(alloc);
+    for name in asked {
+        names.add(Vec::from_slice(alloc, name)?)?;
+    }
+    Ok(names)
+}

@@ -1,0 +1,83 @@
+//! Writing the lines of a text.
+ghost use Rattle.std.specs.Prelude.{◌≡◌, ◌++◌, codes};
+ghost use Rattle.hushcheck.specs.Calls as calls;
+ghost use Rattle.hushcheck.specs.Remarks as shown;
+ghost use Rattle.hushcheck.specs.Report as spec;
+ghost use Rattle.hushcheck.specs.Telling.{Writes};
+ghost use Rattle.text.specs.Escapes.{word_form};
+
+use crate::check_error::CheckError;
+use crate::lines::{push_fault, push_found, push_named, push_read};
+use crate::place::{first_point, moved};
+use crate::remark::Found;
+use hushlang::SyntaxError;
+use output::{Out, write_all};
+use std::alloc::Global;
+
+/// Writes what was found in a text, word by word. It holds the lines of one word at a time.
+fn write_found<O: Out>(
+    alloc: Global,
+    name: &[u8],
+    text: &[u8],
+    found: &[Found],
+    out: &mut O,
+) -> Result<(), CheckError>
+    ensures { Writes result (O.sink out.old) (O.sink out.new)
+        (calls.found_lines name.now text.now (shown.all_found found.now)) }
+{
+    let mut lines = Vec::new(alloc);
+    let mut point = first_point(text);
+    for word in found {
+        point = moved(text, point, word.at);
+        lines.clear();
+        push_found(&mut lines, name, text, point, &word.remark)?;
+        write_all(out, &lines)?;
+    }
+    Ok(())
+}
+
+/// Writes the lines of a well-formed text, in whose calls this was found.
+pub(crate) fn write_read<O: Out>(
+    alloc: Global,
+    name: &[u8],
+    text: &[u8],
+    found: &[Found],
+    out: &mut O,
+) -> Result<(), CheckError>
+    ensures { Writes result (O.sink out.old) (O.sink out.new)
+        (word_form name.now ++ codes ": ok\n" ++ spec.warning_lines name.now text.now
+        ++ calls.found_lines name.now text.now (shown.all_found found.now)) }
+{
+    let mut lines = Vec::new(alloc);
+    push_read(&mut lines, name, text)?;
+    write_all(out, &lines)?;
+    write_found(alloc, name, text, found, out)
+}
+
+/// Writes the lines of a text that is not well-formed.
+pub(crate) fn write_fault<O: Out>(
+    alloc: Global,
+    name: &[u8],
+    text: &[u8],
+    error: SyntaxError,
+    out: &mut O,
+) -> Result<(), CheckError>
+    ensures { Writes result (O.sink out.old) (O.sink out.new)
+        (spec.fault_lines name.now text.now error) }
+{
+    let mut lines = Vec::new(alloc);
+    push_fault(&mut lines, name, text, error)?;
+    write_all(out, &lines)?;
+    Ok(())
+}
+
+/// Writes the line of a variable that is not set.
+pub(crate) fn write_unset<O: Out>(alloc: Global, name: &[u8], out: &mut O) -> Result<(), CheckError>
+    ensures { Writes result (O.sink out.old) (O.sink out.new)
+        (word_form name.now ++ codes ": not set\n") }
+{
+    let mut lines = Vec::new(alloc);
+    push_named(&mut lines, name, b": not set\n")?;
+    write_all(out, &lines)?;
+    Ok(())
+}

@@ -1,6 +1,0 @@
-use Rattle.std.proofs.Common.{refl}
-use Rattle.hushcheck_core.proofs.PlaceLemmas.{place_is}
-use Rattle.hushcheck_core.proofs.place.place_of_point.Goals as goal
-
-pub returns : goal.returns
-returns c = place_is c.args.text.now c.args.point c.requires _ refl

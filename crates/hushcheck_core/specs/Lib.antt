@@ -1,9 +1,0 @@
-pub mod Place
-pub mod Shown
-pub mod Names
-pub mod Order
-pub mod Places
-pub mod Calls
-pub mod Remarks
-pub mod Report
-pub mod Telling

@@ -1,0 +1,210 @@
+-- Checking the texts of what was read.
+use Rattle.std.proofs.Common.{◌≡◌, ◌∙◌, ℕ, refl, ap, sym, subst, List, Option, Some, None, Result, Ok, Err, ◌⊎◌, inl, inr, Bool}
+use Rattle.std.specs.Prelude.{Vec, option_map}
+use Rattle.std.specs.declared.alloc.Global.{Global}
+use Rattle.envimage.specs.Data.{Pair}
+use Rattle.envimage.specs.declared.image.ByteOrder.{ByteOrder}
+use Rattle.envimage.specs.declared.image.ImageError.{ImageError}
+use Rattle.envimage.specs.declared.image.ImageError.TheVariants as image
+use Rattle.output.specs.Sink.{Sink}
+use Rattle.hushcheck_main.specs.Asked.{Asked}
+use Rattle.hushcheck_main.specs.Checking.{AreFound, ChecksFrom, ChecksText, FromFiles, Given, IsUnread, LeavesOutput, Lists, ReadsList, given, given_by, TellsAll, IsBadList, BreaksOff, WritesFront}
+use Rattle.hushcheck.specs.Names.{Text}
+use Rattle.device_list.specs.DeviceList.{Devices}
+use Rattle.device_list.specs.declared.devices_error.DevicesError.{DevicesError}
+use Rattle.hushcheck_main.specs.Faults.{CountsShared, of_image}
+use Rattle.hushcheck_main.specs.declared.fault.CheckFault.{CheckFault}
+use Rattle.hushcheck_main.specs.declared.fault.CheckFault.TheVariants.{DeviceList, Shared}
+use Rattle.tool_images.specs.PrintingImages.{Finds, environment_in}
+use Rattle.tool_images.specs.declared.error.ToolError.TheVariants as tool
+use Rattle.tool_images.specs.declared.fault.Fault.{Fault}
+use Rattle.tool_images.specs.declared.fault.Fault.TheVariants as fault
+use Rattle.tool_files.proofs.OrderLemmas.{OnlyReads-one, OnlyReads-then}
+use Rattle.tool_files.specs.CallOrder.{OnlyReads}
+use Rattle.tool_files.specs.Told.{Stored, Told, file_at}
+use Rattle.tool_files.specs.declared.files.Action.TheVariants.{ReadAll}
+use Rattle.tool_steps.proofs.PrintLemmas.{image-bytes}
+use Rattle.tool_steps.proofs.ReadingLemmas.{found-reads}
+use Rattle.tool_steps.proofs.SourceLemmas.{are-read}
+use Rattle.tool_steps.specs.Images.{Copy, HasRead, ReadsImages, copies}
+use Rattle.tool_steps.specs.PrintingFiles.{FromImages, environment, first_bytes, second_bytes}
+use Rattle.tool_steps.specs.declared.images.Images.{Images}
+use Rattle.tool_steps.specs.declared.read.StoredCopy.{StoredCopy}
+use Rattle.tool_steps.specs.ReadingFiles.{IsTextFault}
+
+-- the bytes of a text, if there is one
+abbrev pub bytes_if : Option (Vec ℕ Global) → Option Text
+bytes_if text = option_map (λ v. v.items) text
+
+-- ---- reads that were refused
+
+-- checking gives no such refusal
+unread : (asked : Asked) (out : Sink) (old new : Told) (f : Fault) → OnlyReads old new → IsUnread asked.config asked.device_list old f → ChecksFrom asked out out old new (Err (Shared f))
+unread asked out old new (fault.Config error) reads h = (reads, h)
+unread asked out old new (fault.Tool error) reads h = absurd (none asked.device_list h)
+  where
+    none : (list : Option Text) → IsUnread asked.config list old (fault.Tool error) → ⊥
+    none None h = h
+    none (Some list) (inl h) = h
+    none (Some list) (inr h) = h.refused
+unread asked out old new (fault.CannotRead path) reads h = (reads, h)
+unread asked out old new (fault.CannotWrite path) reads h = (reads, h)
+unread asked out old new (fault.FileShort path) reads h = (reads, h)
+unread asked out old new (fault.FileTooLong path) reads h = (reads, h)
+unread asked out old new fault.CannotReadInput reads h = (reads, h)
+unread asked out old new fault.InputTooLong reads h = (reads, h)
+unread asked out old new (fault.InputCutOff line) reads h = (reads, h)
+unread asked out old new (fault.Lock error) reads h = (reads, h)
+unread asked out old new fault.Memory reads h = (reads, inl refl)
+
+-- the refusal of the images
+pub checks-unread : (asked : Asked) (out : Sink) (old new : Told) (f : Fault) → ReadsImages asked.config old new (Err f) → ChecksFrom asked out out old new (Err (Shared f))
+checks-unread asked out old new f h = unread asked out old new f h.0 (by asked.device_list)
+  where
+    by : (list : Option Text) → IsUnread asked.config list old f
+    by None = h.1
+    by (Some list) = inl h.1
+
+-- the refusal of the device list
+pub checks-unlisted : (asked : Asked) (out : Sink) (found : List Copy) (x y z : Told) (f : Fault) → HasRead asked.config x y found → ReadsList asked.device_list y z (Err f) → ChecksFrom asked out out x z (Err (Shared f))
+checks-unlisted asked out found x y z f read h =
+    let both = by asked.device_list h in
+    unread asked out x z f both.0 both.1
+  where
+    by : (list : Option Text) → ReadsList list y z (Err f) → OnlyReads x z × IsUnread asked.config list x f
+    by None h = absurd h
+    by (Some list) h =
+        let refused : IsTextFault list (file_at list x.stored) f = subst (λ (s : Stored). IsTextFault list (file_at list s) f) read.stored h.1 in
+        (OnlyReads-then x y z (found-reads asked.config x y found read) h.0, inr (record { found = found; after_images = y; read = read; refused = refused }))
+
+-- ---- the texts of what was read
+
+are-found : (config : Text) (list : Option Text) (found : List Copy) (x y z : Told) (text : Option (Vec ℕ Global)) (IsSo : List Copy → Option Text → Type 0) → HasRead config x y found
+    → ReadsList list y z (Ok text) → IsSo found (bytes_if text) → AreFound config list x z IsSo
+are-found config None found x y z None IsSo read listed so = subst (λ (t : Told). FromImages config x t (λ copies. IsSo copies None)) (sym listed) (record { found = found; read = read; so = so })
+are-found config None found x y z (Some text) IsSo read listed so = absurd listed
+are-found config (Some list) found x y z None IsSo read listed so = absurd listed
+are-found config (Some list) found x y z (Some text) IsSo read listed so = are-read config list found text x y z (λ copies bytes. IsSo copies (Some bytes)) read listed so
+
+only-read : (config : Text) (list : Option Text) (found : List Copy) (x y z : Told) (text : Option (Vec ℕ Global)) → HasRead config x y found → ReadsList list y z (Ok text) → OnlyReads x z
+only-read config None found x y z None read listed = subst (λ (t : Told). OnlyReads x t) (sym listed) (found-reads config x y found read)
+only-read config None found x y z (Some text) read listed = absurd listed
+only-read config (Some list) found x y z None read listed = absurd listed
+only-read config (Some list) found x y z (Some text) read listed = OnlyReads-then x y z (found-reads config x y found read) (OnlyReads-one list ReadAll y z refl listed.calls listed.stored)
+
+module _ (asked : Asked) (out out' : Sink) (found : List Copy) (text : Option (Vec ℕ Global)) (x y z : Told) (read : HasRead asked.config x y found) (listed : ReadsList asked.device_list y z (Ok text)) where
+  abbrev pub here : Given
+  here = given_by asked.order found (bytes_if text) asked.names asked.all
+
+  from-files : (IsSo : Given → Type 0) → IsSo here → FromFiles asked x z IsSo
+  from-files IsSo so = are-found asked.config asked.device_list found x y z text (λ copies list. IsSo (given_by asked.order copies list asked.names asked.all)) read listed so
+
+  -- what is not refused so by the texts: the images and the list were read
+  pub checks-read : (answer : Result Bool CheckFault) → ChecksText here out out' answer → ChecksFrom asked out out' x z answer
+  checks-read (Ok sound) h = from-files (λ g. TellsAll g out out' sound) h
+  checks-read (Err (DeviceList error)) h = from-files (λ g. IsBadList g error) h.0
+  checks-read (Err (Shared (fault.Tool (tool.Image error)))) h = from-files (λ g. g.env ≡ Err error) h.0
+  checks-read (Err (Shared (fault.Tool tool.Write))) h = from-files (λ g. BreaksOff g out out') h
+  checks-read (Err (Shared fault.Memory)) h = (only-read asked.config asked.device_list found x y z text read listed, by h)
+    where
+      by : ChecksText here out out' (Err (Shared fault.Memory)) → (out' ≡ out) ⊎ FromFiles asked x z (λ g. WritesFront g out out')
+      by (inl same) = inl same
+      by (inr front) = inr (from-files (λ g. WritesFront g out out') front)
+  checks-read (Err (Shared (fault.Tool (tool.Env error)))) h = absurd h
+  checks-read (Err (Shared (fault.Tool (tool.Script error)))) h = absurd h
+  checks-read (Err (Shared (fault.Tool tool.Memory))) h = absurd h
+  checks-read (Err (Shared (fault.Config error))) h = absurd h
+  checks-read (Err (Shared (fault.Lock error))) h = absurd h
+  checks-read (Err (Shared (fault.CannotRead path))) h = absurd h
+  checks-read (Err (Shared (fault.CannotWrite path))) h = absurd h
+  checks-read (Err (Shared (fault.FileShort path))) h = absurd h
+  checks-read (Err (Shared (fault.FileTooLong path))) h = absurd h
+  checks-read (Err (Shared fault.CannotReadInput)) h = absurd h
+  checks-read (Err (Shared fault.InputTooLong)) h = absurd h
+  checks-read (Err (Shared (fault.InputCutOff line))) h = absurd h
+
+-- ---- the answer, over any files
+
+pub leaves-output : (g : Given) (out out' : Sink) (answer : Result Bool CheckFault) → ChecksText g out out' answer → LeavesOutput answer out out'
+leaves-output g out out' (Ok sound) h = tt
+leaves-output g out out' (Err (DeviceList error)) h = h.1
+leaves-output g out out' (Err (Shared (fault.Tool (tool.Image error)))) h = h.1
+leaves-output g out out' (Err (Shared (fault.Tool tool.Write))) h = tt
+leaves-output g out out' (Err (Shared fault.Memory)) h = tt
+leaves-output g out out' (Err (Shared (fault.Tool (tool.Env error)))) h = absurd h
+leaves-output g out out' (Err (Shared (fault.Tool (tool.Script error)))) h = absurd h
+leaves-output g out out' (Err (Shared (fault.Tool tool.Memory))) h = absurd h
+leaves-output g out out' (Err (Shared (fault.Config error))) h = absurd h
+leaves-output g out out' (Err (Shared (fault.Lock error))) h = absurd h
+leaves-output g out out' (Err (Shared (fault.CannotRead path))) h = absurd h
+leaves-output g out out' (Err (Shared (fault.CannotWrite path))) h = absurd h
+leaves-output g out out' (Err (Shared (fault.FileShort path))) h = absurd h
+leaves-output g out out' (Err (Shared (fault.FileTooLong path))) h = absurd h
+leaves-output g out out' (Err (Shared fault.CannotReadInput)) h = absurd h
+leaves-output g out out' (Err (Shared fault.InputTooLong)) h = absurd h
+leaves-output g out out' (Err (Shared (fault.InputCutOff line))) h = absurd h
+
+-- checking itself reads no file
+pub counts-none : (g : Given) (out out' : Sink) (count : ℕ) (answer : Result Bool CheckFault) → ChecksText g out out' answer → CountsShared count count answer
+counts-none g out out' count (Ok sound) h = refl
+counts-none g out out' count (Err (DeviceList error)) h = refl
+counts-none g out out' count (Err (Shared (fault.CannotRead path))) h = absurd h
+counts-none g out out' count (Err (Shared (fault.CannotWrite path))) h = absurd h
+counts-none g out out' count (Err (Shared (fault.Tool error))) h = refl
+counts-none g out out' count (Err (Shared fault.Memory)) h = refl
+counts-none g out out' count (Err (Shared (fault.Config error))) h = refl
+counts-none g out out' count (Err (Shared (fault.Lock error))) h = refl
+counts-none g out out' count (Err (Shared (fault.FileShort path))) h = refl
+counts-none g out out' count (Err (Shared (fault.FileTooLong path))) h = refl
+counts-none g out out' count (Err (Shared fault.CannotReadInput)) h = refl
+counts-none g out out' count (Err (Shared fault.InputTooLong)) h = refl
+counts-none g out out' count (Err (Shared (fault.InputCutOff line))) h = refl
+
+-- ---- one environment
+
+-- what is said of the environment that was found, by the names as they are given
+pub texts-in : (answer : Result (List Pair) ImageError) (env : List Pair) (devices : Result (Option Devices) DevicesError) (names names' : List Text) (all : Bool) (old new : Sink) (told : Result Bool CheckFault) → answer ≡ Ok env
+    → names ≡ names' → ChecksText (given (Ok env) devices names all) old new told → ChecksText (given answer devices names' all) old new told
+texts-in answer env devices names names' all old new told found same h =
+    subst (λ (e : Result (List Pair) ImageError). ChecksText (given e devices names' all) old new told) (sym found)
+    (subst (λ (ns : List Text). ChecksText (given (Ok env) devices ns all) old new told) same h)
+
+-- the refusal of the image
+pub no-texts : (answer : Result (List Pair) ImageError) (devices : Result (Option Devices) DevicesError) (names : List Text) (all : Bool) (old : Sink) (error : ImageError) → Finds answer (Err error)
+    → ChecksText (given answer devices names all) old old (Err (of_image error))
+no-texts answer devices names all old image.WrongSize h = (h, refl)
+no-texts answer devices names all old image.BadCrc h = (h, refl)
+no-texts answer devices names all old (image.Content error) h = (h, refl)
+no-texts answer devices names all old image.TooLarge h = (h, refl)
+no-texts answer devices names all old image.Memory h = inl refl
+
+-- the refusal of the device list
+pub no-list : (answer : Result (Option Devices) DevicesError) (env : List Pair) (names : List Text) (all : Bool) (old : Sink) (error : CheckFault) → Lists answer (Err error)
+    → ChecksText (given (Ok env) answer names all) old old (Err error)
+no-list answer env names all old (DeviceList error) h = (record { env = env; there = refl; refused = h }, refl)
+no-list answer env names all old (Shared fault.Memory) h = inl refl
+no-list answer env names all old (Shared (fault.Tool error)) h = absurd h
+no-list answer env names all old (Shared (fault.Config error)) h = absurd h
+no-list answer env names all old (Shared (fault.Lock error)) h = absurd h
+no-list answer env names all old (Shared (fault.CannotRead path)) h = absurd h
+no-list answer env names all old (Shared (fault.CannotWrite path)) h = absurd h
+no-list answer env names all old (Shared (fault.FileShort path)) h = absurd h
+no-list answer env names all old (Shared (fault.FileTooLong path)) h = absurd h
+no-list answer env names all old (Shared fault.CannotReadInput) h = absurd h
+no-list answer env names all old (Shared fault.InputTooLong) h = absurd h
+no-list answer env names all old (Shared (fault.InputCutOff line)) h = absurd h
+
+-- the same check with a device list that is another way to write this one
+pub listed-as : (answer answer' : Result (Option Devices) DevicesError) (env : List Pair) (names : List Text) (all : Bool) (old new : Sink) (told : Result Bool CheckFault) → answer ≡ answer'
+    → ChecksText (given (Ok env) answer names all) old new told → ChecksText (given (Ok env) answer' names all) old new told
+listed-as answer answer' env names all old new told e h = subst (λ (d : Result (Option Devices) DevicesError). ChecksText (given (Ok env) d names all) old new told) e h
+
+-- the environment of the images, by the bytes of their copies
+pub found-in : (order : ByteOrder) (images : Images) (first : List ℕ) (second : Option (List ℕ)) → first ≡ images.first.bytes.items → second ≡ option_map (λ copy. copy.bytes.items) images.second
+    → environment order (copies images) ≡ environment_in order first second
+found-in order images first second f s =
+    ap (λ x. environment_in order x (second_bytes (copies images))) (by images.first images.second ∙ sym f) ∙ ap (λ y. environment_in order first y) (image-bytes images ∙ sym s)
+  where
+    by : (x : StoredCopy) (y : Option StoredCopy) → first_bytes (copies (record { first = x; second = y })) ≡ x.bytes.items
+    by x None = refl
+    by x (Some y) = refl

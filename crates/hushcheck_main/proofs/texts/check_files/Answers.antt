@@ -1,0 +1,39 @@
+use Rattle.std.proofs.Common.{◌≡◌, ◌∙◌, ap, sym, subst, Bool, Ok, Err, Result, List, ℕ, Option}
+use Rattle.std.proofs.lemmas.Result.{err_from_is_err_and}
+use Rattle.hushcheck_main.specs.declared.fault.CheckFault.{CheckFault}
+use Rattle.hushcheck_main.specs.declared.fault.CheckFault.TheVariants.{Shared}
+use Rattle.tool_files.proofs.ToldLemmas.{IfTold-then}
+use Rattle.tool_files.specs.Told.{IfTold}
+use Rattle.tool_steps.specs.Images.{copies}
+use Rattle.hushcheck_main.specs.Asked.{Asked, asked_by}
+use Rattle.hushcheck_main.specs.Checking.{ChecksFrom, ChecksText, given_by}
+use Rattle.hushcheck_main.proofs.CheckLemmas.{bytes_if, checks-read, checks-unlisted}
+use Rattle.hushcheck_main.proofs.texts.check_files.Goals as goal
+
+pub returns-in_err-list-clause-told : goal.returns-in_err-list-clause-told
+returns-in_err-list-clause-told g c =
+    let a = g.F.Files.told c.args.files.now in
+    let b = g.F.Files.told c.read_images.new.files in
+    let d = g.F.Files.told c.read_list.new.files in
+    let out = g.O.Out.sink c.args.out.now in
+    let asked : Asked = asked_by c.args.config c.args.list c.args.what.now c.args.order in
+    let fault = c.in_err-list.field-0.0 in
+    let p = err_from_is_err_and c.from_residual-in_err-list.result c.from_residual-in_err-list.ensures.1 in
+    let answer : c.from_residual-in_err-list.result ≡ Err (Shared fault) = p.1 ∙ ap Err p.2 in
+    let P : Result Bool CheckFault → Type 0 = λ r. IfTold a d (λ old new. ChecksFrom asked out out old new r) in
+    subst P (sym answer)
+    (IfTold-then a b d (λ x y z h i. checks-unlisted asked out (copies c.in_ok-images.images) x y z fault h i) c.in_ok-images.ensures.told c.in_err-list.ensures.told)
+
+pub returns-clause-told : goal.returns-clause-told
+returns-clause-told g c =
+    let a = g.F.Files.told c.args.files.now in
+    let b = g.F.Files.told c.read_images.new.files in
+    let d = g.F.Files.told c.read_list.new.files in
+    let out = g.O.Out.sink c.args.out.now in
+    let out' = g.O.Out.sink c.check_images.new.out in
+    let asked : Asked = asked_by c.args.config c.args.list c.args.what.now c.args.order in
+    let found = copies c.in_ok-images.images in
+    let text = c.in_ok-list.list in
+    let Q : Option (List ℕ) → Type 0 = λ t. ChecksText (given_by asked.order found t asked.names asked.all) out out' c.check_images.result in
+    let checked : Q (bytes_if text) = subst Q c.as_deref.ensures.value c.check_images.ensures in
+    IfTold-then a b d (λ x y z h i. checks-read asked out out' found text x y z h i c.check_images.result checked) c.in_ok-images.ensures.told c.in_ok-list.ensures.told

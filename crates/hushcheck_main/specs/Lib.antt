@@ -1,0 +1,7 @@
+pub mod CommandLine
+pub mod Asked
+pub mod CommandAnswers
+pub mod Faults
+pub mod Checking
+pub mod Doing
+pub mod Statuses

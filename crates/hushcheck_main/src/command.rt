@@ -1,0 +1,73 @@
+//! The command line that `clap` is given.
+ghost use Rattle.std.specs.Prelude.{IfOk};
+ghost use Rattle.hushcheck_main.specs.CommandLine.{base, hushcheck};
+ghost use Rattle.tool_words.specs.Made.{IsMade};
+
+use clap::Command;
+use std::alloc::{AllocError, Global};
+use tool_words::{Argument, BIG_ENDIAN, CONFIG, DEVICE_LIST, Form, NAMES, VERSION, with_arguments};
+
+const NOTES: &str = "\
+The texts of the variables are read as boot scripts, and then those of the
+variables that they run by a plain name, as in 'run NAME', each once. For each
+there is a line: 'NAME: ok', 'NAME: not set', or 'NAME:LINE:COLUMN: what is
+wrong' with the line of the text, at most 80 bytes of it, and a mark under the
+byte. Lines and columns count from 1. The image is read and never written.
+
+With -d there is such a place, and 'the device list lacks COMMAND', for each
+command that a text calls by a plain name and that is neither built in nor in
+the device list.
+
+The status is 0 if all texts are well-formed, each NAME is set and the device
+list lacks no command; 1 if that is not so; 2 if the words are wrong; 3 if a
+file, the image, the device list or the output is refused, or memory ran out.
+
+Examples:
+  hushcheck
+  hushcheck bootcmd altbootcmd
+  hushcheck --all -d devices
+  hushcheck -c fw_env.config --big-endian
+";
+
+/// The program, without its words.
+fn base<'a>(alloc: Global) -> Result<Command<'a>, AllocError>
+    ensures { IfOk result (IsMade base) }
+{
+    let command = Command::new(alloc, "hushcheck")
+        .about("Check the boot scripts of a U-Boot environment")
+        .after_help(NOTES)
+        .version(VERSION)
+        .bin_name("hushcheck")?;
+    Ok(command.no_binary_name(true))
+}
+
+const ARGUMENTS: [Argument<'static>; 5] = [
+    CONFIG,
+    BIG_ENDIAN,
+    Argument {
+        required: false,
+        help: "Device list, at most 1048576 bytes, that the commands are looked up in [default: none]",
+        ..DEVICE_LIST
+    },
+    Argument {
+        id: "all",
+        form: Form::Flag,
+        letter: None,
+        alias: None,
+        required: false,
+        value: "",
+        help: "Check every variable of the image, after the NAMEs",
+    },
+    Argument {
+        help: "Variables to check, in order [default: bootcmd, with --all none]",
+        ..NAMES
+    },
+];
+
+/// The program's command line.
+pub(crate) fn hushcheck<'a>(alloc: Global) -> Result<Command<'a>, AllocError>
+    ensures { IfOk result (IsMade hushcheck) }
+{
+    let command = base(alloc)?;
+    with_arguments(alloc, command, &ARGUMENTS)
+}

@@ -1,5 +1,0 @@
-use Rattle.std.proofs.Common.{length}
-use Rattle.hushlang.proofs.expand.Gathering.restart.Given as goal
-
-abbrev pub decreases-fields : goal.decreases-fields
-decreases-fields l = length l.self.whole.items

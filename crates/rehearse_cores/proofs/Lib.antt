@@ -1,4 +1,0 @@
-pub mod SideBySide
-pub mod EqualLemmas
-pub mod TreeEqualLemmas
-pub mod AnswerLemmas

@@ -1,7 +1,0 @@
-pub mod RowsOfRuns
-pub mod SaturatedCountLemmas
-pub mod NodeLemmas
-mod EndingsExamples
-mod FlowExamples
-pub mod RowLemmas
-pub mod EndingLineLemmas

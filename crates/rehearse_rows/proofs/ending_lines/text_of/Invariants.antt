@@ -1,9 +1,0 @@
-use Rattle.std.proofs.Common.{◌≡◌, flat_map, take, map}
-use Rattle.rehearse.specs.Listing.{line}
-use Rattle.rehearse_rows.specs.RowsShown.{row_shown}
-use Rattle.rehearse_rows.specs.EndingLines.{row_text}
-use Rattle.rehearse_rows.proofs.ending_lines.text_of.Given as goal
-
--- the lines of the rows so far
-abbrev pub invariant-loop-row : goal.invariant-loop-row
-invariant-loop-row l = l.text.items ≡ flat_map (λ r. line (row_text r)) (map row_shown (take l.row-index l.row-items))

@@ -1,8 +1,0 @@
-use Rattle.std.proofs.Common.{◌≡◌, map}
-use Rattle.rehearse.specs.Execution.{outcome_when}
-use Rattle.rehearse_rows.specs.RowsShown.{row_shown}
-use Rattle.rehearse_rows.specs.Endings.{in_front}
-use Rattle.rehearse_rows.proofs.rows.put_in_front.Given as goal
-
-abbrev pub invariant-loop-row : goal.invariant-loop-row
-invariant-loop-row l = map row_shown l.made.items ≡ map (in_front (outcome_when l.success)) (map row_shown l.yielded)

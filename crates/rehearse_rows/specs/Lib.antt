@@ -1,6 +1,0 @@
-pub mod Endings
-pub mod Flow
-pub mod Drawing
-pub mod Summaries
-pub mod RowsShown
-pub mod EndingLines

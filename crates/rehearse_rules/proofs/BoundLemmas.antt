@@ -1,0 +1,218 @@
+-- No run goes past a bound, and none is cut before it.
+use Rattle.std.proofs.Common.{ℕ, zero, suc, Bool, true, false, List, [], ◌∷◌, length, Option, Some, None, refl, subst, ◌≡◌, ◌<◌, ◌≤◌, length-append, arith, ◌+◌, nat_lt, nat_le, nat_eq, ltb-true, ltb-false}
+use Rattle.hushlang.specs.Tree as tree
+use Rattle.hushlang.specs.Tree.{Script, AndOr, Joined, Command, Arms, IsProper, IsProperList, IsProperJoined, IsProperCommand, HasArm, AreProperArms, HoldsCommand}
+use Rattle.hushlang.specs.Expansion.{fields, joined, size, most_bytes}
+use Rattle.rehearse_terms.specs.Outcomes.{OutcomeWord, Outcome, Success, Failure}
+use Rattle.hushlang.specs.Trees.{tree_of}
+use Rattle.rehearse_terms.specs.State.{Text, get, State, start}
+use Rattle.rehearse_rules.specs.Parameters.{parameters_in}
+use Rattle.commands.specs.Verdict.{verdict}
+use Rattle.device_list.specs.Called.{Called, BuiltIn, Device, NoCommand, called_by, sets_in}
+use Rattle.commands.specs.BuiltInCommands.{ChangesVariables, WritesText, RunsTexts, Tests, Exits, asks_device, exit_status}
+use Rattle.rehearse_rules.specs.Execution.{Limits, Answer, Normal, Exit, Ended, Dry, Ending, CutDevices, CutSteps, Syntax, Size, go_on, set_status, set_local, status_when, goes, holds, begin, take_outcome, with_outcome, outcome_when, told, told_again, tell_or_take, device, Request, test_effect, logged, set_environment, boot, text_end, run_text, run_all, command, simple, sized, assign, turns, for_each, exec_script, exec_list, exec_joined, exec_command, exec_arms, exec}
+use Rattle.rehearse_rules.specs.Runs.{Task, run_on, state_of, steps}
+use Rattle.hushlang.proofs.ProperLemmas.{trees_are_proper}
+use Rattle.rehearse_rules.proofs.GrowingSteps.{Grew, Grew-block}
+use Rattle.rehearse_rules.proofs.TakenOutcomes.{Track, KeepsAll, Keeps-text, Keeps-script, Keeps-list, Keeps-one, Keeps-exec, Keeps-ended}
+
+-- ---- no run goes past a bound
+
+module _ (limits : Limits) where
+  abbrev IsWithin : State → Type 0
+  IsWithin s = (s.steps ≤ limits.step_bound) × (length s.log ≤ limits.device_bound)
+
+  abbrev AtBound : Ending → State → Type 0
+  AtBound CutSteps s = s.steps ≡ limits.step_bound
+  AtBound CutDevices s = length s.log ≡ limits.device_bound
+  AtBound other s = Unit {0}
+
+  abbrev Ends : Answer → Type 0
+  Ends (Normal t) = IsWithin t
+  Ends (Exit t) = IsWithin t
+  Ends (Ended ending t) = IsWithin t × AtBound ending t
+  Ends (Dry t) = IsWithin t
+
+  -- what is left of the bound is at most n
+  abbrev Reaches : ℕ → State → Type 0
+  Reaches n s = IsWithin s × (limits.step_bound ≤ n + s.steps)
+
+  abbrev EndsAll : ℕ → (State → Answer) → Type 0
+  EndsAll n f = (s : State) → Reaches n s → Ends (f s)
+
+  Ends-if : (b : Bool) (x y : Answer) → (b ≡ true → Ends x) → (b ≡ false → Ends y) → Ends (elim b [ true ↦ x | false ↦ y ])
+  Ends-if true x y h k = h refl
+  Ends-if false x y h k = k refl
+
+  -- what follows is done at a state with no fewer steps
+  Ends-go_on : (s : State) (a : Answer) (g : State → Answer) → Track limits.device_bound s a → Ends a → ((t : State) → IsWithin t → s.steps ≤ t.steps → Ends (g t)) → Ends (go_on a g)
+  Ends-go_on s (Normal t) g k h j = j t h k.steps
+  Ends-go_on s (Exit t) g k h j = h
+  Ends-go_on s (Ended ending t) g k h j = h
+  Ends-go_on s (Dry t) g k h j = h
+
+  Ends-text_end : (s : State) (a : Answer) (g : State → Answer) → Track limits.device_bound s a → Ends a → ((t : State) → IsWithin t → s.steps ≤ t.steps → Ends (g t)) → Ends (text_end a g)
+  Ends-text_end s (Normal t) g k h j = Ends-if (nat_eq t.memory.status 0) (g t) (Normal t) (λ e. j t h k.steps) (λ e. h)
+  Ends-text_end s (Exit t) g k h j = Ends-if (nat_eq t.memory.status 0) (g t) (Normal t) (λ e. j t h k.steps) (λ e. h)
+  Ends-text_end s (Ended ending t) g k h j = h
+  Ends-text_end s (Dry t) g k h j = h
+
+  -- a step is begun below the bound, or the bound is reached
+  Ends-begin : (n : ℕ) (f : State → Answer) → ((t : State) → IsWithin t → limits.step_bound < n + t.steps → Ends (f t)) → EndsAll n (begin limits f)
+  Ends-begin n f h s r = Ends-if (nat_lt s.steps limits.step_bound) (f (record s { steps = suc s.steps })) (Ended CutSteps s) (λ e. let l = ltb-true s.steps limits.step_bound e in let b = r.1 in h (record s { steps = suc s.steps }) (omega arith, r.0.1) (omega arith)) (λ e. let l = ltb-false s.steps limits.step_bound e in let a = r.0.0 in (r.0, omega arith))
+
+  boot-ends : (b : Bool) (name : Text) (t : State) → IsWithin t → Ends (boot b name t)
+  boot-ends true name t h = (h, tt)
+  boot-ends false name t h = h
+
+  one_more : (s : State) (d : Outcome) (r : Request) (rest : OutcomeWord) → length s.log < limits.device_bound → IsWithin s → IsWithin (logged d r (record s { word = rest }))
+  one_more s d r rest room h = let e = length-append s.log ((logged d r (record s { log = []; word = rest })).log) in (h.0, omega arith)
+
+  with-ends : (s : State) (r : Request) (d : Outcome) → IsWithin (logged d r s) → Ends (with_outcome d r s)
+  with-ends s r Success h = boot-ends r.effect.ends r.name (set_environment (sets_in r.words r.effect.sets) (logged Success r s)) h
+  with-ends s r Failure h = h
+
+  taken-ends : (s : State) (r : Request) (w : OutcomeWord) → length s.log < limits.device_bound → IsWithin s → Ends (take_outcome r w s)
+  taken-ends s r [] room h = h
+  taken-ends s r (d ∷ rest) room h = with-ends (record s { word = rest }) r d (one_more s d r rest room h)
+
+  told-ends : (s : State) (r : Request) (o : Option Bool) → length s.log < limits.device_bound → IsWithin s → Ends (tell_or_take o r s)
+  told-ends s r None room h = taken-ends s r s.word room h
+  told-ends s r (Some success) room h = with-ends s (told_again r) (outcome_when success) (one_more s (outcome_when success) (told_again r) s.word room h)
+
+  device-ends : (s : State) (r : Request) → IsWithin s → Ends (device limits r s)
+  device-ends s r h = Ends-if (nat_lt (length s.log) limits.device_bound) (tell_or_take (told r s.log) r s) (Ended CutDevices s) (λ e. told-ends s r (told r s.log) (ltb-true (length s.log) limits.device_bound e) h) (λ e. let l = ltb-false (length s.log) limits.device_bound e in let a = h.1 in (h, omega arith))
+
+  Ends-sized : (fs : List Text) (f : List Text → State → Answer) (s : State) → IsWithin s → Ends (f fs s) → Ends (sized fs f s)
+  Ends-sized fs f s h k = Ends-if (nat_le (size fs) most_bytes) (f fs s) (Ended Size s) (λ e. k) (λ e. (h, tt))
+
+  Ends-assign : (pairs : List (Text × tree.Word)) (s : State) → IsWithin s → Ends (assign pairs s)
+  Ends-assign [] s h = h
+  Ends-assign (pair ∷ pairs) s h =
+      let value : Text = joined (parameters_in s.memory) pair.1 in
+      Ends-if (nat_le (length value) most_bytes) (assign pairs (set_local pair.0 value s)) (Ended Size s) (λ e. Ends-assign pairs (set_local pair.0 value s) h) (λ e. (h, tt))
+
+  -- `run` of texts, each with at most n steps left after the one that `run` began
+  module _ (n : ℕ) (script : Script → State → Answer) (kept : (a : Script) → KeepsAll limits (script a)) (ends : (a : Script) → IsProper a → (t : State) → IsWithin t → limits.step_bound < n + t.steps → Ends (script a t)) where
+    tree-ends : (found : Option Script) (name : Text) (t : State) → ((a : Script) → found ≡ Some a → IsProper a) → IsWithin t → limits.step_bound < n + t.steps → Ends (elim found [ None ↦ Ended (Syntax name) t | Some a ↦ script a (elim a [ tree.Empty ↦ set_status 0 t | tree.Runs l ls ↦ t ]) ])
+    tree-ends None name t p h r = (h, tt)
+    tree-ends (Some tree.Empty) name t p h r = ends tree.Empty tt (set_status 0 t) h r
+    tree-ends (Some (tree.Runs l ls)) name t p h r = ends (tree.Runs l ls) (p (tree.Runs l ls) refl) t h r
+
+    text-ends : (name v : Text) (t : State) → IsWithin t → limits.step_bound < n + t.steps → Ends (run_text limits script name v t)
+    text-ends name v t h r = tree-ends (tree_of v) name t (λ a e. trees_are_proper v a e) h r
+
+    named-ends : (o : Option Text) (name : Text) (next : State → Answer) (t : State) → IsWithin t → limits.step_bound < n + t.steps → ((u : State) → IsWithin u → limits.step_bound < n + u.steps → Ends (next u)) → Ends (elim o [ None ↦ Normal (set_status 1 t) | Some v ↦ text_end (run_text limits script name v t) next ])
+    named-ends None name next t h r j = h
+    named-ends (Some v) name next t h r j = Ends-text_end t (run_text limits script name v t) next (Keeps-text limits script kept name v t).0 (text-ends name v t h r) (λ u w l. j u w (omega arith))
+
+    run-ends : (names : List Text) (t : State) → IsWithin t → limits.step_bound < n + t.steps → Ends (run_all limits script names t)
+    run-ends [] t h r = h
+    run-ends (name ∷ names) t h r = named-ends (get t.memory.environment name) name (run_all limits script names) t h r (run-ends names)
+
+    leave-ends : (status : Option ℕ) (t : State) → IsWithin t → Ends (elim status [ Some k ↦ Exit (set_status k t) | None ↦ Normal (set_status 1 t) ])
+    leave-ends (Some k) t h = h
+    leave-ends None t h = h
+
+    command-ends : (b : Called) (name : Text) (ws : List Text) (t : State) → IsWithin t → limits.step_bound < n + t.steps → Ends (command limits script b name ws t)
+    command-ends (BuiltIn (ChangesVariables change)) name ws t h r = h
+    command-ends (BuiltIn RunsTexts) name [] t h r = h
+    command-ends (BuiltIn RunsTexts) name (w ∷ ws) t h r = run-ends (w ∷ ws) t h r
+    command-ends (BuiltIn Tests) name ws t h r = Ends-if (asks_device ws) (device limits (record { name = name; words = ws; effect = test_effect limits.devices; again = false }) t) (Normal (set_status (status_when (verdict ws)) t)) (λ e. device-ends t (record { name = name; words = ws; effect = test_effect limits.devices; again = false }) h) (λ e. h)
+    command-ends (BuiltIn (WritesText written)) name ws t h r = h
+    command-ends (BuiltIn Exits) name ws t h r = leave-ends (exit_status ws) t h
+    command-ends (Device effect) name ws t h r = device-ends t (record { name = name; words = ws; effect = effect; again = false }) h
+    command-ends NoCommand name ws t h r = (h, tt)
+
+    simple-ends : (fs : List Text) (t : State) → IsWithin t → limits.step_bound < n + t.steps → Ends (simple limits script fs t)
+    simple-ends [] t h r = h
+    simple-ends (name ∷ ws) t h r = command-ends (called_by limits.devices name ws) name ws t h r
+
+  -- over the tree, with n steps left
+  module _ (n : ℕ) (text : Script → State → Answer) (kept : (a : Script) → KeepsAll limits (text a)) (ends : (a : Script) → IsProper a → (t : State) → IsWithin t → limits.step_bound < n + t.steps → Ends (text a t)) where
+    -- each turn begins a step, so there are as many turns as steps
+    turn-ends : (until : Bool) (b again : State → Answer) (last : ℕ) (s : State) (a : Answer) → KeepsAll limits b → EndsAll n b → Track limits.device_bound s a → Grew s.steps a → Ends a → limits.step_bound ≤ n + s.steps → ((u : State) → IsWithin u → s.steps < u.steps → Ends (again u)) → Ends (go_on a (λ t. elim (holds until t.memory.status) [ true ↦ go_on (b t) again | false ↦ Normal (set_status last t) ]))
+    turn-ends until b again last s (Normal t) k e c g h r j =
+        Ends-if (holds until t.memory.status) (go_on (b t) again) (Normal (set_status last t))
+        (λ x. Ends-go_on t (b t) again (k t).0 (e t (h, omega arith)) (λ u w l. j u w (omega arith)))
+        (λ x. h)
+    turn-ends until b again last s (Exit t) k e c g h r j = h
+    turn-ends until b again last s (Ended ending t) k e c g h r j = h
+    turn-ends until b again last s (Dry t) k e c g h r j = h
+
+    turns-end : (k : ℕ) (until : Bool) (c b : State → Answer) → KeepsAll limits c → KeepsAll limits b → EndsAll n c → EndsAll n b → ((s : State) → Grew s.steps (c s)) → (last : ℕ) (s : State) → IsWithin s → limits.step_bound ≤ n + s.steps → limits.step_bound ≤ k + s.steps → Ends (turns k until c b last s)
+    turns-end zero until c b x y e f g last s h r q = (h, let a = h.0 in omega arith)
+    turns-end (suc k) until c b x y e f g last s h r q = turn-ends until b (λ u. turns k until c b u.memory.status u) last s (c s) y f (x s).0 (g s) (e s (h, r)) r (λ u w l. turns-end k until c b x y e f g u.memory.status u w (omega arith) (omega arith))
+
+    for-ends : (name : Text) (b : State → Answer) → KeepsAll limits b → EndsAll n b → (last : ℕ) (fs : List Text) (s : State) → IsWithin s → limits.step_bound ≤ n + s.steps → Ends (for_each name b last fs s)
+    for-ends name b k e last [] s h r = h
+    for-ends name b k e last (f ∷ fs) s h r = Ends-go_on (set_local name f s) (b (set_local name f s)) (λ t. for_each name b t.memory.status fs t) (k (set_local name f s)).0 (e (set_local name f s) (h, r)) (λ t w l. for-ends name b k e t.memory.status fs t w (omega arith))
+
+    mutual
+      script-ends : (a : Script) → IsProper a → EndsAll n (exec_script limits n text a)
+      script-ends tree.Empty p s r = r.0
+      script-ends (tree.Runs l ls) p s r = Ends-go_on s (exec_list limits n text l s) (exec_script limits n text ls) (Keeps-list limits n text kept l s).0 (list-ends l p.0 s r) (λ t w e. script-ends ls p.1 t (w, let b = r.1 in omega arith))
+
+      list-ends : (a : AndOr) → IsProperList a → EndsAll n (exec_list limits n text a)
+      list-ends (tree.Starts c rest) p s r = Ends-go_on s (exec_command limits n text c s) (exec_joined limits n text rest) (Keeps-one limits n text kept c s).0 (one-ends c p.0 s r) (λ t w e. joined-ends rest p.1 t (w, let b = r.1 in omega arith))
+
+      joined-ends : (a : Joined) → IsProperJoined a → EndsAll n (exec_joined limits n text a)
+      joined-ends tree.Alone p s r = r.0
+      joined-ends (tree.Joins op c rest) p s r = Ends-if (goes op s.memory.status) (go_on (exec_command limits n text c s) (exec_joined limits n text rest)) (exec_joined limits n text rest s) (λ x. Ends-go_on s (exec_command limits n text c s) (exec_joined limits n text rest) (Keeps-one limits n text kept c s).0 (one-ends c p.0 s r) (λ t w e. joined-ends rest p.1 t (w, let b = r.1 in omega arith))) (λ x. joined-ends rest p.1 s r)
+
+      one-ends : (a : Command) → IsProperCommand a → EndsAll n (exec_command limits n text a)
+      one-ends (tree.Simple words) p s r = Ends-begin n (λ t. sized (fields (parameters_in t.memory) words) (simple limits text) t) (λ t h q. Ends-sized (fields (parameters_in t.memory) words) (simple limits text) t h (simple-ends n text kept ends (fields (parameters_in t.memory) words) t h q)) s r
+      one-ends (tree.Assign pairs) p s r = Ends-begin n (assign pairs) (λ t h q. Ends-assign pairs t h) s r
+      one-ends (tree.If arms) p s r = arm-ends arms p s r
+      one-ends (tree.Loop until c b) p s r = turns-end n until (exec_script limits n text c) (exec_script limits n text b) (Keeps-script limits n text kept c) (Keeps-script limits n text kept b) (block-ends c p.0) (block-ends b p.1) (Grew-block limits n text kept c p.0) 0 s r.0 r.1 r.1
+      one-ends (tree.For name words b) p s r = Ends-begin n (λ t. sized (fields (parameters_in t.memory) words) (for_each name (exec_script limits n text b) 0) t) (λ t h q. Ends-sized (fields (parameters_in t.memory) words) (for_each name (exec_script limits n text b) 0) t h (for-ends name (exec_script limits n text b) (Keeps-script limits n text kept b) (block-ends b p) 0 (fields (parameters_in t.memory) words) t h (omega arith))) s r
+
+      arm-ends : (a : Arms) → HasArm a → EndsAll n (exec_arms limits n text a)
+      arm-ends tree.NoElse p s r = absurd p
+      arm-ends (tree.Else b) p s r = absurd p
+      arm-ends (tree.Arm c b arms) p s r = Ends-go_on s (exec_script limits n text c s) (λ t. elim (nat_eq t.memory.status 0) [ true ↦ exec_script limits n text b t | false ↦ exec_arms limits n text arms t ]) (Keeps-script limits n text kept c s).0 (block-ends c p.0 s r) (λ t w e. let q = r.1 in let reach : Reaches n t = (w, omega arith) in Ends-if (nat_eq t.memory.status 0) (exec_script limits n text b t) (exec_arms limits n text arms t) (λ x. block-ends b p.1 t reach) (λ x. arms-end arms p.2 t reach))
+
+      arms-end : (a : Arms) → AreProperArms a → EndsAll n (exec_arms limits n text a)
+      arms-end tree.NoElse p s r = r.0
+      arms-end (tree.Else b) p s r = block-ends b p s r
+      arms-end (tree.Arm c b arms) p s r = Ends-go_on s (exec_script limits n text c s) (λ t. elim (nat_eq t.memory.status 0) [ true ↦ exec_script limits n text b t | false ↦ exec_arms limits n text arms t ]) (Keeps-script limits n text kept c s).0 (block-ends c p.0 s r) (λ t w e. let q = r.1 in let reach : Reaches n t = (w, omega arith) in Ends-if (nat_eq t.memory.status 0) (exec_script limits n text b t) (exec_arms limits n text arms t) (λ x. block-ends b p.1 t reach) (λ x. arms-end arms p.2 t reach))
+
+      block-ends : (a : Script) → HoldsCommand a → EndsAll n (exec_script limits n text a)
+      block-ends tree.Empty p s r = absurd p
+      block-ends (tree.Runs l ls) p s r = Ends-go_on s (exec_list limits n text l s) (exec_script limits n text ls) (Keeps-list limits n text kept l s).0 (list-ends l p.0 s r) (λ t w e. script-ends ls p.1 t (w, let b = r.1 in omega arith))
+
+  exec-ends : (n : ℕ) (a : Script) → IsProper a → EndsAll n (exec limits n a)
+  exec-ends zero a p = script-ends zero (λ b s. Ended CutSteps s) (λ b s. Keeps-ended limits.device_bound s CutSteps) (λ b q t h r. absurd (let e = h.0 in omega arith)) a p
+  exec-ends (suc n) a p = script-ends (suc n) (exec limits n) (Keeps-exec limits n) (λ b q t h r. exec-ends n b q t (h, omega arith)) a p
+
+-- ---- of a task
+
+task-ends : (task : Task) (w : OutcomeWord) → Ends task.limits (run_on task w)
+task-ends task w =
+    let bound = task.limits.step_bound in
+    text-ends task.limits (suc bound) (exec task.limits bound) (Keeps-exec task.limits bound) (λ a p t h r. exec-ends task.limits bound a p t (h, omega arith)) task.name task.text (start task.environment w) (omega arith, omega arith) (omega arith)
+
+steps_within : (limits : Limits) (a : Answer) → Ends limits a → (state_of a).steps ≤ limits.step_bound
+steps_within limits (Normal t) h = h.0
+steps_within limits (Exit t) h = h.0
+steps_within limits (Ended ending t) h = h.0.0
+steps_within limits (Dry t) h = h.0
+
+pub steps_are_bounded : (task : Task) (w : OutcomeWord) → steps task w ≤ task.limits.step_bound
+steps_are_bounded task w = steps_within task.limits (run_on task w) (task-ends task w)
+
+devices_within : (limits : Limits) (a : Answer) → Ends limits a → length (state_of a).log ≤ limits.device_bound
+devices_within limits (Normal t) h = h.1
+devices_within limits (Exit t) h = h.1
+devices_within limits (Ended ending t) h = h.0.1
+devices_within limits (Dry t) h = h.1
+
+-- no more device commands are in the log than the bound
+pub devices_are_bounded : (task : Task) (w : OutcomeWord) → length (state_of (run_on task w)).log ≤ task.limits.device_bound
+devices_are_bounded task w = devices_within task.limits (run_on task w) (task-ends task w)
+
+pub cut_at_step_bound : (task : Task) (w : OutcomeWord) (s : State) → run_on task w ≡ Ended CutSteps s → s.steps ≡ task.limits.step_bound
+cut_at_step_bound task w s e = (subst (Ends task.limits) e (task-ends task w)).1
+
+pub cut_at_device_bound : (task : Task) (w : OutcomeWord) (s : State) → run_on task w ≡ Ended CutDevices s → length s.log ≡ task.limits.device_bound
+cut_at_device_bound task w s e = (subst (Ends task.limits) e (task-ends task w)).1

@@ -1,0 +1,168 @@
+-- Runs by a definition that is given what a command does that is not built in.
+use Rattle.std.proofs.Common.{◌≡◌, ℕ, zero, suc, nat_lt, nat_eq, Bool, true, false, cond, List, [], ◌∷◌, length, Option, Some, None, codes, refl, sym, ap, ◌∙◌}
+use Rattle.std.specs.Cmp.Lexicographic.{bytes_decides}
+use Rattle.hushlang.specs.Tree as tree
+use Rattle.hushlang.specs.Tree.{Script, AndOr, Joined, Command, Arms}
+use Rattle.hushlang.specs.Expansion.{fields}
+use Rattle.rehearse_terms.specs.Outcomes.{OutcomeWord}
+use Rattle.rehearse_terms.specs.State.{Text, Variables, State, get, start, answer_in}
+use Rattle.rehearse_rules.specs.Parameters.{parameters_in}
+use Rattle.std.specs.List.{list_any}
+use Rattle.std.specs.Str.{bytes_eq}
+use Rattle.builtins.specs.Builtins.{Builtin, builtin_of}
+use Rattle.commands.specs.KnownCommands.{Known, known_of}
+use Rattle.commands.specs.Computed.{Computed, computes}
+use Rattle.device_list.specs.Called.{Called, BuiltIn, listed_by, other_called, called_by}
+use Rattle.commands.specs.BuiltInCommands.{Deed, ChangesVariables, WritesText, RunsTexts, Tests, Exits, deed_of, carried, asks_device}
+use Rattle.commands.specs.Verdict.{verdict}
+use Rattle.device_list.specs.DeviceList.{Devices, computed_by}
+use Rattle.rehearse_rules.specs.Execution.{Limits, Answer, Normal, Ended, CutDevices, CutSteps, Request, tell_or_take, device, go_on, set_status, status_when, goes, begin, command, simple, sized, turns, for_each, text_end, run_text, run_all, exec_script, exec_list, exec_joined, exec_command, exec_arms, exec}
+use Rattle.rehearse_rules.specs.GivenExecution.{Others, asked_anew, given_builtin, given_simple, given_script, given_list, given_joined, given_command, given_arms, given_exec, given_run_on}
+
+-- what a part of a script does to states
+abbrev pub Does : Type 0
+Does = State → Answer
+
+-- ---- texts that `run` starts
+
+module _ (here there : Limits) (f g : Script → Does) (same : f ≡ g) where
+  run_text-same : (name text : Text) (s : State) → run_text here f name text s ≡ run_text there g name text s
+  run_text-same name text s = λ i. run_text here (same i) name text s
+
+  run_all-same : (names : List Text) → run_all here f names ≡ run_all there g names
+  run_all-same [] = refl
+  run_all-same (name ∷ names) = λ i s. elim (get s.memory.environment name) [
+    | None ↦ Normal (set_status 1 s)
+    | Some text ↦ text_end (run_text here (same i) name text s) (run_all-same names i)
+  ]
+
+-- the bounds, with these device commands
+abbrev limits : Limits → Devices → Limits
+limits bounds devices = record bounds { devices = devices }
+
+-- in each script, a command that is not built in does what is given
+abbrev pub AreGiven : Limits → Devices → Others → Type 0
+AreGiven bounds devices others = (f : Script → Does) (name : Text) (words : List Text) (s : State)
+    → command (limits bounds devices) f (other_called devices name words) name words s ≡ others name words s
+
+-- the same if no command is computed
+abbrev pub AreGivenByList : Limits → Devices → Others → Type 0
+AreGivenByList bounds devices others = (f : Script → Does) (name : Text) (words : List Text) (s : State)
+    → command (limits bounds devices) f (listed_by devices name words) name words s ≡ others name words s
+
+pub given_by_list : (bounds : Limits) (devices : Devices) (others : Others) → devices.known ≡ [] → AreGivenByList bounds devices others → AreGiven bounds devices others
+given_by_list bounds devices others none given f name words s =
+    ap (λ (names : List Text). let o : Option Computed = cond (list_any (bytes_eq name) names) (elim (known_of name) [ Some known ↦ computes known words | None ↦ None ]) None in
+    let c : Called = elim o [ Some computed ↦ BuiltIn (ChangesVariables (λ ws. carried computed)) | None ↦ listed_by devices name words ] in command (limits bounds devices) f c name words s) none
+    ∙ given f name words s
+
+-- a built-in command is not computed
+not_known : (name : Text) (builtin : Builtin) → builtin_of name ≡ Some builtin → known_of name ≡ None
+not_known name builtin e = by (bytes_eq name (codes "env")) (bytes_eq name (codes "itest")) (bytes_eq name (codes "setexpr")) refl refl refl
+  where
+    one : (known : Text) → builtin_of known ≡ None → name ≡ known → known_of name ≡ None
+    one known other is = absurd (let f : builtin_of name ≡ None = ap builtin_of is ∙ other in let g = sym f ∙ e in cc)
+
+    by : (a b c : Bool) → bytes_eq name (codes "env") ≡ a → bytes_eq name (codes "itest") ≡ b → bytes_eq name (codes "setexpr") ≡ c → known_of name ≡ None
+    by true b c p q r = one (codes "env") refl ((bytes_decides name (codes "env")).0 p)
+    by false true c p q r = one (codes "itest") refl ((bytes_decides name (codes "itest")).0 q)
+    by false false true p q r = one (codes "setexpr") refl ((bytes_decides name (codes "setexpr")).0 r)
+    by false false false p q r = rw (p, q, r) refl
+
+abbrev chosen : Devices → (name : Text) → (words : List Text) → Option Computed → Option Builtin → Called
+chosen devices name words o b = elim o [
+  | Some computed ↦ BuiltIn (ChangesVariables (λ ws. carried computed))
+  | None ↦ elim b [ Some builtin ↦ BuiltIn (deed_of builtin) | None ↦ listed_by devices name words ]
+]
+
+pub called_apart : (devices : Devices) (name : Text) (words : List Text)
+    → called_by devices name words ≡ elim (builtin_of name) [ Some builtin ↦ BuiltIn (deed_of builtin) | None ↦ other_called devices name words ]
+called_apart devices name words = by (builtin_of name) refl
+  where
+    none_if : (b : Bool) → ◌≡◌ {A = Option Computed} (cond b None None) None
+    none_if true = refl
+    none_if false = refl
+
+    by : (b : Option Builtin) → builtin_of name ≡ b → called_by devices name words ≡ elim b [ Some builtin ↦ BuiltIn (deed_of builtin) | None ↦ other_called devices name words ]
+    by None e = ap (chosen devices name words (computed_by devices name words)) e
+    by (Some builtin) e =
+        let none : computed_by devices name words ≡ None =
+        ap (λ (k : Option Known). let o : Option Computed = cond (list_any (bytes_eq name) devices.known) (elim k [ Some known ↦ computes known words | None ↦ None ]) None in o) (not_known name builtin e)
+        ∙ none_if (list_any (bytes_eq name) devices.known) in
+        (λ i. chosen devices name words (none i) (e i))
+
+-- a device command whose answers do not stay asks each time
+pub asks_anew : (bounds : Limits) (request : Request) (s : State) → request.effect.stays ≡ false → device bounds request s ≡ asked_anew bounds request s
+asks_anew bounds request s e = ap (λ (b : Bool). let a : Answer = elim (nat_lt (length s.log) bounds.device_bound) [
+  | true ↦ tell_or_take (cond b (answer_in s.log (request.name ∷ request.words)) None) request s
+  | false ↦ Ended CutDevices s
+] in a) e
+
+module _ (bounds : Limits) (devices : Devices) (test : devices.test_stays ≡ false) (others : Others) (given : AreGiven bounds devices others) where
+  module _ (f g : Script → Does) (same : f ≡ g) where
+    test-same : (name : Text) (words : List Text) (s : State) → command (limits bounds devices) f (BuiltIn Tests) name words s ≡ given_builtin bounds g Tests name words s
+    test-same name words s = ap (λ (b : Bool). let a : Answer = elim (asks_device words) [
+      | true ↦ device (limits bounds devices) (record { name = name; words = words; effect = record { ends = false; stays = b; sets = [] }; again = false }) s
+      | false ↦ Normal (set_status (status_when (verdict words)) s)
+    ] in a) test
+
+    builtin-same : (d : Deed) (name : Text) (words : List Text) (s : State) → command (limits bounds devices) f (BuiltIn d) name words s ≡ given_builtin bounds g d name words s
+    builtin-same (ChangesVariables change) name words s = refl
+    builtin-same (WritesText written) name words s = refl
+    builtin-same RunsTexts name [] s = refl
+    builtin-same RunsTexts name (w ∷ ws) s = λ i. run_all-same (limits bounds devices) bounds f g same (w ∷ ws) i s
+    builtin-same Tests name words s = test-same name words s
+    builtin-same Exits name words s = refl
+
+    simple-same : (fs : List Text) (s : State) → simple (limits bounds devices) f fs s ≡ given_simple bounds others g fs s
+    simple-same [] s = refl
+    simple-same (name ∷ words) s = ap (λ (c : Called). command (limits bounds devices) f c name words s) (called_apart devices name words) ∙ by (builtin_of name)
+      where
+        by : (b : Option Builtin) → ◌≡◌ {A = Answer} (command (limits bounds devices) f (elim b [ Some builtin ↦ BuiltIn (deed_of builtin) | None ↦ other_called devices name words ]) name words s)
+            (elim b [ Some builtin ↦ given_builtin bounds g (deed_of builtin) name words s | None ↦ others name words s ])
+        by (Some builtin) = builtin-same (deed_of builtin) name words s
+        by None = given f name words s
+
+  -- ---- the tree
+
+  module _ (left : ℕ) (f g : Script → Does) (same : f ≡ g) where
+    mutual
+      script-same : (a : Script) → exec_script (limits bounds devices) left f a ≡ given_script bounds others left g a
+      script-same tree.Empty = refl
+      script-same (tree.Runs list more) = λ i s. go_on (list-same list i s) (script-same more i)
+
+      list-same : (a : AndOr) → exec_list (limits bounds devices) left f a ≡ given_list bounds others left g a
+      list-same (tree.Starts first rest) = λ i s. go_on (one-same first i s) (joined-same rest i)
+
+      joined-same : (a : Joined) → exec_joined (limits bounds devices) left f a ≡ given_joined bounds others left g a
+      joined-same tree.Alone = refl
+      joined-same (tree.Joins op next rest) = λ i s. elim (goes op s.memory.status) [
+        | true ↦ go_on (one-same next i s) (joined-same rest i)
+        | false ↦ joined-same rest i s
+      ]
+
+      one-same : (a : Command) → exec_command (limits bounds devices) left f a ≡ given_command bounds others left g a
+      one-same (tree.Simple words) = λ i s. begin (limits bounds devices) (λ t. sized (fields (parameters_in t.memory) words) (λ fs u. simple-same f g same fs u i) t) s
+      one-same (tree.Assign values) = refl
+      one-same (tree.If arms) = arms-same arms
+      one-same (tree.Loop until cond body) = λ i s. turns left until (script-same cond i) (script-same body i) 0 s
+      one-same (tree.For name words body) = λ i s. begin (limits bounds devices) (λ t. sized (fields (parameters_in t.memory) words) (for_each name (script-same body i) 0) t) s
+
+      arms-same : (a : Arms) → exec_arms (limits bounds devices) left f a ≡ given_arms bounds others left g a
+      arms-same tree.NoElse = refl
+      arms-same (tree.Else body) = script-same body
+      arms-same (tree.Arm cond body more) = λ i s. go_on (script-same cond i s) (λ t. elim (nat_eq t.memory.status 0) [
+        | true ↦ script-same body i t
+        | false ↦ arms-same more i t
+      ])
+
+  exec-same : (left : ℕ) → exec (limits bounds devices) left ≡ given_exec bounds others left
+  exec-same zero = λ i a. script-same zero (λ t s. Ended CutSteps s) (λ t s. Ended CutSteps s) refl a i
+  exec-same (suc left) = λ i a. script-same (suc left) (exec (limits bounds devices) left) (given_exec bounds others left) (exec-same left) a i
+
+  -- ---- runs
+
+  pub run-same : (environment : Variables) (name text : Text) (w : OutcomeWord)
+      → run_text (limits bounds devices) (exec (limits bounds devices) bounds.step_bound) name text (start environment w) ≡ given_run_on bounds others environment name text w
+  run-same environment name text w =
+      run_text-same (limits bounds devices) bounds (exec (limits bounds devices) bounds.step_bound) (given_exec bounds others bounds.step_bound) (exec-same bounds.step_bound) name text (start environment w)

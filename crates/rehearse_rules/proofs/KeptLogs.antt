@@ -1,0 +1,158 @@
+-- What each device command keeps of the log, a run keeps of it.
+use Rattle.std.proofs.Common.{◌≡◌, ℕ, zero, suc, Bool, true, false, List, [], ◌∷◌, length, Option, Some, None, refl, nat_lt, nat_le, nat_eq}
+use Rattle.hushlang.specs.Tree as tree
+use Rattle.hushlang.specs.Tree.{Script, AndOr, Joined, Command, Arms}
+use Rattle.hushlang.specs.Expansion.{fields, joined, size, most_bytes}
+use Rattle.builtins.specs.Builtins.{Builtin, builtin_of}
+use Rattle.commands.specs.Computed.{Computed}
+use Rattle.device_list.specs.Called.{Called, BuiltIn, Device, NoCommand, called_by}
+use Rattle.commands.specs.BuiltInCommands.{ChangesVariables, WritesText, RunsTexts, Tests, Exits, carried, deed_of, asks_device, exit_status}
+use Rattle.device_list.specs.DeviceList.{Effect, computed_by, effect_of}
+use Rattle.rehearse_rules.specs.Execution.{Limits, Answer, Normal, Exit, Ended, Dry, CutSteps, Syntax, Size, Request, go_on, set_status, set_local, status_when, goes, holds, begin, device, test_effect, text_end, run_text, run_all, command, simple, sized, assign, turns, for_each, exec_script, exec_list, exec_joined, exec_command, exec_arms, exec}
+use Rattle.rehearse_rules.specs.Runs.{state_of}
+use Rattle.rehearse_terms.specs.State.{Text, get, LoggedCommand, State}
+use Rattle.rehearse_rules.specs.Parameters.{parameters_in}
+use Rattle.hushlang.specs.Trees.{tree_of}
+use Rattle.commands.specs.Verdict.{verdict}
+
+module _ (P : List LoggedCommand → Type 0) where
+  -- it holds of the log
+  abbrev pub Holds : State → Type 0
+  Holds s = P s.log
+
+  -- and so it does after this
+  abbrev pub KeepsLog : (State → Answer) → Type 0
+  KeepsLog f = (s : State) → Holds s → Holds (state_of (f s))
+
+  keeps-if : (b : Bool) (x y : Answer) → Holds (state_of x) → Holds (state_of y) → Holds (state_of (elim b [ true ↦ x | false ↦ y ]))
+  keeps-if true x y h k = h
+  keeps-if false x y h k = k
+
+  keeps-go_on : (a : Answer) (g : State → Answer) → Holds (state_of a) → KeepsLog g → Holds (state_of (go_on a g))
+  keeps-go_on (Normal t) g h k = k t h
+  keeps-go_on (Exit t) g h k = h
+  keeps-go_on (Ended ending t) g h k = h
+  keeps-go_on (Dry t) g h k = h
+
+  keeps-text_end : (a : Answer) (g : State → Answer) → Holds (state_of a) → KeepsLog g → Holds (state_of (text_end a g))
+  keeps-text_end (Normal t) g h k = keeps-if (nat_eq t.memory.status 0) (g t) (Normal t) (k t h) h
+  keeps-text_end (Exit t) g h k = keeps-if (nat_eq t.memory.status 0) (g t) (Normal t) (k t h) h
+  keeps-text_end (Ended ending t) g h k = h
+  keeps-text_end (Dry t) g h k = h
+
+  keeps-sized : (fs : List Text) (f : List Text → State → Answer) → ((gs : List Text) → KeepsLog (f gs)) → KeepsLog (sized fs f)
+  keeps-sized fs f h s k = keeps-if (nat_le (size fs) most_bytes) (f fs s) (Ended Size s) (h fs s k) k
+
+  keeps-assign : (pairs : List (Text × tree.Word)) → KeepsLog (assign pairs)
+  keeps-assign [] s h = h
+  keeps-assign (pair ∷ pairs) s h =
+      let value : Text = joined (parameters_in s.memory) pair.1 in
+      keeps-if (nat_le (length value) most_bytes) (assign pairs (set_local pair.0 value s)) (Ended Size s) (keeps-assign pairs (set_local pair.0 value s) h) h
+
+  -- `Allowed` is what the device list says of the effects that device commands have
+  module _ (limits : Limits) (Allowed : Effect → Type 0) (test : Allowed (test_effect limits.devices))
+      (calls : (name : Text) (words : List Text) (effect : Effect) → effect_of limits.devices name words ≡ Some effect → Allowed effect)
+      (step : (r : Request) → r.again ≡ false → Allowed r.effect → KeepsLog (device limits r)) where
+    abbrev IsAllowed : Called → Type 0
+    IsAllowed (Device effect) = Allowed effect
+    IsAllowed (BuiltIn deed) = Unit {0}
+    IsAllowed NoCommand = Unit {0}
+
+    called_allowed : (name : Text) (words : List Text) → IsAllowed (called_by limits.devices name words)
+    called_allowed name words = by (computed_by limits.devices name words) (builtin_of name) (effect_of limits.devices name words) refl
+      where
+        by : (o : Option Computed) (b : Option Builtin) (f : Option Effect) → effect_of limits.devices name words ≡ f
+            → IsAllowed (elim o [ Some computed ↦ BuiltIn (ChangesVariables (λ ws. carried computed)) | None ↦ elim b [ Some builtin ↦ BuiltIn (deed_of builtin) | None ↦ elim f [ Some effect ↦ Device effect | None ↦ NoCommand ] ] ])
+        by (Some computed) b f e = tt
+        by None (Some builtin) f e = tt
+        by None None None e = tt
+        by None None (Some effect) e = calls name words effect e
+
+    keeps-begin : (f : State → Answer) → KeepsLog f → KeepsLog (begin limits f)
+    keeps-begin f h s k = keeps-if (nat_lt s.steps limits.step_bound) (f (record s { steps = suc s.steps })) (Ended CutSteps s) (h (record s { steps = suc s.steps }) k) k
+
+    module _ (script : Script → State → Answer) (keeps : (a : Script) → KeepsLog (script a)) where
+      keeps-tree : (found : Option Script) (name : Text) (s : State) → Holds s → Holds (state_of (elim found [ None ↦ Ended (Syntax name) s | Some a ↦ script a (elim a [ tree.Empty ↦ set_status 0 s | tree.Runs l ls ↦ s ]) ]))
+      keeps-tree None name s h = h
+      keeps-tree (Some tree.Empty) name s h = keeps tree.Empty (set_status 0 s) h
+      keeps-tree (Some (tree.Runs l ls)) name s h = keeps (tree.Runs l ls) s h
+
+      keeps-text : (name text : Text) → KeepsLog (run_text limits script name text)
+      keeps-text name text s h = keeps-tree (tree_of text) name s h
+
+      keeps-named : (text : Option Text) (name : Text) (next : State → Answer) (s : State) → KeepsLog next → Holds s → Holds (state_of (elim text [ None ↦ Normal (set_status 1 s) | Some v ↦ text_end (run_text limits script name v s) next ]))
+      keeps-named None name next s k h = h
+      keeps-named (Some v) name next s k h = keeps-text_end (run_text limits script name v s) next (keeps-text name v s h) k
+
+      keeps-run : (names : List Text) → KeepsLog (run_all limits script names)
+      keeps-run [] s h = h
+      keeps-run (name ∷ names) s h = keeps-named (get s.memory.environment name) name (run_all limits script names) s (keeps-run names) h
+
+      keeps-leave : (status : Option ℕ) (s : State) → Holds s → Holds (state_of (elim status [ Some n ↦ Exit (set_status n s) | None ↦ Normal (set_status 1 s) ]))
+      keeps-leave (Some n) s h = h
+      keeps-leave None s h = h
+
+      keeps-command : (c : Called) (name : Text) (words : List Text) → IsAllowed c → KeepsLog (command limits script c name words)
+      keeps-command (BuiltIn (ChangesVariables change)) name words allowed s h = h
+      keeps-command (BuiltIn RunsTexts) name [] allowed s h = h
+      keeps-command (BuiltIn RunsTexts) name (w ∷ ws) allowed s h = keeps-run (w ∷ ws) s h
+      keeps-command (BuiltIn Tests) name words allowed s h =
+          let r : Request = record { name = name; words = words; effect = test_effect limits.devices; again = false } in
+          keeps-if (asks_device words) (device limits r s) (Normal (set_status (status_when (verdict words)) s)) (step r refl test s h) h
+      keeps-command (BuiltIn (WritesText written)) name words allowed s h = h
+      keeps-command (BuiltIn Exits) name words allowed s h = keeps-leave (exit_status words) s h
+      keeps-command (Device effect) name words allowed s h = step (record { name = name; words = words; effect = effect; again = false }) refl allowed s h
+      keeps-command NoCommand name words allowed s h = h
+
+      keeps-simple : (fs : List Text) → KeepsLog (simple limits script fs)
+      keeps-simple [] s h = h
+      keeps-simple (name ∷ words) s h = keeps-command (called_by limits.devices name words) name words (called_allowed name words) s h
+
+    -- ---- the tree
+
+    keeps-turns : (left : ℕ) (until : Bool) (c b : State → Answer) → KeepsLog c → KeepsLog b → (last : ℕ) → KeepsLog (turns left until c b last)
+    keeps-turns zero until c b h k last s j = j
+    keeps-turns (suc left) until c b h k last s j =
+        keeps-go_on (c s) (λ t. elim (holds until t.memory.status) [ true ↦ go_on (b t) (λ u. turns left until c b u.memory.status u) | false ↦ Normal (set_status last t) ]) (h s j)
+        (λ t i. keeps-if (holds until t.memory.status) (go_on (b t) (λ u. turns left until c b u.memory.status u)) (Normal (set_status last t))
+        (keeps-go_on (b t) (λ u. turns left until c b u.memory.status u) (k t i) (λ u. keeps-turns left until c b h k u.memory.status u)) i)
+
+    keeps-for : (name : Text) (b : State → Answer) → KeepsLog b → (last : ℕ) (fs : List Text) → KeepsLog (for_each name b last fs)
+    keeps-for name b k last [] s h = h
+    keeps-for name b k last (f ∷ fs) s h = keeps-go_on (b (set_local name f s)) (λ t. for_each name b t.memory.status fs t) (k (set_local name f s) h) (λ t. keeps-for name b k t.memory.status fs t)
+
+    module _ (left : ℕ) (text : Script → State → Answer) (keeps : (a : Script) → KeepsLog (text a)) where
+      mutual
+        keeps-script : (a : Script) → KeepsLog (exec_script limits left text a)
+        keeps-script tree.Empty s h = h
+        keeps-script (tree.Runs l ls) s h = keeps-go_on (exec_list limits left text l s) (exec_script limits left text ls) (keeps-list l s h) (keeps-script ls)
+
+        keeps-list : (a : AndOr) → KeepsLog (exec_list limits left text a)
+        keeps-list (tree.Starts c rest) s h = keeps-go_on (exec_command limits left text c s) (exec_joined limits left text rest) (keeps-one c s h) (keeps-joined rest)
+
+        keeps-joined : (a : Joined) → KeepsLog (exec_joined limits left text a)
+        keeps-joined tree.Alone s h = h
+        keeps-joined (tree.Joins op c rest) s h = keeps-if (goes op s.memory.status) (go_on (exec_command limits left text c s) (exec_joined limits left text rest)) (exec_joined limits left text rest s)
+            (keeps-go_on (exec_command limits left text c s) (exec_joined limits left text rest) (keeps-one c s h) (keeps-joined rest)) (keeps-joined rest s h)
+
+        keeps-one : (a : Command) → KeepsLog (exec_command limits left text a)
+        keeps-one (tree.Simple words) s h = keeps-begin (λ t. sized (fields (parameters_in t.memory) words) (simple limits text) t) (λ t. keeps-sized (fields (parameters_in t.memory) words) (simple limits text) (keeps-simple text keeps) t) s h
+        keeps-one (tree.Assign pairs) s h = keeps-begin (assign pairs) (keeps-assign pairs) s h
+        keeps-one (tree.If arms) s h = keeps-arms arms s h
+        keeps-one (tree.Loop until c b) s h = keeps-turns left until (exec_script limits left text c) (exec_script limits left text b) (keeps-script c) (keeps-script b) 0 s h
+        keeps-one (tree.For name words b) s h = keeps-begin (λ t. sized (fields (parameters_in t.memory) words) (for_each name (exec_script limits left text b) 0) t)
+            (λ t. keeps-sized (fields (parameters_in t.memory) words) (for_each name (exec_script limits left text b) 0) (λ fs. keeps-for name (exec_script limits left text b) (keeps-script b) 0 fs) t) s h
+
+        keeps-arms : (a : Arms) → KeepsLog (exec_arms limits left text a)
+        keeps-arms tree.NoElse s h = h
+        keeps-arms (tree.Else b) s h = keeps-script b s h
+        keeps-arms (tree.Arm c b arms) s h = keeps-go_on (exec_script limits left text c s) (λ t. elim (nat_eq t.memory.status 0) [ true ↦ exec_script limits left text b t | false ↦ exec_arms limits left text arms t ]) (keeps-script c s h)
+            (λ t i. keeps-if (nat_eq t.memory.status 0) (exec_script limits left text b t) (exec_arms limits left text arms t) (keeps-script b t i) (keeps-arms arms t i))
+
+    keeps-exec : (left : ℕ) (a : Script) → KeepsLog (exec limits left a)
+    keeps-exec zero a = keeps-script zero (λ t s. Ended CutSteps s) (λ b s h. h) a
+    keeps-exec (suc left) a = keeps-script (suc left) (exec limits left) (keeps-exec left) a
+
+    -- the text of a variable
+    pub run-keeps : (left : ℕ) (name text : Text) → KeepsLog (run_text limits (exec limits left) name text)
+    run-keeps left name text = keeps-text (exec limits left) (keeps-exec left) name text

@@ -1,0 +1,347 @@
+-- A script reads its word only by the outcomes that it takes.
+use Rattle.std.proofs.Common.{ℕ, zero, suc, Bool, true, false, not, cond, List, [], ◌∷◌, ◌++◌, length, Option, Some, None, refl, sym, ap, ◌∙◌, ◌≡◌, ◌≢◌, ◌<◌, ◌≤◌, map, append_assoc, append-nil, length-append, arith, ◌+◌, nat_lt, nat_le, nat_eq, ltb-true}
+use Rattle.std.proofs.lemmas.List.{map-append}
+use Rattle.std.proofs.lemmas.List.Elements.{filter-append}
+use Rattle.rehearse_terms.specs.Outcomes.{OutcomeWord, Outcome, Success, Failure}
+use Rattle.hushlang.specs.Tree as tree
+use Rattle.hushlang.specs.Tree.{Script, AndOr, Joined, Command, Arms}
+use Rattle.rehearse_terms.specs.State.{Text, get, Memory, State, LoggedCommand, asked_of}
+use Rattle.rehearse_rules.specs.Parameters.{parameters_in}
+use Rattle.hushlang.specs.Expansion.{fields, joined, size, most_bytes}
+use Rattle.hushlang.specs.Trees.{tree_of}
+use Rattle.commands.specs.Verdict.{verdict}
+use Rattle.device_list.specs.Called.{Called, BuiltIn, Device, NoCommand, called_by, sets_in}
+use Rattle.commands.specs.BuiltInCommands.{ChangesVariables, WritesText, RunsTexts, Tests, Exits, asks_device, exit_status, variables_changed, text_written}
+use Rattle.rehearse_rules.specs.Execution.{Limits, Answer, Normal, Exit, Ended, Dry, Ending, CutDevices, CutSteps, Unknown, Syntax, Size, go_on, remember, set_status, set_local, status_when, goes, holds, begin, take_outcome, with_outcome, outcome_when, told, told_again, tell_or_take, device, Request, test_effect, logged, set_environment, boot, text_end, run_text, run_all, command, simple, sized, assign, turns, for_each, exec_script, exec_list, exec_joined, exec_command, exec_arms, exec, succeeds}
+use Rattle.rehearse_rules.specs.Runs.{state_of}
+
+-- the state with these outcomes after its own
+abbrev pub more : OutcomeWord → State → State
+more x s = record s { word = s.word ++ x }
+
+-- the outcomes in a log
+abbrev pub answers : List LoggedCommand → List Bool
+answers log = map (λ e. e.success) (asked_of log)
+
+-- one more command took an outcome
+answers-asked : (log : List LoggedCommand) (e : LoggedCommand) → e.again ≡ false → answers (log ++ e ∷ []) ≡ answers log ++ e.success ∷ []
+answers-asked log e is =
+    let one : asked_of (e ∷ []) ≡ e ∷ [] = ap (λ (b : Bool). cond (not b) (e ∷ []) []) is in
+    ap (map (λ e. e.success)) (filter-append (λ e. not e.again) log (e ∷ []) ∙ ap (λ (es : List LoggedCommand). asked_of log ++ es) one)
+    ∙ map-append (λ e. e.success) (asked_of log) (e ∷ [])
+
+-- or was told an answer again
+answers-again : (log : List LoggedCommand) (e : LoggedCommand) → e.again ≡ true → answers (log ++ e ∷ []) ≡ answers log
+answers-again log e is =
+    let none : asked_of (e ∷ []) ≡ [] = ap (λ (b : Bool). cond (not b) (e ∷ []) []) is in
+    ap (map (λ e. e.success)) (filter-append (λ e. not e.again) log (e ∷ []) ∙ ap (λ (es : List LoggedCommand). asked_of log ++ es) none ∙ append-nil (asked_of log))
+
+-- s went on to t
+pub record GoesTo (s t : State) : Type 0 where
+  pub taken : OutcomeWord
+  pub word : s.word ≡ taken ++ t.word
+  pub log : length s.log + length taken ≤ length t.log
+  pub outcomes : answers t.log ≡ answers s.log ++ map succeeds taken
+  pub steps : s.steps ≤ t.steps
+
+abbrev pub Track : ℕ → State → Answer → Type 0
+Track bound s (Normal t) = GoesTo s t
+Track bound s (Exit t) = GoesTo s t
+Track bound s (Ended ending t) = GoesTo s t
+Track bound s (Dry t) = GoesTo s t × (t.word ≡ []) × (length t.log < bound)
+
+-- what an answer becomes if x is added after the word: no fewer steps are begun
+abbrev pub Extends : OutcomeWord → Answer → Answer → Type 0
+Extends x (Normal t) b = b ≡ Normal (more x t)
+Extends x (Exit t) b = b ≡ Exit (more x t)
+Extends x (Ended ending t) b = b ≡ Ended ending (more x t)
+Extends x (Dry t) b = (x ≢ [] → length (state_of b).word < length x) × (t.steps ≤ (state_of b).steps)
+
+-- what holds for a part of a script at a state
+abbrev pub Keeps : ℕ → State → (State → Answer) → Type 0
+Keeps bound s f = Track bound s (f s) × ((x : OutcomeWord) → Extends x (f s) (f (more x s)))
+
+pub stays : (s : State) → GoesTo s s
+stays s = record { taken = []; word = refl; log = omega arith; outcomes = sym (append-nil (answers s.log)); steps = omega arith }
+
+remembers : (s : State) (change : Memory → Memory) → GoesTo s (remember change s)
+remembers s change = record { taken = []; word = refl; log = omega arith; outcomes = sym (append-nil (answers s.log)); steps = omega arith }
+
+joined_outcomes : (a b c : List LoggedCommand) (v w : OutcomeWord) → answers b ≡ answers a ++ map succeeds v → answers c ≡ answers b ++ map succeeds w → answers c ≡ answers a ++ map succeeds (v ++ w)
+joined_outcomes a b c v w e f = f ∙ ap (λ (l : List Bool). l ++ map succeeds w) e ∙ append_assoc (answers a) (map succeeds v) (map succeeds w) ∙ ap (λ (l : List Bool). answers a ++ l) (sym (map-append succeeds v w))
+
+pub GoesTo-trans : (s t u : State) → GoesTo s t → GoesTo t u → GoesTo s u
+GoesTo-trans s t u g h = record { taken = g.taken ++ h.taken; word = g.word ∙ ap (λ (w : OutcomeWord). g.taken ++ w) h.word ∙ sym (append_assoc g.taken h.taken u.word); outcomes = joined_outcomes s.log t.log u.log g.taken h.taken g.outcomes h.outcomes; log = let l = g.log in let k = h.log in let e = length-append g.taken h.taken in omega arith; steps = let l = g.steps in let k = h.steps in omega arith }
+
+pub Track-of : (bound : ℕ) (s : State) (a : Answer) → Track bound s a → GoesTo s (state_of a)
+Track-of bound s (Normal t) h = h
+Track-of bound s (Exit t) h = h
+Track-of bound s (Ended ending t) h = h
+Track-of bound s (Dry t) h = h.0
+
+pub Track-after : (bound : ℕ) (s t : State) (a : Answer) → GoesTo s t → Track bound t a → Track bound s a
+Track-after bound s t (Normal u) g h = GoesTo-trans s t u g h
+Track-after bound s t (Exit u) g h = GoesTo-trans s t u g h
+Track-after bound s t (Ended ending u) g h = GoesTo-trans s t u g h
+Track-after bound s t (Dry u) g h = (GoesTo-trans s t u g h.0, h.1, h.2)
+
+-- no outcome is given back
+pub no_more : (s t : State) → GoesTo s t → length t.word ≤ length s.word
+no_more s t g = let e = ap length g.word in let k = length-append g.taken t.word in omega arith
+
+module _ (bound : ℕ) where
+  go_on-track : (s : State) (a : Answer) (g : State → Answer) → Track bound s a → ((t : State) → Keeps bound t g) → Track bound s (go_on a g)
+  go_on-track s (Normal t) g h k = Track-after bound s t (g t) h (k t).0
+  go_on-track s (Exit t) g h k = h
+  go_on-track s (Ended ending t) g h k = h
+  go_on-track s (Dry t) g h k = h
+
+  -- less is left after more is done
+  go_on-less : (x : OutcomeWord) (b : Answer) (g : State → Answer) → ((t : State) → Keeps bound t g) → length (state_of b).word < length x → length (state_of (go_on b g)).word < length x
+  go_on-less x (Normal t) g k h = let n = no_more t (state_of (g t)) (Track-of bound t (g t) (k t).0) in omega arith
+  go_on-less x (Exit t) g k h = h
+  go_on-less x (Ended ending t) g k h = h
+  go_on-less x (Dry t) g k h = h
+
+  -- and no fewer steps are begun
+  go_on-later : (n : ℕ) (b : Answer) (g : State → Answer) → ((t : State) → Keeps bound t g) → n ≤ (state_of b).steps → n ≤ (state_of (go_on b g)).steps
+  go_on-later n (Normal t) g k h = let e = (Track-of bound t (g t) (k t).0).steps in omega arith
+  go_on-later n (Exit t) g k h = h
+  go_on-later n (Ended ending t) g k h = h
+  go_on-later n (Dry t) g k h = h
+
+  go_on-extends : (x : OutcomeWord) (a b : Answer) (g : State → Answer) → ((t : State) → Keeps bound t g) → Extends x a b → Extends x (go_on a g) (go_on b g)
+  go_on-extends x (Normal t) b g k h = rw h ((k t).1 x)
+  go_on-extends x (Exit t) b g k h = rw h refl
+  go_on-extends x (Ended ending t) b g k h = rw h refl
+  go_on-extends x (Dry t) b g k h = (λ ne. go_on-less x b g k (h.0 ne), go_on-later t.steps b g k h.1)
+
+  pub Keeps-go_on : (s : State) (f g : State → Answer) → Keeps bound s f → ((t : State) → Keeps bound t g) → Keeps bound s (λ t. go_on (f t) g)
+  Keeps-go_on s f g h k = (go_on-track s (f s) g h.0 k, λ x. go_on-extends x (f s) (f (more x s)) g k (h.1 x))
+
+  pub Keeps-normal : (s : State) (change : Memory → Memory) → Keeps bound s (λ t. Normal (remember change t))
+  Keeps-normal s change = (remembers s change, λ x. refl)
+
+  pub Keeps-exit : (s : State) (change : Memory → Memory) → Keeps bound s (λ t. Exit (remember change t))
+  Keeps-exit s change = (remembers s change, λ x. refl)
+
+  pub Keeps-ended : (s : State) (ending : Ending) → Keeps bound s (Ended ending)
+  Keeps-ended s ending = (stays s, λ x. refl)
+
+  pub Keeps-if : (s : State) (b : Bool) (f g : State → Answer) → Keeps bound s f → Keeps bound s g → Keeps bound s (λ t. elim b [ true ↦ f t | false ↦ g t ])
+  Keeps-if s true f g h k = h
+  Keeps-if s false f g h k = k
+
+  pub Keeps-remember : (s : State) (change : Memory → Memory) (f : State → Answer) → Keeps bound (remember change s) f → Keeps bound s (λ t. f (remember change t))
+  Keeps-remember s change f h = (Track-after bound s (remember change s) (f (remember change s)) (remembers s change) h.0, h.1)
+
+  pub Keeps-stays : (s : State) → Keeps bound s Normal
+  Keeps-stays s = (stays s, λ x. refl)
+
+  counts : (s : State) → GoesTo s (record s { steps = suc s.steps })
+  counts s = record { taken = []; word = refl; log = omega arith; outcomes = sym (append-nil (answers s.log)); steps = omega arith }
+
+  pub Keeps-counted : (s : State) (f : State → Answer) → Keeps bound (record s { steps = suc s.steps }) f → Keeps bound s (λ t. f (record t { steps = suc t.steps }))
+  Keeps-counted s f h = (Track-after bound s (record s { steps = suc s.steps }) (f (record s { steps = suc s.steps })) (counts s) h.0, h.1)
+
+  -- a text that ended
+  text_end-track : (s : State) (a : Answer) (g : State → Answer) → Track bound s a → ((t : State) → Keeps bound t g) → Track bound s (text_end a g)
+  text_end-track s (Normal t) g h k = Track-after bound s t (elim (nat_eq t.memory.status 0) [ true ↦ g t | false ↦ Normal t ]) h (Keeps-if t (nat_eq t.memory.status 0) g Normal (k t) (Keeps-stays t)).0
+  text_end-track s (Exit t) g h k = Track-after bound s t (elim (nat_eq t.memory.status 0) [ true ↦ g t | false ↦ Normal t ]) h (Keeps-if t (nat_eq t.memory.status 0) g Normal (k t) (Keeps-stays t)).0
+  text_end-track s (Ended ending t) g h k = h
+  text_end-track s (Dry t) g h k = h
+
+  text_end-less : (x : OutcomeWord) (b : Answer) (g : State → Answer) → ((t : State) → Keeps bound t g) → length (state_of b).word < length x → length (state_of (text_end b g)).word < length x
+  text_end-less x (Normal t) g k h = let e = Keeps-if t (nat_eq t.memory.status 0) g Normal (k t) (Keeps-stays t) in let a : Answer = elim (nat_eq t.memory.status 0) [ true ↦ g t | false ↦ Normal t ] in let n = no_more t (state_of a) (Track-of bound t a e.0) in omega arith
+  text_end-less x (Exit t) g k h = let e = Keeps-if t (nat_eq t.memory.status 0) g Normal (k t) (Keeps-stays t) in let a : Answer = elim (nat_eq t.memory.status 0) [ true ↦ g t | false ↦ Normal t ] in let n = no_more t (state_of a) (Track-of bound t a e.0) in omega arith
+  text_end-less x (Ended ending t) g k h = h
+  text_end-less x (Dry t) g k h = h
+
+  text_end-later : (n : ℕ) (b : Answer) (g : State → Answer) → ((t : State) → Keeps bound t g) → n ≤ (state_of b).steps → n ≤ (state_of (text_end b g)).steps
+  text_end-later n (Normal t) g k h = let e = Keeps-if t (nat_eq t.memory.status 0) g Normal (k t) (Keeps-stays t) in let a : Answer = elim (nat_eq t.memory.status 0) [ true ↦ g t | false ↦ Normal t ] in let l = (Track-of bound t a e.0).steps in omega arith
+  text_end-later n (Exit t) g k h = let e = Keeps-if t (nat_eq t.memory.status 0) g Normal (k t) (Keeps-stays t) in let a : Answer = elim (nat_eq t.memory.status 0) [ true ↦ g t | false ↦ Normal t ] in let l = (Track-of bound t a e.0).steps in omega arith
+  text_end-later n (Ended ending t) g k h = h
+  text_end-later n (Dry t) g k h = h
+
+  text_end-extends : (x : OutcomeWord) (a b : Answer) (g : State → Answer) → ((t : State) → Keeps bound t g) → Extends x a b → Extends x (text_end a g) (text_end b g)
+  text_end-extends x (Normal t) b g k h = rw h ((Keeps-if t (nat_eq t.memory.status 0) g Normal (k t) (Keeps-stays t)).1 x)
+  text_end-extends x (Exit t) b g k h = rw h ((Keeps-if t (nat_eq t.memory.status 0) g Normal (k t) (Keeps-stays t)).1 x)
+  text_end-extends x (Ended ending t) b g k h = rw h refl
+  text_end-extends x (Dry t) b g k h = (λ ne. text_end-less x b g k (h.0 ne), text_end-later t.steps b g k h.1)
+
+module _ (limits : Limits) where
+  abbrev pub KeepsAll : (State → Answer) → Type 0
+  KeepsAll f = (s : State) → Keeps limits.device_bound s f
+
+  pub Keeps-text_end : (s : State) (f g : State → Answer) → Keeps limits.device_bound s f → KeepsAll g → Keeps limits.device_bound s (λ t. text_end (f t) g)
+  Keeps-text_end s f g h k = (text_end-track limits.device_bound s (f s) g h.0 k, λ x. text_end-extends limits.device_bound x (f s) (f (more x s)) g k (h.1 x))
+
+  pub Keeps-begin : (f : State → Answer) → KeepsAll f → KeepsAll (begin limits f)
+  Keeps-begin f h s = Keeps-if limits.device_bound s (nat_lt s.steps limits.step_bound) (λ t. f (record t { steps = suc t.steps })) (Ended CutSteps) (Keeps-counted limits.device_bound s f (h (record s { steps = suc s.steps }))) (Keeps-ended limits.device_bound s CutSteps)
+
+  -- a device command
+  boot-track : (b : Bool) (name : Text) (s t : State) → GoesTo s t → Track limits.device_bound s (boot b name t)
+  boot-track true name s t g = g
+  boot-track false name s t g = g
+
+  boot-extends : (x : OutcomeWord) (b : Bool) (name : Text) (t : State) → Extends x (boot b name t) (boot b name (more x t))
+  boot-extends x true name t = refl
+  boot-extends x false name t = refl
+
+  boot-less : (b : Bool) (name : Text) (x : OutcomeWord) (t : State) → t.word ≡ x → length (state_of (boot b name t)).word < suc (length x)
+  boot-less true name x t e = let l = ap length e in omega arith
+  boot-less false name x t e = let l = ap length e in omega arith
+
+  boot-steps : (b : Bool) (name : Text) (t : State) → (state_of (boot b name t)).steps ≡ t.steps
+  boot-steps true name t = refl
+  boot-steps false name t = refl
+
+  -- its entry in the log
+  abbrev entry : Outcome → Request → LoggedCommand
+  entry d r = record { success = succeeds d; words = r.name ∷ r.words; stays = r.effect.stays; again = r.again }
+
+  took : (s : State) (r : Request) (d : Outcome) (rest : OutcomeWord) → r.again ≡ false → s.word ≡ d ∷ rest → GoesTo s (logged d r (record s { word = rest }))
+  took s r d rest fresh e = record { taken = d ∷ []; word = e; log = (let l = length-append s.log (entry d r ∷ []) in omega arith); outcomes = answers-asked s.log (entry d r) fresh; steps = omega arith }
+
+  was_told : (s : State) (r : Request) (d : Outcome) → GoesTo s (logged d (told_again r) s)
+  was_told s r d = record { taken = []; word = refl; log = (let l = length-append s.log (entry d (told_again r) ∷ []) in omega arith); outcomes = answers-again s.log (entry d (told_again r)) refl ∙ sym (append-nil (answers s.log)); steps = omega arith }
+
+  -- a device command with its outcome
+  with-track : (s t : State) (r : Request) (d : Outcome) → GoesTo s (logged d r t) → Track limits.device_bound s (with_outcome d r t)
+  with-track s t r Success g =
+      let l : State = logged Success r t in
+      let u : State = set_environment (sets_in r.words r.effect.sets) l in
+      boot-track r.effect.ends r.name s u (GoesTo-trans s l u g (remembers l (λ m. (set_environment (sets_in r.words r.effect.sets) (record l { memory = m })).memory)))
+  with-track s t r Failure g = g
+
+  with-extends : (t : State) (r : Request) (d : Outcome) (x : OutcomeWord) → Extends x (with_outcome d r t) (with_outcome d r (more x t))
+  with-extends t r Success x = boot-extends x r.effect.ends r.name (set_environment (sets_in r.words r.effect.sets) (logged Success r t))
+  with-extends t r Failure x = refl
+
+  asked : (s : State) (r : Request) (rest : OutcomeWord) → r.again ≡ false → length s.log < limits.device_bound → s.word ≡ rest → Track limits.device_bound s (take_outcome r rest s)
+  asked s r [] fresh room e = (stays s, e, room)
+  asked s r (d ∷ rest) fresh room e = with-track s (record s { word = rest }) r d (took s r d rest fresh e)
+
+  asked-extends : (s : State) (r : Request) (rest x : OutcomeWord) → Extends x (take_outcome r rest s) (take_outcome r (rest ++ x) (more x s))
+  asked-extends s r [] [] = (λ ne. absurd (ne refl), omega arith)
+  asked-extends s r [] (Success ∷ x) =
+      let t : State = set_environment (sets_in r.words r.effect.sets) (logged Success r (record s { word = x })) in
+      (λ ne. boot-less r.effect.ends r.name x t refl, let e = boot-steps r.effect.ends r.name t in omega arith)
+  asked-extends s r [] (Failure ∷ x) = (λ ne. omega arith, omega arith)
+  asked-extends s r (d ∷ rest) x = with-extends (record s { word = rest }) r d x
+
+  pub Keeps-take : (s : State) (r : Request) → r.again ≡ false → length s.log < limits.device_bound → Keeps limits.device_bound s (λ t. take_outcome r t.word t)
+  Keeps-take s r fresh room = (asked s r s.word fresh room refl, λ x. asked-extends s r s.word x)
+
+  Keeps-tell : (s : State) (r : Request) (o : Option Bool) → r.again ≡ false → length s.log < limits.device_bound → Keeps limits.device_bound s (λ t. tell_or_take o r t)
+  Keeps-tell s r None fresh room = Keeps-take s r fresh room
+  Keeps-tell s r (Some success) fresh room =
+      let d : Outcome = outcome_when success in
+      (with-track s s (told_again r) d (was_told s r d), λ x. with-extends s (told_again r) d x)
+
+  pub Keeps-device-if : (s : State) (r : Request) (b : Bool) (o : Option Bool) → r.again ≡ false → (b ≡ true → length s.log < limits.device_bound) → Keeps limits.device_bound s (λ t. elim b [ true ↦ tell_or_take o r t | false ↦ Ended CutDevices t ])
+  Keeps-device-if s r true o fresh room = Keeps-tell s r o fresh (room refl)
+  Keeps-device-if s r false o fresh room = Keeps-ended limits.device_bound s CutDevices
+
+  pub Keeps-device : (r : Request) → r.again ≡ false → KeepsAll (device limits r)
+  Keeps-device r fresh s = Keeps-device-if s r (nat_lt (length s.log) limits.device_bound) (told r s.log) fresh (λ e. ltb-true (length s.log) limits.device_bound e)
+
+  pub Keeps-sized : (fs : List Text) (f : List Text → State → Answer) → ((gs : List Text) → KeepsAll (f gs)) → KeepsAll (sized fs f)
+  Keeps-sized fs f h s = Keeps-if limits.device_bound s (nat_le (size fs) most_bytes) (f fs) (Ended Size) (h fs s) (Keeps-ended limits.device_bound s Size)
+
+  pub Keeps-assign : (pairs : List (Text × tree.Word)) → KeepsAll (assign pairs)
+  Keeps-assign [] s = Keeps-normal limits.device_bound s (λ m. record m { status = 0 })
+  Keeps-assign (pair ∷ pairs) s =
+      let value : Text = joined (parameters_in s.memory) pair.1 in
+      Keeps-if limits.device_bound s (nat_le (length value) most_bytes) (λ t. assign pairs (set_local pair.0 value t)) (Ended Size)
+      (Keeps-remember limits.device_bound s (λ m. (set_local pair.0 value (record s { memory = m })).memory) (assign pairs) (Keeps-assign pairs (set_local pair.0 value s)))
+      (Keeps-ended limits.device_bound s Size)
+
+  -- a `run`, if each script keeps it
+  module _ (script : Script → State → Answer) (kept : (a : Script) → KeepsAll (script a)) where
+    pub Keeps-tree : (found : Option Script) (name : Text) (s : State) → Keeps limits.device_bound s (λ t. elim found [ None ↦ Ended (Syntax name) t | Some a ↦ script a (elim a [ tree.Empty ↦ set_status 0 t | tree.Runs l ls ↦ t ]) ])
+    Keeps-tree None name s = Keeps-ended limits.device_bound s (Syntax name)
+    Keeps-tree (Some tree.Empty) name s = Keeps-remember limits.device_bound s (λ m. record m { status = 0 }) (script tree.Empty) (kept tree.Empty (set_status 0 s))
+    Keeps-tree (Some (tree.Runs l ls)) name s = kept (tree.Runs l ls) s
+
+    pub Keeps-text : (name text : Text) → KeepsAll (run_text limits script name text)
+    Keeps-text name text s = Keeps-tree (tree_of text) name s
+
+    pub Keeps-named : (text : Option Text) (name : Text) (next : State → Answer) (s : State) → KeepsAll next → Keeps limits.device_bound s (λ t. elim text [ None ↦ Normal (set_status 1 t) | Some v ↦ text_end (run_text limits script name v t) next ])
+    Keeps-named None name next s h = Keeps-normal limits.device_bound s (λ m. record m { status = 1 })
+    Keeps-named (Some v) name next s h = Keeps-text_end s (run_text limits script name v) next (Keeps-text name v s) h
+
+    pub Keeps-run : (names : List Text) → KeepsAll (run_all limits script names)
+    Keeps-run [] s = Keeps-stays limits.device_bound s
+    Keeps-run (name ∷ names) s = Keeps-named (get s.memory.environment name) name (run_all limits script names) s (Keeps-run names)
+
+    pub Keeps-leave : (status : Option ℕ) (s : State) → Keeps limits.device_bound s (λ t. elim status [ Some n ↦ Exit (set_status n t) | None ↦ Normal (set_status 1 t) ])
+    Keeps-leave (Some n) s = Keeps-exit limits.device_bound s (λ m. record m { status = n })
+    Keeps-leave None s = Keeps-normal limits.device_bound s (λ m. record m { status = 1 })
+
+    pub Keeps-command : (b : Called) (name : Text) (ws : List Text) → KeepsAll (command limits script b name ws)
+    Keeps-command (BuiltIn (ChangesVariables change)) name ws s = Keeps-normal limits.device_bound s (variables_changed change ws)
+    Keeps-command (BuiltIn RunsTexts) name [] s = Keeps-normal limits.device_bound s (λ m. record m { status = 1 })
+    Keeps-command (BuiltIn RunsTexts) name (w ∷ ws) s = Keeps-run (w ∷ ws) s
+    Keeps-command (BuiltIn Tests) name ws s = Keeps-if limits.device_bound s (asks_device ws) (device limits (record { name = name; words = ws; effect = test_effect limits.devices; again = false })) (λ t. Normal (set_status (status_when (verdict ws)) t)) (Keeps-device (record { name = name; words = ws; effect = test_effect limits.devices; again = false }) refl s) (Keeps-normal limits.device_bound s (λ m. record m { status = status_when (verdict ws) }))
+    Keeps-command (BuiltIn (WritesText written)) name ws s = Keeps-normal limits.device_bound s (text_written written ws)
+    Keeps-command (BuiltIn Exits) name ws s = Keeps-leave (exit_status ws) s
+    Keeps-command (Device effect) name ws s = Keeps-device (record { name = name; words = ws; effect = effect; again = false }) refl s
+    Keeps-command NoCommand name ws s = Keeps-ended limits.device_bound s (Unknown name)
+
+    pub Keeps-simple : (fs : List Text) → KeepsAll (simple limits script fs)
+    Keeps-simple [] s = Keeps-normal limits.device_bound s (λ m. record m { status = 0 })
+    Keeps-simple (name ∷ ws) s = Keeps-command (called_by limits.devices name ws) name ws s
+
+  -- what a turn of a loop does after its condition
+  abbrev pub after_condition : Bool → (State → Answer) → (State → Answer) → ℕ → State → Answer
+  after_condition until b again last t = elim (holds until t.memory.status) [ true ↦ go_on (b t) again | false ↦ Normal (set_status last t) ]
+
+  pub Keeps-after_condition : (until : Bool) (b again : State → Answer) → KeepsAll b → KeepsAll again → (last : ℕ) → KeepsAll (after_condition until b again last)
+  Keeps-after_condition until b again k h last t =
+      let bound : ℕ = limits.device_bound in
+      Keeps-if bound t (holds until t.memory.status) (λ v. go_on (b v) again) (λ v. Normal (set_status last v)) (Keeps-go_on bound t b again (k t) h) (Keeps-normal bound t (λ m. record m { status = last }))
+
+  pub Keeps-turns : (left : ℕ) (until : Bool) (c b : State → Answer) → KeepsAll c → KeepsAll b → (last : ℕ) → KeepsAll (turns left until c b last)
+  Keeps-turns zero until c b h k last s = Keeps-ended limits.device_bound s CutSteps
+  Keeps-turns (suc left) until c b h k last s =
+      let again : KeepsAll (λ u. turns left until c b u.memory.status u) = λ u. Keeps-turns left until c b h k u.memory.status u in
+      Keeps-go_on limits.device_bound s c (after_condition until b (λ u. turns left until c b u.memory.status u) last) (h s) (Keeps-after_condition until b (λ u. turns left until c b u.memory.status u) k again last)
+
+  pub Keeps-for : (name : Text) (b : State → Answer) → KeepsAll b → (last : ℕ) (fs : List Text) → KeepsAll (for_each name b last fs)
+  Keeps-for name b k last [] s = Keeps-normal limits.device_bound s (λ m. record m { status = last })
+  Keeps-for name b k last (f ∷ fs) s =
+      let bound : ℕ = limits.device_bound in
+      Keeps-go_on bound s (λ t. b (set_local name f t)) (λ t. for_each name b t.memory.status fs t)
+      (Keeps-remember bound s (λ m. (set_local name f (record s { memory = m })).memory) b (k (set_local name f s)))
+      (λ t. Keeps-for name b k t.memory.status fs t)
+
+  module _ (left : ℕ) (text : Script → State → Answer) (kept : (a : Script) → KeepsAll (text a)) where
+    mutual
+      pub Keeps-script : (a : Script) → KeepsAll (exec_script limits left text a)
+      Keeps-script tree.Empty s = Keeps-stays limits.device_bound s
+      Keeps-script (tree.Runs l ls) s = Keeps-go_on limits.device_bound s (exec_list limits left text l) (exec_script limits left text ls) (Keeps-list l s) (Keeps-script ls)
+
+      pub Keeps-list : (a : AndOr) → KeepsAll (exec_list limits left text a)
+      Keeps-list (tree.Starts c rest) s = Keeps-go_on limits.device_bound s (exec_command limits left text c) (exec_joined limits left text rest) (Keeps-one c s) (Keeps-joined rest)
+
+      pub Keeps-joined : (a : Joined) → KeepsAll (exec_joined limits left text a)
+      Keeps-joined tree.Alone s = Keeps-stays limits.device_bound s
+      Keeps-joined (tree.Joins op c rest) s = Keeps-if limits.device_bound s (goes op s.memory.status) (λ t. go_on (exec_command limits left text c t) (exec_joined limits left text rest)) (exec_joined limits left text rest) (Keeps-go_on limits.device_bound s (exec_command limits left text c) (exec_joined limits left text rest) (Keeps-one c s) (Keeps-joined rest)) (Keeps-joined rest s)
+
+      pub Keeps-one : (a : Command) → KeepsAll (exec_command limits left text a)
+      Keeps-one (tree.Simple words) s = Keeps-begin (λ t. sized (fields (parameters_in t.memory) words) (simple limits text) t) (λ t. Keeps-sized (fields (parameters_in t.memory) words) (simple limits text) (Keeps-simple text kept) t) s
+      Keeps-one (tree.Assign pairs) s = Keeps-begin (assign pairs) (Keeps-assign pairs) s
+      Keeps-one (tree.If arms) s = Keeps-arms arms s
+      Keeps-one (tree.Loop until c b) s = Keeps-turns left until (exec_script limits left text c) (exec_script limits left text b) (Keeps-script c) (Keeps-script b) 0 s
+      Keeps-one (tree.For name words b) s = Keeps-begin (λ t. sized (fields (parameters_in t.memory) words) (for_each name (exec_script limits left text b) 0) t) (λ t. Keeps-sized (fields (parameters_in t.memory) words) (for_each name (exec_script limits left text b) 0) (λ fs. Keeps-for name (exec_script limits left text b) (Keeps-script b) 0 fs) t) s
+
+      pub Keeps-arms : (a : Arms) → KeepsAll (exec_arms limits left text a)
+      Keeps-arms tree.NoElse s = Keeps-normal limits.device_bound s (λ m. record m { status = 0 })
+      Keeps-arms (tree.Else b) s = Keeps-script b s
+      Keeps-arms (tree.Arm c b arms) s = Keeps-go_on limits.device_bound s (exec_script limits left text c) (λ t. elim (nat_eq t.memory.status 0) [ true ↦ exec_script limits left text b t | false ↦ exec_arms limits left text arms t ]) (Keeps-script c s) (λ t. Keeps-if limits.device_bound t (nat_eq t.memory.status 0) (exec_script limits left text b) (exec_arms limits left text arms) (Keeps-script b t) (Keeps-arms arms t))
+
+  -- a script keeps all this, whatever steps are left
+  pub Keeps-exec : (left : ℕ) (a : Script) → KeepsAll (exec limits left a)
+  Keeps-exec zero a = Keeps-script zero (λ t s. Ended CutSteps s) (λ b s. Keeps-ended limits.device_bound s CutSteps) a
+  Keeps-exec (suc left) a = Keeps-script (suc left) (exec limits left) (Keeps-exec left) a

@@ -1,0 +1,106 @@
+-- Worked examples, computed: what a device command is told again, and what it takes from the word.
+use Rattle.std.proofs.Common.{◌≡◌, ℕ, Bool, true, false, List, [], ◌∷◌, Some, None, codes, refl, map}
+use Rattle.rehearse_terms.specs.Outcomes.{OutcomeWord, Success, Failure}
+use Rattle.rehearse_terms.specs.State.{Text, Variables, LoggedCommand, State, start}
+use Rattle.device_list.specs.DeviceList.{Variable, Effect, only}
+use Rattle.device_list.specs.DeviceLaws.{quiet}
+use Rattle.rehearse_rules.specs.Execution.{Limits, Normal, Ended, Dry, Booted, CutDevices, Request, told, tell_or_take, device, test_effect}
+
+abbrev steady : Effect
+steady = record quiet { stays = true }
+
+-- `load a`, which is asked
+abbrev request : Effect → Request
+request effect = record { name = codes "load"; words = codes "a" ∷ []; effect = effect; again = false }
+
+abbrev logged : Text → LoggedCommand
+logged name = record { success = false; words = name ∷ codes "a" ∷ []; stays = true; again = false }
+
+-- ---- which answer is told
+
+is_told : told (request steady) (logged (codes "load") ∷ []) ≡ Some false
+is_told = refl
+
+-- a command that is not steady is told nothing
+not_steady : told (request quiet) (logged (codes "load") ∷ []) ≡ None
+not_steady = refl
+
+-- the name is one of the words
+other_name : told (request steady) (logged (codes "boot") ∷ []) ≡ None
+other_name = refl
+
+name_and_words : told (request steady) (record (logged (codes "load")) { words = codes "a" ∷ [] } ∷ []) ≡ None
+name_and_words = refl
+
+not_asked_yet : told (request steady) [] ≡ None
+not_asked_yet = refl
+
+-- ---- what it comes to, in a state with this log and this word
+
+abbrev at : List LoggedCommand → OutcomeWord → State
+at log word = record (start ((codes "b", codes "2") ∷ []) word) { log = log; steps = 3 }
+
+-- the state after a command with this log, this word, this status and these variables
+abbrev then_at : List LoggedCommand → OutcomeWord → (status : ℕ) → Variables → State
+then_at log word status variables = record (at log word) {
+  memory = record { environment = variables; locals = []; status = status; text = [] };
+}
+
+abbrev entry : (success stays again : Bool) → LoggedCommand
+entry success stays again = record { success = success; words = codes "load" ∷ codes "a" ∷ []; stays = stays; again = again }
+
+abbrev unchanged : Variables
+unchanged = (codes "b", codes "2") ∷ []
+
+-- an answer that is told takes no outcome of the word; it is logged as told again, and is the status
+failure_told : tell_or_take (Some false) (request steady) (at [] (Success ∷ [])) ≡ Normal (then_at (entry false true true ∷ []) (Success ∷ []) 1 unchanged)
+failure_told = refl
+
+success_told : tell_or_take (Some true) (request steady) (at [] (Failure ∷ [])) ≡ Normal (then_at (entry true true true ∷ []) (Failure ∷ []) 0 unchanged)
+success_told = refl
+
+told_without_word : tell_or_take (Some true) (request steady) (at [] []) ≡ Normal (then_at (entry true true true ∷ []) [] 0 unchanged)
+told_without_word = refl
+
+-- without one it takes the next outcome, and is not told again
+success_taken : tell_or_take None (request steady) (at [] (Success ∷ Failure ∷ [])) ≡ Normal (then_at (entry true true false ∷ []) (Failure ∷ []) 0 unchanged)
+success_taken = refl
+
+failure_taken : tell_or_take None (request quiet) (at [] (Failure ∷ Success ∷ [])) ≡ Normal (then_at (entry false false false ∷ []) (Success ∷ []) 1 unchanged)
+failure_taken = refl
+
+none_left : tell_or_take None (request steady) (at [] []) ≡ Dry (at [] [])
+none_left = refl
+
+-- what a success sets, it sets when it is told; a failure sets nothing
+abbrev setting : Effect
+setting = record steady { sets = (Variable (codes "b"), codes "3") ∷ [] }
+
+success_sets : tell_or_take (Some true) (request setting) (at [] []) ≡ Normal (then_at (entry true true true ∷ []) [] 0 ((codes "b", codes "3") ∷ []))
+success_sets = refl
+
+failure_sets_nothing : tell_or_take (Some false) (request setting) (at [] []) ≡ Normal (then_at (entry false true true ∷ []) [] 1 unchanged)
+failure_sets_nothing = refl
+
+-- and a final command boots
+success_boots : tell_or_take (Some true) (request (record steady { ends = true })) (at [] []) ≡ Ended (Booted (codes "load")) (then_at (entry true true true ∷ []) [] 0 unchanged)
+success_boots = refl
+
+failure_goes_on : tell_or_take (Some false) (request (record steady { ends = true })) (at [] []) ≡ Normal (then_at (entry false true true ∷ []) [] 1 unchanged)
+failure_goes_on = refl
+
+-- ---- the bound counts what is told: one more in the log, or none
+
+abbrev bounded : ℕ → Limits
+bounded bound = record { devices = only []; device_bound = bound; step_bound = 9 }
+
+told_within : device (bounded 2) (request steady) (at (entry true true false ∷ []) (Failure ∷ [])) ≡ Normal (then_at (entry true true false ∷ entry true true true ∷ []) (Failure ∷ []) 0 unchanged)
+told_within = refl
+
+cut_by_bound : device (bounded 1) (request steady) (at (entry true true false ∷ []) (Failure ∷ [])) ≡ Ended CutDevices (at (entry true true false ∷ []) (Failure ∷ []))
+cut_by_bound = refl
+
+-- ---- `test -e`
+
+test_stays : map (λ stays. test_effect (record (only []) { test_stays = stays })) (true ∷ false ∷ []) ≡ steady ∷ quiet ∷ []
+test_stays = refl

@@ -1,0 +1,24 @@
+-- What contracts see of how a run has ended. Ours.
+use Rattle.rehearse_rules.specs.Execution as spec
+use Rattle.rehearse_rules.specs.declared.halt.Halt.{Halt}
+use Rattle.rehearse_rules.specs.declared.halt.Halt.TheVariants as halts
+use Rattle.rehearse_rules.specs.declared.halt.Ending.{Ending}
+use Rattle.rehearse_rules.specs.declared.halt.Ending.TheVariants as endings
+
+abbrev pub halt_shown : Halt → spec.Ending
+halt_shown (halts.End status) = spec.End status
+halt_shown halts.CutDevices = spec.CutDevices
+halt_shown halts.CutSteps = spec.CutSteps
+halt_shown (halts.Unknown name) = spec.Unknown name.items
+halt_shown (halts.Syntax name) = spec.Syntax name.items
+halt_shown halts.Size = spec.Size
+halt_shown (halts.Booted name) = spec.Booted name.items
+
+abbrev pub ending_shown : Ending → spec.Ending
+ending_shown (endings.End status) = spec.End status
+ending_shown endings.CutDevices = spec.CutDevices
+ending_shown endings.CutSteps = spec.CutSteps
+ending_shown (endings.Unknown name) = spec.Unknown name.now
+ending_shown (endings.Syntax name) = spec.Syntax name.now
+ending_shown endings.Size = spec.Size
+ending_shown (endings.Booted name) = spec.Booted name.now

@@ -1,0 +1,292 @@
+-- What a script does to a state, for the outcomes that its word still holds (U-Boot documentation, doc/usage/cmdline
+-- and doc/usage/cmd). The bounds are ours, and so is how a run ends that meets one.
+use Rattle.std.specs.Prelude.{ℕ, zero, suc, nat_lt, nat_le, nat_eq, Bool, true, false, not, List, [], ◌∷◌, ◌++◌, length, Option, Some, None, if◌then◌else◌}
+use Rattle.hushlang.specs.Tree as tree
+use Rattle.hushlang.specs.Tree.{Script, AndOr, Joined, Command, Arms}
+use Rattle.hushlang.specs.Expansion.{fields, joined, size, most_bytes}
+use Rattle.hushlang.specs.declared.tree.Op.{Op}
+use Rattle.hushlang.specs.declared.tree.Op.TheVariants.{And, Or}
+use Rattle.rehearse_terms.specs.Outcomes.{Outcome, Success, Failure, OutcomeWord}
+use Rattle.hushlang.specs.Trees.{tree_of}
+use Rattle.rehearse_terms.specs.State.{Text, Variables, get, with_value, Memory, LoggedCommand, answer_in, State}
+use Rattle.rehearse_rules.specs.Parameters.{parameters_in}
+use Rattle.device_list.specs.DeviceList.{Effect, Devices}
+use Rattle.commands.specs.Verdict.{verdict}
+use Rattle.device_list.specs.Called.{Called, BuiltIn, NoCommand, Device, called_by, sets_in}
+use Rattle.commands.specs.BuiltInCommands.{ChangesVariables, WritesText, RunsTexts, Tests, Exits, asks_device, exit_status, variables_changed, text_written}
+
+-- the device list, how many device commands a run may ask, and how many steps it may begin
+pub record Limits : Type 0 where
+  pub devices : Devices
+  pub device_bound : ℕ
+  pub step_bound : ℕ
+
+-- how a run ends
+pub data Ending : Type 0 where
+  -- the text of its variable ended, by itself or by an `exit`
+  End : (status : ℕ) → Ending
+  -- the bound forbids the next device command, or the next step
+  CutDevices : Ending
+  CutSteps : Ending
+  -- a command is neither built in nor listed
+  Unknown : (name : Text) → Ending
+  -- the text of a variable is not a script
+  Syntax : (name : Text) → Ending
+  -- words expand to too many bytes
+  Size : Ending
+  -- a final device command succeeded
+  Booted : (name : Text) → Ending
+
+-- what a part of a script comes to
+pub data Answer : Type 0 where
+  -- the next command follows
+  Normal : State → Answer
+  -- the text that is running ends, with the status
+  Exit : State → Answer
+  -- the run ends
+  Ended : Ending → State → Answer
+  -- a device command found no outcome left
+  Dry : State → Answer
+
+-- first this, and then that if the first has ended normally
+abbrev pub go_on : Answer → (State → Answer) → Answer
+go_on (Normal s) next = next s
+go_on (Exit s) next = Exit s
+go_on (Ended ending s) next = Ended ending s
+go_on (Dry s) next = Dry s
+
+abbrev pub remember : (Memory → Memory) → State → State
+remember change s = record s { memory = change s.memory }
+
+abbrev pub set_status : ℕ → State → State
+set_status status = remember (λ m. record m { status = status })
+
+-- sets a shell variable
+abbrev pub set_local : Text → Text → State → State
+set_local name value = remember (λ m. record m { locals = with_value m.locals name value })
+
+abbrev pub status_when : Bool → ℕ
+status_when true = 0
+status_when false = 1
+
+abbrev pub succeeds : Outcome → Bool
+succeeds Success = true
+succeeds Failure = false
+
+abbrev pub outcome_when : (success : Bool) → Outcome
+outcome_when true = Success
+outcome_when false = Failure
+
+-- `a && b` runs b if the status is 0, `a || b` if it is not
+abbrev pub goes : Op → ℕ → Bool
+goes And status = nat_eq status 0
+goes Or status = not (nat_eq status 0)
+
+-- whether a loop runs its body after its condition has ended with this status
+abbrev pub holds : (until : Bool) → (status : ℕ) → Bool
+holds false status = nat_eq status 0
+holds true status = not (nat_eq status 0)
+
+-- ---- device commands
+
+-- a device command that is asked: its name, its words, and what it does on success; and whether it was asked before,
+-- and is told the same again
+pub record Request : Type 0 where
+  pub name : Text
+  pub words : List Text
+  pub effect : Effect
+  pub again : Bool
+
+-- `test -e` changes nothing; its answers stay if the list says so
+abbrev pub test_effect : Devices → Effect
+test_effect devices = record { ends = false; stays = devices.test_stays; sets = [] }
+
+-- the command and its outcome are in the log, and the outcome is the status
+abbrev pub logged : Outcome → Request → State → State
+logged outcome request s =
+    set_status (status_when (succeeds outcome))
+    (record s {
+      log = s.log ++ record {
+        success = succeeds outcome;
+        words = request.name ∷ request.words;
+        stays = request.effect.stays;
+        again = request.again;
+      } ∷ [];
+    })
+
+abbrev pub with_all : List (Text × Text) → Variables → Variables
+with_all [] variables = variables
+with_all (e ∷ es) variables = with_all es (with_value variables e.0 e.1)
+
+-- sets environment variables, one after another
+abbrev pub set_environment : List (Text × Text) → State → State
+set_environment sets = remember (λ m. record m { environment = with_all sets m.environment })
+
+-- a final command ends the run
+abbrev pub boot : (ends : Bool) → (name : Text) → State → Answer
+boot true name s = Ended (Booted name) s
+boot false name s = Normal s
+
+-- a device command with its outcome
+abbrev pub with_outcome : Outcome → Request → State → Answer
+with_outcome Success request s =
+    boot request.effect.ends request.name
+    (set_environment (sets_in request.words request.effect.sets) (logged Success request s))
+with_outcome Failure request s = Normal (logged Failure request s)
+
+-- it takes the next outcome of the word
+abbrev pub take_outcome : Request → OutcomeWord → State → Answer
+take_outcome request [] s = Dry s
+take_outcome request (outcome ∷ rest) s = with_outcome outcome request (record s { word = rest })
+
+-- the answer that stays for it: a command whose answers stay, and that was asked before with the same words
+abbrev pub told : Request → List LoggedCommand → Option Bool
+told request log = if request.effect.stays then answer_in log (request.name ∷ request.words) else None
+
+abbrev pub told_again : Request → Request
+told_again request = record request { again = true }
+
+-- it has the answer that stays for it, and takes no outcome; or else it takes one
+abbrev pub tell_or_take : (told : Option Bool) → Request → State → Answer
+tell_or_take (Some success) request s = with_outcome (outcome_when success) (told_again request) s
+tell_or_take None request s = take_outcome request s.word s
+
+-- ---- parts of scripts, by the meaning of what they are made of
+
+-- a text that `run` started has ended, also by `exit`; the next one follows if its status is 0
+abbrev pub text_end : Answer → (State → Answer) → Answer
+text_end (Normal s) next = elim (nat_eq s.memory.status 0) [ true ↦ next s | false ↦ Normal s ]
+text_end (Exit s) next = elim (nat_eq s.memory.status 0) [ true ↦ next s | false ↦ Normal s ]
+text_end (Ended ending s) next = Ended ending s
+text_end (Dry s) next = Dry s
+
+-- fields that hold too many bytes end the run
+abbrev pub sized : List Text → (List Text → State → Answer) → State → Answer
+sized fs next s = elim (nat_le (size fs) most_bytes) [ true ↦ next fs s | false ↦ Ended Size s ]
+
+-- assignments, from the left; if one ends the run, the ones before it are kept
+abbrev pub assign : List (Text × tree.Word) → State → Answer
+assign [] s = Normal (set_status 0 s)
+assign (pair ∷ pairs) s =
+    let value = joined (parameters_in s.memory) pair.1 in elim (nat_le (length value) most_bytes) [
+      | true ↦ assign pairs (set_local pair.0 value s)
+      | false ↦ Ended Size s
+    ]
+
+-- the turns of a loop; `last` is the status of the last body. Each condition holds a command, so it begins a step.
+-- After as many turns as there were steps left, the step of the next turn is cut
+abbrev pub turns : (left : ℕ) → (until : Bool) → (cond body : State → Answer) → (last : ℕ) → State → Answer
+turns zero until cond body last s = Ended CutSteps s
+turns (suc left) until cond body last s = go_on (cond s) (λ t. elim (holds until t.memory.status) [
+  | true ↦ go_on (body t) (λ u. turns left until cond body u.memory.status u)
+  | false ↦ Normal (set_status last t)
+])
+
+-- the body once for each field; the variable has the field as its value
+abbrev pub for_each : (name : Text) → (body : State → Answer) → (last : ℕ) → List Text → State → Answer
+for_each name body last [] s = Normal (set_status last s)
+for_each name body last (f ∷ fs) s = go_on (body (set_local name f s)) (λ t. for_each name body t.memory.status fs t)
+
+-- ---- execution; `script` is what the tree of a text does to a state
+
+module _ (limits : Limits) where
+  -- a step is begun and counted if the bound allows one more
+  abbrev pub begin : (State → Answer) → State → Answer
+  begin body s =
+      elim (nat_lt s.steps limits.step_bound) [
+        | true ↦ body (record s { steps = suc s.steps })
+        | false ↦ Ended CutSteps s
+      ]
+
+  -- a device command is asked if the bound allows one more in the log
+  abbrev pub device : Request → State → Answer
+  device request s =
+      elim (nat_lt (length s.log) limits.device_bound) [
+        | true ↦ tell_or_take (told request s.log) request s
+        | false ↦ Ended CutDevices s
+      ]
+
+  -- the text of a variable, read when its turn comes. A text without a command gives the status 0
+  abbrev pub run_text : (script : Script → State → Answer) → (name text : Text) → State → Answer
+  run_text script name text s =
+      elim (tree_of text) [
+        | None ↦ Ended (Syntax name) s
+        | Some t ↦ script t (elim t [ tree.Empty ↦ set_status 0 s | tree.Runs list more ↦ s ])
+      ]
+
+  -- the texts of these variables in turn, up to the first that fails or is not set
+  abbrev pub run_all : (script : Script → State → Answer) → List Text → State → Answer
+  run_all script [] s = Normal s
+  run_all script (name ∷ names) s =
+      elim (get s.memory.environment name) [
+        | None ↦ Normal (set_status 1 s)
+        | Some text ↦ text_end (run_text script name text s) (run_all script names)
+      ]
+
+  -- a command by its fields, the name first
+  abbrev pub command : (script : Script → State → Answer) → Called → (name : Text) → (words : List Text) → State →
+      Answer
+  command script (BuiltIn (ChangesVariables change)) name words s = Normal (remember (variables_changed change words) s)
+  command script (BuiltIn RunsTexts) name [] s = Normal (set_status 1 s)
+  command script (BuiltIn RunsTexts) name (w ∷ ws) s = run_all script (w ∷ ws) s
+  command script (BuiltIn Tests) name words s =
+      elim (asks_device words) [
+        | true ↦ device (record { name = name; words = words; effect = test_effect limits.devices; again = false }) s
+        | false ↦ Normal (set_status (status_when (verdict words)) s)
+      ]
+  command script (BuiltIn (WritesText written)) name words s = Normal (remember (text_written written words) s)
+  command script (BuiltIn Exits) name words s =
+      elim (exit_status words) [
+        | Some status ↦ Exit (set_status status s)
+        | None ↦ Normal (set_status 1 s)
+      ]
+  command script (Device effect) name words s =
+      device (record { name = name; words = words; effect = effect; again = false }) s
+  command script NoCommand name words s = Ended (Unknown name) s
+
+  -- words that expand to no field do nothing, with status 0
+  abbrev pub simple : (script : Script → State → Answer) → List Text → State → Answer
+  simple script [] s = Normal (set_status 0 s)
+  simple script (name ∷ words) s = command script (called_by limits.devices name words) name words s
+
+  -- over the tree, with this many steps left; `text` is what the texts do that `run` starts
+  module _ (left : ℕ) (text : Script → State → Answer) where
+    abbrev mutual
+      pub exec_script : Script → State → Answer
+      exec_script tree.Empty s = Normal s
+      exec_script (tree.Runs list more) s = go_on (exec_list list s) (exec_script more)
+
+      pub exec_list : AndOr → State → Answer
+      exec_list (tree.Starts first rest) s = go_on (exec_command first s) (exec_joined rest)
+
+      -- a skipped command leaves the status as it is
+      pub exec_joined : Joined → State → Answer
+      exec_joined tree.Alone s = Normal s
+      exec_joined (tree.Joins op next rest) s =
+          elim (goes op s.memory.status) [
+            | true ↦ go_on (exec_command next s) (exec_joined rest)
+            | false ↦ exec_joined rest s
+          ]
+
+      pub exec_command : Command → State → Answer
+      exec_command (tree.Simple words) s = begin (λ t. sized (fields (parameters_in t.memory) words) (simple text) t) s
+      exec_command (tree.Assign values) s = begin (assign values) s
+      exec_command (tree.If arms) s = exec_arms arms s
+      exec_command (tree.Loop until cond body) s = turns left until (exec_script cond) (exec_script body) 0 s
+      exec_command (tree.For name words body) s =
+          begin (λ t. sized (fields (parameters_in t.memory) words) (for_each name (exec_script body) 0) t) s
+
+      -- the block after the first condition that ends with status 0, else the `else` block; if no block is run, status
+      -- 0
+      pub exec_arms : Arms → State → Answer
+      exec_arms tree.NoElse s = Normal (set_status 0 s)
+      exec_arms (tree.Else body) s = exec_script body s
+      exec_arms (tree.Arm cond body more) s = go_on (exec_script cond s) (λ t. elim (nat_eq t.memory.status 0) [
+        | true ↦ exec_script body t
+        | false ↦ exec_arms more t
+      ])
+
+  -- a script with this many steps left; the texts that `run` starts have one less, which the `run` takes
+  abbrev pub exec : (left : ℕ) → Script → State → Answer
+  exec zero = exec_script zero (λ t s. Ended CutSteps s)
+  exec (suc left) = exec_script (suc left) (exec left)

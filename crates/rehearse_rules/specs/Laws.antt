@@ -1,0 +1,218 @@
+-- The laws of rehearsals, over the definitions alone. Ours.
+use Rattle.std.specs.Prelude.{ℕ, ◌+◌, ◌^◌, true, filter, List, [], ◌∷◌, ◌++◌, length, map, flat_map, take, drop, Option, Some, None, ◌≡◌, ◌≢◌, ◌↔◌, ◌≤◌, ◌<◌, codes}
+use Rattle.rehearse_terms.specs.Outcomes.{OutcomeWord, Outcome, Run, Short, common_prefix, comes_before, has_success, turned, is_within, first_run, first_from}
+use Rattle.rehearse_terms.specs.State.{Text, LoggedCommand, State, asked_of}
+use Rattle.device_list.specs.Kinds.{Steady, SaysNothing}
+use Rattle.rehearse_rules.specs.Execution.{Ended, Dry, CutSteps, CutDevices, succeeds}
+use Rattle.rehearse_rules.specs.Runs.{Task, run_on, state_of, steps, asked, kind, all_runs, runs, IsListed, rest}
+use Rattle.rehearse_rules.specs.Listing.{listing, line, spelled, record_of, words_listed, closing}
+use Rattle.rehearse_rules.specs.Resuming.{whole, next_text, Point, resume_point_of, point_after}
+
+-- ---- words
+
+-- no run is in the list twice
+abbrev pub NoRunTwice : Type 0
+NoRunTwice = (task : Task) (w : OutcomeWord) (before between behind : List OutcomeWord) →
+    runs task ≢ before ++ w ∷ between ++ w ∷ behind
+
+-- no run is a prefix of another
+abbrev pub NoRunBeginsAnother : Type 0
+NoRunBeginsAnother = (task : Task) (u : OutcomeWord) (d : Outcome) (v : OutcomeWord) → kind task u ≡ Run →
+    kind task (u ++ d ∷ v) ≢ Run
+
+-- no run is longer than the device bound
+abbrev pub NoRunIsLonger : Type 0
+NoRunIsLonger = (task : Task) (u : OutcomeWord) → kind task u ≡ Run → length u ≤ task.limits.device_bound
+
+-- there is a run
+abbrev pub RunsAreThere : Type 0
+RunsAreThere = (task : Task) → runs task ≢ []
+
+-- a run is followed by another exactly if it has a success that may fail
+abbrev pub AnotherFollows : Type 0
+AnotherFollows =
+    (task : Task) (u : OutcomeWord) → IsListed task u → (rest task u ≢ []) ↔ (has_success task.failures u ≡ true)
+
+-- two runs differ first at an outcome that a device command asks for
+abbrev pub RunsPartWhereAsked : Type 0
+RunsPartWhereAsked = (task : Task) (u v : OutcomeWord) → kind task u ≡ Run → kind task v ≡ Run → u ≢ v →
+    kind task (common_prefix u v) ≡ Short
+
+-- the outcomes in the log of a run are its word, without the commands that were told an answer again
+abbrev pub LogIsWord : Type 0
+LogIsWord = (task : Task) (w : OutcomeWord) → kind task w ≡ Run →
+    map (λ e. e.success) (asked_of (state_of (run_on task w)).log) ≡ map succeeds w
+
+-- Over a device list that says of no answer that it stays, no command is told an answer again, so the outcomes in the
+-- whole log are its word.
+abbrev pub WholeLogIsWord : Type 0
+WholeLogIsWord = (task : Task) (w : OutcomeWord) → SaysNothing Steady task.limits.devices → kind task w ≡ Run →
+    map (λ e. e.success) (state_of (run_on task w)).log ≡ map succeeds w
+
+-- Of two commands in the log of a run whose answers stay, with the same words, the later one has the answer of the earlier
+-- one. It was told it again, so it has no outcome of the word.
+abbrev pub AnswersStay : Type 0
+AnswersStay = (task : Task) (w : OutcomeWord) (front between behind : List LoggedCommand) (one other : LoggedCommand) →
+    (state_of (run_on task w)).log ≡ front ++ one ∷ between ++ other ∷ behind → one.stays ≡ true → other.stays ≡ true →
+    one.words ≡ other.words → (other.success ≡ one.success) × (other.again ≡ true)
+
+-- ---- bounds
+
+-- no more steps are begun than the bound allows
+abbrev pub StepsAreBounded : Type 0
+StepsAreBounded = (task : Task) (w : OutcomeWord) → steps task w ≤ task.limits.step_bound
+
+-- no more device commands are in the log than the bound allows, those that were told an answer again among them
+abbrev pub DevicesAreBounded : Type 0
+DevicesAreBounded =
+    (task : Task) (w : OutcomeWord) → length (state_of (run_on task w)).log ≤ task.limits.device_bound
+
+-- a run is cut for its steps only if the bound is reached
+abbrev pub CutAtStepBound : Type 0
+CutAtStepBound = (task : Task) (w : OutcomeWord) (s : State) → run_on task w ≡ Ended CutSteps s →
+    s.steps ≡ task.limits.step_bound
+
+-- and for its device commands only if that bound is reached
+abbrev pub CutAtDeviceBound : Type 0
+CutAtDeviceBound = (task : Task) (w : OutcomeWord) (s : State) → run_on task w ≡ Ended CutDevices s →
+    length s.log ≡ task.limits.device_bound
+
+-- a word is too short only if a device command is asked below the bound and all its outcomes are taken
+abbrev pub AskedBelowBound : Type 0
+AskedBelowBound = (task : Task) (w : OutcomeWord) (s : State) → run_on task w ≡ Dry s →
+    (length s.log < task.limits.device_bound) × (s.word ≡ [])
+
+-- ---- work
+
+-- no more steps are begun up to a device command that asks than with a word that continues there
+abbrev pub AskedInFront : Type 0
+AskedInFront = (task : Task) (p x : OutcomeWord) → asked task p ≤ steps task (p ++ x)
+
+-- so the steps that two words share are steps of the second, and work subtracts no more than there is
+abbrev pub SharedIsWithin : Type 0
+SharedIsWithin = (task : Task) (u v : OutcomeWord) → asked task (common_prefix u v) ≤ steps task v
+
+-- ---- what follows a run
+
+-- the runs are in dictionary order
+abbrev pub RunsAreOrdered : Type 0
+RunsAreOrdered = (task : Task) (u v : OutcomeWord) (before between behind : List OutcomeWord) →
+    runs task ≡ before ++ u ∷ between ++ v ∷ behind → comes_before u v ≡ true
+
+-- the first run has success at each device command
+abbrev pub RunsBegin : Type 0
+RunsBegin = (task : Task) → let w = first_run (kind task) task.limits.device_bound in runs task ≡ w ∷ rest task w
+
+-- after u comes the first run that starts with u cut after its last success that may fail, which became a failure
+abbrev pub RunsFollow : Type 0
+RunsFollow = (task : Task) (u p : OutcomeWord) → IsListed task u → turned task.failures u ≡ Some p → let w =
+    first_from (kind task) task.limits.device_bound p in rest task u ≡ w ∷ rest task w
+
+-- each word in the list of runs is a run, in which no more device commands fail than may fail
+abbrev pub RunsAreRuns : Type 0
+RunsAreRuns =
+    (task : Task) (w : OutcomeWord) (front behind : List OutcomeWord) → runs task ≡ front ++ w ∷ behind
+    → IsListed task w
+
+-- each such run is in the list, before what follows it
+abbrev pub RunsStand : Type 0
+RunsStand =
+    (task : Task) (u : OutcomeWord) → IsListed task u
+    → (front : List OutcomeWord) × (runs task ≡ front ++ u ∷ rest task u)
+
+-- ---- few failures
+
+-- the task in which so many device commands may fail
+abbrev pub failing : Task → ℕ → Task
+failing task most = record task { failures = Some most }
+
+-- if as many may fail as a run may ask, the runs are all runs
+abbrev pub AllMayFail : Type 0
+AllMayFail = (task : Task) → runs (failing task task.limits.device_bound) ≡ all_runs task
+
+-- the runs in which at most so many fail are those, of the runs in which one more may, in which at most so many fail
+abbrev pub FewerAmongMore : Type 0
+FewerAmongMore = (task : Task) (most : ℕ) →
+    runs (failing task most) ≡ filter (is_within (Some most)) (runs (failing task (most + 1)))
+
+-- so each of them is one of these
+abbrev pub FewerAreMore : Type 0
+FewerAreMore = (task : Task) (most : ℕ) (w : OutcomeWord) → IsListed (failing task most) w →
+    IsListed (failing task (most + 1)) w
+
+-- there are at most as many as the words are that say at which device commands the failures are: one more than a run may
+-- ask, so often multiplied
+abbrev pub FewRuns : Type 0
+FewRuns = (task : Task) (most : ℕ) → length (runs (failing task most)) ≤ (task.limits.device_bound + 1) ^ most
+
+-- if none may fail, the first run is the only one
+abbrev pub NoneMayFail : Type 0
+NoneMayFail = (task : Task) → runs (failing task 0) ≡ first_run (kind task) task.limits.device_bound ∷ []
+
+-- ---- pages
+
+-- a listing with a limit ends with `more` exactly if words are left out
+abbrev pub MoreIsLeft : Type 0
+MoreIsLeft = (task : Task) (names : List Text) (ws : List OutcomeWord) (limit : ℕ) →
+    ((page : Text) × (w : OutcomeWord)
+    × (listing (record_of task names) ws (Some limit) ≡ page ++ line (codes "more " ++ spelled w))) ↔
+    (limit < length ws)
+
+-- a listing of all runs that ends with `more`, without that line, and the listing of the runs after its word are
+-- together the whole listing
+abbrev pub PagesOfRuns : Type 0
+PagesOfRuns = (task : Task) (names : List Text) (limit : ℕ) (page : Text) (w : OutcomeWord) → let written =
+    record_of task names in 0 < limit →
+    listing written (runs task) (Some limit) ≡ page ++ line (codes "more " ++ spelled w) →
+    page ++ listing written (rest task w) None ≡ listing written (runs task) None
+
+-- and so it is for a listing of the runs after u
+abbrev pub PagesOfRest : Type 0
+PagesOfRest =
+    (task : Task) (names : List Text) (u : OutcomeWord) (limit : ℕ) (page : Text) (w : OutcomeWord) → let written =
+    record_of task names in 0 < limit →
+    listing written (rest task u) (Some limit) ≡ page ++ line (codes "more " ++ spelled w) →
+    page ++ listing written (rest task w) None ≡ listing written (rest task u) None
+
+-- ---- a listing that broke off: p is what was written, and q what is missing
+
+-- `whole` is the greatest number of first records with which p starts
+abbrev pub WholeIsGreatest : Type 0
+WholeIsGreatest = (records : List Text) (p : Text) (k : ℕ) → k ≤ length records →
+    ((part : Text) × (p ≡ flat_map (λ r. r) (take k records) ++ part)) ↔ (k ≤ whole records p)
+
+-- p is its whole records and a part of what comes next; if that is a record, the part is less than all of it
+abbrev pub WholeRecords : Type 0
+WholeRecords = (task : Task) (names : List Text) (ws : List OutcomeWord) (limit : Option ℕ) (p q : Text) → let written =
+    record_of task names in let us = words_listed ws limit in let k = whole (map written us) p in
+    listing written ws limit ≡ p ++ q → (part : Text) × (missing : Text) × (p ≡ flat_map written (take k us) ++ part)
+    × (next_text written (drop k us) (line (closing ws limit)) ≡ part ++ missing) × (drop k us ≢ [] → missing ≢ [])
+
+-- the whole records of p, and the listing of the words after them, are together the listing
+abbrev pub Resuming : Type 0
+Resuming =
+    (task : Task) (names : List Text) (ws : List OutcomeWord) (p q : Text) → let written = record_of task names in
+    let k = whole (map written ws) p in listing written ws None ≡ p ++ q →
+    flat_map written (take k ws) ++ listing written (drop k ws) None ≡ listing written ws None
+
+-- for every prefix p of a listing, the point to resume at is after its whole records; if no record is whole, there is
+-- no point
+abbrev pub ResumePoint : Type 0
+ResumePoint = (task : Task) (names : List Text) (ws : List OutcomeWord) (limit : Option ℕ) (p q : Text) → let written =
+    record_of task names in let us = words_listed ws limit in listing written ws limit ≡ p ++ q →
+    resume_point_of p ≡ point_after written (take (whole (map written us) p) us)
+
+-- what is before the point, and the listing of the runs after its word, are together the listing of all runs
+abbrev pub ResumedAtPoint : Type 0
+ResumedAtPoint = (task : Task) (names : List Text) (p q : Text) (point : Point) (w : OutcomeWord) → let written =
+    record_of task names in listing written (runs task) None ≡ p ++ q → resume_point_of p ≡ Some point →
+    point.word ≡ spelled w →
+    take point.length_before p ++ listing written (rest task w) None ≡ listing written (runs task) None
+
+-- and so it is for a listing of the runs after u
+abbrev pub ResumedRest : Type 0
+ResumedRest =
+    (task : Task) (names : List Text) (u : OutcomeWord) (p q : Text) (point : Point) (w : OutcomeWord) → let written =
+    record_of task names in listing written (rest task u) None ≡ p ++ q → resume_point_of p ≡ Some point →
+    point.word ≡ spelled w →
+    take point.length_before p ++ listing written (rest task w) None ≡ listing written (rest task u) None

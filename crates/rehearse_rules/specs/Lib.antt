@@ -1,0 +1,11 @@
+pub mod Execution
+pub mod Runs
+pub mod Listing
+pub mod Resuming
+pub mod Laws
+pub mod GivenExecution
+pub mod PlainExecution
+pub mod Parameters
+pub mod RunsToCome
+pub mod EndingsShown
+pub mod ReadDevices

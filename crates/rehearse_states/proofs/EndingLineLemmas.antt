@@ -1,0 +1,124 @@
+-- The lines of endings: counts that are too large, and the number of all runs.
+use Rattle.std.proofs.Common.{ℕ, ◌+◌, ◌<◌, min, Bool, true, false, List, [], ◌∷◌, ◌++◌, map, flat_map, length, reverse, refl, sym, ap, ◌∙◌, ◌≡◌, nat_lt, codes, decimal, if◌then◌else◌, arith}
+use Rattle.std.proofs.lemmas.Bool.{ltb-true, ltb-false}
+use Rattle.std.proofs.lemmas.List.{length-map, length-reverse, map-append, reverse-append}
+use Rattle.rehearse_terms.specs.State.{Text}
+use Rattle.rehearse_rules.specs.Listing.{digit_when, outcome_digit, spelled, line, last_line}
+use Rattle.rehearse_terms.specs.Outcomes.{OutcomeWord, Outcome, failures}
+use Rattle.rehearse_rules.specs.Execution.{outcome_when, Ending}
+use Rattle.rehearse_rules.specs.Runs.{Task, all_runs}
+use Rattle.rehearse_states.specs.Endings.{Row, ending_eq, joined, with_row, merge, one_run, ending, endings}
+use Rattle.rehearse_states.specs.RowsShown.{most_runs, saturated}
+use Rattle.rehearse_states.specs.EndingLines.{count_text, row_text, all_text, endings_text, counted}
+
+-- ---- counts that are too large
+
+count_if : (b : Bool) (n : ℕ) → nat_lt n most_runs ≡ b → count_text (min n most_runs) ≡ count_text n
+count_if true n h = let l = ltb-true n most_runs h in ap count_text (let e : min n most_runs ≡ n = omega arith in e)
+count_if false n h =
+    let l = ltb-false n most_runs h in
+    ap count_text (let e : min n most_runs ≡ most_runs = omega arith in e)
+    ∙ sym (ap (λ (b : Bool). if b then decimal n else codes "at least " ++ decimal most_runs) h)
+
+count_told : (n : ℕ) → count_text (min n most_runs) ≡ count_text n
+count_told n = count_if (nat_lt n most_runs) n refl
+
+row_told : (r : Row) → row_text (saturated r) ≡ row_text r
+row_told r = ap (λ (t : Text). codes "ends " ++ t ++ codes " first " ++ spelled r.word ++ codes " fewest " ++ decimal (failures r.fewest) ++ codes " " ++ spelled r.fewest ++ codes " " ++ last_line r.ending) (count_told r.count)
+
+rows_told : (rows : List Row) → flat_map (λ r. line (row_text r)) (map saturated rows) ≡ flat_map (λ r. line (row_text r)) rows
+rows_told [] = refl
+rows_told (r ∷ rs) =
+    ap (λ (t : Text). line t ++ flat_map (λ r. line (row_text r)) (map saturated rs)) (row_told r)
+    ∙ ap (λ (t : Text). line (row_text r) ++ t) (rows_told rs)
+
+counted_up : (rows : List Row) → min (counted (map saturated rows)) most_runs ≡ min (counted rows) most_runs
+counted_up [] = refl
+counted_up (r ∷ rs) = let h = counted_up rs in omega (arith, h)
+
+all_told : (rows : List Row) (states : ℕ) → all_text (counted (map saturated rows)) states ≡ all_text (counted rows) states
+all_told rows states =
+    ap (λ (t : Text). codes "all " ++ t ++ codes " states " ++ decimal states)
+    (sym (count_told (counted (map saturated rows))) ∙ ap count_text (counted_up rows) ∙ count_told (counted rows))
+
+saturated_told : (rows : List Row) (states : ℕ) → endings_text (map saturated rows) (counted (map saturated rows)) states ≡ endings_text rows (counted rows) states
+saturated_told rows states =
+    ap (λ (t : Text). t ++ line (all_text (counted (map saturated rows)) states)) (rows_told rows)
+    ∙ ap (λ (t : Text). flat_map (λ r. line (row_text r)) rows ++ line t) (all_told rows states)
+
+-- ---- the number of all runs
+
+abbrev row_if : Bool → Row → List Row → Row → List Row
+row_if b r rs row = elim b [ true ↦ joined r row ∷ rs | false ↦ r ∷ with_row rs row ]
+
+counted_if : (b : Bool) (r : Row) (rs : List Row) (row : Row) → counted (with_row rs row) ≡ counted rs + row.count → counted (row_if b r rs row) ≡ (r.count + counted rs) + row.count
+counted_if true r rs row h = omega arith
+counted_if false r rs row h = omega (arith, h)
+
+counted_with : (rs : List Row) (row : Row) → counted (with_row rs row) ≡ counted rs + row.count
+counted_with [] row = omega arith
+counted_with (r ∷ rs) row = counted_if (ending_eq r.ending row.ending) r rs row (counted_with rs row)
+
+counted_merge : (rs ts : List Row) → counted (merge rs ts) ≡ counted rs + counted ts
+counted_merge rs [] = omega arith
+counted_merge rs (t ∷ ts) = let h = counted_merge (with_row rs t) ts in let k = counted_with rs t in omega (arith, h, k)
+
+counted_singles : (es : List (Ending × OutcomeWord)) → counted (map one_run es) ≡ length es
+counted_singles [] = refl
+counted_singles (e ∷ es) = let h = counted_singles es in omega (arith, h)
+
+pub counted_all : (task : Task) → counted (endings task) ≡ length (all_runs task)
+counted_all task =
+    let pair : OutcomeWord → Ending × OutcomeWord = λ w. (ending task w, w) in
+    let es = map pair (all_runs task) in
+    let h = counted_merge [] (map one_run es) in
+    let k = counted_singles es in
+    let l = length-map (all_runs task) pair in
+    omega (arith, h, k, l)
+
+-- what is written of rows with counts up to the greatest
+pub text_told : (task : Task) (rows : List Row) (text : Text) (states : ℕ) → rows ≡ map saturated (endings task) → text ≡ endings_text rows (counted rows) states → text ≡ endings_text (endings task) (length (all_runs task)) states
+text_told task rows text states e h =
+    h ∙ ap (λ (x : List Row). endings_text x (counted x) states) e
+    ∙ saturated_told (endings task) states
+    ∙ ap (λ (n : ℕ). endings_text (endings task) n states) (counted_all task)
+
+-- ---- digits
+
+long_spelled : (w : OutcomeWord) → 0 < length w → spelled w ≡ map outcome_digit w
+long_spelled [] l = absurd (omega arith)
+long_spelled (d ∷ w) l = refl
+
+reverse_shown : (f : Outcome → ℕ) (w : OutcomeWord) → map f (reverse w) ≡ reverse (map f w)
+reverse_shown f [] = refl
+reverse_shown f (d ∷ w) =
+    ap (map f) (reverse-append (d ∷ []) w)
+    ∙ map-append f (reverse w) (d ∷ [])
+    ∙ ap (λ (l : List ℕ). l ++ f d ∷ []) (reverse_shown f w)
+    ∙ sym (reverse-append (f d ∷ []) (map f w))
+
+digits_shown : (word : List Bool) → map outcome_digit (map outcome_when word) ≡ map digit_when word
+digits_shown [] = refl
+digits_shown (true ∷ word) = ap (λ (l : List ℕ). digit_when true ∷ l) (digits_shown word)
+digits_shown (false ∷ word) = ap (λ (l : List ℕ). digit_when false ∷ l) (digits_shown word)
+
+-- a word, whose last outcome the code holds first
+pub spelled_shown : (word : List Bool) → 0 < length word → spelled (reverse (map outcome_when word)) ≡ reverse (map digit_when word)
+spelled_shown word l =
+    let a = length-reverse (map outcome_when word) in
+    let b = length-map word outcome_when in
+    long_spelled (reverse (map outcome_when word)) (omega (arith, a, b, l))
+    ∙ reverse_shown outcome_digit (map outcome_when word)
+    ∙ ap reverse (digits_shown word)
+
+-- ---- one more row
+
+counted_append : (rs ts : List Row) → counted (rs ++ ts) ≡ counted rs + counted ts
+counted_append [] ts = omega arith
+counted_append (r ∷ rs) ts = let h = counted_append rs ts in omega (arith, h)
+
+pub counted_more : (before after : List Row) (r : Row) (n m : ℕ) → after ≡ before ++ r ∷ [] → n ≡ min (counted before) most_runs → m ≡ min (n + r.count) most_runs → m ≡ min (counted after) most_runs
+counted_more before after r n m e h k =
+    let a = ap counted e in
+    let b = counted_append before (r ∷ []) in
+    omega (arith, a, b, h, k)

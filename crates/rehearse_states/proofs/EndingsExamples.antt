@@ -1,0 +1,160 @@
+-- Worked examples, computed: from the text of `bootcmd` to the rows of its runs and their lines. A word starts with the
+-- first device command; `0` means that it succeeded.
+use Rattle.std.proofs.Common.{ℕ, Bool, true, [], ◌∷◌, ◌+◌, ◌-◌, ◌^◌, List, codes, refl, ◌≡◌, map, length, nat_eq}
+use Rattle.std.specs.Fmt.{digits}
+use Rattle.hushlang.specs.Expansion.{fields, joined, atoms}
+use Rattle.rehearse_terms.specs.Outcomes.{OutcomeWord, Success, Failure, failures}
+use Rattle.device_list.specs.DeviceLaws.{quiet}
+use Rattle.device_list.specs.DeviceList.{only}
+use Rattle.hushlang.specs.Trees.{tree_of}
+use Rattle.rehearse_terms.specs.State.{Text}
+use Rattle.rehearse_rules.specs.Execution.{Ending, End, CutDevices, CutSteps, Unknown, Syntax, Size, Booted}
+use Rattle.rehearse_rules.specs.Runs.{Task, all_runs}
+use Rattle.rehearse_rules.proofs.ExampleRehearsals.{only_load, limits, bootcmd}
+use Rattle.rehearse_states.specs.Endings.{Row, ending_eq, fewer, joined as with_further, with_row, gather, endings, of_both}
+use Rattle.rehearse_states.specs.EndingLines.{count_text, endings_text, counted}
+use Rattle.rehearse_states.specs.RowsShown.{most_runs, saturated, with_row_up}
+
+abbrev task : ℕ → Text → Task
+task devices text = bootcmd (limits only_load devices 20) text
+
+-- the lines of all runs, with the number of states
+abbrev lines : Task → ℕ → Text
+lines t states = endings_text (endings t) (length (all_runs t)) states
+
+-- ---- scripts
+
+-- two runs end alike, and one ends differently
+two_attempts : lines (task 3 (codes "load a || load b")) 2 ≡ codes "ends 2 first 0 fewest 0 0 end 0\nends 1 first 11 fewest 2 11 end 1\nall 3 states 2\n"
+unfolding tree_of fields joined atoms digits
+two_attempts = refl
+
+-- the first run with this ending has more failures than a later one
+later_has_fewer : lines (task 3 (codes "if load a; then load b || load c || exit 3; else exit 3; fi")) 3 ≡ codes "ends 2 first 00 fewest 0 00 end 0\nends 2 first 011 fewest 1 1 end 3\nall 4 states 3\n"
+unfolding tree_of fields joined atoms digits
+later_has_fewer = refl
+
+-- of two runs with equally many failures, the first has the fewest
+first_of_as_many : lines (task 3 (codes "if load a; then load b || exit 3; else exit 3; fi")) 2 ≡ codes "ends 1 first 00 fewest 0 00 end 0\nends 2 first 01 fewest 1 01 end 3\nall 3 states 2\n"
+unfolding tree_of fields joined atoms digits
+first_of_as_many = refl
+
+-- no device command asks: the word is empty
+no_device : lines (task 3 (codes "exit 4")) 0 ≡ codes "ends 1 first . fewest 0 . end 4\nall 1 states 0\n"
+unfolding tree_of fields joined atoms digits
+no_device = refl
+
+-- an ending whose first run comes after the first run of another ending, though more runs have it
+in_order_of_first : lines (task 2 (codes "load a && true; load b")) 3 ≡ codes "ends 2 first 00 fewest 0 00 end 0\nends 2 first 01 fewest 1 01 end 1\nall 4 states 3\n"
+unfolding tree_of fields joined atoms digits
+in_order_of_first = refl
+
+-- cut by either bound, and stopped by a name and by a text
+cut_by_devices : lines (task 2 (codes "while load a; do true; done")) 2 ≡ codes "ends 1 first 00 fewest 0 00 cut devices\nends 2 first 01 fewest 1 01 end 0\nall 3 states 2\n"
+unfolding tree_of fields joined atoms digits
+cut_by_devices = refl
+
+cut_by_steps : lines (task 2 (codes "if load a; then while true; do true; done; fi")) 1 ≡ codes "ends 1 first 0 fewest 0 0 cut steps\nends 1 first 1 fewest 1 1 end 0\nall 2 states 1\n"
+unfolding tree_of fields joined atoms digits
+cut_by_steps = refl
+
+unknown_command : lines (task 2 (codes "load a && boom; load b")) 2 ≡ codes "ends 1 first 0 fewest 0 0 stop unknown boom\nends 1 first 10 fewest 1 10 end 0\nends 1 first 11 fewest 2 11 end 1\nall 3 states 2\n"
+unfolding tree_of fields joined atoms digits
+unknown_command = refl
+
+-- the device list `steady load`: of the four runs that succeed and fail in turn, two are left, and each is one state
+abbrev steady : Text → Task
+steady text = bootcmd (limits (only ((codes "load", record quiet { stays = true }) ∷ [])) 3 20) text
+
+told_again : lines (steady (codes "load; load; exit $?")) 1 ≡ codes "ends 1 first 0 fewest 0 0 end 0\nends 1 first 1 fewest 1 1 end 1\nall 2 states 1\n"
+unfolding tree_of fields joined atoms digits
+told_again = refl
+
+asked_each_time : lines (task 3 (codes "load; load; exit $?")) 3 ≡ codes "ends 2 first 00 fewest 0 00 end 0\nends 2 first 01 fewest 1 01 end 1\nall 4 states 3\n"
+unfolding tree_of fields joined atoms digits
+asked_each_time = refl
+
+-- ---- endings
+
+-- endings of every kind, two of each kind that has a number or a name
+abbrev kinds : List Ending
+kinds =
+    End 0 ∷ End 1 ∷ CutDevices ∷ CutSteps ∷ Unknown (codes "a") ∷ Unknown (codes "b") ∷ Syntax (codes "a") ∷ Syntax (codes "b") ∷ Size
+    ∷ Booted (codes "a") ∷ Booted (codes "b") ∷ []
+
+-- to which of the kinds an ending is equal
+abbrev equals : Ending → List Bool
+equals e = map (ending_eq e) kinds
+
+-- true at one place of eleven
+abbrev only_at : ℕ → List Bool
+only_at n = map (nat_eq n) (0 ∷ 1 ∷ 2 ∷ 3 ∷ 4 ∷ 5 ∷ 6 ∷ 7 ∷ 8 ∷ 9 ∷ 10 ∷ [])
+
+each_equals_itself : map equals kinds ≡ map only_at (0 ∷ 1 ∷ 2 ∷ 3 ∷ 4 ∷ 5 ∷ 6 ∷ 7 ∷ 8 ∷ 9 ∷ 10 ∷ [])
+each_equals_itself = refl
+
+-- ---- words
+
+failures_counted : map failures ([] ∷ (Success ∷ []) ∷ (Failure ∷ []) ∷ (Failure ∷ Success ∷ Failure ∷ []) ∷ []) ≡ 0 ∷ 0 ∷ 1 ∷ 2 ∷ []
+failures_counted = refl
+
+-- the second has fewer failures; the first has fewer; both have equally many
+fewer_second : fewer (Failure ∷ Failure ∷ []) (Failure ∷ []) ≡ Failure ∷ []
+fewer_second = refl
+
+fewer_first : fewer (Failure ∷ []) (Failure ∷ Failure ∷ []) ≡ Failure ∷ []
+fewer_first = refl
+
+fewer_of_as_many : fewer (Success ∷ Failure ∷ []) (Failure ∷ []) ≡ Success ∷ Failure ∷ []
+fewer_of_as_many = refl
+
+-- ---- rows
+
+abbrev row : Ending → ℕ → OutcomeWord → OutcomeWord → Row
+row ending count word fewest = record { ending = ending; count = count; word = word; fewest = fewest }
+
+-- the counts are added, the first word stays, and the word with fewer failures is taken
+joined_row : with_further (row (End 3) 2 (Failure ∷ Failure ∷ []) (Success ∷ Failure ∷ [])) (row (End 3) 5 (Failure ∷ []) []) ≡ row (End 3) 7 (Failure ∷ Failure ∷ []) []
+joined_row = refl
+
+-- another ending comes after the ones that are there
+row_behind : with_row (row (End 0) 2 [] [] ∷ row Size 3 [] [] ∷ []) (row CutSteps 4 [] []) ≡ row (End 0) 2 [] [] ∷ row Size 3 [] [] ∷ row CutSteps 4 [] [] ∷ []
+row_behind = refl
+
+-- a row that is there keeps its place
+row_at_its_place : with_row (row (End 0) 2 [] [] ∷ row Size 3 [] [] ∷ []) (row (End 0) 4 [] []) ≡ row (End 0) 6 [] [] ∷ row Size 3 [] [] ∷ []
+row_at_its_place = refl
+
+-- four runs, in their order
+gathered : gather ((End 1, Success ∷ []) ∷ (End 0, Failure ∷ Success ∷ []) ∷ (End 1, Failure ∷ Failure ∷ Success ∷ []) ∷ (End 0, Failure ∷ Failure ∷ Failure ∷ []) ∷ []) ≡ row (End 1) 2 (Success ∷ []) (Success ∷ []) ∷ row (End 0) 2 (Failure ∷ Success ∷ []) (Failure ∷ Success ∷ []) ∷ []
+gathered = refl
+
+-- both sides of a device command: the counts of both are added; the first word is from the success; the word with the
+-- fewest failures is from the failure, which counts as one
+both_sides : of_both (row (End 3) 2 (Failure ∷ Failure ∷ []) (Failure ∷ Failure ∷ []) ∷ []) (row (End 0) 1 (Success ∷ []) (Success ∷ []) ∷ row (End 3) 5 (Failure ∷ []) [] ∷ []) ≡ row (End 3) 7 (Success ∷ Failure ∷ Failure ∷ []) (Failure ∷ []) ∷ row (End 0) 1 (Failure ∷ Success ∷ []) (Failure ∷ Success ∷ []) ∷ []
+both_sides = refl
+
+-- ---- counts that are too large
+
+greatest_count : most_runs + 1 ≡ 2 ^ 128
+greatest_count = refl
+
+counts_told : map count_text (0 ∷ 12 ∷ (most_runs - 1) ∷ most_runs ∷ (most_runs + 1) ∷ []) ≡ codes "0" ∷ codes "12" ∷ codes "340282366920938463463374607431768211454" ∷ codes "at least 340282366920938463463374607431768211455" ∷ codes "at least 340282366920938463463374607431768211455" ∷ []
+unfolding digits
+counts_told = refl
+
+saturated_rows : map saturated (row Size 7 [] [] ∷ row Size most_runs [] [] ∷ row Size (most_runs + 9) [] [] ∷ []) ≡ row Size 7 [] [] ∷ row Size most_runs [] [] ∷ row Size most_runs [] [] ∷ []
+saturated_rows = refl
+
+-- two counts that each fit, but whose sum does not
+too_great_together : with_row_up (row Size (most_runs - 1) [] [] ∷ []) (row Size 2 [] []) ≡ row Size most_runs [] [] ∷ []
+too_great_together = refl
+
+-- ---- lines
+
+lines_of_rows : endings_text (row (Booted (codes "go")) 3 (Success ∷ Failure ∷ []) [] ∷ row (Syntax (codes "b")) 1 (Failure ∷ []) (Failure ∷ []) ∷ []) 4 17 ≡ codes "ends 3 first 01 fewest 0 . booted go\nends 1 first 1 fewest 1 1 stop syntax b\nall 4 states 17\n"
+unfolding digits
+lines_of_rows = refl
+
+all_are_counted : counted (row Size 3 [] [] ∷ row CutSteps 4 [] [] ∷ []) ≡ 7
+all_are_counted = refl

@@ -1,0 +1,11 @@
+pub mod SideBySide
+pub mod EqualLemmas
+pub mod TreeEqualLemmas
+pub mod AnswerLemmas
+pub mod RowsOfRuns
+pub mod SaturatedCountLemmas
+pub mod NodeLemmas
+mod EndingsExamples
+mod FlowExamples
+pub mod RowLemmas
+pub mod EndingLineLemmas

@@ -1,0 +1,350 @@
+-- Rows of lists of runs: of two lists, of runs after one outcome, of both sides of a device command.
+use Rattle.std.proofs.Common.{ℕ, zero, suc, Bool, true, false, cond, ◌||◌, List, [], ◌∷◌, ◌++◌, map, filter, refl, sym, ap, subst, ◌∙◌, ◌≡◌, inl, inr, arith, ◌+◌, nat_le, eqb-true, eq-eqb}
+use Rattle.std.proofs.lemmas.Bool.{le-leb, lt-leb, leb-true, leb-false}
+use Rattle.std.proofs.lemmas.List.{map-append}
+use Rattle.std.proofs.lemmas.List.Elements.{filter-append}
+use Rattle.std.proofs.lemmas.Slice.Eq.{bytes_eq-Decides}
+use Rattle.std.specs.List.{list_any}
+use Rattle.rehearse_terms.specs.Outcomes.{OutcomeWord, Outcome, Success, Failure, WordKind, Run, Short, Long, is_run_kind, words, beyond, runs_within, IsChoice, failures}
+use Rattle.rehearse_rules.specs.Execution.{Ending, End, CutDevices, CutSteps, Unknown, Syntax, Size, Booted}
+use Rattle.rehearse_states.specs.Endings.{ending_eq, fewer, Row, joined, with_row, merge, one_run, gather, rows_within, in_front, of_both, HasRows, ends, asks}
+
+-- ---- endings
+
+pub ending_same : (a b : Ending) → ending_eq a b ≡ true → a ≡ b
+ending_same (End a) (End b) h = ap End (eqb-true a b h)
+ending_same (End a) CutDevices h = absurd (let f = h in cc)
+ending_same (End a) CutSteps h = absurd (let f = h in cc)
+ending_same (End a) (Unknown b) h = absurd (let f = h in cc)
+ending_same (End a) (Syntax b) h = absurd (let f = h in cc)
+ending_same (End a) Size h = absurd (let f = h in cc)
+ending_same (End a) (Booted b) h = absurd (let f = h in cc)
+ending_same CutDevices CutDevices h = refl
+ending_same CutDevices (End b) h = absurd (let f = h in cc)
+ending_same CutDevices CutSteps h = absurd (let f = h in cc)
+ending_same CutDevices (Unknown b) h = absurd (let f = h in cc)
+ending_same CutDevices (Syntax b) h = absurd (let f = h in cc)
+ending_same CutDevices Size h = absurd (let f = h in cc)
+ending_same CutDevices (Booted b) h = absurd (let f = h in cc)
+ending_same CutSteps CutSteps h = refl
+ending_same CutSteps (End b) h = absurd (let f = h in cc)
+ending_same CutSteps CutDevices h = absurd (let f = h in cc)
+ending_same CutSteps (Unknown b) h = absurd (let f = h in cc)
+ending_same CutSteps (Syntax b) h = absurd (let f = h in cc)
+ending_same CutSteps Size h = absurd (let f = h in cc)
+ending_same CutSteps (Booted b) h = absurd (let f = h in cc)
+ending_same (Unknown a) (Unknown b) h = ap Unknown ((bytes_eq-Decides a b).0 h)
+ending_same (Unknown a) (End b) h = absurd (let f = h in cc)
+ending_same (Unknown a) CutDevices h = absurd (let f = h in cc)
+ending_same (Unknown a) CutSteps h = absurd (let f = h in cc)
+ending_same (Unknown a) (Syntax b) h = absurd (let f = h in cc)
+ending_same (Unknown a) Size h = absurd (let f = h in cc)
+ending_same (Unknown a) (Booted b) h = absurd (let f = h in cc)
+ending_same (Syntax a) (Syntax b) h = ap Syntax ((bytes_eq-Decides a b).0 h)
+ending_same (Syntax a) (End b) h = absurd (let f = h in cc)
+ending_same (Syntax a) CutDevices h = absurd (let f = h in cc)
+ending_same (Syntax a) CutSteps h = absurd (let f = h in cc)
+ending_same (Syntax a) (Unknown b) h = absurd (let f = h in cc)
+ending_same (Syntax a) Size h = absurd (let f = h in cc)
+ending_same (Syntax a) (Booted b) h = absurd (let f = h in cc)
+ending_same Size Size h = refl
+ending_same Size (End b) h = absurd (let f = h in cc)
+ending_same Size CutDevices h = absurd (let f = h in cc)
+ending_same Size CutSteps h = absurd (let f = h in cc)
+ending_same Size (Unknown b) h = absurd (let f = h in cc)
+ending_same Size (Syntax b) h = absurd (let f = h in cc)
+ending_same Size (Booted b) h = absurd (let f = h in cc)
+ending_same (Booted a) (Booted b) h = ap Booted ((bytes_eq-Decides a b).0 h)
+ending_same (Booted a) (End b) h = absurd (let f = h in cc)
+ending_same (Booted a) CutDevices h = absurd (let f = h in cc)
+ending_same (Booted a) CutSteps h = absurd (let f = h in cc)
+ending_same (Booted a) (Unknown b) h = absurd (let f = h in cc)
+ending_same (Booted a) (Syntax b) h = absurd (let f = h in cc)
+ending_same (Booted a) Size h = absurd (let f = h in cc)
+
+pub ending_itself : (a : Ending) → ending_eq a a ≡ true
+ending_itself (End a) = eq-eqb a a refl
+ending_itself CutDevices = refl
+ending_itself CutSteps = refl
+ending_itself (Unknown a) = (bytes_eq-Decides a a).1 refl
+ending_itself (Syntax a) = (bytes_eq-Decides a a).1 refl
+ending_itself Size = refl
+ending_itself (Booted a) = (bytes_eq-Decides a a).1 refl
+
+-- ---- rows
+
+-- what `with_row` does to the first row
+abbrev pub row_if : Bool → Row → List Row → Row → List Row
+row_if b r rs row = elim b [ true ↦ joined r row ∷ rs | false ↦ r ∷ with_row rs row ]
+
+-- rows have this ending
+abbrev pub Stands : Ending → List Row → Type 0
+Stands e rows = list_any (λ r. ending_eq r.ending e) rows ≡ true
+
+stands_if : (b c : Bool) (e : Ending) (r : Row) (rs : List Row) (row : Row) → ending_eq r.ending e ≡ c → (list_any (λ q. ending_eq q.ending e) rs ≡ true → list_any (λ q. ending_eq q.ending e) (with_row rs row) ≡ true) → (c || list_any (λ q. ending_eq q.ending e) rs) ≡ true → list_any (λ q. ending_eq q.ending e) (row_if b r rs row) ≡ true
+stands_if true c e r rs row k ih h = ap (λ (x : Bool). x || list_any (λ q. ending_eq q.ending e) rs) k ∙ h
+stands_if false true e r rs row k ih h = ap (λ (x : Bool). x || list_any (λ q. ending_eq q.ending e) (with_row rs row)) k
+stands_if false false e r rs row k ih h = ap (λ (x : Bool). x || list_any (λ q. ending_eq q.ending e) (with_row rs row)) k ∙ ih h
+
+-- an ending that rows have stays in them
+pub stands_on : (e : Ending) (rs : List Row) (row : Row) → Stands e rs → Stands e (with_row rs row)
+stands_on e [] row h = absurd (let f = h in cc)
+stands_on e (r ∷ rs) row h = stands_if (ending_eq r.ending row.ending) (ending_eq r.ending e) e r rs row refl (λ k. stands_on e rs row k) h
+
+or_true : (a b : Bool) → b ≡ true → (a || b) ≡ true
+or_true true b h = refl
+or_true false b h = h
+
+stands_new_if : (b : Bool) (e : Ending) (r : Row) (rs : List Row) (row : Row) → ending_eq r.ending row.ending ≡ b → row.ending ≡ e → list_any (λ q. ending_eq q.ending e) (with_row rs row) ≡ true → list_any (λ q. ending_eq q.ending e) (row_if b r rs row) ≡ true
+stands_new_if true e r rs row k same h = ap (λ (x : Bool). x || list_any (λ q. ending_eq q.ending e) rs) (sym (ap (λ (x : Ending). ending_eq r.ending x) same) ∙ k)
+stands_new_if false e r rs row k same h = or_true (ending_eq r.ending e) (list_any (λ q. ending_eq q.ending e) (with_row rs row)) h
+
+-- the ending of a row that was put is in the rows
+pub stands_new : (e : Ending) (rs : List Row) (row : Row) → row.ending ≡ e → Stands e (with_row rs row)
+stands_new e [] row same = ap (λ (x : Bool). x || false) (ap (λ (x : Ending). ending_eq x e) same ∙ ending_itself e)
+stands_new e (r ∷ rs) row same = stands_new_if (ending_eq r.ending row.ending) e r rs row refl same (stands_new e rs row same)
+
+-- ---- rows with other endings
+
+-- rows do not have this ending
+abbrev pub Misses : Ending → List Row → Type 0
+Misses e rows = list_any (λ r. ending_eq r.ending e) rows ≡ false
+
+-- no two rows have the same ending
+abbrev pub AreApart : List Row → Type 0
+AreApart [] = Unit {0}
+AreApart (r ∷ rs) = Misses r.ending rs × AreApart rs
+
+pub either_left : (a b : Bool) → (a || b) ≡ false → a ≡ false
+either_left true b h = absurd (let f = h in cc)
+either_left false b h = refl
+
+pub either_right : (a b : Bool) → (a || b) ≡ false → b ≡ false
+either_right true b h = absurd (let f = h in cc)
+either_right false b h = h
+
+pub neither : (a b : Bool) → a ≡ false → b ≡ false → (a || b) ≡ false
+neither true b h k = absurd (let f = h in cc)
+neither false b h k = k
+
+other_way_if : (b : Bool) (x y : Ending) → ending_eq x y ≡ false → ending_eq y x ≡ b → ending_eq y x ≡ false
+other_way_if true x y h k = absurd (let e : ending_eq x y ≡ true = ap (λ (z : Ending). ending_eq x z) (ending_same y x k) ∙ ending_itself x in cc)
+other_way_if false x y h k = k
+
+other_way : (x y : Ending) → ending_eq x y ≡ false → ending_eq y x ≡ false
+other_way x y h = other_way_if (ending_eq y x) x y h refl
+
+misses_if : (b : Bool) (e : Ending) (r : Row) (rs : List Row) (u : Row) → ending_eq u.ending e ≡ false → Misses e (r ∷ rs) → Misses e (with_row rs u) → Misses e (row_if b r rs u)
+misses_if true e r rs u k h l = h
+misses_if false e r rs u k h l = neither (ending_eq r.ending e) (list_any (λ q. ending_eq q.ending e) (with_row rs u)) (either_left (ending_eq r.ending e) (list_any (λ q. ending_eq q.ending e) rs) h) l
+
+misses_on : (e : Ending) (rs : List Row) (u : Row) → ending_eq u.ending e ≡ false → Misses e rs → Misses e (with_row rs u)
+misses_on e [] u k h = neither (ending_eq u.ending e) false k refl
+misses_on e (r ∷ rs) u k h = misses_if (ending_eq r.ending u.ending) e r rs u k h (misses_on e rs u k (either_right (ending_eq r.ending e) (list_any (λ q. ending_eq q.ending e) rs) h))
+
+apart_if : (b : Bool) (r : Row) (rs : List Row) (u : Row) → ending_eq r.ending u.ending ≡ b → AreApart (r ∷ rs) → AreApart (with_row rs u) → AreApart (row_if b r rs u)
+apart_if true r rs u k h l = h
+apart_if false r rs u k h l = (misses_on r.ending rs u (other_way r.ending u.ending k) h.0, l)
+
+-- no two rows get the same ending
+pub apart_on : (rs : List Row) (u : Row) → AreApart rs → AreApart (with_row rs u)
+apart_on [] u h = (refl, tt)
+apart_on (r ∷ rs) u h = apart_if (ending_eq r.ending u.ending) r rs u refl h (apart_on rs u h.1)
+
+-- ---- the word with the fewest failures
+
+fewer_if : (p q s : Bool) (a b c : OutcomeWord) → nat_le (failures a) (failures b) ≡ p → nat_le (failures b) (failures c) ≡ q → nat_le (failures a) (failures c) ≡ s
+    → cond (nat_le (failures (cond p a b)) (failures c)) (cond p a b) c ≡ cond (nat_le (failures a) (failures (cond q b c))) a (cond q b c)
+fewer_if true true true a b c e f g = ap (λ (s : Bool). cond s a c) g ∙ sym (ap (λ (s : Bool). cond s a b) e)
+fewer_if true true false a b c e f g = absurd (let x = leb-true (failures a) (failures b) e in let y = leb-true (failures b) (failures c) f in let z = leb-false (failures a) (failures c) g in omega arith)
+fewer_if true false s a b c e f g = refl
+fewer_if false true s a b c e f g = ap (λ (s : Bool). cond s b c) f ∙ sym (ap (λ (s : Bool). cond s a b) e)
+fewer_if false false true a b c e f g = absurd (let x = leb-false (failures a) (failures b) e in let y = leb-false (failures b) (failures c) f in let z = leb-true (failures a) (failures c) g in omega arith)
+fewer_if false false false a b c e f g = ap (λ (s : Bool). cond s b c) f ∙ sym (ap (λ (s : Bool). cond s a c) g)
+
+fewer_assoc : (a b c : OutcomeWord) → fewer (fewer a b) c ≡ fewer a (fewer b c)
+fewer_assoc a b c = fewer_if (nat_le (failures a) (failures b)) (nat_le (failures b) (failures c)) (nat_le (failures a) (failures c)) a b c refl refl refl
+
+le_suc_if : (p : Bool) (a b : ℕ) → nat_le a b ≡ p → nat_le (suc a) (suc b) ≡ p
+le_suc_if true a b h = le-leb (suc a) (suc b) (let l = leb-true a b h in omega arith)
+le_suc_if false a b h = lt-leb (suc a) (suc b) (let l = leb-false a b h in omega arith)
+
+le_suc : (a b : ℕ) → nat_le (suc a) (suc b) ≡ nat_le a b
+le_suc a b = le_suc_if (nat_le a b) a b refl
+
+cond_front : (d : Outcome) (b : Bool) (v w : OutcomeWord) → d ∷ cond b v w ≡ cond b (d ∷ v) (d ∷ w)
+cond_front d true v w = refl
+cond_front d false v w = refl
+
+pub fewer_front : (d : Outcome) (v w : OutcomeWord) → d ∷ fewer v w ≡ fewer (d ∷ v) (d ∷ w)
+fewer_front Success v w = cond_front Success (nat_le (failures v) (failures w)) v w
+fewer_front Failure v w = cond_front Failure (nat_le (failures v) (failures w)) v w ∙ ap (λ (b : Bool). cond b (Failure ∷ v) (Failure ∷ w)) (sym (le_suc (failures v) (failures w)))
+
+joined_assoc : (r t u : Row) → joined (joined r t) u ≡ joined r (joined t u)
+joined_assoc r t u =
+    ap (λ (n : ℕ). record r { count = n; fewest = fewer (fewer r.fewest t.fewest) u.fewest }) (let e : r.count + t.count + u.count ≡ r.count + (t.count + u.count) = omega arith in e)
+    ∙ ap (λ (w : OutcomeWord). record r { count = r.count + (t.count + u.count); fewest = w }) (fewer_assoc r.fewest t.fewest u.fewest)
+
+-- ---- rows that are put
+
+-- rows of two endings, put in either order
+swap_if : (a b : Bool) (r : Row) (rs : List Row) (v u : Row) → ending_eq v.ending u.ending ≡ false → ending_eq r.ending v.ending ≡ a → ending_eq r.ending u.ending ≡ b → (b ≡ false → with_row (with_row rs v) u ≡ with_row (with_row rs u) v) → with_row (row_if a r rs v) u ≡ with_row (row_if b r rs u) v
+swap_if true true r rs v u d j k h = absurd (let e = sym (sym (ap (λ (x : Ending). ending_eq x u.ending) (ending_same r.ending v.ending j)) ∙ k) ∙ d in cc)
+swap_if true false r rs v u d j k h =
+    ap (λ (x : Bool). row_if x (joined r v) rs u) k
+    ∙ sym (ap (λ (x : Bool). row_if x r (with_row rs u) v) j)
+swap_if false true r rs v u d j k h =
+    ap (λ (x : Bool). row_if x r (with_row rs v) u) k
+    ∙ sym (ap (λ (x : Bool). row_if x (joined r u) rs v) j)
+swap_if false false r rs v u d j k h =
+    ap (λ (x : Bool). row_if x r (with_row rs v) u) k
+    ∙ ap (λ (x : List Row). r ∷ x) (h refl)
+    ∙ sym (ap (λ (x : Bool). row_if x r (with_row rs u) v) j)
+
+later_stands : (b c : Bool) → b ≡ false → (b || c) ≡ true → c ≡ true
+later_stands true c e h = absurd (let f = e in cc)
+later_stands false c e h = h
+
+swap : (rs : List Row) (v u : Row) → ending_eq v.ending u.ending ≡ false → Stands u.ending rs → with_row (with_row rs v) u ≡ with_row (with_row rs u) v
+swap [] v u d h = absurd (let f = h in cc)
+swap (r ∷ rs) v u d h = swap_if (ending_eq r.ending v.ending) (ending_eq r.ending u.ending) r rs v u d refl refl (λ k. swap rs v u d (later_stands (ending_eq r.ending u.ending) (list_any (λ q. ending_eq q.ending u.ending) rs) k h))
+
+-- a row whose ending is there may be put before the rows with other endings
+put_first : (qs ts : List Row) (u : Row) → Misses u.ending ts → Stands u.ending qs → with_row (merge qs ts) u ≡ merge (with_row qs u) ts
+put_first qs [] u d h = refl
+put_first qs (v ∷ vs) u d h =
+    put_first (with_row qs v) vs u (either_right (ending_eq v.ending u.ending) (list_any (λ q. ending_eq q.ending u.ending) vs) d) (stands_on u.ending qs v h)
+    ∙ ap (λ (x : List Row). merge x vs) (swap qs v u (either_left (ending_eq v.ending u.ending) (list_any (λ q. ending_eq q.ending u.ending) vs) d) h)
+
+-- two rows of one ending
+twice_if : (a : Bool) (r : Row) (rs : List Row) (t u : Row) → ending_eq r.ending t.ending ≡ a → t.ending ≡ u.ending → with_row (with_row rs t) u ≡ with_row rs (joined t u) → with_row (row_if a r rs t) u ≡ row_if a r rs (joined t u)
+twice_if true r rs t u k same h =
+    ap (λ (x : Bool). row_if x (joined r t) rs u) (sym (ap (λ (x : Ending). ending_eq r.ending x) same) ∙ k)
+    ∙ ap (λ (x : Row). x ∷ rs) (joined_assoc r t u)
+twice_if false r rs t u k same h =
+    ap (λ (x : Bool). row_if x r (with_row rs t) u) (sym (ap (λ (x : Ending). ending_eq r.ending x) same) ∙ k)
+    ∙ ap (λ (x : List Row). r ∷ x) h
+
+twice : (rs : List Row) (t u : Row) → t.ending ≡ u.ending → with_row (with_row rs t) u ≡ with_row rs (joined t u)
+twice [] t u same = ap (λ (x : Bool). row_if x t [] u) (sym (ap (λ (x : Ending). ending_eq t.ending x) same) ∙ ending_itself t.ending)
+twice (r ∷ rs) t u same = twice_if (ending_eq r.ending t.ending) r rs t u refl same (twice rs t u same)
+
+-- a row put into rows that are then merged
+put_later_if : (a : Bool) (rs : List Row) (t : Row) (ts : List Row) (u : Row) → Misses t.ending ts → ending_eq t.ending u.ending ≡ a → ((qs : List Row) → merge qs (with_row ts u) ≡ with_row (merge qs ts) u) → merge rs (row_if a t ts u) ≡ with_row (merge (with_row rs t) ts) u
+put_later_if true rs t ts u d k h =
+    let same : t.ending ≡ u.ending = ending_same t.ending u.ending k in
+    ap (λ (x : List Row). merge x ts) (sym (twice rs t u same)) ∙ sym (put_first (with_row rs t) ts u (subst (λ (e : Ending). Misses e ts) same d) (stands_new u.ending rs t same))
+put_later_if false rs t ts u d k h = h (with_row rs t)
+
+put_later : (rs ts : List Row) (u : Row) → AreApart ts → merge rs (with_row ts u) ≡ with_row (merge rs ts) u
+put_later rs [] u d = refl
+put_later rs (t ∷ ts) u d = put_later_if (ending_eq t.ending u.ending) rs t ts u d.0 refl (λ qs. put_later qs ts u d.1)
+
+pub merge_assoc : (rs ts us : List Row) → AreApart ts → merge rs (merge ts us) ≡ merge (merge rs ts) us
+merge_assoc rs ts [] d = refl
+merge_assoc rs ts (u ∷ us) d = merge_assoc rs (with_row ts u) us (apart_on ts u d) ∙ ap (λ (x : List Row). merge x us) (put_later rs ts u d)
+
+merge_append : (rs ts us : List Row) → merge rs (ts ++ us) ≡ merge (merge rs ts) us
+merge_append rs [] us = refl
+merge_append rs (t ∷ ts) us = merge_append (with_row rs t) ts us
+
+-- the law of two lists of runs
+pub gather_append : (xs ys : List (Ending × OutcomeWord)) → gather (xs ++ ys) ≡ merge (gather xs) (gather ys)
+gather_append xs ys =
+    ap (λ (x : List Row). merge [] x) (map-append one_run xs ys)
+    ∙ merge_append [] (map one_run xs) (map one_run ys)
+    ∙ sym (merge_assoc (gather xs) [] (map one_run ys) tt)
+
+-- ---- runs after one outcome
+
+put_behind_if : (b : Bool) (d : Outcome) (r : Row) (rs : List Row) (row : Row) → map (in_front d) (with_row rs row) ≡ with_row (map (in_front d) rs) (in_front d row) → map (in_front d) (row_if b r rs row) ≡ row_if b (in_front d r) (map (in_front d) rs) (in_front d row)
+put_behind_if true d r rs row h =
+    ap (λ (w : OutcomeWord). record (in_front d r) { count = r.count + row.count; fewest = w } ∷ map (in_front d) rs) (fewer_front d r.fewest row.fewest)
+put_behind_if false d r rs row h = ap (λ (x : List Row). in_front d r ∷ x) h
+
+put_behind : (d : Outcome) (rs : List Row) (row : Row) → map (in_front d) (with_row rs row) ≡ with_row (map (in_front d) rs) (in_front d row)
+put_behind d [] row = refl
+put_behind d (r ∷ rs) row = put_behind_if (ending_eq r.ending row.ending) d r rs row (put_behind d rs row)
+
+pub merge_behind : (d : Outcome) (rs ts : List Row) → map (in_front d) (merge rs ts) ≡ merge (map (in_front d) rs) (map (in_front d) ts)
+merge_behind d rs [] = refl
+merge_behind d rs (t ∷ ts) = merge_behind d (with_row rs t) ts ∙ ap (λ (x : List Row). merge x (map (in_front d) ts)) (put_behind d rs t)
+
+singles_behind : (d : Outcome) (ending : OutcomeWord → Ending) (ws : List OutcomeWord) → map one_run (map (λ w. (ending w, w)) (map (λ w. d ∷ w) ws)) ≡ map (in_front d) (map one_run (map (λ w. (ending (d ∷ w), w)) ws))
+singles_behind d ending [] = refl
+singles_behind d ending (w ∷ ws) = ap (λ (x : List Row). one_run (ending (d ∷ w), d ∷ w) ∷ x) (singles_behind d ending ws)
+
+pub gather_behind : (d : Outcome) (ending : OutcomeWord → Ending) (ws : List OutcomeWord) → gather (map (λ w. (ending w, w)) (map (λ w. d ∷ w) ws)) ≡ map (in_front d) (gather (map (λ w. (ending (d ∷ w), w)) ws))
+gather_behind d ending ws = ap (merge []) (singles_behind d ending ws) ∙ sym (merge_behind d [] (map one_run (map (λ w. (ending (d ∷ w), w)) ws)))
+
+-- ---- both sides of a device command
+
+abbrev Kinds : Type 0
+Kinds = OutcomeWord → WordKind
+
+cond_map : (f : OutcomeWord → OutcomeWord) (b : Bool) (x : OutcomeWord) (ys zs : List OutcomeWord) → zs ≡ map f ys → cond b (f x ∷ zs) zs ≡ map f (cond b (x ∷ ys) ys)
+cond_map f true x ys zs e = ap (λ (l : List OutcomeWord). f x ∷ l) e
+cond_map f false x ys zs e = e
+
+filter_map : (p : OutcomeWord → Bool) (f : OutcomeWord → OutcomeWord) (xs : List OutcomeWord) → filter p (map f xs) ≡ map f (filter (λ x. p (f x)) xs)
+filter_map p f [] = refl
+filter_map p f (x ∷ xs) = cond_map f (p (f x)) x (filter (λ x. p (f x)) xs) (filter p (map f xs)) (filter_map p f xs)
+
+cond_none : (b : Bool) (x : OutcomeWord) (ys : List OutcomeWord) → b ≡ false → ys ≡ [] → cond b (x ∷ ys) ys ≡ []
+cond_none true x ys h e = cc
+cond_none false x ys h e = e
+
+filter_none : (p : OutcomeWord → Bool) (xs : List OutcomeWord) → ((x : OutcomeWord) → p x ≡ false) → filter p xs ≡ []
+filter_none p [] h = refl
+filter_none p (x ∷ xs) h = cond_none (p x) x (filter p xs) (h x) (filter_none p xs h)
+
+behind : Kinds → ℕ → Outcome → List OutcomeWord
+behind kind n d = map (λ w. d ∷ w) (runs_within (beyond d kind) n)
+
+both_is : (kind : Kinds) (n : ℕ) → filter (λ w. is_run_kind (kind w)) (map (λ w. Success ∷ w) (words n) ++ map (λ w. Failure ∷ w) (words n)) ≡ behind kind n Success ++ behind kind n Failure
+unfolding behind
+both_is kind n =
+    let p = λ (w : OutcomeWord). is_run_kind (kind w) in
+    let split = filter-append p (map (λ w. Success ∷ w) (words n)) (map (λ w. Failure ∷ w) (words n)) in
+    let left = filter_map p (λ w. Success ∷ w) (words n) in
+    let right = filter_map p (λ w. Failure ∷ w) (words n) in
+    cc
+
+none_behind : (kind : Kinds) (n : ℕ) → ((d : Outcome) (w : OutcomeWord) → kind (d ∷ w) ≡ Long) → behind kind n Success ++ behind kind n Failure ≡ []
+unfolding behind
+none_behind kind n others =
+    let none = λ (d : Outcome). filter_none (λ w. is_run_kind (kind (d ∷ w))) (words n) (λ w. ap is_run_kind (others d w)) in
+    rw (none Success, none Failure) refl
+
+runs_here : (kind : Kinds) (n : ℕ) → kind [] ≡ Run → ((d : Outcome) (w : OutcomeWord) → kind (d ∷ w) ≡ Long) → runs_within kind n ≡ [] ∷ []
+runs_here kind zero here others = rw here refl
+runs_here kind (suc n) here others = rw here (ap (λ (l : List OutcomeWord). [] ∷ l) (both_is kind n ∙ none_behind kind n others))
+
+runs_past : (kind : Kinds) (n : ℕ) → kind [] ≡ Short → runs_within kind (suc n) ≡ behind kind n Success ++ behind kind n Failure
+runs_past kind n asked = rw asked (both_is kind n)
+
+shown : (OutcomeWord → Ending) → OutcomeWord → Ending × OutcomeWord
+shown ending w = (ending w, w)
+
+-- the law of both sides
+pub rows_past : (kind : Kinds) (ending : OutcomeWord → Ending) (n : ℕ) → kind [] ≡ Short → rows_within kind ending (suc n) ≡ of_both (rows_within (beyond Success kind) (λ w. ending (Success ∷ w)) n) (rows_within (beyond Failure kind) (λ w. ending (Failure ∷ w)) n)
+unfolding behind
+rows_past kind ending n asked =
+    ap (λ (ws : List OutcomeWord). gather (map (λ w. (ending w, w)) ws)) (runs_past kind n asked)
+    ∙ ap gather (map-append (λ w. (ending w, w)) (behind kind n Success) (behind kind n Failure))
+    ∙ gather_append (map (λ w. (ending w, w)) (behind kind n Success)) (map (λ w. (ending w, w)) (behind kind n Failure))
+    ∙ ap (λ (x : List Row). merge x (gather (map (λ w. (ending w, w)) (behind kind n Failure)))) (gather_behind Success ending (runs_within (beyond Success kind) n))
+    ∙ ap (λ (x : List Row). merge (map (in_front Success) (rows_within (beyond Success kind) (λ w. ending (Success ∷ w)) n)) x) (gather_behind Failure ending (runs_within (beyond Failure kind) n))
+
+pub rows_here : (kind : Kinds) (ending : OutcomeWord → Ending) (n : ℕ) → kind [] ≡ Run → ((d : Outcome) (w : OutcomeWord) → kind (d ∷ w) ≡ Long) → rows_within kind ending n ≡ one_run (ending [], []) ∷ []
+rows_here kind ending n here others = ap (λ (ws : List OutcomeWord). gather (map (λ w. (ending w, w)) ws)) (runs_here kind n here others)
+
+-- rows that are made from the ends are the rows
+pub are_rows : (kind : Kinds) (ending : OutcomeWord → Ending) (rows : List Row) (n : ℕ) → HasRows kind ending rows → IsChoice n kind → rows ≡ rows_within kind ending n
+are_rows kind ending rows n (ends here others) c = sym (rows_here kind ending n here others)
+are_rows kind ending rows zero (asks asked w l) c = absurd (let e = c.0 in cc)
+are_rows kind ending rows (suc n) (asks asked w l) (inl c) = absurd (let e = c.0 in cc)
+are_rows kind ending rows (suc n) (asks {won = won} {lost = lost} asked w l) (inr c) =
+    ap (λ (x : List Row). of_both x lost) (are_rows (beyond Success kind) (λ v. ending (Success ∷ v)) won n w (c.1 Success))
+    ∙ ap (λ (x : List Row). of_both (rows_within (beyond Success kind) (λ v. ending (Success ∷ v)) n) x) (are_rows (beyond Failure kind) (λ v. ending (Failure ∷ v)) lost n l (c.1 Failure))
+    ∙ sym (rows_past kind ending n asked)

@@ -1,0 +1,36 @@
+-- Counts up to the greatest count.
+use Rattle.std.proofs.Common.{ℕ, ◌+◌, min, Bool, true, false, List, [], ◌∷◌, map, refl, ap, ◌∙◌, ◌≡◌, arith}
+use Rattle.rehearse_terms.specs.Outcomes.{Outcome, Success, Failure}
+use Rattle.rehearse_states.specs.Endings.{Row, ending_eq, joined, with_row, merge, in_front, of_both}
+use Rattle.rehearse_states.specs.RowsShown.{most_runs, saturated, joined_up, with_row_up, merge_up, of_both_up}
+
+sum_up : (a b m : ℕ) → min (a + b) m ≡ min (min a m + min b m) m
+sum_up a b m = omega arith
+
+abbrev row_up_if : Bool → Row → List Row → Row → List Row
+row_up_if b r rs row = elim b [ true ↦ joined_up r row ∷ rs | false ↦ r ∷ with_row_up rs row ]
+
+abbrev row_if : Bool → Row → List Row → Row → List Row
+row_if b r rs row = elim b [ true ↦ joined r row ∷ rs | false ↦ r ∷ with_row rs row ]
+
+put_up_if : (b : Bool) (r : Row) (rs : List Row) (row : Row) → map saturated (with_row rs row) ≡ with_row_up (map saturated rs) (saturated row) → map saturated (row_if b r rs row) ≡ row_up_if b (saturated r) (map saturated rs) (saturated row)
+put_up_if true r rs row h = ap (λ (n : ℕ). record (joined r row) { count = n } ∷ map saturated rs) (sum_up r.count row.count most_runs)
+put_up_if false r rs row h = ap (λ (x : List Row). saturated r ∷ x) h
+
+put_up : (rs : List Row) (row : Row) → map saturated (with_row rs row) ≡ with_row_up (map saturated rs) (saturated row)
+put_up [] row = refl
+put_up (r ∷ rs) row = put_up_if (ending_eq r.ending row.ending) r rs row (put_up rs row)
+
+merge_is_up : (rs ts : List Row) → map saturated (merge rs ts) ≡ merge_up (map saturated rs) (map saturated ts)
+merge_is_up rs [] = refl
+merge_is_up rs (t ∷ ts) = merge_is_up (with_row rs t) ts ∙ ap (λ (x : List Row). merge_up x (map saturated ts)) (put_up rs t)
+
+front_up : (d : Outcome) (rs : List Row) → map saturated (map (in_front d) rs) ≡ map (in_front d) (map saturated rs)
+front_up d [] = refl
+front_up d (r ∷ rs) = ap (λ (x : List Row). in_front d (saturated r) ∷ x) (front_up d rs)
+
+pub both_up : (won lost : List Row) → map saturated (of_both won lost) ≡ of_both_up (map saturated won) (map saturated lost)
+both_up won lost =
+    merge_is_up (map (in_front Success) won) (map (in_front Failure) lost)
+    ∙ ap (λ (x : List Row). merge_up x (map saturated (map (in_front Failure) lost))) (front_up Success won)
+    ∙ ap (λ (x : List Row). merge_up (map (in_front Success) (map saturated won)) x) (front_up Failure lost)

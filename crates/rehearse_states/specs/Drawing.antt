@@ -1,0 +1,26 @@
+-- The nodes of a flow while they are made. A node comes after the nodes to which it leads, and places count from 0.
+-- Ours.
+use Rattle.std.specs.Prelude.{◌≡◌, ℕ, ◌-◌, List, ◌++◌, map, Vec}
+use Rattle.std.specs.declared.alloc.Global.{Global}
+use Rattle.text.specs.TextsShown.{bytes_of_words}
+use Rattle.rehearse_rules.specs.EndingsShown.{halt_shown}
+use Rattle.rehearse_states.specs.Flow.{Node, Asks, Ends}
+use Rattle.rehearse_states.specs.declared.flow.Node as rt
+use Rattle.rehearse_states.specs.declared.flow.Node.TheVariants as made
+
+abbrev pub node_shown : rt.Node → Node
+node_shown (made.Asks words success failure) = Asks (bytes_of_words words.items) success failure
+node_shown (made.Ends halt) = Ends (halt_shown halt)
+
+abbrev pub nodes_shown : Vec rt.Node Global → List Node
+nodes_shown nodes = map node_shown nodes.items
+
+-- the old nodes, and more nodes after them
+abbrev pub HasMore : (old new : List Node) → Type 0
+HasMore old new = (more : List Node) × (new ≡ old ++ more)
+
+-- ---- the order of the lines: the last node made is the first
+
+abbrev pub renumbered : ℕ → Node → Node
+renumbered count (Asks words success failure) = Asks words (count - success) (count - failure)
+renumbered count (Ends ending) = Ends ending

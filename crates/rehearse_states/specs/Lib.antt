@@ -1,0 +1,8 @@
+pub mod Cores
+pub mod Words
+pub mod Endings
+pub mod Flow
+pub mod Drawing
+pub mod Summaries
+pub mod RowsShown
+pub mod EndingLines

@@ -1,0 +1,63 @@
+-- What contracts see of rows and summaries. Ours.
+use Rattle.std.specs.Prelude.{ℕ, ◌+◌, min, List, [], ◌∷◌, map, reverse, Bool, true, false, Vec}
+use Rattle.std.specs.declared.alloc.Global.{Global}
+use Rattle.rehearse_terms.specs.Outcomes.{OutcomeWord, Success, Failure}
+use Rattle.rehearse_rules.specs.EndingsShown.{halt_shown}
+use Rattle.rehearse_rules.specs.Execution.{outcome_when}
+use Rattle.rehearse_states.specs.Endings.{Row, ending_eq, fewer, in_front}
+use Rattle.rehearse_states.specs.Summaries.{Summary}
+use Rattle.rehearse_states.specs.declared.rows.Row as rt
+use Rattle.rehearse_states.specs.declared.summary.Summary as kept
+
+-- the greatest count; a greater one is written as this
+abbrev pub most_runs : ℕ
+most_runs = 340282366920938463463374607431768211455
+
+abbrev pub saturated : Row → Row
+saturated r = record r { count = min r.count most_runs }
+
+-- `joined`, `with_row` and what is built from them, with counts up to the greatest
+abbrev pub joined_up : Row → Row → Row
+joined_up r row = record r { count = min (r.count + row.count) most_runs; fewest = fewer r.fewest row.fewest }
+
+abbrev pub with_row_up : List Row → Row → List Row
+with_row_up [] row = row ∷ []
+with_row_up (r ∷ rs) row =
+    elim (ending_eq r.ending row.ending) [
+      | true ↦ joined_up r row ∷ rs
+      | false ↦ r ∷ with_row_up rs row
+    ]
+
+abbrev pub merge_up : List Row → List Row → List Row
+merge_up rows [] = rows
+merge_up rows (r ∷ rs) = merge_up (with_row_up rows r) rs
+
+abbrev pub of_both_up : (won lost : List Row) → List Row
+of_both_up won lost = merge_up (map (in_front Success) won) (map (in_front Failure) lost)
+
+-- the outcomes of a word, which the code holds with the last one first
+abbrev pub word_shown : Vec Bool Global → OutcomeWord
+word_shown v = reverse (map outcome_when v.items)
+
+abbrev pub row_shown : rt.Row → Row
+row_shown r = record {
+  ending = halt_shown r.halt;
+  count = r.count;
+  word = word_shown r.word;
+  fewest = word_shown r.fewest;
+}
+
+abbrev pub rows_shown : Vec rt.Row Global → List Row
+rows_shown rows = map row_shown rows.items
+
+abbrev pub summary_shown : kept.Summary → Summary
+summary_shown s = record {
+  rows = rows_shown s.rows;
+  steps = s.steps;
+  devices = s.devices;
+  cut_steps = s.cut_steps;
+  cut_devices = s.cut_devices;
+}
+
+abbrev pub saturated_summary : Summary → Summary
+saturated_summary s = record s { rows = map saturated s.rows }

@@ -1,0 +1,152 @@
+//! The lines that say how runs end.
+ghost use Rattle.std.specs.Prelude.{◌≡◌, ◌++◌, map, min, reverse, codes, decimal, IfOk, OnOk};
+ghost use Rattle.std.specs.List.{flat_map};
+ghost use Rattle.text.specs.Escapes.{word_escaped, word_form};
+ghost use Rattle.rehearse_rules.specs.Listing.{digit_when, line, last_line, spelled};
+ghost use Rattle.rehearse_rules.specs.EndingsShown.{halt_shown};
+ghost use Rattle.rehearse_rules.specs.Execution.{outcome_when};
+ghost use Rattle.rehearse_terms.specs.Outcomes.{failures};
+ghost use Rattle.rehearse_states.specs.EndingLines.{count_text, row_text, endings_text, counted};
+ghost use Rattle.rehearse_states.specs.RowsShown.{most_runs, row_shown, rows_shown};
+
+use crate::rows::{Row, failures};
+use bootstore_state::StoreError;
+use rehearse_rules::Halt;
+use std::alloc::Global;
+use text::Escaped;
+
+/// Adds bytes at the end of a text.
+pub(crate) fn put(text: &mut Vec<u8>, bytes: &[u8]) -> Result<(), StoreError>
+    ensures { OnOk result (text.new.items ≡ text.old.items ++ bytes.now) }
+{
+    text.extend_from_slice(bytes)?;
+    Ok(())
+}
+
+/// Adds a number at the end of a text.
+pub(crate) fn put_number(text: &mut Vec<u8>, number: u128) -> Result<(), StoreError>
+    ensures { OnOk result (text.new.items ≡ text.old.items ++ decimal number) }
+{
+    let mut digits = itoa::Buffer::new();
+    put(text, digits.format(number).as_bytes())
+}
+
+/// Adds a number of runs.
+fn put_count(text: &mut Vec<u8>, count: u128) -> Result<(), StoreError>
+    ensures { OnOk result (text.new.items ≡ text.old.items ++ count_text count) }
+{
+    if count == u128::MAX {
+        put(text, b"at least ")?;
+    }
+    put_number(text, count)
+}
+
+/// The digits of a word, whose last outcome comes first in `word`.
+fn digits_of(alloc: Global, word: &[bool]) -> Result<Vec<u8>, StoreError>
+    ensures { IfOk result (λ digits. digits.items ≡ reverse (map digit_when word.now)) }
+{
+    let mut digits = Vec::new(alloc);
+    for success in word {
+        digits.push(if *success { b'0' } else { b'1' })?;
+    }
+    digits.reverse();
+    Ok(digits)
+}
+
+/// Adds the digits of a word, or a dot for the empty word.
+fn put_digits(alloc: Global, text: &mut Vec<u8>, word: &[bool]) -> Result<(), StoreError>
+    ensures { OnOk result (text.new.items ≡ text.old.items
+        ++ spelled (reverse (map outcome_when word.now))) }
+{
+    if word.is_empty() {
+        return put(text, b".");
+    }
+    let digits = digits_of(alloc, word)?;
+    put(text, &digits)?;
+    Ok(())
+}
+
+/// Adds bytes in word form.
+pub(crate) fn put_word(text: &mut Vec<u8>, word: &[u8]) -> Result<(), StoreError>
+    ensures { OnOk result (text.new.items ≡ text.old.items ++ word_form word.now) }
+{
+    if word.is_empty() {
+        return put(text, b"\\e");
+    }
+    for byte in word {
+        put(text, Escaped::in_word(*byte).as_slice())?;
+    }
+    Ok(())
+}
+
+/// Adds the last line of the record of a run with this ending.
+pub(crate) fn put_ending(text: &mut Vec<u8>, halt: &Halt) -> Result<(), StoreError>
+    ensures { OnOk result (text.new.items ≡ text.old.items ++ last_line (halt_shown halt.now)) }
+{
+    match halt {
+        Halt::End(status) => {
+            put(text, b"end ")?;
+            put_number(text, u128::from(*status))
+        }
+        Halt::CutDevices => put(text, b"cut devices"),
+        Halt::CutSteps => put(text, b"cut steps"),
+        Halt::Unknown(name) => {
+            put(text, b"stop unknown ")?;
+            put_word(text, name)
+        }
+        Halt::Syntax(name) => {
+            put(text, b"stop syntax ")?;
+            put_word(text, name)
+        }
+        Halt::Size => put(text, b"stop size"),
+        Halt::Booted(name) => {
+            put(text, b"booted ")?;
+            put_word(text, name)
+        }
+    }
+}
+
+/// Adds the line of an ending.
+fn put_row(alloc: Global, text: &mut Vec<u8>, row: &Row) -> Result<(), StoreError>
+    ensures { OnOk result (text.new.items ≡ text.old.items ++ line (row_text (row_shown row.now))) }
+{
+    put(text, b"ends ")?;
+    put_count(text, row.count)?;
+    put(text, b" first ")?;
+    put_digits(alloc, text, &row.word)?;
+    put(text, b" fewest ")?;
+    put_number(text, failures(&row.fewest) as u128)?;
+    put(text, b" ")?;
+    put_digits(alloc, text, &row.fewest)?;
+    put(text, b" ")?;
+    put_ending(text, &row.halt)?;
+    put(text, b"\n")
+}
+
+/// How many runs there are in all, or the greatest number if that is smaller.
+fn total(rows: &Vec<Row>) -> u128
+    ensures { result ≡ min (counted (rows_shown rows.now)) most_runs }
+{
+    let mut count: u128 = 0;
+    for row in rows {
+        count = count.saturating_add(row.count);
+    }
+    count
+}
+
+/// The lines of all endings, and one for all runs.
+pub fn text_of(alloc: Global, rows: &Vec<Row>, states: u32) -> Result<Vec<u8>, StoreError>
+    ensures { IfOk result (λ text. text.items ≡ endings_text (rows_shown rows.now)
+        (counted (rows_shown rows.now)) states) }
+{
+    let mut text = Vec::new(alloc);
+    for row in rows {
+        put_row(alloc, &mut text, row)?;
+    }
+    put(&mut text, b"all ")?;
+    put_count(&mut text, total(rows))?;
+    put(&mut text, b" states ")?;
+    put_number(&mut text, u128::from(states))?;
+    put(&mut text, b"\n")?;
+    Ok(text)
+}

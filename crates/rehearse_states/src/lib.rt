@@ -1,0 +1,22 @@
+//! States that runs can meet: what the runs still to come of one depend on, and the rows and the flow that say how they end.
+#![tactic(auto)]
+
+mod cores;
+mod ending_lines;
+mod environments;
+mod flow;
+mod flow_lines;
+mod hashing;
+mod rows;
+mod summary;
+mod words;
+
+pub use cores::{Core, has_core, take_core};
+pub use ending_lines::text_of;
+pub use environments::Environments;
+pub use flow::{Flow, Node};
+pub use flow_lines::flow_text_of;
+pub use hashing::hash_of;
+pub use rows::{Row, copy_rows};
+pub use summary::{Summary, of_end, of_sides};
+pub use words::words_at;

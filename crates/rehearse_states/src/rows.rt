@@ -1,0 +1,196 @@
+//! Rows: how runs end, how many do, and which is the first.
+ghost use Rattle.std.specs.Prelude.{◌≡◌, ◌≤◌, ◌∷◌, [], map, reverse, IfOk};
+ghost use Rattle.rehearse_rules.specs.EndingsShown.{halt_shown};
+ghost use Rattle.rehearse_rules.specs.Execution.{outcome_when};
+ghost use Rattle.rehearse_states.specs.RowsShown.{row_shown, rows_shown, word_shown, joined_up, with_row_up, merge_up};
+ghost use Rattle.rehearse_terms.specs.Outcomes.{failures};
+ghost use Rattle.rehearse_states.specs.Endings.{fewer, one_run, in_front, ending_eq};
+
+use bootstore_state::StoreError;
+use rehearse_rules::Halt;
+use std::alloc::Global;
+
+/// An ending, and the runs that have it. A word holds whether each of its device commands
+/// succeeded, the last one first.
+#[derive(Drop)]
+pub struct Row {
+    /// How these runs end.
+    pub halt: Halt,
+    /// How many runs there are, or 2^128 - 1 if there are more.
+    pub count: u128,
+    /// The word of the first of these runs.
+    pub word: Vec<bool>,
+    /// The word of the first of these runs with the fewest failures.
+    pub fewest: Vec<bool>,
+}
+
+/// The row of one run that is over.
+pub(crate) fn one_row(alloc: Global, halt: Halt) -> Result<Vec<Row>, StoreError>
+    ensures { IfOk result (λ rows. rows_shown rows ≡ one_run (halt_shown halt, []) ∷ []) }
+{
+    let mut rows = Vec::new(alloc);
+    rows.push(Row {
+        halt,
+        count: 1,
+        word: Vec::new(alloc),
+        fewest: Vec::new(alloc),
+    })?;
+    Ok(rows)
+}
+
+/// Whether both end alike.
+pub(crate) fn same_halt(a: &Halt, b: &Halt) -> bool
+    ensures { result ≡ ending_eq (halt_shown a.now) (halt_shown b.now) }
+{
+    match (a, b) {
+        (Halt::End(x), Halt::End(y)) => x == y,
+        (Halt::CutDevices, Halt::CutDevices) => true,
+        (Halt::CutSteps, Halt::CutSteps) => true,
+        (Halt::Unknown(x), Halt::Unknown(y)) => x == y,
+        (Halt::Syntax(x), Halt::Syntax(y)) => x == y,
+        (Halt::Size, Halt::Size) => true,
+        (Halt::Booted(x), Halt::Booted(y)) => x == y,
+        _ => false,
+    }
+}
+
+pub(crate) fn copy_halt(halt: &Halt) -> Result<Halt, StoreError>
+    ensures { IfOk result (λ copy. halt_shown copy ≡ halt_shown halt.now) }
+{
+    Ok(match halt {
+        Halt::End(status) => Halt::End(*status),
+        Halt::CutDevices => Halt::CutDevices,
+        Halt::CutSteps => Halt::CutSteps,
+        Halt::Unknown(name) => Halt::Unknown(name.clone()?),
+        Halt::Syntax(name) => Halt::Syntax(name.clone()?),
+        Halt::Size => Halt::Size,
+        Halt::Booted(name) => Halt::Booted(name.clone()?),
+    })
+}
+
+/// A copy of rows.
+pub fn copy_rows(alloc: Global, rows: &Vec<Row>) -> Result<Vec<Row>, StoreError>
+    ensures { IfOk result (λ copy. rows_shown copy ≡ rows_shown rows.now) }
+{
+    let mut copies = Vec::new(alloc);
+    for row in rows {
+        let halt = copy_halt(&row.halt)?;
+        let word = Vec::from_slice(alloc, &row.word)?;
+        let fewest = Vec::from_slice(alloc, &row.fewest)?;
+        copies.push(Row {
+            halt,
+            count: row.count,
+            word,
+            fewest,
+        })?;
+    }
+    Ok(copies)
+}
+
+/// Puts an outcome before each word of the rows.
+pub(crate) fn put_in_front(
+    alloc: Global,
+    rows: Vec<Row>,
+    success: bool,
+) -> Result<Vec<Row>, StoreError>
+    ensures { IfOk result (λ made. rows_shown made ≡ map (in_front (outcome_when success))
+        (rows_shown rows)) }
+{
+    let mut made = Vec::new(alloc);
+    for row in rows {
+        let mut word = row.word;
+        word.push(success)?;
+        let mut fewest = row.fewest;
+        fewest.push(success)?;
+        made.push(Row {
+            halt: row.halt,
+            count: row.count,
+            word,
+            fewest,
+        })?;
+    }
+    Ok(made)
+}
+
+/// 1 if a device command failed, else 0.
+fn failed(success: bool) -> usize
+    ensures count { result ≡ failures (outcome_when success ∷ []) }
+    ensures within { result ≤ 1 }
+{
+    if success { 0 } else { 1 }
+}
+
+/// How many device commands of a word failed.
+pub(crate) fn failures(word: &[bool]) -> usize
+    ensures { result ≡ failures (reverse (map outcome_when word.now)) }
+{
+    let mut count = 0;
+    for success in word {
+        count += failed(*success);
+    }
+    count
+}
+
+/// The word with fewer failures; if they have equally many, the first.
+fn fewer(alloc: Global, first: Vec<bool>, second: &Vec<bool>) -> Result<Vec<bool>, StoreError>
+    ensures { IfOk result (λ word. word_shown word ≡ fewer (word_shown first)
+        (word_shown second.now)) }
+{
+    if failures(&first) <= failures(second) {
+        return Ok(first);
+    }
+    let copy = Vec::from_slice(alloc, second)?;
+    Ok(copy)
+}
+
+/// The row of the runs of both rows, which end alike.
+fn join(alloc: Global, row: Row, further: &Row) -> Result<Row, StoreError>
+    ensures { IfOk result (λ made. row_shown made ≡ joined_up (row_shown row)
+        (row_shown further.now)) }
+{
+    let fewest = fewer(alloc, row.fewest, &further.fewest)?;
+    Ok(Row {
+        halt: row.halt,
+        count: row.count.saturating_add(further.count),
+        word: row.word,
+        fewest,
+    })
+}
+
+/// Adds a row to rows: its runs join the row that ends alike, or the row comes after the others.
+fn put_row(alloc: Global, rows: Vec<Row>, row: Row) -> Result<Vec<Row>, StoreError>
+    ensures { IfOk result (λ made. rows_shown made ≡ with_row_up (rows_shown rows)
+        (row_shown row)) }
+{
+    let mut made = Vec::new(alloc);
+    let mut is_there = false;
+    for old in rows {
+        if !is_there && same_halt(&old.halt, &row.halt) {
+            is_there = true;
+            let both = join(alloc, old, &row)?;
+            made.push(both)?;
+        } else {
+            made.push(old)?;
+        }
+    }
+    if !is_there {
+        made.push(row)?;
+    }
+    Ok(made)
+}
+
+/// Adds rows to rows, one after another.
+pub(crate) fn merge_rows(
+    alloc: Global,
+    rows: Vec<Row>,
+    others: Vec<Row>,
+) -> Result<Vec<Row>, StoreError>
+    ensures { IfOk result (λ made. rows_shown made ≡ merge_up (rows_shown rows)
+        (rows_shown others)) }
+{
+    let mut made = rows;
+    for row in others {
+        made = put_row(alloc, made, row)?;
+    }
+    Ok(made)
+}

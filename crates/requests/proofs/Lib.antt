@@ -1,6 +1,0 @@
-pub mod EntryLemmas
-pub mod AnswerLemmas
-mod CommandLineExamples
-pub mod CalledLemmas
-mod CalledExamples
-mod LongForms

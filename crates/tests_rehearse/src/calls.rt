@@ -1,0 +1,151 @@
+//! The calls of the product that rows make. None of these functions promises anything, so that the proof of a caller
+//! has little to look at.
+
+use crate::case::Case;
+use bootstore_state::Store;
+use device_list::{Devices, DevicesError};
+use envtools::Env;
+use hushlang::{
+    ExpandError, Lexer, Script, SyntaxError, Token, Vars, Word, expand, expand_one, parse,
+};
+use output::{Out, Over};
+use rehearse_endings::{EndingsAsk, endings_env};
+use rehearse_runs::{Finish, RehearseError, Runs, WordKind, resume_point, try_word, write_listing};
+use rehearse_terms::{Bounds, Page, RunBounds};
+use std::alloc::Global;
+
+pub(crate) fn script_of(alloc: Global, text: &[u8]) -> Result<Script, SyntaxError> {
+    parse(alloc, text)
+}
+
+pub(crate) fn next_token<'a>(lexer: &mut Lexer<'a>) -> Result<Option<Token<'a>>, SyntaxError> {
+    lexer.next()
+}
+
+pub(crate) fn fields_of<V: Vars>(
+    alloc: Global,
+    words: &[Word],
+    vars: &V,
+) -> Result<Vec<Vec<u8>>, ExpandError> {
+    expand(alloc, words, vars)
+}
+
+pub(crate) fn joined<V: Vars>(
+    alloc: Global,
+    word: &Word,
+    vars: &V,
+) -> Result<Vec<u8>, ExpandError> {
+    expand_one(alloc, word, vars)
+}
+
+pub(crate) fn devices_of(alloc: Global, list: &[u8]) -> Result<Devices, DevicesError> {
+    Devices::parse(alloc, list)
+}
+
+/// What is rehearsed: the environment and the device list of a case, its variable and its bounds.
+#[derive(Drop)]
+pub(crate) struct Given<'a> {
+    pub(crate) alloc: Global,
+    pub(crate) env: Env,
+    pub(crate) devices: Devices,
+    pub(crate) name: &'a [u8],
+    pub(crate) bounds: Bounds,
+}
+
+/// The environment with the variables of a case, in their order.
+pub(crate) fn env_of(case: &Case) -> anyhow::Result<Env> {
+    let mut env = Env::new(case.alloc);
+    for (name, value) in &case.variables {
+        env.set(name, value)?;
+    }
+    Ok(env)
+}
+
+/// What a case rehearses.
+pub(crate) fn given_of(case: &Case) -> anyhow::Result<Given<'_>> {
+    Ok(Given {
+        alloc: case.alloc,
+        env: env_of(case)?,
+        devices: devices_of(case.alloc, &case.devices)?,
+        name: &case.name,
+        bounds: case.bounds,
+    })
+}
+
+impl Given<'_> {
+    /// All runs, or those after a word.
+    pub(crate) fn runs<S: Store>(
+        &self,
+        after: Option<&[u8]>,
+    ) -> Result<Runs<'_, S>, RehearseError> {
+        let (alloc, env, devices) = (self.alloc, &self.env, &self.devices);
+        match after {
+            None => Runs::new(alloc, env, devices, self.name, self.bounds),
+            Some(word) => Runs::after(alloc, env, devices, self.name, self.bounds, word),
+        }
+    }
+
+    /// What kind of word a text is.
+    pub(crate) fn kind<S: Store>(&self, word: &[u8]) -> Result<WordKind, RehearseError> {
+        let (alloc, env, devices) = (self.alloc, &self.env, &self.devices);
+        try_word::<S>(alloc, env, devices, self.name, self.bounds, word)
+    }
+}
+
+/// The word of the next run, if there is one.
+pub(crate) fn next_word<S: Store>(
+    alloc: Global,
+    runs: &mut Runs<'_, S>,
+) -> anyhow::Result<Option<Vec<u8>>> {
+    match runs.next()? {
+        Some(view) => Ok(Some(view.word().to_vec(alloc)?)),
+        None => Ok(None),
+    }
+}
+
+/// How many steps were begun.
+pub(crate) fn work_of<S: Store>(runs: &Runs<'_, S>) -> u64 {
+    runs.work()
+}
+
+/// Writes a listing, up to a limit, which is none where it is 0.
+pub(crate) fn list<S: Store, O: Out>(
+    runs: &mut Runs<'_, S>,
+    names: &[&[u8]],
+    limit: u32,
+    out: &mut O,
+) -> Result<Finish, RehearseError> {
+    let limit = if limit == 0 { None } else { Some(limit) };
+    write_listing(runs, names, Page { limit }, out)
+}
+
+/// The word after which a listing goes on that was broken off, and how many bytes of it stand. Before the end of the
+/// first record they are `none` and 0.
+pub(crate) fn resumed_at(written: &[u8]) -> (&[u8], usize) {
+    match resume_point(written) {
+        Some(point) => (point.word, point.length),
+        None => (b"none", 0),
+    }
+}
+
+/// The endings of all runs of a case, or their flow, within so many device commands a run and so many states.
+pub(crate) fn endings<S: Store>(
+    case: &Case,
+    devices: u32,
+    states: u32,
+    flow: bool,
+) -> anyhow::Result<(Result<(), RehearseError>, Vec<u8>)> {
+    let Some(bounds) = RunBounds::new(devices, 1_000) else {
+        anyhow::bail!("no bounds");
+    };
+    let ask = EndingsAsk {
+        name: &case.name,
+        bounds,
+        states,
+        flow,
+    };
+    let mut out = Over::new(Vec::new(case.alloc));
+    let env = env_of(case)?;
+    let answer = endings_env::<S, _>(case.alloc, &env, &case.devices, &ask, &mut out);
+    Ok((answer, out.into_writer()))
+}

@@ -1,0 +1,68 @@
+//! Device lists.
+
+use crate::calls::devices_of;
+use crate::case::Case;
+use device_list::{Devices, Effect, LeftSide, Setting};
+use std::alloc::{AllocError, Global};
+use tests_rows::{shown, unescaped, words_of};
+
+/// A setting as a device list writes it, after a space.
+fn setting_of(alloc: Global, setting: &Setting) -> Result<String, AllocError> {
+    let value = shown(alloc, &setting.value)?;
+    match &setting.left {
+        LeftSide::Variable(name) => {
+            let name = shown(alloc, name)?;
+            format!(in alloc; " {name}={value}")
+        }
+        LeftSide::WordAt(at) => {
+            let at = at.saturating_add(1);
+            format!(in alloc; " @{at}={value}")
+        }
+        LeftSide::LastWord => format!(in alloc; " @last={value}"),
+    }
+}
+
+/// An effect: `final` if it ends the run, else `sets`, and its settings.
+fn effect_of(alloc: Global, effect: Effect<'_>) -> Result<String, AllocError> {
+    let start = if effect.ends { "final" } else { "sets" };
+    let mut line = String::from_str(alloc, start)?;
+    for setting in effect.sets {
+        line.push_str(setting_of(alloc, setting)?.as_str())?;
+    }
+    Ok(line)
+}
+
+/// Whether a text is a device list.
+fn list(alloc: Global, says: &str) -> anyhow::Result<String> {
+    let _ = devices_of(alloc, &unescaped(alloc, says)?)?;
+    Ok(String::from_str(alloc, "a device list")?)
+}
+
+/// Whether a device list has a name.
+fn has(alloc: Global, devices: &Devices, says: &str) -> anyhow::Result<String> {
+    let has = devices.has(&unescaped(alloc, says)?);
+    Ok(format!(in alloc; "{has}")?)
+}
+
+/// The effect that a device list gives a call.
+fn effect(alloc: Global, devices: &Devices, says: &str) -> anyhow::Result<String> {
+    let (name, words) = says.split_once(' ').unwrap_or((says, ""));
+    let (name, words) = (unescaped(alloc, name)?, words_of(alloc, words)?);
+    let answer = match devices.effect(&name, &words) {
+        Some(effect) => effect_of(alloc, effect),
+        None => String::from_str(alloc, "no such call"),
+    };
+    Ok(answer?)
+}
+
+/// The answer to a row of device lists.
+pub(crate) fn listed(case: &Case, word: &str, says: &str) -> anyhow::Result<String> {
+    if word == "list" {
+        return list(case.alloc, says);
+    }
+    let devices = devices_of(case.alloc, &case.devices)?;
+    match word {
+        "has" => has(case.alloc, &devices, says),
+        _ => effect(case.alloc, &devices, says),
+    }
+}

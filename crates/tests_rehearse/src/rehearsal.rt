@@ -1,0 +1,291 @@
+//! Rehearsals of a case, over both stores.
+
+use crate::both::agreed;
+use crate::calls::{self, Given, given_of, list, next_word, resumed_at, work_of};
+use crate::case::Case;
+use bootstore_copies::Plain;
+use bootstore_state::Store;
+use bootstore_trail::Trail;
+use output::Over;
+use rehearse_runs::{Ending, Runs};
+use std::alloc::Global;
+use tests_rows::{number, shown, slices, text_of, unescaped};
+
+/// Which page is asked for: after a word, and up to a limit, which is none where it is 0.
+#[derive(Drop)]
+struct Page {
+    after: Option<Vec<u8>>,
+    limit: u32,
+}
+
+/// What the next word of a row says.
+#[derive(Clone, Copy)]
+enum Key {
+    After,
+    Limit,
+    Other,
+}
+
+/// What stands after a word.
+fn key_of(word: &str) -> Key {
+    match word {
+        "after" => Key::After,
+        "limit" => Key::Limit,
+        _ => Key::Other,
+    }
+}
+
+impl Page {
+    /// The page that a row asks for.
+    fn new(alloc: Global, says: &str) -> anyhow::Result<Page> {
+        let mut page = Page {
+            after: None,
+            limit: 0,
+        };
+        let mut key = Key::Other;
+        for word in says.split(' ') {
+            match key {
+                Key::After => page.after = Some(unescaped(alloc, word)?),
+                Key::Limit => page.limit = number(word)?,
+                Key::Other => {}
+            }
+            key = key_of(word);
+        }
+        Ok(page)
+    }
+
+    /// The runs of a page.
+    fn runs<'a, S: Store>(&self, given: &'a Given<'_>) -> anyhow::Result<Runs<'a, S>> {
+        match &self.after {
+            None => Ok(given.runs::<S>(None)?),
+            Some(word) => Ok(given.runs::<S>(Some(word))?),
+        }
+    }
+}
+
+/// The records of a page, and how it finishes.
+fn listing<S: Store>(case: &Case, given: &Given<'_>, page: &Page) -> anyhow::Result<String> {
+    let mut runs = page.runs::<S>(given)?;
+    let mut out = Over::new(Vec::new(case.alloc));
+    let names = slices(case.alloc, &case.names)?;
+    let finish = list(&mut runs, &names, page.limit, &mut out)?;
+    let lines = text_of(case.alloc, &out.into_writer())?;
+    Ok(format!(in case.alloc; "{lines}answer {finish:?}")?)
+}
+
+/// The word that was given last, that of the next run, and the steps that were begun then.
+fn told_behind<S: Store>(alloc: Global, runs: &mut Runs<'_, S>) -> anyhow::Result<String> {
+    let given = text_of(alloc, runs.given().unwrap_or(b"none"))?;
+    let next = match next_word(alloc, runs)? {
+        Some(word) => text_of(alloc, &word)?,
+        None => String::from_str(alloc, "none")?,
+    };
+    let work = work_of(runs);
+    Ok(format!(in alloc; "given {given}, next {next}, work {work}")?)
+}
+
+/// How a page finishes, the work after it, and the answers then.
+fn told_behind_page<S: Store>(given: &Given<'_>, page: &Page) -> anyhow::Result<String> {
+    let mut runs = page.runs::<S>(given)?;
+    let mut out = Over::new(Vec::new(given.alloc));
+    let finish = list(&mut runs, &[], page.limit, &mut out)?;
+    let work = work_of(&runs);
+    let told = told_behind(given.alloc, &mut runs)?;
+    Ok(format!(in given.alloc; "{finish:?}, work {work}, {told}")?)
+}
+
+/// What a listing answers that has room for so many bytes, the bytes, and the answers then.
+fn broken<S: Store>(given: &Given<'_>, says: &str) -> anyhow::Result<String> {
+    let alloc = given.alloc;
+    let size = number(says)?;
+    let mut runs = given.runs::<S>(None)?;
+    let mut room = vec![in alloc; 0u8; size as usize]?;
+    let mut out = Over::new(room.as_mut_slice());
+    let answer = list(&mut runs, &[], 0, &mut out);
+    let _ = out.into_writer();
+    let bytes = shown(alloc, &room)?;
+    let told = told_behind(alloc, &mut runs)?;
+    Ok(format!(in alloc; "{answer:?}\n{bytes}\n{told}")?)
+}
+
+/// The work after a start word, the words with the work after each, and that of all.
+fn works<S: Store>(given: &Given<'_>, page: &Page) -> anyhow::Result<String> {
+    let alloc = given.alloc;
+    let mut runs = page.runs::<S>(given)?;
+    let begun = work_of(&runs);
+    let mut words = String::from_str(alloc, "runs")?;
+    for _ in 0..70_000u32 {
+        let Some(word) = next_word(alloc, &mut runs)? else {
+            break;
+        };
+        let (word, work) = (text_of(alloc, &word)?, work_of(&runs));
+        words.push_str(format!(in alloc; " {word}:{work}")?.as_str())?;
+    }
+    let work = work_of(&runs);
+    Ok(format!(in alloc; "begun {begun}, {words}, work {work}")?)
+}
+
+/// The words of the runs, or of those after a word, and how many steps were begun.
+fn words<S: Store>(given: &Given<'_>, after: Option<&[u8]>) -> anyhow::Result<(Vec<Vec<u8>>, u64)> {
+    let mut runs = given.runs::<S>(after)?;
+    let mut words = Vec::new(given.alloc);
+    for _ in 0..70_000u32 {
+        let Some(word) = next_word(given.alloc, &mut runs)? else {
+            break;
+        };
+        words.push(word)?;
+    }
+    let work = work_of(&runs);
+    Ok((words, work))
+}
+
+/// How many runs there are, whether their words grow in dictionary order, and how many steps were begun.
+fn grown<S: Store>(given: &Given<'_>) -> anyhow::Result<String> {
+    let (words, work) = words::<S>(given, None)?;
+    let mut last: &[u8] = b"";
+    let mut do_grow = true;
+    for word in &words {
+        do_grow = do_grow && last < word.as_slice();
+        last = word;
+    }
+    let runs = words.len();
+    Ok(format!(in given.alloc; "{runs} runs, their words grow: {do_grow}, {work} steps")?)
+}
+
+/// The words of the runs, and whether after each the runs go on with those that stand after it.
+fn onward<S: Store>(given: &Given<'_>) -> anyhow::Result<String> {
+    let alloc = given.alloc;
+    let (all, _) = words::<S>(given, None)?;
+    let mut text = String::from_str(alloc, "words")?;
+    let mut rest = all.as_slice();
+    let mut go_on = true;
+    for word in &all {
+        rest = rest.get(1..).unwrap_or(&[]);
+        let (behind, _) = words::<S>(given, Some(word))?;
+        go_on = go_on && behind.as_slice() == rest;
+        text.push(' ')?;
+        text.push_str(text_of(alloc, word)?.as_str())?;
+    }
+    Ok(format!(in alloc; "{text}\nthe runs go on behind each: {go_on}")?)
+}
+
+/// Where the whole listing goes on if so many bytes of it stand, a line for each place.
+fn resumed<S: Store>(case: &Case, given: &Given<'_>) -> anyhow::Result<String> {
+    let alloc = case.alloc;
+    let mut runs = given.runs::<S>(None)?;
+    let mut out = Over::new(Vec::new(alloc));
+    let _ = list(&mut runs, &slices(alloc, &case.names)?, 0, &mut out)?;
+    let listing = out.into_writer();
+    let mut lines = String::new(alloc);
+    let mut last = usize::MAX;
+    for size in 0..=listing.len() {
+        let (word, length) = resumed_at(&listing[..size]);
+        if length != last {
+            let word = text_of(alloc, word)?;
+            let line = format!(in alloc; "from {size} bytes on: behind {word}, after {length}\n")?;
+            lines.push_str(line.as_str())?;
+        }
+        last = length;
+    }
+    Ok(lines)
+}
+
+/// What an ending is called.
+fn name_of(ending: Ending<'_>) -> &'static str {
+    match ending {
+        Ending::End(_) => "end",
+        Ending::CutDevices => "cut devices",
+        Ending::CutSteps => "cut steps",
+        Ending::Unknown(_) => "stop unknown",
+        Ending::Syntax(_) => "stop syntax",
+        Ending::Size => "stop size",
+        Ending::Booted(_) => "booted",
+    }
+}
+
+/// How the first run ends.
+fn end<S: Store>(given: &Given<'_>) -> anyhow::Result<String> {
+    let alloc = given.alloc;
+    let mut runs = given.runs::<S>(None)?;
+    match runs.next()? {
+        Some(view) => Ok(String::from_str(alloc, name_of(view.ending()))?),
+        None => anyhow::bail!("no run"),
+    }
+}
+
+/// What kind of word each is.
+fn kinds<S: Store>(given: &Given<'_>, says: &str) -> anyhow::Result<String> {
+    let alloc = given.alloc;
+    let mut kinds = String::from_str(alloc, "kinds")?;
+    for word in says.split(' ') {
+        let kind = given.kind::<S>(&unescaped(alloc, word)?)?;
+        kinds.push_str(format!(in alloc; " {kind:?}")?.as_str())?;
+    }
+    Ok(kinds)
+}
+
+/// The answer to a row of a page.
+fn told_of_page<S: Store>(
+    case: &Case,
+    given: &Given<'_>,
+    word: &str,
+    says: &str,
+) -> anyhow::Result<String> {
+    let page = Page::new(case.alloc, says)?;
+    match word {
+        "told" => told_behind_page::<S>(given, &page),
+        "work" => works::<S>(given, &page),
+        _ => listing::<S>(case, given, &page),
+    }
+}
+
+/// The answer to a row of what is rehearsed.
+fn told_of<S: Store>(
+    case: &Case,
+    given: &Given<'_>,
+    word: &str,
+    says: &str,
+) -> anyhow::Result<String> {
+    match word {
+        "try" => kinds::<S>(given, says),
+        "broken" => broken::<S>(given, says),
+        "grow" => grown::<S>(given),
+        "onward" => onward::<S>(given),
+        "end" => end::<S>(given),
+        "resumed" => resumed::<S>(case, given),
+        _ => told_of_page::<S>(case, given, word, says),
+    }
+}
+
+/// The answer to a row over one store.
+fn told_over<S: Store>(case: &Case, word: &str, says: &str) -> anyhow::Result<String> {
+    let given = given_of(case)?;
+    told_of::<S>(case, &given, word, says)
+}
+
+/// The answer to a row over both stores.
+pub(crate) fn told(case: &Case, word: &str, says: &str) -> anyhow::Result<String> {
+    let plain = told_over::<Plain>(case, word, says);
+    let trail = told_over::<Trail>(case, word, says);
+    agreed(case.alloc, plain, trail)
+}
+
+/// The endings of all runs, or the flow, and what the call answers, over one store.
+fn endings_over<S: Store>(case: &Case, word: &str, says: &str) -> anyhow::Result<String> {
+    let (devices, states) = says.split_once(' ').unwrap_or((says, ""));
+    let (answer, lines) = calls::endings::<S>(
+        case,
+        number(devices)?,
+        number(states)?,
+        word == "flow",
+    )?;
+    let lines = text_of(case.alloc, &lines)?;
+    Ok(format!(in case.alloc; "{lines}answer {answer:?}")?)
+}
+
+/// The same over both stores.
+pub(crate) fn endings(case: &Case, word: &str, says: &str) -> anyhow::Result<String> {
+    let plain = endings_over::<Plain>(case, word, says);
+    let trail = endings_over::<Trail>(case, word, says);
+    agreed(case.alloc, plain, trail)
+}

@@ -1,0 +1,11 @@
+//! Rows of tests: lines of a text, each a word and what it says, and the transcript of a program that answers them. The
+//! programs `tests_rehearse` and `tests_ubtool` read them.
+#![tactic(auto)]
+
+mod answers;
+mod escapes;
+mod words;
+
+pub use answers::{Rows, push_lines, transcript};
+pub use escapes::{shown, unescaped};
+pub use words::{number, slices, text_of, words_of};

@@ -1,0 +1,323 @@
+-- Worked calls, computed: what the words ask for, and that `clap` accepts them or not.
+use Rattle.std.proofs.Common.{◌≡◌, true, false, refl, List, [], ◌∷◌, length, Some, None, codes}
+use Rattle.std.specs.Prelude.{nat_lt, option_and_then}
+use Rattle.clap.specs.Words.{Text, fault_of, subcommand_of}
+use Rattle.clap.proofs.OnLiterals.{clap_on_literals}
+use Rattle.envimage.specs.declared.image.ByteOrder.TheVariants.{Big, Little}
+use Rattle.envtools.specs.Printing.{plain}
+use Rattle.envtools.specs.declared.print_form.PrintForm.{PrintForm}
+use Rattle.tool_words.specs.CommandAnswers.{asked}
+use Rattle.tool_words.specs.Answered.{IsAccepted}
+use Rattle.tool_words.specs.declared.called.CalledAs.{CalledAs}
+use Rattle.tool_words.specs.declared.called.CalledAs.TheVariants.{FwSetenv, Ubtool}
+use Rattle.tool_words.specs.Asked.{Asked, ending, header_needs_one, input_scripted, lock_needs_folder, lock_of, needs_name, page_with, printing, rehearsing, script_and_name, scripted, setting, too_many_devices, word_alone}
+use Rattle.rehearse_terms.specs.Asking.{Alone, Listed, whole_page}
+use Rattle.tool_words.specs.CommandLine.{ubtool}
+
+-- the words are accepted and ask for this
+abbrev AsksForAs : CalledAs → List Text → Asked → Type 0
+AsksForAs called words what = IsAccepted ubtool words × (asked called words ≡ Some what)
+
+-- the words are accepted and ask for this, called as ubtool
+abbrev pub AsksFor : List Text → Asked → Type 0
+AsksFor words what = AsksForAs Ubtool words what
+
+-- the value alone
+abbrev pub bare : PrintForm
+bare = record plain { header = false }
+
+-- `clap` accepts the words, and the program does not
+abbrev IsUnread : List Text → Type 0
+IsUnread words = IsAccepted ubtool words × (asked Ubtool words ≡ None)
+
+-- the words are refused
+abbrev IsRefused : List Text → Type 0
+IsRefused words = nat_lt 0 (length (fault_of ubtool words)) ≡ true
+
+-- rehearse -d d.txt --limit 1 z
+rehearsal : AsksFor
+    (codes "rehearse" ∷ codes "-d" ∷ codes "d.txt" ∷ codes "--limit" ∷ codes "1" ∷ codes "z" ∷ [])
+    (rehearsing (codes "/etc/fw_env.config") (codes "d.txt") (record {
+      variable = codes "bootcmd";
+      bounds = record { devices = 16; steps = 10000; failures = None };
+      wanted = Listed None (page_with (Some 1));
+      names = codes "z" ∷ [];
+    }) Little)
+unfolding clap_on_literals ubtool
+rehearsal = (refl, refl)
+
+-- printenv -n
+no_name_printed : AsksFor (codes "printenv" ∷ codes "-n" ∷ []) header_needs_one
+unfolding clap_on_literals ubtool
+no_name_printed = (refl, refl)
+
+-- printenv -n a b
+two_names_printed : AsksFor (codes "printenv" ∷ codes "-n" ∷ codes "a" ∷ codes "b" ∷ []) header_needs_one
+unfolding clap_on_literals ubtool
+two_names_printed = (refl, refl)
+
+-- printenv -- -x
+dashed_name : AsksFor (codes "printenv" ∷ codes "--" ∷ codes "-x" ∷ [])
+    (printing (codes "/etc/fw_env.config") plain (codes "-x" ∷ []) Little false)
+unfolding clap_on_literals ubtool
+dashed_name = (refl, refl)
+
+-- printenv -0
+null_ended : AsksFor (codes "printenv" ∷ codes "-0" ∷ [])
+    (printing (codes "/etc/fw_env.config") (record plain { null = true }) [] Little false)
+unfolding clap_on_literals ubtool
+null_ended = (refl, refl)
+
+-- printenv --escaped -n a
+escaped_value : AsksFor (codes "printenv" ∷ codes "--escaped" ∷ codes "-n" ∷ codes "a" ∷ [])
+    (printing (codes "/etc/fw_env.config") (record bare { escaped = true }) (codes "a" ∷ []) Little false)
+unfolding clap_on_literals ubtool
+escaped_value = (refl, refl)
+
+-- printenv --one-copy a
+printed_from_one : AsksFor (codes "printenv" ∷ codes "--one-copy" ∷ codes "a" ∷ [])
+    (printing (codes "/etc/fw_env.config") plain (codes "a" ∷ []) Little true)
+unfolding clap_on_literals ubtool
+printed_from_one = (refl, refl)
+
+-- setenv --one-copy a
+deleted_in_one : AsksFor (codes "setenv" ∷ codes "--one-copy" ∷ codes "a" ∷ [])
+    (setting (codes "/etc/fw_env.config") (codes "a") [] Little true)
+unfolding clap_on_literals ubtool
+deleted_in_one = (refl, refl)
+
+-- fw_setenv --one-copy -s -
+input_script_in_one : AsksForAs FwSetenv (codes "setenv" ∷ codes "--one-copy" ∷ codes "-s" ∷ codes "-" ∷ [])
+    (input_scripted (codes "/etc/fw_env.config") Little true)
+unfolding clap_on_literals ubtool
+input_script_in_one = (refl, refl)
+
+-- setenv -s f --one-copy
+script_in_one : AsksFor (codes "setenv" ∷ codes "-s" ∷ codes "f" ∷ codes "--one-copy" ∷ [])
+    (scripted (codes "/etc/fw_env.config") (codes "f") Little true)
+unfolding clap_on_literals ubtool
+script_in_one = (refl, refl)
+
+-- rehearse --one-copy
+rehearsed_from_one : IsRefused (codes "rehearse" ∷ codes "-d" ∷ codes "d" ∷ codes "--one-copy" ∷ [])
+unfolding clap_on_literals ubtool
+rehearsed_from_one = refl
+
+-- setenv
+no_name_set : AsksFor (codes "setenv" ∷ []) needs_name
+unfolding clap_on_literals ubtool
+no_name_set = (refl, refl)
+
+-- setenv a 1 2
+words_set : AsksFor (codes "setenv" ∷ codes "a" ∷ codes "1" ∷ codes "2" ∷ [])
+    (setting (codes "/etc/fw_env.config") (codes "a") (codes "1" ∷ codes "2" ∷ []) Little false)
+unfolding clap_on_literals ubtool
+words_set = (refl, refl)
+
+-- setenv -s f a
+script_beside_name : AsksFor (codes "setenv" ∷ codes "-s" ∷ codes "f" ∷ codes "a" ∷ []) script_and_name
+unfolding clap_on_literals ubtool
+script_beside_name = (refl, refl)
+
+-- setenv -l d a 1
+locked_change : AsksFor (codes "setenv" ∷ codes "-l" ∷ codes "d" ∷ codes "a" ∷ codes "1" ∷ [])
+    (setting (codes "/etc/fw_env.config") (codes "a") (codes "1" ∷ []) Little false)
+unfolding clap_on_literals ubtool
+locked_change = (refl, refl)
+
+-- printenv --lock d a: the folder that is named
+named_lock : option_and_then (λ s. lock_of s.1) (subcommand_of ubtool (codes "printenv" ∷ codes "--lock" ∷ codes "d" ∷ codes "a" ∷ []))
+    ≡ Some (codes "d")
+unfolding clap_on_literals ubtool
+named_lock = refl
+
+-- printenv -l ''
+no_folder_printing : AsksFor (codes "printenv" ∷ codes "-l" ∷ [] ∷ []) lock_needs_folder
+unfolding clap_on_literals ubtool
+no_folder_printing = (refl, refl)
+
+-- setenv --lock= -s f a: the folder is refused first
+no_folder_setting : AsksFor (codes "setenv" ∷ codes "--lock=" ∷ codes "-s" ∷ codes "f" ∷ codes "a" ∷ []) lock_needs_folder
+unfolding clap_on_literals ubtool
+no_folder_setting = (refl, refl)
+
+-- printenv -l '': no lock is taken
+unnamed_lock : option_and_then (λ s. lock_of s.1) (subcommand_of ubtool (codes "printenv" ∷ codes "-l" ∷ [] ∷ [])) ≡ None
+unfolding clap_on_literals ubtool
+unnamed_lock = refl
+
+-- rehearse -l d
+locked_rehearsal : IsRefused (codes "rehearse" ∷ codes "-d" ∷ codes "d" ∷ codes "-l" ∷ codes "d" ∷ [])
+unfolding clap_on_literals ubtool
+locked_rehearsal = refl
+
+-- setenv -s f --big-endian
+big_script : AsksFor (codes "setenv" ∷ codes "-s" ∷ codes "f" ∷ codes "--big-endian" ∷ [])
+    (scripted (codes "/etc/fw_env.config") (codes "f") Big false)
+unfolding clap_on_literals ubtool
+big_script = (refl, refl)
+
+-- setenv -s -: a file of that name
+dashed_script : AsksFor (codes "setenv" ∷ codes "-s" ∷ codes "-" ∷ [])
+    (scripted (codes "/etc/fw_env.config") (codes "-") Little false)
+unfolding clap_on_literals ubtool
+dashed_script = (refl, refl)
+
+-- fw_setenv -s -: standard input
+input_script : AsksForAs FwSetenv (codes "setenv" ∷ codes "-s" ∷ codes "-" ∷ [])
+    (input_scripted (codes "/etc/fw_env.config") Little false)
+unfolding clap_on_literals ubtool
+input_script = (refl, refl)
+
+-- fw_setenv -s f: a file
+named_script : AsksForAs FwSetenv (codes "setenv" ∷ codes "-s" ∷ codes "f" ∷ [])
+    (scripted (codes "/etc/fw_env.config") (codes "f") Little false)
+unfolding clap_on_literals ubtool
+named_script = (refl, refl)
+
+-- fw_setenv -s - a
+input_beside_name : AsksForAs FwSetenv (codes "setenv" ∷ codes "-s" ∷ codes "-" ∷ codes "a" ∷ []) script_and_name
+unfolding clap_on_literals ubtool
+input_beside_name = (refl, refl)
+
+-- rehearse -d d --devices 32 --steps 0 --after . --big-endian
+bounded : AsksFor
+    (codes "rehearse" ∷ codes "-d" ∷ codes "d" ∷ codes "--devices" ∷ codes "32" ∷ codes "--steps" ∷ codes "0" ∷ codes "--after" ∷ codes "." ∷ codes "--big-endian" ∷ [])
+    (rehearsing (codes "/etc/fw_env.config") (codes "d") (record {
+      variable = codes "bootcmd";
+      bounds = record { devices = 32; steps = 0; failures = None };
+      wanted = Listed (Some (codes ".")) whole_page;
+      names = [];
+    }) Big)
+unfolding clap_on_literals ubtool
+bounded = (refl, refl)
+
+-- no words
+no_words : IsRefused []
+unfolding clap_on_literals ubtool
+no_words = refl
+
+-- rehearse
+no_device_list : IsRefused (codes "rehearse" ∷ [])
+unfolding clap_on_literals ubtool
+no_device_list = refl
+
+-- rehearse -d d --devices 33
+more_devices_than_listed : AsksFor (codes "rehearse" ∷ codes "-d" ∷ codes "d" ∷ codes "--devices" ∷ codes "33" ∷ []) too_many_devices
+unfolding clap_on_literals ubtool
+more_devices_than_listed = (refl, refl)
+
+-- rehearse -d d --word 01 z
+one_run : AsksFor (codes "rehearse" ∷ codes "-d" ∷ codes "d" ∷ codes "--word" ∷ codes "01" ∷ codes "z" ∷ [])
+    (rehearsing (codes "/etc/fw_env.config") (codes "d") (record {
+      variable = codes "bootcmd";
+      bounds = record { devices = 1000; steps = 1000000; failures = None };
+      wanted = Alone (codes "01");
+      names = codes "z" ∷ [];
+    }) Little)
+unfolding clap_on_literals ubtool
+one_run = (refl, refl)
+
+-- rehearse -d d --word . --limit 1
+word_beside_limit : AsksFor (codes "rehearse" ∷ codes "-d" ∷ codes "d" ∷ codes "--word" ∷ codes "." ∷ codes "--limit" ∷ codes "1" ∷ []) word_alone
+unfolding clap_on_literals ubtool
+word_beside_limit = (refl, refl)
+
+-- rehearse -d d --failures 3 --devices 1000
+few_failures : AsksFor (codes "rehearse" ∷ codes "-d" ∷ codes "d" ∷ codes "--failures" ∷ codes "3" ∷ codes "--devices" ∷ codes "1000" ∷ [])
+    (rehearsing (codes "/etc/fw_env.config") (codes "d") (record {
+      variable = codes "bootcmd";
+      bounds = record { devices = 1000; steps = 10000; failures = Some 3 };
+      wanted = Listed None whole_page;
+      names = [];
+    }) Little)
+unfolding clap_on_literals ubtool
+few_failures = (refl, refl)
+
+-- rehearse -d d --failures 4 --devices 33
+more_failures_than_few : AsksFor (codes "rehearse" ∷ codes "-d" ∷ codes "d" ∷ codes "--failures" ∷ codes "4" ∷ codes "--devices" ∷ codes "33" ∷ []) too_many_devices
+unfolding clap_on_literals ubtool
+more_failures_than_few = (refl, refl)
+
+-- rehearse -d d --word . --failures 0
+word_beside_failures : AsksFor (codes "rehearse" ∷ codes "-d" ∷ codes "d" ∷ codes "--word" ∷ codes "." ∷ codes "--failures" ∷ codes "0" ∷ []) word_alone
+unfolding clap_on_literals ubtool
+word_beside_failures = (refl, refl)
+
+-- rehearse -d d --failures 33
+too_many_failures : IsRefused (codes "rehearse" ∷ codes "-d" ∷ codes "d" ∷ codes "--failures" ∷ codes "33" ∷ [])
+unfolding clap_on_literals ubtool
+too_many_failures = refl
+
+-- rehearse -d d --devices 1001
+too_many_word_devices : IsRefused (codes "rehearse" ∷ codes "-d" ∷ codes "d" ∷ codes "--devices" ∷ codes "1001" ∷ [])
+unfolding clap_on_literals ubtool
+too_many_word_devices = refl
+
+-- rehearse -d d --limit 0
+limit_of_none : IsRefused (codes "rehearse" ∷ codes "-d" ∷ codes "d" ∷ codes "--limit" ∷ codes "0" ∷ [])
+unfolding clap_on_literals ubtool
+limit_of_none = refl
+
+-- endings -d d
+all_endings : AsksFor (codes "endings" ∷ codes "-d" ∷ codes "d" ∷ [])
+    (ending (codes "/etc/fw_env.config") (codes "d") (record {
+      variable = codes "bootcmd";
+      bounds = record { devices = 1000; steps = 1000000; failures = None };
+      states = 1000000;
+      flow = false;
+    }) Little)
+unfolding clap_on_literals ubtool
+all_endings = (refl, refl)
+
+-- endings -c f -d d -b q --devices 0 --steps 7 --states 0 --flow --big-endian
+few_endings : AsksFor
+    (codes "endings" ∷ codes "-c" ∷ codes "f" ∷ codes "-d" ∷ codes "d" ∷ codes "-b" ∷ codes "q" ∷ codes "--devices" ∷ codes "0" ∷ codes "--steps" ∷ codes "7" ∷ codes "--states" ∷ codes "0" ∷ codes "--flow" ∷ codes "--big-endian" ∷ [])
+    (ending (codes "f") (codes "d") (record {
+      variable = codes "q";
+      bounds = record { devices = 0; steps = 7; failures = None };
+      states = 0;
+      flow = true;
+    }) Big)
+unfolding clap_on_literals ubtool
+few_endings = (refl, refl)
+
+-- endings -d d --devices 1001
+too_many_run_devices : IsRefused (codes "endings" ∷ codes "-d" ∷ codes "d" ∷ codes "--devices" ∷ codes "1001" ∷ [])
+unfolding clap_on_literals ubtool
+too_many_run_devices = refl
+
+-- endings -d d --states 4294967296
+too_many_states : IsRefused (codes "endings" ∷ codes "-d" ∷ codes "d" ∷ codes "--states" ∷ codes "4294967296" ∷ [])
+unfolding clap_on_literals ubtool
+too_many_states = refl
+
+-- endings
+endings_without_list : IsRefused (codes "endings" ∷ [])
+unfolding clap_on_literals ubtool
+endings_without_list = refl
+
+-- endings -d d --states +1
+signed_states : IsUnread (codes "endings" ∷ codes "-d" ∷ codes "d" ∷ codes "--states" ∷ codes "+1" ∷ [])
+unfolding clap_on_literals ubtool
+signed_states = (refl, refl)
+
+-- rehearse -d d --devices +1
+signed_devices : IsUnread (codes "rehearse" ∷ codes "-d" ∷ codes "d" ∷ codes "--devices" ∷ codes "+1" ∷ [])
+unfolding clap_on_literals ubtool
+signed_devices = (refl, refl)
+
+-- endings -d d --steps=+0
+signed_steps : IsUnread (codes "endings" ∷ codes "-d" ∷ codes "d" ∷ codes "--steps=+0" ∷ [])
+unfolding clap_on_literals ubtool
+signed_steps = (refl, refl)
+
+-- rehearse -d d --failures +2
+signed_failures : IsUnread (codes "rehearse" ∷ codes "-d" ∷ codes "d" ∷ codes "--failures" ∷ codes "+2" ∷ [])
+unfolding clap_on_literals ubtool
+signed_failures = (refl, refl)
+
+-- rehearse -d d --limit +1
+signed_limit : IsUnread (codes "rehearse" ∷ codes "-d" ∷ codes "d" ∷ codes "--limit" ∷ codes "+1" ∷ [])
+unfolding clap_on_literals ubtool
+signed_limit = (refl, refl)

@@ -1,0 +1,1 @@
+use Rattle.tool_words.proofs.subcommand.described.Goals as goal

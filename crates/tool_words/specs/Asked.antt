@@ -1,0 +1,240 @@
+-- What the words of a call ask for, from the subcommand and the entries that `clap` finds in them.
+-- What the options mean is ours; `printenv` and `setenv` follow fw_printenv and fw_setenv, and the
+-- configuration's default path is theirs (U-Boot, tools/env README).
+use Rattle.std.specs.Prelude.{◌==◌, ◌&&◌, ◌||◌, is_some, ℕ, Bool, true, false, not, List, [], length, Option, Some, None, Result, Ok, Err, codes, unwrap_or, option_map, ◌^◌, option_and_then, if◌then◌else◌, nat_le, nat_lt}
+use Rattle.std.specs.Str.{bytes_eq}
+use Rattle.std.specs.Option.{option_map_or}
+use Rattle.std.specs.Str.Parse.{digits_value}
+use Rattle.clap.specs.Words.{Row, Text, all_of, first_of}
+use Rattle.clap.specs.ValueTests.{is_numeral}
+use Rattle.envimage.specs.declared.image.ByteOrder.{ByteOrder}
+use Rattle.envimage.specs.declared.image.ByteOrder.TheVariants.{Big, Little}
+use Rattle.envtools.specs.declared.print_form.PrintForm.{PrintForm}
+use Rattle.tool_words.specs.declared.called.CalledAs.{CalledAs}
+use Rattle.tool_words.specs.Called.{is_tool}
+use Rattle.rehearse_terms.specs.Asking.{Asking, Wanted, Listed, Alone}
+use Rattle.rehearse_terms.specs.declared.wanted.Page.{Page}
+use Rattle.rehearse_terms.specs.Bounds.{BoundsShown, bounds_of, run_bounds_of, most_run_devices, most_steps}
+use Rattle.tool_words.specs.CommandLine.{most_failures, most_records, most_states}
+
+-- what `endings` is asked for
+pub record Endings : Type 0 where
+  pub variable : Text
+  pub bounds : BoundsShown
+  pub states : ℕ
+  pub flow : Bool
+
+-- what a call asks for, or which of the program's own refusals it meets
+pub data Asked : Type 0 where
+  printing : (config : Text) (form : PrintForm) (names : List Text) (order : ByteOrder) (one_copy : Bool) → Asked
+  setting : (config : Text) (name : Text) (words : List Text) (order : ByteOrder) (one_copy : Bool) → Asked
+  scripted : (config : Text) (script : Text) (order : ByteOrder) (one_copy : Bool) → Asked
+  input_scripted : (config : Text) (order : ByteOrder) (one_copy : Bool) → Asked
+  rehearsing : (config : Text) (device_list : Text) (what : Asking) (order : ByteOrder) → Asked
+  ending : (config : Text) (device_list : Text) (what : Endings) (order : ByteOrder) → Asked
+  lock_needs_folder : Asked
+  needs_name : Asked
+  script_and_name : Asked
+  header_needs_one : Asked
+  word_alone : Asked
+  too_many_devices : Asked
+
+-- ---- the entries of a subcommand
+
+-- the flag was given
+abbrev pub is_set : Text → List Row → Bool
+is_set flag rows = option_map_or (λ t. bytes_eq t (codes "true")) (first_of flag rows) false
+
+-- all the values of an argument
+abbrev pub values_of : Text → List Row → List Text
+values_of id rows = unwrap_or (all_of id rows) []
+
+-- the number below 2^32 that the text writes in decimal digits, without a sign
+abbrev pub number_of : Text → Option ℕ
+number_of text =
+    if is_numeral text && nat_lt (digits_value 10 text) (2 ^ 32) then Some (digits_value 10 text) else None
+
+-- the number given, if there is one; nothing if its text is not a number
+abbrev pub number_given : Text → List Row → Option (Option ℕ)
+number_given id rows =
+    option_map_or (λ t. option_map (λ n. Some n) (number_of t)) (first_of id rows) (Some None)
+
+-- a number that was given is from `least` to `most`
+abbrev pub is_within : ℕ → ℕ → Option ℕ → Bool
+is_within least most None = true
+is_within least most (Some n) = nat_le least n && nat_le n most
+
+-- the number given, if there is one; nothing if it is not a number from `least` to `most`
+abbrev pub number_within : ℕ → ℕ → Text → List Row → Option (Option ℕ)
+number_within least most id rows =
+    option_and_then (λ given. if is_within least most given then Some given else None)
+    (number_given id rows)
+
+abbrev pub config_of : List Row → Text
+config_of rows = unwrap_or (first_of (codes "config") rows) (codes "/etc/fw_env.config")
+
+-- how the CRC of the image is stored
+abbrev pub order_of : List Row → ByteOrder
+order_of rows = if is_set (codes "big-endian") rows then Big else Little
+
+-- the word after `-l` is empty
+abbrev pub has_no_folder : List Row → Bool
+has_no_folder rows = option_map_or (λ folder. length folder == 0) (first_of (codes "lock") rows) false
+
+-- the folder of the lock that is named, if any is; an empty word names none
+abbrev pub lock_of : List Row → Option Text
+lock_of rows = if has_no_folder rows then None else first_of (codes "lock") rows
+
+-- one copy of a pair is enough if the other cannot be read
+abbrev pub one_copy : List Row → Bool
+one_copy rows = is_set (codes "one-copy") rows
+
+-- ---- the four subcommands
+
+-- how a variable is printed
+abbrev pub print_form : List Row → PrintForm
+print_form rows = record {
+  header = not (is_set (codes "noheader") rows);
+  escaped = is_set (codes "escaped") rows;
+  null = is_set (codes "null") rows;
+}
+
+abbrev pub printing_asked : List Row → Asked
+printing_asked rows =
+    let names = values_of (codes "names") rows in
+    let form = print_form rows in
+    if not form.header && not (length names == 1) then header_needs_one
+    else printing (config_of rows) form names (order_of rows) (one_copy rows)
+
+abbrev pub print_asked : List Row → Asked
+print_asked rows = if has_no_folder rows then lock_needs_folder else printing_asked rows
+
+-- the script at a path; if the program is called as one of U-Boot's tools and the path is `-`, the one on standard
+-- input
+abbrev pub script_asked : CalledAs → (config path : Text) → ByteOrder → (one_copy : Bool) → Asked
+script_asked called config path order one_copy =
+    if is_tool called && bytes_eq path (codes "-") then input_scripted config order one_copy
+    else scripted config path order one_copy
+
+-- from the script and the name that were given
+abbrev pub change_asked : CalledAs → Option Text → Option Text → List Row → Asked
+change_asked called (Some script) None rows =
+    script_asked called (config_of rows) script (order_of rows) (one_copy rows)
+change_asked called (Some script) (Some name) rows = script_and_name
+change_asked called None (Some name) rows = setting (config_of rows) name
+    (values_of (codes "values") rows) (order_of rows) (one_copy rows)
+change_asked called None None rows = needs_name
+
+abbrev pub set_asked : CalledAs → List Row → Asked
+set_asked called rows = if has_no_folder rows then lock_needs_folder else
+    change_asked called (first_of (codes "script") rows) (first_of (codes "name") rows) rows
+
+abbrev pub variable_of : List Row → Text
+variable_of rows = unwrap_or (first_of (codes "variable") rows) (codes "bootcmd")
+
+-- the bounds if none are given
+abbrev pub usual_devices : ℕ
+usual_devices = 16
+
+abbrev pub usual_steps : ℕ
+usual_steps = 10000
+
+-- 0 to 1,000 device commands and 0 to 1,000,000 steps; these defaults if none are given
+abbrev pub bounds_or : (devices steps : ℕ) → List Row → Option BoundsShown
+bounds_or devices steps rows =
+    option_and_then (λ d. option_and_then (λ s. run_bounds_of (unwrap_or d devices) (unwrap_or s steps))
+    (number_within 0 most_steps (codes "steps") rows))
+    (number_within 0 most_run_devices (codes "devices") rows)
+
+-- the bounds of runs in a listing, and of other runs
+abbrev pub bounds_asked : List Row → Option BoundsShown
+bounds_asked rows = bounds_or usual_devices usual_steps rows
+
+abbrev pub run_bounds_asked : List Row → Option BoundsShown
+run_bounds_asked rows = bounds_or most_run_devices most_steps rows
+
+-- the wanted runs, within their bounds; or the refusal that the words meet
+abbrev pub WantedAsked : Type 0
+WantedAsked = Result (BoundsShown × Wanted) Asked
+
+-- how much of a listing is written: the limit is at least 1
+abbrev pub page_with : (limit : Option ℕ) → Page
+page_with limit = record { limit = limit }
+
+abbrev pub page_asked : List Row → Option Page
+page_asked rows = option_map page_with (number_within 1 most_records (codes "limit") rows)
+
+-- of a listing: at most 32 device commands, or 1,000 if few of them may fail
+abbrev pub listing_asked : (after : Option Text) → Page → (failures : Option ℕ) → BoundsShown → WantedAsked
+listing_asked after page failures bounds =
+    elim (bounds_of bounds.devices bounds.steps failures) [
+      | Some narrow ↦ Ok (narrow, Listed after page)
+      | None ↦ Err too_many_devices
+    ]
+
+-- of a word, which takes no `--after`, no `--limit` and no `--failures`
+abbrev pub word_asked : (word : Text) → (after : Option Text) → Page → (failures : Option ℕ) → BoundsShown → WantedAsked
+word_asked word after page failures bounds =
+    if is_some after || is_some page.limit || is_some failures then Err word_alone
+    else Ok (bounds, Alone word)
+
+abbrev pub wanted_by : (word after : Option Text) → Page → (failures : Option ℕ) → List Row → Option WantedAsked
+wanted_by None after page failures rows = option_map (listing_asked after page failures) (bounds_asked rows)
+wanted_by (Some word) after page failures rows =
+    option_map (word_asked word after page failures) (run_bounds_asked rows)
+
+abbrev pub wanted_asked : Page → (failures : Option ℕ) → List Row → Option WantedAsked
+wanted_asked page failures rows =
+    wanted_by (first_of (codes "word") rows) (first_of (codes "after") rows) page failures rows
+
+abbrev pub rehearsal_of : (device_list : Text) → List Row → WantedAsked → Asked
+rehearsal_of device_list rows (Ok within) =
+    rehearsing (config_of rows) device_list (record {
+      variable = variable_of rows;
+      bounds = within.0;
+      wanted = within.1;
+      names = values_of (codes "names") rows;
+    }) (order_of rows)
+rehearsal_of device_list rows (Err refusal) = refusal
+
+-- with a device list, a page, a number of failures and bounds that can be read
+abbrev pub rehearsal_with : (device_list : Option Text) → Option Page → (failures : Option (Option ℕ)) → List Row →
+    Option Asked
+rehearsal_with (Some device_list) (Some page) (Some failures) rows =
+    option_map (rehearsal_of device_list rows) (wanted_asked page failures rows)
+rehearsal_with None page failures rows = None
+rehearsal_with (Some device_list) None failures rows = None
+rehearsal_with (Some device_list) (Some page) None rows = None
+
+-- the failures are at most 32
+abbrev pub rehearse_asked : List Row → Option Asked
+rehearse_asked rows =
+    rehearsal_with (first_of (codes "device-list") rows) (page_asked rows)
+    (number_within 0 most_failures (codes "failures") rows) rows
+
+-- the states if none are given
+abbrev pub usual_states : ℕ
+usual_states = 1000000
+
+-- with a device list, bounds and a number of states that can be read
+abbrev pub endings_with : Option Text → Option BoundsShown → Option (Option ℕ) → List Row → Option Asked
+endings_with (Some device_list) (Some bounds) (Some states) rows =
+    Some (ending (config_of rows) device_list (record {
+      variable = variable_of rows;
+      bounds = bounds;
+      states = unwrap_or states usual_states;
+      flow = is_set (codes "flow") rows;
+    }) (order_of rows))
+endings_with _ _ _ rows = None
+
+abbrev pub endings_asked : List Row → Option Asked
+endings_asked rows = endings_with (first_of (codes "device-list") rows) (run_bounds_asked rows)
+    (number_within 0 most_states (codes "states") rows) rows
+
+-- what the entries of the subcommand of this name ask for
+abbrev pub asked_of : CalledAs → Text → List Row → Option Asked
+asked_of called name rows =
+    if bytes_eq name (codes "printenv") then Some (print_asked rows)
+    else (if bytes_eq name (codes "setenv") then Some (set_asked called rows)
+    else (if bytes_eq name (codes "rehearse") then rehearse_asked rows
+    else (if bytes_eq name (codes "endings") then endings_asked rows else None)))

@@ -1,0 +1,108 @@
+-- What an answer of the reader of words says, and when each refusal comes. The refusals are ours.
+use Rattle.std.specs.Prelude.{◌≡◌, ◌⊎◌, Bool, List, map, Option, Some, None, Result, Ok, Err, option_and_then, string_bytes, String}
+use Rattle.std.specs.declared.alloc.Global.{Global}
+use Rattle.clap.specs.Words.{IsAmong, Text, fault_of, subcommand_of}
+use Rattle.clap.specs.declared.error.kind.ErrorKind.{ErrorKind}
+use Rattle.clap.specs.declared.error.kind.ErrorKind.TheVariants.{DisplayHelp, DisplayVersion}
+use Rattle.envimage.specs.declared.image.ByteOrder.{ByteOrder}
+use Rattle.tool_words.specs.declared.ask.Ask.{Ask}
+use Rattle.tool_words.specs.declared.ask.Ask.TheVariants.{Print, Setenv, Rehearse, Endings, Help, Version}
+use Rattle.tool_words.specs.declared.ask.Change.{Change}
+use Rattle.tool_words.specs.declared.ask.Change.TheVariants.{Input, One, Script}
+use Rattle.tool_words.specs.declared.ask.EndingsAsk.{EndingsAsk}
+use Rattle.tool_words.specs.declared.called.CalledAs.{CalledAs}
+use Rattle.tool_words.specs.declared.ask.RehearseAsk.{RehearseAsk}
+use Rattle.tool_words.specs.declared.ask.UseError.{UseError}
+use Rattle.rehearse_terms.specs.declared.wanted.Wanted.{Wanted}
+use Rattle.tool_words.specs.declared.ask.UseError.TheVariants.{Line, LockNeedsFolder, NeedName, ScriptAndName, HeaderNeedsOne, Memory, TooManyDevices, WordAlone}
+use Rattle.tool_words.specs.Answered.{IsAccepted, IsMistaken}
+use Rattle.tool_words.specs.Asked as what
+use Rattle.tool_words.specs.Asked.{Asked, WantedAsked, asked_of, ending, input_scripted, lock_of, printing, setting, scripted, rehearsing, lock_needs_folder, needs_name, script_and_name, header_needs_one, too_many_devices, word_alone}
+use Rattle.tool_words.specs.CommandLine.{ubtool}
+use Rattle.rehearse_terms.specs.WantedShown.{wanted_bounds, wanted_strings}
+use Rattle.rehearse_terms.specs.Asking.{Asking}
+
+abbrev pub asking_of : RehearseAsk → Asking
+asking_of r = record {
+  variable = string_bytes r.name;
+  bounds = wanted_bounds r.wanted;
+  wanted = wanted_strings r.wanted;
+  names = map string_bytes r.names.items;
+}
+
+abbrev pub endings_of : EndingsAsk → what.Endings
+endings_of e = record { variable = string_bytes e.name; bounds = e.bounds; states = e.states; flow = e.flow }
+
+abbrev pub change_of : Text → Change → ByteOrder → (one_copy : Bool) → Asked
+change_of config (One name words) order one_copy =
+    setting config (string_bytes name) (map string_bytes words.items) order one_copy
+change_of config (Script file) order one_copy = scripted config (string_bytes file) order one_copy
+change_of config Input order one_copy = input_scripted config order one_copy
+
+-- what the value asks for, if it is neither a help text nor the version
+abbrev pub meaning_of : Ask → Option Asked
+meaning_of (Print config what order one_copy) =
+    Some (printing (string_bytes config) what.form (map string_bytes what.names.items) order one_copy)
+meaning_of (Setenv config change order one_copy) =
+    Some (change_of (string_bytes config) change order one_copy)
+meaning_of (Rehearse config list what order) =
+    Some (rehearsing (string_bytes config) (string_bytes list) (asking_of what) order)
+meaning_of (Endings config list what order) =
+    Some (ending (string_bytes config) (string_bytes list) (endings_of what) order)
+meaning_of (Help text) = None
+meaning_of Version = None
+
+-- what the words ask for, by the subcommand that `clap` finds in them and its entries
+abbrev pub asked : CalledAs → List Text → Option Asked
+asked called words = option_and_then (λ s. asked_of called s.0 s.1) (subcommand_of ubtool words)
+
+-- The answer to words. A line without a mistake is that of a number with a sign, which `clap` accepts. It accepts no
+-- `rehearse` or `endings` without a device list, and no number out of its range.
+abbrev pub Answers : CalledAs → List Text → Result Ask UseError → Type 0
+Answers called words (Ok (Help text)) = IsAmong DisplayHelp (fault_of ubtool words)
+Answers called words (Ok Version) = IsAmong DisplayVersion (fault_of ubtool words)
+Answers called words (Ok ask) = IsAccepted ubtool words × (meaning_of ask ≡ asked called words)
+Answers called words (Err LockNeedsFolder) =
+    IsAccepted ubtool words × (Some lock_needs_folder ≡ asked called words)
+Answers called words (Err NeedName) = IsAccepted ubtool words × (Some needs_name ≡ asked called words)
+Answers called words (Err ScriptAndName) = IsAccepted ubtool words × (Some script_and_name ≡ asked called words)
+Answers called words (Err HeaderNeedsOne) = IsAccepted ubtool words × (Some header_needs_one ≡ asked called words)
+Answers called words (Err WordAlone) = IsAccepted ubtool words × (Some word_alone ≡ asked called words)
+Answers called words (Err TooManyDevices) = IsAccepted ubtool words × (Some too_many_devices ≡ asked called words)
+Answers called words (Err (Line text)) = IsMistaken ubtool words ⊎ (IsAccepted ubtool words × (None ≡ asked called words))
+Answers called words (Err Memory) = Unit {0}
+
+-- the folder of the lock that accepted words name, if they name one; words that `clap` refuses name none
+abbrev pub NamesLock : List Text → Option Text → Type 0
+NamesLock words folder =
+    (IsAccepted ubtool words × (folder ≡ option_and_then (λ s. lock_of s.1) (subcommand_of ubtool words)))
+    ⊎ (((k : ErrorKind) × IsAmong k (fault_of ubtool words)) × (folder ≡ None))
+
+-- the answer says this, or memory ran out; a line says nothing
+abbrev pub Says : Option Asked → Result Ask UseError → Type 0
+Says a (Ok (Help text)) = ⊥
+Says a (Ok Version) = ⊥
+Says a (Ok ask) = meaning_of ask ≡ a
+Says a (Err LockNeedsFolder) = Some lock_needs_folder ≡ a
+Says a (Err NeedName) = Some needs_name ≡ a
+Says a (Err ScriptAndName) = Some script_and_name ≡ a
+Says a (Err HeaderNeedsOne) = Some header_needs_one ≡ a
+Says a (Err WordAlone) = Some word_alone ≡ a
+Says a (Err TooManyDevices) = Some too_many_devices ≡ a
+Says a (Err (Line text)) = None ≡ a
+Says a (Err Memory) = Unit {0}
+
+-- the same for the runs that `rehearse` is to list
+abbrev pub SaysWanted : Option WantedAsked → Result (Wanted (String Global)) UseError → Type 0
+SaysWanted a (Ok wanted) = Some (Ok (wanted_bounds wanted, wanted_strings wanted)) ≡ a
+SaysWanted a (Err WordAlone) = Some (Err word_alone) ≡ a
+SaysWanted a (Err TooManyDevices) = Some (Err too_many_devices) ≡ a
+SaysWanted a (Err (Line text)) = None ≡ a
+SaysWanted a (Err Memory) = Unit {0}
+SaysWanted a (Err error) = ⊥
+
+-- a line, or memory ran out
+abbrev pub IsUnread : UseError → Type 0
+IsUnread (Line text) = Unit {0}
+IsUnread Memory = Unit {0}
+IsUnread _ = ⊥

@@ -1,0 +1,130 @@
+-- The command line that `clap` is given: four subcommands with their options and names. It is ours, but `-c`, `-l`,
+-- `-n` and `-s` and their long forms are those of fw_printenv and fw_setenv (U-Boot, tools/env README), and
+-- `--no-header` is libubootenv's.
+use Rattle.std.specs.Prelude.{ℕ, [], ◌∷◌, true, codes}
+use Rattle.clap.specs.Words.{App, Rule, Shape, Text, new_app}
+use Rattle.clap.specs.Simple.{on_top}
+use Rattle.tool_words.specs.Arguments.{command, lettered_flag, lettered_option, long_option, many, number_option, one, with_subcommands}
+pub use Rattle.tool_words.specs.Arguments.{long_flag}
+use Rattle.rehearse_terms.specs.Bounds.{most_run_devices, most_steps}
+
+-- the byte of a letter
+abbrev letter : Text → ℕ
+letter [] = 0
+letter (b ∷ text) = b
+
+-- the greatest limit of the records of a listing
+abbrev pub most_records : ℕ
+most_records = 4294967295
+
+-- the most device commands of a run that a listing may allow to fail
+abbrev pub most_failures : ℕ
+most_failures = 32
+
+-- `-c FILE`
+abbrev pub config : Rule
+config = lettered_option (codes "config") (letter (codes "c"))
+
+abbrev pub big_endian : Rule
+big_endian = long_flag (codes "big-endian")
+
+-- `-l DIR`
+abbrev pub lock : Rule
+lock = lettered_option (codes "lock") (letter (codes "l"))
+
+-- `-n`, with two long forms
+abbrev pub no_header : Rule
+no_header = record (lettered_flag (codes "noheader") (letter (codes "n"))) { aliases = codes "no-header" ∷ [] }
+
+-- the other copy of a pair counts if one cannot be read
+abbrev pub one_copy : Rule
+one_copy = long_flag (codes "one-copy")
+
+-- `-0`: each variable is ended by a NUL byte
+abbrev pub null : Rule
+null = lettered_flag (codes "null") (letter (codes "0"))
+
+-- names and values are printed so that each variable is one line
+abbrev pub escaped : Rule
+escaped = long_flag (codes "escaped")
+
+-- `[NAME]..`, of variables
+abbrev pub names : Rule
+names = many (codes "names")
+
+abbrev pub printenv : App
+printenv = command (codes "printenv")
+    (config ∷ big_endian ∷ lock ∷ one_copy ∷ no_header ∷ null ∷ escaped ∷ names ∷ [])
+
+-- `-s FILE`, `[NAME]` and `[VALUE]..`
+abbrev pub script : Rule
+script = lettered_option (codes "script") (letter (codes "s"))
+
+abbrev pub name : Rule
+name = one (codes "name")
+
+abbrev pub values : Rule
+values = many (codes "values")
+
+abbrev pub setenv : App
+setenv = command (codes "setenv") (config ∷ big_endian ∷ lock ∷ one_copy ∷ script ∷ name ∷ values ∷ [])
+
+-- `-d FILE`, which each call needs
+abbrev pub device_list : Rule
+device_list = record (lettered_option (codes "device-list") (letter (codes "d"))) { required = true }
+
+-- `-b NAME`, and the two bounds
+abbrev pub variable : Rule
+variable = lettered_option (codes "variable") (letter (codes "b"))
+
+abbrev pub devices : Rule
+devices = number_option (codes "devices") 0 most_run_devices
+
+abbrev pub steps : Rule
+steps = number_option (codes "steps") 0 most_steps
+
+-- the one run that is written; or how many device commands of a listed run may fail, the run after which the listing
+-- starts, and how many records it has
+abbrev pub word : Rule
+word = long_option (codes "word")
+
+abbrev pub failures : Rule
+failures = number_option (codes "failures") 0 most_failures
+
+abbrev pub after : Rule
+after = long_option (codes "after")
+
+abbrev pub limit : Rule
+limit = number_option (codes "limit") 1 most_records
+
+abbrev pub rehearse : App
+rehearse = command (codes "rehearse")
+    (config ∷ big_endian ∷ device_list ∷ variable ∷ devices ∷ steps ∷ word ∷ failures ∷ after ∷ limit ∷ names ∷ [])
+
+-- how many states may be searched, and the greatest number of them that can be allowed
+abbrev pub most_states : ℕ
+most_states = 4294967295
+
+abbrev pub states : Rule
+states = number_option (codes "states") 0 most_states
+
+-- to write the flow
+abbrev pub flow : Rule
+flow = long_flag (codes "flow")
+
+abbrev pub endings : App
+endings = command (codes "endings")
+    (config ∷ big_endian ∷ device_list ∷ variable ∷ devices ∷ steps ∷ states ∷ flow ∷ [])
+
+-- the program, which has no words of its own; its version can be asked for at each subcommand too
+abbrev pub base : App
+base = on_top (λ (s : Shape). record s {
+  no_binary_name = true;
+  subcommand_required = true;
+  disable_help_subcommand = true;
+  has_version = true;
+  propagate_version = true;
+}) (new_app (codes "ubtool"))
+
+unfoldable pub ubtool : App
+ubtool = with_subcommands base (printenv ∷ setenv ∷ rehearse ∷ endings ∷ [])

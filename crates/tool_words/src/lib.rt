@@ -1,0 +1,29 @@
+//! The words of a call: the command line that `clap` is given (of `ubtool`, and what `hushcheck` has in common with it), and
+//! what a call asks for.
+#![tactic(auto)]
+
+mod answer;
+mod argument;
+mod ask;
+mod called;
+mod command;
+mod kinds;
+mod notes;
+mod read;
+mod shared;
+mod subcommand;
+mod tables;
+mod version;
+
+pub use answer::{Answer, parse};
+pub use argument::{Argument, Form, with_arguments};
+pub use ask::{
+    Ask, Change, DEFAULT_CONFIG, DEFAULT_DEVICES, DEFAULT_RUN_DEVICES, DEFAULT_RUN_STEPS,
+    DEFAULT_STATES, DEFAULT_STEPS, DEFAULT_VARIABLE, EndingsAsk, PrintAsk, RehearseAsk, UseError,
+};
+pub use called::{CalledAs, called_as, words_called};
+pub use command::ubtool;
+pub use read::{config_of, is_set, order_of, read_command, read_lock, text_of, texts_of};
+pub use shared::{BIG_ENDIAN, CONFIG, DEVICE_LIST, NAMES};
+pub use tables::FAILURES_MAX;
+pub use version::VERSION;

@@ -1,0 +1,435 @@
+//! Reads the words of a call.
+ghost use Rattle.std.specs.Prelude.{◌≡◌, ◌≤◌, Bool, Some, None, codes, IfOk, IfSome, map, option_map, option_and_then, string_bytes};
+ghost use Rattle.rehearse_terms.specs.Asking.{page_of};
+ghost use Rattle.rehearse_terms.specs.Asking.{HasRoom};
+ghost use Rattle.clap.specs.Words.{Text, first_of, found_of, rows_of, subcommand_rows_of};
+ghost use Rattle.envimage.specs.declared.image.ByteOrder.{ByteOrder as Order};
+ghost use Rattle.tool_words.specs.Asked.{asked_of, bounds_or, config_of, endings_asked, has_no_folder, is_set, lock_of, number_given, number_of, number_within, order_of, page_asked, print_asked, rehearse_asked, script_asked, set_asked, values_of, variable_of, wanted_asked, wanted_by};
+ghost use Rattle.rehearse_terms.specs.WantedShown.{wanted_strings};
+ghost use Rattle.tool_words.specs.declared.ask.UseError.TheVariants.{Memory};
+ghost use Rattle.tool_words.specs.CommandAnswers.{Answers, IsUnread, NamesLock, Says, SaysWanted, change_of};
+
+use crate::answer::{Answer, parse};
+use crate::ask::{
+    Ask, Change, DEFAULT_CONFIG, DEFAULT_DEVICES, DEFAULT_RUN_DEVICES, DEFAULT_RUN_STEPS,
+    DEFAULT_STATES, DEFAULT_STEPS, DEFAULT_VARIABLE, EndingsAsk, PrintAsk, RehearseAsk, UseError,
+};
+use crate::called::CalledAs;
+use crate::{FAILURES_MAX, ubtool};
+use clap::ArgMatches;
+use clap::error::ErrorKind;
+use envimage::ByteOrder;
+use envtools::PrintForm;
+use rehearse_terms::{Bounds, Page, RUN_DEVICES_MAX, RunBounds, STEPS_MAX, Wanted};
+use std::alloc::{AllocError, Global};
+use std::convert::AsStr;
+
+impl From<AllocError> for UseError {
+    ghost from_gives = { λ _ e. e ≡ Memory };
+
+    fn from(_error: AllocError) -> UseError {
+        UseError::Memory
+    }
+}
+
+// ---- the entries of a subcommand
+
+/// The value of an argument, if it has one.
+pub fn text_of(
+    alloc: Global,
+    matches: &ArgMatches<'_>,
+    id: &str,
+) -> Result<Option<String>, AllocError>
+    ensures { IfOk result (λ t. option_map string_bytes t
+        ≡ first_of id.now (rows_of (found_of matches.now))) }
+{
+    match matches.get_str(id) {
+        Some(text) => Ok(Some(String::from_str(alloc, text)?)),
+        None => Ok(None),
+    }
+}
+
+/// All the values of an argument, in their order.
+pub fn texts_of(
+    alloc: Global,
+    matches: &ArgMatches<'_>,
+    id: &str,
+) -> Result<Vec<String>, AllocError>
+    ensures { IfOk result (λ v. map string_bytes v.items
+        ≡ values_of id.now (rows_of (found_of matches.now))) }
+{
+    let mut texts = Vec::new(alloc);
+    let values = matches.get_strs(id).unwrap_or(&[]);
+    for value in values {
+        texts.push(String::from_str(alloc, value)?)?;
+    }
+    Ok(texts)
+}
+
+/// Whether the flag was given.
+pub fn is_set(matches: &ArgMatches<'_>, flag: &str) -> bool
+    ensures { result ≡ is_set flag.now (rows_of (found_of matches.now)) }
+{
+    match matches.get_str(flag) {
+        Some(text) => text == "true",
+        None => false,
+    }
+}
+
+/// The number that a text writes in decimal digits, without a sign, if it is below 2^32.
+fn number_of(text: &str) -> Option<u32>
+    ensures { result ≡ number_of text.now }
+{
+    if text.as_bytes().starts_with(b"+") {
+        return None;
+    }
+    text.parse::<u32>().ok()
+}
+
+/// The number given, if there is one; `None` if its text is not a number.
+fn number_given(matches: &ArgMatches<'_>, id: &str) -> Option<Option<u32>>
+    ensures { result ≡ number_given id.now (rows_of (found_of matches.now)) }
+{
+    match matches.get_str(id) {
+        Some(text) => match number_of(text) {
+            Some(number) => Some(Some(number)),
+            None => None,
+        },
+        None => Some(None),
+    }
+}
+
+/// The number given, if there is one; `None` if it is not a number from `least` to `most`.
+fn number_within(matches: &ArgMatches<'_>, id: &str, least: u32, most: u32) -> Option<Option<u32>>
+    ensures value { result ≡ number_within least most id.now (rows_of (found_of matches.now)) }
+    ensures within { IfSome result (λ given. IfSome given (λ n. (least ≤ n) × (n ≤ most))) }
+{
+    match number_given(matches, id)? {
+        Some(number) if number < least || most < number => None,
+        given => Some(given),
+    }
+}
+
+/// The path of the configuration.
+pub fn config_of(alloc: Global, matches: &ArgMatches<'_>) -> Result<String, AllocError>
+    ensures { IfOk result (λ t. string_bytes t ≡ config_of (rows_of (found_of matches.now))) }
+{
+    match text_of(alloc, matches, "config")? {
+        Some(config) => Ok(config),
+        None => String::from_str(alloc, DEFAULT_CONFIG),
+    }
+}
+
+/// How the CRC of the image is stored.
+pub fn order_of(matches: &ArgMatches<'_>) -> ByteOrder
+    ensures { result ≡ order_of (rows_of (found_of matches.now)) }
+{
+    if is_set(matches, "big-endian") {
+        ByteOrder::Big
+    } else {
+        ByteOrder::Little
+    }
+}
+
+/// Whether `-l` was given an empty word.
+fn has_no_folder(matches: &ArgMatches<'_>) -> bool
+    ensures { result ≡ has_no_folder (rows_of (found_of matches.now)) }
+{
+    match matches.get_str("lock") {
+        Some(folder) => folder.is_empty(),
+        None => false,
+    }
+}
+
+// ---- the four subcommands
+
+fn print_ask(alloc: Global, matches: &ArgMatches<'_>) -> Result<Ask, UseError>
+    ensures { Says (Some (print_asked (rows_of (found_of matches.now)))) result }
+{
+    if has_no_folder(matches) {
+        return Err(UseError::LockNeedsFolder);
+    }
+    let names = texts_of(alloc, matches, "names")?;
+    let no_header = is_set(matches, "noheader");
+    if no_header && names.len() != 1 {
+        return Err(UseError::HeaderNeedsOne);
+    }
+    let form = PrintForm {
+        header: !no_header,
+        escaped: is_set(matches, "escaped"),
+        null: is_set(matches, "null"),
+    };
+    Ok(Ask::Print {
+        config: config_of(alloc, matches)?,
+        what: PrintAsk { names, form },
+        order: order_of(matches),
+        one_copy: is_set(matches, "one-copy"),
+    })
+}
+
+/// The change by the script at a path. If the program was called as one of U-Boot's tools, the path
+/// `-` is standard input.
+fn script_change(called: CalledAs, path: String) -> Change
+    ensures { (config : Text) → (order : Order) → (one_copy : Bool) →
+        change_of config result order one_copy
+        ≡ script_asked called config (string_bytes path) order one_copy }
+{
+    if called.is_tool() && path.as_str() == "-" {
+        Change::Input
+    } else {
+        Change::Script(path)
+    }
+}
+
+fn set_ask(alloc: Global, called: CalledAs, matches: &ArgMatches<'_>) -> Result<Ask, UseError>
+    ensures { Says (Some (set_asked called (rows_of (found_of matches.now)))) result }
+{
+    if has_no_folder(matches) {
+        return Err(UseError::LockNeedsFolder);
+    }
+    let script = text_of(alloc, matches, "script")?;
+    let name = text_of(alloc, matches, "name")?;
+    let change = match (script, name) {
+        (Some(script), None) => script_change(called, script),
+        (None, Some(name)) => Change::One {
+            name,
+            words: texts_of(alloc, matches, "values")?,
+        },
+        (Some(_), Some(_)) => return Err(UseError::ScriptAndName),
+        (None, None) => return Err(UseError::NeedName),
+    };
+    Ok(Ask::Setenv {
+        config: config_of(alloc, matches)?,
+        change,
+        order: order_of(matches),
+        one_copy: is_set(matches, "one-copy"),
+    })
+}
+
+/// What is said of a number with a sign.
+const UNREAD: &str = "\
+error: a number is written in digits alone, without a sign
+
+For more information, try '--help'.
+";
+
+/// The refusal of what `clap` accepts and the program does not: a number with a sign. `clap` never
+/// accepts that an argument is missing or that a number is out of its range.
+fn unread(alloc: Global) -> UseError
+    ensures { IsUnread result }
+{
+    match String::from_str(alloc, UNREAD) {
+        Ok(text) => UseError::Line(text),
+        Err(_) => UseError::Memory,
+    }
+}
+
+fn variable_of(alloc: Global, matches: &ArgMatches<'_>) -> Result<String, AllocError>
+    ensures { IfOk result (λ t. string_bytes t ≡ variable_of (rows_of (found_of matches.now))) }
+{
+    match text_of(alloc, matches, "variable")? {
+        Some(name) => Ok(name),
+        None => String::from_str(alloc, DEFAULT_VARIABLE),
+    }
+}
+
+/// The two bounds, or these defaults if none are given; `None` if one is out of its range.
+fn bounds_or(matches: &ArgMatches<'_>, devices: u32, steps: u32) -> Option<RunBounds>
+    ensures { result ≡ bounds_or devices steps (rows_of (found_of matches.now)) }
+{
+    let given_devices = number_within(matches, "devices", 0, RUN_DEVICES_MAX)?;
+    let given_steps = number_within(matches, "steps", 0, STEPS_MAX)?;
+    RunBounds::new(
+        given_devices.unwrap_or(devices),
+        given_steps.unwrap_or(steps),
+    )
+}
+
+/// How much of a listing is written; `None` if its limit is not a number from 1.
+fn page_asked(matches: &ArgMatches<'_>) -> Option<Page>
+    ensures page { result ≡ page_asked (rows_of (found_of matches.now)) }
+    ensures room { IfSome result (λ page. HasRoom page) }
+{
+    let limit = number_within(matches, "limit", 1, u32::MAX)?;
+    Some(Page { limit })
+}
+
+/// The runs of a listing.
+fn listing(
+    alloc: Global,
+    matches: &ArgMatches<'_>,
+    page: Page,
+    failures: Option<u32>,
+) -> Result<Wanted<String>, UseError>
+    requires { HasRoom page }
+    ensures says { SaysWanted
+        (wanted_by None (first_of (codes "after") (rows_of (found_of matches.now))) page failures
+        (rows_of (found_of matches.now))) result }
+    ensures room { IfOk result (λ w. HasRoom (page_of (wanted_strings w))) }
+{
+    let Some(wide) = bounds_or(matches, DEFAULT_DEVICES, DEFAULT_STEPS) else {
+        return Err(unread(alloc));
+    };
+    let Some(bounds) = Bounds::with_failures(wide.devices(), wide.steps(), failures) else {
+        return Err(UseError::TooManyDevices);
+    };
+    Ok(Wanted::Listing {
+        bounds,
+        after: text_of(alloc, matches, "after")?,
+        page,
+    })
+}
+
+/// The run of a word.
+fn word(
+    alloc: Global,
+    matches: &ArgMatches<'_>,
+    word: String,
+    page: Page,
+    failures: Option<u32>,
+) -> Result<Wanted<String>, UseError>
+    requires { HasRoom page }
+    ensures says { SaysWanted
+        (wanted_by (Some (string_bytes word))
+        (first_of (codes "after") (rows_of (found_of matches.now))) page failures
+        (rows_of (found_of matches.now))) result }
+    ensures room { IfOk result (λ w. HasRoom (page_of (wanted_strings w))) }
+{
+    let Some(bounds) = bounds_or(matches, DEFAULT_RUN_DEVICES, DEFAULT_RUN_STEPS) else {
+        return Err(unread(alloc));
+    };
+    let after = text_of(alloc, matches, "after")?;
+    if after.is_some() || page.limit.is_some() || failures.is_some() {
+        return Err(UseError::WordAlone);
+    }
+    Ok(Wanted::Word { bounds, word })
+}
+
+/// The runs that are to be listed. Errors: `WordAlone`, `TooManyDevices`, the refusal of `unread`,
+/// and `Memory`.
+fn wanted(
+    alloc: Global,
+    matches: &ArgMatches<'_>,
+    page: Page,
+    failures: Option<u32>,
+) -> Result<Wanted<String>, UseError>
+    requires { HasRoom page }
+    ensures says { SaysWanted (wanted_asked page failures (rows_of (found_of matches.now)))
+        result }
+    ensures room { IfOk result (λ w. HasRoom (page_of (wanted_strings w))) }
+{
+    match text_of(alloc, matches, "word")? {
+        Some(text) => word(alloc, matches, text, page, failures),
+        None => listing(alloc, matches, page, failures),
+    }
+}
+
+fn rehearse_ask(alloc: Global, matches: &ArgMatches<'_>) -> Result<Ask, UseError>
+    ensures { Says (rehearse_asked (rows_of (found_of matches.now))) result }
+{
+    let list = text_of(alloc, matches, "device-list")?;
+    let page = page_asked(matches);
+    let failures = number_within(matches, "failures", 0, FAILURES_MAX);
+    let (Some(devices_file), Some(page), Some(failures)) = (list, page, failures) else {
+        return Err(unread(alloc));
+    };
+    let wanted = match wanted(alloc, matches, page, failures) {
+        Ok(wanted) => wanted,
+        Err(error) => return Err(error),
+    };
+    Ok(Ask::Rehearse {
+        config: config_of(alloc, matches)?,
+        devices_file,
+        what: RehearseAsk {
+            name: variable_of(alloc, matches)?,
+            wanted,
+            names: texts_of(alloc, matches, "names")?,
+        },
+        order: order_of(matches),
+    })
+}
+
+fn endings_ask(alloc: Global, matches: &ArgMatches<'_>) -> Result<Ask, UseError>
+    ensures { Says (endings_asked (rows_of (found_of matches.now))) result }
+{
+    let list = text_of(alloc, matches, "device-list")?;
+    let bounds = bounds_or(matches, DEFAULT_RUN_DEVICES, DEFAULT_RUN_STEPS);
+    let states = number_within(matches, "states", 0, u32::MAX);
+    let (Some(devices_file), Some(bounds), Some(states)) = (list, bounds, states) else {
+        return Err(unread(alloc));
+    };
+    Ok(Ask::Endings {
+        config: config_of(alloc, matches)?,
+        devices_file,
+        what: EndingsAsk {
+            name: variable_of(alloc, matches)?,
+            bounds,
+            states: states.unwrap_or(DEFAULT_STATES),
+            flow: is_set(matches, "flow"),
+        },
+        order: order_of(matches),
+    })
+}
+
+fn ask_of(alloc: Global, called: CalledAs, matches: &ArgMatches<'_>) -> Result<Ask, UseError>
+    ensures { Says (option_and_then (λ s. asked_of called s.0 s.1) (subcommand_rows_of matches.now))
+        result }
+{
+    let Some((name, entries)) = matches.subcommand() else {
+        return Err(unread(alloc));
+    };
+    match name {
+        "printenv" => print_ask(alloc, entries),
+        "setenv" => set_ask(alloc, called, entries),
+        "rehearse" => rehearse_ask(alloc, entries),
+        "endings" => endings_ask(alloc, entries),
+        _ => Err(unread(alloc)),
+    }
+}
+
+/// The folder of the lock that a subcommand's entries name, if they name one. An empty word names
+/// none.
+fn lock_of(alloc: Global, matches: &ArgMatches<'_>) -> Result<Option<String>, AllocError>
+    ensures { IfOk result (λ folder. option_map string_bytes folder
+        ≡ option_and_then (λ s. lock_of s.1) (subcommand_rows_of matches.now)) }
+{
+    match matches.subcommand() {
+        Some((_, entries)) if !has_no_folder(entries) => text_of(alloc, entries, "lock"),
+        _ => Ok(None),
+    }
+}
+
+/// The folder of the lock that the words after the program's name ask for, if they name one. Words
+/// that `clap` refuses name none. Errors: memory ran out.
+pub fn read_lock<S: AsStr>(alloc: Global, words: &[S]) -> Result<Option<String>, AllocError>
+    ensures { IfOk result (λ folder. NamesLock (map S.text words.now)
+        (option_map string_bytes folder)) }
+{
+    match ubtool(alloc, false)?.try_get_matches_from(words) {
+        Ok(matches) => lock_of(alloc, &matches),
+        Err(error) => match error.kind() {
+            ErrorKind::OutOfMemory => Err(AllocError),
+            _ => Ok(None),
+        },
+    }
+}
+
+/// Reads the words after the program's name. If the program was called as one of U-Boot's tools,
+/// the script of `-s -` is the one on standard input, and usage lines name that tool.
+///
+/// Refusals of `clap`, each a `Line`, come first, and so does that of a number with a sign. Then both
+/// `printenv` and `setenv` refuse an empty folder of the lock (`LockNeedsFolder`), `setenv` refuses to have no name
+/// (`NeedName`) or a script and a name (`ScriptAndName`), and `printenv -n` refuses any number of
+/// names but one (`HeaderNeedsOne`). `rehearse` refuses a word beside `--after` or `--limit`
+/// (`WordAlone`), and a listing with too great a device bound (`TooManyDevices`). `Memory` is
+/// returned if a growth is refused.
+pub fn read_command<S: AsStr>(alloc: Global, called: CalledAs, words: &[S]) -> Result<Ask, UseError>
+    ensures { Answers called (map S.text words.now) result }
+{
+    match parse(alloc, ubtool(alloc, called.is_tool())?, words) {
+        Ok(Answer::Asks(matches)) => ask_of(alloc, called, &matches),
+        Ok(Answer::Help(text)) => Ok(Ask::Help(text)),
+        Ok(Answer::Version) => Ok(Ask::Version),
+        Err(error) => Err(error),
+    }
+}

@@ -1,9 +1,0 @@
-use Rattle.std.proofs.Common.{refl}
-use Rattle.bootstore.specs.Present.{moment_of}
-use Rattle.trails.proofs.TrailLemmas.{marked_status, same_record}
-use Rattle.trails.proofs.trail.TrailStore.set_status.Goals as goal
-
-pub returns-clause-ok : goal.returns-clause-ok
-returns-clause-ok c =
-    let old = c.args.self.now in
-    same_record _ _ _ _ old.begun refl (marked_status (moment_of old.present) _ _ old.can.leads c.args.status old.present.steps)

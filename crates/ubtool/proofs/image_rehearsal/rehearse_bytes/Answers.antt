@@ -1,0 +1,36 @@
+use Rattle.std.proofs.Common.{◌≡◌, ◌∙◌, ap, sym, subst, refl, inl, Result, Err, IfErr}
+use Rattle.std.proofs.lemmas.Result.{err_from_is_err_and}
+use Rattle.std.specs.Option.{option_copied}
+use Rattle.rehearse_runs.specs.AskShown.{asking_of}
+use Rattle.rehearse_runs.specs.declared.listing.Finish.{Finish}
+use Rattle.ubtool.specs.Faults.{image_error, rehearse_error}
+use Rattle.ubtool.specs.Given.{given}
+use Rattle.tool_images.specs.PrintingImages.{environment_in}
+use Rattle.ubtool.specs.Refusing.{Refuses}
+use Rattle.ubtool.specs.declared.rehearsal_error.RehearsalError.{RehearsalError}
+use Rattle.ubtool.proofs.ImageRehearsalLemmas.{rehearses-image, refused-image, unfound}
+use Rattle.ubtool.proofs.image_rehearsal.rehearse_bytes.Goals as goal
+
+pub returns-in_err-env-clause-err : goal.returns-in_err-env-clause-err
+returns-in_err-env-clause-err g c =
+    let second = option_copied c.args.second in
+    let out = g.O.Out.sink c.args.out.now in
+    let p = err_from_is_err_and c.from_residual.result c.from_residual.ensures.1 in
+    let answer : c.from_residual.result ≡ Err (image_error c.in_err-env.field-0.0) = p.1 ∙ ap Err p.2 in
+    let IsSo : RehearsalError → Type 0 = Refuses (given c.args.order c.args.first.now second c.args.devices_text.now (asking_of c.args.ask.now)) out out in
+    let P : Result Finish RehearsalError → Type 0 = λ r. IfErr r IsSo in
+    subst P (sym answer) (unfound (environment_in c.args.order c.args.first.now second) IsSo (λ fault h. (h, refl)) (λ env h. inl (record { environment = env; image = h }, refl)) c.in_err-env.field-0.0 c.in_err-env.ensures)
+
+pub returns-in_err-rehearse_env-clause-err : goal.returns-in_err-rehearse_env-clause-err
+returns-in_err-rehearse_env-clause-err g c =
+    let second = option_copied c.args.second in
+    let out = g.O.Out.sink c.args.out.now in
+    let out' = g.O.Out.sink c.rehearse_env.new.out in
+    let p = err_from_is_err_and c.from_residual-in_err-rehearse_env.result c.from_residual-in_err-rehearse_env.ensures.1 in
+    let answer : c.from_residual-in_err-rehearse_env.result ≡ Err (rehearse_error c.in_err-rehearse_env.field-0.0) = p.1 ∙ ap Err p.2 in
+    let P : Result Finish RehearsalError → Type 0 = λ r. IfErr r (λ e. Refuses (given c.args.order c.args.first.now second c.args.devices_text.now (asking_of c.args.ask.now)) out out' e) in
+    subst P (sym answer) (refused-image c.args.order c.args.first.now second c.args.devices_text.now (asking_of c.args.ask.now) _ out out' c.in_ok-env.ensures c.in_err-rehearse_env.field-0.0 c.in_err-rehearse_env.ensures.err)
+
+pub returns-clause-ok : goal.returns-clause-ok
+returns-clause-ok g c =
+    rehearses-image c.args.order c.args.first.now (option_copied c.args.second) c.args.devices_text.now (asking_of c.args.ask.now) _ (g.O.Out.sink c.args.out.now) (g.O.Out.sink c.rehearse_env.new.out) c.in_ok-env.ensures c.in_ok-rehearse_env.field-0 c.in_ok-rehearse_env.ensures.ok

@@ -1,0 +1,46 @@
+-- What a refusal of a part is for a rehearsal, and how it is reported. Running out of memory is one refusal, wherever it
+-- comes from. Ours.
+use Rattle.std.specs.Prelude.{◌≡◌, ℕ, Bool, Result, Ok, Err}
+use Rattle.envimage.specs.declared.image.ImageError.{ImageError}
+use Rattle.envimage.specs.declared.image.ImageError.TheVariants as image
+use Rattle.rehearse_rules.specs.declared.rehearse_error.RehearseError.{RehearseError}
+use Rattle.rehearse_rules.specs.declared.rehearse_error.RehearseError.TheVariants as rehearsal
+use Rattle.tool_images.specs.declared.error.ToolError.TheVariants as tool
+use Rattle.tool_images.specs.declared.fault.Fault.{Fault}
+use Rattle.tool_images.specs.declared.fault.Fault.TheVariants as told
+use Rattle.tool_steps.specs.Faults as files
+use Rattle.ubtool.specs.declared.fault.ProgramFault.{ProgramFault}
+use Rattle.ubtool.specs.declared.fault.ProgramFault.TheVariants as program
+use Rattle.ubtool.specs.declared.fault.ProgramFault.TheVariants.{Shared}
+use Rattle.ubtool.specs.declared.rehearsal_error.RehearsalError.{RehearsalError}
+use Rattle.ubtool.specs.declared.rehearsal_error.RehearsalError.TheVariants.{Image, Memory, Rehearsal, Write}
+
+abbrev pub image_error : ImageError → RehearsalError
+image_error image.Memory = Memory
+image_error error = Image error
+
+abbrev pub rehearse_error : RehearseError → RehearsalError
+rehearse_error rehearsal.Write = Write
+rehearse_error rehearsal.Memory = Memory
+rehearse_error error = Rehearsal error
+
+-- what the program reports of it, where it names no word of the call
+abbrev pub reported : RehearsalError → ProgramFault
+reported (Image error) = Shared (told.Tool (tool.Image error))
+reported (Rehearsal error) = program.Rehearsal error
+reported Write = Shared (told.Tool tool.Write)
+reported Memory = Shared told.Memory
+
+-- this holds of an answer that other programs give too, and the other thing of a refusal of a rehearsal
+abbrev pub SharedOr : (Other : Type 0) → (Result Bool Fault → Type 0) → Result Bool ProgramFault → Type 0
+SharedOr Other IsSo (Ok all) = IsSo (Ok all)
+SharedOr Other IsSo (Err (Shared fault)) = IsSo (Err fault)
+SharedOr Other IsSo (Err _) = Other
+
+-- no rehearsal is refused, and this holds of the answer
+abbrev pub IsShared : (Result Bool Fault → Type 0) → Result Bool ProgramFault → Type 0
+IsShared IsSo answer = SharedOr ⊥ IsSo answer
+
+-- the count of failures of the device, to which a refusal of a rehearsal adds none
+abbrev pub CountsShared : ℕ → ℕ → Result Bool ProgramFault → Type 0
+CountsShared old new answer = SharedOr (new ≡ old) (files.CountsTold old new) answer

@@ -1,0 +1,13 @@
+pub mod Faults
+pub mod Given
+pub mod Headline
+pub mod Refusing
+pub mod EndingsOfImages
+pub mod Performing
+pub mod Locking
+pub mod WholeProgram
+pub mod RehearsingFiles
+pub mod EndingsOfFiles
+pub use Rattle.tool_images.specs.ChangingImages
+pub use Rattle.tool_images.specs.PrintingImages
+pub use Rattle.tool_words.specs.Asked

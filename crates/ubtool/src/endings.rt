@@ -1,0 +1,87 @@
+//! `endings`, from files to the lines.
+ghost use Rattle.std.specs.Prelude.{◌≡◌, string_bytes};
+ghost use Rattle.tool_files.specs.Told.{IfTold};
+ghost use Rattle.ubtool.specs.EndingsOfFiles.{TellsCopies, TellsFrom, endings_of, endings_refusal};
+ghost use Rattle.ubtool.specs.Faults.{CountsShared};
+ghost use Rattle.tool_steps.specs.Images.{copies};
+ghost use Rattle.ubtool.specs.RehearsingFiles.{LeavesOutput};
+
+use crate::fault::ProgramFault;
+use crate::image_endings::endings_bytes;
+use crate::rehearsal_error::RehearsalError;
+use envimage::ByteOrder;
+use output::Out;
+use rehearse_rules::RehearseError;
+use std::alloc::Global;
+use tool_files::Files;
+use tool_images::WordForm;
+use tool_steps::{Sources, read_sources};
+use tool_words::EndingsAsk;
+
+/// How a refusal of the endings is reported.
+fn refusal_of(error: RehearsalError, what: EndingsAsk) -> ProgramFault
+    ensures { result ≡ endings_refusal what error }
+{
+    match error {
+        RehearsalError::Rehearsal(RehearseError::NoSuchVariable) => {
+            ProgramFault::NoSuchVariable(WordForm(what.name))
+        }
+        error => error.into(),
+    }
+}
+
+/// Reports how the runs of a variable of what was read end.
+fn endings_of_sources<O: Out>(
+    alloc: Global,
+    sources: &Sources,
+    order: ByteOrder,
+    what: &EndingsAsk,
+    out: &mut O,
+) -> Result<(), RehearsalError>
+    ensures { TellsCopies (endings_of order (copies sources.now.images)
+        sources.now.device_list.items what.now) what.now.flow what.now.states (O.sink out.old)
+        (O.sink out.new) result }
+{
+    let ask = rehearse_endings::EndingsAsk {
+        name: what.name.as_bytes(),
+        bounds: what.bounds,
+        states: what.states,
+        flow: what.flow,
+    };
+    let images = &sources.images;
+    let second = images.second_bytes();
+    endings_bytes(
+        alloc,
+        &images.first.bytes,
+        second,
+        order,
+        &sources.device_list,
+        &ask,
+        out,
+    )
+}
+
+/// Reports how all runs of a variable end, for the images that a configuration names. Reads the
+/// images, then the device list, and then writes the lines.
+pub fn endings<F: Files, O: Out>(
+    alloc: Global,
+    files: &mut F,
+    config: String,
+    device_list: String,
+    what: EndingsAsk,
+    order: ByteOrder,
+    out: &mut O,
+) -> Result<bool, ProgramFault>
+    ensures count { CountsShared (F.faults files.old) (F.faults files.new) result }
+    ensures lock { F.locked files.new ≡ F.locked files.old }
+    ensures told { IfTold (F.told files.old) (F.told files.new) (λ old new.
+        TellsFrom order (string_bytes config) (string_bytes device_list) what (O.sink out.old)
+        (O.sink out.new) old new result) }
+    ensures output { LeavesOutput result (O.sink out.old) (O.sink out.new) }
+{
+    let sources = read_sources(alloc, files, config, device_list)?;
+    match endings_of_sources(alloc, &sources, order, &what, out) {
+        Ok(()) => Ok(true),
+        Err(error) => Err(refusal_of(error, what)),
+    }
+}

@@ -1,0 +1,46 @@
+//! The rehearsal, from the bytes of an image to the bytes of the listing.
+ghost use Rattle.std.specs.Prelude.{IfOk, IfErr};
+ghost use Rattle.std.specs.Option.{option_copied};
+ghost use Rattle.rehearse_terms.specs.Asking.{page_of};
+ghost use Rattle.rehearse_terms.specs.Asking.{HasRoom};
+ghost use Rattle.rehearse_terms.specs.WantedShown.{wanted_slices};
+ghost use Rattle.rehearse_runs.specs.AskShown.{asking_of};
+ghost use Rattle.ubtool.specs.Given.{given};
+ghost use Rattle.ubtool.specs.Headline.{Rehearses};
+ghost use Rattle.ubtool.specs.Refusing.{Refuses};
+
+use crate::rehearsal_error::RehearsalError;
+use bootstore_trail::Trail;
+use envimage::ByteOrder;
+use output::Out;
+use rehearse_runs::{Ask, Finish, rehearse_env};
+use std::alloc::Global;
+use tool_images::env_of_image;
+
+/// Rehearses a variable of an image, or of the current copy of a pair, and writes the listing of
+/// its runs: a page of all of them in order, or of the runs after a word; or the record of the run
+/// of one word, and `done`. Returns `More` if runs are left out at the end, else `Done`.
+///
+/// Refusals in order: the image, the device list, `NoSuchVariable`, `NotARun`, with nothing
+/// written; then `Write` during the listing, and `Memory` wherever a growth is made. After these
+/// two, a prefix of the listing has been written; after `Memory` it is whole records.
+pub fn rehearse_bytes<O: Out>(
+    alloc: Global,
+    first: &[u8],
+    second: Option<&[u8]>,
+    order: ByteOrder,
+    devices_text: &[u8],
+    ask: &Ask<'_>,
+    out: &mut O,
+) -> Result<Finish, RehearsalError>
+    requires { HasRoom (page_of (wanted_slices ask.now.wanted)) }
+    ensures ok { IfOk result (λ finish. Rehearses
+        (given order first.now (option_copied second.entry) devices_text.now (asking_of ask.now))
+        (O.sink out.old) (O.sink out.new) finish) }
+    ensures err { IfErr result
+        (λ e. Refuses (given order first.now (option_copied second.entry) devices_text.now
+        (asking_of ask.now)) (O.sink out.old) (O.sink out.new) e) }
+{
+    let env = env_of_image(alloc, first, second, order)?;
+    Ok(rehearse_env::<Trail, O>(alloc, &env, devices_text, ask, out)?)
+}

@@ -1,0 +1,25 @@
+//! The program from its words to its status, over any files and outputs, and what it does with the bytes of images.
+#![tactic(auto)]
+
+mod endings;
+mod fault;
+mod image_endings;
+mod image_rehearsal;
+mod perform;
+mod rehearsal_error;
+mod rehearsing;
+mod tool;
+
+pub use envimage::{ByteOrder, Which};
+pub use envtools::PrintForm;
+pub use fault::ProgramFault;
+pub use image_endings::endings_bytes;
+pub use image_rehearsal::rehearse_bytes;
+pub use output::{Out, OutFault, Over};
+pub use rehearsal_error::RehearsalError;
+pub use rehearse as runs;
+pub use tool::{REFUSED, run_tool};
+pub use tool_files::{FileFault, Files};
+pub use tool_images as images;
+pub use tool_images::{Edit, ToolError, print_bytes, set_bytes};
+pub use tool_words::{Ask, Change, EndingsAsk, PrintAsk, RehearseAsk, UseError, read_command};

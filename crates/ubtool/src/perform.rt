@@ -1,0 +1,83 @@
+//! Does what is asked for.
+ghost use Rattle.output.specs.Outputs.{outputs};
+ghost use Rattle.ubtool.specs.Performing.{Counts, Does, IsComplete};
+ghost use Rattle.tool_steps.specs.Running.{files_shown};
+ghost use Rattle.ubtool.specs.Locking.{LocksFor};
+
+use crate::endings::endings;
+use crate::fault::ProgramFault;
+use crate::rehearsing::rehearse;
+use crate::tool::PROGRAM;
+use output::Out;
+use std::alloc::Global;
+use std::io::Read;
+use tool_files::Files;
+use tool_steps::{Build, ImageSource, print_files, set_files, show_help, show_version};
+use tool_words::Ask;
+
+/// Does what is asked for. Takes the lock for a change, before its first read, and for nothing else. If
+/// the lock is refused, no file is touched.
+/// A script of changes may be on `input`, and the version names `build`. What is reported meanwhile has
+/// the name `program` in front. Returns false if a variable that was to be printed is missing.
+pub fn perform<R: Read, F: Files, O: Out, E: Out>(
+    alloc: Global,
+    program: &str,
+    build: Build,
+    ask: Ask,
+    input: &mut R,
+    files: &mut F,
+    out: &mut O,
+    err: &mut E,
+) -> Result<bool, ProgramFault>
+    requires { IsComplete ask }
+    ensures count { Counts ask (F.faults files.old) (F.faults files.new) result }
+    ensures lock { LocksFor ask result (files_shown F.Files files.old)
+        (files_shown F.Files files.new) }
+    ensures does { Does program.now build (R.remaining input.old) ask (F.told files.old) (F.told files.new)
+        (outputs (O.sink out.old) (O.sink out.new) (E.sink err.old) (E.sink err.new)) result }
+{
+    match ask {
+        Ask::Print {
+            config,
+            what,
+            order,
+            one_copy,
+        } => {
+            let source = ImageSource {
+                config,
+                order,
+                one_copy,
+            };
+            Ok(print_files(alloc, files, program, source, &what, out, err)?)
+        }
+        Ask::Setenv {
+            config,
+            change,
+            order,
+            one_copy,
+        } => {
+            files.lock()?;
+            let source = ImageSource {
+                config,
+                order,
+                one_copy,
+            };
+            set_files(alloc, input, files, program, source, change, err)?;
+            Ok(true)
+        }
+        Ask::Rehearse {
+            config,
+            devices_file,
+            what,
+            order,
+        } => rehearse(alloc, files, config, devices_file, what, order, out),
+        Ask::Endings {
+            config,
+            devices_file,
+            what,
+            order,
+        } => endings(alloc, files, config, devices_file, what, order, out),
+        Ask::Help(text) => Ok(show_help(out, &text)?),
+        Ask::Version => Ok(show_version(out, PROGRAM, build)?),
+    }
+}

@@ -1,0 +1,91 @@
+//! `rehearse`, from files to the listing.
+ghost use Rattle.std.specs.Prelude.{◌≡◌, string_bytes};
+ghost use Rattle.tool_files.specs.Told.{IfTold};
+ghost use Rattle.ubtool.specs.Faults.{CountsShared};
+ghost use Rattle.tool_steps.specs.Images.{copies};
+ghost use Rattle.ubtool.specs.RehearsingFiles.{LeavesOutput, RehearsesCopies, RehearsesFrom, refusal_of, rehearsal_of};
+
+use crate::fault::ProgramFault;
+use crate::image_rehearsal::rehearse_bytes;
+use crate::rehearsal_error::RehearsalError;
+use envimage::ByteOrder;
+use output::Out;
+use rehearse_rules::RehearseError;
+use rehearse_runs::Finish;
+use std::alloc::Global;
+use tool_files::Files;
+use tool_images::WordForm;
+use tool_steps::{Sources, read_sources, slices_of};
+use tool_words::RehearseAsk;
+
+/// How a refusal of a rehearsal is reported.
+fn refusal_of(error: RehearsalError, what: RehearseAsk) -> ProgramFault
+    ensures { result ≡ refusal_of what error }
+{
+    match (error, what.wanted.into_word()) {
+        (RehearsalError::Rehearsal(RehearseError::NoSuchVariable), _) => {
+            ProgramFault::NoSuchVariable(WordForm(what.name))
+        }
+        (RehearsalError::Rehearsal(RehearseError::NotARun), Some(word)) => {
+            ProgramFault::NotARun(WordForm(word))
+        }
+        (error, _) => error.into(),
+    }
+}
+
+/// Rehearses a variable of what was read.
+fn rehearse_sources<O: Out>(
+    alloc: Global,
+    sources: &Sources,
+    order: ByteOrder,
+    what: &RehearseAsk,
+    out: &mut O,
+) -> Result<Finish, RehearsalError>
+    ensures { RehearsesCopies (rehearsal_of order (copies sources.now.images)
+        sources.now.device_list.items what.now) (O.sink out.old) (O.sink out.new) result }
+{
+    let Ok(names) = slices_of(alloc, &what.names) else {
+        return Err(RehearsalError::Memory);
+    };
+    let ask = rehearse_runs::Ask {
+        name: what.name.as_bytes(),
+        wanted: what.wanted.as_bytes(),
+        names: &names,
+    };
+    let images = &sources.images;
+    let second = images.second_bytes();
+    rehearse_bytes(
+        alloc,
+        &images.first.bytes,
+        second,
+        order,
+        &sources.device_list,
+        &ask,
+        out,
+    )
+}
+
+/// Rehearses a variable of the images that a configuration names. Reads the images, then the device
+/// list, and then writes the listing.
+pub fn rehearse<F: Files, O: Out>(
+    alloc: Global,
+    files: &mut F,
+    config: String,
+    device_list: String,
+    what: RehearseAsk,
+    order: ByteOrder,
+    out: &mut O,
+) -> Result<bool, ProgramFault>
+    ensures count { CountsShared (F.faults files.old) (F.faults files.new) result }
+    ensures lock { F.locked files.new ≡ F.locked files.old }
+    ensures told { IfTold (F.told files.old) (F.told files.new) (λ old new.
+        RehearsesFrom order (string_bytes config) (string_bytes device_list) what (O.sink out.old)
+        (O.sink out.new) old new result) }
+    ensures output { LeavesOutput result (O.sink out.old) (O.sink out.new) }
+{
+    let sources = read_sources(alloc, files, config, device_list)?;
+    match rehearse_sources(alloc, &sources, order, &what, out) {
+        Ok(_) => Ok(true),
+        Err(error) => Err(refusal_of(error, what)),
+    }
+}
