@@ -1,9 +1,10 @@
 -- What the built-in and the computed commands do that ask no device and run no text (U-Boot documentation, doc/usage/cmd, on
 -- `echo`, `env`, `exit`, `true` and `false`). What the pages leave open is ours.
 use Rattle.std.specs.Prelude.{ℕ, ◌+◌, ◌-◌, ◌*◌, nat_le, nat_eq, Bool, false, not, cond, ◌&&◌, List, [], ◌∷◌, ◌++◌, length, Option, Some, None, is_some, bytes_eq, codes}
-use Rattle.std.specs.List.{join_with_byte, list_all}
 use Rattle.std.specs.Fmt.{digits}
 use Rattle.text.specs.Bytes as ascii
+use Rattle.text.specs.Numbers.{are_digits, is_digit}
+use Rattle.text.specs.Words.{joined_words}
 use Rattle.builtins.specs.Builtins.{Builtin, SetEnv, Run, Test, Echo, True, False, Leave}
 use Rattle.commands.specs.Computed.{Computed, Gives, Exists, Sets, Deletes, SetsNumber}
 use Rattle.rehearse_terms.specs.State.{Text, Variables, Memory, get, with_value, without}
@@ -31,17 +32,14 @@ abbrev pub setenv : List Text → Variables → Variables × ℕ
 setenv [] variables = (variables, 1)
 setenv (name ∷ []) variables = cond (is_bad_name name) (variables, 1) (without variables name, 0)
 setenv (name ∷ w ∷ ws) variables =
-    cond (is_bad_name name) (variables, 1) (with_value variables name (join_with_byte ascii.space (w ∷ ws)), 0)
+    cond (is_bad_name name) (variables, 1) (with_value variables name (joined_words (w ∷ ws)), 0)
 
 -- `echo` and its words: they are written, joined by spaces, with a newline, which a first word `-n` leaves out
 abbrev pub echo : List Text → Text
 echo [] = ascii.newline ∷ []
 echo (w ∷ ws) =
-    cond (bytes_eq w (codes "-n")) (join_with_byte ascii.space ws)
-    (join_with_byte ascii.space (w ∷ ws) ++ ascii.newline ∷ [])
-
-abbrev pub is_digit : ℕ → Bool
-is_digit b = nat_le ascii.digit_zero b && nat_le b ascii.digit_nine
+    cond (bytes_eq w (codes "-n")) (joined_words ws)
+    (joined_words (w ∷ ws) ++ ascii.newline ∷ [])
 
 -- the number up to 255 that digits spell after the digits of n
 abbrev pub decimal_from : ℕ → Text → Option ℕ
@@ -53,7 +51,7 @@ abbrev pub exit_status : List Text → Option ℕ
 exit_status [] = Some 0
 exit_status ([] ∷ []) = None
 exit_status ((b ∷ bs) ∷ []) =
-    cond (nat_eq b ascii.minus && not (nat_eq (length bs) 0) && list_all is_digit bs) (Some 0) (decimal_from 0 (b ∷ bs))
+    cond (nat_eq b ascii.minus && not (nat_eq (length bs) 0) && are_digits bs) (Some 0) (decimal_from 0 (b ∷ bs))
 exit_status (w ∷ v ∷ ws) = None
 
 -- ---- computed commands

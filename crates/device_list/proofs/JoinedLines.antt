@@ -1,5 +1,5 @@
 -- The lines of one name, joined one after another.
-use Rattle.std.proofs.Common.{◌≡◌, ℕ, ◌||◌, ◌&&◌, Bool, true, false, cond, eqb, List, [], ◌∷◌, ◌++◌, Option, Some, None, Result, Ok, Err, refl, sym, ap, subst, ◌∙◌, append_assoc, inl, inr}
+use Rattle.std.proofs.Common.{◌≡◌, ℕ, ◌||◌, ◌&&◌, Bool, true, false, cond, List, [], ◌∷◌, ◌++◌, Option, Some, None, Result, Ok, Err, refl, sym, ap, subst, ◌∙◌, append_assoc, inl, inr}
 use Rattle.std.proofs.lemmas.Bool.{cases_Bool, and_parts}
 use Rattle.std.proofs.lemmas.Grind.{flat_map-append}
 use Rattle.std.proofs.lemmas.List.{append-nil}
@@ -13,6 +13,7 @@ use Rattle.std.specs.Str.{bytes_eq}
 use Rattle.text.specs.Lines.{numbered_lines}
 use Rattle.std.proofs.Math.Bool.{or-false}
 use Rattle.text.specs.Lines.{Text}
+use Rattle.text.specs.Words.{has_nul}
 use Rattle.device_list.specs.DeviceList.{Effect, Effects, Devices, DeviceLine, effect_at, changed_at, joint_behind, joined_behind, joined_by, joined, only, device_words, begins_comment, heading_of, line_of, known_named, with_known, is_steady_test, after_known, after_words, after_line, listed_lines}
 use Rattle.device_list.proofs.LineLemmas.{known_is_bad, test_is_built_in}
 use Rattle.device_list.specs.DeviceLaws.{line_said, with_said, lines_said, lines_at, same_word, whole_effect, LinesAreJoined}
@@ -144,7 +145,7 @@ IsWhole-words : (devices next : Devices) (before : List DeviceLine) (number : �
     → IsWhole devices before → IsWhole next (before ++ with_said (line_said number words) [])
 IsWhole-words devices next before number line [] e h = IsWhole-kept devices next before (ok-same e) h
 IsWhole-words devices next before number line (first ∷ words) e h =
-    by (known_named first words) refl (is_steady_test first words) refl (begins_comment first) (list_any (λ b. eqb b 0) line) (line_of number (heading_of first words)) refl e
+    by (known_named first words) refl (is_steady_test first words) refl (begins_comment first) (has_nul line) (line_of number (heading_of first words)) refl e
   where
     by : (o : Option Text) → known_named first words ≡ o → (test : Bool) → is_steady_test first words ≡ test → (comment nul : Bool) (r : Result DeviceLine DevicesError) → line_of number (heading_of first words) ≡ r
         → cond comment (Ok devices) (cond nul (Err (BadLine number)) (after_known devices o test r)) ≡ Ok next

@@ -1,12 +1,12 @@
 -- Lists go by the kinds that their lines use.
-use Rattle.std.proofs.Common.{◌≡◌, ℕ, ◌||◌, ◌&&◌, not, Bool, true, false, cond, eqb, List, [], ◌∷◌, filter, Option, Some, None, Result, Ok, Err, codes, refl, sym, ap, ◌∙◌}
+use Rattle.std.proofs.Common.{◌≡◌, ℕ, ◌||◌, ◌&&◌, not, Bool, true, false, cond, List, [], ◌∷◌, filter, Option, Some, None, Result, Ok, Err, codes, refl, sym, ap, ◌∙◌}
 use Rattle.std.proofs.lemmas.Bool.{and_parts}
 use Rattle.std.proofs.Math.Bool.{and-true}
 use Rattle.std.specs.Option.{is_some}
 use Rattle.std.specs.List.{list_any, list_all}
 use Rattle.std.specs.Str.{bytes_eq}
 use Rattle.text.specs.Lines.{numbered_lines}
-use Rattle.text.specs.Words.{is_equals}
+use Rattle.text.specs.Words.{has_nul, is_equals}
 use Rattle.text.specs.Lines.{Text}
 use Rattle.device_list.specs.DeviceList.{Devices, DeviceLine, Heading, named, call_of, steady_of, heading_of, line_of, with_line, with_known, known_named, is_steady_test, after_known, device_words, begins_comment, after_words, after_line, only, is_marked, listed_lines}
 use Rattle.device_list.specs.Kinds.{Kind, Settings, Final, Sub, Known, Steady, every_kind, has, has_words, uses, kinds_said, uses_only, call_among, steady_among, heading_among, said_among, words_among, line_among, lines_among, LinesGoByKinds, ListsGoByKinds, FurtherKindsChangeNothing, KindsAreAll}
@@ -226,7 +226,7 @@ module _ (kinds : List Kind) where
     words-kinds : (line : Text) (words : List Text) → words_among kinds devices number line words ≡ cond (list_all (has kinds) (kinds_said words)) (after_words devices number line words) refused
     words-kinds line [] = refl
     words-kinds line (first ∷ words) =
-        by (begins_comment first) (list_any (λ b. eqb b 0) line) (known_named first words) refl (is_steady_test first words) refl
+        by (begins_comment first) (has_nul line) (known_named first words) refl (is_steady_test first words) refl
       where
         by : (comment nul : Bool) (o : Option Text) → known_named first words ≡ o → (test : Bool) → is_steady_test first words ≡ test
             → cond comment (Ok devices) (cond nul refused (after_known devices (cond (has kinds Known) o None) (has kinds Steady && test) (said first words)))

@@ -6,7 +6,7 @@ use Rattle.std.proofs.lemmas.List.Splits.{slice_split-cons_no}
 use Rattle.std.specs.List.{list_any, slice_split, onto_first}
 use Rattle.std.specs.Str.{bytes_eq}
 use Rattle.text.specs.Lines.{numbered_lines}
-use Rattle.text.specs.Words.{is_blank, is_space, cut_front, onto_line, cut_behind, trimmed}
+use Rattle.text.specs.Words.{has_nul, is_blank, is_space, cut_front, onto_line, cut_behind, trimmed}
 use Rattle.text.specs.Lines.{Text}
 use Rattle.builtins.specs.Builtins.{is_built_in}
 use Rattle.device_list.specs.DeviceList.{Effects, Devices, joined_in, only, with_line, after_words, after_line, listed_lines}
@@ -41,14 +41,11 @@ not_zero n = elim (eqb_tells (suc n) 0) [ inl h ↦ absurd (let e = h.1 in omega
 
 -- ---- a NUL is not a blank
 
-abbrev holds_nul : Text → Bool
-holds_nul = list_any (λ b. eqb b 0)
-
 not_nul : (b : ℕ) → is_blank b ≡ true → eqb b 0 ≡ false
 not_nul zero e = sym e
 not_nul (suc b) e = not_zero b
 
-cut_front-nul : (line : Text) → holds_nul (cut_front is_blank line) ≡ holds_nul line
+cut_front-nul : (line : Text) → has_nul (cut_front is_blank line) ≡ has_nul line
 cut_front-nul [] = refl
 cut_front-nul (b ∷ line) =
     elim (cases_Bool (is_blank b)) [
@@ -56,7 +53,7 @@ cut_front-nul (b ∷ line) =
       | inr other ↦ rw other refl
     ]
 
-onto_line-nul : (b : ℕ) (line : Text) → holds_nul (onto_line is_blank b line) ≡ (eqb b 0 || holds_nul line)
+onto_line-nul : (b : ℕ) (line : Text) → has_nul (onto_line is_blank b line) ≡ (eqb b 0 || has_nul line)
 onto_line-nul b [] =
     elim (cases_Bool (is_blank b)) [
       | inl blank ↦ let no = not_nul b blank in rw (blank, no) refl
@@ -64,11 +61,11 @@ onto_line-nul b [] =
     ]
 onto_line-nul b (c ∷ line) = refl
 
-cut_behind-nul : (line : Text) → holds_nul (cut_behind is_blank line) ≡ holds_nul line
+cut_behind-nul : (line : Text) → has_nul (cut_behind is_blank line) ≡ has_nul line
 cut_behind-nul [] = refl
 cut_behind-nul (b ∷ line) = onto_line-nul b (cut_behind is_blank line) ∙ ap (λ r. eqb b 0 || r) (cut_behind-nul line)
 
-trimmed-nul : (line : Text) → holds_nul (trimmed line) ≡ holds_nul line
+trimmed-nul : (line : Text) → has_nul (trimmed line) ≡ has_nul line
 trimmed-nul line = cut_behind-nul (cut_front is_blank line) ∙ cut_front-nul line
 
 -- ---- the words of a line
@@ -79,7 +76,7 @@ one_word (b ∷ line) e =
     let both = or_parts (is_space b) (list_any is_space line) e in
     slice_split-cons_no is_space b line both.0 ∙ ap (onto_first b) (one_word line both.1)
 
-no_gap : (line : Text) → list_any (λ c. is_space c || eqb c 0) line ≡ false → (list_any is_space line ≡ false) × (holds_nul line ≡ false)
+no_gap : (line : Text) → list_any (λ c. is_space c || eqb c 0) line ≡ false → (list_any is_space line ≡ false) × (has_nul line ≡ false)
 no_gap [] e = (refl, refl)
 no_gap (b ∷ line) e =
     let both = or_parts (is_space b || eqb b 0) (list_any (λ c. is_space c || eqb c 0) line) e in
@@ -114,7 +111,7 @@ module _ (names : List Text) (number : ℕ) (line : Text) where
       ap (λ ws. after_words (quiet_names names) number line (full ws)) (slice_split-cons_no is_space b bytes no) ∙ comment-words b (slice_split is_space bytes) e
 
   -- a name
-  name-stands : (next : List Text) (b : ℕ) (bytes : Text) → eqb b 35 ≡ false → list_any is_space (b ∷ bytes) ≡ false → holds_nul line ≡ false
+  name-stands : (next : List Text) (b : ℕ) (bytes : Text) → eqb b 35 ≡ false → list_any is_space (b ∷ bytes) ≡ false → has_nul line ≡ false
       → cond (is_built_in (b ∷ bytes)) (Err (BuiltIn number)) (Ok (with_name names (b ∷ bytes))) ≡ Ok next → after_words (quiet_names names) number line (words_in (b ∷ bytes)) ≡ accepted next
   name-stands next b bytes no_comment no_space no_nul e =
       ap (λ ws. after_words (quiet_names names) number line (full ws)) (one_word (b ∷ bytes) no_space)
@@ -124,7 +121,7 @@ module _ (names : List Text) (number : ℕ) (line : Text) where
       by true e = cc
       by false e = ap (λ ds. let r : Result Devices DevicesError = Ok (only ds) in r) (joined-name names (b ∷ bytes)) ∙ ap accepted (ok-same e)
 
-  line-stands : (next : List Text) (word : Text) → holds_nul word ≡ holds_nul line → plain_line names number word ≡ Ok next → after_words (quiet_names names) number line (words_in word) ≡ accepted next
+  line-stands : (next : List Text) (word : Text) → has_nul word ≡ has_nul line → plain_line names number word ≡ Ok next → after_words (quiet_names names) number line (words_in word) ≡ accepted next
   line-stands next [] nul e = ap accepted (ok-same e)
   line-stands next (b ∷ bytes) nul e = by (eqb b 35) (list_any (λ c. is_space c || eqb c 0) (b ∷ bytes)) refl refl e
     where

@@ -1,11 +1,12 @@
 -- Lists that have only names.
-use Rattle.std.proofs.Common.{◌≡◌, ℕ, ◌≤◌, Bool, true, false, cond, eqb, nat_le, List, [], ◌∷◌, length, Some, None, Result, Ok, Err, refl, sym, ap, subst, ◌∙◌, arith}
-use Rattle.std.specs.List.{list_any, list_all, AllByRecursion}
+use Rattle.std.proofs.Common.{◌≡◌, ℕ, ◌≤◌, Bool, true, false, cond, nat_le, List, [], ◌∷◌, length, Some, None, Result, Ok, Err, refl, sym, ap, subst, ◌∙◌, arith}
+use Rattle.std.specs.List.{list_all, AllByRecursion}
 use Rattle.std.specs.Str.{bytes_eq}
 use Rattle.std.proofs.lemmas.Bool.{and_parts}
 use Rattle.std.proofs.lemmas.Bool.Decides.{nat_tests}
 use Rattle.text.specs.Lines.{numbered_lines}
 use Rattle.text.specs.Lines.{Text}
+use Rattle.text.specs.Words.{has_nul}
 use Rattle.builtins.specs.Builtins.{is_built_in}
 use Rattle.device_list.specs.DeviceList.{Effect, Effects, Devices, effect_in, effect_of, joint, joined_in, only, device_words, begins_comment, with_line, after_words, after_line, listed_lines}
 use Rattle.device_list.specs.DeviceLaws.{quiet, is_name_alone, NamesAreQuiet}
@@ -48,7 +49,7 @@ found-quiet devices name words effect all e = named-quiet devices.commands name 
 words-quiet : (devices next : Devices) (number : ℕ) (line : Text) (words : List Text) → nat_le (length words) 1 ≡ true → after_words devices number line words ≡ Ok next → AreQuiet devices → AreQuiet next
 words-quiet devices next number line [] short e all = subst AreQuiet (ok-same e) all
 words-quiet devices next number line (first ∷ []) short e all =
-    by (begins_comment first) (list_any (λ b. eqb b 0) line) (is_built_in first) e
+    by (begins_comment first) (has_nul line) (is_built_in first) e
   where
     by : (comment nul built_in : Bool) → cond comment (Ok devices) (cond nul (Err (BadLine number)) (with_line devices (cond built_in (Err (BuiltIn number)) (Ok (record { name = first; word = None; effect = quiet }))))) ≡ Ok next → AreQuiet next
     by true nul built_in e = subst AreQuiet (ok-same e) all

@@ -1,5 +1,5 @@
 -- What no line of a list uses, the list does not say.
-use Rattle.std.proofs.Common.{◌≡◌, ℕ, ◌||◌, ◌&&◌, not, Bool, true, false, cond, eqb, List, [], ◌∷◌, ◌++◌, filter, Option, Some, None, Result, Ok, Err, codes, refl, sym, ap, subst, ◌∙◌}
+use Rattle.std.proofs.Common.{◌≡◌, ℕ, ◌||◌, ◌&&◌, not, Bool, true, false, cond, List, [], ◌∷◌, ◌++◌, filter, Option, Some, None, Result, Ok, Err, codes, refl, sym, ap, subst, ◌∙◌}
 use Rattle.std.proofs.lemmas.Bool.{and_parts, or_parts}
 use Rattle.std.proofs.Math.Bool.{and-true}
 use Rattle.std.specs.Option.{is_some}
@@ -8,6 +8,7 @@ use Rattle.std.specs.Map.{lookup}
 use Rattle.std.specs.Str.{bytes_eq}
 use Rattle.text.specs.Lines.{numbered_lines}
 use Rattle.text.specs.Lines.{Text}
+use Rattle.text.specs.Words.{has_nul}
 use Rattle.builtins.specs.Builtins.{is_built_in}
 use Rattle.device_list.specs.DeviceList.{Effect, Effects, Devices, Setting, DeviceLine, Heading, effect_in, effect_at, joint, joint_behind, joined_behind, joined_by, joined, changed_at, only, listed, device_words, begins_comment, heading_of, settings, line_with, line_of, known_named, with_known, is_steady_test, after_known, after_words, after_line, listed_lines}
 use Rattle.device_list.specs.Kinds.{Kind, Settings, Final, Sub, Known, Steady, every_kind, same_kind, has, has_words, uses, kinds_said, kinds_of, EachCall, SaysNothing, UnusedKindsSayNothing}
@@ -51,7 +52,7 @@ module _ (kind : Kind) (P : Devices → Type 0)
   words-keep : (devices next : Devices) (number : ℕ) (line : Text) (words : List Text) → has (kinds_said words) kind ≡ false → after_words devices number line words ≡ Ok next → P devices → P next
   words-keep devices next number line [] none e p = subst P (ok-same e) p
   words-keep devices next number line (first ∷ words) none e p =
-      by (begins_comment first) (list_any (λ b. eqb b 0) line) (known_named first words) (is_steady_test first words) refl (line_of number (heading_of first words)) refl none e
+      by (begins_comment first) (has_nul line) (known_named first words) (is_steady_test first words) refl (line_of number (heading_of first words)) refl none e
     where
       steady_test : is_steady_test first words ≡ true → has (filter (uses (heading_of first words)) every_kind) kind ≡ false → same_kind kind Steady ≡ false
       steady_test at without =

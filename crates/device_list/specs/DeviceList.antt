@@ -1,12 +1,12 @@
 -- The device list: which commands are device commands, and what each does on success. Ours.
-use Rattle.std.specs.Prelude.{ℕ, ◌+◌, ◌-◌, ◌==◌, nat_eq, nat_lt, min, ◌||◌, ◌&&◌, ◌++◌, not, Bool, true, false, List, [], ◌∷◌, length, take, drop, filter, Option, Some, None, is_some, option_map, Result, Ok, Err, codes, if◌then◌else◌}
+use Rattle.std.specs.Prelude.{ℕ, ◌+◌, ◌-◌, ◌==◌, nat_eq, min, ◌||◌, ◌&&◌, ◌++◌, not, Bool, true, false, List, [], ◌∷◌, length, take, drop, filter, Option, Some, None, is_some, option_map, Result, Ok, Err, codes, if◌then◌else◌}
 use Rattle.std.specs.Str.{bytes_eq}
-use Rattle.std.specs.List.{list_any, list_all, slice_split, position, starts_with}
+use Rattle.std.specs.List.{list_any, slice_split, position, starts_with}
 use Rattle.std.specs.Map.{lookup}
 use Rattle.text.specs.Bytes as ascii
 use Rattle.text.specs.Lines.{numbered_lines}
-use Rattle.text.specs.Numbers.{digit_of, value_in}
-use Rattle.text.specs.Words.{is_equals, is_space, trimmed}
+use Rattle.text.specs.Numbers.{are_digits, value_in}
+use Rattle.text.specs.Words.{has_nul, is_equals, is_space, trimmed}
 use Rattle.text.specs.Lines.{Text}
 use Rattle.builtins.specs.Builtins.{is_built_in}
 use Rattle.commands.specs.KnownCommands.{known_of}
@@ -89,9 +89,6 @@ is_variable (b ∷ bytes) = not (b == ascii.minus)
 -- the word with this number, counted from 1; a number above the greatest of 64 bits counts as that one
 abbrev pub numbered : ℕ → Option LeftSide
 numbered number = if number == 0 then None else Some (WordAt (number - 1))
-
-abbrev pub are_digits : Text → Bool
-are_digits = list_all (λ b. nat_lt (digit_of b) 10)
 
 abbrev pub is_decimal : Text → Bool
 is_decimal word = not (length word == 0) && are_digits word
@@ -254,7 +251,7 @@ abbrev pub after_words : Devices → ℕ → Text → List Text → Result Devic
 after_words devices number line [] = Ok devices
 after_words devices number line (first ∷ words) =
     if begins_comment first then Ok devices
-    else (if list_any (λ b. b == ascii.nul) line then Err (BadLine number)
+    else (if has_nul line then Err (BadLine number)
     else after_known devices (known_named first words) (is_steady_test first words)
     (line_of number (heading_of first words)))
 

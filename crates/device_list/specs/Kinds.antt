@@ -1,11 +1,10 @@
 -- How device lists grow. A line names a command; what else a line may have are kinds. A list is read the same whatever
 -- kinds there are beside those that its lines use. A further kind is added here and in DeviceList.antt. Ours.
-use Rattle.std.specs.Prelude.{◌≡◌, ℕ, ◌==◌, ◌||◌, ◌&&◌, not, Bool, true, false, List, [], ◌∷◌, filter, Option, Some, None, is_some, Result, Ok, Err, codes, if◌then◌else◌}
+use Rattle.std.specs.Prelude.{◌≡◌, ℕ, ◌||◌, ◌&&◌, not, Bool, true, false, List, [], ◌∷◌, filter, Option, Some, None, is_some, Result, Ok, Err, codes, if◌then◌else◌}
 use Rattle.std.specs.List.{list_any, list_all}
 use Rattle.std.specs.Str.{bytes_eq}
-use Rattle.text.specs.Bytes as ascii
 use Rattle.text.specs.Lines.{numbered_lines}
-use Rattle.text.specs.Words.{is_equals}
+use Rattle.text.specs.Words.{has_nul, is_equals}
 use Rattle.text.specs.Lines.{Text}
 use Rattle.device_list.specs.DeviceList.{Effect, Devices, DeviceLine, Heading, effect_of, device_words, named, call_of, heading_of, line_of, known_named, is_steady_test, after_known, begins_comment, after_line, only, is_marked, listed}
 use Rattle.device_list.specs.declared.devices_error.DevicesError.{DevicesError}
@@ -97,7 +96,7 @@ module _ (kinds : List Kind) where
   words_among devices number line [] = Ok devices
   words_among devices number line (first ∷ words) =
       if begins_comment first then Ok devices
-      else (if list_any (λ b. b == ascii.nul) line then Err (BadLine number)
+      else (if has_nul line then Err (BadLine number)
       else after_known devices (known_among first words) (has kinds Steady && is_steady_test first words)
       (said_among number (heading_among first words)))
 

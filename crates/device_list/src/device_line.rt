@@ -1,5 +1,5 @@
 //! What one line of a device list says.
-ghost use Rattle.std.specs.Prelude.{◌≡◌, ◌==◌, map, option_map, IfOk};
+ghost use Rattle.std.specs.Prelude.{◌≡◌, map, option_map, IfOk};
 ghost use Rattle.std.specs.List.{list_any};
 ghost use Rattle.text.specs.Words.{is_equals};
 ghost use Rattle.device_list.specs.DeviceList.{device_words, named, call_of, steady_of, heading_of, known_named, is_steady_test, begins_comment};
@@ -38,13 +38,6 @@ pub(crate) fn begins_comment(word: &[u8]) -> bool
         [first, ..] => *first == b'#',
         [] => false,
     }
-}
-
-/// Whether a line holds a NUL.
-pub(crate) fn has_nul(line: &[u8]) -> bool
-    ensures { result ≡ list_any (λ b. b == 0) line.now }
-{
-    line.iter().any(|byte| *byte == 0)
 }
 
 /// Whether a word holds `=`.

@@ -7,9 +7,7 @@ ghost use Rattle.std.specs.Str.{bytes_eq};
 ghost use Rattle.commands.specs.TextsShown.{texts};
 ghost use Rattle.device_list.specs.NamedPlaces.{at_place};
 
-use crate::device_line::{
-    begins_comment, device_words, has_nul, heading_of, is_steady_test, known_named,
-};
+use crate::device_line::{begins_comment, device_words, heading_of, is_steady_test, known_named};
 use crate::devices_error::DevicesError;
 use crate::setting::{Setting, settings};
 use builtins::is_built_in;
@@ -17,7 +15,7 @@ use commands::{Computed, computes, known_of};
 use indexmap::IndexMap;
 use std::alloc::{AllocError, Global};
 use std::marker::Model;
-use text::Lines;
+use text::{Lines, has_nul};
 
 /// What a device command does on success, and whether its answers stay.
 #[derive(Clone, Copy, Debug)]

@@ -2,11 +2,11 @@
 ghost use Rattle.std.specs.Prelude.{◌≡◌, ◌==◌, map, option_map, IfOk, OnOk};
 ghost use Rattle.std.specs.List.{position};
 ghost use Rattle.text.specs.Words.{is_equals};
-ghost use Rattle.device_list.specs.DeviceList.{is_variable, are_digits, is_decimal, word_of_call, left_side, setting, settings};
+ghost use Rattle.device_list.specs.DeviceList.{is_variable, is_decimal, word_of_call, left_side, setting, settings};
 ghost use Rattle.device_list.specs.DevicesShown.{left_shown, setting_shown, settings_shown};
 
 use std::alloc::{AllocError, Global};
-use text::{digit_of, value_in};
+use text::{are_digits, value_in};
 
 /// The left side of a setting.
 #[derive(Debug, Drop)]
@@ -43,13 +43,6 @@ fn is_variable(name: &[u8]) -> bool
         [] => false,
         [first, ..] => *first != b'-',
     }
-}
-
-/// Whether all bytes are decimal digits.
-fn are_digits(bytes: &[u8]) -> bool
-    ensures { result ≡ are_digits bytes.now }
-{
-    bytes.iter().all(|byte| digit_of(*byte) < 10)
 }
 
 /// Whether a word is a decimal number.

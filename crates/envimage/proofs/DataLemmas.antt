@@ -5,8 +5,8 @@ use Rattle.std.proofs.lemmas.List.Folds.{list_any_at}
 use Rattle.std.proofs.lemmas.List.Quantifiers.{position-Some}
 use Rattle.std.proofs.lemmas.Bool.{cases_Bool, false≢true, or_parts}
 use Rattle.text.proofs.SearchLemmas.{position-none}
-use Rattle.text.specs.Words.{is_equals}
-use Rattle.envimage.specs.Data.{texts_of, texts_fault, is_nul}
+use Rattle.text.specs.Words.{is_equals, is_nul}
+use Rattle.envimage.specs.Data.{texts_of, texts_fault}
 use Rattle.envimage.specs.declared.content.DataError.TheVariants.{NoEquals, EmptyName}
 
 -- without a NUL, no text ends

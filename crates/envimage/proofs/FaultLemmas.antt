@@ -3,8 +3,8 @@ use Rattle.std.proofs.Common.{◌≡◌, ◌≢◌, ℕ, zero, suc, ◌+◌, ◌
 use Rattle.std.proofs.lemmas.Bool.{cases_eq}
 use Rattle.std.proofs.lemmas.Bool.Decides.{nat_tests}
 use Rattle.std.specs.List.{flat_map, AllByRecursion, list_any}
-use Rattle.text.specs.Words.{is_equals}
-use Rattle.envimage.specs.Data.{Pair, IsVariable, IsData, IsRow, IsLongestRow, BeginsWithText, IsFaultAt, IsFault, IsNameByte, entry, texts_of, texts_fault, is_nul}
+use Rattle.text.specs.Words.{is_equals, is_nul}
+use Rattle.envimage.specs.Data.{Pair, IsVariable, IsData, IsRow, IsLongestRow, BeginsWithText, IsFaultAt, IsFault, IsNameByte, entry, texts_of, texts_fault}
 use Rattle.envimage.specs.Laws.{FaultIsComputed, EachFaultIsDefined, FaultlessIsData}
 use Rattle.envimage.specs.declared.content.DataError.{DataError}
 use Rattle.envimage.specs.declared.content.DataError.TheVariants.{NotTerminated, NoEquals, EmptyName}

@@ -1,8 +1,8 @@
 -- The data of an image: entries `name=value`, each ended by a NUL, then one more NUL, then anything.
-use Rattle.std.specs.Prelude.{◌≡◌, ◌≢◌, ℕ, ◌+◌, ◌≤◌, ◌==◌, Bool, List, [], ◌∷◌, ◌++◌, length, Option, None, Some, if◌then◌else◌}
+use Rattle.std.specs.Prelude.{◌≡◌, ◌≢◌, ℕ, ◌+◌, ◌≤◌, List, [], ◌∷◌, ◌++◌, length, Option, None, Some, if◌then◌else◌}
 use Rattle.std.specs.List.{flat_map, AllByRecursion, before_first, after_first, list_any}
 use Rattle.text.specs.Bytes as ascii
-use Rattle.text.specs.Words.{is_equals}
+use Rattle.text.specs.Words.{is_equals, is_nul}
 use Rattle.envimage.specs.declared.content.DataError.{DataError}
 use Rattle.envimage.specs.declared.content.DataError.TheVariants.{NotTerminated, NoEquals, EmptyName}
 
@@ -61,9 +61,6 @@ pub record IsFault (body : List ℕ) (fault : Option DataError) : Type 0 where
   pub fault_there : IsFaultAt (length (flat_map entry pairs)) rest fault
 
 -- ---- the same, computed from the texts between the NULs
-
-abbrev pub is_nul : ℕ → Bool
-is_nul b = b == ascii.nul
 
 abbrev pub onto_first : ℕ → List (List ℕ) → List (List ℕ)
 onto_first b [] = []

@@ -1,13 +1,14 @@
 -- What the built-in commands do to a store.
 use Rattle.std.proofs.Common.{ℕ, zero, suc, ◌+◌, ◌-◌, ◌*◌, Bool, true, false, cond, List, [], ◌∷◌, take, drop, length, get_or, Option, Some, None, Result, Ok, Err, refl, sym, ap, subst, ◌∙◌, ◌≡◌, ◌<◌, ◌≤◌, arith, drop-cons}
 use Rattle.std.specs.Prelude.{Vec, OnOk}
-use Rattle.std.specs.List.{join_with_byte}
 use Rattle.std.proofs.lemmas.Bool.{lt-leb}
 use Rattle.std.proofs.Math.Dec.{eqb, eqb-suc-zero}
 use Rattle.std.specs.declared.alloc.Global.{Global}
 use Rattle.bootstore_state.specs.declared.store.StoreError.{StoreError}
 use Rattle.bootstore_state.specs.Moment.{Moment, RunningFrame}
+use Rattle.text.specs.Numbers.{is_digit}
 use Rattle.text.specs.TextsShown.{bytes_of_words}
+use Rattle.text.specs.Words.{joined_words}
 use Rattle.bootstore_state.specs.Record.{Record, changed, with_environment, with_status}
 use Rattle.hushlang.specs.Tree.{Script}
 use Rattle.rehearse_terms.specs.Outcomes.{OutcomeWord}
@@ -16,7 +17,7 @@ use Rattle.bootstore_state.specs.StoredState.{state_at}
 use Rattle.builtins.specs.Builtins.{Builtin, builtin_named, builtin_of}
 use Rattle.rehearse_rules.proofs.GivenRuns.{called_apart}
 use Rattle.device_list.specs.Called.{Called, BuiltIn, Device, NoCommand, listed_by, other_called}
-use Rattle.commands.specs.BuiltInCommands.{ChangesVariables, WritesText, Tests, carried, deed_of, asks_device, setenv, variables_changed, text_written, is_digit, decimal_from}
+use Rattle.commands.specs.BuiltInCommands.{ChangesVariables, WritesText, Tests, carried, deed_of, asks_device, setenv, variables_changed, text_written, decimal_from}
 use Rattle.commands.specs.VariableNames.{is_bad_name}
 use Rattle.rehearse_rules.specs.Execution.{Limits, Request, test_effect, remember, set_status, status_when}
 use Rattle.commands.specs.Verdict.{verdict}
@@ -68,11 +69,11 @@ deleted old name words w e b =
     ∙ ap (λ (x : Bool). remember (variables_changed (λ ws variables. cond x (variables, 1) (without variables name, 0)) words) (state_at old w)) (sym b)
     ∙ ap (λ (x : List Text). remember (variables_changed setenv x) (state_at old w)) (sym e)
 
-pub assigned : (old : Moment) (name value v : Text) (vs words : List Text) (w : OutcomeWord) → words ≡ name ∷ v ∷ vs → value ≡ join_with_byte 32 (v ∷ vs) → is_bad_name name ≡ false → state_at (with_status 0 (with_environment name (Some value) old)) w ≡ remember (variables_changed setenv words) (state_at old w)
+pub assigned : (old : Moment) (name value v : Text) (vs words : List Text) (w : OutcomeWord) → words ≡ name ∷ v ∷ vs → value ≡ joined_words (v ∷ vs) → is_bad_name name ≡ false → state_at (with_status 0 (with_environment name (Some value) old)) w ≡ remember (variables_changed setenv words) (state_at old w)
 assigned old name value v vs words w e k b =
     ap (with_memory (state_at old w)) (stored_changes old.environment name value)
     ∙ ap (λ (x : Text). with_memory (state_at old w) (with_value (state_at old w).memory.environment name x)) k
-    ∙ ap (λ (x : Bool). remember (variables_changed (λ ws variables. cond x (variables, 1) (with_value variables name (join_with_byte 32 (v ∷ vs)), 0)) words) (state_at old w)) (sym b)
+    ∙ ap (λ (x : Bool). remember (variables_changed (λ ws variables. cond x (variables, 1) (with_value variables name (joined_words (v ∷ vs)), 0)) words) (state_at old w)) (sym b)
     ∙ ap (λ (x : List Text). remember (variables_changed setenv x) (state_at old w)) (sym e)
 
 set_changed : (r : Result (Unit {0}) StoreError) (old mid new : Record) (name : Text) (o : Option Text) (words : List Text) → ((w : OutcomeWord) → state_at (with_status 0 (with_environment name o old.present)) w ≡ remember (variables_changed setenv words) (state_at old.present w)) → mid ≡ changed (with_environment name o) old → OnOk r (new ≡ changed (with_status 0) mid) → Changed r old new (variables_changed setenv words)
@@ -83,7 +84,7 @@ set_changed (Err x) old mid new name o words h e k = tt
 pub deletes : (r : Result (Unit {0}) StoreError) (old mid new : Record) (name : Text) (words : List Text) → words ≡ name ∷ [] → is_bad_name name ≡ false → mid ≡ changed (with_environment name None) old → OnOk r (new ≡ changed (with_status 0) mid) → Changed r old new (variables_changed setenv words)
 deletes r old mid new name words p b e k = set_changed r old mid new name None words (λ w. deleted old.present name words w p b) e k
 
-pub assigns : (r : Result (Unit {0}) StoreError) (old mid new : Record) (name value : Text) (values words : List Text) → words ≡ name ∷ values → 0 < length values → value ≡ join_with_byte 32 values → is_bad_name name ≡ false → mid ≡ changed (with_environment name (Some value)) old → OnOk r (new ≡ changed (with_status 0) mid) → Changed r old new (variables_changed setenv words)
+pub assigns : (r : Result (Unit {0}) StoreError) (old mid new : Record) (name value : Text) (values words : List Text) → words ≡ name ∷ values → 0 < length values → value ≡ joined_words values → is_bad_name name ≡ false → mid ≡ changed (with_environment name (Some value)) old → OnOk r (new ≡ changed (with_status 0) mid) → Changed r old new (variables_changed setenv words)
 assigns r old mid new name value [] words p l j b e k = absurd (omega arith)
 assigns r old mid new name value (v ∷ vs) words p l j b e k = set_changed r old mid new name (Some value) words (λ w. assigned old.present name value v vs words w p j b) e k
 

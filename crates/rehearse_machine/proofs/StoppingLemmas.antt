@@ -20,9 +20,9 @@ use Rattle.rehearse_machine.specs.Places.{PlaceNext, GoOn, AskOn, StopOn, next_o
 use Rattle.rehearse_machine.specs.AskingCommand.{found_again}
 use Rattle.rehearse_machine.specs.Came.{Came}
 use Rattle.rehearse_machine.specs.Meaning.{comes_to, IsProperNext, AreProperFrames}
-use Rattle.rehearse_machine.specs.MovesShown.{next_shown, request_shown, Keeps, Does}
-use Rattle.rehearse_machine.specs.Turning.{to_come, step_comes, IsSound, IsSoundStep, Drives}
-use Rattle.rehearse_machine.specs.Machine.{Asking, IsAsking, asked_at, Stops}
+use Rattle.rehearse_machine.specs.MovesShown.{next_shown, request_shown, Keeps, Does, Comes}
+use Rattle.rehearse_machine.specs.Turning.{to_come, step_comes, IsSoundStep, Drives}
+use Rattle.rehearse_machine.specs.Machine.{Asking, AsksNone, IsAsking, TakesOutcome, asked_at, Stops}
 use Rattle.rehearse_machine.proofs.MoveMeaning.{continue-dry}
 use Rattle.rehearse_machine.proofs.PlaceMoves.{place_answered-is}
 use Rattle.rehearse_machine.proofs.RunSoFar.{answered-is}
@@ -141,29 +141,23 @@ module _ (limits : Limits) (old mid : Record) (step : Step) (asking : IsAsking l
     abbrev task : Task
     task = record { limits = limits; environment = []; name = []; text = []; failures = None }
 
-    pub resumed : (w : OutcomeWord) → asked_at limits old.present (outcome ∷ w) ≡ step_comes limits next new.present w
+    resumed : (w : OutcomeWord) → asked_at limits old.present (outcome ∷ w) ≡ step_comes limits next new.present w
     unfolding asked_at
     resumed w =
         ap (λ (x : PlaceNext). comes_to limits (outcome ∷ w) (next_of x)) (asking_at.again (outcome ∷ w))
         ∙ answered-is task w outcome asking_at.request (frames_of old.present.frames) (state_at old.present w)
         ∙ sym (ap (comes_to limits w) (ap next_of (answers w) ∙ place_answered-is outcome asking_at.request old.present.frames (state_at old.present w)))
 
-    pub never_asks : (more : Ask) → next ≡ steps.Asks more → ⊥
+    asks_none : (x : Step) → x ≡ next → AsksNone x
     unfolding asks
-    never_asks more e =
-        let f : true ≡ false = ap (λ (x : Step). asks (next_shown x new.present [])) (sym e) ∙ ap asks (answers []) ∙ answered_asks asking_at.request old.present.frames outcome (state_at old.present []) in
-        absurd (let g = f in cc)
+    asks_none steps.Going e = tt
+    asks_none (steps.Asks more) e =
+        let f : true ≡ false = ap (λ (x : Step). asks (next_shown x new.present [])) e ∙ ap asks (answers []) ∙ answered_asks asking_at.request old.present.frames outcome (state_at old.present []) in
+        let g = f in cc
+    asks_none (steps.Ends halt) e = tt
 
-    -- the run has ended
-    pub booted : (halt : Halt) → next ≡ steps.Ends halt → Stops limits (Ends halt) (λ w. asked_at limits old.present (outcome ∷ w)) new.present
-    booted halt e = λ w. resumed w ∙ ap (λ (x : Step). step_comes limits x new.present w) e
-
-    -- it goes on
-    pub goes_on : next ≡ steps.Going → (w : OutcomeWord) → asked_at limits old.present (outcome ∷ w) ≡ to_come limits new.present w
-    goes_on e w = resumed w ∙ ap (λ (x : Step). step_comes limits x new.present w) e
-
-    pub goes_soundly : next ≡ steps.Going → IsSound new.present
-    goes_soundly e = subst (λ (x : Step). IsSoundStep x new.present) e (subst IsProperNext (sym (ap next_of (answers []))) (answered_sound asking_at.request old.present.frames outcome (state_at old.present []) asking_at.sound))
+    soundly : IsSoundStep next new.present
+    soundly = subst IsProperNext (sym (ap next_of (answers []))) (answered_sound asking_at.request old.present.frames outcome (state_at old.present []) asking_at.sound)
 
     seen_steps : (x : Step) → steps_of (next_shown x new.present []) ≡ new.present.steps
     unfolding steps_of
@@ -171,22 +165,31 @@ module _ (limits : Limits) (old mid : Record) (step : Step) (asking : IsAsking l
     seen_steps (steps.Asks more) = refl
     seen_steps (steps.Ends halt) = refl
 
-    pub same_steps : new.present.steps ≡ old.present.steps
+    same_steps : new.present.steps ≡ old.present.steps
     same_steps = sym (seen_steps next) ∙ ap steps_of (answers []) ∙ answered_steps asking_at.request old.present.frames outcome (state_at old.present [])
 
-    pub still_within : new.present.steps ≤ limits.step_bound
-    still_within = subst (λ (n : ℕ). n ≤ limits.step_bound) (sym same_steps) asking_at.within
-
-    pub same_marks : new.marked ≡ old.marked
-    same_marks = does.1.marked ∙ finds.1.marked
-
-    pub same_begun : new.begun ≡ old.begun
+    same_begun : new.begun ≡ old.begun
     same_begun =
         let a = does.1.begun in
         let b = finds.1.begun in
         let c : mid.present.steps ≡ old.present.steps = ap (λ (s : State). s.steps) (same_state []) in
         let d = same_steps in
         omega arith
+
+    outcome_taken : TakesOutcome limits outcome old new next
+    outcome_taken = record {
+      comes = resumed;
+      sound = soundly;
+      asks_none = asks_none next refl;
+      steps = same_steps;
+      within = subst (λ (n : ℕ). n ≤ limits.step_bound) (sym same_steps) asking_at.within;
+      marked = does.1.marked ∙ finds.1.marked;
+      begun = same_begun;
+    }
+
+  pub takes_outcome : (ask : Ask) → step ≡ steps.Asks ask → (outcome : Outcome) (new : Record) (r : Result Step StoreError) → Comes r mid new (place_answered outcome (request_shown ask) mid.present.frames) → IfOk r (TakesOutcome limits outcome old new)
+  takes_outcome ask is outcome new (Ok next) does = outcome_taken ask is outcome new next does
+  takes_outcome ask is outcome new (Err x) does = tt
 
 -- ---- a text that went on
 

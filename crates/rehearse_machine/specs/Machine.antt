@@ -1,7 +1,8 @@
 -- What the machine promises: where a text stops, and what is still to come there for every rest of the word. Ours.
-use Rattle.std.specs.Prelude.{◌≡◌, ◌≤◌, []}
+use Rattle.std.specs.Prelude.{◌≡◌, ◌≤◌, [], ◌∷◌}
 use Rattle.bootstore_state.specs.Moment.{Moment}
-use Rattle.rehearse_terms.specs.Outcomes.{OutcomeWord}
+use Rattle.bootstore_state.specs.Record.{Record}
+use Rattle.rehearse_terms.specs.Outcomes.{Outcome, OutcomeWord}
 use Rattle.bootstore_state.specs.StoredState.{state_at}
 use Rattle.rehearse_rules.specs.Execution.{Limits, Request}
 pub use Rattle.rehearse_rules.specs.Execution.{outcome_when}
@@ -9,8 +10,10 @@ use Rattle.rehearse_machine.specs.Places.{AskOn, next_of}
 use Rattle.rehearse_machine.specs.AskingCommand.{found_again}
 use Rattle.rehearse_machine.specs.Came.{Came, Over, Wants}
 use Rattle.rehearse_machine.specs.Meaning.{comes_to}
-use Rattle.rehearse_machine.specs.Turning.{IsSound}
+use Rattle.rehearse_machine.specs.Turning.{IsSound, IsSoundStep, step_comes}
 use Rattle.rehearse_rules.specs.EndingsShown.{halt_shown}
+use Rattle.rehearse_machine.specs.declared.ask.Step.{Step}
+use Rattle.rehearse_machine.specs.declared.ask.Step.TheVariants as steps
 use Rattle.rehearse_machine.specs.declared.rehearsal.Stop.{Stop}
 use Rattle.rehearse_machine.specs.declared.rehearsal.Stop.TheVariants.{Asks, Ends}
 
@@ -28,6 +31,22 @@ pub record Asking (limits : Limits) (m : Moment) : Type 0 where
 -- whether a device command asks for an outcome at a moment
 unfoldable pub IsAsking : Limits → Moment → Type 0
 IsAsking limits m = Asking limits m
+
+-- no device command asks
+abbrev pub AsksNone : Step → Type 0
+AsksNone steps.Going = Unit {0}
+AsksNone (steps.Asks ask) = ⊥
+AsksNone (steps.Ends halt) = Unit {0}
+
+-- the device command that asked took this outcome: what is to come is the same, and no step was begun
+pub record TakesOutcome (limits : Limits) (outcome : Outcome) (old new : Record) (step : Step) : Type 0 where
+  pub comes : (w : OutcomeWord) → asked_at limits old.present (outcome ∷ w) ≡ step_comes limits step new.present w
+  pub sound : IsSoundStep step new.present
+  pub asks_none : AsksNone step
+  pub steps : new.present.steps ≡ old.present.steps
+  pub within : new.present.steps ≤ limits.step_bound
+  pub marked : new.marked ≡ old.marked
+  pub begun : new.begun ≡ old.begun
 
 -- a text that comes to f stopped at this moment: a device command asks, or the run has ended, whatever outcomes are
 -- left

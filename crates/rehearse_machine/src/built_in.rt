@@ -1,40 +1,14 @@
 //! The commands that need no frame: `setenv` and `echo` over a store, the status of `exit`, and
 //! whether `test` asks a device.
-ghost use Rattle.std.specs.Prelude.{◌≡◌, ◌∷◌, [], IfOk};
-ghost use Rattle.std.specs.List.{join_with_byte, list_all};
-ghost use Rattle.text.specs.Bytes as ascii;
+ghost use Rattle.std.specs.Prelude.{◌≡◌, ◌∷◌, []};
 ghost use Rattle.text.specs.TextsShown.{bytes_of_words};
 ghost use Rattle.commands.specs.BuiltInCommands as says;
 ghost use Rattle.rehearse_machine.specs.MovesShown.{Changed};
 
 use bootstore_state::{Store, StoreError};
 use commands::is_bad_name;
-use std::alloc::{AllocError, Global};
-
-/// Copies of the words. Errors: memory ran out.
-pub(crate) fn copied(alloc: Global, words: &[Vec<u8>]) -> Result<Vec<Vec<u8>>, AllocError>
-    ensures { IfOk result (λ v. bytes_of_words v.items ≡ bytes_of_words words.now) }
-{
-    let mut copies = Vec::with_capacity(alloc, words.len())?;
-    for word in words {
-        copies.push(Vec::from_slice(alloc, word)?)?;
-    }
-    Ok(copies)
-}
-
-/// The words, joined by single spaces. Errors: memory ran out.
-pub(crate) fn joined(alloc: Global, words: &[Vec<u8>]) -> Result<Vec<u8>, AllocError>
-    ensures { IfOk result (λ v. v.items ≡ join_with_byte ascii.space (bytes_of_words words.now)) }
-{
-    let mut joined = Vec::new(alloc);
-    for (at, word) in words.iter().enumerate() {
-        if at > 0 {
-            joined.push(b' ')?;
-        }
-        joined.extend_from_slice(word)?;
-    }
-    Ok(joined)
-}
+use std::alloc::Global;
+use text::{are_digits, joined_words};
 
 /// `setenv`: deletes the variable if only a name is given, else sets it to the words after the
 /// name. Errors: `Memory`.
@@ -56,7 +30,7 @@ pub(crate) fn setenv<S: Store>(
         store.set_env(name, None)?;
         return store.set_status(0);
     }
-    let value = joined(alloc, values)?;
+    let value = joined_words(alloc, values)?;
     store.set_env(name, Some(&value))?;
     store.set_status(0)
 }
@@ -110,13 +84,6 @@ fn status_of(word: &[u8]) -> Option<u8>
     }
 }
 
-/// Whether all bytes are digits.
-fn are_digits(bytes: &[u8]) -> bool
-    ensures { result ≡ list_all says.is_digit bytes.now }
-{
-    bytes.iter().all(|byte| b'0' <= *byte && *byte <= b'9')
-}
-
 /// `echo`: writes the words and a newline, which a first word `-n` leaves out. Errors: `Memory`.
 pub(crate) fn echo<S: Store>(
     alloc: Global,
@@ -134,7 +101,7 @@ pub(crate) fn echo<S: Store>(
             ends_line = false;
         }
     }
-    let mut written = joined(alloc, shown)?;
+    let mut written = joined_words(alloc, shown)?;
     if ends_line {
         written.push(b'\n')?;
     }

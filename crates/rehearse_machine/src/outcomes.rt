@@ -11,7 +11,6 @@ ghost use Rattle.rehearse_machine.specs.Places.{place_answered, place_ask};
 ghost use Rattle.rehearse_machine.specs.MovesShown.{Changed, Comes, request_shown, limits_of};
 
 use crate::ask::{Ask, Step};
-use crate::built_in::copied;
 use crate::told::told;
 use bootstore_state::{LogEntry, Store, StoreError};
 use commands::is_bad_name;
@@ -19,6 +18,7 @@ use device_list::{Effect, LeftSide, Setting};
 use rehearse_rules::Halt;
 use rehearse_terms::RunBounds;
 use std::alloc::Global;
+use text::copied_words;
 
 /// Gives a device command its outcome, which goes into the log and is the status. On success the
 /// command sets its variables, and may end the run.
@@ -82,7 +82,7 @@ pub(crate) fn ask<'d, S: Store>(
     let answered = told(store, name, words, effect);
     let request = Ask {
         name: Vec::from_slice(alloc, name)?,
-        words: copied(alloc, words)?,
+        words: copied_words(alloc, words)?,
         effect,
         again: answered.is_some(),
     };

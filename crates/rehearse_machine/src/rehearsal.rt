@@ -6,7 +6,7 @@ ghost use Rattle.rehearse_rules.specs.Runs.{run_on};
 ghost use Rattle.rehearse_machine.specs.Came.{settled};
 ghost use Rattle.rehearse_machine.specs.MovesShown.{Keeps, limits_of};
 ghost use Rattle.rehearse_machine.specs.Turning.{IsSound, to_come};
-ghost use Rattle.rehearse_machine.specs.Machine.{Stops, IsAsking, asked_at, outcome_when};
+ghost use Rattle.rehearse_machine.specs.Machine.{Stops, IsAsking, TakesOutcome, asked_at, outcome_when};
 ghost use Rattle.rehearse_machine.specs.Tasks.{task_in};
 
 use crate::ask::Step;
@@ -143,6 +143,24 @@ pub fn begin<S: Store>(rehearsal: &Rehearsal<'_>, store: &mut S) -> Result<Stop,
     go_on(rehearsal, store)
 }
 
+/// Gives the device command that asks an outcome. Errors: `Memory`.
+fn give_outcome<'a, S: Store>(
+    rehearsal: &Rehearsal<'a>,
+    store: &mut S,
+    success: bool,
+) -> Result<Step<'a>, StoreError>
+    requires { IsAsking (task_in rehearsal.now).limits (S.record_of store.old).present }
+    ensures { IfOk result
+        (λ step. TakesOutcome (task_in rehearsal.now).limits (outcome_when success)
+        (S.record_of store.old) (S.record_of store.new) step) }
+{
+    let found = find_again(rehearsal.alloc, store, rehearsal.devices, rehearsal.bounds)?;
+    let Step::Asks(ask) = found else {
+        unreachable!();
+    };
+    answer(store, ask, success)
+}
+
 /// Gives the device command that asks an outcome, and goes on until the next one asks, or the run
 /// ends. Errors: `Memory`.
 pub fn resume<S: Store>(
@@ -165,11 +183,7 @@ pub fn resume<S: Store>(
         ((S.record_of store.old).present.steps ≤ (S.record_of store.new).present.steps) }
 {
     let _bound = rehearsal.bounds.steps();
-    let found = find_again(rehearsal.alloc, store, rehearsal.devices, rehearsal.bounds)?;
-    let Step::Asks(ask) = found else {
-        unreachable!();
-    };
-    match answer(store, ask, success)? {
+    match give_outcome(rehearsal, store, success)? {
         Step::Going => go_on(rehearsal, store),
         Step::Asks(_) => unreachable!(),
         Step::Ends(halt) => Ok(Stop::Ends(halt)),

@@ -6,13 +6,13 @@ ghost use Rattle.rehearse_machine.specs.Places.{left, to_run, GoOn, names_frame}
 ghost use Rattle.rehearse_machine.specs.MovesShown.{Comes};
 
 use crate::ask::Step;
-use crate::built_in::copied;
 use crate::frames::place;
 use bootstore_state::{Frame, FrameKind, Store, StoreError};
 use hushlang::Script;
 use rehearse_rules::Halt;
 use std::alloc::Global;
 use std::rc::Rc;
+use text::copied_words;
 
 /// Leaves the text that is running: removes the frames above the innermost `run`. Without a `run`
 /// the whole run ends.
@@ -40,7 +40,7 @@ pub(crate) fn begin_run<'d, S: Store>(
         (GoOn (names_frame (view.script script.now.value) (bytes_of_words names.now)
         ∷ (S.record_of store.old).present.frames)) }
 {
-    let names = Rc::new(alloc, copied(alloc, names)?)?;
+    let names = Rc::new(alloc, copied_words(alloc, names)?)?;
     store.push(Frame::with_words(FrameKind::Run, script.clone()?, names, place(0, 0)))?;
     Ok(Step::Going)
 }

@@ -20,7 +20,7 @@ ghost use Rattle.rehearse_machine.specs.MovesShown.{Comes, IsExpanded, Moves, li
 ghost use Rattle.rehearse_machine.specs.CalledShown.{builtin_called};
 
 use crate::ask::Step;
-use crate::built_in::{asks_device, copied, echo, exit_status, setenv};
+use crate::built_in::{asks_device, echo, exit_status, setenv};
 use crate::computed::carry_out;
 use crate::frames::{behind, enter, finish, place};
 use crate::named::Named;
@@ -36,6 +36,7 @@ use rehearse_rules::Halt;
 use rehearse_terms::RunBounds;
 use std::alloc::Global;
 use std::rc::Rc;
+use text::copied_words;
 
 /// Sets the status, and goes on.
 fn done<'d, S: Store>(store: &mut S, status: u8) -> Result<Step<'d>, StoreError>
@@ -270,7 +271,7 @@ fn begin_turns<'d, S: Store>(
     if fields.is_empty() {
         return finish(store, behind(at), 0);
     }
-    let fields = Rc::new(alloc, copied(alloc, fields)?)?;
+    let fields = Rc::new(alloc, copied_words(alloc, fields)?)?;
     let turns = Frame::with_words(
         FrameKind::For,
         frame.script().clone()?,

@@ -1,16 +1,24 @@
 -- The parts of a record.
-use Rattle.std.proofs.Common.{◌≡◌, ℕ, Bool, List, [], ◌∷◌, ◌++◌, length, map, refl, sym, ap, ◌∙◌, append_assoc, append-nil, arith}
+use Rattle.std.proofs.Common.{◌≡◌, ℕ, Bool, List, [], ◌∷◌, ◌++◌, length, map, refl, sym, ap, ◌∙◌, append_assoc, append-nil, arith, Bor, Result}
 use Rattle.std.specs.Prelude.{codes}
-use Rattle.std.specs.List.{flat_map, join_with_byte}
+use Rattle.std.specs.List.{flat_map}
 use Rattle.std.proofs.lemmas.List.Concat.{flat_map-append}
 use Rattle.std.specs.declared.alloc.Global.{Global}
 use Rattle.std.specs.declared.vec.Vec.{Vec}
+use Rattle.output.specs.Paging.{Put, Puts}
+use Rattle.output.specs.Sink.{Sink, BrokeOff}
+use Rattle.output.proofs.PageLemmas.{Breaks-as, Breaks-before, Puts-after, Puts-as}
 use Rattle.text.specs.TextsShown.{bytes_of_words}
+use Rattle.bootstore_state.specs.StoredState.{state_at}
+use Rattle.bootstore_state.specs.declared.store.Store.{Ghosts}
 use Rattle.rehearse_terms.specs.State.{Text, Variables, State, LoggedCommand}
 use Rattle.rehearse_rules.specs.Execution.{Ending}
 use Rattle.text.specs.Escapes.{word_form}
+use Rattle.text.specs.Words.{joined_words}
 use Rattle.rehearse_rules.specs.Listing.{line, digit_when, device_line, text_lines, variable_line, variable_lines, asked_line, last_line}
 use Rattle.rehearse_records.specs.Recording.{printed, entry_line, set_line, named_line, recorded}
+use Rattle.rehearse_records.specs.RunViewShown.{shown_word, shown_moment, shown_ending}
+use Rattle.rehearse_records.specs.declared.run_view.RunView.{RunView}
 
 module _ {X : Type 0} (g : X → Text) where
   lines_of-map : (xs : List X) → flat_map line (map g xs) ≡ flat_map (λ x. line (g x)) xs
@@ -29,7 +37,7 @@ named_variables now environment (x ∷ xs) e = ap (λ t. named_line environment 
     lines_of-map2 now environment [] = refl
     lines_of-map2 now environment (x ∷ xs) = ap (λ t. named_line environment (now x) ++ t) (lines_of-map2 now environment xs)
 
-pub record_parts : (digits : Text) (s : State) (ending : Ending) (names : List Text)
+record_parts : (digits : Text) (s : State) (ending : Ending) (names : List Text)
     → line (codes "run " ++ printed digits) ++ (flat_map entry_line s.log ++ (flat_map line (text_lines s.memory.text) ++ (flat_map line (variable_lines s.memory.environment names) ++ line (last_line ending)))) ≡ recorded digits s ending names
 record_parts digits s ending names =
     let a = map device_line s.log in
@@ -48,7 +56,33 @@ record_parts digits s ending names =
 
 -- the line of a device command
 pub entry_parts : (d : ℕ) (success : Bool) (words : List (Vec ℕ Global)) (stays again : Bool) (e : LoggedCommand) → d ≡ digit_when success → record { success = success; words = bytes_of_words words; stays = stays; again = again } ≡ e
-    → (100 ∷ 101 ∷ 118 ∷ 32 ∷ d ∷ 32 ∷ []) ++ (join_with_byte 32 (map word_form (bytes_of_words words)) ++ (10 ∷ [])) ≡ entry_line e
+    → (100 ∷ 101 ∷ 118 ∷ 32 ∷ d ∷ 32 ∷ []) ++ (joined_words (map word_form (bytes_of_words words)) ++ (10 ∷ [])) ≡ entry_line e
 entry_parts d success words stays again e o h =
-    let j = join_with_byte 32 (map word_form (bytes_of_words words)) in
+    let j = joined_words (map word_form (bytes_of_words words)) in
     ap (λ n. (100 ∷ 101 ∷ 118 ∷ 32 ∷ n ∷ 32 ∷ []) ++ (j ++ (10 ∷ []))) o ∙ ap entry_line h
+
+-- ---- a record, part by part
+
+module _ {S : Type 0} (store : Ghosts S) (v : RunView S) (asked : List (Bor (List ℕ))) where
+  abbrev stood : State
+  stood = state_at (shown_moment store v) []
+
+  abbrev names : List Text
+  names = map (λ (n : Bor (List ℕ)). n.now) asked
+
+  abbrev first : Text
+  first = line (codes "run " ++ printed (shown_word v))
+
+  abbrev behind : Text
+  behind = flat_map entry_line stood.log ++ (flat_map line (text_lines stood.memory.text) ++ (flat_map line (variable_lines stood.memory.environment names) ++ line (last_line (shown_ending v))))
+
+  abbrev whole : Text
+  whole = recorded (shown_word v) stood (shown_ending v) names
+
+  -- the output broke off in the first part
+  pub breaks_first : {a b : Sink} (p : List ℕ) → BrokeOff a b (p ++ first) → BrokeOff a b (p ++ whole)
+  breaks_first p m = Breaks-as _ _ p _ _ (record_parts (shown_word v) stood (shown_ending v) names) (Breaks-before p first behind m)
+
+  -- the first part was put, and then those behind it, or the output broke off in them
+  pub puts_first : {T E : Type 0} {a b : Sink} {p q : List ℕ} (c : Sink) (r : List ℕ) (result : Result T E) → Put a b p q first → Puts result b c q r behind → Puts result a c p r whole
+  puts_first c r result m n = Puts-as _ c _ r _ _ result (record_parts (shown_word v) stood (shown_ending v) names) (Puts-after c r behind result m n)

@@ -1,6 +1,6 @@
 //! The record of a run.
 ghost use Rattle.std.specs.Prelude.{◌≡◌, ◌++◌, ◌∷◌, [], map, codes, MatchBool};
-ghost use Rattle.std.specs.List.{flat_map, join_with_byte};
+ghost use Rattle.std.specs.List.{flat_map};
 ghost use Rattle.std.specs.FinMap.{entries};
 ghost use Rattle.text.specs.Bytes as ascii;
 ghost use Rattle.text.specs.Escapes.{word_form};
@@ -11,6 +11,7 @@ ghost use Rattle.rehearse_rules.specs.Listing.{line, digit_when, text_lines, var
 ghost use Rattle.output.specs.Paging.{Puts};
 ghost use Rattle.rehearse_records.specs.Recording.{printed, entry_line, set_line, named_line, recorded};
 ghost use Rattle.text.specs.TextsShown.{spaced};
+ghost use Rattle.text.specs.Words.{joined_words};
 ghost use Rattle.rehearse_records.specs.RunViewShown.{shown_word, shown_moment, shown_ending};
 ghost use Rattle.rehearse_rules.specs.EndingsShown.{ending_shown};
 
@@ -79,7 +80,7 @@ fn put_spaced<O: Out>(out: &mut O, page: &mut BytePage, words: &[Vec<u8>]) -> Re
 /// Puts words in word form, separated by spaces.
 fn put_words<O: Out>(out: &mut O, page: &mut BytePage, words: &[Vec<u8>]) -> Result<(), OutFault>
     ensures { Puts result (O.sink out.old) (O.sink out.new) page.old.items page.new.items
-        (join_with_byte ascii.space (map word_form (bytes_of_words words.now))) }
+        (joined_words (map word_form (bytes_of_words words.now))) }
 {
     match words.split_first() {
         None => Ok(()),

@@ -1,12 +1,12 @@
 -- The place where a listing that broke off goes on, found in its bytes.
 use Rattle.std.proofs.Common.{ℕ, zero, suc, Bool, true, false, cond, List, [], ◌∷◌, ◌++◌, map, length, take, drop, Option, Some, None, refl, sym, ap, subst, ◌∙◌, ◌≡◌, ◌≢◌, ◌≤◌, append_assoc, append-nil, length-append, arith, ◌+◌, ◌/◌, ◌%◌, flat_map, nat_eq, nat_lt, nat_le, ◌&&◌, codes, ne_eqb, decimal}
 use Rattle.std.specs.Prelude.{⊤}
-use Rattle.std.specs.List.{join_with_byte}
 use Rattle.std.specs.Fmt.{digits, digits_onto, digit_glyph}
 use Rattle.rehearse_terms.specs.Outcomes.{OutcomeWord, Success, Failure}
 use Rattle.rehearse_terms.specs.State.{Text, Variables, get, State, LoggedCommand}
 use Rattle.rehearse_rules.specs.Execution.{Ending, End, CutDevices, CutSteps, Unknown, Syntax, Size, Booted}
 use Rattle.text.specs.Escapes.{hex_digit, escaped, text_form, word_escaped, word_form}
+use Rattle.text.specs.Words.{joined_words}
 use Rattle.rehearse_rules.specs.Listing.{digit_when, outcome_digit, spelled, line, device_line, text_lines, variable_line, asked_line, variable_lines, last_line, inner_lines, record_lines}
 use Rattle.rehearse_rules.specs.Resuming.{ended_lines, is_last_line, is_first_line, Point, point_in, resume_point_of}
 
@@ -71,10 +71,10 @@ lines-of (l ∷ ls) rest h =
     let three : (flat_map line (l ∷ ls) ++ rest) ≡ l ++ 10 ∷ (flat_map line ls ++ rest) = simp append_assoc in
     ap (ended_lines []) three ∙ one ∙ ap (λ (x : List Text). l ∷ x) two
 
-OneLine-join : (ws : List Text) → AreLines ws → IsOneLine (join_with_byte 32 ws)
+OneLine-join : (ws : List Text) → AreLines ws → IsOneLine (joined_words ws)
 OneLine-join [] h = tt
 OneLine-join (w ∷ []) h = h.0
-OneLine-join (w ∷ v ∷ ws) h = OneLine-append w (32 ∷ join_with_byte 32 (v ∷ ws)) h.0 (refl, OneLine-join (v ∷ ws) h.1)
+OneLine-join (w ∷ v ∷ ws) h = OneLine-append w (32 ∷ joined_words (v ∷ ws)) h.0 (refl, OneLine-join (v ∷ ws) h.1)
 
 words-lines : (ws : List Text) → AreLines (map word_form ws)
 words-lines [] = tt

@@ -1,8 +1,8 @@
 -- The text that a rehearsal writes. Ours.
 use Rattle.std.specs.Prelude.{ℕ, nat_le, Bool, true, false, List, [], ◌∷◌, ◌++◌, map, flat_map, length, take, Option, Some, None, codes, decimal}
-use Rattle.std.specs.List.{join_with_byte}
 use Rattle.text.specs.Bytes as ascii
 use Rattle.text.specs.Escapes.{text_form, word_form}
+use Rattle.text.specs.Words.{joined_words}
 use Rattle.rehearse_terms.specs.Outcomes.{Outcome, OutcomeWord}
 use Rattle.rehearse_terms.specs.State.{Text, Variables, get, State, LoggedCommand}
 use Rattle.rehearse_rules.specs.Execution.{Ending, End, CutDevices, CutSteps, Unknown, Syntax, Size, Booted, succeeds}
@@ -29,7 +29,7 @@ abbrev pub line : Text → Text
 line bytes = bytes ++ ascii.newline ∷ []
 
 abbrev pub device_line : LoggedCommand → Text
-device_line e = codes "dev " ++ digit_when e.success ∷ ascii.space ∷ join_with_byte ascii.space (map word_form e.words)
+device_line e = codes "dev " ++ digit_when e.success ∷ ascii.space ∷ joined_words (map word_form e.words)
 
 -- an empty text has no line
 abbrev pub text_lines : Text → List Text

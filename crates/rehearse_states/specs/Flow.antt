@@ -1,8 +1,8 @@
 -- The flow of a script: its runs as a graph, written line by line. Ours.
 use Rattle.std.specs.Prelude.{◌≡◌, ℕ, zero, suc, Bool, List, [], ◌∷◌, ◌++◌, map, Option, Some, None, codes, decimal}
-use Rattle.std.specs.List.{join_with_byte, slice_get}
-use Rattle.text.specs.Bytes as ascii
+use Rattle.std.specs.List.{slice_get}
 use Rattle.text.specs.Escapes.{word_form}
+use Rattle.text.specs.Words.{joined_words}
 use Rattle.rehearse_terms.specs.Outcomes.{OutcomeWord, Outcome, Success, Failure, WordKind, Run, Short, Long}
 use Rattle.rehearse_terms.specs.State.{Text, LoggedCommand, asked_of}
 use Rattle.rehearse_rules.specs.Execution.{Answer, Normal, Exit, Ended, Dry, Ending, End, succeeds}
@@ -81,7 +81,7 @@ IsFlow task nodes = (w : OutcomeWord) → walk (numbered nodes) w 1 ≡ seen_of 
 
 abbrev pub node_text : Node → Text
 node_text (Asks words success failure) =
-    codes "ask " ++ join_with_byte ascii.space (map word_form words) ++ codes " success " ++ decimal success
+    codes "ask " ++ joined_words (map word_form words) ++ codes " success " ++ decimal success
     ++ codes " failure " ++ decimal failure
 node_text (Ends ending) = codes "ends " ++ last_line ending
 

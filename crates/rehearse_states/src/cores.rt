@@ -4,10 +4,10 @@ ghost use Rattle.rehearse_terms.specs.State.{answers_in};
 ghost use Rattle.rehearse_states.specs.Cores.{core_shown, core_of, pairs_shown, answers_shown};
 
 use crate::environments::Environments;
-use crate::words::copy_words;
 use bootstore_state::{Frame, LogEntry, Store, StoreError, Variables};
 use std::alloc::Global;
 use std::rc::Rc;
+use text::copied_words;
 
 /// The variables, the status and the frames of a state, the innermost frame last, and its answers
 /// that stay, with the words of their commands. States share their environments, and own the rest.
@@ -54,7 +54,7 @@ fn copy_answers(alloc: Global, log: &[LogEntry]) -> Result<Vec<(Vec<Vec<u8>>, bo
     let mut copies = Vec::new(alloc);
     for entry in log {
         if entry.has_answer() {
-            let words = copy_words(alloc, &entry.words)?;
+            let words = copied_words(alloc, &entry.words)?;
             copies.push((words, entry.success))?;
         }
     }

@@ -1,10 +1,10 @@
 //! The lines of a flow.
 ghost use Rattle.std.specs.Prelude.{◌≡◌, ◌++◌, IfOk, OnOk, map};
-ghost use Rattle.std.specs.List.{flat_map, join_with_byte};
-ghost use Rattle.text.specs.Bytes as ascii;
+ghost use Rattle.std.specs.List.{flat_map};
 ghost use Rattle.text.specs.Escapes.{word_form};
 ghost use Rattle.text.specs.TextsShown.{bytes_of_words};
 ghost use Rattle.text.specs.TextsShown.{spaced};
+ghost use Rattle.text.specs.Words.{joined_words};
 ghost use Rattle.rehearse_states.specs.Drawing.{node_shown, nodes_shown};
 ghost use Rattle.rehearse_states.specs.Flow.{node_text, flow_text};
 
@@ -26,8 +26,8 @@ fn put_spaced(text: &mut Vec<u8>, words: &[Vec<u8>]) -> Result<(), StoreError>
 
 /// Adds words in word form, with a blank between them.
 fn put_words(text: &mut Vec<u8>, words: &[Vec<u8>]) -> Result<(), StoreError>
-    ensures { OnOk result (text.new.items ≡ text.old.items ++ join_with_byte ascii.space
-        (map word_form (bytes_of_words words.now))) }
+    ensures { OnOk result (text.new.items
+        ≡ text.old.items ++ joined_words (map word_form (bytes_of_words words.now))) }
 {
     match words.split_first() {
         None => Ok(()),

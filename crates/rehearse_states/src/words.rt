@@ -1,4 +1,4 @@
-//! Words of a device command, copied.
+//! The words of a device command of the log.
 ghost use Rattle.std.specs.Prelude.{◌≡◌, Some, IfOk};
 ghost use Rattle.std.specs.List.{slice_get};
 ghost use Rattle.text.specs.TextsShown.{bytes_of_words};
@@ -6,18 +6,7 @@ ghost use Rattle.rehearse_states.specs.Words.{words_in};
 
 use bootstore_state::{Store, StoreError};
 use std::alloc::Global;
-
-/// A copy of words. Errors: `Memory`.
-pub(crate) fn copy_words(alloc: Global, words: &[Vec<u8>]) -> Result<Vec<Vec<u8>>, StoreError>
-    ensures { IfOk result (λ copies. bytes_of_words copies.items ≡ bytes_of_words words.now) }
-{
-    let mut copies = Vec::new(alloc);
-    for word in words {
-        let copy = Vec::from_slice(alloc, word)?;
-        copies.push(copy)?;
-    }
-    Ok(copies)
-}
+use text::copied_words;
 
 /// The words of the device command at a place of the log.
 pub fn words_at<S: Store>(alloc: Global, store: &S, place: u32) -> Result<Vec<Vec<u8>>, StoreError>
@@ -25,7 +14,7 @@ pub fn words_at<S: Store>(alloc: Global, store: &S, place: u32) -> Result<Vec<Ve
         ≡ words_in (slice_get (S.record_of store.now).present.log place)) }
 {
     match store.log().get(place as usize) {
-        Some(command) => copy_words(alloc, &command.words),
+        Some(command) => Ok(copied_words(alloc, &command.words)?),
         None => Ok(Vec::new(alloc)),
     }
 }

@@ -1,7 +1,14 @@
 -- The words of a line, and what is around them.
 use Rattle.std.specs.Prelude.{◌≡◌, ℕ, ◌<◌, ◌==◌, ◌||◌, not, Bool, List, [], ◌∷◌, length, filter, if◌then◌else◌}
-use Rattle.std.specs.List.{slice_split}
+use Rattle.std.specs.List.{slice_split, list_any, join_with_byte}
 use Rattle.text.specs.Bytes as ascii
+
+-- the byte that ends a text
+abbrev pub is_nul : ℕ → Bool
+is_nul b = b == ascii.nul
+
+abbrev pub has_nul : List ℕ → Bool
+has_nul = list_any is_nul
 
 -- the sign between a name and its value
 abbrev pub is_equals : ℕ → Bool
@@ -37,6 +44,10 @@ trimmed line = cut_behind is_blank (cut_front is_blank line)
 -- the words of a line, which blanks separate
 abbrev pub words_of : List ℕ → List (List ℕ)
 words_of line = filter (λ word. not (length word == 0)) (slice_split is_blank line)
+
+-- the words, joined by single spaces
+abbrev pub joined_words : List (List ℕ) → List ℕ
+joined_words words = join_with_byte ascii.space words
 
 -- a closure answers as a test does
 abbrev pub Tests : (ℕ → Bool → Type 0) → (ℕ → Bool) → Type 0

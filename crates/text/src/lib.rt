@@ -6,10 +6,12 @@ mod escapes;
 mod lines;
 mod numbers;
 mod search;
+mod word_lists;
 mod words;
 
 pub use escapes::Escaped;
 pub use lines::Lines;
-pub use numbers::{digit_of, value_in};
-pub use search::find;
+pub use numbers::{are_digits, digit_of, value_in};
+pub use search::{find, has_nul};
+pub use word_lists::{copied_words, joined_words};
 pub use words::{cut_behind, cut_front, is_blank, is_space, next_word, trimmed};

@@ -1,6 +1,6 @@
 //! Digits, and the numbers that they spell.
 ghost use Rattle.std.specs.Prelude.{◌≡◌, ◌-◌, ◌^◌, ◌≤◌, min};
-ghost use Rattle.text.specs.Numbers.{digit_of, value_in};
+ghost use Rattle.text.specs.Numbers.{are_digits, digit_of, value_in};
 
 /// The value of a digit of any base up to 16, or 16 if the byte is no digit.
 pub fn digit_of(byte: u8) -> u64
@@ -12,6 +12,13 @@ pub fn digit_of(byte: u8) -> u64
         b'a'..=b'f' => u64::from(byte - b'a') + 10,
         _ => 16,
     }
+}
+
+/// Whether all bytes are decimal digits.
+pub fn are_digits(bytes: &[u8]) -> bool
+    ensures { result ≡ are_digits bytes.now }
+{
+    bytes.iter().all(|byte| b'0' <= *byte && *byte <= b'9')
 }
 
 /// The number that the digits spell in this base, or the greatest number of 64 bits if that is

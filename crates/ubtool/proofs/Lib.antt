@@ -1,4 +1,5 @@
 pub mod ImageRehearsalLemmas
+pub mod GivenLemmas
 pub mod ImageEndingsLemmas
 pub mod AskLemmas
 pub mod RehearseLemmas

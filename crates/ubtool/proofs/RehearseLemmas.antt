@@ -1,5 +1,5 @@
 -- Rehearsing what was read.
-use Rattle.std.proofs.Common.{◌≡◌, ◌∙◌, ℕ, true, refl, sym, ap, List, IfOk, IfErr, Option, Some, None, Ok, Err, inl, inr}
+use Rattle.std.proofs.Common.{◌≡◌, ℕ, true, refl, sym, ap, List, IfOk, IfErr, Option, Some, None, Ok, Err, inl, inr}
 use Rattle.std.specs.Prelude.{Result, option_map, String}
 use Rattle.std.specs.declared.alloc.Global.{Global}
 use Rattle.output.specs.Sink.{Sink}
@@ -10,21 +10,17 @@ use Rattle.tool_words.specs.CommandAnswers.{asking_of}
 use Rattle.rehearse_runs.specs.declared.listing.Finish.{Finish}
 use Rattle.tool_words.specs.declared.ask.RehearseAsk.{RehearseAsk}
 use Rattle.tool_images.specs.FileFaults.{path_form}
-use Rattle.ubtool.specs.Given.{Given, given}
+use Rattle.ubtool.specs.Given.{FromFiles, Given, given_by}
 use Rattle.ubtool.specs.Headline.{Rehearses}
 use Rattle.ubtool.specs.Refusing.{Refuses}
 use Rattle.tool_files.specs.Told.{Told}
 use Rattle.ubtool.specs.declared.rehearsal_error.RehearsalError.{RehearsalError}
 use Rattle.rehearse_rules.specs.declared.rehearse_error.RehearseError.TheVariants as rehearsal
 use Rattle.ubtool.specs.declared.rehearsal_error.RehearsalError.TheVariants as refused
-use Rattle.tool_steps.proofs.PrintLemmas.{image-bytes}
 use Rattle.tool_steps.proofs.SourceLemmas.{so-of-sources}
 use Rattle.tool_steps.specs.Images.{copies}
-use Rattle.tool_steps.specs.PrintingFiles.{first_bytes}
-use Rattle.tool_steps.specs.declared.images.Images.{Images}
-use Rattle.tool_steps.specs.declared.read.StoredCopy.{StoredCopy}
 use Rattle.tool_steps.specs.declared.sources.Sources.{Sources}
-use Rattle.ubtool.specs.RehearsingFiles.{FromFiles, RehearsesCopies, RehearsesFrom, RunsOut, no_run_of, refusal_of, rehearsal_of}
+use Rattle.ubtool.specs.RehearsingFiles.{RehearsesCopies, RehearsesFrom, RunsOut, no_run_of, refusal_of}
 use Rattle.tool_steps.specs.Sources.{ReadsSources}
 use Rattle.rehearse_terms.specs.WantedShown.{wanted_word}
 
@@ -34,18 +30,18 @@ asking_made variable bounds wanted names = record { variable = variable; bounds 
 -- ---- the rehearsal of what was read
 
 module _ (order : ByteOrder) (config list : List ℕ) (what : RehearseAsk) (out out' : Sink) (sources : Sources) (x z : Told) (read : ReadsSources config list x z (Ok sources)) where
-  from-files : (IsSo : Given → Type 0) → IsSo (rehearsal_of order (copies sources.images) sources.device_list.items what) → FromFiles order config list what x z IsSo
-  from-files IsSo so = so-of-sources config list sources x z (λ copies bytes. IsSo (rehearsal_of order copies bytes what)) read so
+  from-files : (IsSo : Given → Type 0) → IsSo (given_by order (copies sources.images) sources.device_list.items (asking_of what)) → FromFiles order config list (asking_of what) x z IsSo
+  from-files IsSo so = so-of-sources config list sources x z (λ copies bytes. IsSo (given_by order copies bytes (asking_of what))) read so
 
-  pub rehearses-found : (finish : Finish) → RehearsesCopies (rehearsal_of order (copies sources.images) sources.device_list.items what) out out' (Ok finish) → RehearsesFrom order config list what out out' x z (Ok true)
+  pub rehearses-found : (finish : Finish) → RehearsesCopies (given_by order (copies sources.images) sources.device_list.items (asking_of what)) out out' (Ok finish) → RehearsesFrom order config list what out out' x z (Ok true)
   rehearses-found finish h = (refl, from-files (λ g. (f : Finish) × Rehearses g out out' f) (finish, h))
 
   no-run : (given : Option (String Global)) → wanted_word what.wanted ≡ given
-      → FromFiles order config list what x z (λ g. Refuses g out out' (refused.Rehearsal rehearsal.NotARun)) → RehearsesFrom order config list what out out' x z (Err (no_run_of given))
+      → FromFiles order config list (asking_of what) x z (λ g. Refuses g out out' (refused.Rehearsal rehearsal.NotARun)) → RehearsesFrom order config list what out out' x z (Err (no_run_of given))
   no-run None is h = h
   no-run (Some word) is h = (ap (option_map path_form) (sym is), h)
 
-  pub rehearses-refused : (error : RehearsalError) → RehearsesCopies (rehearsal_of order (copies sources.images) sources.device_list.items what) out out' (Err error)
+  pub rehearses-refused : (error : RehearsalError) → RehearsesCopies (given_by order (copies sources.images) sources.device_list.items (asking_of what)) out out' (Err error)
       → RehearsesFrom order config list what out out' x z (Err (refusal_of what error))
   rehearses-refused (refused.Image error) h = from-files (λ g. Refuses g out out' (refused.Image error)) h
   rehearses-refused (refused.Rehearsal (rehearsal.DeviceList error)) h = from-files (λ g. Refuses g out out' (refused.Rehearsal (rehearsal.DeviceList error))) h
@@ -58,21 +54,7 @@ module _ (order : ByteOrder) (config list : List ℕ) (what : RehearseAsk) (out 
   rehearses-refused refused.Write h = from-files (λ g. Refuses g out out' refused.Write) h
   rehearses-refused refused.Memory h = inr (from-files (λ g. RunsOut g out out') h)
 
--- ---- what the rehearsal of copies is given
-
-pub first-bytes : (images : Images) → images.first.bytes.items ≡ first_bytes (copies images)
-first-bytes images = by images.first images.second
-  where
-    by : (x : StoredCopy) (y : Option StoredCopy) → x.bytes.items ≡ first_bytes (copies (record { first = x; second = y }))
-    by x None = refl
-    by x (Some y) = refl
-
-pub given-copies : (order : ByteOrder) (images : Images) (list : List ℕ) (what : RehearseAsk) (first : List ℕ) (second : Option (List ℕ)) (given_list : List ℕ) (asking : Asking)
-    → first ≡ images.first.bytes.items → second ≡ option_map (λ copy. copy.bytes.items) images.second → given_list ≡ list → asking ≡ asking_of what → given order first second given_list asking ≡ rehearsal_of order (copies images) list what
-given-copies order images list what first second given_list asking e f l a =
-    let e' = e ∙ first-bytes images in
-    let f' = f ∙ sym (image-bytes images) in
-    rw (e', f', l, a) refl
+-- ---- what is asked, and an answer, by its clauses
 
 -- what is asked, from its parts
 pub same-asking : (variable variable' : List ℕ) (bounds bounds' : BoundsShown) (wanted wanted' : Wanted) (names names' : List (List ℕ)) → variable ≡ variable' → bounds ≡ bounds' → wanted ≡ wanted' → names ≡ names'

@@ -3,10 +3,11 @@
 use Rattle.std.specs.Prelude.{◌≡◌, ℕ, Bool, true, List, Result, Ok, Err, string_bytes}
 use Rattle.output.specs.Sink.{Sink}
 use Rattle.envimage.specs.declared.image.ByteOrder.{ByteOrder}
+use Rattle.rehearse_terms.specs.Asking.{Asking}
 use Rattle.tool_words.specs.declared.ask.EndingsAsk.{EndingsAsk}
 use Rattle.ubtool.specs.EndingsOfImages.{RefusesEndings, TellsEndings}
 use Rattle.tool_images.specs.FileFaults.{path_form}
-use Rattle.ubtool.specs.Given.{Given, given_all}
+use Rattle.ubtool.specs.Given.{FromFiles, Given, all_runs}
 use Rattle.rehearse_rules.specs.declared.rehearse_error.RehearseError.TheVariants as rehearsal
 use Rattle.tool_images.specs.declared.error.ToolError.TheVariants as tool
 use Rattle.ubtool.specs.Faults.{reported}
@@ -18,14 +19,11 @@ use Rattle.ubtool.specs.declared.rehearsal_error.RehearsalError.TheVariants as r
 use Rattle.tool_images.specs.declared.fault.Fault.TheVariants.{Memory, Tool}
 use Rattle.tool_files.specs.CallOrder.{OnlyReads}
 use Rattle.tool_files.specs.Told.{Told}
-use Rattle.tool_steps.specs.Images.{Copy}
-use Rattle.tool_steps.specs.PrintingFiles.{first_bytes, second_bytes}
-use Rattle.tool_steps.specs.Sources.{AreRead, IsUnread}
+use Rattle.tool_steps.specs.Sources.{IsUnread}
 
--- what is rehearsed: the bytes of these copies, by the text of the device list, in all runs
-abbrev pub endings_of : ByteOrder → List Copy → (device_list : List ℕ) → EndingsAsk → Given
-endings_of order found device_list what =
-    given_all order (first_bytes found) (second_bytes found) device_list (string_bytes what.name) what.bounds
+-- what is asked for: all runs of the variable, within its bounds
+abbrev pub all_asked : EndingsAsk → Asking
+all_asked what = all_runs (string_bytes what.name) what.bounds
 
 -- how a refusal is reported: a variable that is not set, by its name
 abbrev pub endings_refusal : EndingsAsk → RehearsalError → ProgramFault
@@ -37,30 +35,26 @@ abbrev pub TellsCopies : Given → (flow : Bool) → (states : ℕ) → (old new
 TellsCopies g flow states old new (Ok done) = TellsEndings g flow states old new
 TellsCopies g flow states old new (Err error) = RefusesEndings g flow states old new error
 
--- the images and the device list were read, and this holds of the endings of what they give
-abbrev pub FromFiles : ByteOrder → (config device_list : List ℕ) → EndingsAsk → (old new : Told) → (Given → Type 0) →
-    Type 0
-FromFiles order config device_list what old new IsSo =
-    AreRead config device_list old new (λ found text. IsSo (endings_of order found text what))
-
 -- The images and the device list were read, and the lines were written; or the endings are refused; or a read is
 -- refused, and files were only read. If memory runs out, nothing is written.
 abbrev pub TellsFrom : ByteOrder → (config device_list : List ℕ) → EndingsAsk → (out out' : Sink) → (old new : Told) →
     Result Bool ProgramFault → Type 0
 TellsFrom order config device_list what out out' old new (Ok all) =
-    (all ≡ true) × FromFiles order config device_list what old new (λ g. TellsEndings g what.flow what.states out out')
+    (all ≡ true) × FromFiles order config device_list (all_asked what) old new (λ g.
+    TellsEndings g what.flow what.states out out')
 TellsFrom order config device_list what out out' old new (Err (Shared Memory)) = OnlyReads old new × (out' ≡ out)
 TellsFrom order config device_list what out out' old new (Err (Shared (Tool (tool.Image error)))) =
-    FromFiles order config device_list what old new (λ g.
+    FromFiles order config device_list (all_asked what) old new (λ g.
     RefusesEndings g what.flow what.states out out' (refused.Image error))
 TellsFrom order config device_list what out out' old new (Err (Shared (Tool tool.Write))) =
-    FromFiles order config device_list what old new (λ g. RefusesEndings g what.flow what.states out out' refused.Write)
+    FromFiles order config device_list (all_asked what) old new (λ g.
+    RefusesEndings g what.flow what.states out out' refused.Write)
 TellsFrom order config device_list what out out' old new (Err (Shared (Tool error))) = ⊥
 TellsFrom order config device_list what out out' old new (Err (Shared fault)) = IsUnread config device_list old new fault
 TellsFrom order config device_list what out out' old new (Err (NoSuchVariable name)) =
-    (name ≡ path_form what.name) × FromFiles order config device_list what old new (λ g.
+    (name ≡ path_form what.name) × FromFiles order config device_list (all_asked what) old new (λ g.
     RefusesEndings g what.flow what.states out out' (refused.Rehearsal rehearsal.NoSuchVariable))
 TellsFrom order config device_list what out out' old new (Err (program.NotARun word)) = ⊥
 TellsFrom order config device_list what out out' old new (Err (program.Rehearsal error)) =
-    FromFiles order config device_list what old new (λ g.
+    FromFiles order config device_list (all_asked what) old new (λ g.
     RefusesEndings g what.flow what.states out out' (refused.Rehearsal error))

@@ -8,7 +8,7 @@ use Rattle.rehearse_terms.specs.State.{Text}
 use Rattle.rehearse_endings.specs.TellingEndings.{AreLines, HasMoreStates}
 use Rattle.rehearse_endings.specs.declared.telling.EndingsAsk.{EndingsAsk}
 use Rattle.rehearse_rules.specs.declared.rehearse_error.RehearseError.TheVariants.{DeviceList, NoSuchVariable, States}
-use Rattle.ubtool.specs.Given.{Given, given_all}
+use Rattle.ubtool.specs.Given.{Given, all_runs, given}
 use Rattle.tool_images.specs.PrintingImages.{environment_in}
 use Rattle.ubtool.specs.Headline.{HasDevices}
 use Rattle.ubtool.specs.Refusing.{HasImage}
@@ -17,7 +17,8 @@ use Rattle.ubtool.specs.declared.rehearsal_error.RehearsalError.TheVariants.{Ima
 
 -- what is given: all runs of the variable that is asked for, within its bounds
 abbrev pub endings_given : ByteOrder → List ℕ → Option (List ℕ) → Text → EndingsAsk → Given
-endings_given order first second device_list ask = given_all order first second device_list ask.name.now ask.bounds
+endings_given order first second device_list ask =
+    given order first second device_list (all_runs ask.name.now ask.bounds)
 
 -- the lines, or the lines of the flow, are written, with at most this many states
 abbrev pub TellsEndings : Given → (flow : Bool) → (states : ℕ) → (old new : Sink) → Type 0

@@ -4,6 +4,10 @@ use Rattle.envimage.specs.declared.image.ByteOrder.{ByteOrder}
 use Rattle.rehearse_terms.specs.Asking.{Asking, Listed, whole_page}
 use Rattle.rehearse_terms.specs.Bounds.{BoundsShown}
 use Rattle.rehearse_terms.specs.State.{Text}
+use Rattle.tool_files.specs.Told.{Told}
+use Rattle.tool_steps.specs.Images.{Copy}
+use Rattle.tool_steps.specs.PrintingFiles.{first_bytes, second_bytes}
+use Rattle.tool_steps.specs.Sources.{AreRead}
 
 pub record Given : Type 0 where
   -- the bytes of a single image, or of the copies of a pair, and how their checksum is stored
@@ -20,7 +24,16 @@ given order first second device_list asking =
     record { order = order; first = first; second = second; device_list = device_list; asking = asking }
 
 -- all runs of a variable: no start word, the whole page, and no name asked for
-abbrev pub given_all : ByteOrder → List ℕ → Option (List ℕ) → Text → (variable : Text) → BoundsShown → Given
-given_all order first second device_list variable bounds =
-    given order first second device_list
-    (record { variable = variable; bounds = bounds; wanted = Listed None whole_page; names = [] })
+abbrev pub all_runs : (variable : Text) → BoundsShown → Asking
+all_runs variable bounds = record { variable = variable; bounds = bounds; wanted = Listed None whole_page; names = [] }
+
+-- ---- what files that were read give
+
+-- the bytes of these copies, the text of the device list, and what the words ask for
+abbrev pub given_by : ByteOrder → List Copy → (device_list : Text) → Asking → Given
+given_by order found device_list asking = given order (first_bytes found) (second_bytes found) device_list asking
+
+-- the images and the device list were read, and this holds of what they give
+abbrev pub FromFiles : ByteOrder → (config device_list : List ℕ) → Asking → (old new : Told) → (Given → Type 0) → Type 0
+FromFiles order config device_list asking old new IsSo =
+    AreRead config device_list old new (λ found text. IsSo (given_by order found text asking))

@@ -8,7 +8,7 @@ use Rattle.tool_words.specs.CommandAnswers.{asking_of}
 use Rattle.tool_words.specs.declared.ask.RehearseAsk.{RehearseAsk}
 use Rattle.rehearse_terms.specs.WantedShown.{wanted_word}
 use Rattle.tool_images.specs.FileFaults.{path_form}
-use Rattle.ubtool.specs.Given.{Given, given}
+use Rattle.ubtool.specs.Given.{FromFiles, Given}
 use Rattle.ubtool.specs.Headline.{LeavesRecords, Rehearses}
 use Rattle.tool_files.specs.CallOrder.{OnlyReads}
 use Rattle.ubtool.specs.Refusing.{Refuses}
@@ -22,14 +22,7 @@ use Rattle.ubtool.specs.declared.fault.ProgramFault.TheVariants.{NoSuchVariable,
 use Rattle.ubtool.specs.declared.rehearsal_error.RehearsalError.{RehearsalError}
 use Rattle.ubtool.specs.declared.rehearsal_error.RehearsalError.TheVariants as refused
 use Rattle.tool_images.specs.declared.fault.Fault.TheVariants.{Memory, Tool}
-use Rattle.tool_steps.specs.Images.{Copy, copies}
-use Rattle.tool_steps.specs.PrintingFiles.{first_bytes, second_bytes}
-use Rattle.tool_steps.specs.Sources.{AreRead, IsUnread}
-
--- what a rehearsal is given: the bytes of these copies, the text of the device list, and what the words ask for
-abbrev pub rehearsal_of : ByteOrder → List Copy → (device_list : List ℕ) → RehearseAsk → Given
-rehearsal_of order found device_list what =
-    given order (first_bytes found) (second_bytes found) device_list (asking_of what)
+use Rattle.tool_steps.specs.Sources.{IsUnread}
 
 -- how a refusal is reported: a variable that is not set by its name, and a word that spells no run as it was given
 abbrev pub no_run_of : Option (String Global) → ProgramFault
@@ -51,37 +44,34 @@ RehearsesCopies g old new (Ok finish) = Rehearses g old new finish
 RehearsesCopies g old new (Err refused.Memory) = RunsOut g old new
 RehearsesCopies g old new (Err error) = Refuses g old new error
 
--- the images and the device list were read, and the rehearsal of what they give has this property
-abbrev pub FromFiles : ByteOrder → (config device_list : List ℕ) → RehearseAsk → (old new : Told) → (Given → Type 0) →
-    Type 0
-FromFiles order config device_list what old new IsSo =
-    AreRead config device_list old new (λ found text. IsSo (rehearsal_of order found text what))
-
 -- The images and the device list were read, and the whole listing was written; or the rehearsal is refused, and the
 -- fault names what the words said; or a read is refused, and files were only read. If memory runs out while they are
 -- read, nothing is written; if it runs out later, whole records may be written.
 abbrev pub RehearsesFrom : ByteOrder → (config device_list : List ℕ) → RehearseAsk → (out out' : Sink) →
     (old new : Told) → Result Bool ProgramFault → Type 0
 RehearsesFrom order config device_list what out out' old new (Ok all) =
-    (all ≡ true) × FromFiles order config device_list what old new (λ g. (finish : Finish)
+    (all ≡ true) × FromFiles order config device_list (asking_of what) old new (λ g. (finish : Finish)
     × Rehearses g out out' finish)
 RehearsesFrom order config device_list what out out' old new (Err (Shared Memory)) =
-    (OnlyReads old new × (out' ≡ out)) ⊎ FromFiles order config device_list what old new (λ g. RunsOut g out out')
+    (OnlyReads old new × (out' ≡ out))
+    ⊎ FromFiles order config device_list (asking_of what) old new (λ g. RunsOut g out out')
 RehearsesFrom order config device_list what out out' old new (Err (Shared (Tool (tool.Image error)))) =
-    FromFiles order config device_list what old new (λ g. Refuses g out out' (refused.Image error))
+    FromFiles order config device_list (asking_of what) old new (λ g. Refuses g out out' (refused.Image error))
 RehearsesFrom order config device_list what out out' old new (Err (Shared (Tool tool.Write))) =
-    FromFiles order config device_list what old new (λ g. Refuses g out out' refused.Write)
+    FromFiles order config device_list (asking_of what) old new (λ g. Refuses g out out' refused.Write)
 RehearsesFrom order config device_list what out out' old new (Err (Shared (Tool error))) = ⊥
 RehearsesFrom order config device_list what out out' old new (Err (Shared fault)) =
     IsUnread config device_list old new fault
 RehearsesFrom order config device_list what out out' old new (Err (NoSuchVariable name)) =
     (name ≡ path_form what.name)
-    × FromFiles order config device_list what old new (λ g. Refuses g out out' (refused.Rehearsal rehearsal.NoSuchVariable))
+    × FromFiles order config device_list (asking_of what) old new (λ g.
+    Refuses g out out' (refused.Rehearsal rehearsal.NoSuchVariable))
 RehearsesFrom order config device_list what out out' old new (Err (NotARun word)) =
     (Some word ≡ option_map path_form (wanted_word what.wanted))
-    × FromFiles order config device_list what old new (λ g. Refuses g out out' (refused.Rehearsal rehearsal.NotARun))
+    × FromFiles order config device_list (asking_of what) old new (λ g.
+    Refuses g out out' (refused.Rehearsal rehearsal.NotARun))
 RehearsesFrom order config device_list what out out' old new (Err (program.Rehearsal error)) =
-    FromFiles order config device_list what old new (λ g. Refuses g out out' (refused.Rehearsal error))
+    FromFiles order config device_list (asking_of what) old new (λ g. Refuses g out out' (refused.Rehearsal error))
 
 -- over any files: a reported failure of the output is counted, and any refusal but this and memory leaves the output as
 -- it was

@@ -1,7 +1,8 @@
 //! `endings`, from files to the lines.
 ghost use Rattle.std.specs.Prelude.{◌≡◌, string_bytes};
 ghost use Rattle.tool_files.specs.Told.{IfTold};
-ghost use Rattle.ubtool.specs.EndingsOfFiles.{TellsCopies, TellsFrom, endings_of, endings_refusal};
+ghost use Rattle.ubtool.specs.EndingsOfFiles.{TellsCopies, TellsFrom, all_asked, endings_refusal};
+ghost use Rattle.ubtool.specs.Given.{given_by};
 ghost use Rattle.ubtool.specs.Faults.{CountsShared};
 ghost use Rattle.tool_steps.specs.Images.{copies};
 ghost use Rattle.ubtool.specs.RehearsingFiles.{LeavesOutput};
@@ -9,6 +10,7 @@ ghost use Rattle.ubtool.specs.RehearsingFiles.{LeavesOutput};
 use crate::fault::ProgramFault;
 use crate::image_endings::endings_bytes;
 use crate::rehearsal_error::RehearsalError;
+use crate::source_bytes::bytes_of;
 use envimage::ByteOrder;
 use output::Out;
 use rehearse_rules::RehearseError;
@@ -38,9 +40,9 @@ fn endings_of_sources<O: Out>(
     what: &EndingsAsk,
     out: &mut O,
 ) -> Result<(), RehearsalError>
-    ensures { TellsCopies (endings_of order (copies sources.now.images)
-        sources.now.device_list.items what.now) what.now.flow what.now.states (O.sink out.old)
-        (O.sink out.new) result }
+    ensures { TellsCopies (given_by order (copies sources.now.images)
+        sources.now.device_list.items (all_asked what.now)) what.now.flow what.now.states
+        (O.sink out.old) (O.sink out.new) result }
 {
     let ask = rehearse_endings::EndingsAsk {
         name: what.name.as_bytes(),
@@ -48,14 +50,13 @@ fn endings_of_sources<O: Out>(
         states: what.states,
         flow: what.flow,
     };
-    let images = &sources.images;
-    let second = images.second_bytes();
+    let bytes = bytes_of(sources);
     endings_bytes(
         alloc,
-        &images.first.bytes,
-        second,
+        bytes.first,
+        bytes.second,
         order,
-        &sources.device_list,
+        bytes.device_list,
         &ask,
         out,
     )

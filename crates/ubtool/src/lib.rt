@@ -8,6 +8,7 @@ mod image_rehearsal;
 mod perform;
 mod rehearsal_error;
 mod rehearsing;
+mod source_bytes;
 mod tool;
 
 pub use envimage::{ByteOrder, Which};

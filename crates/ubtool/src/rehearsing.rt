@@ -3,11 +3,14 @@ ghost use Rattle.std.specs.Prelude.{◌≡◌, string_bytes};
 ghost use Rattle.tool_files.specs.Told.{IfTold};
 ghost use Rattle.ubtool.specs.Faults.{CountsShared};
 ghost use Rattle.tool_steps.specs.Images.{copies};
-ghost use Rattle.ubtool.specs.RehearsingFiles.{LeavesOutput, RehearsesCopies, RehearsesFrom, refusal_of, rehearsal_of};
+ghost use Rattle.ubtool.specs.RehearsingFiles.{LeavesOutput, RehearsesCopies, RehearsesFrom, refusal_of};
+ghost use Rattle.ubtool.specs.Given.{given_by};
+ghost use Rattle.tool_words.specs.CommandAnswers.{asking_of};
 
 use crate::fault::ProgramFault;
 use crate::image_rehearsal::rehearse_bytes;
 use crate::rehearsal_error::RehearsalError;
+use crate::source_bytes::bytes_of;
 use envimage::ByteOrder;
 use output::Out;
 use rehearse_rules::RehearseError;
@@ -41,8 +44,9 @@ fn rehearse_sources<O: Out>(
     what: &RehearseAsk,
     out: &mut O,
 ) -> Result<Finish, RehearsalError>
-    ensures { RehearsesCopies (rehearsal_of order (copies sources.now.images)
-        sources.now.device_list.items what.now) (O.sink out.old) (O.sink out.new) result }
+    ensures { RehearsesCopies (given_by order (copies sources.now.images)
+        sources.now.device_list.items (asking_of what.now)) (O.sink out.old) (O.sink out.new)
+        result }
 {
     let Ok(names) = slices_of(alloc, &what.names) else {
         return Err(RehearsalError::Memory);
@@ -52,14 +56,13 @@ fn rehearse_sources<O: Out>(
         wanted: what.wanted.as_bytes(),
         names: &names,
     };
-    let images = &sources.images;
-    let second = images.second_bytes();
+    let bytes = bytes_of(sources);
     rehearse_bytes(
         alloc,
-        &images.first.bytes,
-        second,
+        bytes.first,
+        bytes.second,
         order,
-        &sources.device_list,
+        bytes.device_list,
         &ask,
         out,
     )

@@ -5,5 +5,5 @@ use Rattle.envtools.proofs.env.new_value.Goals as goal
 
 pub returns-clause-value : goal.returns-clause-value
 returns-clause-value c =
-    ap is_value c.in_ok-joined.ensures
+    ap is_value c.in_ok-joined_words.ensures
     ∙ is_value-joined (map (λ w. w.now) c.args.words.now) (sym c.are_values.ensures ∙ c.if-not-are_values.false)

@@ -16,7 +16,7 @@ returns-in-Some g c devices =
     let room = room_for (length old.present.log) c.args.bounds.devices (omega (arith, c.if-asked-devices.false, ap length c.log-asked.ensures, c.devices.ensures.devices)) in
     let is : told request old.present.log ≡ Some success =
     sym (c.told-answered.ensures ∙ (λ i. told (record { name = c.args.name.now; words = bytes_of_words c.args.words.now; effect = lent_effect c.args.effect; again = false }) old.present.log)) ∙ c.in-Some.is in
-    let same : request_shown (record { name = c.in_ok-from_slice.field-0; words = c.in_ok-copied.field-0; effect = c.args.effect; again = c.is_some.result }) ≡ record request { again = c.is_some.result } =
-    (λ i. record { name = c.in_ok-from_slice.ensures.items i; words = c.in_ok-copied.ensures i; effect = lent_effect c.args.effect; again = c.is_some.result }) in
+    let same : request_shown (record { name = c.in_ok-from_slice.field-0; words = c.in_ok-copied_words.field-0; effect = c.args.effect; again = c.is_some.result }) ≡ record request { again = c.is_some.result } =
+    (λ i. record { name = c.in_ok-from_slice.ensures.items i; words = c.in_ok-copied_words.ensures i; effect = lent_effect c.args.effect; again = c.is_some.result }) in
     ask_comes (limits_of devices c.args.bounds) request c.answer.result old new (Some success) room is
     (told_comes request c.is_some.result success c.answer.result old new (c.is_some.ensures ∙ ap is_some c.in-Some.is) (subst (λ (q : Request). Comes c.answer.result old new (place_answered (outcome_when success) q old.present.frames)) same (c.answer.ensures (outcome_when success) (outcome_succeeds success))))

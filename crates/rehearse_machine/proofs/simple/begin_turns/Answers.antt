@@ -20,7 +20,7 @@ returns g c top =
     let f = c.args.frame.now in
     let there = c.behind-2.ensures ∙ ap (λ (x : At). place x.list (suc x.command) 0 0) c.at-at.ensures in
     let child = c.with_words-turns in
-    let copies = ap (λ (v : Vec (Vec ℕ Global) Global). bytes_of_words v.items) c.in_ok-fields.ensures.ok ∙ c.in_ok-copied.ensures in
+    let copies = ap (λ (v : Vec (Vec ℕ Global) Global). bytes_of_words v.items) c.in_ok-fields.ensures.ok ∙ c.in_ok-copied_words.ensures in
     let values = values_are child.result f (bytes_of_words c.args.fields.now) child.ensures.kind
     (child.ensures.script ∙ ap (λ (x : Code). view.script x) c.in_ok-clone.ensures.cases ∙ c.script.ensures)
     (child.ensures.words ∙ copies)

@@ -1,0 +1,20 @@
+-- What is given, from its parts.
+use Rattle.std.proofs.Common.{◌≡◌, ℕ, List, refl, Option, Some, None}
+use Rattle.envimage.specs.declared.image.ByteOrder.{ByteOrder}
+use Rattle.rehearse_terms.specs.Asking.{Asking}
+use Rattle.tool_steps.specs.Images.{copies}
+use Rattle.tool_steps.specs.PrintingFiles.{first_bytes}
+use Rattle.tool_steps.specs.declared.images.Images.{Images}
+use Rattle.tool_steps.specs.declared.read.StoredCopy.{StoredCopy}
+use Rattle.ubtool.specs.Given.{given}
+
+pub first-bytes : (images : Images) → images.first.bytes.items ≡ first_bytes (copies images)
+first-bytes images = by images.first images.second
+  where
+    by : (x : StoredCopy) (y : Option StoredCopy) → x.bytes.items ≡ first_bytes (copies (record { first = x; second = y }))
+    by x None = refl
+    by x (Some y) = refl
+
+pub given-same : (order : ByteOrder) (first first' : List ℕ) (second second' : Option (List ℕ)) (list list' : List ℕ) (asking asking' : Asking) → first ≡ first' → second ≡ second' → list ≡ list' → asking ≡ asking'
+    → given order first second list asking ≡ given order first' second' list' asking'
+given-same order first first' second second' list list' asking asking' f s l a = rw (f, s, l, a) refl
