@@ -5,5 +5,7 @@ pub mod Hexadecimal
 pub mod Computed
 pub mod ComputedShown
 pub mod TextsShown
+pub mod UBootTest
+pub mod UBootTestShown
 pub mod VariableNames
 pub mod BuiltInCommands

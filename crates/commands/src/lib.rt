@@ -5,12 +5,16 @@ mod computed;
 mod hexadecimal;
 mod itest;
 mod known_commands;
+pub mod laws;
 mod number;
 mod setexpr;
 mod truth;
+mod uboot_number;
+mod uboot_test;
 mod variable_name;
 
 pub use computed::{Computed, computes};
 pub use known_commands::{Known, known_of};
 pub use truth::verdict;
+pub use uboot_test::{Question, uboot_question, uboot_truth};
 pub use variable_name::is_bad_name;

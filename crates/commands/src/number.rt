@@ -18,7 +18,7 @@ fn digits_len(base: u64, word: &[u8]) -> usize
 }
 
 /// The bytes at the start that are digits of a base.
-fn digits_in(base: u64, word: &[u8]) -> &[u8]
+pub(crate) fn digits_in(base: u64, word: &[u8]) -> &[u8]
     ensures { result.now ≡ digits_in base word.now }
 {
     &word[..digits_len(base, word)]
@@ -33,7 +33,7 @@ fn read_in(base: u64, word: &[u8]) -> u64
 }
 
 /// Whether a word starts with an x of either case and a hexadecimal digit.
-fn begins_hexadecimal(word: &[u8]) -> bool
+pub(crate) fn begins_hexadecimal(word: &[u8]) -> bool
     ensures { result ≡ begins_hexadecimal word.now }
 {
     match word {
@@ -83,7 +83,7 @@ fn negative(magnitude: u64) -> i64
 }
 
 /// What follows a minus sign.
-fn behind_minus(word: &[u8]) -> Option<&[u8]>
+pub(crate) fn behind_minus(word: &[u8]) -> Option<&[u8]>
     ensures { option_copied result ≡ behind_minus word.now }
 {
     match word {
