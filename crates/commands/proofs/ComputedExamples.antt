@@ -1,5 +1,5 @@
 -- Worked examples, computed: what the words of computed calls come to, and what that does.
-use Rattle.std.proofs.Common.{◌≡◌, ℕ, List, [], ◌∷◌, Option, Some, None, codes, refl, false}
+use Rattle.std.proofs.Common.{◌≡◌, ℕ, List, [], ◌∷◌, Option, Some, None, codes, refl}
 use Rattle.std.specs.Fmt.{digits}
 use Rattle.rehearse_terms.specs.State.{Text, Variables}
 use Rattle.commands.specs.KnownCommands.{Env, Itest, SetExpr}

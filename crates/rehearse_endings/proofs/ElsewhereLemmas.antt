@@ -13,9 +13,10 @@ use Rattle.hushlang.specs.Trees.{tree_of}
 use Rattle.commands.specs.Verdict.{verdict}
 use Rattle.device_list.specs.Called.{Called, BuiltIn, Device, NoCommand, called_by, sets_in}
 use Rattle.commands.specs.BuiltInCommands.{ChangesVariables, WritesText, RunsTexts, Tests, Exits, asks_device, exit_status, variables_changed, text_written}
-use Rattle.rehearse_rules.specs.Execution.{Limits, Answer, Normal, Exit, Ended, Dry, Ending, CutDevices, CutSteps, Unknown, Syntax, Size, go_on, remember, set_status, set_local, status_when, goes, holds, begin, take_outcome, with_outcome, outcome_when, succeeds, told, told_again, tell_or_take, device, Request, test_effect, logged, set_environment, boot, text_end, run_text, run_all, command, simple, sized, assign, turns, for_each, exec_script, exec_list, exec_joined, exec_command, exec_arms, exec}
+use Rattle.rehearse_rules.specs.ByShell.{skips_rest, status_of_nothing, status_of_no_block, status_of_loop, status_in_turn}
+use Rattle.rehearse_rules.specs.Execution.{begin_turn, Limits, Answer, Normal, Exit, Ended, Dry, Ending, CutDevices, CutSteps, Unknown, Syntax, Size, go_on, remember, set_status, set_local, status_when, goes, holds, begin, take_outcome, with_outcome, outcome_when, succeeds, told, told_again, tell_or_take, device, Request, test_effect, logged, set_environment, boot, text_end, run_text, run_all, command, simple, sized, assign, turns, for_each, exec_script, exec_list, exec_joined, exec_command, exec_arms, exec}
 use Rattle.rehearse_rules.specs.Runs.{state_of}
-use Rattle.rehearse_rules.proofs.TakenOutcomes.{Track-of, KeepsAll, Keeps-script, Keeps-joined, Keeps-arms, Keeps-exec, Keeps-run, Keeps-turns, Keeps-for, Keeps-if, Keeps-stays, after_condition, Keeps-after_condition, Keeps-ended, Keeps-simple, Keeps-sized, Keeps-assign}
+use Rattle.rehearse_rules.proofs.TakenOutcomes.{skipped, Track-of, KeepsAll, Keeps-script, Keeps-joined, Keeps-arms, Keeps-exec, Keeps-run, Keeps-turns, Keeps-for, Keeps-if, Keeps-stays, after_condition, Keeps-after_condition, Keeps-ended, Keeps-simple, Keeps-sized, Keeps-assign}
 use Rattle.rehearse_endings.specs.Elsewhere.{elsewhere, devices_of, HaveFurther, AreApart, IsBeyond, IsAlike, same, cut_here, beyond, Alike}
 
 -- a change of memory in which the text before affects only the text after
@@ -290,25 +291,25 @@ module _ (limits : Limits) (i j : ℕ) (k l : List LoggedCommand) where
     Alike-command NoCommand name ws s = Alike-ended s (Unknown name)
 
     pub Alike-simple : (fs : List Text) → AlwaysDoes (simple limits script fs)
-    Alike-simple [] s = Alike-normal s (λ m. record m { status = 0 }) (reaches_status 0 s.memory)
+    Alike-simple [] s = Alike-normal s (λ m. record m { status = status_of_nothing limits.shell m.status }) (λ text. (text, refl))
     Alike-simple (name ∷ ws) s = Alike-command (called_by limits.devices name ws) name ws s
 
   pub Alike-after : (until : Bool) (b again : State → Answer) → AlwaysDoes b → AlwaysDoes again → KeepsAll limits again → (last : ℕ) → AlwaysDoes (after_condition limits until b again last)
-  Alike-after until b again h does kept last t = Alike-if t (holds until t.memory.status) (λ v. go_on (b v) again) (λ v. Normal (set_status last v)) (Alike-go_on t b again (h t) does kept) (Alike-normal t (λ m. record m { status = last }) (reaches_status last t.memory))
+  Alike-after until b again h does kept last t = Alike-if t (holds until t.memory.status) (λ v. go_on (b v) again) (λ v. Normal (set_status (status_of_loop limits.shell last v.memory.status) v)) (Alike-go_on t b again (h t) does kept) (Alike-normal t (λ m. record m { status = status_of_loop limits.shell last m.status }) (λ text. (text, refl)))
 
-  pub Alike-turns : (left : ℕ) (until : Bool) (c b : State → Answer) → AlwaysDoes c → AlwaysDoes b → KeepsAll limits c → KeepsAll limits b → (last : ℕ) → AlwaysDoes (turns left until c b last)
+  pub Alike-turns : (left : ℕ) (until : Bool) (c b : State → Answer) → AlwaysDoes c → AlwaysDoes b → KeepsAll limits c → KeepsAll limits b → (last : ℕ) → AlwaysDoes (turns limits.shell left until c b last)
   Alike-turns zero until c b h g kc kb last s = Alike-ended s CutSteps
   Alike-turns (suc left) until c b h g kc kb last s =
-      let again : State → Answer = λ u. turns left until c b u.memory.status u in
+      let again : State → Answer = λ u. turns limits.shell left until c b u.memory.status u in
       let does : AlwaysDoes again = λ u. Alike-turns left until c b h g kc kb u.memory.status u in
       let kept : KeepsAll limits again = λ u. Keeps-turns limits left until c b kc kb u.memory.status u in
       Alike-go_on s c (after_condition limits until b again last) (h s) (Alike-after until b again g does kept last) (Keeps-after_condition limits until b again kb kept last)
 
-  pub Alike-for : (name : Text) (b : State → Answer) → AlwaysDoes b → KeepsAll limits b → (last : ℕ) (fs : List Text) → AlwaysDoes (for_each name b last fs)
+  pub Alike-for : (name : Text) (b : State → Answer) → AlwaysDoes b → KeepsAll limits b → (last : ℕ) (fs : List Text) → AlwaysDoes (for_each limits.shell name b last fs)
   Alike-for name b h kb last [] s = Alike-normal s (λ m. record m { status = last }) (reaches_status last s.memory)
   Alike-for name b h kb last (f ∷ fs) s =
-      Alike-go_on s (λ t. b (set_local name f t)) (λ t. for_each name b t.memory.status fs t)
-      (Alike-remember s (λ m. record m { locals = with_value m.locals name f }) b (λ text. (text, refl)) (h (set_local name f s)))
+      Alike-go_on s (λ t. b (begin_turn limits.shell name f t)) (λ t. for_each limits.shell name b t.memory.status fs t)
+      (Alike-remember s (λ m. record m { locals = with_value m.locals name f; status = status_in_turn limits.shell m.status }) b (λ text. (text, refl)) (h (begin_turn limits.shell name f s)))
       (λ t. Alike-for name b h kb t.memory.status fs t)
       (λ t. Keeps-for limits name b kb t.memory.status fs t)
 
@@ -323,17 +324,17 @@ module _ (limits : Limits) (i j : ℕ) (k l : List LoggedCommand) where
 
       pub Alike-joined : (a : Joined) → AlwaysDoes (exec_joined limits left text a)
       Alike-joined tree.Alone s = Alike-stays s
-      Alike-joined (tree.Joins op c rest) s = Alike-if s (goes op s.memory.status) (λ t. go_on (exec_command limits left text c t) (exec_joined limits left text rest)) (exec_joined limits left text rest) (Alike-go_on s (exec_command limits left text c) (exec_joined limits left text rest) (Alike-one c s) (Alike-joined rest) (Keeps-joined limits left text kept rest)) (Alike-joined rest s)
+      Alike-joined (tree.Joins op c rest) s = Alike-if s (goes op s.memory.status) (λ t. go_on (exec_command limits left text c t) (exec_joined limits left text rest)) (skipped limits (exec_joined limits left text rest)) (Alike-go_on s (exec_command limits left text c) (exec_joined limits left text rest) (Alike-one c s) (Alike-joined rest) (Keeps-joined limits left text kept rest)) (Alike-if s (skips_rest limits.shell) Normal (exec_joined limits left text rest) (Alike-stays s) (Alike-joined rest s))
 
       pub Alike-one : (a : Command) → AlwaysDoes (exec_command limits left text a)
       Alike-one (tree.Simple words) s = Alike-begin (λ t. sized (fields (parameters_in t.memory) words) (simple limits text) t) (λ t. Alike-sized (fields (parameters_in t.memory) words) (simple limits text) (Alike-simple text kept does) t) (λ t. Keeps-sized limits (fields (parameters_in t.memory) words) (simple limits text) (Keeps-simple limits text kept) t) s
       Alike-one (tree.Assign pairs) s = Alike-begin (assign pairs) (Alike-assign pairs) (Keeps-assign limits pairs) s
       Alike-one (tree.If arms) s = Alike-arms arms s
       Alike-one (tree.Loop until c b) s = Alike-turns left until (exec_script limits left text c) (exec_script limits left text b) (Alike-script c) (Alike-script b) (Keeps-script limits left text kept c) (Keeps-script limits left text kept b) 0 s
-      Alike-one (tree.For name words b) s = Alike-begin (λ t. sized (fields (parameters_in t.memory) words) (for_each name (exec_script limits left text b) 0) t) (λ t. Alike-sized (fields (parameters_in t.memory) words) (for_each name (exec_script limits left text b) 0) (λ fs. Alike-for name (exec_script limits left text b) (Alike-script b) (Keeps-script limits left text kept b) 0 fs) t) (λ t. Keeps-sized limits (fields (parameters_in t.memory) words) (for_each name (exec_script limits left text b) 0) (λ fs. Keeps-for limits name (exec_script limits left text b) (Keeps-script limits left text kept b) 0 fs) t) s
+      Alike-one (tree.For name words b) s = Alike-begin (λ t. sized (fields (parameters_in t.memory) words) (for_each limits.shell name (exec_script limits left text b) 0) t) (λ t. Alike-sized (fields (parameters_in t.memory) words) (for_each limits.shell name (exec_script limits left text b) 0) (λ fs. Alike-for name (exec_script limits left text b) (Alike-script b) (Keeps-script limits left text kept b) 0 fs) t) (λ t. Keeps-sized limits (fields (parameters_in t.memory) words) (for_each limits.shell name (exec_script limits left text b) 0) (λ fs. Keeps-for limits name (exec_script limits left text b) (Keeps-script limits left text kept b) 0 fs) t) s
 
       pub Alike-arms : (a : Arms) → AlwaysDoes (exec_arms limits left text a)
-      Alike-arms tree.NoElse s = Alike-normal s (λ m. record m { status = 0 }) (reaches_status 0 s.memory)
+      Alike-arms tree.NoElse s = Alike-normal s (λ m. record m { status = status_of_no_block limits.shell m.status }) (λ text. (text, refl))
       Alike-arms (tree.Else b) s = Alike-script b s
       Alike-arms (tree.Arm c b arms) s = Alike-go_on s (exec_script limits left text c) (λ t. elim (nat_eq t.memory.status 0) [ true ↦ exec_script limits left text b t | false ↦ exec_arms limits left text arms t ]) (Alike-script c s) (λ t. Alike-if t (nat_eq t.memory.status 0) (exec_script limits left text b) (exec_arms limits left text arms) (Alike-script b t) (Alike-arms arms t)) (λ t. Keeps-if limits.device_bound t (nat_eq t.memory.status 0) (exec_script limits left text b) (exec_arms limits left text arms) (Keeps-script limits left text kept b t) (Keeps-arms limits left text kept arms t))
 

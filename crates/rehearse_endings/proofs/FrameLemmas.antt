@@ -64,7 +64,7 @@ module _ (limits : Limits) (i j : ℕ) (k l : List LoggedCommand) where
       (Keeps-after_condition limits until (script limits d) (again limits until c d) (kept_script d) (kept_again until c d) last) h
   resume_alike (LoopBody until c d) a b h = go_on_alike limits i j k l a b (again limits until c d) (again_does until c d) (kept_again until c d) h
   resume_alike (ForBody name values body) a b h =
-      go_on_alike limits i j k l a b (λ t. for_each name (script limits body) t.memory.status values t)
+      go_on_alike limits i j k l a b (λ t. for_each limits.shell name (script limits body) t.memory.status values t)
       (λ t. Alike-for limits i j k l name (script limits body) (script_does body) (kept_script body) t.memory.status values t)
       (λ t. Keeps-for limits name (script limits body) (kept_script body) t.memory.status values t) h
   resume_alike (RunNames names) a b h = first_alike a b (run_all limits (full limits) names) (Alike-run limits i j k l (full limits) kept_full full_does names) (Keeps-run limits (full limits) kept_full names) h

@@ -12,3 +12,4 @@ mod RunningExamples
 mod EdgeExamples
 mod BoundExamples
 mod FailuresExamples
+mod ShellExamples

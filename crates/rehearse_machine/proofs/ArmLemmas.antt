@@ -14,6 +14,8 @@ use Rattle.bootstore_state.specs.Moment.{RunningFrame}
 use Rattle.rehearse_terms.specs.State.{State}
 use Rattle.rehearse_rules.specs.Execution.{set_status}
 use Rattle.rehearse_machine.specs.Places.{GoOn, drop_arms, place, moved_to, behind, block_frame, place_arms, condition_ends}
+use Rattle.rehearse_terms.specs.declared.shell.Shell.{Shell}
+use Rattle.rehearse_rules.specs.ByShell.{status_of_no_block}
 
 abbrev pub Arm : Type 0
 Arm = Rc Code Global × Rc Code Global
@@ -31,50 +33,50 @@ no_arm [] (Some b) (suc a) e = refl
 no_arm (x ∷ xs) o zero e = absurd (let f = e in cc)
 no_arm (x ∷ xs) o (suc a) e = no_arm xs o a e
 
-module _ (list : List Arm) (o : Option Script) (a : ℕ) (f : RunningFrame) (fs : List RunningFrame) (at : At) (s : State) where
+module _ (shell : Shell) (list : List Arm) (o : Option Script) (a : ℕ) (f : RunningFrame) (fs : List RunningFrame) (at : At) (s : State) where
   abbrev arms : Arms
   arms = drop_arms a (view.arms (map view.arm list) o)
 
-  pub arm_entered : (p : Arm) (child : RunningFrame) → a < length list → p ≡ get_or list a p → child ≡ block_frame (view.script p.0.value) → at ≡ place f.place.list f.place.command (suc a) 0 → GoOn (child ∷ moved_to at f ∷ fs) s ≡ place_arms arms a f fs s
+  pub arm_entered : (p : Arm) (child : RunningFrame) → a < length list → p ≡ get_or list a p → child ≡ block_frame (view.script p.0.value) → at ≡ place f.place.list f.place.command (suc a) 0 → GoOn (child ∷ moved_to at f ∷ fs) s ≡ place_arms shell arms a f fs s
   arm_entered p child l r e k =
       ap (λ (x : RunningFrame). GoOn (x ∷ moved_to at f ∷ fs) s) e ∙ ap (λ (x : At). GoOn (block_frame (view.script p.0.value) ∷ moved_to x f ∷ fs) s) k
-      ∙ sym (ap (λ (x : Arms). place_arms x a f fs s) (some_arm list o a p (slice_get_read list (length list) a p refl l r)))
+      ∙ sym (ap (λ (x : Arms). place_arms shell x a f fs s) (some_arm list o a p (slice_get_read list (length list) a p refl l r)))
 
-  pub other_entered : (b : Script) (child : RunningFrame) → o ≡ Some b → length list ≤ a → child ≡ block_frame b → at ≡ place f.place.list (suc f.place.command) 0 0 → GoOn (child ∷ moved_to at f ∷ fs) s ≡ place_arms arms a f fs s
+  pub other_entered : (b : Script) (child : RunningFrame) → o ≡ Some b → length list ≤ a → child ≡ block_frame b → at ≡ place f.place.list (suc f.place.command) 0 0 → GoOn (child ∷ moved_to at f ∷ fs) s ≡ place_arms shell arms a f fs s
   other_entered b child p l e k =
       ap (λ (x : RunningFrame). GoOn (x ∷ moved_to at f ∷ fs) s) e ∙ ap (λ (x : At). GoOn (block_frame b ∷ moved_to x f ∷ fs) s) k
-      ∙ sym (ap (λ (x : Arms). place_arms x a f fs s) (no_arm list o a (slice_get_past list a l) ∙ ap (view.arms []) p))
+      ∙ sym (ap (λ (x : Arms). place_arms shell x a f fs s) (no_arm list o a (slice_get_past list a l) ∙ ap (view.arms []) p))
 
-  pub none_entered : o ≡ None → length list ≤ a → at ≡ place f.place.list (suc f.place.command) 0 0 → GoOn (moved_to at f ∷ fs) (set_status 0 s) ≡ place_arms arms a f fs s
-  none_entered p l k =
-      ap (λ (x : At). GoOn (moved_to x f ∷ fs) (set_status 0 s)) k
-      ∙ sym (ap (λ (x : Arms). place_arms x a f fs s) (no_arm list o a (slice_get_past list a l) ∙ ap (view.arms []) p))
+  pub none_entered : (n : ℕ) → n ≡ status_of_no_block shell s.memory.status → o ≡ None → length list ≤ a → at ≡ place f.place.list (suc f.place.command) 0 0 → GoOn (moved_to at f ∷ fs) (set_status n s) ≡ place_arms shell arms a f fs s
+  none_entered n same p l k =
+      ap (λ (x : At). GoOn (moved_to x f ∷ fs) (set_status n s)) k ∙ ap (λ (x : ℕ). GoOn (behind f ∷ fs) (set_status x s)) same
+      ∙ sym (ap (λ (x : Arms). place_arms shell x a f fs s) (no_arm list o a (slice_get_past list a l) ∙ ap (view.arms []) p))
 
   -- after the condition of an arm has ended
-  condition_true : (b : Bool) (c d : Script) (more : Arms) → b ≡ true → GoOn (block_frame d ∷ behind f ∷ fs) s ≡ elim b [ true ↦ GoOn (block_frame d ∷ behind f ∷ fs) s | false ↦ place_arms more (suc a) f fs s ]
+  condition_true : (b : Bool) (c d : Script) (more : Arms) → b ≡ true → GoOn (block_frame d ∷ behind f ∷ fs) s ≡ elim b [ true ↦ GoOn (block_frame d ∷ behind f ∷ fs) s | false ↦ place_arms shell more (suc a) f fs s ]
   condition_true true c d more e = refl
   condition_true false c d more e = absurd (let g = e in cc)
 
-  condition_false : (b : Bool) (d : Script) (more : Arms) → b ≡ false → place_arms more (suc a) f fs s ≡ elim b [ true ↦ GoOn (block_frame d ∷ behind f ∷ fs) s | false ↦ place_arms more (suc a) f fs s ]
+  condition_false : (b : Bool) (d : Script) (more : Arms) → b ≡ false → place_arms shell more (suc a) f fs s ≡ elim b [ true ↦ GoOn (block_frame d ∷ behind f ∷ fs) s | false ↦ place_arms shell more (suc a) f fs s ]
   condition_false true d more e = absurd (let g = e in cc)
   condition_false false d more e = refl
 
-  pub block_entered : (p : Arm) (child : RunningFrame) → a < length list → p ≡ get_or list a p → nat_eq s.memory.status 0 ≡ true → child ≡ block_frame (view.script p.1.value) → at ≡ place f.place.list (suc f.place.command) 0 0 → GoOn (child ∷ moved_to at f ∷ fs) s ≡ condition_ends arms a f fs s
+  pub block_entered : (p : Arm) (child : RunningFrame) → a < length list → p ≡ get_or list a p → nat_eq s.memory.status 0 ≡ true → child ≡ block_frame (view.script p.1.value) → at ≡ place f.place.list (suc f.place.command) 0 0 → GoOn (child ∷ moved_to at f ∷ fs) s ≡ condition_ends shell arms a f fs s
   block_entered p child l r t e k =
       ap (λ (x : RunningFrame). GoOn (x ∷ moved_to at f ∷ fs) s) e ∙ ap (λ (x : At). GoOn (block_frame (view.script p.1.value) ∷ moved_to x f ∷ fs) s) k
       ∙ condition_true (nat_eq s.memory.status 0) (view.script p.0.value) (view.script p.1.value) (drop_arms (suc a) (view.arms (map view.arm list) o)) t
-      ∙ sym (ap (λ (x : Arms). condition_ends x a f fs s) (some_arm list o a p (slice_get_read list (length list) a p refl l r)))
+      ∙ sym (ap (λ (x : Arms). condition_ends shell x a f fs s) (some_arm list o a p (slice_get_read list (length list) a p refl l r)))
 
-  pub next_arm : (p : Arm) → a < length list → p ≡ get_or list a p → nat_eq s.memory.status 0 ≡ false → place_arms (drop_arms (suc a) (view.arms (map view.arm list) o)) (suc a) f fs s ≡ condition_ends arms a f fs s
+  pub next_arm : (p : Arm) → a < length list → p ≡ get_or list a p → nat_eq s.memory.status 0 ≡ false → place_arms shell (drop_arms (suc a) (view.arms (map view.arm list) o)) (suc a) f fs s ≡ condition_ends shell arms a f fs s
   next_arm p l r t =
       condition_false (nat_eq s.memory.status 0) (view.script p.1.value) (drop_arms (suc a) (view.arms (map view.arm list) o)) t
-      ∙ sym (ap (λ (x : Arms). condition_ends x a f fs s) (some_arm list o a p (slice_get_read list (length list) a p refl l r)))
+      ∙ sym (ap (λ (x : Arms). condition_ends shell x a f fs s) (some_arm list o a p (slice_get_read list (length list) a p refl l r)))
 
-  pub past_arms : length list ≤ a → at ≡ place f.place.list (suc f.place.command) 0 0 → GoOn (moved_to at f ∷ fs) s ≡ condition_ends arms a f fs s
+  pub past_arms : length list ≤ a → at ≡ place f.place.list (suc f.place.command) 0 0 → GoOn (moved_to at f ∷ fs) s ≡ condition_ends shell arms a f fs s
   past_arms l k =
-      ap (λ (x : At). GoOn (moved_to x f ∷ fs) s) k ∙ none o ∙ sym (ap (λ (x : Arms). condition_ends x a f fs s) (no_arm list o a (slice_get_past list a l)))
+      ap (λ (x : At). GoOn (moved_to x f ∷ fs) s) k ∙ none o ∙ sym (ap (λ (x : Arms). condition_ends shell x a f fs s) (no_arm list o a (slice_get_past list a l)))
     where
-      none : (o : Option Script) → GoOn (behind f ∷ fs) s ≡ condition_ends (view.arms [] o) a f fs s
+      none : (o : Option Script) → GoOn (behind f ∷ fs) s ≡ condition_ends shell (view.arms [] o) a f fs s
       none None = refl
       none (Some b) = refl
 

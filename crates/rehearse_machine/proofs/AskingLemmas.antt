@@ -16,8 +16,9 @@ use Rattle.device_list.specs.Called.{Called, BuiltIn, NoCommand, Device, called_
 use Rattle.commands.specs.BuiltInCommands.{ChangesVariables, WritesText, RunsTexts, Tests, Exits, asks_device, exit_status}
 use Rattle.rehearse_rules.specs.Execution.{Limits, CutDevices, CutSteps, Size, set_status, set_local, status_when, goes, holds, Request, test_effect, told, told_again, logged, set_environment}
 use Rattle.rehearse_terms.specs.Outcomes.{Success}
-use Rattle.rehearse_machine.specs.Places.{PlaceNext, GoOn, AskOn, StopOn, list_at, joined_at, second, command_in, command_at, drop_arms, block_frame, behind, in_turn, left, to_run, place_exit, place_boot, place_tell_or_ask, place_assign, place_tree, place_text, place_name, run_move, for_turn, for_move, for_begins, place_arms, condition_ends, phase_move, place_fitting, place_ask, place_called, place_fields, place_counted, place_command, place_joined, place_begins, place_turn, place_list, place_by, place_move}
+use Rattle.rehearse_machine.specs.Places.{PlaceNext, GoOn, AskOn, StopOn, list_at, joined_at, second, command_in, command_at, drop_arms, block_frame, behind, in_turn, left, to_run, place_exit, place_boot, place_tell_or_ask, place_assign, place_tree, place_text, place_name, run_move, for_turn, for_move, for_begins, place_arms, condition_ends, phase_move, place_fitting, place_ask, place_called, place_fields, place_counted, place_command, place_joined, place_begins, place_turn, place_list, place_by, place_move, place_skipped, moved_to, place}
 use Rattle.rehearse_machine.specs.AskingCommand.{words_of, fields_again, found_again, AsksAgain}
+use Rattle.rehearse_rules.specs.ByShell.{status_of_loop, skips_rest}
 
 -- a command that asks does so with these frames, in this state
 abbrev AsksHere : List RunningFrame → State → PlaceNext → Type 0
@@ -110,30 +111,30 @@ module _ (limits : Limits) where
   counted_never : (next : State → PlaceNext) (s : State) → NeverAsks (next (record s { steps = suc s.steps })) → NeverAsks (place_counted limits next s)
   counted_never next s h = either_never (nat_lt s.steps limits.step_bound) (next (record s { steps = suc s.steps })) (StopOn CutSteps s) h tt
 
-  arms_never : (arms : Arms) (a : ℕ) (f : RunningFrame) (ps : List RunningFrame) (s : State) → NeverAsks (place_arms arms a f ps s)
+  arms_never : (arms : Arms) (a : ℕ) (f : RunningFrame) (ps : List RunningFrame) (s : State) → NeverAsks (place_arms limits.shell arms a f ps s)
   arms_never (tree.Arm c b more) a f ps s = tt
   arms_never (tree.Else b) a f ps s = tt
   arms_never tree.NoElse a f ps s = tt
 
-  condition_never : (arms : Arms) (a : ℕ) (f : RunningFrame) (ps : List RunningFrame) (s : State) → NeverAsks (condition_ends arms a f ps s)
-  condition_never (tree.Arm c b more) a f ps s = either_never (nat_eq s.memory.status 0) (GoOn (block_frame b ∷ behind f ∷ ps) s) (place_arms more (suc a) f ps s) tt (arms_never more (suc a) f ps s)
+  condition_never : (arms : Arms) (a : ℕ) (f : RunningFrame) (ps : List RunningFrame) (s : State) → NeverAsks (condition_ends limits.shell arms a f ps s)
+  condition_never (tree.Arm c b more) a f ps s = either_never (nat_eq s.memory.status 0) (GoOn (block_frame b ∷ behind f ∷ ps) s) (place_arms limits.shell more (suc a) f ps s) tt (arms_never more (suc a) f ps s)
   condition_never (tree.Else b) a f ps s = tt
   condition_never tree.NoElse a f ps s = tt
 
-  phase_never : (o : Option Command) (a : ℕ) (f : RunningFrame) (ps : List RunningFrame) (s : State) → NeverAsks (phase_move o a f ps s)
+  phase_never : (o : Option Command) (a : ℕ) (f : RunningFrame) (ps : List RunningFrame) (s : State) → NeverAsks (phase_move limits.shell o a f ps s)
   phase_never None a f ps s = tt
   phase_never (Some (tree.Simple words)) a f ps s = tt
   phase_never (Some (tree.Assign pairs)) a f ps s = tt
   phase_never (Some (tree.If arms)) a f ps s = condition_never (drop_arms a arms) a f ps s
-  phase_never (Some (tree.Loop until c b)) zero f ps s = either_never (holds until s.memory.status) (GoOn (block_frame b ∷ in_turn 2 0 f ∷ ps) s) (GoOn (behind f ∷ ps) (set_status f.place.last s)) tt tt
+  phase_never (Some (tree.Loop until c b)) zero f ps s = either_never (holds until s.memory.status) (GoOn (block_frame b ∷ in_turn 2 0 f ∷ ps) s) (GoOn (behind f ∷ ps) (set_status (status_of_loop limits.shell f.place.last s.memory.status) s)) tt tt
   phase_never (Some (tree.Loop until c b)) (suc a) f ps s = tt
   phase_never (Some (tree.For name words body)) a f ps s = tt
 
-  turn_never : (o : Option Text) (name : Text) (body : Script) (f : RunningFrame) (ps : List RunningFrame) (s : State) → NeverAsks (for_turn o name body f ps s)
+  turn_never : (o : Option Text) (name : Text) (body : Script) (f : RunningFrame) (ps : List RunningFrame) (s : State) → NeverAsks (for_turn limits.shell o name body f ps s)
   turn_never None name body f ps s = tt
   turn_never (Some value) name body f ps s = tt
 
-  values_never : (o : Option Command) (f : RunningFrame) (ps : List RunningFrame) (s : State) → NeverAsks (for_move o f ps s)
+  values_never : (o : Option Command) (f : RunningFrame) (ps : List RunningFrame) (s : State) → NeverAsks (for_move limits.shell o f ps s)
   values_never None f ps s = tt
   values_never (Some (tree.Simple words)) f ps s = tt
   values_never (Some (tree.Assign pairs)) f ps s = tt
@@ -176,7 +177,7 @@ module _ (limits : Limits) where
     command_again : (c : Command) (s : State) → command_at (list_at f.script f.place.list) f.place.command ≡ Some c → AsksAgain limits (place_command limits c f fs s)
     command_again (tree.Simple words) s e = simple_again words s e
     command_again (tree.Assign pairs) s e = never_again (place_command limits (tree.Assign pairs) f fs s) (counted_never (place_assign pairs (behind f ∷ fs)) s (assign_never pairs (behind f ∷ fs) (record s { steps = suc s.steps })))
-    command_again (tree.If arms) s e = never_again (place_arms arms 0 f fs s) (arms_never arms 0 f fs s)
+    command_again (tree.If arms) s e = never_again (place_arms limits.shell arms 0 f fs s) (arms_never arms 0 f fs s)
     command_again (tree.Loop until c b) s e = tt
     command_again (tree.For name words body) s e =
         let t : State = record s { steps = suc s.steps } in
@@ -186,7 +187,8 @@ module _ (limits : Limits) where
 
     joined_again : (o : Option (Op × Command)) (s : State) → ((pair : Op × Command) → o ≡ Some pair → command_at (list_at f.script f.place.list) f.place.command ≡ Some pair.1) → AsksAgain limits (place_joined limits o f fs s)
     joined_again None s e = tt
-    joined_again (Some pair) s e = either_again (goes pair.0 s.memory.status) (place_command limits pair.1 f fs s) (GoOn (behind f ∷ fs) s) (command_again pair.1 s (e pair refl)) tt
+    joined_again (Some pair) s e = either_again (goes pair.0 s.memory.status) (place_command limits pair.1 f fs s) (place_skipped limits f fs s) (command_again pair.1 s (e pair refl))
+        (either_again (skips_rest limits.shell) (GoOn (moved_to (place (suc f.place.list) 0 0 0) f ∷ fs) s) (GoOn (behind f ∷ fs) s) tt tt)
 
     begins_again : (list : AndOr) (n : ℕ) (s : State) → f.place.command ≡ n → list_at f.script f.place.list ≡ Some list → AsksAgain limits (place_begins limits list n f fs s)
     begins_again (tree.Starts c joins) zero s n e = command_again c s (ap (λ (o : Option AndOr). command_at o f.place.command) e ∙ ap (command_in (tree.Starts c joins)) n)
@@ -195,7 +197,7 @@ module _ (limits : Limits) where
 
     turn_again : (list : AndOr) (turn : ℕ) (s : State) → list_at f.script f.place.list ≡ Some list → AsksAgain limits (place_turn limits list turn f fs s)
     turn_again list zero s e = begins_again list f.place.command s refl e
-    turn_again list (suc a) s e = never_again (phase_move (command_in list f.place.command) a f fs s) (phase_never (command_in list f.place.command) a f fs s)
+    turn_again list (suc a) s e = never_again (phase_move limits.shell (command_in list f.place.command) a f fs s) (phase_never (command_in list f.place.command) a f fs s)
 
     list_again : (o : Option AndOr) (s : State) → list_at f.script f.place.list ≡ o → AsksAgain limits (place_list limits o f fs s)
     list_again None s e = tt

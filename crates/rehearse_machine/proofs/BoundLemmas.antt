@@ -11,7 +11,7 @@ module _ (limits : Limits) (left : ℕ) (text : Script → State → Answer) whe
   pub Cut-begin : (s : State) (f : State → Answer) → limits.step_bound ≤ s.steps → begin limits f s ≡ Ended CutSteps s
   Cut-begin s f h = let e : nat_lt s.steps limits.step_bound ≡ false = le-ltb s.steps limits.step_bound h in rw (e, begin) refl
 
-  pub Cut-turns : (k : ℕ) (until : Bool) (c b : State → Answer) (last : ℕ) (s : State) → c s ≡ Ended CutSteps s → turns k until c b last s ≡ Ended CutSteps s
+  pub Cut-turns : (k : ℕ) (until : Bool) (c b : State → Answer) (last : ℕ) (s : State) → c s ≡ Ended CutSteps s → turns limits.shell k until c b last s ≡ Ended CutSteps s
   Cut-turns zero until c b last s e = refl
   Cut-turns (suc k) until c b last s e = rw e refl
 
@@ -21,7 +21,7 @@ module _ (limits : Limits) (left : ℕ) (text : Script → State → Answer) whe
     Cut-command (tree.Assign pairs) p s h = Cut-begin s (assign pairs) h
     Cut-command (tree.If arms) p s h = Cut-if arms p s h
     Cut-command (tree.Loop until c b) p s h = Cut-turns left until (exec_script limits left text c) (exec_script limits left text b) 0 s (Cut-block c p.0 s h)
-    Cut-command (tree.For name words b) p s h = Cut-begin s (λ t. sized (fields (parameters_in t.memory) words) (for_each name (exec_script limits left text b) 0) t) h
+    Cut-command (tree.For name words b) p s h = Cut-begin s (λ t. sized (fields (parameters_in t.memory) words) (for_each limits.shell name (exec_script limits left text b) 0) t) h
 
     pub Cut-block : (a : Script) → HoldsCommand a → (s : State) → limits.step_bound ≤ s.steps → exec_script limits left text a s ≡ Ended CutSteps s
     Cut-block tree.Empty p s h = absurd p

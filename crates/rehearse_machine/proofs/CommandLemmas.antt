@@ -19,6 +19,7 @@ use Rattle.bootstore_state.specs.Moment.{RunningFrame}
 use Rattle.rehearse_terms.specs.State.{State}
 use Rattle.rehearse_machine.specs.Places.{GoOn, drop_arms, place, moved_to, in_turn, block_frame, condition_ends, loop_ends, phase_move}
 use Rattle.rehearse_machine.proofs.ArmLemmas.{Arm}
+use Rattle.rehearse_terms.specs.declared.shell.Shell.{Shell}
 
 abbrev pub says_if : (c : CommandCode) (arms : Vec Arm Global) (o : Option (Rc Code Global)) → c ≡ If arms o → view.command c ≡ tree.If (view.arms (map view.arm arms.items) (view.script_in o))
 says_if c arms o e = ap view.command e ∙ command_if arms o
@@ -53,27 +54,27 @@ kind_at c (open_command.For name words body) e = AsFor name words body (e ∙ ro
 pub kind_of : (c : CommandCode) → Kind c
 kind_of c = kind_at c (out-Command c) (sym (roll-out-Command c))
 
-module _ (c : CommandCode) (turn : ℕ) (f : RunningFrame) (fs : List RunningFrame) (s : State) where
-  pub if_ends : (arms : Vec Arm Global) (o : Option (Rc Code Global)) (list : List Arm) → c ≡ If arms o → list ≡ arms.items → condition_ends (drop_arms turn (view.arms (map view.arm list) (view.script_in o))) turn f fs s ≡ phase_move (Some (view.command c)) turn f fs s
-  if_ends arms o list e l = ap (λ (x : List Arm). condition_ends (drop_arms turn (view.arms (map view.arm x) (view.script_in o))) turn f fs s) l ∙ sym (ap (λ (x : Command). phase_move (Some x) turn f fs s) (says_if c arms o e))
+module _ (shell : Shell) (c : CommandCode) (turn : ℕ) (f : RunningFrame) (fs : List RunningFrame) (s : State) where
+  pub if_ends : (arms : Vec Arm Global) (o : Option (Rc Code Global)) (list : List Arm) → c ≡ If arms o → list ≡ arms.items → condition_ends shell (drop_arms turn (view.arms (map view.arm list) (view.script_in o))) turn f fs s ≡ phase_move shell (Some (view.command c)) turn f fs s
+  if_ends arms o list e l = ap (λ (x : List Arm). condition_ends shell (drop_arms turn (view.arms (map view.arm x) (view.script_in o))) turn f fs s) l ∙ sym (ap (λ (x : Command). phase_move shell (Some x) turn f fs s) (says_if c arms o e))
 
-  pub loop_checked : (until : Bool) (cond body : Rc Code Global) → c ≡ Loop until cond body → turn ≡ 0 → loop_ends until (view.script body.value) f fs s ≡ phase_move (Some (view.command c)) turn f fs s
-  loop_checked until cond body e t = sym (ap (λ (x : Command). phase_move (Some x) turn f fs s) (says_loop c until cond body e) ∙ ap (λ (n : ℕ). phase_move (Some (tree.Loop until (view.script cond.value) (view.script body.value))) n f fs s) t)
+  pub loop_checked : (until : Bool) (cond body : Rc Code Global) → c ≡ Loop until cond body → turn ≡ 0 → loop_ends shell until (view.script body.value) f fs s ≡ phase_move shell (Some (view.command c)) turn f fs s
+  loop_checked until cond body e t = sym (ap (λ (x : Command). phase_move shell (Some x) turn f fs s) (says_loop c until cond body e) ∙ ap (λ (n : ℕ). phase_move shell (Some (tree.Loop until (view.script cond.value) (view.script body.value))) n f fs s) t)
 
-  again : (n : ℕ) → (n ≡ 0 → ⊥) → (until : Bool) (x y : Script) → GoOn (block_frame x ∷ in_turn 1 s.memory.status f ∷ fs) s ≡ phase_move (Some (tree.Loop until x y)) n f fs s
+  again : (n : ℕ) → (n ≡ 0 → ⊥) → (until : Bool) (x y : Script) → GoOn (block_frame x ∷ in_turn 1 s.memory.status f ∷ fs) s ≡ phase_move shell (Some (tree.Loop until x y)) n f fs s
   again zero h until x y = absurd (h refl)
   again (suc n) h until x y = refl
 
-  pub loop_again : (until : Bool) (cond body : Rc Code Global) (last : ℕ) → c ≡ Loop until cond body → (turn ≡ 0 → ⊥) → last ≡ s.memory.status → GoOn (block_frame (view.script cond.value) ∷ in_turn 1 last f ∷ fs) s ≡ phase_move (Some (view.command c)) turn f fs s
+  pub loop_again : (until : Bool) (cond body : Rc Code Global) (last : ℕ) → c ≡ Loop until cond body → (turn ≡ 0 → ⊥) → last ≡ s.memory.status → GoOn (block_frame (view.script cond.value) ∷ in_turn 1 last f ∷ fs) s ≡ phase_move shell (Some (view.command c)) turn f fs s
   loop_again until cond body last e t l =
       ap (λ (n : ℕ). GoOn (block_frame (view.script cond.value) ∷ in_turn 1 n f ∷ fs) s) l ∙ again turn t until (view.script cond.value) (view.script body.value)
-      ∙ sym (ap (λ (x : Command). phase_move (Some x) turn f fs s) (says_loop c until cond body e))
+      ∙ sym (ap (λ (x : Command). phase_move shell (Some x) turn f fs s) (says_loop c until cond body e))
 
-  pub no_block_simple : (call : Call) (at : At) → c ≡ Simple call → at ≡ place f.place.list (suc f.place.command) 0 0 → GoOn (moved_to at f ∷ fs) s ≡ phase_move (Some (view.command c)) turn f fs s
-  no_block_simple call at e k = ap (λ (x : At). GoOn (moved_to x f ∷ fs) s) k ∙ sym (ap (λ (x : Command). phase_move (Some x) turn f fs s) (says_simple c call e))
+  pub no_block_simple : (call : Call) (at : At) → c ≡ Simple call → at ≡ place f.place.list (suc f.place.command) 0 0 → GoOn (moved_to at f ∷ fs) s ≡ phase_move shell (Some (view.command c)) turn f fs s
+  no_block_simple call at e k = ap (λ (x : At). GoOn (moved_to x f ∷ fs) s) k ∙ sym (ap (λ (x : Command). phase_move shell (Some x) turn f fs s) (says_simple c call e))
 
-  pub no_block_assign : (values : Vec (Vec ℕ Global × Word) Global) (at : At) → c ≡ Assign values → at ≡ place f.place.list (suc f.place.command) 0 0 → GoOn (moved_to at f ∷ fs) s ≡ phase_move (Some (view.command c)) turn f fs s
-  no_block_assign values at e k = ap (λ (x : At). GoOn (moved_to x f ∷ fs) s) k ∙ sym (ap (λ (x : Command). phase_move (Some x) turn f fs s) (says_assign c values e))
+  pub no_block_assign : (values : Vec (Vec ℕ Global × Word) Global) (at : At) → c ≡ Assign values → at ≡ place f.place.list (suc f.place.command) 0 0 → GoOn (moved_to at f ∷ fs) s ≡ phase_move shell (Some (view.command c)) turn f fs s
+  no_block_assign values at e k = ap (λ (x : At). GoOn (moved_to x f ∷ fs) s) k ∙ sym (ap (λ (x : Command). phase_move shell (Some x) turn f fs s) (says_assign c values e))
 
-  pub no_block_for : (name : Vec ℕ Global) (words : Vec Word Global) (body : Rc Code Global) (at : At) → c ≡ For name words body → at ≡ place f.place.list (suc f.place.command) 0 0 → GoOn (moved_to at f ∷ fs) s ≡ phase_move (Some (view.command c)) turn f fs s
-  no_block_for name words body at e k = ap (λ (x : At). GoOn (moved_to x f ∷ fs) s) k ∙ sym (ap (λ (x : Command). phase_move (Some x) turn f fs s) (says_for c name words body e))
+  pub no_block_for : (name : Vec ℕ Global) (words : Vec Word Global) (body : Rc Code Global) (at : At) → c ≡ For name words body → at ≡ place f.place.list (suc f.place.command) 0 0 → GoOn (moved_to at f ∷ fs) s ≡ phase_move shell (Some (view.command c)) turn f fs s
+  no_block_for name words body at e k = ap (λ (x : At). GoOn (moved_to x f ∷ fs) s) k ∙ sym (ap (λ (x : Command). phase_move shell (Some x) turn f fs s) (says_for c name words body e))

@@ -13,8 +13,9 @@ use Rattle.bootstore_state.specs.declared.frame.At.{At}
 use Rattle.bootstore_state.specs.Moment.{RunningFrame}
 use Rattle.rehearse_terms.specs.State.{State}
 use Rattle.rehearse_rules.specs.Execution.{Limits, goes}
-use Rattle.rehearse_machine.specs.Places.{GoOn, joined_at, place, moved_to, behind, place_command, place_joined, place_begins}
+use Rattle.rehearse_machine.specs.Places.{GoOn, joined_at, place, moved_to, behind, place_command, place_joined, place_skipped, place_begins}
 use Rattle.rehearse_machine.proofs.Beginnings.{chosen, passed}
+use Rattle.rehearse_rules.specs.ByShell.{skips_rest}
 
 abbrev pub Join : Type 0
 Join = Op × CommandCode
@@ -59,10 +60,16 @@ module _ (limits : Limits) (l : ListCode) (n : ℕ) (f : RunningFrame) (fs : Lis
       found = joined_on (Some (p.0, view.command p.1)) (join_some items (n - 1) p (slice_get_read items (length items) (n - 1) p refl k e))
 
       pub join_begins : goes p.0 s.memory.status ≡ true → place_command limits (view.command p.1) f fs s ≡ place_begins limits (view.list l) n f fs s
-      join_begins t = chosen (goes p.0 s.memory.status) (place_command limits (view.command p.1) f fs s) (GoOn (behind f ∷ fs) s) t ∙ found
+      join_begins t = chosen (goes p.0 s.memory.status) (place_command limits (view.command p.1) f fs s) (place_skipped limits f fs s) t ∙ found
 
-      pub join_skipped : (at : At) → goes p.0 s.memory.status ≡ false → at ≡ place f.place.list (suc f.place.command) 0 0 → GoOn (moved_to at f ∷ fs) s ≡ place_begins limits (view.list l) n f fs s
+      -- the frame goes on after a command that is skipped, or after its list
+      pub join_skipped : (at : At) → goes p.0 s.memory.status ≡ false → GoOn (moved_to at f ∷ fs) s ≡ place_skipped limits f fs s → GoOn (moved_to at f ∷ fs) s ≡ place_begins limits (view.list l) n f fs s
       join_skipped at t q =
-          ap (λ (x : At). GoOn (moved_to x f ∷ fs) s) q
-          ∙ passed (goes p.0 s.memory.status) (place_command limits (view.command p.1) f fs s) (GoOn (behind f ∷ fs) s) t
+          q ∙ passed (goes p.0 s.memory.status) (place_command limits (view.command p.1) f fs s) (place_skipped limits f fs s) t
           ∙ found
+
+pub skips_one : (limits : Limits) (f : RunningFrame) (fs : List RunningFrame) (s : State) (at : At) → skips_rest limits.shell ≡ false → at ≡ place f.place.list (suc f.place.command) 0 0 → GoOn (moved_to at f ∷ fs) s ≡ place_skipped limits f fs s
+skips_one limits f fs s at e q = ap (λ (x : At). GoOn (moved_to x f ∷ fs) s) q ∙ passed (skips_rest limits.shell) (GoOn (moved_to (place (suc f.place.list) 0 0 0) f ∷ fs) s) (GoOn (behind f ∷ fs) s) e
+
+pub skips_list : (limits : Limits) (f : RunningFrame) (fs : List RunningFrame) (s : State) (at : At) → skips_rest limits.shell ≡ true → at ≡ place (suc f.place.list) 0 0 0 → GoOn (moved_to at f ∷ fs) s ≡ place_skipped limits f fs s
+skips_list limits f fs s at e q = ap (λ (x : At). GoOn (moved_to x f ∷ fs) s) q ∙ chosen (skips_rest limits.shell) (GoOn (moved_to (place (suc f.place.list) 0 0 0) f ∷ fs) s) (GoOn (behind f ∷ fs) s) e

@@ -19,6 +19,8 @@ use Rattle.rehearse_rules.proofs.TakenOutcomes.{KeepsAll, after_condition, Keeps
 use Rattle.hushlang.proofs.ProperLemmas.{trees_are_proper}
 use Rattle.rehearse_machine.proofs.BoundLemmas.{Cut-block}
 use Rattle.rehearse_machine.proofs.StepBoundLemmas.{same_go_on, same_if, closed_exec, same_turns}
+use Rattle.rehearse_rules.specs.ByShell.{skips_rest, status_of_loop}
+use Rattle.rehearse_rules.proofs.TakenOutcomes.{skipped}
 
 module _ (limits : Limits) where
   -- an ending, and a command that found no outcome, pass every frame
@@ -122,17 +124,17 @@ module _ (limits : Limits) where
     fitting-is : (ws : List Text) (next : List Text → State → Next) (f : List Text → State → Answer) (fs : List Frame) (s : State) → comes_to limits w (next ws s) ≡ continue limits fs (f ws (with w s)) → comes_to limits w (fitting ws next s) ≡ continue limits fs (sized ws f (with w s))
     fitting-is ws next f fs s e = if-is (nat_le (size ws) most_bytes) (next ws s) (Stop Size s) fs (f ws (with w s)) (Ended Size (with w s)) e (sym (continue-ended fs Size (with w s)))
 
-    for-is : (name : Text) (values : List Text) (body : Script) (fs : List Frame) (s : State) → comes_to limits w (begin_for name values body fs s) ≡ continue limits fs (for_each name (script limits body) 0 values (with w s))
+    for-is : (name : Text) (values : List Text) (body : Script) (fs : List Frame) (s : State) → comes_to limits w (begin_for name values body fs s) ≡ continue limits fs (for_each limits.shell name (script limits body) 0 values (with w s))
     for-is name [] body fs s = refl
     for-is name (f ∷ values) body fs s = refl
 
-    arms-is : (arms : Arms) (fs : List Frame) (s : State) → comes_to limits w (begin_arms arms fs s) ≡ continue limits fs (arms_of limits arms (with w s))
+    arms-is : (arms : Arms) (fs : List Frame) (s : State) → comes_to limits w (begin_arms limits.shell arms fs s) ≡ continue limits fs (arms_of limits arms (with w s))
     arms-is (tree.Arm c b arms) fs s = refl
     arms-is (tree.Else b) fs s = refl
     arms-is tree.NoElse fs s = refl
 
     -- a turn of a loop, with all the steps for the turns after it
-    turn_more_at : (k : ℕ) → limits.step_bound ≡ k → (until : Bool) (c b : Script) → HoldsCommand c → HoldsCommand b → (last : ℕ) (s : State) → turns k until (script limits c) (script limits b) last s ≡ go_on (script limits c s) (after_condition limits until (script limits b) (λ u. turns k until (script limits c) (script limits b) u.memory.status u) last)
+    turn_more_at : (k : ℕ) → limits.step_bound ≡ k → (until : Bool) (c b : Script) → HoldsCommand c → HoldsCommand b → (last : ℕ) (s : State) → turns limits.shell k until (script limits c) (script limits b) last s ≡ go_on (script limits c s) (after_condition limits until (script limits b) (λ u. turns limits.shell k until (script limits c) (script limits b) u.memory.status u) last)
     turn_more_at zero e until c b p q last s = let cut : script limits c s ≡ Ended CutSteps s = Cut-block limits limits.step_bound (full limits) c p s (omega arith) in rw cut refl
     turn_more_at (suc k) e until c b p q last s =
         let bound : ℕ = limits.step_bound in
@@ -140,15 +142,15 @@ module _ (limits : Limits) where
         let grown : (t : State) → Grew t.steps (script limits c t) = Grew-block limits bound (full limits) kept c p in
         let body : KeepsAll limits (script limits b) = Keeps-script limits bound (full limits) kept b in
         let cut : (t : State) → bound ≤ t.steps → script limits c t ≡ Ended CutSteps t = Cut-block limits bound (full limits) c p in
-        let fewer : State → Answer = λ u. turns k until (script limits c) (script limits b) u.memory.status u in
-        let all : State → Answer = λ u. turns (suc k) until (script limits c) (script limits b) u.memory.status u in
+        let fewer : State → Answer = λ u. turns limits.shell k until (script limits c) (script limits b) u.memory.status u in
+        let all : State → Answer = λ u. turns limits.shell (suc k) until (script limits c) (script limits b) u.memory.status u in
         same_go_on (suc s.steps) (script limits c s) (script limits c s) (after_condition limits until (script limits b) fewer last) (after_condition limits until (script limits b) all last) (grown s) refl
-        (λ t g. same_if (holds until t.memory.status) (go_on (script limits b t) fewer) (Normal (set_status last t)) (go_on (script limits b t) all) (Normal (set_status last t))
+        (λ t g. same_if (holds until t.memory.status) (go_on (script limits b t) fewer) (Normal (set_status (status_of_loop limits.shell last t.memory.status) t)) (go_on (script limits b t) all) (Normal (set_status (status_of_loop limits.shell last t.memory.status) t))
         (same_go_on t.steps (script limits b t) (script limits b t) fewer all (AtLeast-track limits.device_bound t (script limits b t) (body t).0) refl
         (λ u r. same_turns limits bound bound (omega arith) (full limits) (full limits) kept (λ tree w x y. refl) k (suc k) (omega arith) until (script limits c) (script limits c) (script limits b) (script limits b) (λ x y. refl) (λ x y. refl) grown body cut u.memory.status u (omega arith) (omega arith)))
         refl)
 
-    pub turn_more : (until : Bool) (c b : Script) → HoldsCommand c → HoldsCommand b → (last : ℕ) (s : State) → turns limits.step_bound until (script limits c) (script limits b) last s ≡ go_on (script limits c s) (after_condition limits until (script limits b) (again limits until c b) last)
+    pub turn_more : (until : Bool) (c b : Script) → HoldsCommand c → HoldsCommand b → (last : ℕ) (s : State) → turns limits.shell limits.step_bound until (script limits c) (script limits b) last s ≡ go_on (script limits c s) (after_condition limits until (script limits b) (again limits until c b) last)
     turn_more until c b p q last s = turn_more_at limits.step_bound refl until c b p q last s
 
     command-is : (c : Command) → IsProperCommand c → (fs : List Frame) (s : State) → comes_to limits w (begin_command limits c fs s) ≡ continue limits fs (one limits c (with w s))
@@ -156,7 +158,7 @@ module _ (limits : Limits) where
     command-is (tree.Assign pairs) p fs s = counted-is (begin_assign pairs fs) (assign pairs) fs s (λ t. assign-is pairs fs t)
     command-is (tree.If arms) p fs s = arms-is arms fs s
     command-is (tree.Loop until c b) p fs s = ap (continue limits fs) (sym (turn_more until c b p.0 p.1 0 (with w s)))
-    command-is (tree.For name words body) p fs s = counted-is (λ t. fitting (fields (parameters_in t.memory) words) (λ f. begin_for name f body fs) t) (λ t. sized (fields (parameters_in t.memory) words) (for_each name (script limits body) 0) t) fs s (λ t. fitting-is (fields (parameters_in t.memory) words) (λ f. begin_for name f body fs) (for_each name (script limits body) 0) fs t (for-is name (fields (parameters_in t.memory) words) body fs t))
+    command-is (tree.For name words body) p fs s = counted-is (λ t. fitting (fields (parameters_in t.memory) words) (λ f. begin_for name f body fs) t) (λ t. sized (fields (parameters_in t.memory) words) (for_each limits.shell name (script limits body) 0) t) fs s (λ t. fitting-is (fields (parameters_in t.memory) words) (λ f. begin_for name f body fs) (for_each limits.shell name (script limits body) 0) fs t (for-is name (fields (parameters_in t.memory) words) body fs t))
 
     -- a move keeps what is to come
     pub move-is : (fs : List Frame) → AreProperFrames fs → (s : State) → comes_to limits w (move limits fs s) ≡ continue limits fs (Normal (with w s))
@@ -164,9 +166,10 @@ module _ (limits : Limits) where
     move-is (Lists tree.Empty ∷ fs) p s = refl
     move-is (Lists (tree.Runs (tree.Starts c links) lists) ∷ fs) p s = command-is c p.0.0.0 (Linked links ∷ Lists lists ∷ fs) s
     move-is (Linked tree.Alone ∷ fs) p s = refl
-    move-is (Linked (tree.Joins op c links) ∷ fs) p s = if-is (goes op s.memory.status) (begin_command limits c (Linked links ∷ fs) s) (Go (Linked links ∷ fs) s) fs (go_on (one limits c (with w s)) (joined_of limits links)) (joined_of limits links (with w s)) (command-is c p.0.0 (Linked links ∷ fs) s) refl
-    move-is (IfCondition b arms ∷ fs) p s = if-is (nat_eq s.memory.status 0) (Go (Lists b ∷ fs) s) (begin_arms arms fs s) fs (script limits b (with w s)) (arms_of limits arms (with w s)) refl (arms-is arms fs s)
-    move-is (LoopCondition until c b last ∷ fs) p s = if-is (holds until s.memory.status) (Go (Lists b ∷ LoopBody until c b ∷ fs) s) (Go fs (set_status last s)) fs (go_on (script limits b (with w s)) (again limits until c b)) (Normal (set_status last (with w s))) refl refl
+    move-is (Linked (tree.Joins op c links) ∷ fs) p s = if-is (goes op s.memory.status) (begin_command limits c (Linked links ∷ fs) s) (elim (skips_rest limits.shell) [ true ↦ Go fs s | false ↦ Go (Linked links ∷ fs) s ]) fs (go_on (one limits c (with w s)) (joined_of limits links)) (skipped limits (joined_of limits links) (with w s)) (command-is c p.0.0 (Linked links ∷ fs) s)
+        (if-is (skips_rest limits.shell) (Go fs s) (Go (Linked links ∷ fs) s) fs (Normal (with w s)) (joined_of limits links (with w s)) refl refl)
+    move-is (IfCondition b arms ∷ fs) p s = if-is (nat_eq s.memory.status 0) (Go (Lists b ∷ fs) s) (begin_arms limits.shell arms fs s) fs (script limits b (with w s)) (arms_of limits arms (with w s)) refl (arms-is arms fs s)
+    move-is (LoopCondition until c b last ∷ fs) p s = if-is (holds until s.memory.status) (Go (Lists b ∷ LoopBody until c b ∷ fs) s) (Go fs (set_status (status_of_loop limits.shell last s.memory.status) s)) fs (go_on (script limits b (with w s)) (again limits until c b)) (Normal (set_status (status_of_loop limits.shell last s.memory.status) (with w s))) refl refl
     move-is (LoopBody until c b ∷ fs) p s = ap (continue limits fs) (sym (turn_more until c b p.0.0 p.0.1 s.memory.status (with w s)))
     move-is (ForBody name [] body ∷ fs) p s = refl
     move-is (ForBody name (f ∷ values) body ∷ fs) p s = refl

@@ -9,6 +9,7 @@ use Rattle.bootstore_state.specs.Record.{Record, stepped, without_first}
 use Rattle.bootstore_state.specs.StoredState.{state_at}
 use Rattle.rehearse_terms.specs.Outcomes.{OutcomeWord}
 use Rattle.rehearse_terms.specs.State.{Text, State}
+use Rattle.rehearse_terms.specs.declared.shell.Shell.{Shell}
 use Rattle.rehearse_rules.specs.Execution.{Limits}
 use Rattle.rehearse_machine.specs.declared.ask.Step.{Step}
 use Rattle.rehearse_machine.specs.declared.next_move.Next.{Next}
@@ -53,8 +54,8 @@ pub proceeds : (limits : Limits) (r : Result Step StoreError) (old new : Record)
 proceeds limits r old new next given f e h = subst (λ (x : Next). Comes r old new (continued limits x f (under old.present))) (sym e) h
 
 -- the same, of what was found by looking at the innermost frame
-pub moves_on : (limits : Limits) (r : Result Step StoreError) (old new : Record) (next given : Next) (status : ℕ) (f : RunningFrame) → given ≡ next → IsTop f old.present → old.present.status ≡ status → ContinuesAt status given f (λ l. place_by l f.kind f) → Comes r old new (continued limits next f (under old.present)) → Comes r old new (place_move limits old.present.frames)
-moves_on limits r old new next given status f e top is says h =
+pub moves_on : (limits : Limits) (r : Result Step StoreError) (old new : Record) (next given : Next) (shell : Shell) (status : ℕ) (f : RunningFrame) → given ≡ next → IsTop f old.present → limits.shell ≡ shell → old.present.status ≡ status → ContinuesAt shell status given f (λ l. place_by l f.kind f) → Comes r old new (continued limits next f (under old.present)) → Comes r old new (place_move limits old.present.frames)
+moves_on limits r old new next given shell status f e top own is says h =
     comes_at r old new (continued limits given f (under old.present)) (place_move limits old.present.frames)
-    (top_moves limits old.present f (continued limits given f) top (λ w. says limits (under old.present) (state_at old.present w) is))
+    (top_moves limits old.present f (continued limits given f) top (λ w. says limits (under old.present) (state_at old.present w) own is))
     (proceeds limits r old new next given f e h)

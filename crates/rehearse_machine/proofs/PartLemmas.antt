@@ -21,6 +21,7 @@ use Rattle.rehearse_machine.specs.Places.{GoOn, list_at, command_in, command_at,
 use Rattle.rehearse_machine.proofs.ArmLemmas.{Arm}
 use Rattle.rehearse_machine.proofs.CommandLemmas.{says_if, says_loop, says_simple, says_assign, says_for, Kind, AsSimple, AsAssign, AsIf, AsLoop, AsFor, kind_of}
 use Rattle.rehearse_machine.proofs.ListLemmas.{Join, back, join_some, join_none}
+use Rattle.rehearse_terms.specs.declared.shell.Shell.{Shell}
 
 list_some : (items : List ListCode) (i : ℕ) (l : ListCode) → slice_get items i ≡ Some l → list_at (view.runs (map view.list items)) i ≡ Some (view.list l)
 list_some [] i l e = absurd (let f = e in cc)
@@ -76,34 +77,34 @@ module _ (l : ListCode) (o : Option AndOr) (at : At) (f : RunningFrame) (found :
       sym (ap (λ (x : Option AndOr). place_list limits x f fs s) found
       ∙ ap (λ (n : ℕ). place_turn limits (view.list l) n f fs s) (ap (λ (x : At). x.turn) (sym here) ∙ z))
 
-  pub block_ends : (limits : Limits) (fs : List RunningFrame) (c : Option Command) → (at.turn ≡ 0 → ⊥) → c ≡ command_in (view.list l) at.command → (s : State) → phase_move c (at.turn - 1) f fs s ≡ place_list limits o f fs s
+  pub block_ends : (limits : Limits) (fs : List RunningFrame) (c : Option Command) → (at.turn ≡ 0 → ⊥) → c ≡ command_in (view.list l) at.command → (s : State) → phase_move limits.shell c (at.turn - 1) f fs s ≡ place_list limits o f fs s
   block_ends limits fs c h e s =
       sym (ap (λ (x : Option AndOr). place_list limits x f fs s) found
       ∙ ap (λ (n : ℕ). place_turn limits (view.list l) n f fs s) (ap (λ (x : At). x.turn) (sym here) ∙ back at.turn h)
-      ∙ ap (λ (x : Option Command). phase_move x (at.turn - 1) f fs s) (command_here c e))
+      ∙ ap (λ (x : Option Command). phase_move limits.shell x (at.turn - 1) f fs s) (command_here c e))
 
-module _ (o : Option Command) (c : CommandCode) (f : RunningFrame) (fs : List RunningFrame) (s : State) (found : o ≡ Some (view.command c)) where
-  goes : (k : Command) → view.command c ≡ k → for_move o f fs s ≡ for_move (Some k) f fs s
-  goes k e = ap (λ (x : Option Command). for_move x f fs s) (found ∙ ap Some e)
+module _ (shell : Shell) (o : Option Command) (c : CommandCode) (f : RunningFrame) (fs : List RunningFrame) (s : State) (found : o ≡ Some (view.command c)) where
+  goes : (k : Command) → view.command c ≡ k → for_move shell o f fs s ≡ for_move shell (Some k) f fs s
+  goes k e = ap (λ (x : Option Command). for_move shell x f fs s) (found ∙ ap Some e)
 
-  pub for_goes : (name : Vec ℕ Global) (words : Vec Word Global) (body : Rc Code Global) (bytes : Text) → c ≡ For name words body → bytes ≡ name.items → for_turn (slice_get f.words f.place.turn) bytes (view.script body.value) f fs s ≡ for_move o f fs s
+  pub for_goes : (name : Vec ℕ Global) (words : Vec Word Global) (body : Rc Code Global) (bytes : Text) → c ≡ For name words body → bytes ≡ name.items → for_turn shell (slice_get f.words f.place.turn) bytes (view.script body.value) f fs s ≡ for_move shell o f fs s
   for_goes name words body bytes e n =
-      ap (λ (x : Text). for_turn (slice_get f.words f.place.turn) x (view.script body.value) f fs s) n
+      ap (λ (x : Text). for_turn shell (slice_get f.words f.place.turn) x (view.script body.value) f fs s) n
       ∙ sym (goes (tree.For name.items (map view.word words.items) (view.script body.value)) (says_for c name words body e))
 
-  no_for_simple : (call : Call) → c ≡ Simple call → GoOn fs s ≡ for_move o f fs s
+  no_for_simple : (call : Call) → c ≡ Simple call → GoOn fs s ≡ for_move shell o f fs s
   no_for_simple call e = sym (goes (tree.Simple (view.call call)) (says_simple c call e))
 
-  no_for_assign : (values : Vec (Vec ℕ Global × Word) Global) → c ≡ Assign values → GoOn fs s ≡ for_move o f fs s
+  no_for_assign : (values : Vec (Vec ℕ Global × Word) Global) → c ≡ Assign values → GoOn fs s ≡ for_move shell o f fs s
   no_for_assign values e = sym (goes (tree.Assign (view.values_in values)) (says_assign c values e))
 
-  no_for_if : (arms : Vec Arm Global) (other : Option (Rc Code Global)) → c ≡ If arms other → GoOn fs s ≡ for_move o f fs s
+  no_for_if : (arms : Vec Arm Global) (other : Option (Rc Code Global)) → c ≡ If arms other → GoOn fs s ≡ for_move shell o f fs s
   no_for_if arms other e = sym (goes (tree.If (view.arms (map view.arm arms.items) (view.script_in other))) (says_if c arms other e))
 
-  no_for_loop : (until : Bool) (cond body : Rc Code Global) → c ≡ Loop until cond body → GoOn fs s ≡ for_move o f fs s
+  no_for_loop : (until : Bool) (cond body : Rc Code Global) → c ≡ Loop until cond body → GoOn fs s ≡ for_move shell o f fs s
   no_for_loop until cond body e = sym (goes (tree.Loop until (view.script cond.value) (view.script body.value)) (says_loop c until cond body e))
 
-  no_for-at : Kind c → ((name : Vec ℕ Global) (words : Vec Word Global) (body : Rc Code Global) → c ≡ For name words body → ⊥) → GoOn fs s ≡ for_move o f fs s
+  no_for-at : Kind c → ((name : Vec ℕ Global) (words : Vec Word Global) (body : Rc Code Global) → c ≡ For name words body → ⊥) → GoOn fs s ≡ for_move shell o f fs s
   no_for-at (AsSimple call e) other = no_for_simple call e
   no_for-at (AsAssign values e) other = no_for_assign values e
   no_for-at (AsIf arms rest e) other = no_for_if arms rest e
@@ -111,5 +112,5 @@ module _ (o : Option Command) (c : CommandCode) (f : RunningFrame) (fs : List Ru
   no_for-at (AsFor name words body e) other = absurd (other name words body e)
 
   -- a command that is not a `for` is left
-  pub no_for : ((name : Vec ℕ Global) (words : Vec Word Global) (body : Rc Code Global) → c ≡ For name words body → ⊥) → GoOn fs s ≡ for_move o f fs s
+  pub no_for : ((name : Vec ℕ Global) (words : Vec Word Global) (body : Rc Code Global) → c ≡ For name words body → ⊥) → GoOn fs s ≡ for_move shell o f fs s
   no_for = no_for-at (kind_of c)

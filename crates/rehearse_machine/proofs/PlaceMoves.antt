@@ -18,10 +18,11 @@ use Rattle.rehearse_rules.specs.Parameters.{parameters_in}
 use Rattle.commands.specs.Verdict.{verdict}
 use Rattle.device_list.specs.Called.{Called, BuiltIn, NoCommand, Device, called_by, sets_in}
 use Rattle.commands.specs.BuiltInCommands.{ChangesVariables, WritesText, RunsTexts, Tests, Exits, asks_device, exit_status}
-use Rattle.rehearse_rules.specs.Execution.{Limits, End, CutDevices, CutSteps, Size, set_status, set_local, status_when, goes, holds, Request, test_effect, outcome_when, told, told_again, logged, set_environment}
+use Rattle.rehearse_rules.specs.Execution.{begin_turn, Limits, End, CutDevices, CutSteps, Size, set_status, set_local, status_when, goes, holds, Request, test_effect, outcome_when, told, told_again, logged, set_environment}
 use Rattle.rehearse_machine.specs.Frames.{Frame, Lists, Linked, IfCondition, LoopCondition, LoopBody, ForBody, Next, Go, Stop, leave, boot_next, answered, tell_or_ask, begin_assign, begin_for, begin_arms, begun_text, begin_tree, begin_text, begin_names, begin_exit, fitting, ask, begin_called, begin_fields, counted, begin_command, move}
-use Rattle.rehearse_machine.specs.Places.{list_at, drop_lists, joined_at, drop_joined, second, command_in, command_at, drop_arms, place, from_command, condition_frame, phase, from_turn, script_frames, for_frame, run_frame, frames_by, frames_of, PlaceNext, GoOn, StopOn, next_of, moved_to, behind, in_turn, text_frame, block_frame, is_run, to_run, left, place_exit, place_boot, place_answered, place_tell_or_ask, place_assign, place_tree, place_text, place_name, run_move, for_turn, for_move, for_begins, place_arms, condition_ends, phase_move, place_fitting, place_ask, place_called, place_fields, place_counted, place_command, place_joined, place_begins, place_turn, place_list, place_by, place_move}
+use Rattle.rehearse_machine.specs.Places.{list_at, drop_lists, joined_at, drop_joined, second, command_in, command_at, drop_arms, place, from_command, condition_frame, phase, from_turn, script_frames, for_frame, run_frame, frames_by, frames_of, PlaceNext, GoOn, StopOn, next_of, moved_to, behind, in_turn, text_frame, block_frame, is_run, to_run, left, place_exit, place_boot, place_answered, place_tell_or_ask, place_assign, place_tree, place_text, place_name, run_move, for_turn, for_move, for_begins, place_arms, condition_ends, phase_move, place_fitting, place_ask, place_called, place_fields, place_counted, place_command, place_joined, place_skipped, place_begins, place_turn, place_list, place_by, place_move, place_skipped}
 use Rattle.rehearse_machine.proofs.Beginnings.{chosen, passed}
+use Rattle.rehearse_rules.specs.ByShell.{skips_rest, status_of_no_block, status_of_loop}
 
 -- ---- parts by their numbers
 
@@ -183,13 +184,13 @@ module _ (f : RunningFrame) (fs : List RunningFrame) (s : State) (k : f.kind ≡
   went : (o : Option Command) → command_at (list_at f.script f.place.list) f.place.command ≡ o → (turn last : ℕ) → frames_of (in_turn turn last f ∷ fs) ≡ for_frame o turn f.words ∷ frames_of fs
   went o e turn last = ap (λ (x : FrameKind). frames_by x (in_turn turn last f) ++ frames_of fs) k ∙ ap (λ (x : Option Command). for_frame x turn f.words ∷ frames_of fs) e
 
-  for-turn-is : (limits : Limits) (name : Text) (words : List tree.Word) (body : Script) (o : Option Text) → command_at (list_at f.script f.place.list) f.place.command ≡ Some (tree.For name words body) → slice_get f.words f.place.turn ≡ o → next_of (for_turn o name body f fs s) ≡ move limits (ForBody name (drop f.place.turn f.words) body ∷ frames_of fs) s
+  for-turn-is : (limits : Limits) (name : Text) (words : List tree.Word) (body : Script) (o : Option Text) → command_at (list_at f.script f.place.list) f.place.command ≡ Some (tree.For name words body) → slice_get f.words f.place.turn ≡ o → next_of (for_turn limits.shell o name body f fs s) ≡ move limits (ForBody name (drop f.place.turn f.words) body ∷ frames_of fs) s
   for-turn-is limits name words body None c e = ap (λ (x : List Text). move limits (ForBody name x body ∷ frames_of fs) s) (sym (text_none f.words f.place.turn e))
   for-turn-is limits name words body (Some value) c e =
-      ap (λ (x : List Frame). Go x (set_local name value s)) (blocked body (in_turn (suc f.place.turn) 0 f ∷ fs) ∙ ap (λ (x : List Frame). Lists body ∷ x) (went (Some (tree.For name words body)) c (suc f.place.turn) 0))
+      ap (λ (x : List Frame). Go x (begin_turn limits.shell name value s)) (blocked body (in_turn (suc f.place.turn) 0 f ∷ fs) ∙ ap (λ (x : List Frame). Lists body ∷ x) (went (Some (tree.For name words body)) c (suc f.place.turn) 0))
       ∙ ap (λ (x : List Text). move limits (ForBody name x body ∷ frames_of fs) s) (sym (text_some f.words f.place.turn value e))
 
-  for-is : (limits : Limits) (o : Option Command) → command_at (list_at f.script f.place.list) f.place.command ≡ o → next_of (for_move o f fs s) ≡ move limits (for_frame o f.place.turn f.words ∷ frames_of fs) s
+  for-is : (limits : Limits) (o : Option Command) → command_at (list_at f.script f.place.list) f.place.command ≡ o → next_of (for_move limits.shell o f fs s) ≡ move limits (for_frame o f.place.turn f.words ∷ frames_of fs) s
   for-is limits None e = refl
   for-is limits (Some (tree.Simple words)) e = refl
   for-is limits (Some (tree.Assign pairs)) e = refl
@@ -277,13 +278,13 @@ module _ (limits : Limits) where
     went_on : (s : State) → next_of (GoOn (behind f ∷ fs) s) ≡ Go below s
     went_on s = ap (λ (x : List Frame). Go x s) behind-is
 
-    arms-is : (all arms : Arms) (a : ℕ) → command_in list f.place.command ≡ Some (tree.If all) → drop_arms a all ≡ arms → (s : State) → next_of (place_arms arms a f fs s) ≡ begin_arms arms below s
+    arms-is : (all arms : Arms) (a : ℕ) → command_in list f.place.command ≡ Some (tree.If all) → drop_arms a all ≡ arms → (s : State) → next_of (place_arms limits.shell arms a f fs s) ≡ begin_arms limits.shell arms below s
     arms-is all (tree.Arm c b more) a e d s =
         let one : frames_of (in_turn (suc a) 0 f ∷ fs) ≡ phase (command_in list f.place.command) a 0 ∷ below = turned f.place.command (suc a) 0 in
         let two : phase (command_in list f.place.command) a 0 ≡ IfCondition b more = ap (λ (x : Option Command). phase x a 0) e ∙ ap condition_frame d in
         ap (λ (x : List Frame). Go x s) (blocked c (in_turn (suc a) 0 f ∷ fs) ∙ ap (λ (x : List Frame). Lists c ∷ x) (one ∙ ap (λ (x : Frame). x ∷ below) two))
     arms-is all (tree.Else b) a e d s = ap (λ (x : List Frame). Go x s) (blocked b (behind f ∷ fs) ∙ ap (λ (x : List Frame). Lists b ∷ x) behind-is)
-    arms-is all tree.NoElse a e d s = went_on (set_status 0 s)
+    arms-is all tree.NoElse a e d s = went_on (set_status (status_of_no_block limits.shell s.memory.status) s)
 
     begins-for-is : (name : Text) (words : List tree.Word) (body : Script) → command_in list f.place.command ≡ Some (tree.For name words body) → (values : List Text) (s : State) → next_of (for_begins values f fs s) ≡ begin_for name values body below s
     begins-for-is name words body e [] s = went_on (set_status 0 s)
@@ -303,37 +304,41 @@ module _ (limits : Limits) where
     command-is (tree.For name words body) e s = counted-is (λ t. place_fitting (fields (parameters_in t.memory) words) (λ found. for_begins found f fs) t) (λ t. fitting (fields (parameters_in t.memory) words) (λ found. begin_for name found body below) t) s
         (λ t. fitting-is (fields (parameters_in t.memory) words) (λ found. for_begins found f fs) (λ found. begin_for name found body below) t (begins-for-is name words body e (fields (parameters_in t.memory) words) t))
 
-    condition-is : (all arms : Arms) (a : ℕ) → command_in list f.place.command ≡ Some (tree.If all) → drop_arms a all ≡ arms → (s : State) → next_of (condition_ends arms a f fs s) ≡ move limits (condition_frame arms ∷ below) s
+    condition-is : (all arms : Arms) (a : ℕ) → command_in list f.place.command ≡ Some (tree.If all) → drop_arms a all ≡ arms → (s : State) → next_of (condition_ends limits.shell arms a f fs s) ≡ move limits (condition_frame arms ∷ below) s
     condition-is all (tree.Arm c b more) a e d s =
-        if_next (nat_eq s.memory.status 0) (GoOn (block_frame b ∷ behind f ∷ fs) s) (place_arms more (suc a) f fs s) (Go (Lists b ∷ below) s) (begin_arms more below s)
+        if_next (nat_eq s.memory.status 0) (GoOn (block_frame b ∷ behind f ∷ fs) s) (place_arms limits.shell more (suc a) f fs s) (Go (Lists b ∷ below) s) (begin_arms limits.shell more below s)
         (ap (λ (x : List Frame). Go x s) (blocked b (behind f ∷ fs) ∙ ap (λ (x : List Frame). Lists b ∷ x) behind-is))
         (arms-is all more (suc a) e (drop_more all a c b more d) s)
     condition-is all (tree.Else b) a e d s = went_on s
     condition-is all tree.NoElse a e d s = went_on s
 
-    phase-is : (o : Option Command) (a : ℕ) → command_in list f.place.command ≡ o → (s : State) → next_of (phase_move o a f fs s) ≡ move limits (phase o a f.place.last ∷ below) s
+    phase-is : (o : Option Command) (a : ℕ) → command_in list f.place.command ≡ o → (s : State) → next_of (phase_move limits.shell o a f fs s) ≡ move limits (phase o a f.place.last ∷ below) s
     phase-is None a e s = ap (λ (x : List Frame). Go x s) (turned f.place.command 0 0 ∙ ap (λ (x : List Frame). x ++ frames_of fs) (past_command list f.place.command rest e))
     phase-is (Some (tree.Simple words)) a e s = went_on s
     phase-is (Some (tree.Assign pairs)) a e s = went_on s
     phase-is (Some (tree.If arms)) a e s = condition-is arms (drop_arms a arms) a e refl s
     phase-is (Some (tree.Loop until c b)) zero e s =
-        if_next (holds until s.memory.status) (GoOn (block_frame b ∷ in_turn 2 0 f ∷ fs) s) (GoOn (behind f ∷ fs) (set_status f.place.last s)) (Go (Lists b ∷ LoopBody until c b ∷ below) s) (Go below (set_status f.place.last s))
+        if_next (holds until s.memory.status) (GoOn (block_frame b ∷ in_turn 2 0 f ∷ fs) s) (GoOn (behind f ∷ fs) (set_status (status_of_loop limits.shell f.place.last s.memory.status) s)) (Go (Lists b ∷ LoopBody until c b ∷ below) s) (Go below (set_status (status_of_loop limits.shell f.place.last s.memory.status) s))
         (ap (λ (x : List Frame). Go x s) (blocked b (in_turn 2 0 f ∷ fs) ∙ ap (λ (x : List Frame). Lists b ∷ x) (turned f.place.command 2 0 ∙ ap (λ (x : Option Command). phase x 1 0 ∷ below) e)))
-        (went_on (set_status f.place.last s))
+        (went_on (set_status (status_of_loop limits.shell f.place.last s.memory.status) s))
     phase-is (Some (tree.Loop until c b)) (suc a) e s = looped-is until c b e s.memory.status s
     phase-is (Some (tree.For name words body)) a e s = went_on s
 
     next_list-is : (s : State) → next_of (GoOn (moved_to (place (suc f.place.list) 0 0 0) f ∷ fs) s) ≡ Go (Lists rest ∷ frames_of fs) s
     next_list-is s = ap (λ (x : List Frame). Go (x ++ frames_of fs) s) (scripted (place (suc f.place.list) 0 0 0) ∙ from_start (list_at f.script (suc f.place.list)) f.script (suc f.place.list) refl)
 
+    -- what follows a command that is skipped
+    abbrev skipped_move : Frame → State → Next
+    skipped_move joins s = elim (skips_rest limits.shell) [ true ↦ Go (Lists rest ∷ frames_of fs) s | false ↦ Go (joins ∷ Lists rest ∷ frames_of fs) s ]
+
     joined-is : (c : Command) (joins : Joined) (j : ℕ) (o : Option (Op × Command)) → list ≡ tree.Starts c joins → f.place.command ≡ suc j → joined_at joins j ≡ o → (s : State) → next_of (place_joined limits o f fs s) ≡ move limits (Linked (drop_joined j joins) ∷ Lists rest ∷ frames_of fs) s
     joined-is c joins j None l p e s = next_list-is s ∙ ap (λ (x : Joined). move limits (Linked x ∷ Lists rest ∷ frames_of fs) s) (sym (joined_none joins j e))
     joined-is c joins j (Some pair) l p e s =
         let known : command_in list f.place.command ≡ Some pair.1 = ap (λ (x : AndOr). command_in x f.place.command) l ∙ ap (λ (x : ℕ). command_in (tree.Starts c joins) x) p ∙ ap second e in
         let there : below ≡ Linked (drop_joined (suc j) joins) ∷ Lists rest ∷ frames_of fs = ap (λ (x : AndOr). from_command x (suc f.place.command) rest ++ frames_of fs) l ∙ ap (λ (x : ℕ). Linked (drop_joined x joins) ∷ Lists rest ∷ frames_of fs) p in
-        if_next (goes pair.0 s.memory.status) (place_command limits pair.1 f fs s) (GoOn (behind f ∷ fs) s) (begin_command limits pair.1 (Linked (drop_joined (suc j) joins) ∷ Lists rest ∷ frames_of fs) s) (Go (Linked (drop_joined (suc j) joins) ∷ Lists rest ∷ frames_of fs) s)
+        if_next (goes pair.0 s.memory.status) (place_command limits pair.1 f fs s) (place_skipped limits f fs s) (begin_command limits pair.1 (Linked (drop_joined (suc j) joins) ∷ Lists rest ∷ frames_of fs) s) (skipped_move (Linked (drop_joined (suc j) joins)) s)
         (command-is pair.1 known s ∙ ap (λ (x : List Frame). begin_command limits pair.1 x s) there)
-        (went_on s ∙ ap (λ (x : List Frame). Go x s) there)
+        (if_next (skips_rest limits.shell) (GoOn (moved_to (place (suc f.place.list) 0 0 0) f ∷ fs) s) (GoOn (behind f ∷ fs) s) (Go (Lists rest ∷ frames_of fs) s) (Go (Linked (drop_joined (suc j) joins) ∷ Lists rest ∷ frames_of fs) s) (next_list-is s) (went_on s ∙ ap (λ (x : List Frame). Go x s) there))
         ∙ ap (λ (x : Joined). move limits (Linked x ∷ Lists rest ∷ frames_of fs) s) (sym (joined_some joins j pair e))
 
     begins-is : (c : Command) (joins : Joined) (n : ℕ) → list ≡ tree.Starts c joins → f.place.command ≡ n → (s : State) → next_of (place_begins limits (tree.Starts c joins) n f fs s) ≡ move limits (from_command (tree.Starts c joins) n rest ++ frames_of fs) s

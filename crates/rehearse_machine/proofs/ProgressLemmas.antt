@@ -1,7 +1,7 @@
 -- The machine ends. Each move begins a step, or comes closer to the next step or the end; the bound limits the steps.
 use Rattle.std.proofs.Common.{ℕ, suc, Bool, true, false, List, [], ◌∷◌, length, Option, Some, None, refl, ◌≡◌, ◌<◌, ◌≤◌, ◌⊎◌, inl, inr, arith, ◌+◌, nat_lt, nat_le, nat_eq, ltb-true}
 use Rattle.hushlang.specs.Tree as tree
-use Rattle.hushlang.specs.Tree.{Script, Command, Arms, IsProperCommand, AreProperArms, HoldsCommand}
+use Rattle.hushlang.specs.Tree.{Script, Joined, Command, Arms, IsProperCommand, AreProperArms, HoldsCommand}
 use Rattle.hushlang.specs.Expansion.{fields, joined, size, most_bytes}
 use Rattle.hushlang.specs.Trees.{tree_of}
 use Rattle.commands.specs.Verdict.{verdict}
@@ -14,6 +14,7 @@ use Rattle.rehearse_terms.specs.Outcomes.{Success}
 use Rattle.rehearse_machine.specs.Frames.{Frame, Lists, Linked, IfCondition, LoopCondition, LoopBody, ForBody, RunNames, RunText, Next, Go, Ask, Stop, tell_or_ask, boot_next, leave, begin_assign, begin_for, begin_arms, begin_tree, begin_text, begin_names, begin_exit, fitting, ask, begin_called, begin_fields, begin_command, move}
 use Rattle.rehearse_machine.specs.MoveCounts.{command_depth, arms_depth, script_depth, block_weight, links_weight, arms_weight, tree_weight, text_weight, names_weight, weight}
 use Rattle.rehearse_machine.specs.Meaning.{AreProperFrames}
+use Rattle.rehearse_rules.specs.ByShell.{skips_rest, status_of_loop}
 
 module _ (limits : Limits) where
   -- no step was begun since t
@@ -128,13 +129,13 @@ module _ (limits : Limits) where
   either_progress s n true x y h k = h
   either_progress s n false x y h k = k
 
-  arms_progress : (arms : Arms) (fs : List Frame) (s : State) → AreProperArms arms → Progress s (suc (arms_weight arms (weight s.memory.environment fs))) (begin_arms arms fs s)
+  arms_progress : (arms : Arms) (fs : List Frame) (s : State) → AreProperArms arms → Progress s (suc (arms_weight arms (weight s.memory.environment fs))) (begin_arms limits.shell arms fs s)
   arms_progress (tree.Arm tree.Empty b arms) fs s p = absurd p.0
   arms_progress (tree.Arm (tree.Runs l ls) b arms) fs s p = inr (refl, refl, omega arith)
   arms_progress (tree.Else b) fs s p = inr (refl, refl, omega arith)
   arms_progress tree.NoElse fs s p = inr (refl, refl, omega arith)
 
-  if_progress : (arms : Arms) (fs : List Frame) (s : State) → IsProperCommand (tree.If arms) → Progress s (suc (arms_depth arms)) (begin_arms arms fs s)
+  if_progress : (arms : Arms) (fs : List Frame) (s : State) → IsProperCommand (tree.If arms) → Progress s (suc (arms_depth arms)) (begin_arms limits.shell arms fs s)
   if_progress (tree.Arm tree.Empty b arms) fs s p = absurd p.0
   if_progress (tree.Arm (tree.Runs l ls) b arms) fs s p = inr (refl, refl, omega arith)
   if_progress (tree.Else b) fs s p = absurd p
@@ -168,6 +169,11 @@ module _ (limits : Limits) where
   looped tree.Empty until b fs s p = absurd p
   looped (tree.Runs l ls) until b fs s p = inr (refl, refl, omega arith)
 
+  -- what is left of a list weighs more than what comes after it
+  links_heavy : (links : Joined) (m : ℕ) → m < links_weight links m
+  links_heavy tree.Alone m = omega arith
+  links_heavy (tree.Joins op c links) m = let more = links_heavy links m in omega arith
+
   -- THE MEASURE: each move begins a step, or leaves fewer moves to the next step
   pub move_progress : (fs : List Frame) (s : State) → AreProperFrames fs → Progress s (weight s.memory.environment fs) (move limits fs s)
   move_progress [] s p = inl (omega arith, λ h. h)
@@ -176,18 +182,18 @@ module _ (limits : Limits) where
   move_progress (Linked tree.Alone ∷ fs) s p = inr (refl, refl, omega arith)
   move_progress (Linked (tree.Joins op c links) ∷ fs) s p =
       let m = weight s.memory.environment fs in
-      either_progress s (suc (command_depth c + links_weight links m)) (goes op s.memory.status) (begin_command limits c (Linked links ∷ fs) s) (Go (Linked links ∷ fs) s)
+      either_progress s (suc (command_depth c + links_weight links m)) (goes op s.memory.status) (begin_command limits c (Linked links ∷ fs) s) (elim (skips_rest limits.shell) [ true ↦ Go fs s | false ↦ Go (Linked links ∷ fs) s ])
       (progress_more s (suc (command_depth c)) (suc (command_depth c + links_weight links m)) (begin_command limits c (Linked links ∷ fs) s) (omega arith) (command_progress c (Linked links ∷ fs) s p.0.0))
-      (inr (refl, refl, omega arith))
+      (either_progress s (suc (command_depth c + links_weight links m)) (skips_rest limits.shell) (Go fs s) (Go (Linked links ∷ fs) s) (let more = links_heavy links m in inr (refl, refl, omega arith)) (inr (refl, refl, omega arith)))
   move_progress (IfCondition b arms ∷ fs) s p =
       let m = weight s.memory.environment fs in
-      either_progress s (suc (block_weight b m + arms_weight arms m)) (nat_eq s.memory.status 0) (Go (Lists b ∷ fs) s) (begin_arms arms fs s)
+      either_progress s (suc (block_weight b m + arms_weight arms m)) (nat_eq s.memory.status 0) (Go (Lists b ∷ fs) s) (begin_arms limits.shell arms fs s)
       (progress_more s (suc (block_weight b m)) (suc (block_weight b m + arms_weight arms m)) (Go (Lists b ∷ fs) s) (omega arith) (inr (refl, refl, omega arith)))
-      (progress_more s (suc (arms_weight arms m)) (suc (block_weight b m + arms_weight arms m)) (begin_arms arms fs s) (omega arith) (arms_progress arms fs s p.0.1))
+      (progress_more s (suc (arms_weight arms m)) (suc (block_weight b m + arms_weight arms m)) (begin_arms limits.shell arms fs s) (omega arith) (arms_progress arms fs s p.0.1))
   move_progress (LoopCondition until c b last ∷ fs) s p =
       let m = weight s.memory.environment fs in
       let x = block_weight b (suc (block_weight c m)) in
-      either_progress s (suc (x + m)) (holds until s.memory.status) (Go (Lists b ∷ LoopBody until c b ∷ fs) s) (Go fs (set_status last s))
+      either_progress s (suc (x + m)) (holds until s.memory.status) (Go (Lists b ∷ LoopBody until c b ∷ fs) s) (Go fs (set_status (status_of_loop limits.shell last s.memory.status) s))
       (inr (refl, refl, omega arith))
       (inr (refl, refl, omega arith))
   move_progress (LoopBody until c b ∷ fs) s p = looped c until b fs s p.0.0

@@ -15,6 +15,7 @@ use Rattle.rehearse_machine.specs.Frames.{Frame, Lists, Linked, IfCondition, Loo
 use Rattle.hushlang.proofs.ProperLemmas.{trees_are_proper}
 use Rattle.rehearse_machine.proofs.StepBoundLemmas.{block_proper}
 use Rattle.rehearse_machine.specs.Meaning.{AreProperFrames, IsProperNext}
+use Rattle.rehearse_rules.specs.ByShell.{skips_rest, status_of_loop}
 
 module _ (limits : Limits) where
   either : (b : Bool) (x y : Next) → IsProperNext x → IsProperNext y → IsProperNext (elim b [ true ↦ x | false ↦ y ])
@@ -78,7 +79,7 @@ module _ (limits : Limits) where
   for-proper name [] body fs s q p = p
   for-proper name (f ∷ values) body fs s q p = (block_proper body q, p)
 
-  arms-proper : (arms : Arms) (fs : List Frame) (s : State) → AreProperArms arms → AreProperFrames fs → IsProperNext (begin_arms arms fs s)
+  arms-proper : (arms : Arms) (fs : List Frame) (s : State) → AreProperArms arms → AreProperFrames fs → IsProperNext (begin_arms limits.shell arms fs s)
   arms-proper (tree.Arm c b arms) fs s q p = (block_proper c q.0, ((block_proper b q.1, q.2), p))
   arms-proper (tree.Else b) fs s q p = (block_proper b q, p)
   arms-proper tree.NoElse fs s q p = p
@@ -104,9 +105,9 @@ module _ (limits : Limits) where
   move-proper (Lists tree.Empty ∷ fs) s p = p.1
   move-proper (Lists (tree.Runs (tree.Starts c links) lists) ∷ fs) s p = command-proper c (Linked links ∷ Lists lists ∷ fs) s p.0.0.0 (p.0.0.1, (p.0.1, p.1))
   move-proper (Linked tree.Alone ∷ fs) s p = p.1
-  move-proper (Linked (tree.Joins op c links) ∷ fs) s p = either (goes op s.memory.status) (begin_command limits c (Linked links ∷ fs) s) (Go (Linked links ∷ fs) s) (command-proper c (Linked links ∷ fs) s p.0.0 (p.0.1, p.1)) (p.0.1, p.1)
-  move-proper (IfCondition b arms ∷ fs) s p = either (nat_eq s.memory.status 0) (Go (Lists b ∷ fs) s) (begin_arms arms fs s) (p.0.0, p.1) (arms-proper arms fs s p.0.1 p.1)
-  move-proper (LoopCondition until c b last ∷ fs) s p = either (holds until s.memory.status) (Go (Lists b ∷ LoopBody until c b ∷ fs) s) (Go fs (set_status last s)) (block_proper b p.0.1, p) p.1
+  move-proper (Linked (tree.Joins op c links) ∷ fs) s p = either (goes op s.memory.status) (begin_command limits c (Linked links ∷ fs) s) (elim (skips_rest limits.shell) [ true ↦ Go fs s | false ↦ Go (Linked links ∷ fs) s ]) (command-proper c (Linked links ∷ fs) s p.0.0 (p.0.1, p.1)) (either (skips_rest limits.shell) (Go fs s) (Go (Linked links ∷ fs) s) p.1 (p.0.1, p.1))
+  move-proper (IfCondition b arms ∷ fs) s p = either (nat_eq s.memory.status 0) (Go (Lists b ∷ fs) s) (begin_arms limits.shell arms fs s) (p.0.0, p.1) (arms-proper arms fs s p.0.1 p.1)
+  move-proper (LoopCondition until c b last ∷ fs) s p = either (holds until s.memory.status) (Go (Lists b ∷ LoopBody until c b ∷ fs) s) (Go fs (set_status (status_of_loop limits.shell last s.memory.status) s)) (block_proper b p.0.1, p) p.1
   move-proper (LoopBody until c b ∷ fs) s p = (block_proper c p.0.0, p)
   move-proper (ForBody name [] body ∷ fs) s p = p.1
   move-proper (ForBody name (f ∷ values) body ∷ fs) s p = (p.0, p)

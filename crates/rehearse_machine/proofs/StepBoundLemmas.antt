@@ -8,11 +8,13 @@ use Rattle.rehearse_terms.specs.State.{Text, get, State}
 use Rattle.rehearse_rules.specs.Parameters.{parameters_in}
 use Rattle.device_list.specs.Called.{Called, BuiltIn, NoCommand, Device, called_by}
 use Rattle.commands.specs.BuiltInCommands.{ChangesVariables, WritesText, RunsTexts, Tests, Exits}
-use Rattle.rehearse_rules.specs.Execution.{Limits, Answer, Normal, Exit, Ended, Dry, CutSteps, Syntax, Size, go_on, set_status, set_local, goes, holds, begin, text_end, run_text, run_all, command, simple, sized, turns, for_each, exec_script, exec_list, exec_joined, exec_command, exec_arms, exec}
+use Rattle.rehearse_rules.specs.Execution.{begin_turn, Limits, Answer, Normal, Exit, Ended, Dry, CutSteps, Syntax, Size, go_on, set_status, goes, holds, begin, text_end, run_text, run_all, command, simple, sized, turns, for_each, exec_script, exec_list, exec_joined, exec_command, exec_arms, exec}
 use Rattle.rehearse_rules.proofs.GrowingSteps.{AtLeast, Grew, AtLeast-track, Grew-block}
 use Rattle.rehearse_rules.proofs.TakenOutcomes.{KeepsAll, after_condition, Keeps-script, Keeps-list, Keeps-one, Keeps-exec, Keeps-text}
 use Rattle.hushlang.proofs.ProperLemmas.{trees_are_proper}
 use Rattle.rehearse_machine.proofs.BoundLemmas.{Cut-block, Cut-turns}
+use Rattle.rehearse_rules.specs.ByShell.{skips_rest, status_of_loop}
+use Rattle.rehearse_rules.proofs.TakenOutcomes.{skipped}
 
 pub block_proper : (a : Script) → HoldsCommand a → IsProper a
 block_proper tree.Empty p = tt
@@ -81,18 +83,18 @@ module _ (limits : Limits) where
     same_sized : (fs : List Text) (f g : List Text → State → Answer) (t : State) → f fs t ≡ g fs t → sized fs f t ≡ sized fs g t
     same_sized fs f g t e = same_if (nat_le (size fs) most_bytes) (f fs t) (Ended Size t) (g fs t) (Ended Size t) e refl
 
-    pub same_turns : (k j : ℕ) → k ≤ j → (until : Bool) (c c' b b' : State → Answer) → ((t : State) → limits.step_bound ≤ n + t.steps → c t ≡ c' t) → ((t : State) → limits.step_bound ≤ n + t.steps → b t ≡ b' t) → ((t : State) → Grew t.steps (c t)) → KeepsAll limits b → ((t : State) → limits.step_bound ≤ t.steps → c' t ≡ Ended CutSteps t) → (last : ℕ) (s : State) → limits.step_bound ≤ k + s.steps → limits.step_bound ≤ n + s.steps → turns k until c b last s ≡ turns j until c' b' last s
+    pub same_turns : (k j : ℕ) → k ≤ j → (until : Bool) (c c' b b' : State → Answer) → ((t : State) → limits.step_bound ≤ n + t.steps → c t ≡ c' t) → ((t : State) → limits.step_bound ≤ n + t.steps → b t ≡ b' t) → ((t : State) → Grew t.steps (c t)) → KeepsAll limits b → ((t : State) → limits.step_bound ≤ t.steps → c' t ≡ Ended CutSteps t) → (last : ℕ) (s : State) → limits.step_bound ≤ k + s.steps → limits.step_bound ≤ n + s.steps → turns limits.shell k until c b last s ≡ turns limits.shell j until c' b' last s
     same_turns zero j le until c c' b b' ec eb grew kb cut last s h l = sym (Cut-turns limits m text' j until c' b' last s (cut s (omega arith)))
     same_turns (suc k) zero le until c c' b b' ec eb grew kb cut last s h l = absurd (omega arith)
     same_turns (suc k) (suc j) le until c c' b b' ec eb grew kb cut last s h l =
-        same_go_on (suc s.steps) (c s) (c' s) (after_condition limits until b (λ u. turns k until c b u.memory.status u) last) (after_condition limits until b' (λ u. turns j until c' b' u.memory.status u) last) (grew s) (ec s l)
-        (λ t g. same_if (holds until t.memory.status) (go_on (b t) (λ u. turns k until c b u.memory.status u)) (Normal (set_status last t)) (go_on (b' t) (λ u. turns j until c' b' u.memory.status u)) (Normal (set_status last t))
-        (same_go_on t.steps (b t) (b' t) (λ u. turns k until c b u.memory.status u) (λ u. turns j until c' b' u.memory.status u) (AtLeast-track limits.device_bound t (b t) (kb t).0) (eb t (omega arith)) (λ u r. same_turns k j (omega arith) until c c' b b' ec eb grew kb cut u.memory.status u (omega arith) (omega arith)))
+        same_go_on (suc s.steps) (c s) (c' s) (after_condition limits until b (λ u. turns limits.shell k until c b u.memory.status u) last) (after_condition limits until b' (λ u. turns limits.shell j until c' b' u.memory.status u) last) (grew s) (ec s l)
+        (λ t g. same_if (holds until t.memory.status) (go_on (b t) (λ u. turns limits.shell k until c b u.memory.status u)) (Normal (set_status (status_of_loop limits.shell last t.memory.status) t)) (go_on (b' t) (λ u. turns limits.shell j until c' b' u.memory.status u)) (Normal (set_status (status_of_loop limits.shell last t.memory.status) t))
+        (same_go_on t.steps (b t) (b' t) (λ u. turns limits.shell k until c b u.memory.status u) (λ u. turns limits.shell j until c' b' u.memory.status u) (AtLeast-track limits.device_bound t (b t) (kb t).0) (eb t (omega arith)) (λ u r. same_turns k j (omega arith) until c c' b b' ec eb grew kb cut u.memory.status u (omega arith) (omega arith)))
         refl)
 
-    same_for : (name : Text) (b b' : State → Answer) → ((t : State) → limits.step_bound ≤ n + t.steps → b t ≡ b' t) → KeepsAll limits b → (last : ℕ) (fs : List Text) (s : State) → limits.step_bound ≤ n + s.steps → for_each name b last fs s ≡ for_each name b' last fs s
+    same_for : (name : Text) (b b' : State → Answer) → ((t : State) → limits.step_bound ≤ n + t.steps → b t ≡ b' t) → KeepsAll limits b → (last : ℕ) (fs : List Text) (s : State) → limits.step_bound ≤ n + s.steps → for_each limits.shell name b last fs s ≡ for_each limits.shell name b' last fs s
     same_for name b b' eb kb last [] s l = refl
-    same_for name b b' eb kb last (f ∷ fs) s l = same_go_on s.steps (b (set_local name f s)) (b' (set_local name f s)) (λ t. for_each name b t.memory.status fs t) (λ t. for_each name b' t.memory.status fs t) (AtLeast-track limits.device_bound (set_local name f s) (b (set_local name f s)) (kb (set_local name f s)).0) (eb (set_local name f s) l) (λ t r. same_for name b b' eb kb t.memory.status fs t (omega arith))
+    same_for name b b' eb kb last (f ∷ fs) s l = same_go_on s.steps (b (begin_turn limits.shell name f s)) (b' (begin_turn limits.shell name f s)) (λ t. for_each limits.shell name b t.memory.status fs t) (λ t. for_each limits.shell name b' t.memory.status fs t) (AtLeast-track limits.device_bound (begin_turn limits.shell name f s) (b (begin_turn limits.shell name f s)) (kb (begin_turn limits.shell name f s)).0) (eb (begin_turn limits.shell name f s) l) (λ t r. same_for name b b' eb kb t.memory.status fs t (omega arith))
 
     mutual
       pub same_script : (a : Script) → IsProper a → (s : State) → limits.step_bound ≤ n + s.steps → exec_script limits n text a s ≡ exec_script limits m text' a s
@@ -104,16 +106,16 @@ module _ (limits : Limits) where
 
       same_links : (a : Joined) → IsProperJoined a → (s : State) → limits.step_bound ≤ n + s.steps → exec_joined limits n text a s ≡ exec_joined limits m text' a s
       same_links tree.Alone p s h = refl
-      same_links (tree.Joins op c links) p s h = same_if (goes op s.memory.status) (go_on (exec_command limits n text c s) (exec_joined limits n text links)) (exec_joined limits n text links s) (go_on (exec_command limits m text' c s) (exec_joined limits m text' links)) (exec_joined limits m text' links s)
+      same_links (tree.Joins op c links) p s h = same_if (goes op s.memory.status) (go_on (exec_command limits n text c s) (exec_joined limits n text links)) (skipped limits (exec_joined limits n text links) s) (go_on (exec_command limits m text' c s) (exec_joined limits m text' links)) (skipped limits (exec_joined limits m text' links) s)
           (same_go_on s.steps (exec_command limits n text c s) (exec_command limits m text' c s) (exec_joined limits n text links) (exec_joined limits m text' links) (AtLeast-track limits.device_bound s (exec_command limits n text c s) (Keeps-one limits n text kept c s).0) (same_one c p.0 s h) (λ t r. same_links links p.1 t (omega arith)))
-          (same_links links p.1 s h)
+          (same_if (skips_rest limits.shell) (Normal s) (exec_joined limits n text links s) (Normal s) (exec_joined limits m text' links s) refl (same_links links p.1 s h))
 
       same_one : (a : Command) → IsProperCommand a → (s : State) → limits.step_bound ≤ n + s.steps → exec_command limits n text a s ≡ exec_command limits m text' a s
       same_one (tree.Simple words) p s h = same_begin (λ t. sized (fields (parameters_in t.memory) words) (simple limits text) t) (λ t. sized (fields (parameters_in t.memory) words) (simple limits text') t) s h (λ t r. same_sized (fields (parameters_in t.memory) words) (simple limits text) (simple limits text') t (same_simple (fields (parameters_in t.memory) words) t r))
       same_one (tree.Assign pairs) p s h = refl
       same_one (tree.If arms) p s h = same_if_arms arms p s h
       same_one (tree.Loop until c b) p s h = same_turns n m below until (exec_script limits n text c) (exec_script limits m text' c) (exec_script limits n text b) (exec_script limits m text' b) (same_script c (block_proper c p.0)) (same_script b (block_proper b p.1)) (Grew-block limits n text kept c p.0) (Keeps-script limits n text kept b) (Cut-block limits m text' c p.0) 0 s h h
-      same_one (tree.For name words b) p s h = same_begin (λ t. sized (fields (parameters_in t.memory) words) (for_each name (exec_script limits n text b) 0) t) (λ t. sized (fields (parameters_in t.memory) words) (for_each name (exec_script limits m text' b) 0) t) s h (λ t r. same_sized (fields (parameters_in t.memory) words) (for_each name (exec_script limits n text b) 0) (for_each name (exec_script limits m text' b) 0) t (same_for name (exec_script limits n text b) (exec_script limits m text' b) (same_script b (block_proper b p)) (Keeps-script limits n text kept b) 0 (fields (parameters_in t.memory) words) t (omega arith)))
+      same_one (tree.For name words b) p s h = same_begin (λ t. sized (fields (parameters_in t.memory) words) (for_each limits.shell name (exec_script limits n text b) 0) t) (λ t. sized (fields (parameters_in t.memory) words) (for_each limits.shell name (exec_script limits m text' b) 0) t) s h (λ t r. same_sized (fields (parameters_in t.memory) words) (for_each limits.shell name (exec_script limits n text b) 0) (for_each limits.shell name (exec_script limits m text' b) 0) t (same_for name (exec_script limits n text b) (exec_script limits m text' b) (same_script b (block_proper b p)) (Keeps-script limits n text kept b) 0 (fields (parameters_in t.memory) words) t (omega arith)))
 
       same_if_arms : (a : Arms) → IsProperCommand (tree.If a) → (s : State) → limits.step_bound ≤ n + s.steps → exec_arms limits n text a s ≡ exec_arms limits m text' a s
       same_if_arms (tree.Arm c b arms) p s h = same_go_on s.steps (exec_script limits n text c s) (exec_script limits m text' c s) (λ t. elim (nat_eq t.memory.status 0) [ true ↦ exec_script limits n text b t | false ↦ exec_arms limits n text arms t ]) (λ t. elim (nat_eq t.memory.status 0) [ true ↦ exec_script limits m text' b t | false ↦ exec_arms limits m text' arms t ]) (AtLeast-track limits.device_bound s (exec_script limits n text c s) (Keeps-script limits n text kept c s).0) (same_script c (block_proper c p.0) s h) (λ t r. same_if (nat_eq t.memory.status 0) (exec_script limits n text b t) (exec_arms limits n text arms t) (exec_script limits m text' b t) (exec_arms limits m text' arms t) (same_script b (block_proper b p.1) t (omega arith)) (same_arms arms p.2 t (omega arith)))

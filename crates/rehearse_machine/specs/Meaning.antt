@@ -3,6 +3,7 @@ use Rattle.std.specs.Prelude.{◌≡◌, nat_eq, Bool, true, false, List, [], �
 use Rattle.hushlang.specs.Tree.{Script, Joined, Command, Arms, IsProper, IsProperJoined, AreProperArms, HoldsCommand}
 use Rattle.rehearse_terms.specs.Outcomes.{OutcomeWord}
 use Rattle.rehearse_terms.specs.State.{State}
+use Rattle.rehearse_rules.specs.ByShell.{status_of_loop}
 use Rattle.rehearse_rules.specs.Execution.{Limits, Answer, Normal, Exit, Ended, Dry, Ending, Request, go_on, set_status, holds, text_end, take_outcome, run_all, turns, for_each, exec_script, exec_joined, exec_command, exec_arms, exec}
 use Rattle.rehearse_rules.specs.Runs.{Task, run_on}
 use Rattle.rehearse_machine.specs.Came.{Came, Over, settled}
@@ -37,7 +38,7 @@ module _ (limits : Limits) where
   arms_of = exec_arms limits limits.step_bound full
 
   abbrev pub again : Bool → Script → Script → State → Answer
-  again until c b u = turns limits.step_bound until (script c) (script b) u.memory.status u
+  again until c b u = turns limits.shell limits.step_bound until (script c) (script b) u.memory.status u
 
   -- what a frame makes of the answer of the frames above it
   abbrev pub resume : Frame → Answer → Answer
@@ -49,10 +50,10 @@ module _ (limits : Limits) where
       go_on a (λ t.
       elim (holds until t.memory.status) [
         | true ↦ go_on (script b t) (again until c b)
-        | false ↦ Normal (set_status last t)
+        | false ↦ Normal (set_status (status_of_loop limits.shell last t.memory.status) t)
       ])
   resume (LoopBody until c b) a = go_on a (again until c b)
-  resume (ForBody name values body) a = go_on a (λ t. for_each name (script body) t.memory.status values t)
+  resume (ForBody name values body) a = go_on a (λ t. for_each limits.shell name (script body) t.memory.status values t)
   resume (RunNames names) a = first_or_next a (run_all limits full names)
   resume (RunText names) a = text_end a (run_all limits full names)
 

@@ -35,7 +35,7 @@ next_shown (steps.Asks ask) m w = AskOn (request_shown ask) m.frames (state_at m
 next_shown (steps.Ends halt) m w = StopOn (halt_shown halt) (state_at m w)
 
 abbrev pub limits_of : Devices → BoundsShown → Limits
-limits_of devices bounds = record { devices = devices; device_bound = bounds.devices; step_bound = bounds.steps }
+limits_of devices bounds = record { devices = devices; device_bound = bounds.devices; step_bound = bounds.steps; shell = bounds.shell }
 
 -- the frames below the innermost
 abbrev pub under : Moment → List RunningFrame

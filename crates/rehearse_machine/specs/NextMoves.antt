@@ -5,6 +5,7 @@ use Rattle.hushlang.specs.TreesShown as view
 use Rattle.hushlang.specs.Expansion.{fields}
 use Rattle.bootstore_state.specs.Moment.{RunningFrame}
 use Rattle.rehearse_terms.specs.State.{State}
+use Rattle.rehearse_terms.specs.declared.shell.Shell.{Shell}
 use Rattle.rehearse_rules.specs.Parameters.{parameters_in}
 use Rattle.rehearse_rules.specs.Execution.{Limits, set_status}
 use Rattle.rehearse_machine.specs.declared.next_move.Next.{Next}
@@ -23,17 +24,20 @@ continued limits (nexts.Loops words) f fs s =
     place_counted limits (λ t.
     place_fitting (fields (parameters_in t.memory) (map view.word words.now))
     (λ found. for_begins found f fs) t) s
-continued limits nexts.Turns f fs s = for_move (command_at (list_at f.script f.place.list) f.place.command) f fs s
+continued limits nexts.Turns f fs s =
+    for_move limits.shell (command_at (list_at f.script f.place.list) f.place.command) f fs s
 continued limits nexts.Names f fs s = run_move f fs s
 
 -- the frame f does next what is said, within any limits
 abbrev pub Continues : Next → RunningFrame → (Limits → List RunningFrame → State → PlaceNext) → Type 0
 Continues next f says = (limits : Limits) (fs : List RunningFrame) (s : State) → continued limits next f fs s ≡ says limits fs s
 
--- the same, at this status
-abbrev pub ContinuesAt : (status : ℕ) → Next → RunningFrame → (Limits → List RunningFrame → State → PlaceNext) → Type 0
-ContinuesAt status next f says =
-    (limits : Limits) (fs : List RunningFrame) (s : State) → s.memory.status ≡ status → continued limits next f fs s ≡ says limits fs s
+-- the same in this shell, at this status
+abbrev pub ContinuesAt : Shell → (status : ℕ) → Next → RunningFrame → (Limits → List RunningFrame → State → PlaceNext) →
+    Type 0
+ContinuesAt shell status next f says =
+    (limits : Limits) (fs : List RunningFrame) (s : State) → limits.shell ≡ shell → s.memory.status ≡ status →
+    continued limits next f fs s ≡ says limits fs s
 
 -- a command that begins has a place after it
 abbrev pub HasRoom : Next → RunningFrame → Type 0

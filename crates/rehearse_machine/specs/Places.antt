@@ -11,11 +11,13 @@ use Rattle.bootstore_state.specs.Moment.{RunningFrame}
 use Rattle.rehearse_terms.specs.Outcomes.{Outcome, Success, Failure}
 use Rattle.hushlang.specs.Trees.{tree_of}
 use Rattle.rehearse_terms.specs.State.{Text, get, State}
+use Rattle.rehearse_terms.specs.declared.shell.Shell.{Shell}
+use Rattle.rehearse_rules.specs.ByShell.{skips_rest, status_of_nothing, status_of_no_block, status_of_loop}
 use Rattle.rehearse_rules.specs.Parameters.{parameters_in}
 use Rattle.commands.specs.Verdict.{verdict}
 use Rattle.device_list.specs.Called.{Called, BuiltIn, NoCommand, Device, called_by, sets_in}
 use Rattle.commands.specs.BuiltInCommands.{ChangesVariables, WritesText, RunsTexts, Tests, Exits, asks_device, exit_status, variables_changed, text_written}
-use Rattle.rehearse_rules.specs.Execution.{Limits, Ending, End, CutDevices, CutSteps, Unknown, Syntax, Size, Booted, remember, set_status, set_local, status_when, goes, holds, Request, test_effect, outcome_when, told, told_again, logged, set_environment}
+use Rattle.rehearse_rules.specs.Execution.{Limits, Ending, End, CutDevices, CutSteps, Unknown, Syntax, Size, Booted, remember, set_status, set_local, begin_turn, status_when, goes, holds, Request, test_effect, outcome_when, told, told_again, logged, set_environment}
 use Rattle.rehearse_machine.specs.Frames.{Frame, Lists, Linked, IfCondition, LoopCondition, LoopBody, ForBody, RunNames, RunText, Next, Go, Ask, Stop, begun_text}
 
 -- ---- parts of a script by their numbers
@@ -212,50 +214,53 @@ run_move f fs s =
           ]
     ]
 
-abbrev pub for_turn : Option Text → Text → Script → RunningFrame → List RunningFrame → State → PlaceNext
-for_turn None name body f fs s = GoOn fs s
-for_turn (Some value) name body f fs s =
-    GoOn (block_frame body ∷ in_turn (suc f.place.turn) 0 f ∷ fs) (set_local name value s)
+abbrev pub for_turn : Shell → Option Text → Text → Script → RunningFrame → List RunningFrame → State → PlaceNext
+for_turn shell None name body f fs s = GoOn fs s
+for_turn shell (Some value) name body f fs s =
+    GoOn (block_frame body ∷ in_turn (suc f.place.turn) 0 f ∷ fs) (begin_turn shell name value s)
 
-abbrev pub for_move : Option Command → RunningFrame → List RunningFrame → State → PlaceNext
-for_move (Some (tree.For name words body)) f fs s = for_turn (slice_get f.words f.place.turn) name body f fs s
-for_move o f fs s = GoOn fs s
+abbrev pub for_move : Shell → Option Command → RunningFrame → List RunningFrame → State → PlaceNext
+for_move shell (Some (tree.For name words body)) f fs s =
+    for_turn shell (slice_get f.words f.place.turn) name body f fs s
+for_move shell o f fs s = GoOn fs s
 
 abbrev pub for_begins : List Text → RunningFrame → List RunningFrame → State → PlaceNext
 for_begins [] f fs s = GoOn (behind f ∷ fs) (set_status 0 s)
 for_begins (v ∷ vs) f fs s = GoOn (values_frame f (v ∷ vs) ∷ behind f ∷ fs) s
 
 -- the arms of an `if` from one on
-abbrev pub place_arms : Arms → ℕ → RunningFrame → List RunningFrame → State → PlaceNext
-place_arms (tree.Arm c b more) a f fs s = GoOn (block_frame c ∷ in_turn (suc a) 0 f ∷ fs) s
-place_arms (tree.Else b) a f fs s = GoOn (block_frame b ∷ behind f ∷ fs) s
-place_arms tree.NoElse a f fs s = GoOn (behind f ∷ fs) (set_status 0 s)
+abbrev pub place_arms : Shell → Arms → ℕ → RunningFrame → List RunningFrame → State → PlaceNext
+place_arms shell (tree.Arm c b more) a f fs s = GoOn (block_frame c ∷ in_turn (suc a) 0 f ∷ fs) s
+place_arms shell (tree.Else b) a f fs s = GoOn (block_frame b ∷ behind f ∷ fs) s
+place_arms shell tree.NoElse a f fs s =
+    GoOn (behind f ∷ fs) (set_status (status_of_no_block shell s.memory.status) s)
 
 -- an arm's condition has ended
-abbrev pub condition_ends : Arms → ℕ → RunningFrame → List RunningFrame → State → PlaceNext
-condition_ends (tree.Arm c b more) a f fs s =
+abbrev pub condition_ends : Shell → Arms → ℕ → RunningFrame → List RunningFrame → State → PlaceNext
+condition_ends shell (tree.Arm c b more) a f fs s =
     elim (nat_eq s.memory.status 0) [
       | true ↦ GoOn (block_frame b ∷ behind f ∷ fs) s
-      | false ↦ place_arms more (suc a) f fs s
+      | false ↦ place_arms shell more (suc a) f fs s
     ]
-condition_ends (tree.Else b) a f fs s = GoOn (behind f ∷ fs) s
-condition_ends tree.NoElse a f fs s = GoOn (behind f ∷ fs) s
+condition_ends shell (tree.Else b) a f fs s = GoOn (behind f ∷ fs) s
+condition_ends shell tree.NoElse a f fs s = GoOn (behind f ∷ fs) s
 
 -- a loop's condition has ended
-abbrev pub loop_ends : (until : Bool) → (body : Script) → RunningFrame → List RunningFrame → State → PlaceNext
-loop_ends until b f fs s =
+abbrev pub loop_ends : Shell → (until : Bool) → (body : Script) → RunningFrame → List RunningFrame → State → PlaceNext
+loop_ends shell until b f fs s =
     elim (holds until s.memory.status) [
       | true ↦ GoOn (block_frame b ∷ in_turn 2 0 f ∷ fs) s
-      | false ↦ GoOn (behind f ∷ fs) (set_status f.place.last s)
+      | false ↦ GoOn (behind f ∷ fs) (set_status (status_of_loop shell f.place.last s.memory.status) s)
     ]
 
 -- a block of a command has ended
-abbrev pub phase_move : Option Command → ℕ → RunningFrame → List RunningFrame → State → PlaceNext
-phase_move None a f fs s = GoOn (moved_to (place f.place.list f.place.command 0 0) f ∷ fs) s
-phase_move (Some (tree.If arms)) a f fs s = condition_ends (drop_arms a arms) a f fs s
-phase_move (Some (tree.Loop until c b)) zero f fs s = loop_ends until b f fs s
-phase_move (Some (tree.Loop until c b)) (suc a) f fs s = GoOn (block_frame c ∷ in_turn 1 s.memory.status f ∷ fs) s
-phase_move o a f fs s = GoOn (behind f ∷ fs) s
+abbrev pub phase_move : Shell → Option Command → ℕ → RunningFrame → List RunningFrame → State → PlaceNext
+phase_move shell None a f fs s = GoOn (moved_to (place f.place.list f.place.command 0 0) f ∷ fs) s
+phase_move shell (Some (tree.If arms)) a f fs s = condition_ends shell (drop_arms a arms) a f fs s
+phase_move shell (Some (tree.Loop until c b)) zero f fs s = loop_ends shell until b f fs s
+phase_move shell (Some (tree.Loop until c b)) (suc a) f fs s =
+    GoOn (block_frame c ∷ in_turn 1 s.memory.status f ∷ fs) s
+phase_move shell o a f fs s = GoOn (behind f ∷ fs) s
 
 abbrev pub place_fitting : List Text → (List Text → State → PlaceNext) → State → PlaceNext
 place_fitting fs next s = elim (nat_le (size fs) most_bytes) [ true ↦ next fs s | false ↦ StopOn Size s ]
@@ -285,7 +290,7 @@ module _ (limits : Limits) where
   place_called NoCommand name words script ps s = StopOn (Unknown name) s
 
   abbrev pub place_fields : List Text → Script → List RunningFrame → State → PlaceNext
-  place_fields [] script ps s = GoOn ps (set_status 0 s)
+  place_fields [] script ps s = GoOn ps (set_status (status_of_nothing limits.shell s.memory.status) s)
   place_fields (name ∷ ws) script ps s = place_called (called_by limits.devices name ws) name ws script ps s
 
   abbrev pub place_counted : (State → PlaceNext) → State → PlaceNext
@@ -301,16 +306,24 @@ module _ (limits : Limits) where
       place_fitting (fields (parameters_in t.memory) words)
       (λ found. place_fields found f.script (behind f ∷ fs)) t) s
   place_command (tree.Assign pairs) f fs s = place_counted (place_assign pairs (behind f ∷ fs)) s
-  place_command (tree.If arms) f fs s = place_arms arms 0 f fs s
+  place_command (tree.If arms) f fs s = place_arms limits.shell arms 0 f fs s
   place_command (tree.Loop until c b) f fs s = GoOn (block_frame c ∷ in_turn 1 0 f ∷ fs) s
   place_command (tree.For name words body) f fs s =
       place_counted (λ t. place_fitting (fields (parameters_in t.memory) words) (λ found. for_begins found f fs) t) s
+
+  -- a command that is skipped: the next one follows, or the next list
+  abbrev pub place_skipped : RunningFrame → List RunningFrame → State → PlaceNext
+  place_skipped f fs s =
+      elim (skips_rest limits.shell) [
+        | true ↦ GoOn (moved_to (place (suc f.place.list) 0 0 0) f ∷ fs) s
+        | false ↦ GoOn (behind f ∷ fs) s
+      ]
 
   -- a command after `&&` or `||`, or the end of the list
   abbrev pub place_joined : Option (Op × Command) → RunningFrame → List RunningFrame → State → PlaceNext
   place_joined None f fs s = GoOn (moved_to (place (suc f.place.list) 0 0 0) f ∷ fs) s
   place_joined (Some pair) f fs s =
-      elim (goes pair.0 s.memory.status) [ true ↦ place_command pair.1 f fs s | false ↦ GoOn (behind f ∷ fs) s ]
+      elim (goes pair.0 s.memory.status) [ true ↦ place_command pair.1 f fs s | false ↦ place_skipped f fs s ]
 
   abbrev pub place_begins : AndOr → ℕ → RunningFrame → List RunningFrame → State → PlaceNext
   place_begins (tree.Starts c joins) zero f fs s = place_command c f fs s
@@ -318,7 +331,7 @@ module _ (limits : Limits) where
 
   abbrev pub place_turn : AndOr → ℕ → RunningFrame → List RunningFrame → State → PlaceNext
   place_turn list zero f fs s = place_begins list f.place.command f fs s
-  place_turn list (suc a) f fs s = phase_move (command_in list f.place.command) a f fs s
+  place_turn list (suc a) f fs s = phase_move limits.shell (command_in list f.place.command) a f fs s
 
   abbrev pub place_list : Option AndOr → RunningFrame → List RunningFrame → State → PlaceNext
   place_list None f fs s = GoOn fs s
@@ -327,7 +340,7 @@ module _ (limits : Limits) where
   abbrev pub place_by : FrameKind → RunningFrame → List RunningFrame → State → PlaceNext
   place_by kinds.Text f fs s = place_list (list_at f.script f.place.list) f fs s
   place_by kinds.Block f fs s = place_list (list_at f.script f.place.list) f fs s
-  place_by kinds.For f fs s = for_move (command_at (list_at f.script f.place.list) f.place.command) f fs s
+  place_by kinds.For f fs s = for_move limits.shell (command_at (list_at f.script f.place.list) f.place.command) f fs s
   place_by kinds.Run f fs s = run_move f fs s
 
   -- one move, at places

@@ -13,7 +13,7 @@ abbrev pub task_shown : List (Text × Text) → Devices → Text → BoundsShown
 task_shown env devices name bounds =
     let environment = entries (environment_of env) in
     record {
-      limits = record { devices = devices; device_bound = bounds.devices; step_bound = bounds.steps };
+      limits = record { devices = devices; device_bound = bounds.devices; step_bound = bounds.steps; shell = bounds.shell };
       environment = environment;
       name = name;
       text = unwrap_or (get environment name) [];
@@ -23,7 +23,7 @@ task_shown env devices name bounds =
 -- the same, if the variable is set
 abbrev pub task_set : List (Text × Text) → Devices → Text → BoundsShown → Option Task
 task_set env devices name bounds =
-    task_of (record { devices = devices; device_bound = bounds.devices; step_bound = bounds.steps }) bounds.failures
+    task_of (record { devices = devices; device_bound = bounds.devices; step_bound = bounds.steps; shell = bounds.shell }) bounds.failures
     (entries (environment_of env)) name
 
 abbrev pub task_in : Rehearsal → Task

@@ -4,22 +4,26 @@ ghost use Rattle.hushlang.specs.TreesShown as view;
 ghost use Rattle.rehearse_machine.specs.Places.{place_arms, drop_arms, condition_ends, loop_ends, block_frame, GoOn, in_turn};
 ghost use Rattle.rehearse_machine.specs.NextMoves.{Continues, ContinuesAt};
 
+use crate::by_shell::{status_of_loop, status_of_no_block};
 use crate::frames::{behind, in_turn};
 use crate::next_move::Next;
 use bootstore_state::Frame;
 use hushlang::Script;
+use rehearse_terms::Shell;
 use std::rc::Rc;
 
 /// The arms of an `if` from this one on begin: its condition, or the `else` block if there is no
-/// such arm, or status 0 if there is no `else`.
+/// such arm. If there is no `else`, the shell says the status.
 pub(crate) fn begin_arms<'a>(
     frame: &Frame,
+    shell: Shell,
+    status: u8,
     arms: &'a [(Rc<Script>, Rc<Script>)],
     other: &'a Option<Rc<Script>>,
     arm: usize,
 ) -> Next<'a>
     requires { frame.now.place.command + 1 < 2 ^ 64 }
-    ensures { Continues result frame.now (λ limits. place_arms
+    ensures { ContinuesAt shell status result frame.now (λ limits. place_arms limits.shell
         (drop_arms arm (view.arms (map view.arm arms.now) (view.script_in other.now))) arm
         frame.now) }
 {
@@ -29,7 +33,7 @@ pub(crate) fn begin_arms<'a>(
     }
     match other {
         Some(body) => Next::Enters(behind(at), body),
-        None => Next::Finishes(behind(at), 0),
+        None => Next::Finishes(behind(at), status_of_no_block(shell, status)),
     }
 }
 
@@ -37,19 +41,20 @@ pub(crate) fn begin_arms<'a>(
 /// after it.
 pub(crate) fn end_condition<'a>(
     frame: &Frame,
+    shell: Shell,
     status: u8,
     arms: &'a [(Rc<Script>, Rc<Script>)],
     other: &'a Option<Rc<Script>>,
     arm: usize,
 ) -> Next<'a>
     requires { frame.now.place.command + 1 < 2 ^ 64 }
-    ensures { ContinuesAt status result frame.now (λ limits. condition_ends
+    ensures { ContinuesAt shell status result frame.now (λ limits. condition_ends limits.shell
         (drop_arms arm (view.arms (map view.arm arms.now) (view.script_in other.now))) arm
         frame.now) }
 {
     match arms.get(arm) {
         Some((_, body)) if status == 0 => Next::Enters(behind(frame.at()), body),
-        Some(_) => begin_arms(frame, arms, other, arm + 1),
+        Some(_) => begin_arms(frame, shell, status, arms, other, arm + 1),
         None => Next::Goes(behind(frame.at())),
     }
 }
@@ -63,20 +68,21 @@ pub(crate) fn begin_loop<'a>(frame: &Frame, cond: &'a Rc<Script>, last: u8) -> N
 }
 
 /// Goes on after the condition of a loop: with its body if the loop goes on, else after the loop,
-/// with the status of the last body.
+/// with the status that the shell says.
 pub(crate) fn end_loop_condition<'a>(
     frame: &Frame,
+    shell: Shell,
     status: u8,
     until: bool,
     body: &'a Rc<Script>,
 ) -> Next<'a>
     requires { frame.now.place.command + 1 < 2 ^ 64 }
-    ensures { ContinuesAt status result frame.now
-        (λ limits. loop_ends until (view.script body.now.value) frame.now) }
+    ensures { ContinuesAt shell status result frame.now
+        (λ limits. loop_ends limits.shell until (view.script body.now.value) frame.now) }
 {
     let at = frame.at();
     if (status == 0) == until {
-        return Next::Finishes(behind(at), at.last);
+        return Next::Finishes(behind(at), status_of_loop(shell, at.last, status));
     }
     Next::Enters(in_turn(at, 1, 0), body)
 }

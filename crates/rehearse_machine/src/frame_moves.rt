@@ -16,11 +16,12 @@ use crate::scripts::end_block;
 use bootstore_state::{Frame, FrameKind, Store, StoreError, TextFound};
 use hushlang::{Command, Script};
 use rehearse_rules::Halt;
+use rehearse_terms::Shell;
 use std::rc::Rc;
 
 /// What a frame that runs a script does next: its list goes on, or the script has ended.
-fn next_in_script(frame: &Frame, status: u8) -> Next<'_>
-    ensures next { ContinuesAt status result frame.now (λ limits. places.place_list limits
+fn next_in_script(frame: &Frame, shell: Shell, status: u8) -> Next<'_>
+    ensures next { ContinuesAt shell status result frame.now (λ limits. places.place_list limits
         (places.list_at frame.now.script frame.now.place.list) frame.now) }
     ensures room { HasRoom result frame.now }
 {
@@ -30,32 +31,36 @@ fn next_in_script(frame: &Frame, status: u8) -> Next<'_>
         return Next::Leaves;
     };
     if at.turn == 0 {
-        return begin_in_list(frame, status, list);
+        return begin_in_list(frame, shell, status, list);
     }
     match command_of(list, at.command) {
-        Some(command) => end_block(frame, status, command, at.turn - 1),
+        Some(command) => end_block(frame, shell, status, command, at.turn - 1),
         None => Next::Goes(place(at.list, at.command)),
     }
 }
 
-/// What a frame does next at this status.
-pub(crate) fn next_of(frame: &Frame, status: u8) -> Next<'_>
-    ensures next { ContinuesAt status result frame.now
+/// What a frame does next in this shell, at this status.
+pub(crate) fn next_of(frame: &Frame, shell: Shell, status: u8) -> Next<'_>
+    ensures next { ContinuesAt shell status result frame.now
         (λ limits. places.place_by limits frame.now.kind frame.now) }
     ensures room { HasRoom result frame.now }
 {
     match frame.kind() {
-        FrameKind::Text => next_in_script(frame, status),
-        FrameKind::Block => next_in_script(frame, status),
+        FrameKind::Text => next_in_script(frame, shell, status),
+        FrameKind::Block => next_in_script(frame, shell, status),
         FrameKind::For => Next::Turns,
         FrameKind::Run => Next::Names,
     }
 }
 
 /// Advances a `for` frame: its next turn.
-pub(crate) fn move_for<'d, S: Store>(store: &mut S, frame: &Frame) -> Result<Step<'d>, StoreError>
+pub(crate) fn move_for<'d, S: Store>(
+    store: &mut S,
+    frame: &Frame,
+    shell: Shell,
+) -> Result<Step<'d>, StoreError>
     ensures { Moves frame.now result (S.record_of store.old) (S.record_of store.new)
-        (places.for_move (places.command_at (places.list_at frame.now.script frame.now.place.list)
+        (places.for_move shell (places.command_at (places.list_at frame.now.script frame.now.place.list)
         frame.now.place.command) frame.now) }
 {
     let at = frame.at();
@@ -74,7 +79,7 @@ pub(crate) fn move_for<'d, S: Store>(store: &mut S, frame: &Frame) -> Result<Ste
     else {
         return leave(store);
     };
-    next_turn(store, frame, name, body)
+    next_turn(store, frame, shell, name, body)
 }
 
 /// Advances a `run` frame: starts the next name if it is the first, or if the previous text ended

@@ -7,6 +7,7 @@ mod asking;
 mod assigns;
 mod blocks;
 mod built_in;
+mod by_shell;
 mod computed;
 mod for_turn;
 mod frame_moves;

@@ -59,7 +59,7 @@ fn proceed<'d, S: Store>(
         }
         Next::Assigns(values) => begin_assign(alloc, store, frame, bounds, values),
         Next::Loops(words) => begin_for(alloc, store, fields, frame, bounds, words),
-        Next::Turns => move_for(store, frame),
+        Next::Turns => move_for(store, frame, bounds.shell()),
         Next::Names => move_run(store, frame),
     }
 }
@@ -77,10 +77,11 @@ pub(crate) fn step<'d, S: Store>(
         (place_move (limits_of devices.now bounds) (S.record_of store.old).present.frames) }
 {
     let status = store.get_status();
+    let shell = bounds.shell();
     let Some(top) = store.top() else {
         return Ok(Step::Ends(Halt::End(status)));
     };
-    match next_of(top, status) {
+    match next_of(top, shell, status) {
         Next::Leaves => return leave(store),
         Next::Goes(at) => return go_on(store, at),
         Next::Finishes(at, status) => return finish(store, at, status),
@@ -109,7 +110,7 @@ pub(crate) fn step<'d, S: Store>(
         _ => {}
     }
     let frame = top.copy()?;
-    let next = next_of(&frame, status);
+    let next = next_of(&frame, shell, status);
     proceed(alloc, store, fields, &frame, devices, bounds, next)
 }
 

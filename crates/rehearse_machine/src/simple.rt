@@ -21,6 +21,7 @@ ghost use Rattle.rehearse_machine.specs.CalledShown.{builtin_called};
 
 use crate::ask::Step;
 use crate::built_in::{asks_device, echo, exit_status, setenv};
+use crate::by_shell::status_of_nothing;
 use crate::computed::carry_out;
 use crate::frames::{behind, enter, finish, place};
 use crate::named::Named;
@@ -186,7 +187,8 @@ pub(crate) fn run_fields<'d, S: Store>(
         (view.script script.now.value) (S.record_of store.old).present.frames) }
 {
     let Some((name, words)) = fields.split_first() else {
-        return done(store, 0);
+        let status = status_of_nothing(bounds.shell(), store.get_status());
+        return done(store, status);
     };
     match named.builtin {
         Some(builtin) => run_builtin(alloc, store, script, devices, bounds, builtin, name, words),

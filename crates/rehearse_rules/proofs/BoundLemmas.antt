@@ -10,11 +10,12 @@ use Rattle.rehearse_rules.specs.Parameters.{parameters_in}
 use Rattle.commands.specs.Verdict.{verdict}
 use Rattle.device_list.specs.Called.{Called, BuiltIn, Device, NoCommand, called_by, sets_in}
 use Rattle.commands.specs.BuiltInCommands.{ChangesVariables, WritesText, RunsTexts, Tests, Exits, asks_device, exit_status}
-use Rattle.rehearse_rules.specs.Execution.{Limits, Answer, Normal, Exit, Ended, Dry, Ending, CutDevices, CutSteps, Syntax, Size, go_on, set_status, set_local, status_when, goes, holds, begin, take_outcome, with_outcome, outcome_when, told, told_again, tell_or_take, device, Request, test_effect, logged, set_environment, boot, text_end, run_text, run_all, command, simple, sized, assign, turns, for_each, exec_script, exec_list, exec_joined, exec_command, exec_arms, exec}
+use Rattle.rehearse_rules.specs.ByShell.{skips_rest, status_of_loop}
+use Rattle.rehearse_rules.specs.Execution.{Limits, Answer, Normal, Exit, Ended, Dry, Ending, CutDevices, CutSteps, Syntax, Size, go_on, set_status, set_local, status_when, goes, holds, begin, take_outcome, with_outcome, outcome_when, told, told_again, tell_or_take, device, Request, test_effect, logged, set_environment, boot, text_end, run_text, run_all, command, simple, sized, assign, turns, begin_turn, for_each, exec_script, exec_list, exec_joined, exec_command, exec_arms, exec}
 use Rattle.rehearse_rules.specs.Runs.{Task, run_on, state_of, steps}
 use Rattle.hushlang.proofs.ProperLemmas.{trees_are_proper}
 use Rattle.rehearse_rules.proofs.GrowingSteps.{Grew, Grew-block}
-use Rattle.rehearse_rules.proofs.TakenOutcomes.{Track, KeepsAll, Keeps-text, Keeps-script, Keeps-list, Keeps-one, Keeps-exec, Keeps-ended}
+use Rattle.rehearse_rules.proofs.TakenOutcomes.{skipped, Track, KeepsAll, Keeps-text, Keeps-script, Keeps-list, Keeps-one, Keeps-exec, Keeps-ended}
 
 -- ---- no run goes past a bound
 
@@ -131,22 +132,22 @@ module _ (limits : Limits) where
   -- over the tree, with n steps left
   module _ (n : ℕ) (text : Script → State → Answer) (kept : (a : Script) → KeepsAll limits (text a)) (ends : (a : Script) → IsProper a → (t : State) → IsWithin t → limits.step_bound < n + t.steps → Ends (text a t)) where
     -- each turn begins a step, so there are as many turns as steps
-    turn-ends : (until : Bool) (b again : State → Answer) (last : ℕ) (s : State) (a : Answer) → KeepsAll limits b → EndsAll n b → Track limits.device_bound s a → Grew s.steps a → Ends a → limits.step_bound ≤ n + s.steps → ((u : State) → IsWithin u → s.steps < u.steps → Ends (again u)) → Ends (go_on a (λ t. elim (holds until t.memory.status) [ true ↦ go_on (b t) again | false ↦ Normal (set_status last t) ]))
+    turn-ends : (until : Bool) (b again : State → Answer) (last : ℕ) (s : State) (a : Answer) → KeepsAll limits b → EndsAll n b → Track limits.device_bound s a → Grew s.steps a → Ends a → limits.step_bound ≤ n + s.steps → ((u : State) → IsWithin u → s.steps < u.steps → Ends (again u)) → Ends (go_on a (λ t. elim (holds until t.memory.status) [ true ↦ go_on (b t) again | false ↦ Normal (set_status (status_of_loop limits.shell last t.memory.status) t) ]))
     turn-ends until b again last s (Normal t) k e c g h r j =
-        Ends-if (holds until t.memory.status) (go_on (b t) again) (Normal (set_status last t))
+        Ends-if (holds until t.memory.status) (go_on (b t) again) (Normal (set_status (status_of_loop limits.shell last t.memory.status) t))
         (λ x. Ends-go_on t (b t) again (k t).0 (e t (h, omega arith)) (λ u w l. j u w (omega arith)))
         (λ x. h)
     turn-ends until b again last s (Exit t) k e c g h r j = h
     turn-ends until b again last s (Ended ending t) k e c g h r j = h
     turn-ends until b again last s (Dry t) k e c g h r j = h
 
-    turns-end : (k : ℕ) (until : Bool) (c b : State → Answer) → KeepsAll limits c → KeepsAll limits b → EndsAll n c → EndsAll n b → ((s : State) → Grew s.steps (c s)) → (last : ℕ) (s : State) → IsWithin s → limits.step_bound ≤ n + s.steps → limits.step_bound ≤ k + s.steps → Ends (turns k until c b last s)
+    turns-end : (k : ℕ) (until : Bool) (c b : State → Answer) → KeepsAll limits c → KeepsAll limits b → EndsAll n c → EndsAll n b → ((s : State) → Grew s.steps (c s)) → (last : ℕ) (s : State) → IsWithin s → limits.step_bound ≤ n + s.steps → limits.step_bound ≤ k + s.steps → Ends (turns limits.shell k until c b last s)
     turns-end zero until c b x y e f g last s h r q = (h, let a = h.0 in omega arith)
-    turns-end (suc k) until c b x y e f g last s h r q = turn-ends until b (λ u. turns k until c b u.memory.status u) last s (c s) y f (x s).0 (g s) (e s (h, r)) r (λ u w l. turns-end k until c b x y e f g u.memory.status u w (omega arith) (omega arith))
+    turns-end (suc k) until c b x y e f g last s h r q = turn-ends until b (λ u. turns limits.shell k until c b u.memory.status u) last s (c s) y f (x s).0 (g s) (e s (h, r)) r (λ u w l. turns-end k until c b x y e f g u.memory.status u w (omega arith) (omega arith))
 
-    for-ends : (name : Text) (b : State → Answer) → KeepsAll limits b → EndsAll n b → (last : ℕ) (fs : List Text) (s : State) → IsWithin s → limits.step_bound ≤ n + s.steps → Ends (for_each name b last fs s)
+    for-ends : (name : Text) (b : State → Answer) → KeepsAll limits b → EndsAll n b → (last : ℕ) (fs : List Text) (s : State) → IsWithin s → limits.step_bound ≤ n + s.steps → Ends (for_each limits.shell name b last fs s)
     for-ends name b k e last [] s h r = h
-    for-ends name b k e last (f ∷ fs) s h r = Ends-go_on (set_local name f s) (b (set_local name f s)) (λ t. for_each name b t.memory.status fs t) (k (set_local name f s)).0 (e (set_local name f s) (h, r)) (λ t w l. for-ends name b k e t.memory.status fs t w (omega arith))
+    for-ends name b k e last (f ∷ fs) s h r = Ends-go_on (begin_turn limits.shell name f s) (b (begin_turn limits.shell name f s)) (λ t. for_each limits.shell name b t.memory.status fs t) (k (begin_turn limits.shell name f s)).0 (e (begin_turn limits.shell name f s) (h, r)) (λ t w l. for-ends name b k e t.memory.status fs t w (omega arith))
 
     mutual
       script-ends : (a : Script) → IsProper a → EndsAll n (exec_script limits n text a)
@@ -158,14 +159,14 @@ module _ (limits : Limits) where
 
       joined-ends : (a : Joined) → IsProperJoined a → EndsAll n (exec_joined limits n text a)
       joined-ends tree.Alone p s r = r.0
-      joined-ends (tree.Joins op c rest) p s r = Ends-if (goes op s.memory.status) (go_on (exec_command limits n text c s) (exec_joined limits n text rest)) (exec_joined limits n text rest s) (λ x. Ends-go_on s (exec_command limits n text c s) (exec_joined limits n text rest) (Keeps-one limits n text kept c s).0 (one-ends c p.0 s r) (λ t w e. joined-ends rest p.1 t (w, let b = r.1 in omega arith))) (λ x. joined-ends rest p.1 s r)
+      joined-ends (tree.Joins op c rest) p s r = Ends-if (goes op s.memory.status) (go_on (exec_command limits n text c s) (exec_joined limits n text rest)) (skipped limits (exec_joined limits n text rest) s) (λ x. Ends-go_on s (exec_command limits n text c s) (exec_joined limits n text rest) (Keeps-one limits n text kept c s).0 (one-ends c p.0 s r) (λ t w e. joined-ends rest p.1 t (w, let b = r.1 in omega arith))) (λ x. Ends-if (skips_rest limits.shell) (Normal s) (exec_joined limits n text rest s) (λ y. r.0) (λ y. joined-ends rest p.1 s r))
 
       one-ends : (a : Command) → IsProperCommand a → EndsAll n (exec_command limits n text a)
       one-ends (tree.Simple words) p s r = Ends-begin n (λ t. sized (fields (parameters_in t.memory) words) (simple limits text) t) (λ t h q. Ends-sized (fields (parameters_in t.memory) words) (simple limits text) t h (simple-ends n text kept ends (fields (parameters_in t.memory) words) t h q)) s r
       one-ends (tree.Assign pairs) p s r = Ends-begin n (assign pairs) (λ t h q. Ends-assign pairs t h) s r
       one-ends (tree.If arms) p s r = arm-ends arms p s r
       one-ends (tree.Loop until c b) p s r = turns-end n until (exec_script limits n text c) (exec_script limits n text b) (Keeps-script limits n text kept c) (Keeps-script limits n text kept b) (block-ends c p.0) (block-ends b p.1) (Grew-block limits n text kept c p.0) 0 s r.0 r.1 r.1
-      one-ends (tree.For name words b) p s r = Ends-begin n (λ t. sized (fields (parameters_in t.memory) words) (for_each name (exec_script limits n text b) 0) t) (λ t h q. Ends-sized (fields (parameters_in t.memory) words) (for_each name (exec_script limits n text b) 0) t h (for-ends name (exec_script limits n text b) (Keeps-script limits n text kept b) (block-ends b p) 0 (fields (parameters_in t.memory) words) t h (omega arith))) s r
+      one-ends (tree.For name words b) p s r = Ends-begin n (λ t. sized (fields (parameters_in t.memory) words) (for_each limits.shell name (exec_script limits n text b) 0) t) (λ t h q. Ends-sized (fields (parameters_in t.memory) words) (for_each limits.shell name (exec_script limits n text b) 0) t h (for-ends name (exec_script limits n text b) (Keeps-script limits n text kept b) (block-ends b p) 0 (fields (parameters_in t.memory) words) t h (omega arith))) s r
 
       arm-ends : (a : Arms) → HasArm a → EndsAll n (exec_arms limits n text a)
       arm-ends tree.NoElse p s r = absurd p

@@ -6,6 +6,7 @@ use Rattle.rehearse_terms.specs.Outcomes.{OutcomeWord, WordKind, Run, Short, Lon
 use Rattle.hushlang.specs.Trees.{tree_of}
 use Rattle.rehearse_terms.specs.State.{Text, Variables}
 use Rattle.device_list.specs.DeviceList.{Devices, only}
+use Rattle.rehearse_terms.specs.declared.shell.Shell.TheVariants.{Profile}
 use Rattle.rehearse_rules.specs.Execution.{Limits, Ending, End}
 use Rattle.device_list.specs.DeviceLaws.{quiet}
 use Rattle.rehearse_rules.specs.Runs.{Task, run_on, state_of, ending_of, kind, runs, IsListed, rest, work}
@@ -17,7 +18,7 @@ abbrev pub only_load : Devices
 only_load = only ((codes "load", quiet) ∷ [])
 
 abbrev pub limits : Devices → ℕ → ℕ → Limits
-limits devices device_bound step_bound = record { devices = devices; device_bound = device_bound; step_bound = step_bound }
+limits devices device_bound step_bound = record { devices = devices; device_bound = device_bound; step_bound = step_bound; shell = Profile }
 
 -- only `load` is listed, and both bounds are the usual ones
 abbrev pub usual : Limits

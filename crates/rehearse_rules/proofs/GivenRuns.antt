@@ -16,6 +16,8 @@ use Rattle.device_list.specs.Called.{Called, BuiltIn, listed_by, other_called, c
 use Rattle.commands.specs.BuiltInCommands.{Deed, ChangesVariables, WritesText, RunsTexts, Tests, Exits, deed_of, carried, asks_device}
 use Rattle.commands.specs.Verdict.{verdict}
 use Rattle.device_list.specs.DeviceList.{Devices, computed_by}
+use Rattle.rehearse_rules.specs.ByShell.{skips_rest, status_of_nothing, status_of_no_block}
+use Rattle.rehearse_terms.specs.declared.shell.Shell.TheVariants.{Profile}
 use Rattle.rehearse_rules.specs.Execution.{Limits, Answer, Normal, Ended, CutDevices, CutSteps, Request, tell_or_take, device, go_on, set_status, status_when, goes, begin, command, simple, sized, turns, for_each, text_end, run_text, run_all, exec_script, exec_list, exec_joined, exec_command, exec_arms, exec}
 use Rattle.rehearse_rules.specs.GivenExecution.{Others, asked_anew, given_builtin, given_simple, given_script, given_list, given_joined, given_command, given_arms, given_exec, given_run_on}
 
@@ -98,7 +100,7 @@ asks_anew bounds request s e = ap (λ (b : Bool). let a : Answer = elim (nat_lt 
   | false ↦ Ended CutDevices s
 ] in a) e
 
-module _ (bounds : Limits) (devices : Devices) (test : devices.test_stays ≡ false) (others : Others) (given : AreGiven bounds devices others) where
+module _ (bounds : Limits) (own : bounds.shell ≡ Profile) (devices : Devices) (test : devices.test_stays ≡ false) (others : Others) (given : AreGiven bounds devices others) where
   module _ (f g : Script → Does) (same : f ≡ g) where
     test-same : (name : Text) (words : List Text) (s : State) → command (limits bounds devices) f (BuiltIn Tests) name words s ≡ given_builtin bounds g Tests name words s
     test-same name words s = ap (λ (b : Bool). let a : Answer = elim (asks_device words) [
@@ -115,7 +117,7 @@ module _ (bounds : Limits) (devices : Devices) (test : devices.test_stays ≡ fa
     builtin-same Exits name words s = refl
 
     simple-same : (fs : List Text) (s : State) → simple (limits bounds devices) f fs s ≡ given_simple bounds others g fs s
-    simple-same [] s = refl
+    simple-same [] s = λ i. Normal (set_status (status_of_nothing (own i) s.memory.status) s)
     simple-same (name ∷ words) s = ap (λ (c : Called). command (limits bounds devices) f c name words s) (called_apart devices name words) ∙ by (builtin_of name)
       where
         by : (b : Option Builtin) → ◌≡◌ {A = Answer} (command (limits bounds devices) f (elim b [ Some builtin ↦ BuiltIn (deed_of builtin) | None ↦ other_called devices name words ]) name words s)
@@ -138,18 +140,18 @@ module _ (bounds : Limits) (devices : Devices) (test : devices.test_stays ≡ fa
       joined-same tree.Alone = refl
       joined-same (tree.Joins op next rest) = λ i s. elim (goes op s.memory.status) [
         | true ↦ go_on (one-same next i s) (joined-same rest i)
-        | false ↦ joined-same rest i s
+        | false ↦ elim (skips_rest (own i)) [ true ↦ Normal s | false ↦ joined-same rest i s ]
       ]
 
       one-same : (a : Command) → exec_command (limits bounds devices) left f a ≡ given_command bounds others left g a
       one-same (tree.Simple words) = λ i s. begin (limits bounds devices) (λ t. sized (fields (parameters_in t.memory) words) (λ fs u. simple-same f g same fs u i) t) s
       one-same (tree.Assign values) = refl
       one-same (tree.If arms) = arms-same arms
-      one-same (tree.Loop until cond body) = λ i s. turns left until (script-same cond i) (script-same body i) 0 s
-      one-same (tree.For name words body) = λ i s. begin (limits bounds devices) (λ t. sized (fields (parameters_in t.memory) words) (for_each name (script-same body i) 0) t) s
+      one-same (tree.Loop until cond body) = λ i s. turns (own i) left until (script-same cond i) (script-same body i) 0 s
+      one-same (tree.For name words body) = λ i s. begin (limits bounds devices) (λ t. sized (fields (parameters_in t.memory) words) (for_each (own i) name (script-same body i) 0) t) s
 
       arms-same : (a : Arms) → exec_arms (limits bounds devices) left f a ≡ given_arms bounds others left g a
-      arms-same tree.NoElse = refl
+      arms-same tree.NoElse = λ i s. Normal (set_status (status_of_no_block (own i) s.memory.status) s)
       arms-same (tree.Else body) = script-same body
       arms-same (tree.Arm cond body more) = λ i s. go_on (script-same cond i s) (λ t. elim (nat_eq t.memory.status 0) [
         | true ↦ script-same body i t

@@ -41,9 +41,9 @@ module _ (limits : Limits) (left : ℕ) (text : Script → State → Answer) (ke
   Grew-begin true s f k = Grew-track limits.device_bound s.steps (record s { steps = suc s.steps }) (f (record s { steps = suc s.steps })) (omega arith) (k (record s { steps = suc s.steps })).0
   Grew-begin false s f k = tt
 
-  Grew-turns : (k : ℕ) (until : Bool) (c b : State → Answer) → KeepsAll limits c → KeepsAll limits b → ((s : State) → Grew s.steps (c s)) → (last : ℕ) (s : State) → Grew s.steps (turns k until c b last s)
+  Grew-turns : (k : ℕ) (until : Bool) (c b : State → Answer) → KeepsAll limits c → KeepsAll limits b → ((s : State) → Grew s.steps (c s)) → (last : ℕ) (s : State) → Grew s.steps (turns limits.shell k until c b last s)
   Grew-turns zero until c b h j g last s = tt
-  Grew-turns (suc k) until c b h j g last s = Grew-go_on limits.device_bound s.steps (c s) (after_condition limits until b (λ u. turns k until c b u.memory.status u) last) (g s) (Keeps-after_condition limits until b (λ u. turns k until c b u.memory.status u) j (λ u. Keeps-turns limits k until c b h j u.memory.status u) last)
+  Grew-turns (suc k) until c b h j g last s = Grew-go_on limits.device_bound s.steps (c s) (after_condition limits until b (λ u. turns limits.shell k until c b u.memory.status u) last) (g s) (Keeps-after_condition limits until b (λ u. turns limits.shell k until c b u.memory.status u) j (λ u. Keeps-turns limits k until c b h j u.memory.status u) last)
 
   mutual
     pub Grew-command : (a : Command) → IsProperCommand a → (s : State) → Grew s.steps (exec_command limits left text a s)
@@ -51,7 +51,7 @@ module _ (limits : Limits) (left : ℕ) (text : Script → State → Answer) (ke
     Grew-command (tree.Assign pairs) p s = Grew-begin (nat_lt s.steps limits.step_bound) s (assign pairs) (Keeps-assign limits pairs)
     Grew-command (tree.If arms) p s = Grew-if arms p s
     Grew-command (tree.Loop until c b) p s = Grew-turns left until (exec_script limits left text c) (exec_script limits left text b) (Keeps-script limits left text kept c) (Keeps-script limits left text kept b) (Grew-block c p.0) 0 s
-    Grew-command (tree.For name words b) p s = Grew-begin (nat_lt s.steps limits.step_bound) s (λ t. sized (fields (parameters_in t.memory) words) (for_each name (exec_script limits left text b) 0) t) (λ t. Keeps-sized limits (fields (parameters_in t.memory) words) (for_each name (exec_script limits left text b) 0) (λ fs. Keeps-for limits name (exec_script limits left text b) (Keeps-script limits left text kept b) 0 fs) t)
+    Grew-command (tree.For name words b) p s = Grew-begin (nat_lt s.steps limits.step_bound) s (λ t. sized (fields (parameters_in t.memory) words) (for_each limits.shell name (exec_script limits left text b) 0) t) (λ t. Keeps-sized limits (fields (parameters_in t.memory) words) (for_each limits.shell name (exec_script limits left text b) 0) (λ fs. Keeps-for limits name (exec_script limits left text b) (Keeps-script limits left text kept b) 0 fs) t)
 
     pub Grew-block : (a : Script) → HoldsCommand a → (s : State) → Grew s.steps (exec_script limits left text a s)
     Grew-block tree.Empty p s = absurd p

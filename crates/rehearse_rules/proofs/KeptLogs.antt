@@ -8,7 +8,9 @@ use Rattle.commands.specs.Computed.{Computed}
 use Rattle.device_list.specs.Called.{Called, BuiltIn, Device, NoCommand, called_by}
 use Rattle.commands.specs.BuiltInCommands.{ChangesVariables, WritesText, RunsTexts, Tests, Exits, carried, deed_of, asks_device, exit_status}
 use Rattle.device_list.specs.DeviceList.{Effect, computed_by, effect_of}
-use Rattle.rehearse_rules.specs.Execution.{Limits, Answer, Normal, Exit, Ended, Dry, CutSteps, Syntax, Size, Request, go_on, set_status, set_local, status_when, goes, holds, begin, device, test_effect, text_end, run_text, run_all, command, simple, sized, assign, turns, for_each, exec_script, exec_list, exec_joined, exec_command, exec_arms, exec}
+use Rattle.rehearse_rules.proofs.TakenOutcomes.{skipped}
+use Rattle.rehearse_rules.specs.ByShell.{skips_rest, status_of_loop}
+use Rattle.rehearse_rules.specs.Execution.{Limits, Answer, Normal, Exit, Ended, Dry, CutSteps, Syntax, Size, Request, go_on, set_status, set_local, status_when, goes, holds, begin, device, test_effect, text_end, run_text, run_all, command, simple, sized, assign, turns, begin_turn, for_each, exec_script, exec_list, exec_joined, exec_command, exec_arms, exec}
 use Rattle.rehearse_rules.specs.Runs.{state_of}
 use Rattle.rehearse_terms.specs.State.{Text, get, LoggedCommand, State}
 use Rattle.rehearse_rules.specs.Parameters.{parameters_in}
@@ -110,16 +112,16 @@ module _ (P : List LoggedCommand → Type 0) where
 
     -- ---- the tree
 
-    keeps-turns : (left : ℕ) (until : Bool) (c b : State → Answer) → KeepsLog c → KeepsLog b → (last : ℕ) → KeepsLog (turns left until c b last)
+    keeps-turns : (left : ℕ) (until : Bool) (c b : State → Answer) → KeepsLog c → KeepsLog b → (last : ℕ) → KeepsLog (turns limits.shell left until c b last)
     keeps-turns zero until c b h k last s j = j
     keeps-turns (suc left) until c b h k last s j =
-        keeps-go_on (c s) (λ t. elim (holds until t.memory.status) [ true ↦ go_on (b t) (λ u. turns left until c b u.memory.status u) | false ↦ Normal (set_status last t) ]) (h s j)
-        (λ t i. keeps-if (holds until t.memory.status) (go_on (b t) (λ u. turns left until c b u.memory.status u)) (Normal (set_status last t))
-        (keeps-go_on (b t) (λ u. turns left until c b u.memory.status u) (k t i) (λ u. keeps-turns left until c b h k u.memory.status u)) i)
+        keeps-go_on (c s) (λ t. elim (holds until t.memory.status) [ true ↦ go_on (b t) (λ u. turns limits.shell left until c b u.memory.status u) | false ↦ Normal (set_status (status_of_loop limits.shell last t.memory.status) t) ]) (h s j)
+        (λ t i. keeps-if (holds until t.memory.status) (go_on (b t) (λ u. turns limits.shell left until c b u.memory.status u)) (Normal (set_status (status_of_loop limits.shell last t.memory.status) t))
+        (keeps-go_on (b t) (λ u. turns limits.shell left until c b u.memory.status u) (k t i) (λ u. keeps-turns left until c b h k u.memory.status u)) i)
 
-    keeps-for : (name : Text) (b : State → Answer) → KeepsLog b → (last : ℕ) (fs : List Text) → KeepsLog (for_each name b last fs)
+    keeps-for : (name : Text) (b : State → Answer) → KeepsLog b → (last : ℕ) (fs : List Text) → KeepsLog (for_each limits.shell name b last fs)
     keeps-for name b k last [] s h = h
-    keeps-for name b k last (f ∷ fs) s h = keeps-go_on (b (set_local name f s)) (λ t. for_each name b t.memory.status fs t) (k (set_local name f s) h) (λ t. keeps-for name b k t.memory.status fs t)
+    keeps-for name b k last (f ∷ fs) s h = keeps-go_on (b (begin_turn limits.shell name f s)) (λ t. for_each limits.shell name b t.memory.status fs t) (k (begin_turn limits.shell name f s) h) (λ t. keeps-for name b k t.memory.status fs t)
 
     module _ (left : ℕ) (text : Script → State → Answer) (keeps : (a : Script) → KeepsLog (text a)) where
       mutual
@@ -132,16 +134,17 @@ module _ (P : List LoggedCommand → Type 0) where
 
         keeps-joined : (a : Joined) → KeepsLog (exec_joined limits left text a)
         keeps-joined tree.Alone s h = h
-        keeps-joined (tree.Joins op c rest) s h = keeps-if (goes op s.memory.status) (go_on (exec_command limits left text c s) (exec_joined limits left text rest)) (exec_joined limits left text rest s)
-            (keeps-go_on (exec_command limits left text c s) (exec_joined limits left text rest) (keeps-one c s h) (keeps-joined rest)) (keeps-joined rest s h)
+        keeps-joined (tree.Joins op c rest) s h = keeps-if (goes op s.memory.status) (go_on (exec_command limits left text c s) (exec_joined limits left text rest)) (skipped limits (exec_joined limits left text rest) s)
+            (keeps-go_on (exec_command limits left text c s) (exec_joined limits left text rest) (keeps-one c s h) (keeps-joined rest))
+            (keeps-if (skips_rest limits.shell) (Normal s) (exec_joined limits left text rest s) h (keeps-joined rest s h))
 
         keeps-one : (a : Command) → KeepsLog (exec_command limits left text a)
         keeps-one (tree.Simple words) s h = keeps-begin (λ t. sized (fields (parameters_in t.memory) words) (simple limits text) t) (λ t. keeps-sized (fields (parameters_in t.memory) words) (simple limits text) (keeps-simple text keeps) t) s h
         keeps-one (tree.Assign pairs) s h = keeps-begin (assign pairs) (keeps-assign pairs) s h
         keeps-one (tree.If arms) s h = keeps-arms arms s h
         keeps-one (tree.Loop until c b) s h = keeps-turns left until (exec_script limits left text c) (exec_script limits left text b) (keeps-script c) (keeps-script b) 0 s h
-        keeps-one (tree.For name words b) s h = keeps-begin (λ t. sized (fields (parameters_in t.memory) words) (for_each name (exec_script limits left text b) 0) t)
-            (λ t. keeps-sized (fields (parameters_in t.memory) words) (for_each name (exec_script limits left text b) 0) (λ fs. keeps-for name (exec_script limits left text b) (keeps-script b) 0 fs) t) s h
+        keeps-one (tree.For name words b) s h = keeps-begin (λ t. sized (fields (parameters_in t.memory) words) (for_each limits.shell name (exec_script limits left text b) 0) t)
+            (λ t. keeps-sized (fields (parameters_in t.memory) words) (for_each limits.shell name (exec_script limits left text b) 0) (λ fs. keeps-for name (exec_script limits left text b) (keeps-script b) 0 fs) t) s h
 
         keeps-arms : (a : Arms) → KeepsLog (exec_arms limits left text a)
         keeps-arms tree.NoElse s h = h

@@ -63,7 +63,7 @@ module _ (task : PlainTask) where
       ∙ other-same f (list_any (bytes_eq name) task.names) name words s
 
   run-plain : (w : OutcomeWord) → run_on (task_over (quiet_names task.names) task) w ≡ plain_run_on task w
-  run-plain w = run-same (bounds_alone task) (quiet_names task.names) refl (plain_others task) (given_by_list (bounds_alone task) (quiet_names task.names) (plain_others task) refl others-same) task.environment task.name task.text w
+  run-plain w = run-same (bounds_alone task) refl (quiet_names task.names) refl (plain_others task) (given_by_list (bounds_alone task) (quiet_names task.names) (plain_others task) refl others-same) task.environment task.name task.text w
 
 -- the commands of a list in the plain form
 devices-quiet : (text : Text) (devices : Devices) (names : List Text) → plain_names text ≡ Ok names → listed text ≡ Ok devices → quiet_names names ≡ devices

@@ -12,7 +12,8 @@ use Rattle.hushlang.specs.Trees.{tree_of}
 use Rattle.commands.specs.Verdict.{verdict}
 use Rattle.device_list.specs.Called.{Called, BuiltIn, Device, NoCommand, called_by, sets_in}
 use Rattle.commands.specs.BuiltInCommands.{ChangesVariables, WritesText, RunsTexts, Tests, Exits, asks_device, exit_status, variables_changed, text_written}
-use Rattle.rehearse_rules.specs.Execution.{Limits, Answer, Normal, Exit, Ended, Dry, Ending, CutDevices, CutSteps, Unknown, Syntax, Size, go_on, remember, set_status, set_local, status_when, goes, holds, begin, take_outcome, with_outcome, outcome_when, told, told_again, tell_or_take, device, Request, test_effect, logged, set_environment, boot, text_end, run_text, run_all, command, simple, sized, assign, turns, for_each, exec_script, exec_list, exec_joined, exec_command, exec_arms, exec, succeeds}
+use Rattle.rehearse_rules.specs.ByShell.{skips_rest, status_of_nothing, status_of_no_block, status_of_loop}
+use Rattle.rehearse_rules.specs.Execution.{Limits, Answer, Normal, Exit, Ended, Dry, Ending, CutDevices, CutSteps, Unknown, Syntax, Size, go_on, remember, set_status, set_local, status_when, goes, holds, begin, take_outcome, with_outcome, outcome_when, told, told_again, tell_or_take, device, Request, test_effect, logged, set_environment, boot, text_end, run_text, run_all, command, simple, sized, assign, turns, begin_turn, for_each, exec_script, exec_list, exec_joined, exec_command, exec_arms, exec, succeeds}
 use Rattle.rehearse_rules.specs.Runs.{state_of}
 
 -- the state with these outcomes after its own
@@ -290,31 +291,38 @@ module _ (limits : Limits) where
     Keeps-command NoCommand name ws s = Keeps-ended limits.device_bound s (Unknown name)
 
     pub Keeps-simple : (fs : List Text) → KeepsAll (simple limits script fs)
-    Keeps-simple [] s = Keeps-normal limits.device_bound s (λ m. record m { status = 0 })
+    Keeps-simple [] s = Keeps-normal limits.device_bound s (λ m. record m { status = status_of_nothing limits.shell m.status })
     Keeps-simple (name ∷ ws) s = Keeps-command (called_by limits.devices name ws) name ws s
 
   -- what a turn of a loop does after its condition
   abbrev pub after_condition : Bool → (State → Answer) → (State → Answer) → ℕ → State → Answer
-  after_condition until b again last t = elim (holds until t.memory.status) [ true ↦ go_on (b t) again | false ↦ Normal (set_status last t) ]
+  after_condition until b again last t = elim (holds until t.memory.status) [ true ↦ go_on (b t) again | false ↦ Normal (set_status (status_of_loop limits.shell last t.memory.status) t) ]
 
   pub Keeps-after_condition : (until : Bool) (b again : State → Answer) → KeepsAll b → KeepsAll again → (last : ℕ) → KeepsAll (after_condition until b again last)
   Keeps-after_condition until b again k h last t =
       let bound : ℕ = limits.device_bound in
-      Keeps-if bound t (holds until t.memory.status) (λ v. go_on (b v) again) (λ v. Normal (set_status last v)) (Keeps-go_on bound t b again (k t) h) (Keeps-normal bound t (λ m. record m { status = last }))
+      Keeps-if bound t (holds until t.memory.status) (λ v. go_on (b v) again) (λ v. Normal (set_status (status_of_loop limits.shell last v.memory.status) v)) (Keeps-go_on bound t b again (k t) h) (Keeps-normal bound t (λ m. record m { status = status_of_loop limits.shell last m.status }))
 
-  pub Keeps-turns : (left : ℕ) (until : Bool) (c b : State → Answer) → KeepsAll c → KeepsAll b → (last : ℕ) → KeepsAll (turns left until c b last)
+  pub Keeps-turns : (left : ℕ) (until : Bool) (c b : State → Answer) → KeepsAll c → KeepsAll b → (last : ℕ) → KeepsAll (turns limits.shell left until c b last)
   Keeps-turns zero until c b h k last s = Keeps-ended limits.device_bound s CutSteps
   Keeps-turns (suc left) until c b h k last s =
-      let again : KeepsAll (λ u. turns left until c b u.memory.status u) = λ u. Keeps-turns left until c b h k u.memory.status u in
-      Keeps-go_on limits.device_bound s c (after_condition until b (λ u. turns left until c b u.memory.status u) last) (h s) (Keeps-after_condition until b (λ u. turns left until c b u.memory.status u) k again last)
+      let again : KeepsAll (λ u. turns limits.shell left until c b u.memory.status u) = λ u. Keeps-turns left until c b h k u.memory.status u in
+      Keeps-go_on limits.device_bound s c (after_condition until b (λ u. turns limits.shell left until c b u.memory.status u) last) (h s) (Keeps-after_condition until b (λ u. turns limits.shell left until c b u.memory.status u) k again last)
 
-  pub Keeps-for : (name : Text) (b : State → Answer) → KeepsAll b → (last : ℕ) (fs : List Text) → KeepsAll (for_each name b last fs)
+  pub Keeps-for : (name : Text) (b : State → Answer) → KeepsAll b → (last : ℕ) (fs : List Text) → KeepsAll (for_each limits.shell name b last fs)
   Keeps-for name b k last [] s = Keeps-normal limits.device_bound s (λ m. record m { status = last })
   Keeps-for name b k last (f ∷ fs) s =
       let bound : ℕ = limits.device_bound in
-      Keeps-go_on bound s (λ t. b (set_local name f t)) (λ t. for_each name b t.memory.status fs t)
-      (Keeps-remember bound s (λ m. (set_local name f (record s { memory = m })).memory) b (k (set_local name f s)))
+      Keeps-go_on bound s (λ t. b (begin_turn limits.shell name f t)) (λ t. for_each limits.shell name b t.memory.status fs t)
+      (Keeps-remember bound s (λ m. (begin_turn limits.shell name f (record s { memory = m })).memory) b (k (begin_turn limits.shell name f s)))
       (λ t. Keeps-for name b k t.memory.status fs t)
+
+  -- what follows a command that is skipped
+  abbrev pub skipped : (State → Answer) → State → Answer
+  skipped rest t = elim (skips_rest limits.shell) [ true ↦ Normal t | false ↦ rest t ]
+
+  Keeps-skipped : (rest : State → Answer) (s : State) → Keeps limits.device_bound s rest → Keeps limits.device_bound s (skipped rest)
+  Keeps-skipped rest s h = Keeps-if limits.device_bound s (skips_rest limits.shell) Normal rest (Keeps-stays limits.device_bound s) h
 
   module _ (left : ℕ) (text : Script → State → Answer) (kept : (a : Script) → KeepsAll (text a)) where
     mutual
@@ -327,17 +335,17 @@ module _ (limits : Limits) where
 
       pub Keeps-joined : (a : Joined) → KeepsAll (exec_joined limits left text a)
       Keeps-joined tree.Alone s = Keeps-stays limits.device_bound s
-      Keeps-joined (tree.Joins op c rest) s = Keeps-if limits.device_bound s (goes op s.memory.status) (λ t. go_on (exec_command limits left text c t) (exec_joined limits left text rest)) (exec_joined limits left text rest) (Keeps-go_on limits.device_bound s (exec_command limits left text c) (exec_joined limits left text rest) (Keeps-one c s) (Keeps-joined rest)) (Keeps-joined rest s)
+      Keeps-joined (tree.Joins op c rest) s = Keeps-if limits.device_bound s (goes op s.memory.status) (λ t. go_on (exec_command limits left text c t) (exec_joined limits left text rest)) (skipped (exec_joined limits left text rest)) (Keeps-go_on limits.device_bound s (exec_command limits left text c) (exec_joined limits left text rest) (Keeps-one c s) (Keeps-joined rest)) (Keeps-skipped (exec_joined limits left text rest) s (Keeps-joined rest s))
 
       pub Keeps-one : (a : Command) → KeepsAll (exec_command limits left text a)
       Keeps-one (tree.Simple words) s = Keeps-begin (λ t. sized (fields (parameters_in t.memory) words) (simple limits text) t) (λ t. Keeps-sized (fields (parameters_in t.memory) words) (simple limits text) (Keeps-simple text kept) t) s
       Keeps-one (tree.Assign pairs) s = Keeps-begin (assign pairs) (Keeps-assign pairs) s
       Keeps-one (tree.If arms) s = Keeps-arms arms s
       Keeps-one (tree.Loop until c b) s = Keeps-turns left until (exec_script limits left text c) (exec_script limits left text b) (Keeps-script c) (Keeps-script b) 0 s
-      Keeps-one (tree.For name words b) s = Keeps-begin (λ t. sized (fields (parameters_in t.memory) words) (for_each name (exec_script limits left text b) 0) t) (λ t. Keeps-sized (fields (parameters_in t.memory) words) (for_each name (exec_script limits left text b) 0) (λ fs. Keeps-for name (exec_script limits left text b) (Keeps-script b) 0 fs) t) s
+      Keeps-one (tree.For name words b) s = Keeps-begin (λ t. sized (fields (parameters_in t.memory) words) (for_each limits.shell name (exec_script limits left text b) 0) t) (λ t. Keeps-sized (fields (parameters_in t.memory) words) (for_each limits.shell name (exec_script limits left text b) 0) (λ fs. Keeps-for name (exec_script limits left text b) (Keeps-script b) 0 fs) t) s
 
       pub Keeps-arms : (a : Arms) → KeepsAll (exec_arms limits left text a)
-      Keeps-arms tree.NoElse s = Keeps-normal limits.device_bound s (λ m. record m { status = 0 })
+      Keeps-arms tree.NoElse s = Keeps-normal limits.device_bound s (λ m. record m { status = status_of_no_block limits.shell m.status })
       Keeps-arms (tree.Else b) s = Keeps-script b s
       Keeps-arms (tree.Arm c b arms) s = Keeps-go_on limits.device_bound s (exec_script limits left text c) (λ t. elim (nat_eq t.memory.status 0) [ true ↦ exec_script limits left text b t | false ↦ exec_arms limits left text arms t ]) (Keeps-script c s) (λ t. Keeps-if limits.device_bound t (nat_eq t.memory.status 0) (exec_script limits left text b) (exec_arms limits left text arms) (Keeps-script b t) (Keeps-arms arms t))
 

@@ -4,6 +4,7 @@ use Rattle.rehearse_terms.specs.Outcomes.{OutcomeWord, Success, Failure}
 use Rattle.rehearse_terms.specs.State.{Text, Variables, LoggedCommand, State, start}
 use Rattle.device_list.specs.DeviceList.{Variable, Effect, only}
 use Rattle.device_list.specs.DeviceLaws.{quiet}
+use Rattle.rehearse_terms.specs.declared.shell.Shell.TheVariants.{Profile}
 use Rattle.rehearse_rules.specs.Execution.{Limits, Normal, Ended, Dry, Booted, CutDevices, Request, told, tell_or_take, device, test_effect}
 
 abbrev steady : Effect
@@ -92,7 +93,7 @@ failure_goes_on = refl
 -- ---- the bound counts what is told: one more in the log, or none
 
 abbrev bounded : ℕ → Limits
-bounded bound = record { devices = only []; device_bound = bound; step_bound = 9 }
+bounded bound = record { devices = only []; device_bound = bound; step_bound = 9; shell = Profile }
 
 told_within : device (bounded 2) (request steady) (at (entry true true false ∷ []) (Failure ∷ [])) ≡ Normal (then_at (entry true true false ∷ entry true true true ∷ []) (Failure ∷ []) 0 unchanged)
 told_within = refl

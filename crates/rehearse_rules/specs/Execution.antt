@@ -9,17 +9,20 @@ use Rattle.hushlang.specs.declared.tree.Op.TheVariants.{And, Or}
 use Rattle.rehearse_terms.specs.Outcomes.{Outcome, Success, Failure, OutcomeWord}
 use Rattle.hushlang.specs.Trees.{tree_of}
 use Rattle.rehearse_terms.specs.State.{Text, Variables, get, with_value, Memory, LoggedCommand, answer_in, State}
+use Rattle.rehearse_terms.specs.declared.shell.Shell.{Shell}
 use Rattle.rehearse_rules.specs.Parameters.{parameters_in}
+use Rattle.rehearse_rules.specs.ByShell.{skips_rest, status_of_nothing, status_of_no_block, status_of_loop, status_in_turn}
 use Rattle.device_list.specs.DeviceList.{Effect, Devices}
 use Rattle.commands.specs.Verdict.{verdict}
 use Rattle.device_list.specs.Called.{Called, BuiltIn, NoCommand, Device, called_by, sets_in}
 use Rattle.commands.specs.BuiltInCommands.{ChangesVariables, WritesText, RunsTexts, Tests, Exits, asks_device, exit_status, variables_changed, text_written}
 
--- the device list, how many device commands a run may ask, and how many steps it may begin
+-- the device list, how many device commands a run may ask, how many steps it may begin, and the shell
 pub record Limits : Type 0 where
   pub devices : Devices
   pub device_bound : ℕ
   pub step_bound : ℕ
+  pub shell : Shell
 
 -- how a run ends
 pub data Ending : Type 0 where
@@ -175,17 +178,22 @@ assign (pair ∷ pairs) s =
 
 -- the turns of a loop; `last` is the status of the last body. Each condition holds a command, so it begins a step.
 -- After as many turns as there were steps left, the step of the next turn is cut
-abbrev pub turns : (left : ℕ) → (until : Bool) → (cond body : State → Answer) → (last : ℕ) → State → Answer
-turns zero until cond body last s = Ended CutSteps s
-turns (suc left) until cond body last s = go_on (cond s) (λ t. elim (holds until t.memory.status) [
-  | true ↦ go_on (body t) (λ u. turns left until cond body u.memory.status u)
-  | false ↦ Normal (set_status last t)
+abbrev pub turns : Shell → (left : ℕ) → (until : Bool) → (cond body : State → Answer) → (last : ℕ) → State → Answer
+turns shell zero until cond body last s = Ended CutSteps s
+turns shell (suc left) until cond body last s = go_on (cond s) (λ t. elim (holds until t.memory.status) [
+  | true ↦ go_on (body t) (λ u. turns shell left until cond body u.memory.status u)
+  | false ↦ Normal (set_status (status_of_loop shell last t.memory.status) t)
 ])
 
--- the body once for each field; the variable has the field as its value
-abbrev pub for_each : (name : Text) → (body : State → Answer) → (last : ℕ) → List Text → State → Answer
-for_each name body last [] s = Normal (set_status last s)
-for_each name body last (f ∷ fs) s = go_on (body (set_local name f s)) (λ t. for_each name body t.memory.status fs t)
+-- the variable of a `for` has the field of a turn as its value
+abbrev pub begin_turn : Shell → (name value : Text) → State → State
+begin_turn shell name value s = set_status (status_in_turn shell s.memory.status) (set_local name value s)
+
+-- the body once for each field
+abbrev pub for_each : Shell → (name : Text) → (body : State → Answer) → (last : ℕ) → List Text → State → Answer
+for_each shell name body last [] s = Normal (set_status last s)
+for_each shell name body last (f ∷ fs) s =
+    go_on (body (begin_turn shell name f s)) (λ t. for_each shell name body t.memory.status fs t)
 
 -- ---- execution; `script` is what the tree of a text does to a state
 
@@ -244,9 +252,9 @@ module _ (limits : Limits) where
       device (record { name = name; words = words; effect = effect; again = false }) s
   command script NoCommand name words s = Ended (Unknown name) s
 
-  -- words that expand to no field do nothing, with status 0
+  -- words that expand to no field do nothing
   abbrev pub simple : (script : Script → State → Answer) → List Text → State → Answer
-  simple script [] s = Normal (set_status 0 s)
+  simple script [] s = Normal (set_status (status_of_nothing limits.shell s.memory.status) s)
   simple script (name ∷ words) s = command script (called_by limits.devices name words) name words s
 
   -- over the tree, with this many steps left; `text` is what the texts do that `run` starts
@@ -265,21 +273,22 @@ module _ (limits : Limits) where
       exec_joined (tree.Joins op next rest) s =
           elim (goes op s.memory.status) [
             | true ↦ go_on (exec_command next s) (exec_joined rest)
-            | false ↦ exec_joined rest s
+            | false ↦ elim (skips_rest limits.shell) [ true ↦ Normal s | false ↦ exec_joined rest s ]
           ]
 
       pub exec_command : Command → State → Answer
       exec_command (tree.Simple words) s = begin (λ t. sized (fields (parameters_in t.memory) words) (simple text) t) s
       exec_command (tree.Assign values) s = begin (assign values) s
       exec_command (tree.If arms) s = exec_arms arms s
-      exec_command (tree.Loop until cond body) s = turns left until (exec_script cond) (exec_script body) 0 s
+      exec_command (tree.Loop until cond body) s =
+          turns limits.shell left until (exec_script cond) (exec_script body) 0 s
       exec_command (tree.For name words body) s =
-          begin (λ t. sized (fields (parameters_in t.memory) words) (for_each name (exec_script body) 0) t) s
+          begin (λ t. sized (fields (parameters_in t.memory) words)
+          (for_each limits.shell name (exec_script body) 0) t) s
 
-      -- the block after the first condition that ends with status 0, else the `else` block; if no block is run, status
-      -- 0
+      -- the block after the first condition that ends with status 0, else the `else` block
       pub exec_arms : Arms → State → Answer
-      exec_arms tree.NoElse s = Normal (set_status 0 s)
+      exec_arms tree.NoElse s = Normal (set_status (status_of_no_block limits.shell s.memory.status) s)
       exec_arms (tree.Else body) s = exec_script body s
       exec_arms (tree.Arm cond body more) s = go_on (exec_script cond s) (λ t. elim (nat_eq t.memory.status 0) [
         | true ↦ exec_script body t

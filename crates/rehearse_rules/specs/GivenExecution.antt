@@ -6,6 +6,7 @@ use Rattle.hushlang.specs.Tree.{Script, AndOr, Joined, Command, Arms}
 use Rattle.hushlang.specs.Expansion.{fields}
 use Rattle.rehearse_terms.specs.Outcomes.{OutcomeWord}
 use Rattle.rehearse_terms.specs.State.{Text, Variables, State, start}
+use Rattle.rehearse_terms.specs.declared.shell.Shell.TheVariants.{Profile}
 use Rattle.rehearse_rules.specs.Parameters.{parameters_in}
 use Rattle.builtins.specs.Builtins.{builtin_of}
 use Rattle.commands.specs.Verdict.{verdict}
@@ -69,9 +70,11 @@ module _ (bounds : Limits) (others : Others) where
           begin bounds (λ t. sized (fields (parameters_in t.memory) words) (given_simple text) t) s
       given_command (tree.Assign values) s = begin bounds (assign values) s
       given_command (tree.If arms) s = given_arms arms s
-      given_command (tree.Loop until cond body) s = turns left until (given_script cond) (given_script body) 0 s
+      given_command (tree.Loop until cond body) s =
+          turns Profile left until (given_script cond) (given_script body) 0 s
       given_command (tree.For name words body) s =
-          begin bounds (λ t. sized (fields (parameters_in t.memory) words) (for_each name (given_script body) 0) t) s
+          begin bounds (λ t. sized (fields (parameters_in t.memory) words)
+          (for_each Profile name (given_script body) 0) t) s
 
       pub given_arms : Arms → State → Answer
       given_arms tree.NoElse s = Normal (set_status 0 s)

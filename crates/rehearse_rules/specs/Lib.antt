@@ -1,3 +1,4 @@
+pub mod ByShell
 pub mod Execution
 pub mod Runs
 pub mod Listing

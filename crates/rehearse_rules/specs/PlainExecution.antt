@@ -5,6 +5,7 @@ use Rattle.std.specs.List.{list_any}
 use Rattle.std.specs.Str.{bytes_eq}
 use Rattle.rehearse_terms.specs.Outcomes.{OutcomeWord, runs_within, after}
 use Rattle.rehearse_terms.specs.State.{Text, Variables, State}
+use Rattle.rehearse_terms.specs.declared.shell.Shell.TheVariants.{Profile}
 use Rattle.device_list.specs.DeviceList.{Devices, only, listed}
 use Rattle.device_list.specs.PlainList.{plain_names}
 use Rattle.rehearse_rules.specs.Execution.{Limits, Answer, Normal, Ended, Dry, CutDevices, Unknown, set_status, status_when, succeeds}
@@ -24,7 +25,7 @@ pub record PlainTask : Type 0 where
 -- the same over the commands of a device list
 abbrev pub task_over : Devices → PlainTask → Task
 task_over devices task = record {
-  limits = record { devices = devices; device_bound = task.device_bound; step_bound = task.step_bound };
+  limits = record { devices = devices; device_bound = task.device_bound; step_bound = task.step_bound; shell = Profile };
   environment = task.environment;
   name = task.name;
   text = task.text;

@@ -1,12 +1,18 @@
--- The bounds of a rehearsal (ours).
+-- The bounds of a rehearsal, and the shell by whose rules it runs (ours).
 use Rattle.std.specs.Prelude.{ℕ, nat_le, Bool, false, ◌&&◌, ◌||◌, Option, Some, None, if◌then◌else◌}
+use Rattle.rehearse_terms.specs.declared.shell.Shell.{Shell}
+use Rattle.rehearse_terms.specs.declared.shell.Shell.TheVariants.{Profile}
 
 -- how many device commands a run may ask, how many steps it may begin, and how many of its device commands may fail for
--- it to be listed, none for any number
+-- it to be listed, none for any number; and by the rules of which shell it runs
 pub record BoundsShown : Type 0 where
   pub devices : ℕ
   pub steps : ℕ
   pub failures : Option ℕ
+  pub shell : Shell
+
+abbrev pub in_shell : Shell → BoundsShown → BoundsShown
+in_shell shell bounds = record bounds { shell = shell }
 
 -- the most device commands that a listing may allow to a run
 abbrev pub most_devices : ℕ
@@ -39,9 +45,9 @@ are_run_bounds devices steps = nat_le devices most_run_devices && nat_le steps m
 
 abbrev pub run_bounds_of : ℕ → ℕ → Option BoundsShown
 run_bounds_of devices steps =
-    if are_run_bounds devices steps then Some (record { devices = devices; steps = steps; failures = None }) else None
+    if are_run_bounds devices steps then Some (record { devices = devices; steps = steps; failures = None; shell = Profile }) else None
 
 abbrev pub bounds_of : ℕ → ℕ → (failures : Option ℕ) → Option BoundsShown
 bounds_of devices steps failures =
     if are_bounds devices steps failures
-    then Some (record { devices = devices; steps = steps; failures = failures }) else None
+    then Some (record { devices = devices; steps = steps; failures = failures; shell = Profile }) else None

@@ -1,13 +1,11 @@
 -- What a run has at a moment: the state of the script (U-Boot documentation, doc/usage/cmdline and
 -- doc/usage/environment, on variables and `$?`), and the rest of its outcome word (ours).
-use Rattle.std.specs.Prelude.{ℕ, nat_eq, Bool, true, false, List, [], ◌∷◌, not, ◌||◌, ◌&&◌, Option, Some, None, filter, map}
+use Rattle.std.specs.Prelude.{ℕ, Bool, true, false, List, [], ◌∷◌, not, ◌&&◌, Option, Some, None, filter, map}
 use Rattle.std.specs.FinMap.{find, put}
 use Rattle.std.specs.Cmp.Lexicographic.{slice_cmp}
-use Rattle.std.specs.List.{list_any}
 use Rattle.std.specs.Map.{lookup}
 use Rattle.std.specs.Str.{bytes_eq}
 use Rattle.std.specs.Ordering.{nat_cmp, eq_by_cmp}
-use Rattle.text.specs.Bytes as ascii
 pub use Rattle.text.specs.Lines.{Text}
 use Rattle.rehearse_terms.specs.Outcomes.{OutcomeWord}
 

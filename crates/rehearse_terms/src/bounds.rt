@@ -3,6 +3,7 @@ ghost use Rattle.std.specs.Prelude.{◌≡◌};
 ghost use Rattle.rehearse_terms.specs.Bounds.{are_few};
 
 use crate::run_bounds::{RUN_DEVICES_MAX, RunBounds};
+use crate::shell::Shell;
 use std::marker::Model;
 
 /// The greatest device bound.
@@ -25,12 +26,13 @@ fn are_few(failures: Option<u32>) -> bool
 }
 
 /// How many device commands each run of a listing may ask, how many steps it may begin, and how many of its device
-/// commands may fail; without such a number, any number may.
+/// commands may fail; without such a number, any number may. And by the rules of which shell they run.
 #[derive(Clone, Copy, Debug)]
 pub struct Bounds {
     devices: u32,
     steps: u32,
     failures: Option<u32>,
+    shell: Shell,
 }
 
 impl Model for Bounds {
@@ -39,18 +41,18 @@ impl Model for Bounds {
 
     ghost Value = { BoundsShown };
 
-    ghost view = { λ b. record { devices = b.devices; steps = b.steps; failures = b.failures } };
+    ghost view = { λ b. record { devices = b.devices; steps = b.steps; failures = b.failures; shell = b.shell } };
 
     ghost invariant = { λ b. are_bounds b.devices b.steps b.failures ≡ true };
 
-    ghost inverse = { λ b. record { devices = b.devices; steps = b.steps; failures = b.failures } };
+    ghost inverse = { λ b. record { devices = b.devices; steps = b.steps; failures = b.failures; shell = b.shell } };
 }
 
 impl Bounds {
     ghost use Rattle.std.specs.Prelude.{true, None, Some};
-    ghost use Rattle.rehearse_terms.specs.Bounds.{bounds_of, are_bounds};
+    ghost use Rattle.rehearse_terms.specs.Bounds.{bounds_of, are_bounds, in_shell};
 
-    /// These bounds, with which any number of device commands may fail. None if there are more than 32 device
+    /// These bounds, in ubtool's own shell, with which any number of device commands may fail. None if there are more than 32 device
     /// commands or 1,000,000 steps. It takes no memory.
     pub fn new(devices: u32, steps: u32) -> Option<Self>
         ensures { result ≡ bounds_of devices steps None }
@@ -58,7 +60,7 @@ impl Bounds {
         Bounds::with_failures(devices, steps, None)
     }
 
-    /// These bounds. None if there are more than 1,000,000 steps, or more than 32 device commands: 1,000 if at most 3
+    /// These bounds, in ubtool's own shell. None if there are more than 1,000,000 steps, or more than 32 device commands: 1,000 if at most 3
     /// of them may fail. It takes no memory.
     pub fn with_failures(devices: u32, steps: u32, failures: Option<u32>) -> Option<Self>
         ensures { result ≡ bounds_of devices steps failures }
@@ -69,6 +71,7 @@ impl Bounds {
                 devices,
                 steps,
                 failures,
+                shell: Shell::Profile,
             })
         } else {
             None
@@ -98,10 +101,29 @@ impl Bounds {
         self.failures
     }
 
+    /// By the rules of which shell a run goes.
+    pub fn shell(&self) -> Shell
+        ensures { result ≡ self.now.shell }
+    {
+        self.shell
+    }
+
+    /// The same bounds, in a shell.
+    pub fn in_shell(self, shell: Shell) -> Self
+        ensures { result ≡ in_shell shell self }
+    {
+        Bounds {
+            devices: self.devices,
+            steps: self.steps,
+            failures: self.failures,
+            shell,
+        }
+    }
+
     /// The same, as the bounds of a run.
     pub fn of_run(self) -> RunBounds
         ensures { result ≡ self }
     {
-        RunBounds::of(self.devices, self.steps, self.failures)
+        RunBounds::of(self.devices, self.steps, self.failures, self.shell)
     }
 }

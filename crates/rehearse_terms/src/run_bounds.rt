@@ -2,18 +2,21 @@
 ghost use Rattle.std.specs.Prelude.{◌≡◌};
 
 use crate::bounds::STEPS_MAX;
+use crate::shell::Shell;
 use std::marker::Model;
 
 /// The greatest device bound of a run, if runs are not listed, or if few device commands may fail.
 pub const RUN_DEVICES_MAX: u32 = 1_000;
 
 /// How many device commands a run may ask, and how many steps it may begin. The `Bounds` of a listing are narrower. How
-/// many device commands may fail is kept of them for the listing, and changes nothing of a run.
+/// many device commands may fail is kept of them for the listing, and changes nothing of a run. The shell is the one by whose
+/// rules the run goes.
 #[derive(Clone, Copy, Debug)]
 pub struct RunBounds {
     devices: u32,
     steps: u32,
     failures: Option<u32>,
+    shell: Shell,
 }
 
 impl Model for RunBounds {
@@ -22,18 +25,18 @@ impl Model for RunBounds {
 
     ghost Value = { BoundsShown };
 
-    ghost view = { λ b. record { devices = b.devices; steps = b.steps; failures = b.failures } };
+    ghost view = { λ b. record { devices = b.devices; steps = b.steps; failures = b.failures; shell = b.shell } };
 
     ghost invariant = { λ b. are_run_bounds b.devices b.steps ≡ true };
 
-    ghost inverse = { λ b. record { devices = b.devices; steps = b.steps; failures = b.failures } };
+    ghost inverse = { λ b. record { devices = b.devices; steps = b.steps; failures = b.failures; shell = b.shell } };
 }
 
 impl RunBounds {
     ghost use Rattle.std.specs.Prelude.{true};
-    ghost use Rattle.rehearse_terms.specs.Bounds.{run_bounds_of, are_run_bounds};
+    ghost use Rattle.rehearse_terms.specs.Bounds.{run_bounds_of, are_run_bounds, in_shell};
 
-    /// These bounds, or `None` if they have more than 1,000 device commands or 1,000,000 steps.
+    /// These bounds, in ubtool's own shell, or `None` if they have more than 1,000 device commands or 1,000,000 steps.
     /// Takes no memory.
     pub fn new(devices: u32, steps: u32) -> Option<Self>
         ensures { result ≡ run_bounds_of devices steps }
@@ -43,6 +46,7 @@ impl RunBounds {
                 devices,
                 steps,
                 failures: None,
+                shell: Shell::Profile,
             })
         } else {
             None
@@ -50,14 +54,15 @@ impl RunBounds {
     }
 
     /// These bounds, which are not above the greatest ones.
-    pub(crate) fn of(devices: u32, steps: u32, failures: Option<u32>) -> Self
+    pub(crate) fn of(devices: u32, steps: u32, failures: Option<u32>, shell: Shell) -> Self
         requires { are_run_bounds devices steps ≡ true }
-        ensures { result ≡ record { devices = devices; steps = steps; failures = failures } }
+        ensures { result ≡ record { devices = devices; steps = steps; failures = failures; shell = shell } }
     {
         RunBounds {
             devices,
             steps,
             failures,
+            shell,
         }
     }
 
@@ -82,5 +87,24 @@ impl RunBounds {
         ensures { result ≡ self.now.failures }
     {
         self.failures
+    }
+
+    /// By the rules of which shell a run goes.
+    pub fn shell(&self) -> Shell
+        ensures { result ≡ self.now.shell }
+    {
+        self.shell
+    }
+
+    /// The same bounds, in a shell.
+    pub fn in_shell(self, shell: Shell) -> Self
+        ensures { result ≡ in_shell shell self }
+    {
+        RunBounds {
+            devices: self.devices,
+            steps: self.steps,
+            failures: self.failures,
+            shell,
+        }
     }
 }

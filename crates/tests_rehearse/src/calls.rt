@@ -140,7 +140,7 @@ pub(crate) fn endings<S: Store>(
     };
     let ask = EndingsAsk {
         name: &case.name,
-        bounds,
+        bounds: bounds.in_shell(case.bounds.shell()),
         states,
         flow,
     };

@@ -5,7 +5,7 @@ use crate::{language, lists, rehearsal, store};
 use bootstore_copies::Plain;
 use bootstore_state::Store;
 use bootstore_trail::Trail;
-use rehearse_terms::Bounds;
+use rehearse_terms::{Bounds, Shell};
 use std::alloc::Global;
 use tests_rows::{Rows, number, unescaped, words_of};
 
@@ -45,7 +45,7 @@ enum Subject {
 /// The first words of rows, by what they speak of. All others set something.
 const SUBJECTS: [(&str, Subject); 7] = [
     ("set", Subject::Variable),
-    ("bounds", Subject::Bounds),
+    ("bounds shell", Subject::Bounds),
     (
         "tokens script tree commands cuts fields sizes test memory",
         Subject::Text,
@@ -67,6 +67,16 @@ fn subject_of(word: &str) -> Subject {
         }
     }
     Subject::Setting
+}
+
+/// The shell of a name.
+fn shell_of(name: &str) -> anyhow::Result<Shell> {
+    match name {
+        "profile" => Ok(Shell::Profile),
+        "old-2023.01" => Ok(Shell::Old2023),
+        "old-2025.01" => Ok(Shell::Old2025),
+        _ => anyhow::bail!("no shell"),
+    }
 }
 
 /// The bounds of two numbers.
@@ -100,10 +110,14 @@ impl Case {
         Ok(String::new(self.alloc))
     }
 
-    /// Sets the bounds, and tells them as they were made.
-    fn bound(&mut self, says: &str) -> anyhow::Result<String> {
+    /// Sets the shell, or the bounds, which are then told as they were made.
+    fn bound(&mut self, word: &str, says: &str) -> anyhow::Result<String> {
+        if word == "shell" {
+            self.bounds = self.bounds.in_shell(shell_of(says)?);
+            return Ok(String::new(self.alloc));
+        }
         let (devices, steps) = says.split_once(' ').unwrap_or((says, ""));
-        let bounds = bounds_of(number(devices)?, number(steps)?)?;
+        let bounds = bounds_of(number(devices)?, number(steps)?)?.in_shell(self.bounds.shell());
         self.bounds = bounds;
         let (devices, steps) = (bounds.devices(), bounds.steps());
         Ok(format!(in self.alloc; "{devices} device commands, {steps} steps")?)
@@ -132,7 +146,7 @@ impl Rows for Case {
         match subject_of(word) {
             Subject::Setting => self.put(word, says),
             Subject::Variable => self.set(says),
-            Subject::Bounds => self.bound(says),
+            Subject::Bounds => self.bound(word, says),
             Subject::Text => language::told(self, word, says),
             Subject::List => lists::listed(self, word, says),
             Subject::Rehearsal => rehearsal::told(self, word, says),

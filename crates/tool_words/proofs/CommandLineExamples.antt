@@ -11,6 +11,7 @@ use Rattle.tool_words.specs.Answered.{IsAccepted}
 use Rattle.tool_words.specs.declared.called.CalledAs.{CalledAs}
 use Rattle.tool_words.specs.declared.called.CalledAs.TheVariants.{FwSetenv, Ubtool}
 use Rattle.tool_words.specs.Asked.{Asked, ending, header_needs_one, input_scripted, lock_needs_folder, lock_of, needs_name, page_with, printing, rehearsing, script_and_name, scripted, setting, too_many_devices, word_alone}
+use Rattle.rehearse_terms.specs.declared.shell.Shell.TheVariants.{Profile}
 use Rattle.rehearse_terms.specs.Asking.{Alone, Listed, whole_page}
 use Rattle.tool_words.specs.CommandLine.{ubtool}
 
@@ -39,7 +40,7 @@ rehearsal : AsksFor
     (codes "rehearse" ∷ codes "-d" ∷ codes "d.txt" ∷ codes "--limit" ∷ codes "1" ∷ codes "z" ∷ [])
     (rehearsing (codes "/etc/fw_env.config") (codes "d.txt") (record {
       variable = codes "bootcmd";
-      bounds = record { devices = 16; steps = 10000; failures = None };
+      bounds = record { devices = 16; steps = 10000; failures = None; shell = Profile };
       wanted = Listed None (page_with (Some 1));
       names = codes "z" ∷ [];
     }) Little)
@@ -185,7 +186,7 @@ bounded : AsksFor
     (codes "rehearse" ∷ codes "-d" ∷ codes "d" ∷ codes "--devices" ∷ codes "32" ∷ codes "--steps" ∷ codes "0" ∷ codes "--after" ∷ codes "." ∷ codes "--big-endian" ∷ [])
     (rehearsing (codes "/etc/fw_env.config") (codes "d") (record {
       variable = codes "bootcmd";
-      bounds = record { devices = 32; steps = 0; failures = None };
+      bounds = record { devices = 32; steps = 0; failures = None; shell = Profile };
       wanted = Listed (Some (codes ".")) whole_page;
       names = [];
     }) Big)
@@ -211,7 +212,7 @@ more_devices_than_listed = (refl, refl)
 one_run : AsksFor (codes "rehearse" ∷ codes "-d" ∷ codes "d" ∷ codes "--word" ∷ codes "01" ∷ codes "z" ∷ [])
     (rehearsing (codes "/etc/fw_env.config") (codes "d") (record {
       variable = codes "bootcmd";
-      bounds = record { devices = 1000; steps = 1000000; failures = None };
+      bounds = record { devices = 1000; steps = 1000000; failures = None; shell = Profile };
       wanted = Alone (codes "01");
       names = codes "z" ∷ [];
     }) Little)
@@ -227,7 +228,7 @@ word_beside_limit = (refl, refl)
 few_failures : AsksFor (codes "rehearse" ∷ codes "-d" ∷ codes "d" ∷ codes "--failures" ∷ codes "3" ∷ codes "--devices" ∷ codes "1000" ∷ [])
     (rehearsing (codes "/etc/fw_env.config") (codes "d") (record {
       variable = codes "bootcmd";
-      bounds = record { devices = 1000; steps = 10000; failures = Some 3 };
+      bounds = record { devices = 1000; steps = 10000; failures = Some 3; shell = Profile };
       wanted = Listed None whole_page;
       names = [];
     }) Little)
@@ -263,7 +264,7 @@ limit_of_none = refl
 all_endings : AsksFor (codes "endings" ∷ codes "-d" ∷ codes "d" ∷ [])
     (ending (codes "/etc/fw_env.config") (codes "d") (record {
       variable = codes "bootcmd";
-      bounds = record { devices = 1000; steps = 1000000; failures = None };
+      bounds = record { devices = 1000; steps = 1000000; failures = None; shell = Profile };
       states = 1000000;
       flow = false;
     }) Little)
@@ -275,7 +276,7 @@ few_endings : AsksFor
     (codes "endings" ∷ codes "-c" ∷ codes "f" ∷ codes "-d" ∷ codes "d" ∷ codes "-b" ∷ codes "q" ∷ codes "--devices" ∷ codes "0" ∷ codes "--steps" ∷ codes "7" ∷ codes "--states" ∷ codes "0" ∷ codes "--flow" ∷ codes "--big-endian" ∷ [])
     (ending (codes "f") (codes "d") (record {
       variable = codes "q";
-      bounds = record { devices = 0; steps = 7; failures = None };
+      bounds = record { devices = 0; steps = 7; failures = None; shell = Profile };
       states = 0;
       flow = true;
     }) Big)

@@ -5,6 +5,7 @@ use Rattle.clap.specs.declared.error.kind.ErrorKind.TheVariants.{DisplayVersion}
 use Rattle.clap.proofs.OnLiterals.{clap_on_literals}
 use Rattle.envimage.specs.declared.image.ByteOrder.TheVariants.{Little}
 use Rattle.tool_words.specs.Asked.{printing, rehearsing, scripted}
+use Rattle.rehearse_terms.specs.declared.shell.Shell.TheVariants.{Profile}
 use Rattle.rehearse_terms.specs.Asking.{Listed, whole_page}
 use Rattle.tool_words.specs.CommandLine.{ubtool}
 use Rattle.envtools.specs.Printing.{plain}
@@ -42,7 +43,7 @@ long_script = (refl, refl)
 long_rehearsal : AsksFor (codes "rehearse" ∷ codes "--device-list" ∷ codes "d" ∷ codes "--variable" ∷ codes "q" ∷ [])
     (rehearsing (codes "/etc/fw_env.config") (codes "d") (record {
       variable = codes "q";
-      bounds = record { devices = 16; steps = 10000; failures = None };
+      bounds = record { devices = 16; steps = 10000; failures = None; shell = Profile };
       wanted = Listed None whole_page;
       names = [];
     }) Little)

@@ -1,4 +1,6 @@
-use Rattle.std.proofs.Common.{ap, ◌∙◌, suc, refl}
+use Rattle.std.proofs.Common.{ap, ◌∙◌, sym, suc, refl}
+use Rattle.rehearse_terms.specs.declared.shell.Shell.{Shell}
+use Rattle.rehearse_rules.specs.ByShell.{status_of_no_block}
 use Rattle.hushlang.specs.TreesShown as view
 use Rattle.bootstore_state.specs.declared.frame.At.{At}
 use Rattle.rehearse_machine.specs.Places.{place}
@@ -6,18 +8,18 @@ use Rattle.rehearse_machine.proofs.ArmLemmas.{arm_entered, other_entered, none_e
 use Rattle.rehearse_machine.proofs.blocks.begin_arms.Goals as goal
 
 pub returns-in-Some : goal.returns-in-Some
-returns-in-Some c limits fs s =
+returns-in-Some c limits fs s own e =
     let at = ap (λ (x : At). place x.list x.command (suc c.args.arm) 0) c.at-at.ensures in
-    arm_entered c.args.arms.now (view.script_in c.args.other.now) c.args.arm c.args.frame.now fs c.in_turn.result s c.in-Some.field-0.now _ c.in-Some.ensures.lookup.3.0 c.in-Some.ensures.lookup.1
+    arm_entered limits.shell c.args.arms.now (view.script_in c.args.other.now) c.args.arm c.args.frame.now fs c.in_turn.result s c.in-Some.field-0.now _ c.in-Some.ensures.lookup.3.0 c.in-Some.ensures.lookup.1
     refl (c.in_turn.ensures ∙ at)
 
 pub returns-in-Some-other : goal.returns-in-Some-other
-returns-in-Some-other c limits fs s =
+returns-in-Some-other c limits fs s own e =
     let at = ap (λ (x : At). place x.list (suc x.command) 0 0) c.at-at.ensures in
-    other_entered c.args.arms.now (view.script_in c.args.other.now) c.args.arm c.args.frame.now fs c.behind.result s (view.script c.in-Some-other.body.value) _ (ap view.script_in c.in-Some-other.is) c.in_default.ensures.lookup.3
+    other_entered limits.shell c.args.arms.now (view.script_in c.args.other.now) c.args.arm c.args.frame.now fs c.behind.result s (view.script c.in-Some-other.body.value) _ (ap view.script_in c.in-Some-other.is) c.in_default.ensures.lookup.3
     refl (c.behind.ensures ∙ at)
 
 pub returns-in-None : goal.returns-in-None
-returns-in-None c limits fs s =
+returns-in-None c limits fs s own e =
     let at = ap (λ (x : At). place x.list (suc x.command) 0 0) c.at-at.ensures in
-    none_entered c.args.arms.now (view.script_in c.args.other.now) c.args.arm c.args.frame.now fs c.behind-in-None.result s (ap view.script_in c.in-None.is) c.in_default.ensures.lookup.3 (c.behind-in-None.ensures ∙ at)
+    none_entered limits.shell c.args.arms.now (view.script_in c.args.other.now) c.args.arm c.args.frame.now fs c.behind-in-None.result s c.status_of_no_block.result (c.status_of_no_block.ensures ∙ ap (λ (x : Shell). status_of_no_block x c.args.status) (sym own) ∙ ap (status_of_no_block limits.shell) (sym e)) (ap view.script_in c.in-None.is) c.in_default.ensures.lookup.3 (c.behind-in-None.ensures ∙ at)

@@ -6,20 +6,20 @@ use Rattle.rehearse_machine.proofs.ArmLemmas.{block_entered, next_arm, past_arms
 use Rattle.rehearse_machine.proofs.blocks.end_condition.Goals as goal
 
 pub returns-in-Some : goal.returns-in-Some
-returns-in-Some c limits fs s e =
+returns-in-Some c limits fs s own e =
     let at = ap (λ (x : At). place x.list (suc x.command) 0 0) c.at.ensures in
-    block_entered c.args.arms.now (view.script_in c.args.other.now) c.args.arm c.args.frame.now fs c.behind.result s c.in-Some.field-0.now _ c.in-Some.ensures.lookup.3.0 c.in-Some.ensures.lookup.1
+    block_entered limits.shell c.args.arms.now (view.script_in c.args.other.now) c.args.arm c.args.frame.now fs c.behind.result s c.in-Some.field-0.now _ c.in-Some.ensures.lookup.3.0 c.in-Some.ensures.lookup.1
     (ap (λ (x : ℕ). nat_eq x 0) (e ∙ c.if-status-eq0.true)) refl (c.behind.ensures ∙ at)
 
 pub returns-in-Some-2 : goal.returns-in-Some-2
-returns-in-Some-2 c limits fs s e =
+returns-in-Some-2 c limits fs s own e =
     let all = view.arms (map view.arm c.args.arms.now) (view.script_in c.args.other.now) in
-    c.begin_arms.ensures limits fs s
-    ∙ ap (λ (x : ℕ). place_arms (drop_arms x all) x c.args.frame.now fs s) (add-one c.args.arm)
-    ∙ next_arm c.args.arms.now (view.script_in c.args.other.now) c.args.arm c.args.frame.now fs c.args.frame.now.place s c.in-Some-2.field-0.now c.in-Some-2.ensures.lookup.3.0 c.in-Some-2.ensures.lookup.1
+    c.begin_arms.ensures limits fs s own e
+    ∙ ap (λ (x : ℕ). place_arms limits.shell (drop_arms x all) x c.args.frame.now fs s) (add-one c.args.arm)
+    ∙ next_arm limits.shell c.args.arms.now (view.script_in c.args.other.now) c.args.arm c.args.frame.now fs c.args.frame.now.place s c.in-Some-2.field-0.now c.in-Some-2.ensures.lookup.3.0 c.in-Some-2.ensures.lookup.1
     (not_zero s.memory.status (λ z. c.if-status-eq0.false (sym e ∙ z)))
 
 pub returns-in-None : goal.returns-in-None
-returns-in-None c limits fs s e =
+returns-in-None c limits fs s own e =
     let at = ap (λ (x : At). place x.list (suc x.command) 0 0) c.at-in-None.ensures in
-    past_arms c.args.arms.now (view.script_in c.args.other.now) c.args.arm c.args.frame.now fs c.behind-in-None.result s c.in-None.ensures.lookup.3 (c.behind-in-None.ensures ∙ at)
+    past_arms limits.shell c.args.arms.now (view.script_in c.args.other.now) c.args.arm c.args.frame.now fs c.behind-in-None.result s c.in-None.ensures.lookup.3 (c.behind-in-None.ensures ∙ at)

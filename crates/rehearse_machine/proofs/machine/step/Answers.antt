@@ -20,7 +20,7 @@ returns-in-Goes g c =
     let old = g.S.Store.record_of c.args.store.now in
     let f = c.in-Some.top.now in
     let top = is_top old.present.frames f c.in-Some.ensures in
-    moves_on (limits_of c.args.devices.now c.args.bounds) c.go_on.result old (g.S.Store.record_of c.go_on.new.store) (nexts.Goes c.in-Goes.at) c.next_of.result c.get_status-status.result f c.in-Goes.is top (sym c.get_status-status.ensures) c.next_of.ensures.next
+    moves_on (limits_of c.args.devices.now c.args.bounds) c.go_on.result old (g.S.Store.record_of c.go_on.new.store) (nexts.Goes c.in-Goes.at) c.next_of.result c.shell-shell.result c.get_status-status.result f c.in-Goes.is top (sym c.shell-shell.ensures) (sym c.get_status-status.ensures) c.next_of.ensures.next
     (c.go_on.ensures f top)
 
 pub returns-in-Finishes : goal.returns-in-Finishes
@@ -28,7 +28,7 @@ returns-in-Finishes g c =
     let old = g.S.Store.record_of c.args.store.now in
     let f = c.in-Some.top.now in
     let top = is_top old.present.frames f c.in-Some.ensures in
-    moves_on (limits_of c.args.devices.now c.args.bounds) c.finish.result old (g.S.Store.record_of c.finish.new.store) (nexts.Finishes c.in-Finishes.at c.in-Finishes.status) c.next_of.result c.get_status-status.result f c.in-Finishes.is top (sym c.get_status-status.ensures) c.next_of.ensures.next
+    moves_on (limits_of c.args.devices.now c.args.bounds) c.finish.result old (g.S.Store.record_of c.finish.new.store) (nexts.Finishes c.in-Finishes.at c.in-Finishes.status) c.next_of.result c.shell-shell.result c.get_status-status.result f c.in-Finishes.is top (sym c.shell-shell.ensures) (sym c.get_status-status.ensures) c.next_of.ensures.next
     (c.finish.ensures f top)
 
 pub returns-in-Enters : goal.returns-in-Enters
@@ -38,7 +38,7 @@ returns-in-Enters g c =
     let f = c.in-Some.top.now in
     let top = is_top old.present.frames f c.in-Some.ensures in
     let child = c.block-child.ensures ∙ ap (λ (x : Code). block_frame (view.script x)) c.in_ok-clone-in-Enters.ensures.cases in
-    moves_on (limits_of c.args.devices.now c.args.bounds) c.enter.result old new (nexts.Enters c.in-Enters.at c.in-Enters.script) c.next_of.result c.get_status-status.result f c.in-Enters.is top (sym c.get_status-status.ensures) c.next_of.ensures.next
+    moves_on (limits_of c.args.devices.now c.args.bounds) c.enter.result old new (nexts.Enters c.in-Enters.at c.in-Enters.script) c.next_of.result c.shell-shell.result c.get_status-status.result f c.in-Enters.is top (sym c.shell-shell.ensures) (sym c.get_status-status.ensures) c.next_of.ensures.next
     (comes_as c.enter.result old new (GoOn (c.block-child.result ∷ moved_to c.in-Enters.at f ∷ under old.present)) _
     (λ s. ap (λ (x : RunningFrame). GoOn (x ∷ moved_to c.in-Enters.at f ∷ under old.present) s) child) (c.enter.ensures f top))
 
@@ -53,7 +53,7 @@ returns-in-Some-fields g c =
     let known = known_before (view.fields_in c.in-Some-fields.known.now) (fields parameters words) (c.in-Some-fields.ensures.fields parameters) c.in-Some-fields.ensures.within_limit in
     let found = subst (λ (x : List Text). IsExpanded true x (fields parameters words)) (sym shown) known in
     let script = ap (λ (x : Code). view.script x) c.in_ok-script-in-Calls.ensures.cases ∙ c.script.ensures in
-    moves_on (limits_of c.args.devices.now c.args.bounds) c.call.result old (g.S.Store.record_of c.call.new.store) (nexts.Calls c.in-Calls.command) c.next_of.result c.get_status-status.result f c.in-Calls.is top (sym c.get_status-status.ensures) c.next_of.ensures.next
+    moves_on (limits_of c.args.devices.now c.args.bounds) c.call.result old (g.S.Store.record_of c.call.new.store) (nexts.Calls c.in-Calls.command) c.next_of.result c.shell-shell.result c.get_status-status.result f c.in-Calls.is top (sym c.shell-shell.ensures) (sym c.get_status-status.ensures) c.next_of.ensures.next
     (c.call.ensures f words (c.behind-after.ensures ∙ ap (λ (x : At). place x.list (suc x.command) 0 0) c.at.ensures) script found top)
 
 pub returns-in-Calls : goal.returns-in-Calls
@@ -65,5 +65,5 @@ returns-in-Calls g c =
     let expanded = subst (λ (x : List Word). IsExpanded c.in_ok-fit-in-Calls.fit c.expanded.new.fields (fields (parameters_at old.present) x)) c.words.ensures c.in_ok-fit-in-Calls.ensures in
     let found = subst (λ (x : List Text). IsExpanded c.in_ok-fit-in-Calls.fit x (fields (parameters_at old.present) words)) (sym c.as_slice-found.ensures) expanded in
     let script = ap (λ (x : Code). view.script x) c.in_ok-script-in-Calls.ensures.cases ∙ c.script.ensures in
-    moves_on (limits_of c.args.devices.now c.args.bounds) c.call-in-Calls.result old (g.S.Store.record_of c.call-in-Calls.new.store) (nexts.Calls c.in-Calls.command) c.next_of.result c.get_status-status.result f c.in-Calls.is top (sym c.get_status-status.ensures) c.next_of.ensures.next
+    moves_on (limits_of c.args.devices.now c.args.bounds) c.call-in-Calls.result old (g.S.Store.record_of c.call-in-Calls.new.store) (nexts.Calls c.in-Calls.command) c.next_of.result c.shell-shell.result c.get_status-status.result f c.in-Calls.is top (sym c.shell-shell.ensures) (sym c.get_status-status.ensures) c.next_of.ensures.next
     (c.call-in-Calls.ensures f words (c.behind-after.ensures ∙ ap (λ (x : At). place x.list (suc x.command) 0 0) c.at.ensures) script found top)

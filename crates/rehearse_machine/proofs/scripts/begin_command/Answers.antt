@@ -13,26 +13,26 @@ use Rattle.rehearse_machine.proofs.CommandLemmas.{says_if, says_loop, says_simpl
 use Rattle.rehearse_machine.proofs.scripts.begin_command.Goals as goal
 
 pub returns-in-Simple-clause-next : goal.returns-in-Simple-clause-next
-returns-in-Simple-clause-next c limits fs s =
+returns-in-Simple-clause-next c limits fs s own e =
     sym (ap (λ (x : Command). place_command limits x c.args.frame.now fs s) (says_simple c.args.command.now c.in-Simple.call c.in-Simple.is))
 
 pub returns-in-Assign-clause-next : goal.returns-in-Assign-clause-next
-returns-in-Assign-clause-next c limits fs s =
+returns-in-Assign-clause-next c limits fs s own e =
     ap (λ (x : List (Vec ℕ Global × Word)). place_command limits (tree.Assign (map view.value x)) c.args.frame.now fs s) c.deref.ensures.value
     ∙ sym (ap (λ (x : Command). place_command limits x c.args.frame.now fs s) (says_assign c.args.command.now c.in-Assign.values c.in-Assign.is))
 
 pub returns-in-If-clause-next : goal.returns-in-If-clause-next
-returns-in-If-clause-next c limits fs s =
-    c.begin_arms.ensures limits fs s
-    ∙ ap (λ (x : List Arm). place_arms (view.arms (map view.arm x) (view.script_in c.in-If.other)) 0 c.args.frame.now fs s) c.deref-in-If.ensures.value
+returns-in-If-clause-next c limits fs s own e =
+    c.begin_arms.ensures limits fs s own e
+    ∙ ap (λ (x : List Arm). place_arms limits.shell (view.arms (map view.arm x) (view.script_in c.in-If.other)) 0 c.args.frame.now fs s) c.deref-in-If.ensures.value
     ∙ sym (ap (λ (x : Command). place_command limits x c.args.frame.now fs s) (says_if c.args.command.now c.in-If.arms c.in-If.other c.in-If.is))
 
 pub returns-in-Loop-clause-next : goal.returns-in-Loop-clause-next
-returns-in-Loop-clause-next c limits fs s =
+returns-in-Loop-clause-next c limits fs s own e =
     c.begin_loop.ensures limits fs s
     ∙ sym (ap (λ (x : Command). place_command limits x c.args.frame.now fs s) (says_loop c.args.command.now c.in-Loop.until c.in-Loop.cond c.in-Loop.body c.in-Loop.is))
 
 pub returns-in-For-clause-next : goal.returns-in-For-clause-next
-returns-in-For-clause-next c limits fs s =
+returns-in-For-clause-next c limits fs s own e =
     ap (λ (x : List Word). place_counted limits (λ t. place_fitting (fields (parameters_in t.memory) (map view.word x)) (λ found. for_begins found c.args.frame.now fs) t) s) c.deref-in-For.ensures.value
     ∙ sym (ap (λ (x : Command). place_command limits x c.args.frame.now fs s) (says_for c.args.command.now c.in-For.name c.in-For.words c.in-For.body c.in-For.is))

@@ -1,0 +1,58 @@
+-- What the shells do otherwise, computed: each script by ubtool's own shell and by U-Boot's old one, which was asked.
+use Rattle.std.proofs.Common.{◌≡◌, List, [], ◌∷◌, None, codes, refl, map}
+use Rattle.rehearse_terms.specs.State.{Text}
+use Rattle.rehearse_terms.specs.declared.shell.Shell.{Shell}
+use Rattle.rehearse_terms.specs.declared.shell.Shell.TheVariants.{Profile, Old2023, Old2025}
+use Rattle.rehearse_rules.specs.Execution.{End}
+use Rattle.rehearse_rules.proofs.ExampleRehearsals.{only_load, limits, bootcmd, z, listed, Told, told_of}
+
+-- what a text writes and how it ends in each shell
+abbrev in_shell : Text → Shell → Told
+in_shell text shell = told_of (bootcmd (record (limits only_load 2 10000) { shell = shell }) text)
+
+abbrev in_each : Text → List Told
+in_each text = map (in_shell text) (Profile ∷ Old2023 ∷ Old2025 ∷ [])
+
+skipped_and : in_each (codes "false && echo a || echo b; echo c") ≡ (codes "b\nc\n", End 0) ∷ (codes "c\n", End 0) ∷ (codes "c\n", End 0) ∷ []
+unfolding told_of
+skipped_and = refl
+
+skipped_or : in_each (codes "true || echo a && echo b") ≡ (codes "b\n", End 0) ∷ ([], End 0) ∷ ([], End 0) ∷ []
+unfolding told_of
+skipped_or = refl
+
+-- a skipped command keeps the status
+skipped_status : in_each (codes "false && true || true") ≡ ([], End 0) ∷ ([], End 1) ∷ ([], End 1) ∷ []
+unfolding told_of
+skipped_status = refl
+
+nothing_skipped : in_each (codes "true && true && echo a") ≡ (codes "a\n", End 0) ∷ (codes "a\n", End 0) ∷ (codes "a\n", End 0) ∷ []
+unfolding told_of
+nothing_skipped = refl
+
+words_of_nothing : in_each (codes "false; $none; echo $?") ≡ (codes "0\n", End 0) ∷ (codes "1\n", End 0) ∷ (codes "1\n", End 0) ∷ []
+unfolding told_of
+words_of_nothing = refl
+
+if_without_its_block : in_each (codes "if false; then true; elif false; then true; fi; echo $?") ≡ (codes "0\n", End 0) ∷ (codes "1\n", End 0) ∷ (codes "1\n", End 0) ∷ []
+unfolding told_of
+if_without_its_block = refl
+
+while_that_ends : in_each (codes "while false; do true; done; echo $?") ≡ (codes "0\n", End 0) ∷ (codes "1\n", End 0) ∷ (codes "1\n", End 0) ∷ []
+unfolding told_of
+while_that_ends = refl
+
+-- the condition decides, and not the last body
+until_that_ends : in_each (codes "x=a; until test $x = b; do x=b; false; done; echo $?") ≡ (codes "1\n", End 0) ∷ (codes "0\n", End 0) ∷ (codes "0\n", End 0) ∷ []
+unfolding told_of
+until_that_ends = refl
+
+each_turn_begins : in_each (codes "for i in a b; do echo $?; false; done") ≡ (codes "0\n1\n", End 1) ∷ (codes "0\n0\n", End 1) ∷ (codes "0\n0\n", End 1) ∷ []
+unfolding told_of
+each_turn_begins = refl
+
+-- the runs of a list: the second command is skipped only if the first has failed
+mixed_list : listed (bootcmd (record (limits only_load 2 10000) { shell = Old2023 }) (codes "load a && load b || echo c")) z None
+    ≡ codes "run 00\ndev 0 load a\ndev 0 load b\nunset z\nend 0\nrun 01\ndev 0 load a\ndev 1 load b\ntext c\\n\nunset z\nend 0\nrun 1\ndev 1 load a\nunset z\nend 1\ndone\n"
+unfolding listed
+mixed_list = refl
