@@ -1,52 +1,96 @@
-#!/bin/sh
-# growths.sh PROGRAM PART: runs a part of the built program crates/tests_growths/out/tests_growths, as `store`, once for
-# each growth of memory that it makes, with that one growth refused, until a run meets no refusal. The program prints a
-# line NAME:STATE for the beginning and after each change, and a line `refused NAME:STATE` after a change that was
-# refused for want of memory, which it then makes again. So, of each run:
+#!/usr/bin/env bash
+# growths.sh PROGRAM [PART..]: runs each part of the built program crates/tests_growths/out/tests_growths, or these
+# parts, once for each growth of memory that it makes, with that one growth refused, until a run meets no refusal.
+#
+# In `store`, `calls` and `rehearse` the program prints a line NAME:STATE for the beginning and after each change, and a
+# line `refused NAME:STATE` after a change that was refused for want of memory, and is then made again. So, of each run:
 #   - without the lines of refusals it prints what it prints with ample memory;
 #   - a refused change leaves the state of the line before it, but for the name of the change.
-set -eu
+# In `script`, whichever growth is refused, the variables are those after the first lines of the script, never fewer
+# lines than at the growth before; and refused growths reach the last line.
+# In `long`, a script of 1,000 commands and then seven device commands, growth number 100,000 alone is refused. If every
+# run were run from its start, there would be so many; this one ends before, with each command begun once.
+. "$(dirname "$0")/../tests/lib"
+set -e
+program=$(realpath "$1")
+subject='refused growths'
+needs gcc
+cd "$folder"
+gcc -O2 -shared -fPIC -o refuse.so "$repository/tools/refuse.c" -ldl
 
-program=$1
-part=$2
-here=$(cd "$(dirname "$0")" && pwd)
-work=$(mktemp -d)
-trap 'rm -rf "$work"' EXIT
+fail() {
+    echo "$part, growth $number: $1"
+    exit 1
+}
 
-gcc -O2 -shared -fPIC -o "$work/refuse.so" "$here/refuse.c" -ldl
-"$program" growths "$part" > "$work/ample"
+# meets: runs the part with this growth refused. Status 1 if it met no refusal.
+meets() {
+    REFUSE=$number REFUSE_MET=met LD_PRELOAD=./refuse.so "$program" growths "$part" >output 2>error || fail "status $?"
+    [ "$(cat met)" != 'not met' ]
+}
 
-number=1
-refusals=0
-while :; do
-    status=0
-    REFUSE=$number REFUSE_MET=$work/met LD_PRELOAD=$work/refuse.so "$program" growths "$part" > "$work/output" 2> "$work/error" ||
-        status=$?
-    if [ "$status" -ne 0 ]; then
-        echo "growth $number: status $status"
-        exit 1
-    fi
-    if [ "$(cat "$work/met")" = "not met" ]; then
-        cmp -s "$work/ample" "$work/output" || { echo "growth $number: another output without a refusal"; exit 1; }
-        break
-    fi
-    if [ "$(cat "$work/output")" != "no memory to begin with" ]; then
-        grep -v '^refused' "$work/output" > "$work/kept" || true
-        cmp -s "$work/ample" "$work/kept" || { echo "growth $number: another output"; exit 1; }
-        awk -v number="$number" '
+# changes: the parts whose changes are made again.
+changes() {
+    local refusals=0
+    "$program" growths "$part" >ample
+    for ((number = 1; ; number++)); do
+        meets || break
+        [ "$(cat output)" != 'no memory to begin with' ] || continue
+        grep -v '^refused' output >kept || true
+        cmp -s ample kept || fail 'another output'
+        awk '
             /:/ { found = $0; sub(/^[^:]*:/, "", found) }
             /^refused/ {
                 count++
                 if (found != state) {
-                    print "growth " number ": a refused change left another state: " $0
+                    print "a refused change left another state: " $0
                     exit 1
                 }
             }
             /:/ { state = found }
-            END { if (count > 1) { print "growth " number ": refused more than once"; exit 1 } }
-        ' "$work/output"
-        refusals=$((refusals + $(grep -c '^refused' "$work/output" || true)))
-    fi
-    number=$((number + 1))
+            END { if (count > 1) { print "refused more than once"; exit 1 } }
+        ' output >why || fail "$(cat why)"
+        refusals=$((refusals + $(grep -c '^refused' output || true)))
+    done
+    cmp -s ample output || fail 'another output without a refusal'
+    echo "$part: $((number - 1)) growths refused in turn, $refusals of them in a call that was then made again"
+}
+
+# script: the script that stops at its line.
+script() {
+    local lines=0 found place
+    printf 'refused: %s\n' 'a=1 b=2' 'a=1 b=2 c=3' 'b=2 c=3' 'b=2 c=3 d=4' 'b=5 c=3 d=4' 'b=5 c=3 d=4 e=6' >states
+    for ((number = 1; ; number++)); do
+        meets || break
+        found=$(cat output)
+        case $found in
+        refused:*)
+            place=$(grep -nxF "$found" states | cut -d: -f1)
+            [ -n "$place" ] || fail "no state after some lines: $found"
+            [ "$place" -ge "$lines" ] || fail "fewer lines than before: $found"
+            lines=$place
+            ;;
+        'no memory to begin with' | 'applied: b=5 c=3 d=4 e=6 f=7') ;;
+        *) fail "another output: $found" ;;
+        esac
+    done
+    [ "$(cat output)" = 'applied: b=5 c=3 d=4 e=6 f=7' ] || fail "without a refusal: $(cat output)"
+    [ "$lines" -eq 6 ] || fail "no refusal in the last line, but behind $((lines - 1)) lines"
+    echo "$part: $((number - 1)) growths refused in turn: a script stops at its line, and the lines before it stay"
+}
+
+# long: the script with a late growth refused.
+long() {
+    number=100000
+    ! meets || fail 'it was met'
+    printf '%s: 128 runs, 1127 steps\n' plain trail | cmp - output
+    echo "$part: 128 runs behind 1,000 commands, each begun once, in less than 100,000 growths"
+}
+
+[ $# -gt 1 ] || set -- "$1" store calls rehearse script long
+for part in "${@:2}"; do
+    case $part in
+    script | long) "$part" ;;
+    *) changes ;;
+    esac
 done
-echo "$part: $((number - 1)) growths refused in turn, $refusals of them in a call that was then made again"
