@@ -47,5 +47,12 @@ def prover_words(crate, uses, jobs=1):
     return [*words, "--links", f"{crate}=", "--jobs", str(jobs)]
 
 
+def provers(memory):
+    """How many provers, of so much memory in bytes, may run at one time: one a core, if there is memory for them."""
+    with open("/proc/meminfo", encoding="ascii") as file:
+        free = next(int(line.split()[1]) * 1024 for line in file if line.startswith("MemAvailable:"))
+    return max(min(len(os.sched_getaffinity(0)), free // memory), 1)
+
+
 if __name__ == "__main__":
     print(*prover_words(sys.argv[1], libraries()), sep="\n")
