@@ -135,6 +135,13 @@ impl Fields {
         self.gathering.add_words(words, vars)
     }
 
+    /// Puts other fields in the place of these.
+    pub fn replace(&mut self, fields: Vec<Vec<u8>>)
+        ensures { self.new ≡ map (λ field. field.items) fields.items }
+    {
+        self.gathering.whole = fields;
+    }
+
     /// The fields, in order.
     pub fn as_slice(&self) -> &[Vec<u8>]
         ensures { map (λ field. field.items) result.now ≡ self.now }

@@ -1,8 +1,9 @@
 -- A command that asks was not told an answer: it takes an outcome of the word.
+use Rattle.rehearse_rules.specs.ByShell.{fields_in}
 use Rattle.std.proofs.Common.{ℕ, Bool, true, false, List, [], ◌∷◌, length, Option, Some, None, refl, subst, ◌≡◌, nat_lt, nat_le}
 use Rattle.hushlang.specs.Tree as tree
 use Rattle.hushlang.specs.Tree.{Script}
-use Rattle.hushlang.specs.Expansion.{fields, size, most_bytes}
+use Rattle.hushlang.specs.Expansion.{size, most_bytes}
 use Rattle.bootstore_state.specs.Moment.{Moment, RunningFrame}
 use Rattle.bootstore_state.specs.StoredState.{state_at}
 use Rattle.rehearse_terms.specs.Outcomes.{Success}
@@ -65,7 +66,7 @@ module _ (limits : Limits) where
   again_anew : (o : Option (List tree.Word)) (f : RunningFrame) (fs : List RunningFrame) (s : State) → AsksAnew (fields_again limits o f fs s)
   again_anew None f fs s = tt
   again_anew (Some words) f fs s =
-      let found : List Text = fields (parameters_in s.memory) words in
+      let found : List Text = fields_in limits.shell (parameters_in s.memory) words in
       either_anew (nat_le (size found) most_bytes) (place_fields limits found f.script (f ∷ fs) s) (StopOn Size s) (fields_anew found f.script (f ∷ fs) s) tt
 
   found_anew : (ps : List RunningFrame) (s : State) → AsksAnew (found_again limits ps s)

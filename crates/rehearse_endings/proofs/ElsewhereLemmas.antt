@@ -8,12 +8,12 @@ use Rattle.hushlang.specs.Tree as tree
 use Rattle.hushlang.specs.Tree.{Script, AndOr, Joined, Command, Arms}
 use Rattle.rehearse_terms.specs.State.{Text, get, Memory, State, with_value, LoggedCommand, asked_of, answers_in, same_words}
 use Rattle.rehearse_rules.specs.Parameters.{parameters_in}
-use Rattle.hushlang.specs.Expansion.{fields, joined, size, most_bytes}
+use Rattle.hushlang.specs.Expansion.{joined, size, most_bytes}
 use Rattle.hushlang.specs.Trees.{tree_of}
 use Rattle.commands.specs.Verdict.{verdict}
 use Rattle.device_list.specs.Called.{Called, BuiltIn, Device, NoCommand, called_by, sets_in}
 use Rattle.commands.specs.BuiltInCommands.{ChangesVariables, WritesText, RunsTexts, Tests, Exits, asks_device, exit_status, variables_changed, text_written}
-use Rattle.rehearse_rules.specs.ByShell.{skips_rest, status_of_nothing, status_of_no_block, status_of_loop, status_in_turn}
+use Rattle.rehearse_rules.specs.ByShell.{fields_in, turns_in, skips_rest, status_of_nothing, status_of_no_block, status_of_loop, status_in_turn}
 use Rattle.rehearse_rules.specs.Execution.{begin_turn, Limits, Answer, Normal, Exit, Ended, Dry, Ending, CutDevices, CutSteps, Unknown, Syntax, Size, go_on, remember, set_status, set_local, status_when, goes, holds, begin, take_outcome, with_outcome, outcome_when, succeeds, told, told_again, tell_or_take, device, Request, test_effect, logged, set_environment, boot, text_end, run_text, run_all, command, simple, sized, assign, turns, for_each, exec_script, exec_list, exec_joined, exec_command, exec_arms, exec}
 use Rattle.rehearse_rules.specs.Runs.{state_of}
 use Rattle.rehearse_rules.proofs.TakenOutcomes.{skipped, Track-of, KeepsAll, Keeps-script, Keeps-joined, Keeps-arms, Keeps-exec, Keeps-run, Keeps-turns, Keeps-for, Keeps-if, Keeps-stays, after_condition, Keeps-after_condition, Keeps-ended, Keeps-simple, Keeps-sized, Keeps-assign}
@@ -327,11 +327,11 @@ module _ (limits : Limits) (i j : ℕ) (k l : List LoggedCommand) where
       Alike-joined (tree.Joins op c rest) s = Alike-if s (goes op s.memory.status) (λ t. go_on (exec_command limits left text c t) (exec_joined limits left text rest)) (skipped limits (exec_joined limits left text rest)) (Alike-go_on s (exec_command limits left text c) (exec_joined limits left text rest) (Alike-one c s) (Alike-joined rest) (Keeps-joined limits left text kept rest)) (Alike-if s (skips_rest limits.shell) Normal (exec_joined limits left text rest) (Alike-stays s) (Alike-joined rest s))
 
       pub Alike-one : (a : Command) → AlwaysDoes (exec_command limits left text a)
-      Alike-one (tree.Simple words) s = Alike-begin (λ t. sized (fields (parameters_in t.memory) words) (simple limits text) t) (λ t. Alike-sized (fields (parameters_in t.memory) words) (simple limits text) (Alike-simple text kept does) t) (λ t. Keeps-sized limits (fields (parameters_in t.memory) words) (simple limits text) (Keeps-simple limits text kept) t) s
+      Alike-one (tree.Simple words) s = Alike-begin (λ t. sized (fields_in limits.shell (parameters_in t.memory) words) (simple limits text) t) (λ t. Alike-sized (fields_in limits.shell (parameters_in t.memory) words) (simple limits text) (Alike-simple text kept does) t) (λ t. Keeps-sized limits (fields_in limits.shell (parameters_in t.memory) words) (simple limits text) (Keeps-simple limits text kept) t) s
       Alike-one (tree.Assign pairs) s = Alike-begin (assign pairs) (Alike-assign pairs) (Keeps-assign limits pairs) s
       Alike-one (tree.If arms) s = Alike-arms arms s
       Alike-one (tree.Loop until c b) s = Alike-turns left until (exec_script limits left text c) (exec_script limits left text b) (Alike-script c) (Alike-script b) (Keeps-script limits left text kept c) (Keeps-script limits left text kept b) 0 s
-      Alike-one (tree.For name words b) s = Alike-begin (λ t. sized (fields (parameters_in t.memory) words) (for_each limits.shell name (exec_script limits left text b) 0) t) (λ t. Alike-sized (fields (parameters_in t.memory) words) (for_each limits.shell name (exec_script limits left text b) 0) (λ fs. Alike-for name (exec_script limits left text b) (Alike-script b) (Keeps-script limits left text kept b) 0 fs) t) (λ t. Keeps-sized limits (fields (parameters_in t.memory) words) (for_each limits.shell name (exec_script limits left text b) 0) (λ fs. Keeps-for limits name (exec_script limits left text b) (Keeps-script limits left text kept b) 0 fs) t) s
+      Alike-one (tree.For name words b) s = Alike-begin (λ t. sized (turns_in limits.shell (parameters_in t.memory) words) (for_each limits.shell name (exec_script limits left text b) 0) t) (λ t. Alike-sized (turns_in limits.shell (parameters_in t.memory) words) (for_each limits.shell name (exec_script limits left text b) 0) (λ fs. Alike-for name (exec_script limits left text b) (Alike-script b) (Keeps-script limits left text kept b) 0 fs) t) (λ t. Keeps-sized limits (turns_in limits.shell (parameters_in t.memory) words) (for_each limits.shell name (exec_script limits left text b) 0) (λ fs. Keeps-for limits name (exec_script limits left text b) (Keeps-script limits left text kept b) 0 fs) t) s
 
       pub Alike-arms : (a : Arms) → AlwaysDoes (exec_arms limits left text a)
       Alike-arms tree.NoElse s = Alike-normal s (λ m. record m { status = status_of_no_block limits.shell m.status }) (λ text. (text, refl))

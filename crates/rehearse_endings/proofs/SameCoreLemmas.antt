@@ -1,9 +1,10 @@
 -- If a device command asks at two moments with the same core, the same is to come, as far as the bounds allow.
+use Rattle.rehearse_rules.specs.ByShell.{fields_in}
 use Rattle.std.proofs.Common.{ℕ, Bool, true, false, cond, List, [], ◌∷◌, length, Option, Some, None, refl, sym, ap, subst, ◌∙◌, ◌≡◌, append-nil, arith, nat_lt, nat_le}
 use Rattle.std.specs.FinMap.{entries}
 use Rattle.hushlang.specs.Tree as tree
 use Rattle.hushlang.specs.Tree.{Script}
-use Rattle.hushlang.specs.Expansion.{fields, size, most_bytes}
+use Rattle.hushlang.specs.Expansion.{size, most_bytes}
 use Rattle.bootstore_state.specs.Moment.{Moment, RunningFrame}
 use Rattle.std.specs.Map.{lookup}
 use Rattle.rehearse_terms.specs.Outcomes.{OutcomeWord, Success}
@@ -94,7 +95,7 @@ module _ (limits : Limits) (text : Text) (log : List LoggedCommand) (n : ℕ) wh
   again_same : (o : Option (List tree.Word)) (f : RunningFrame) (fs : List RunningFrame) (s : State) → answers_in log ≡ answers_in s.log → AskSame (fields_again limits o f fs s) (fields_again limits o f fs (there s))
   again_same None f fs s h = tt
   again_same (Some words) f fs s h =
-      let found : List Text = fields (parameters_in s.memory) words in
+      let found : List Text = fields_in limits.shell (parameters_in s.memory) words in
       either_same (nat_le (size found) most_bytes) (place_fields limits found f.script (f ∷ fs)) (StopOn Size) s (fields_same found f.script (f ∷ fs) s h) tt
 
   found_same : (ps : List RunningFrame) (s : State) → answers_in log ≡ answers_in s.log → AskSame (found_again limits ps s) (found_again limits ps (there s))

@@ -56,3 +56,27 @@ mixed_list : listed (bootcmd (record (limits only_load 2 10000) { shell = Old202
     ≡ codes "run 00\ndev 0 load a\ndev 0 load b\nunset z\nend 0\nrun 01\ndev 0 load a\ndev 1 load b\ntext c\\n\nunset z\nend 0\nrun 1\ndev 1 load a\nunset z\nend 1\ndone\n"
 unfolding listed
 mixed_list = refl
+
+-- a value that is read again: its quotes act, and so does `#` at the start of a word
+quotes_of_a_value : in_each (codes "x='\"a  b\"'; echo $x") ≡ (codes "\"a b\"\n", End 0) ∷ (codes "a  b\n", End 0) ∷ (codes "a  b\n", End 0) ∷ []
+unfolding told_of
+quotes_of_a_value = refl
+
+comment_in_a_value : in_each (codes "x='#a'; echo b $x c; echo 'd $x'") ≡ (codes "b #a c\nd $x\n", End 0) ∷ (codes "b\nd $x\n", End 0) ∷ (codes "b\nd $x\n", End 0) ∷ []
+unfolding told_of
+comment_in_a_value = refl
+
+-- a single quote that is not closed: the command is not run, and the status stays
+open_quote_in_a_value : in_each (codes "x=\"it's\"; false; echo $x; echo $?") ≡ (codes "it's\n0\n", End 0) ∷ (codes "1\n", End 0) ∷ (codes "1\n", End 0) ∷ []
+unfolding told_of
+open_quote_in_a_value = refl
+
+-- quoted words stay one, also if they are read again
+quoted_value : in_each (codes "x='a  b'; echo \"$x\" $x") ≡ (codes "a  b a b\n", End 0) ∷ (codes "a  b a b\n", End 0) ∷ (codes "a  b a b\n", End 0) ∷ []
+unfolding told_of
+quoted_value = refl
+
+-- among the words of a `for` they are cut at spaces, and their quotes stay
+words_of_a_for : in_each (codes "x='a b'; for i in \"$x\" c; do echo $i; done") ≡ (codes "a b\nc\n", End 0) ∷ (codes "a\nb\nc\n", End 0) ∷ (codes "a\nb\nc\n", End 0) ∷ []
+unfolding told_of
+words_of_a_for = refl

@@ -2,7 +2,7 @@
 use Rattle.std.proofs.Common.{ℕ, zero, suc, Bool, true, false, List, [], ◌∷◌, length, Option, Some, None, refl, ap, ◌∙◌, ◌≡◌, nat_lt, nat_le, nat_eq}
 use Rattle.hushlang.specs.Tree as tree
 use Rattle.hushlang.specs.Tree.{Script, AndOr, Command, Arms}
-use Rattle.hushlang.specs.Expansion.{fields, joined, size, most_bytes}
+use Rattle.hushlang.specs.Expansion.{joined, size, most_bytes}
 use Rattle.hushlang.specs.declared.tree.Op.{Op}
 use Rattle.bootstore_state.specs.Moment.{RunningFrame}
 use Rattle.bootstore_state.specs.declared.frame.FrameKind.{FrameKind}
@@ -18,7 +18,7 @@ use Rattle.rehearse_rules.specs.Execution.{Limits, CutDevices, CutSteps, Size, s
 use Rattle.rehearse_terms.specs.Outcomes.{Success}
 use Rattle.rehearse_machine.specs.Places.{PlaceNext, GoOn, AskOn, StopOn, list_at, joined_at, second, command_in, command_at, drop_arms, block_frame, behind, in_turn, left, to_run, place_exit, place_boot, place_tell_or_ask, place_assign, place_tree, place_text, place_name, run_move, for_turn, for_move, for_begins, place_arms, condition_ends, phase_move, place_fitting, place_ask, place_called, place_fields, place_counted, place_command, place_joined, place_begins, place_turn, place_list, place_by, place_move, place_skipped, moved_to, place}
 use Rattle.rehearse_machine.specs.AskingCommand.{words_of, fields_again, found_again, AsksAgain}
-use Rattle.rehearse_rules.specs.ByShell.{status_of_loop, skips_rest}
+use Rattle.rehearse_rules.specs.ByShell.{fields_in, turns_in, status_of_loop, skips_rest}
 
 -- a command that asks does so with these frames, in this state
 abbrev AsksHere : List RunningFrame → State → PlaceNext → Type 0
@@ -166,7 +166,7 @@ module _ (limits : Limits) where
     simple_again : (words : List tree.Word) (s : State) → command_at (list_at f.script f.place.list) f.place.command ≡ Some (tree.Simple words) → AsksAgain limits (place_command limits (tree.Simple words) f fs s)
     simple_again words s e =
         let t : State = record s { steps = suc s.steps } in
-        let found_fields : List Text = fields (parameters_in t.memory) words in
+        let found_fields : List Text = fields_in limits.shell (parameters_in t.memory) words in
         let ps : List RunningFrame = behind f ∷ fs in
         let next : PlaceNext = place_fields limits found_fields f.script ps t in
         let whole : PlaceNext = place_fitting found_fields (λ fs'. place_fields limits fs' f.script ps) t in
@@ -181,9 +181,9 @@ module _ (limits : Limits) where
     command_again (tree.Loop until c b) s e = tt
     command_again (tree.For name words body) s e =
         let t : State = record s { steps = suc s.steps } in
-        let found_fields : List Text = fields (parameters_in t.memory) words in
+        let found_fields : List Text = turns_in limits.shell (parameters_in t.memory) words in
         never_again (place_command limits (tree.For name words body) f fs s)
-        (counted_never (λ u. place_fitting (fields (parameters_in u.memory) words) (λ fs'. for_begins fs' f fs) u) s (fitting_never found_fields (λ fs'. for_begins fs' f fs) t (for_never found_fields f fs t)))
+        (counted_never (λ u. place_fitting (turns_in limits.shell (parameters_in u.memory) words) (λ fs'. for_begins fs' f fs) u) s (fitting_never found_fields (λ fs'. for_begins fs' f fs) t (for_never found_fields f fs t)))
 
     joined_again : (o : Option (Op × Command)) (s : State) → ((pair : Op × Command) → o ≡ Some pair → command_at (list_at f.script f.place.list) f.place.command ≡ Some pair.1) → AsksAgain limits (place_joined limits o f fs s)
     joined_again None s e = tt

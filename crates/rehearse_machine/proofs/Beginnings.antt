@@ -2,7 +2,7 @@
 use Rattle.std.proofs.Common.{ℕ, suc, Bool, true, false, List, ◌∷◌, Result, refl, sym, ap, subst, ◌∙◌, ◌≡◌, arith, nat_lt, nat_le, add-one}
 use Rattle.hushlang.specs.Tree as tree
 use Rattle.hushlang.specs.Expansion as expansion
-use Rattle.hushlang.specs.Expansion.{fields, size, most_bytes}
+use Rattle.hushlang.specs.Expansion.{size, most_bytes}
 use Rattle.bootstore_state.specs.declared.store.StoreError.{StoreError}
 use Rattle.bootstore_state.specs.declared.frame.At.{At}
 use Rattle.bootstore_state.specs.Moment.{RunningFrame}
@@ -41,20 +41,20 @@ stepped_keeps old mid e = subst (Keeps old) (sym e) (record { marked = refl; beg
 pub behind_top : (f : RunningFrame) (old : Record) (at : At) → IsTop f old.present → at ≡ place f.place.list (suc f.place.command) 0 0 → moved at old.present.frames ≡ behind f ∷ under old.present
 behind_top f old at t e = top_moved old.present.frames (under old.present) f at t ∙ ap (λ (x : At). moved_to x f ∷ under old.present) e
 
-module _ (limits : Limits) (old mid : Record) (words : List tree.Word) (n : List Text → State → PlaceNext) (below : nat_lt old.present.steps limits.step_bound ≡ true) (begun : mid ≡ stepped old) where
+module _ (limits : Limits) (old mid : Record) (expand : expansion.Parameters → List Text) (n : List Text → State → PlaceNext) (below : nat_lt old.present.steps limits.step_bound ≡ true) (begun : mid ≡ stepped old) where
   abbrev expanded : OutcomeWord → List Text
-  expanded w = fields (parameters_in (state_at old.present w).memory) words
+  expanded w = expand (parameters_in (state_at old.present w).memory)
 
-  same_fields : (w : OutcomeWord) → fields (parameters_at mid.present) words ≡ expanded w
-  same_fields w = ap (λ (x : expansion.Parameters). fields x words) (same_parameters mid.present w ∙ ap (λ (s : State). parameters_in s.memory) (stepped_state old mid w begun))
+  same_fields : (w : OutcomeWord) → expand (parameters_at mid.present) ≡ expanded w
+  same_fields w = ap expand (same_parameters mid.present w ∙ ap (λ (s : State). parameters_in s.memory) (stepped_state old mid w begun))
 
   abbrev whole : State → PlaceNext
-  whole s = place_counted limits (λ t. place_fitting (fields (parameters_in t.memory) words) n t) s
+  whole s = place_counted limits (λ t. place_fitting (expand (parameters_in t.memory)) n t) s
 
   counted_is : (w : OutcomeWord) → place_fitting (expanded w) n (counted_state (state_at old.present w)) ≡ whole (state_at old.present w)
   counted_is w = chosen (nat_lt old.present.steps limits.step_bound) (place_fitting (expanded w) n (counted_state (state_at old.present w))) (StopOn CutSteps (state_at old.present w)) below
 
-  pub too_long : nat_le (size (fields (parameters_at mid.present) words)) most_bytes ≡ false → Does (steps.Ends halts.Size) old mid whole
+  pub too_long : nat_le (size (expand (parameters_at mid.present))) most_bytes ≡ false → Does (steps.Ends halts.Size) old mid whole
   too_long h = (
     λ w. ap (StopOn Size) (stepped_state old mid w begun)
         ∙ passed (nat_le (size (expanded w)) most_bytes) (n (expanded w) (counted_state (state_at old.present w))) (StopOn Size (counted_state (state_at old.present w))) (ap (λ (fs : List Text). nat_le (size fs) most_bytes) (sym (same_fields w)) ∙ h)
@@ -63,13 +63,13 @@ module _ (limits : Limits) (old mid : Record) (words : List tree.Word) (n : List
   )
 
   -- what follows, with the fields that were found
-  pub goes_with : (found : List Text) → found ≡ fields (parameters_at mid.present) words → nat_le (size (fields (parameters_at mid.present) words)) most_bytes ≡ true → (w : OutcomeWord) → n found (counted_state (state_at old.present w)) ≡ whole (state_at old.present w)
+  pub goes_with : (found : List Text) → found ≡ expand (parameters_at mid.present) → nat_le (size (expand (parameters_at mid.present))) most_bytes ≡ true → (w : OutcomeWord) → n found (counted_state (state_at old.present w)) ≡ whole (state_at old.present w)
   goes_with found e h w =
       ap (λ (fs : List Text). n fs (counted_state (state_at old.present w))) (e ∙ same_fields w)
       ∙ chosen (nat_le (size (expanded w)) most_bytes) (n (expanded w) (counted_state (state_at old.present w))) (StopOn Size (counted_state (state_at old.present w))) (ap (λ (fs : List Text). nat_le (size fs) most_bytes) (sym (same_fields w)) ∙ h)
       ∙ counted_is w
 
-  pub comes_with : (r : Result Step StoreError) (late new : Record) (found : List Text) (m : State → PlaceNext) → found ≡ fields (parameters_at mid.present) words → nat_le (size (fields (parameters_at mid.present) words)) most_bytes ≡ true → ((w : OutcomeWord) → state_at late.present w ≡ state_at mid.present w) → Keeps mid late → ((s : State) → m s ≡ n found s) → Comes r late new m → Comes r old new whole
+  pub comes_with : (r : Result Step StoreError) (late new : Record) (found : List Text) (m : State → PlaceNext) → found ≡ expand (parameters_at mid.present) → nat_le (size (expand (parameters_at mid.present))) most_bytes ≡ true → ((w : OutcomeWord) → state_at late.present w ≡ state_at mid.present w) → Keeps mid late → ((s : State) → m s ≡ n found s) → Comes r late new m → Comes r old new whole
   comes_with r late new found m e h same keeps says comes =
       comes_at r old new (λ s. m (counted_state s)) whole (λ w. says (counted_state (state_at old.present w)) ∙ goes_with found e h w)
       (comes_after r old late new counted_state m (λ w. same w ∙ stepped_state old mid w begun) (keeps_both old mid late (stepped_keeps old mid begun) keeps) comes)

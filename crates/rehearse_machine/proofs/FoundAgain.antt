@@ -1,4 +1,5 @@
 -- The words of a command that asks, expanded again.
+use Rattle.rehearse_rules.specs.ByShell.{fields_in}
 use Rattle.std.proofs.Common.{ℕ, ◌-◌, true, false, List, ◌∷◌, Option, Some, None, refl, sym, ap, ◌∙◌, ◌≡◌, nat_le}
 use Rattle.hushlang.specs.Tree as tree
 use Rattle.hushlang.specs.Tree.{AndOr, Command}
@@ -7,7 +8,7 @@ use Rattle.hushlang.specs.declared.tree.AndOr.{AndOr as ListCode}
 use Rattle.hushlang.specs.declared.call.Call.{Call}
 use Rattle.hushlang.specs.declared.tree.Command.{Command as CommandCode, Simple}
 use Rattle.hushlang.specs.Expansion as expansion
-use Rattle.hushlang.specs.Expansion.{fields, size, most_bytes}
+use Rattle.hushlang.specs.Expansion.{size, most_bytes}
 use Rattle.bootstore_state.specs.declared.frame.At.{At}
 use Rattle.bootstore_state.specs.Moment.{RunningFrame}
 use Rattle.bootstore_state.specs.Record.{Record}
@@ -66,18 +67,18 @@ module _ (limits : Limits) (old : Record) (f : RunningFrame) (fs : List RunningF
     again w = ap (λ (o : Option (List tree.Word)). fields_again limits o f fs (state_at old.present w)) in_front
 
     abbrev expanded : outcomes.OutcomeWord → List Text
-    expanded w = fields (parameters_in (state_at old.present w).memory) words
+    expanded w = fields_in limits.shell (parameters_in (state_at old.present w).memory) words
 
-    same_fields : (w : outcomes.OutcomeWord) → fields (parameters_at old.present) words ≡ expanded w
-    same_fields w = ap (λ (x : expansion.Parameters). fields x words) (same_parameters old.present w)
+    same_fields : (w : outcomes.OutcomeWord) → fields_in limits.shell (parameters_at old.present) words ≡ expanded w
+    same_fields w = ap (λ (x : expansion.Parameters). fields_in limits.shell x words) (same_parameters old.present w)
 
-    pub too_long_again : nat_le (size (fields (parameters_at old.present) words)) most_bytes ≡ false → Does (steps.Ends halts.Size) old old (fields_again limits (words_in_front f) f fs)
+    pub too_long_again : nat_le (size (fields_in limits.shell (parameters_at old.present) words)) most_bytes ≡ false → Does (steps.Ends halts.Size) old old (fields_again limits (words_in_front f) f fs)
     too_long_again h = (
       λ w. passed (nat_le (size (expanded w)) most_bytes) (place_fields limits (expanded w) f.script (f ∷ fs) (state_at old.present w)) (StopOn Size (state_at old.present w)) (ap (λ (x : List Text). nat_le (size x) most_bytes) (sym (same_fields w)) ∙ h) ∙ again w,
       record { marked = refl; begun = refl },
     )
 
-    pub fields_found : (found : List Text) → found ≡ fields (parameters_at old.present) words → nat_le (size (fields (parameters_at old.present) words)) most_bytes ≡ true → (w : outcomes.OutcomeWord) → place_fields limits found f.script (f ∷ fs) (state_at old.present w) ≡ fields_again limits (words_in_front f) f fs (state_at old.present w)
+    pub fields_found : (found : List Text) → found ≡ fields_in limits.shell (parameters_at old.present) words → nat_le (size (fields_in limits.shell (parameters_at old.present) words)) most_bytes ≡ true → (w : outcomes.OutcomeWord) → place_fields limits found f.script (f ∷ fs) (state_at old.present w) ≡ fields_again limits (words_in_front f) f fs (state_at old.present w)
     fields_found found e h w =
         ap (λ (x : List Text). place_fields limits x f.script (f ∷ fs) (state_at old.present w)) (e ∙ same_fields w)
         ∙ chosen (nat_le (size (expanded w)) most_bytes) (place_fields limits (expanded w) f.script (f ∷ fs) (state_at old.present w)) (StopOn Size (state_at old.present w)) (ap (λ (x : List Text). nat_le (size x) most_bytes) (sym (same_fields w)) ∙ h)

@@ -17,6 +17,7 @@ pub mod ComputedLemmas
 pub mod Beginnings
 pub mod ListLemmas
 pub mod WordLemmas
+pub mod FitLemmas
 pub mod RunSoFar
 pub mod AssignLemmas
 pub mod PartLemmas

@@ -19,7 +19,7 @@ use Rattle.rehearse_rules.proofs.TakenOutcomes.{KeepsAll, after_condition, Keeps
 use Rattle.hushlang.proofs.ProperLemmas.{trees_are_proper}
 use Rattle.rehearse_machine.proofs.BoundLemmas.{Cut-block}
 use Rattle.rehearse_machine.proofs.StepBoundLemmas.{same_go_on, same_if, closed_exec, same_turns}
-use Rattle.rehearse_rules.specs.ByShell.{skips_rest, status_of_loop}
+use Rattle.rehearse_rules.specs.ByShell.{fields_in, turns_in, skips_rest, status_of_loop}
 use Rattle.rehearse_rules.proofs.TakenOutcomes.{skipped}
 
 module _ (limits : Limits) where
@@ -154,11 +154,11 @@ module _ (limits : Limits) where
     turn_more until c b p q last s = turn_more_at limits.step_bound refl until c b p q last s
 
     command-is : (c : Command) → IsProperCommand c → (fs : List Frame) (s : State) → comes_to limits w (begin_command limits c fs s) ≡ continue limits fs (one limits c (with w s))
-    command-is (tree.Simple words) p fs s = counted-is (λ t. fitting (fields (parameters_in t.memory) words) (λ f. begin_fields limits f fs) t) (λ t. sized (fields (parameters_in t.memory) words) (simple limits (full limits)) t) fs s (λ t. fitting-is (fields (parameters_in t.memory) words) (λ f. begin_fields limits f fs) (simple limits (full limits)) fs t (fields-is (fields (parameters_in t.memory) words) fs t))
+    command-is (tree.Simple words) p fs s = counted-is (λ t. fitting (fields_in limits.shell (parameters_in t.memory) words) (λ f. begin_fields limits f fs) t) (λ t. sized (fields_in limits.shell (parameters_in t.memory) words) (simple limits (full limits)) t) fs s (λ t. fitting-is (fields_in limits.shell (parameters_in t.memory) words) (λ f. begin_fields limits f fs) (simple limits (full limits)) fs t (fields-is (fields_in limits.shell (parameters_in t.memory) words) fs t))
     command-is (tree.Assign pairs) p fs s = counted-is (begin_assign pairs fs) (assign pairs) fs s (λ t. assign-is pairs fs t)
     command-is (tree.If arms) p fs s = arms-is arms fs s
     command-is (tree.Loop until c b) p fs s = ap (continue limits fs) (sym (turn_more until c b p.0 p.1 0 (with w s)))
-    command-is (tree.For name words body) p fs s = counted-is (λ t. fitting (fields (parameters_in t.memory) words) (λ f. begin_for name f body fs) t) (λ t. sized (fields (parameters_in t.memory) words) (for_each limits.shell name (script limits body) 0) t) fs s (λ t. fitting-is (fields (parameters_in t.memory) words) (λ f. begin_for name f body fs) (for_each limits.shell name (script limits body) 0) fs t (for-is name (fields (parameters_in t.memory) words) body fs t))
+    command-is (tree.For name words body) p fs s = counted-is (λ t. fitting (turns_in limits.shell (parameters_in t.memory) words) (λ f. begin_for name f body fs) t) (λ t. sized (turns_in limits.shell (parameters_in t.memory) words) (for_each limits.shell name (script limits body) 0) t) fs s (λ t. fitting-is (turns_in limits.shell (parameters_in t.memory) words) (λ f. begin_for name f body fs) (for_each limits.shell name (script limits body) 0) fs t (for-is name (turns_in limits.shell (parameters_in t.memory) words) body fs t))
 
     -- a move keeps what is to come
     pub move-is : (fs : List Frame) → AreProperFrames fs → (s : State) → comes_to limits w (move limits fs s) ≡ continue limits fs (Normal (with w s))

@@ -1,8 +1,9 @@
 -- What a frame does next, in other words.
+use Rattle.rehearse_rules.specs.ByShell.{fields_in}
 use Rattle.std.proofs.Common.{ℕ, Bool, true, nat_le, List, [], ◌∷◌, ◌+◌, ◌^◌, ◌<◌, Some, Result, ◌∙◌, ◌≡◌, sym, ap, subst}
 use Rattle.std.specs.Prelude.{slice_get}
 use Rattle.hushlang.specs.Tree as tree
-use Rattle.hushlang.specs.Expansion.{fields, size, most_bytes}
+use Rattle.hushlang.specs.Expansion.{size, most_bytes}
 use Rattle.bootstore_state.specs.declared.store.StoreError.{StoreError}
 use Rattle.bootstore_state.specs.Moment.{Moment, RunningFrame}
 use Rattle.bootstore_state.specs.Record.{Record, stepped, without_first}
@@ -26,8 +27,8 @@ is_top [] f e = absurd (let g = e in cc)
 is_top (x ∷ xs) f e = let same : x ≡ f = (let g = e in cc) in ap (λ (y : RunningFrame). y ∷ xs) same
 
 -- fields that were found before a step was begun are those after it
-pub found_before : (fit : Bool) (found : List Text) (words : List tree.Word) (old mid : Record) → mid ≡ stepped old → IsExpanded fit found (fields (parameters_at old.present) words) → IsExpanded fit found (fields (parameters_at mid.present) words)
-found_before fit found words old mid e h = subst (λ (r : Record). IsExpanded fit found (fields (parameters_at r.present) words)) (sym e) h
+pub found_before : (shell : Shell) (fit : Bool) (found : List Text) (words : List tree.Word) (old mid : Record) → mid ≡ stepped old → IsExpanded fit found (fields_in shell (parameters_at old.present) words) → IsExpanded fit found (fields_in shell (parameters_at mid.present) words)
+found_before shell fit found words old mid e h = subst (λ (r : Record). IsExpanded fit found (fields_in shell (parameters_at r.present) words)) (sym e) h
 
 -- fields that are known are those that the words come to
 pub known_before : (found found_now : List Text) → found ≡ found_now → nat_le (size found) most_bytes ≡ true → IsExpanded true found found_now

@@ -4,7 +4,7 @@ use Rattle.std.specs.Prelude.{slice_get}
 use Rattle.std.proofs.Math.Dec.{eqb-suc-zero}
 use Rattle.hushlang.specs.Tree as tree
 use Rattle.hushlang.specs.Tree.{Script, AndOr, Joined, Command, Arms}
-use Rattle.hushlang.specs.Expansion.{fields, joined, size, most_bytes}
+use Rattle.hushlang.specs.Expansion.{joined, size, most_bytes}
 use Rattle.hushlang.specs.declared.tree.Op.{Op}
 use Rattle.bootstore_state.specs.declared.frame.At.{At}
 use Rattle.bootstore_state.specs.declared.frame.FrameKind.{FrameKind}
@@ -22,7 +22,7 @@ use Rattle.rehearse_rules.specs.Execution.{begin_turn, Limits, End, CutDevices, 
 use Rattle.rehearse_machine.specs.Frames.{Frame, Lists, Linked, IfCondition, LoopCondition, LoopBody, ForBody, Next, Go, Stop, leave, boot_next, answered, tell_or_ask, begin_assign, begin_for, begin_arms, begun_text, begin_tree, begin_text, begin_names, begin_exit, fitting, ask, begin_called, begin_fields, counted, begin_command, move}
 use Rattle.rehearse_machine.specs.Places.{list_at, drop_lists, joined_at, drop_joined, second, command_in, command_at, drop_arms, place, from_command, condition_frame, phase, from_turn, script_frames, for_frame, run_frame, frames_by, frames_of, PlaceNext, GoOn, StopOn, next_of, moved_to, behind, in_turn, text_frame, block_frame, is_run, to_run, left, place_exit, place_boot, place_answered, place_tell_or_ask, place_assign, place_tree, place_text, place_name, run_move, for_turn, for_move, for_begins, place_arms, condition_ends, phase_move, place_fitting, place_ask, place_called, place_fields, place_counted, place_command, place_joined, place_skipped, place_begins, place_turn, place_list, place_by, place_move, place_skipped}
 use Rattle.rehearse_machine.proofs.Beginnings.{chosen, passed}
-use Rattle.rehearse_rules.specs.ByShell.{skips_rest, status_of_no_block, status_of_loop}
+use Rattle.rehearse_rules.specs.ByShell.{fields_in, turns_in, skips_rest, status_of_no_block, status_of_loop}
 
 -- ---- parts by their numbers
 
@@ -296,13 +296,13 @@ module _ (limits : Limits) where
     looped-is until c b e last s = ap (λ (x : List Frame). Go x s) (blocked c (in_turn 1 last f ∷ fs) ∙ ap (λ (x : List Frame). Lists c ∷ x) (turned f.place.command 1 last ∙ ap (λ (x : Option Command). phase x 0 last ∷ below) e))
 
     command-is : (c : Command) → command_in list f.place.command ≡ Some c → (s : State) → next_of (place_command limits c f fs s) ≡ begin_command limits c below s
-    command-is (tree.Simple words) e s = counted-is (λ t. place_fitting (fields (parameters_in t.memory) words) (λ found. place_fields limits found f.script (behind f ∷ fs)) t) (λ t. fitting (fields (parameters_in t.memory) words) (λ found. begin_fields limits found below) t) s
-        (λ t. fitting-is (fields (parameters_in t.memory) words) (λ found. place_fields limits found f.script (behind f ∷ fs)) (λ found. begin_fields limits found below) t (fields-is (fields (parameters_in t.memory) words) f.script (behind f ∷ fs) t ∙ ap (λ (x : List Frame). begin_fields limits (fields (parameters_in t.memory) words) x t) behind-is))
+    command-is (tree.Simple words) e s = counted-is (λ t. place_fitting (fields_in limits.shell (parameters_in t.memory) words) (λ found. place_fields limits found f.script (behind f ∷ fs)) t) (λ t. fitting (fields_in limits.shell (parameters_in t.memory) words) (λ found. begin_fields limits found below) t) s
+        (λ t. fitting-is (fields_in limits.shell (parameters_in t.memory) words) (λ found. place_fields limits found f.script (behind f ∷ fs)) (λ found. begin_fields limits found below) t (fields-is (fields_in limits.shell (parameters_in t.memory) words) f.script (behind f ∷ fs) t ∙ ap (λ (x : List Frame). begin_fields limits (fields_in limits.shell (parameters_in t.memory) words) x t) behind-is))
     command-is (tree.Assign pairs) e s = counted-is (place_assign pairs (behind f ∷ fs)) (begin_assign pairs below) s (λ t. assign-is pairs (behind f ∷ fs) t ∙ ap (λ (x : List Frame). begin_assign pairs x t) behind-is)
     command-is (tree.If arms) e s = arms-is arms arms 0 e refl s
     command-is (tree.Loop until c b) e s = looped-is until c b e 0 s
-    command-is (tree.For name words body) e s = counted-is (λ t. place_fitting (fields (parameters_in t.memory) words) (λ found. for_begins found f fs) t) (λ t. fitting (fields (parameters_in t.memory) words) (λ found. begin_for name found body below) t) s
-        (λ t. fitting-is (fields (parameters_in t.memory) words) (λ found. for_begins found f fs) (λ found. begin_for name found body below) t (begins-for-is name words body e (fields (parameters_in t.memory) words) t))
+    command-is (tree.For name words body) e s = counted-is (λ t. place_fitting (turns_in limits.shell (parameters_in t.memory) words) (λ found. for_begins found f fs) t) (λ t. fitting (turns_in limits.shell (parameters_in t.memory) words) (λ found. begin_for name found body below) t) s
+        (λ t. fitting-is (turns_in limits.shell (parameters_in t.memory) words) (λ found. for_begins found f fs) (λ found. begin_for name found body below) t (begins-for-is name words body e (turns_in limits.shell (parameters_in t.memory) words) t))
 
     condition-is : (all arms : Arms) (a : ℕ) → command_in list f.place.command ≡ Some (tree.If all) → drop_arms a all ≡ arms → (s : State) → next_of (condition_ends limits.shell arms a f fs s) ≡ move limits (condition_frame arms ∷ below) s
     condition-is all (tree.Arm c b more) a e d s =

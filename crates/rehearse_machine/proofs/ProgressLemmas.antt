@@ -2,7 +2,7 @@
 use Rattle.std.proofs.Common.{ℕ, suc, Bool, true, false, List, [], ◌∷◌, length, Option, Some, None, refl, ◌≡◌, ◌<◌, ◌≤◌, ◌⊎◌, inl, inr, arith, ◌+◌, nat_lt, nat_le, nat_eq, ltb-true}
 use Rattle.hushlang.specs.Tree as tree
 use Rattle.hushlang.specs.Tree.{Script, Joined, Command, Arms, IsProperCommand, AreProperArms, HoldsCommand}
-use Rattle.hushlang.specs.Expansion.{fields, joined, size, most_bytes}
+use Rattle.hushlang.specs.Expansion.{joined, size, most_bytes}
 use Rattle.hushlang.specs.Trees.{tree_of}
 use Rattle.commands.specs.Verdict.{verdict}
 use Rattle.rehearse_terms.specs.State.{Text, get, State}
@@ -14,7 +14,7 @@ use Rattle.rehearse_terms.specs.Outcomes.{Success}
 use Rattle.rehearse_machine.specs.Frames.{Frame, Lists, Linked, IfCondition, LoopCondition, LoopBody, ForBody, RunNames, RunText, Next, Go, Ask, Stop, tell_or_ask, boot_next, leave, begin_assign, begin_for, begin_arms, begin_tree, begin_text, begin_names, begin_exit, fitting, ask, begin_called, begin_fields, begin_command, move}
 use Rattle.rehearse_machine.specs.MoveCounts.{command_depth, arms_depth, script_depth, block_weight, links_weight, arms_weight, tree_weight, text_weight, names_weight, weight}
 use Rattle.rehearse_machine.specs.Meaning.{AreProperFrames}
-use Rattle.rehearse_rules.specs.ByShell.{skips_rest, status_of_loop}
+use Rattle.rehearse_rules.specs.ByShell.{fields_in, turns_in, skips_rest, status_of_loop}
 
 module _ (limits : Limits) where
   -- no step was begun since t
@@ -146,11 +146,11 @@ module _ (limits : Limits) where
   loop_progress until (tree.Runs l ls) b last fs s p = inr (refl, refl, omega arith)
 
   command_progress : (c : Command) (fs : List Frame) (s : State) → IsProperCommand c → Progress s (suc (command_depth c)) (begin_command limits c fs s)
-  command_progress (tree.Simple words) fs s p = let t : State = record s { steps = suc s.steps } in inl (counted_at (nat_lt s.steps limits.step_bound) s (fitting (fields (parameters_in t.memory) words) (λ f. begin_fields limits f fs) t) refl (either-quiet t (nat_le (size (fields (parameters_in t.memory) words)) most_bytes) (begin_fields limits (fields (parameters_in t.memory) words) fs t) (Stop Size t) (fields-quiet (fields (parameters_in t.memory) words) fs t) refl))
+  command_progress (tree.Simple words) fs s p = let t : State = record s { steps = suc s.steps } in inl (counted_at (nat_lt s.steps limits.step_bound) s (fitting (fields_in limits.shell (parameters_in t.memory) words) (λ f. begin_fields limits f fs) t) refl (either-quiet t (nat_le (size (fields_in limits.shell (parameters_in t.memory) words)) most_bytes) (begin_fields limits (fields_in limits.shell (parameters_in t.memory) words) fs t) (Stop Size t) (fields-quiet (fields_in limits.shell (parameters_in t.memory) words) fs t) refl))
   command_progress (tree.Assign pairs) fs s p = let t : State = record s { steps = suc s.steps } in inl (counted_at (nat_lt s.steps limits.step_bound) s (begin_assign pairs fs t) refl (assign-quiet pairs fs t t refl))
   command_progress (tree.If arms) fs s p = if_progress arms fs s p
   command_progress (tree.Loop until c b) fs s p = loop_progress until c b 0 fs s p.0
-  command_progress (tree.For name words body) fs s p = let t : State = record s { steps = suc s.steps } in inl (counted_at (nat_lt s.steps limits.step_bound) s (fitting (fields (parameters_in t.memory) words) (λ f. begin_for name f body fs) t) refl (either-quiet t (nat_le (size (fields (parameters_in t.memory) words)) most_bytes) (begin_for name (fields (parameters_in t.memory) words) body fs t) (Stop Size t) (for-quiet name (fields (parameters_in t.memory) words) body fs t) refl))
+  command_progress (tree.For name words body) fs s p = let t : State = record s { steps = suc s.steps } in inl (counted_at (nat_lt s.steps limits.step_bound) s (fitting (turns_in limits.shell (parameters_in t.memory) words) (λ f. begin_for name f body fs) t) refl (either-quiet t (nat_le (size (turns_in limits.shell (parameters_in t.memory) words)) most_bytes) (begin_for name (turns_in limits.shell (parameters_in t.memory) words) body fs t) (Stop Size t) (for-quiet name (turns_in limits.shell (parameters_in t.memory) words) body fs t) refl))
 
   tree_progress : (o : Option Script) (name : Text) (names : List Text) (fs : List Frame) (s : State) → Progress s (suc (tree_weight o (suc (names_weight s.memory.environment names (weight s.memory.environment fs) + weight s.memory.environment fs)))) (begin_tree o name names fs s)
   tree_progress None name names fs s = inr refl

@@ -15,7 +15,7 @@ use Rattle.rehearse_machine.specs.Frames.{Frame, Lists, Linked, IfCondition, Loo
 use Rattle.hushlang.proofs.ProperLemmas.{trees_are_proper}
 use Rattle.rehearse_machine.proofs.StepBoundLemmas.{block_proper}
 use Rattle.rehearse_machine.specs.Meaning.{AreProperFrames, IsProperNext}
-use Rattle.rehearse_rules.specs.ByShell.{skips_rest, status_of_loop}
+use Rattle.rehearse_rules.specs.ByShell.{fields_in, turns_in, skips_rest, status_of_loop}
 
 module _ (limits : Limits) where
   either : (b : Bool) (x y : Next) → IsProperNext x → IsProperNext y → IsProperNext (elim b [ true ↦ x | false ↦ y ])
@@ -94,11 +94,11 @@ module _ (limits : Limits) where
   assign-proper (pair ∷ pairs) fs s p = let value : Text = joined (parameters_in s.memory) pair.1 in either (nat_le (length value) most_bytes) (begin_assign pairs fs (set_local pair.0 value s)) (Stop Size s) (assign-proper pairs fs (set_local pair.0 value s) p) tt
 
   command-proper : (c : Command) (fs : List Frame) (s : State) → IsProperCommand c → AreProperFrames fs → IsProperNext (begin_command limits c fs s)
-  command-proper (tree.Simple words) fs s q p = let t : State = record s { steps = suc s.steps } in either (nat_lt s.steps limits.step_bound) (fitting (fields (parameters_in t.memory) words) (λ f. begin_fields limits f fs) t) (Stop CutSteps s) (either (nat_le (size (fields (parameters_in t.memory) words)) most_bytes) (begin_fields limits (fields (parameters_in t.memory) words) fs t) (Stop Size t) (fields-proper (fields (parameters_in t.memory) words) fs t p) tt) tt
+  command-proper (tree.Simple words) fs s q p = let t : State = record s { steps = suc s.steps } in either (nat_lt s.steps limits.step_bound) (fitting (fields_in limits.shell (parameters_in t.memory) words) (λ f. begin_fields limits f fs) t) (Stop CutSteps s) (either (nat_le (size (fields_in limits.shell (parameters_in t.memory) words)) most_bytes) (begin_fields limits (fields_in limits.shell (parameters_in t.memory) words) fs t) (Stop Size t) (fields-proper (fields_in limits.shell (parameters_in t.memory) words) fs t p) tt) tt
   command-proper (tree.Assign pairs) fs s q p = let t : State = record s { steps = suc s.steps } in either (nat_lt s.steps limits.step_bound) (begin_assign pairs fs t) (Stop CutSteps s) (assign-proper pairs fs t p) tt
   command-proper (tree.If arms) fs s q p = arms-proper arms fs s (if-proper arms q) p
   command-proper (tree.Loop until c b) fs s q p = (block_proper c q.0, (q, p))
-  command-proper (tree.For name words body) fs s q p = let t : State = record s { steps = suc s.steps } in either (nat_lt s.steps limits.step_bound) (fitting (fields (parameters_in t.memory) words) (λ f. begin_for name f body fs) t) (Stop CutSteps s) (either (nat_le (size (fields (parameters_in t.memory) words)) most_bytes) (begin_for name (fields (parameters_in t.memory) words) body fs t) (Stop Size t) (for-proper name (fields (parameters_in t.memory) words) body fs t q p) tt) tt
+  command-proper (tree.For name words body) fs s q p = let t : State = record s { steps = suc s.steps } in either (nat_lt s.steps limits.step_bound) (fitting (turns_in limits.shell (parameters_in t.memory) words) (λ f. begin_for name f body fs) t) (Stop CutSteps s) (either (nat_le (size (turns_in limits.shell (parameters_in t.memory) words)) most_bytes) (begin_for name (turns_in limits.shell (parameters_in t.memory) words) body fs t) (Stop Size t) (for-proper name (turns_in limits.shell (parameters_in t.memory) words) body fs t q p) tt) tt
 
   pub move-proper : (fs : List Frame) (s : State) → AreProperFrames fs → IsProperNext (move limits fs s)
   move-proper [] s p = tt

@@ -2,7 +2,7 @@
 use Rattle.std.proofs.Common.{ℕ, zero, suc, Bool, true, false, List, [], ◌∷◌, Option, Some, None, refl, sym, ◌∙◌, ◌≡◌, ◌<◌, ◌≤◌, arith, ◌+◌, nat_lt, nat_le, nat_eq}
 use Rattle.hushlang.specs.Tree as tree
 use Rattle.hushlang.specs.Tree.{Script, AndOr, Joined, Command, Arms, IsProper, IsProperList, IsProperJoined, IsProperCommand, AreProperArms, HoldsCommand}
-use Rattle.hushlang.specs.Expansion.{fields, size, most_bytes}
+use Rattle.hushlang.specs.Expansion.{size, most_bytes}
 use Rattle.hushlang.specs.Trees.{tree_of}
 use Rattle.rehearse_terms.specs.State.{Text, get, State}
 use Rattle.rehearse_rules.specs.Parameters.{parameters_in}
@@ -13,7 +13,7 @@ use Rattle.rehearse_rules.proofs.GrowingSteps.{AtLeast, Grew, AtLeast-track, Gre
 use Rattle.rehearse_rules.proofs.TakenOutcomes.{KeepsAll, after_condition, Keeps-script, Keeps-list, Keeps-one, Keeps-exec, Keeps-text}
 use Rattle.hushlang.proofs.ProperLemmas.{trees_are_proper}
 use Rattle.rehearse_machine.proofs.BoundLemmas.{Cut-block, Cut-turns}
-use Rattle.rehearse_rules.specs.ByShell.{skips_rest, status_of_loop}
+use Rattle.rehearse_rules.specs.ByShell.{fields_in, turns_in, skips_rest, status_of_loop}
 use Rattle.rehearse_rules.proofs.TakenOutcomes.{skipped}
 
 pub block_proper : (a : Script) → HoldsCommand a → IsProper a
@@ -111,11 +111,11 @@ module _ (limits : Limits) where
           (same_if (skips_rest limits.shell) (Normal s) (exec_joined limits n text links s) (Normal s) (exec_joined limits m text' links s) refl (same_links links p.1 s h))
 
       same_one : (a : Command) → IsProperCommand a → (s : State) → limits.step_bound ≤ n + s.steps → exec_command limits n text a s ≡ exec_command limits m text' a s
-      same_one (tree.Simple words) p s h = same_begin (λ t. sized (fields (parameters_in t.memory) words) (simple limits text) t) (λ t. sized (fields (parameters_in t.memory) words) (simple limits text') t) s h (λ t r. same_sized (fields (parameters_in t.memory) words) (simple limits text) (simple limits text') t (same_simple (fields (parameters_in t.memory) words) t r))
+      same_one (tree.Simple words) p s h = same_begin (λ t. sized (fields_in limits.shell (parameters_in t.memory) words) (simple limits text) t) (λ t. sized (fields_in limits.shell (parameters_in t.memory) words) (simple limits text') t) s h (λ t r. same_sized (fields_in limits.shell (parameters_in t.memory) words) (simple limits text) (simple limits text') t (same_simple (fields_in limits.shell (parameters_in t.memory) words) t r))
       same_one (tree.Assign pairs) p s h = refl
       same_one (tree.If arms) p s h = same_if_arms arms p s h
       same_one (tree.Loop until c b) p s h = same_turns n m below until (exec_script limits n text c) (exec_script limits m text' c) (exec_script limits n text b) (exec_script limits m text' b) (same_script c (block_proper c p.0)) (same_script b (block_proper b p.1)) (Grew-block limits n text kept c p.0) (Keeps-script limits n text kept b) (Cut-block limits m text' c p.0) 0 s h h
-      same_one (tree.For name words b) p s h = same_begin (λ t. sized (fields (parameters_in t.memory) words) (for_each limits.shell name (exec_script limits n text b) 0) t) (λ t. sized (fields (parameters_in t.memory) words) (for_each limits.shell name (exec_script limits m text' b) 0) t) s h (λ t r. same_sized (fields (parameters_in t.memory) words) (for_each limits.shell name (exec_script limits n text b) 0) (for_each limits.shell name (exec_script limits m text' b) 0) t (same_for name (exec_script limits n text b) (exec_script limits m text' b) (same_script b (block_proper b p)) (Keeps-script limits n text kept b) 0 (fields (parameters_in t.memory) words) t (omega arith)))
+      same_one (tree.For name words b) p s h = same_begin (λ t. sized (turns_in limits.shell (parameters_in t.memory) words) (for_each limits.shell name (exec_script limits n text b) 0) t) (λ t. sized (turns_in limits.shell (parameters_in t.memory) words) (for_each limits.shell name (exec_script limits m text' b) 0) t) s h (λ t r. same_sized (turns_in limits.shell (parameters_in t.memory) words) (for_each limits.shell name (exec_script limits n text b) 0) (for_each limits.shell name (exec_script limits m text' b) 0) t (same_for name (exec_script limits n text b) (exec_script limits m text' b) (same_script b (block_proper b p)) (Keeps-script limits n text kept b) 0 (turns_in limits.shell (parameters_in t.memory) words) t (omega arith)))
 
       same_if_arms : (a : Arms) → IsProperCommand (tree.If a) → (s : State) → limits.step_bound ≤ n + s.steps → exec_arms limits n text a s ≡ exec_arms limits m text' a s
       same_if_arms (tree.Arm c b arms) p s h = same_go_on s.steps (exec_script limits n text c s) (exec_script limits m text' c s) (λ t. elim (nat_eq t.memory.status 0) [ true ↦ exec_script limits n text b t | false ↦ exec_arms limits n text arms t ]) (λ t. elim (nat_eq t.memory.status 0) [ true ↦ exec_script limits m text' b t | false ↦ exec_arms limits m text' arms t ]) (AtLeast-track limits.device_bound s (exec_script limits n text c s) (Keeps-script limits n text kept c s).0) (same_script c (block_proper c p.0) s h) (λ t r. same_if (nat_eq t.memory.status 0) (exec_script limits n text b t) (exec_arms limits n text arms t) (exec_script limits m text' b t) (exec_arms limits m text' arms t) (same_script b (block_proper b p.1) t (omega arith)) (same_arms arms p.2 t (omega arith)))

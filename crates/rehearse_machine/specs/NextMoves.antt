@@ -1,8 +1,8 @@
 -- What the innermost frame does next, as a value. Ours.
+use Rattle.rehearse_rules.specs.ByShell.{turns_in}
 use Rattle.std.specs.Prelude.{◌≡◌, ℕ, ◌+◌, ◌^◌, ◌<◌, List, ◌∷◌, map}
 use Rattle.hushlang.specs.Tree as tree
 use Rattle.hushlang.specs.TreesShown as view
-use Rattle.hushlang.specs.Expansion.{fields}
 use Rattle.bootstore_state.specs.Moment.{RunningFrame}
 use Rattle.rehearse_terms.specs.State.{State}
 use Rattle.rehearse_terms.specs.declared.shell.Shell.{Shell}
@@ -22,7 +22,7 @@ continued limits (nexts.Calls call) f fs s = place_command limits (tree.Simple (
 continued limits (nexts.Assigns values) f fs s = place_command limits (tree.Assign (map view.value values.now)) f fs s
 continued limits (nexts.Loops words) f fs s =
     place_counted limits (λ t.
-    place_fitting (fields (parameters_in t.memory) (map view.word words.now))
+    place_fitting (turns_in limits.shell (parameters_in t.memory) (map view.word words.now))
     (λ found. for_begins found f fs) t) s
 continued limits nexts.Turns f fs s =
     for_move limits.shell (command_at (list_at f.script f.place.list) f.place.command) f fs s

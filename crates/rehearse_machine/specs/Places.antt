@@ -2,7 +2,7 @@
 use Rattle.std.specs.Prelude.{ℕ, zero, suc, nat_lt, nat_le, nat_eq, Bool, true, false, List, [], ◌∷◌, ◌++◌, length, drop, slice_get, Option, Some, None}
 use Rattle.hushlang.specs.Tree as tree
 use Rattle.hushlang.specs.Tree.{Script, AndOr, Joined, Command, Arms}
-use Rattle.hushlang.specs.Expansion.{fields, joined, size, most_bytes}
+use Rattle.hushlang.specs.Expansion.{joined, size, most_bytes}
 use Rattle.hushlang.specs.declared.tree.Op.{Op}
 use Rattle.bootstore_state.specs.declared.frame.At.{At}
 use Rattle.bootstore_state.specs.declared.frame.FrameKind.{FrameKind}
@@ -12,7 +12,7 @@ use Rattle.rehearse_terms.specs.Outcomes.{Outcome, Success, Failure}
 use Rattle.hushlang.specs.Trees.{tree_of}
 use Rattle.rehearse_terms.specs.State.{Text, get, State}
 use Rattle.rehearse_terms.specs.declared.shell.Shell.{Shell}
-use Rattle.rehearse_rules.specs.ByShell.{skips_rest, status_of_nothing, status_of_no_block, status_of_loop}
+use Rattle.rehearse_rules.specs.ByShell.{fields_in, turns_in, skips_rest, status_of_nothing, status_of_no_block, status_of_loop}
 use Rattle.rehearse_rules.specs.Parameters.{parameters_in}
 use Rattle.commands.specs.Verdict.{verdict}
 use Rattle.device_list.specs.Called.{Called, BuiltIn, NoCommand, Device, called_by, sets_in}
@@ -303,13 +303,13 @@ module _ (limits : Limits) where
   abbrev pub place_command : Command → RunningFrame → List RunningFrame → State → PlaceNext
   place_command (tree.Simple words) f fs s =
       place_counted (λ t.
-      place_fitting (fields (parameters_in t.memory) words)
+      place_fitting (fields_in limits.shell (parameters_in t.memory) words)
       (λ found. place_fields found f.script (behind f ∷ fs)) t) s
   place_command (tree.Assign pairs) f fs s = place_counted (place_assign pairs (behind f ∷ fs)) s
   place_command (tree.If arms) f fs s = place_arms limits.shell arms 0 f fs s
   place_command (tree.Loop until c b) f fs s = GoOn (block_frame c ∷ in_turn 1 0 f ∷ fs) s
   place_command (tree.For name words body) f fs s =
-      place_counted (λ t. place_fitting (fields (parameters_in t.memory) words) (λ found. for_begins found f fs) t) s
+      place_counted (λ t. place_fitting (turns_in limits.shell (parameters_in t.memory) words) (λ found. for_begins found f fs) t) s
 
   -- a command that is skipped: the next one follows, or the next list
   abbrev pub place_skipped : RunningFrame → List RunningFrame → State → PlaceNext

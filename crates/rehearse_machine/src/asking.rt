@@ -56,15 +56,15 @@ fn find_behind<'d, S: Store>(
     };
     if let Some(known) = command.fields() {
         let known = known.as_slice();
-        let named = look_up(command, devices, known);
+        let named = look_up(command, devices, bounds.shell(), known);
         return run_fields(alloc, store, script, devices, bounds, named, known);
     }
-    let fit = expanded(fields, store, command.words())?;
+    let fit = expanded(alloc, fields, store, bounds.shell(), command.words())?;
     if !fit {
         return Ok(Step::Ends(Halt::Size));
     }
     let found = fields.as_slice();
-    let named = look_up(command, devices, found);
+    let named = look_up(command, devices, bounds.shell(), found);
     run_fields(alloc, store, script, devices, bounds, named, found)
 }
 

@@ -45,14 +45,14 @@ fn proceed<'d, S: Store>(
             let script = frame.script();
             if let Some(known) = command.fields() {
                 let known = known.as_slice();
-                let named = look_up(command, devices, known);
+                let named = look_up(command, devices, bounds.shell(), known);
                 return call(
                     alloc, store, script, after, devices, bounds, true, named, known,
                 );
             }
-            let fit = expanded(fields, store, command.words())?;
+            let fit = expanded(alloc, fields, store, bounds.shell(), command.words())?;
             let found = fields.as_slice();
-            let named = look_up(command, devices, found);
+            let named = look_up(command, devices, bounds.shell(), found);
             call(
                 alloc, store, script, after, devices, bounds, fit, named, found,
             )
@@ -95,14 +95,14 @@ pub(crate) fn step<'d, S: Store>(
             if let Some(known) = command.fields() {
                 let known = known.clone()?;
                 let known = known.as_slice();
-                let named = look_up(command, devices, known);
+                let named = look_up(command, devices, bounds.shell(), known);
                 return call(
                     alloc, store, &script, after, devices, bounds, true, named, known,
                 );
             }
-            let fit = expanded(fields, store, command.words())?;
+            let fit = expanded(alloc, fields, store, bounds.shell(), command.words())?;
             let found = fields.as_slice();
-            let named = look_up(command, devices, found);
+            let named = look_up(command, devices, bounds.shell(), found);
             return call(
                 alloc, store, &script, after, devices, bounds, fit, named, found,
             );

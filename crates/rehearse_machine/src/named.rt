@@ -5,11 +5,13 @@ ghost use Rattle.builtins.specs.Builtins.{builtin_named};
 ghost use Rattle.builtins.specs.BuiltinsShown.{builtin_shown};
 ghost use Rattle.hushlang.specs.Expansion as expansion;
 ghost use Rattle.hushlang.specs.TreesShown as view;
+ghost use Rattle.rehearse_rules.specs.ByShell.{fields_in};
 ghost use Rattle.text.specs.TextsShown.{bytes_of_words};
 
-use builtins::Builtin;
+use builtins::{Builtin, builtin_named};
 use device_list::Devices;
 use hushlang::Call;
+use rehearse_terms::Shell;
 
 /// What fields name.
 #[derive(Clone, Copy)]
@@ -20,13 +22,16 @@ pub(crate) struct Named {
     pub(crate) place: usize,
 }
 
-/// What the fields of a command name.
-pub(crate) fn look_up(command: &Call, devices: &Devices, fields: &[Vec<u8>]) -> Named
+/// What the fields of a command name. In U-Boot's shells its name is looked up in the fields alone.
+pub(crate) fn look_up(command: &Call, devices: &Devices, shell: Shell, fields: &[Vec<u8>]) -> Named
     ensures { (p : expansion.Parameters)
-        → bytes_of_words fields.now ≡ expansion.fields p (view.call command.now)
+        → bytes_of_words fields.now ≡ fields_in shell p (view.call command.now)
         → option_map builtin_shown result.builtin ≡ builtin_named (bytes_of_words fields.now) }
 {
-    let builtin = command.builtin_in(fields);
+    let builtin = match shell {
+        Shell::Profile => command.builtin_in(fields),
+        Shell::Old2023 | Shell::Old2025 => builtin_named(fields),
+    };
     let place = match (builtin, fields.first()) {
         (None, Some(name)) => near(command, devices, name),
         _ => usize::MAX,

@@ -4,7 +4,7 @@ ghost use Rattle.builtins.specs.Builtins.{builtin_named};
 ghost use Rattle.builtins.specs.BuiltinsShown.{builtin_shown};
 ghost use Rattle.hushlang.specs.TreesShown as view;
 ghost use Rattle.hushlang.specs.Tree as tree;
-ghost use Rattle.hushlang.specs.Expansion as expansion;
+ghost use Rattle.rehearse_rules.specs.ByShell.{fields_in, turns_in};
 ghost use Rattle.rehearse_terms.specs.State.{Text};
 ghost use Rattle.rehearse_rules.specs.Parameters.{parameters_in};
 ghost use Rattle.rehearse_rules.specs.Execution.{Limits, set_status};
@@ -27,7 +27,7 @@ use crate::frames::{behind, enter, finish, place};
 use crate::named::Named;
 use crate::outcomes::ask;
 use crate::run_and_exit::{begin_run, leave_text};
-use crate::steps::{count, expanded};
+use crate::steps::{count, turned};
 use bootstore_state::{At, Frame, FrameKind, Store, StoreError};
 use builtins::Builtin;
 use commands::verdict;
@@ -215,7 +215,7 @@ pub(crate) fn call<'d, S: Store>(
         ≡ builtin_named (bytes_of_words fields.now) }
     ensures { (f : RunningFrame) (words : List tree.Word) → after ≡ (goes_behind f).place
         → view.script script.now.value ≡ f.script → IsExpanded fit (bytes_of_words fields.now)
-        (expansion.fields (parameters_at (S.record_of store.old).present) words)
+        (fields_in bounds.shell (parameters_at (S.record_of store.old).present) words)
         → Moves f result (S.record_of store.old) (S.record_of store.new)
         (place_command (limits_of devices.now bounds) (tree.Simple words) f) }
 {
@@ -244,14 +244,14 @@ pub(crate) fn begin_for<'d, S: Store>(
     ensures { (devices : ListedDevices) → Moves frame.now result (S.record_of store.old)
         (S.record_of store.new)
         (λ fs. place_counted (limits_of devices bounds)
-        (λ t. place_fitting (expansion.fields (parameters_in t.memory)
+        (λ t. place_fitting (turns_in bounds.shell (parameters_in t.memory)
         (map view.word words.now)) (λ found. for_begins found frame.now fs) t)) }
 {
     let counted = count(store, bounds)?;
     if !counted {
         return Ok(Step::Ends(Halt::CutSteps));
     }
-    let fit = expanded(fields, store, words)?;
+    let fit = turned(alloc, fields, store, bounds.shell(), words)?;
     if !fit {
         return Ok(Step::Ends(Halt::Size));
     }

@@ -1,15 +1,21 @@
 //! Begins steps, and expands words.
-ghost use Rattle.std.specs.Prelude.{◌+◌, ◌<◌, ◌^◌, IfOk, map, true, false, Some, None};
+ghost use Rattle.std.specs.Prelude.{◌≡◌, ◌+◌, ◌<◌, ◌^◌, IfOk, map, nat_le, true, false, Some, None};
 ghost use Rattle.hushlang.specs.TreesShown as view;
 ghost use Rattle.hushlang.specs.Expansion as expansion;
+ghost use Rattle.rehearse_rules.specs.ByShell.{fields_in, turns_in};
+ghost use Rattle.text.specs.TextsShown.{bytes_of_words};
 ghost use Rattle.rehearse_machine.specs.Variables.{parameters_at};
 ghost use Rattle.rehearse_machine.specs.MovesShown.{IsExpanded, IsExpandedOne, IsCounted};
 
 use crate::memory::Memory;
 use bootstore_state::{Store, StoreError};
 use hushlang::{ExpandError, Fields, Word, expand_one};
-use rehearse_terms::RunBounds;
+use hushlang_old::{old_fields, old_turns};
+use rehearse_terms::{RunBounds, Shell};
 use std::alloc::Global;
+
+/// The most bytes that the fields of a command may hold.
+const MOST_BYTES: usize = 65_536;
 
 /// Begins a step if the bound allows one more. Returns whether it did.
 pub(crate) fn count<S: Store>(store: &mut S, bounds: RunBounds) -> Result<bool, StoreError>
@@ -24,13 +30,9 @@ pub(crate) fn count<S: Store>(store: &mut S, bounds: RunBounds) -> Result<bool, 
     Ok(true)
 }
 
-/// Puts the fields of words in the place of these. Returns whether they hold no more bytes than
-/// allowed.
-pub(crate) fn expanded<S: Store>(
-    fields: &mut Fields,
-    store: &S,
-    words: &[Word],
-) -> Result<bool, StoreError>
+/// Puts the fields of words by ubtool's own rules in the place of these. Returns whether they hold no
+/// more bytes than allowed.
+fn filled<S: Store>(fields: &mut Fields, store: &S, words: &[Word]) -> Result<bool, StoreError>
     ensures { IfOk result (λ fit. IsExpanded fit fields.new
         (expansion.fields (parameters_at (S.record_of store.now).present)
         (map view.word words.now))) }
@@ -40,6 +42,73 @@ pub(crate) fn expanded<S: Store>(
         Err(ExpandError::TooLong) => Ok(false),
         Err(ExpandError::Memory) => Err(StoreError::Memory),
     }
+}
+
+/// Puts other fields in the place of these. Returns whether they hold no more bytes than allowed.
+fn replaced(fields: &mut Fields, found: Vec<Vec<u8>>) -> bool
+    ensures { IsExpanded result fields.new (map (λ field. field.items) found.items) }
+{
+    let fit = fits(found.as_slice());
+    fields.replace(found);
+    fit
+}
+
+/// Puts the fields of a command in a shell in the place of these. Returns whether they hold no more
+/// bytes than allowed.
+pub(crate) fn expanded<S: Store>(
+    alloc: Global,
+    fields: &mut Fields,
+    store: &S,
+    shell: Shell,
+    words: &[Word],
+) -> Result<bool, StoreError>
+    ensures { IfOk result (λ fit. IsExpanded fit fields.new
+        (fields_in shell (parameters_at (S.record_of store.now).present)
+        (map view.word words.now))) }
+{
+    match shell {
+        Shell::Profile => filled(fields, store, words),
+        Shell::Old2023 | Shell::Old2025 => {
+            let found = old_fields(alloc, words, &Memory { store })?;
+            Ok(replaced(fields, found))
+        }
+    }
+}
+
+/// Puts the words of a `for` in a shell in the place of these. Returns whether they hold no more
+/// bytes than allowed.
+pub(crate) fn turned<S: Store>(
+    alloc: Global,
+    fields: &mut Fields,
+    store: &S,
+    shell: Shell,
+    words: &[Word],
+) -> Result<bool, StoreError>
+    ensures { IfOk result (λ fit. IsExpanded fit fields.new
+        (turns_in shell (parameters_at (S.record_of store.now).present)
+        (map view.word words.now))) }
+{
+    match shell {
+        Shell::Profile => filled(fields, store, words),
+        Shell::Old2023 | Shell::Old2025 => {
+            let found = old_turns(alloc, words, &Memory { store })?;
+            Ok(replaced(fields, found))
+        }
+    }
+}
+
+/// Whether fields hold no more bytes than allowed.
+fn fits(fields: &[Vec<u8>]) -> bool
+    ensures { result ≡ nat_le (expansion.size (bytes_of_words fields.now)) expansion.most_bytes }
+{
+    let mut size = 0;
+    for field in fields {
+        if field.len() > MOST_BYTES - size {
+            return false;
+        }
+        size += field.len();
+    }
+    true
 }
 
 /// Expands a word to its bytes. Gives `None` if there are too many.

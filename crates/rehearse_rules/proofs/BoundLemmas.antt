@@ -2,7 +2,7 @@
 use Rattle.std.proofs.Common.{ℕ, zero, suc, Bool, true, false, List, [], ◌∷◌, length, Option, Some, None, refl, subst, ◌≡◌, ◌<◌, ◌≤◌, length-append, arith, ◌+◌, nat_lt, nat_le, nat_eq, ltb-true, ltb-false}
 use Rattle.hushlang.specs.Tree as tree
 use Rattle.hushlang.specs.Tree.{Script, AndOr, Joined, Command, Arms, IsProper, IsProperList, IsProperJoined, IsProperCommand, HasArm, AreProperArms, HoldsCommand}
-use Rattle.hushlang.specs.Expansion.{fields, joined, size, most_bytes}
+use Rattle.hushlang.specs.Expansion.{joined, size, most_bytes}
 use Rattle.rehearse_terms.specs.Outcomes.{OutcomeWord, Outcome, Success, Failure}
 use Rattle.hushlang.specs.Trees.{tree_of}
 use Rattle.rehearse_terms.specs.State.{Text, get, State, start}
@@ -10,7 +10,7 @@ use Rattle.rehearse_rules.specs.Parameters.{parameters_in}
 use Rattle.commands.specs.Verdict.{verdict}
 use Rattle.device_list.specs.Called.{Called, BuiltIn, Device, NoCommand, called_by, sets_in}
 use Rattle.commands.specs.BuiltInCommands.{ChangesVariables, WritesText, RunsTexts, Tests, Exits, asks_device, exit_status}
-use Rattle.rehearse_rules.specs.ByShell.{skips_rest, status_of_loop}
+use Rattle.rehearse_rules.specs.ByShell.{fields_in, turns_in, skips_rest, status_of_loop}
 use Rattle.rehearse_rules.specs.Execution.{Limits, Answer, Normal, Exit, Ended, Dry, Ending, CutDevices, CutSteps, Syntax, Size, go_on, set_status, set_local, status_when, goes, holds, begin, take_outcome, with_outcome, outcome_when, told, told_again, tell_or_take, device, Request, test_effect, logged, set_environment, boot, text_end, run_text, run_all, command, simple, sized, assign, turns, begin_turn, for_each, exec_script, exec_list, exec_joined, exec_command, exec_arms, exec}
 use Rattle.rehearse_rules.specs.Runs.{Task, run_on, state_of, steps}
 use Rattle.hushlang.proofs.ProperLemmas.{trees_are_proper}
@@ -162,11 +162,11 @@ module _ (limits : Limits) where
       joined-ends (tree.Joins op c rest) p s r = Ends-if (goes op s.memory.status) (go_on (exec_command limits n text c s) (exec_joined limits n text rest)) (skipped limits (exec_joined limits n text rest) s) (λ x. Ends-go_on s (exec_command limits n text c s) (exec_joined limits n text rest) (Keeps-one limits n text kept c s).0 (one-ends c p.0 s r) (λ t w e. joined-ends rest p.1 t (w, let b = r.1 in omega arith))) (λ x. Ends-if (skips_rest limits.shell) (Normal s) (exec_joined limits n text rest s) (λ y. r.0) (λ y. joined-ends rest p.1 s r))
 
       one-ends : (a : Command) → IsProperCommand a → EndsAll n (exec_command limits n text a)
-      one-ends (tree.Simple words) p s r = Ends-begin n (λ t. sized (fields (parameters_in t.memory) words) (simple limits text) t) (λ t h q. Ends-sized (fields (parameters_in t.memory) words) (simple limits text) t h (simple-ends n text kept ends (fields (parameters_in t.memory) words) t h q)) s r
+      one-ends (tree.Simple words) p s r = Ends-begin n (λ t. sized (fields_in limits.shell (parameters_in t.memory) words) (simple limits text) t) (λ t h q. Ends-sized (fields_in limits.shell (parameters_in t.memory) words) (simple limits text) t h (simple-ends n text kept ends (fields_in limits.shell (parameters_in t.memory) words) t h q)) s r
       one-ends (tree.Assign pairs) p s r = Ends-begin n (assign pairs) (λ t h q. Ends-assign pairs t h) s r
       one-ends (tree.If arms) p s r = arm-ends arms p s r
       one-ends (tree.Loop until c b) p s r = turns-end n until (exec_script limits n text c) (exec_script limits n text b) (Keeps-script limits n text kept c) (Keeps-script limits n text kept b) (block-ends c p.0) (block-ends b p.1) (Grew-block limits n text kept c p.0) 0 s r.0 r.1 r.1
-      one-ends (tree.For name words b) p s r = Ends-begin n (λ t. sized (fields (parameters_in t.memory) words) (for_each limits.shell name (exec_script limits n text b) 0) t) (λ t h q. Ends-sized (fields (parameters_in t.memory) words) (for_each limits.shell name (exec_script limits n text b) 0) t h (for-ends name (exec_script limits n text b) (Keeps-script limits n text kept b) (block-ends b p) 0 (fields (parameters_in t.memory) words) t h (omega arith))) s r
+      one-ends (tree.For name words b) p s r = Ends-begin n (λ t. sized (turns_in limits.shell (parameters_in t.memory) words) (for_each limits.shell name (exec_script limits n text b) 0) t) (λ t h q. Ends-sized (turns_in limits.shell (parameters_in t.memory) words) (for_each limits.shell name (exec_script limits n text b) 0) t h (for-ends name (exec_script limits n text b) (Keeps-script limits n text kept b) (block-ends b p) 0 (turns_in limits.shell (parameters_in t.memory) words) t h (omega arith))) s r
 
       arm-ends : (a : Arms) → HasArm a → EndsAll n (exec_arms limits n text a)
       arm-ends tree.NoElse p s r = absurd p

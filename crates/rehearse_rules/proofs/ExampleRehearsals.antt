@@ -2,6 +2,7 @@
 use Rattle.std.proofs.Common.{◌≡◌, ℕ, zero, suc, ◌&&◌, Bool, true, false, List, [], ◌∷◌, ◌++◌, Option, Some, None, codes, refl, ap, ◌∙◌, map, take}
 use Rattle.std.specs.Fmt.{digits}
 use Rattle.hushlang.specs.Expansion.{fields, joined, atoms}
+use Rattle.hushlang_old.specs.OldFields.{old_fields, old_turns, inserted, word_text, command_text, read, reread}
 use Rattle.rehearse_terms.specs.Outcomes.{OutcomeWord, WordKind, Run, Short, Long, is_run_kind, is_within, turned, first_run, first_from}
 use Rattle.hushlang.specs.Trees.{tree_of}
 use Rattle.rehearse_terms.specs.State.{Text, Variables}
@@ -60,7 +61,7 @@ abbrev pub Told : Type 0
 Told = Text × Ending
 
 unfoldable pub told_of : Task → Told
-unfolding tree_of fields joined atoms digits
+unfolding tree_of fields joined atoms digits old_fields old_turns inserted word_text command_text read reread
 told_of task = ((state_of (run_on task [])).memory.text, ending_of (run_on task []))
 
 abbrev pub told : Text → Told

@@ -2,14 +2,14 @@
 use Rattle.std.proofs.Common.{◌≡◌, ℕ, zero, suc, Bool, true, false, List, [], ◌∷◌, length, Option, Some, None, refl, nat_lt, nat_le, nat_eq}
 use Rattle.hushlang.specs.Tree as tree
 use Rattle.hushlang.specs.Tree.{Script, AndOr, Joined, Command, Arms}
-use Rattle.hushlang.specs.Expansion.{fields, joined, size, most_bytes}
+use Rattle.hushlang.specs.Expansion.{joined, size, most_bytes}
 use Rattle.builtins.specs.Builtins.{Builtin, builtin_of}
 use Rattle.commands.specs.Computed.{Computed}
 use Rattle.device_list.specs.Called.{Called, BuiltIn, Device, NoCommand, called_by}
 use Rattle.commands.specs.BuiltInCommands.{ChangesVariables, WritesText, RunsTexts, Tests, Exits, carried, deed_of, asks_device, exit_status}
 use Rattle.device_list.specs.DeviceList.{Effect, computed_by, effect_of}
 use Rattle.rehearse_rules.proofs.TakenOutcomes.{skipped}
-use Rattle.rehearse_rules.specs.ByShell.{skips_rest, status_of_loop}
+use Rattle.rehearse_rules.specs.ByShell.{fields_in, turns_in, skips_rest, status_of_loop}
 use Rattle.rehearse_rules.specs.Execution.{Limits, Answer, Normal, Exit, Ended, Dry, CutSteps, Syntax, Size, Request, go_on, set_status, set_local, status_when, goes, holds, begin, device, test_effect, text_end, run_text, run_all, command, simple, sized, assign, turns, begin_turn, for_each, exec_script, exec_list, exec_joined, exec_command, exec_arms, exec}
 use Rattle.rehearse_rules.specs.Runs.{state_of}
 use Rattle.rehearse_terms.specs.State.{Text, get, LoggedCommand, State}
@@ -139,12 +139,12 @@ module _ (P : List LoggedCommand → Type 0) where
             (keeps-if (skips_rest limits.shell) (Normal s) (exec_joined limits left text rest s) h (keeps-joined rest s h))
 
         keeps-one : (a : Command) → KeepsLog (exec_command limits left text a)
-        keeps-one (tree.Simple words) s h = keeps-begin (λ t. sized (fields (parameters_in t.memory) words) (simple limits text) t) (λ t. keeps-sized (fields (parameters_in t.memory) words) (simple limits text) (keeps-simple text keeps) t) s h
+        keeps-one (tree.Simple words) s h = keeps-begin (λ t. sized (fields_in limits.shell (parameters_in t.memory) words) (simple limits text) t) (λ t. keeps-sized (fields_in limits.shell (parameters_in t.memory) words) (simple limits text) (keeps-simple text keeps) t) s h
         keeps-one (tree.Assign pairs) s h = keeps-begin (assign pairs) (keeps-assign pairs) s h
         keeps-one (tree.If arms) s h = keeps-arms arms s h
         keeps-one (tree.Loop until c b) s h = keeps-turns left until (exec_script limits left text c) (exec_script limits left text b) (keeps-script c) (keeps-script b) 0 s h
-        keeps-one (tree.For name words b) s h = keeps-begin (λ t. sized (fields (parameters_in t.memory) words) (for_each limits.shell name (exec_script limits left text b) 0) t)
-            (λ t. keeps-sized (fields (parameters_in t.memory) words) (for_each limits.shell name (exec_script limits left text b) 0) (λ fs. keeps-for name (exec_script limits left text b) (keeps-script b) 0 fs) t) s h
+        keeps-one (tree.For name words b) s h = keeps-begin (λ t. sized (turns_in limits.shell (parameters_in t.memory) words) (for_each limits.shell name (exec_script limits left text b) 0) t)
+            (λ t. keeps-sized (turns_in limits.shell (parameters_in t.memory) words) (for_each limits.shell name (exec_script limits left text b) 0) (λ fs. keeps-for name (exec_script limits left text b) (keeps-script b) 0 fs) t) s h
 
         keeps-arms : (a : Arms) → KeepsLog (exec_arms limits left text a)
         keeps-arms tree.NoElse s h = h

@@ -13,6 +13,7 @@ pub mod RecordLines
 pub mod ResumedLemmas
 pub mod ExampleRehearsals
 pub mod GivenRuns
+pub mod FieldLemmas
 pub mod PlainRuns
 pub mod KeptLogs
 pub mod AskedLogs

@@ -7,12 +7,12 @@ use Rattle.hushlang.specs.Tree as tree
 use Rattle.hushlang.specs.Tree.{Script, AndOr, Joined, Command, Arms}
 use Rattle.rehearse_terms.specs.State.{Text, get, Memory, State, LoggedCommand, asked_of}
 use Rattle.rehearse_rules.specs.Parameters.{parameters_in}
-use Rattle.hushlang.specs.Expansion.{fields, joined, size, most_bytes}
+use Rattle.hushlang.specs.Expansion.{joined, size, most_bytes}
 use Rattle.hushlang.specs.Trees.{tree_of}
 use Rattle.commands.specs.Verdict.{verdict}
 use Rattle.device_list.specs.Called.{Called, BuiltIn, Device, NoCommand, called_by, sets_in}
 use Rattle.commands.specs.BuiltInCommands.{ChangesVariables, WritesText, RunsTexts, Tests, Exits, asks_device, exit_status, variables_changed, text_written}
-use Rattle.rehearse_rules.specs.ByShell.{skips_rest, status_of_nothing, status_of_no_block, status_of_loop}
+use Rattle.rehearse_rules.specs.ByShell.{fields_in, turns_in, skips_rest, status_of_nothing, status_of_no_block, status_of_loop}
 use Rattle.rehearse_rules.specs.Execution.{Limits, Answer, Normal, Exit, Ended, Dry, Ending, CutDevices, CutSteps, Unknown, Syntax, Size, go_on, remember, set_status, set_local, status_when, goes, holds, begin, take_outcome, with_outcome, outcome_when, told, told_again, tell_or_take, device, Request, test_effect, logged, set_environment, boot, text_end, run_text, run_all, command, simple, sized, assign, turns, begin_turn, for_each, exec_script, exec_list, exec_joined, exec_command, exec_arms, exec, succeeds}
 use Rattle.rehearse_rules.specs.Runs.{state_of}
 
@@ -338,11 +338,11 @@ module _ (limits : Limits) where
       Keeps-joined (tree.Joins op c rest) s = Keeps-if limits.device_bound s (goes op s.memory.status) (λ t. go_on (exec_command limits left text c t) (exec_joined limits left text rest)) (skipped (exec_joined limits left text rest)) (Keeps-go_on limits.device_bound s (exec_command limits left text c) (exec_joined limits left text rest) (Keeps-one c s) (Keeps-joined rest)) (Keeps-skipped (exec_joined limits left text rest) s (Keeps-joined rest s))
 
       pub Keeps-one : (a : Command) → KeepsAll (exec_command limits left text a)
-      Keeps-one (tree.Simple words) s = Keeps-begin (λ t. sized (fields (parameters_in t.memory) words) (simple limits text) t) (λ t. Keeps-sized (fields (parameters_in t.memory) words) (simple limits text) (Keeps-simple text kept) t) s
+      Keeps-one (tree.Simple words) s = Keeps-begin (λ t. sized (fields_in limits.shell (parameters_in t.memory) words) (simple limits text) t) (λ t. Keeps-sized (fields_in limits.shell (parameters_in t.memory) words) (simple limits text) (Keeps-simple text kept) t) s
       Keeps-one (tree.Assign pairs) s = Keeps-begin (assign pairs) (Keeps-assign pairs) s
       Keeps-one (tree.If arms) s = Keeps-arms arms s
       Keeps-one (tree.Loop until c b) s = Keeps-turns left until (exec_script limits left text c) (exec_script limits left text b) (Keeps-script c) (Keeps-script b) 0 s
-      Keeps-one (tree.For name words b) s = Keeps-begin (λ t. sized (fields (parameters_in t.memory) words) (for_each limits.shell name (exec_script limits left text b) 0) t) (λ t. Keeps-sized (fields (parameters_in t.memory) words) (for_each limits.shell name (exec_script limits left text b) 0) (λ fs. Keeps-for name (exec_script limits left text b) (Keeps-script b) 0 fs) t) s
+      Keeps-one (tree.For name words b) s = Keeps-begin (λ t. sized (turns_in limits.shell (parameters_in t.memory) words) (for_each limits.shell name (exec_script limits left text b) 0) t) (λ t. Keeps-sized (turns_in limits.shell (parameters_in t.memory) words) (for_each limits.shell name (exec_script limits left text b) 0) (λ fs. Keeps-for name (exec_script limits left text b) (Keeps-script b) 0 fs) t) s
 
       pub Keeps-arms : (a : Arms) → KeepsAll (exec_arms limits left text a)
       Keeps-arms tree.NoElse s = Keeps-normal limits.device_bound s (λ m. record m { status = status_of_no_block limits.shell m.status })

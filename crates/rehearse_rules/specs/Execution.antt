@@ -3,7 +3,7 @@
 use Rattle.std.specs.Prelude.{ℕ, zero, suc, nat_lt, nat_le, nat_eq, Bool, true, false, not, List, [], ◌∷◌, ◌++◌, length, Option, Some, None, if◌then◌else◌}
 use Rattle.hushlang.specs.Tree as tree
 use Rattle.hushlang.specs.Tree.{Script, AndOr, Joined, Command, Arms}
-use Rattle.hushlang.specs.Expansion.{fields, joined, size, most_bytes}
+use Rattle.hushlang.specs.Expansion.{joined, size, most_bytes}
 use Rattle.hushlang.specs.declared.tree.Op.{Op}
 use Rattle.hushlang.specs.declared.tree.Op.TheVariants.{And, Or}
 use Rattle.rehearse_terms.specs.Outcomes.{Outcome, Success, Failure, OutcomeWord}
@@ -11,7 +11,7 @@ use Rattle.hushlang.specs.Trees.{tree_of}
 use Rattle.rehearse_terms.specs.State.{Text, Variables, get, with_value, Memory, LoggedCommand, answer_in, State}
 use Rattle.rehearse_terms.specs.declared.shell.Shell.{Shell}
 use Rattle.rehearse_rules.specs.Parameters.{parameters_in}
-use Rattle.rehearse_rules.specs.ByShell.{skips_rest, status_of_nothing, status_of_no_block, status_of_loop, status_in_turn}
+use Rattle.rehearse_rules.specs.ByShell.{fields_in, turns_in, skips_rest, status_of_nothing, status_of_no_block, status_of_loop, status_in_turn}
 use Rattle.device_list.specs.DeviceList.{Effect, Devices}
 use Rattle.commands.specs.Verdict.{verdict}
 use Rattle.device_list.specs.Called.{Called, BuiltIn, NoCommand, Device, called_by, sets_in}
@@ -277,13 +277,14 @@ module _ (limits : Limits) where
           ]
 
       pub exec_command : Command → State → Answer
-      exec_command (tree.Simple words) s = begin (λ t. sized (fields (parameters_in t.memory) words) (simple text) t) s
+      exec_command (tree.Simple words) s =
+          begin (λ t. sized (fields_in limits.shell (parameters_in t.memory) words) (simple text) t) s
       exec_command (tree.Assign values) s = begin (assign values) s
       exec_command (tree.If arms) s = exec_arms arms s
       exec_command (tree.Loop until cond body) s =
           turns limits.shell left until (exec_script cond) (exec_script body) 0 s
       exec_command (tree.For name words body) s =
-          begin (λ t. sized (fields (parameters_in t.memory) words)
+          begin (λ t. sized (turns_in limits.shell (parameters_in t.memory) words)
           (for_each limits.shell name (exec_script body) 0) t) s
 
       -- the block after the first condition that ends with status 0, else the `else` block

@@ -1,7 +1,9 @@
-use Rattle.std.proofs.Common.{ap, ◌∙◌, sym, subst, suc, ℕ, List, ◌∷◌, true, Vec, Global}
+use Rattle.std.proofs.Common.{map, ap, ◌∙◌, sym, subst, suc, ℕ, List, ◌∷◌, true, Vec, Global}
 use Rattle.hushlang.specs.TreesShown as view
 use Rattle.text.specs.TextsShown.{bytes_of_words}
-use Rattle.hushlang.specs.Expansion.{fields}
+use Rattle.rehearse_rules.specs.ByShell.{fields_in}
+use Rattle.rehearse_terms.specs.declared.shell.Shell.{Shell}
+use Rattle.rehearse_rules.proofs.FieldLemmas.{known_in_each}
 use Rattle.hushlang.specs.Tree.{Word}
 use Rattle.hushlang.specs.declared.tree.Script.{Script as Code}
 use Rattle.rehearse_terms.specs.State.{Text}
@@ -39,8 +41,8 @@ returns-in-Some g c top =
     let words = view.call c.in-Calls.command.now in
     let parameters = parameters_at old.present in
     let shown = ap bytes_of_words c.as_slice-known.ensures.value ∙ ap (λ (x : Vec (Vec ℕ Global) Global). bytes_of_words x.items) c.deref.ensures in
-    let known = known_before (view.fields_in c.in-Some.known.now) (fields parameters words) (c.in-Some.ensures.fields parameters) c.in-Some.ensures.within_limit in
-    let found = subst (λ (x : List Text). IsExpanded true x (fields parameters words)) (sym shown) known in
+    let known = known_before (view.fields_in c.in-Some.known.now) (fields_in c.args.bounds.shell parameters words) (known_in_each c.args.bounds.shell parameters words _ c.in-Some.ensures.known (c.in-Some.ensures.fields parameters)) c.in-Some.ensures.within_limit in
+    let found = subst (λ (x : List Text). IsExpanded true x (fields_in c.args.bounds.shell parameters words)) (sym shown) known in
     proceeds (limits_of c.args.devices.now c.args.bounds) c.call.result old (g.S.Store.record_of c.call.new.store) (nexts.Calls c.in-Calls.command) c.args.next f c.in-Calls.is
     (c.call.ensures f words (c.behind-after.ensures ∙ ap (λ (x : At). place x.list (suc x.command) 0 0) c.at.ensures) c.script-script.ensures found top)
 
@@ -49,8 +51,8 @@ returns-in_ok-fit-in-Calls g c top =
     let old = g.S.Store.record_of c.args.store.now in
     let f = c.args.frame.now in
     let words = view.call c.in-Calls.command.now in
-    let expanded = subst (λ (x : List Word). IsExpanded c.in_ok-fit-in-Calls.fit c.expanded.new.fields (fields (parameters_at old.present) x)) c.words.ensures c.in_ok-fit-in-Calls.ensures in
-    let found = subst (λ (x : List Text). IsExpanded c.in_ok-fit-in-Calls.fit x (fields (parameters_at old.present) words)) (sym c.as_slice-found.ensures) expanded in
+    let expanded = subst (λ (x : List Word). IsExpanded c.in_ok-fit-in-Calls.fit c.expanded.new.fields (fields_in c.args.bounds.shell (parameters_at old.present) x)) c.words.ensures (subst (λ (x : Shell). IsExpanded c.in_ok-fit-in-Calls.fit c.expanded.new.fields (fields_in x (parameters_at old.present) (map view.word c.words.result.now))) c.shell-in-Calls.ensures c.in_ok-fit-in-Calls.ensures) in
+    let found = subst (λ (x : List Text). IsExpanded c.in_ok-fit-in-Calls.fit x (fields_in c.args.bounds.shell (parameters_at old.present) words)) (sym c.as_slice-found.ensures) expanded in
     proceeds (limits_of c.args.devices.now c.args.bounds) c.call-in-Calls.result old (g.S.Store.record_of c.call-in-Calls.new.store) (nexts.Calls c.in-Calls.command) c.args.next f c.in-Calls.is
     (c.call-in-Calls.ensures f words (c.behind-after.ensures ∙ ap (λ (x : At). place x.list (suc x.command) 0 0) c.at.ensures) c.script-script.ensures found top)
 
@@ -61,3 +63,10 @@ returns-in-Assigns g c top =
 pub returns-in-Loops : goal.returns-in-Loops
 returns-in-Loops g c top =
     proceeds (limits_of c.args.devices.now c.args.bounds) c.begin_for.result _ _ (nexts.Loops c.in-Loops.words) c.args.next c.args.frame.now c.in-Loops.is (c.begin_for.ensures c.args.devices.now top)
+
+pub call-requires-clause-named : goal.call-requires-clause-named
+call-requires-clause-named g c fit =
+    let words = view.call c.in-Calls.command.now in
+    let parameters = parameters_at (g.S.Store.record_of c.args.store.now).present in
+    let shown = ap bytes_of_words c.as_slice-known.ensures.value ∙ ap (λ (x : Vec (Vec ℕ Global) Global). bytes_of_words x.items) c.deref.ensures in
+    c.look_up-named.ensures parameters (shown ∙ known_in_each c.shell.result parameters words _ c.in-Some.ensures.known (c.in-Some.ensures.fields parameters))

@@ -1,7 +1,9 @@
-use Rattle.std.proofs.Common.{ap, ◌∙◌, sym, subst, suc, ℕ, List, ◌∷◌, true, Vec, Global}
+use Rattle.std.proofs.Common.{map, ap, ◌∙◌, sym, subst, suc, ℕ, List, ◌∷◌, true, Vec, Global}
 use Rattle.hushlang.specs.TreesShown as view
 use Rattle.text.specs.TextsShown.{bytes_of_words}
-use Rattle.hushlang.specs.Expansion.{fields}
+use Rattle.rehearse_rules.specs.ByShell.{fields_in}
+use Rattle.rehearse_terms.specs.declared.shell.Shell.{Shell}
+use Rattle.rehearse_rules.proofs.FieldLemmas.{known_in_each}
 use Rattle.hushlang.specs.Tree.{Word}
 use Rattle.hushlang.specs.declared.tree.Script.{Script as Code}
 use Rattle.rehearse_terms.specs.State.{Text}
@@ -50,8 +52,8 @@ returns-in-Some-fields g c =
     let words = view.call c.in-Calls.command.now in
     let parameters = parameters_at old.present in
     let shown = ap bytes_of_words c.as_slice-known.ensures.value ∙ ap (λ (x : Vec (Vec ℕ Global) Global). bytes_of_words x.items) (c.deref.ensures ∙ c.in_ok-known-in-Calls.ensures.cases) in
-    let known = known_before (view.fields_in c.in-Some-fields.known.now) (fields parameters words) (c.in-Some-fields.ensures.fields parameters) c.in-Some-fields.ensures.within_limit in
-    let found = subst (λ (x : List Text). IsExpanded true x (fields parameters words)) (sym shown) known in
+    let known = known_before (view.fields_in c.in-Some-fields.known.now) (fields_in c.args.bounds.shell parameters words) (known_in_each c.args.bounds.shell parameters words _ c.in-Some-fields.ensures.known (c.in-Some-fields.ensures.fields parameters)) c.in-Some-fields.ensures.within_limit in
+    let found = subst (λ (x : List Text). IsExpanded true x (fields_in c.args.bounds.shell parameters words)) (sym shown) known in
     let script = ap (λ (x : Code). view.script x) c.in_ok-script-in-Calls.ensures.cases ∙ c.script.ensures in
     moves_on (limits_of c.args.devices.now c.args.bounds) c.call.result old (g.S.Store.record_of c.call.new.store) (nexts.Calls c.in-Calls.command) c.next_of.result c.shell-shell.result c.get_status-status.result f c.in-Calls.is top (sym c.shell-shell.ensures) (sym c.get_status-status.ensures) c.next_of.ensures.next
     (c.call.ensures f words (c.behind-after.ensures ∙ ap (λ (x : At). place x.list (suc x.command) 0 0) c.at.ensures) script found top)
@@ -62,8 +64,15 @@ returns-in-Calls g c =
     let f = c.in-Some.top.now in
     let top = is_top old.present.frames f c.in-Some.ensures in
     let words = view.call c.in-Calls.command.now in
-    let expanded = subst (λ (x : List Word). IsExpanded c.in_ok-fit-in-Calls.fit c.expanded.new.fields (fields (parameters_at old.present) x)) c.words.ensures c.in_ok-fit-in-Calls.ensures in
-    let found = subst (λ (x : List Text). IsExpanded c.in_ok-fit-in-Calls.fit x (fields (parameters_at old.present) words)) (sym c.as_slice-found.ensures) expanded in
+    let expanded = subst (λ (x : List Word). IsExpanded c.in_ok-fit-in-Calls.fit c.expanded.new.fields (fields_in c.args.bounds.shell (parameters_at old.present) x)) c.words.ensures (subst (λ (x : Shell). IsExpanded c.in_ok-fit-in-Calls.fit c.expanded.new.fields (fields_in x (parameters_at old.present) (map view.word c.words.result.now))) c.shell-in-Calls.ensures c.in_ok-fit-in-Calls.ensures) in
+    let found = subst (λ (x : List Text). IsExpanded c.in_ok-fit-in-Calls.fit x (fields_in c.args.bounds.shell (parameters_at old.present) words)) (sym c.as_slice-found.ensures) expanded in
     let script = ap (λ (x : Code). view.script x) c.in_ok-script-in-Calls.ensures.cases ∙ c.script.ensures in
     moves_on (limits_of c.args.devices.now c.args.bounds) c.call-in-Calls.result old (g.S.Store.record_of c.call-in-Calls.new.store) (nexts.Calls c.in-Calls.command) c.next_of.result c.shell-shell.result c.get_status-status.result f c.in-Calls.is top (sym c.shell-shell.ensures) (sym c.get_status-status.ensures) c.next_of.ensures.next
     (c.call-in-Calls.ensures f words (c.behind-after.ensures ∙ ap (λ (x : At). place x.list (suc x.command) 0 0) c.at.ensures) script found top)
+
+pub call-requires-clause-named : goal.call-requires-clause-named
+call-requires-clause-named g c fit =
+    let words = view.call c.in-Calls.command.now in
+    let parameters = parameters_at (g.S.Store.record_of c.args.store.now).present in
+    let shown = ap bytes_of_words c.as_slice-known.ensures.value ∙ ap (λ (x : Vec (Vec ℕ Global) Global). bytes_of_words x.items) (c.deref.ensures ∙ c.in_ok-known-in-Calls.ensures.cases) in
+    c.look_up-named.ensures parameters (shown ∙ known_in_each c.shell.result parameters words _ c.in-Some-fields.ensures.known (c.in-Some-fields.ensures.fields parameters))

@@ -2,7 +2,7 @@ use Rattle.std.proofs.Common.{ap, ◌∙◌, List, sym, ℕ, map}
 use Rattle.hushlang.specs.TreesShown as view
 use Rattle.hushlang.specs.Tree as tree
 use Rattle.hushlang.specs.Tree.{Command}
-use Rattle.hushlang.specs.Expansion.{fields}
+use Rattle.rehearse_rules.specs.ByShell.{turns_in}
 use Rattle.std.specs.Prelude.{Vec}
 use Rattle.std.specs.declared.alloc.Global.{Global}
 use Rattle.hushlang.specs.declared.tree.Word.{Word}
@@ -34,5 +34,5 @@ returns-in-Loop-clause-next c limits fs s own e =
 
 pub returns-in-For-clause-next : goal.returns-in-For-clause-next
 returns-in-For-clause-next c limits fs s own e =
-    ap (λ (x : List Word). place_counted limits (λ t. place_fitting (fields (parameters_in t.memory) (map view.word x)) (λ found. for_begins found c.args.frame.now fs) t) s) c.deref-in-For.ensures.value
+    ap (λ (x : List Word). place_counted limits (λ t. place_fitting (turns_in limits.shell (parameters_in t.memory) (map view.word x)) (λ found. for_begins found c.args.frame.now fs) t) s) c.deref-in-For.ensures.value
     ∙ sym (ap (λ (x : Command). place_command limits x c.args.frame.now fs s) (says_for c.args.command.now c.in-For.name c.in-For.words c.in-For.body c.in-For.is))

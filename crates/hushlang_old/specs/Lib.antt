@@ -1,0 +1,2 @@
+pub mod OldFields
+pub mod OldFieldsShown
