@@ -10,10 +10,9 @@ use Rattle.rehearse_terms.specs.State.{Text, get, Memory, State, with_value, Log
 use Rattle.rehearse_rules.specs.Parameters.{parameters_in}
 use Rattle.hushlang.specs.Expansion.{joined, size, most_bytes}
 use Rattle.hushlang.specs.Trees.{tree_of}
-use Rattle.commands.specs.Verdict.{verdict}
 use Rattle.device_list.specs.Called.{Called, BuiltIn, Device, NoCommand, called_by, sets_in}
-use Rattle.commands.specs.BuiltInCommands.{ChangesVariables, WritesText, RunsTexts, Tests, Exits, asks_device, exit_status, variables_changed, text_written}
-use Rattle.rehearse_rules.specs.ByShell.{fields_in, turns_in, skips_rest, status_of_nothing, status_of_no_block, status_of_loop, status_in_turn}
+use Rattle.commands.specs.BuiltInCommands.{ChangesVariables, WritesText, RunsTexts, Tests, Exits, exit_status, variables_changed, text_written}
+use Rattle.rehearse_rules.specs.ByShell.{asks_in, truth_in, fields_in, turns_in, skips_rest, status_of_nothing, status_of_no_block, status_of_loop, status_in_turn}
 use Rattle.rehearse_rules.specs.Execution.{begin_turn, Limits, Answer, Normal, Exit, Ended, Dry, Ending, CutDevices, CutSteps, Unknown, Syntax, Size, go_on, remember, set_status, set_local, status_when, goes, holds, begin, take_outcome, with_outcome, outcome_when, succeeds, told, told_again, tell_or_take, device, Request, test_effect, logged, set_environment, boot, text_end, run_text, run_all, command, simple, sized, assign, turns, for_each, exec_script, exec_list, exec_joined, exec_command, exec_arms, exec}
 use Rattle.rehearse_rules.specs.Runs.{state_of}
 use Rattle.rehearse_rules.proofs.TakenOutcomes.{skipped, Track-of, KeepsAll, Keeps-script, Keeps-joined, Keeps-arms, Keeps-exec, Keeps-run, Keeps-turns, Keeps-for, Keeps-if, Keeps-stays, after_condition, Keeps-after_condition, Keeps-ended, Keeps-simple, Keeps-sized, Keeps-assign}
@@ -284,7 +283,7 @@ module _ (limits : Limits) (i j : ℕ) (k l : List LoggedCommand) where
     Alike-command (BuiltIn (ChangesVariables change)) name ws s = Alike-normal s (variables_changed change ws) (λ text. (text, refl))
     Alike-command (BuiltIn RunsTexts) name [] s = Alike-normal s (λ m. record m { status = 1 }) (reaches_status 1 s.memory)
     Alike-command (BuiltIn RunsTexts) name (w ∷ ws) s = Alike-run (w ∷ ws) s
-    Alike-command (BuiltIn Tests) name ws s = Alike-if s (asks_device ws) (device limits (record { name = name; words = ws; effect = test_effect limits.devices; again = false })) (λ t. Normal (set_status (status_when (verdict ws)) t)) (Alike-device (record { name = name; words = ws; effect = test_effect limits.devices; again = false }) s) (Alike-normal s (λ m. record m { status = status_when (verdict ws) }) (reaches_status (status_when (verdict ws)) s.memory))
+    Alike-command (BuiltIn Tests) name ws s = Alike-if s (asks_in limits.shell ws) (device limits (record { name = name; words = ws; effect = test_effect limits.devices; again = false })) (λ t. Normal (set_status (status_when (truth_in limits.shell ws)) t)) (Alike-device (record { name = name; words = ws; effect = test_effect limits.devices; again = false }) s) (Alike-normal s (λ m. record m { status = status_when (truth_in limits.shell ws) }) (reaches_status (status_when (truth_in limits.shell ws)) s.memory))
     Alike-command (BuiltIn (WritesText written)) name ws s = Alike-normal s (text_written written ws) (λ text. (text ++ written ws, refl))
     Alike-command (BuiltIn Exits) name ws s = Alike-leave (exit_status ws) s
     Alike-command (Device effect) name ws s = Alike-device (record { name = name; words = ws; effect = effect; again = false }) s

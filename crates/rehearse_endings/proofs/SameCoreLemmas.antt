@@ -1,5 +1,5 @@
 -- If a device command asks at two moments with the same core, the same is to come, as far as the bounds allow.
-use Rattle.rehearse_rules.specs.ByShell.{fields_in}
+use Rattle.rehearse_rules.specs.ByShell.{asks_in, truth_in, fields_in}
 use Rattle.std.proofs.Common.{ℕ, Bool, true, false, cond, List, [], ◌∷◌, length, Option, Some, None, refl, sym, ap, subst, ◌∙◌, ◌≡◌, append-nil, arith, nat_lt, nat_le}
 use Rattle.std.specs.FinMap.{entries}
 use Rattle.hushlang.specs.Tree as tree
@@ -11,9 +11,8 @@ use Rattle.rehearse_terms.specs.Outcomes.{OutcomeWord, Success}
 use Rattle.rehearse_terms.specs.State.{Text, State, Variables, LoggedCommand, answers_in, same_words}
 use Rattle.rehearse_rules.specs.Parameters.{parameters_in}
 use Rattle.bootstore_state.specs.StoredState.{state_at}
-use Rattle.commands.specs.Verdict.{verdict}
 use Rattle.device_list.specs.Called.{Called, BuiltIn, NoCommand, Device, called_by, sets_in}
-use Rattle.commands.specs.BuiltInCommands.{ChangesVariables, WritesText, RunsTexts, Tests, Exits, asks_device, exit_status}
+use Rattle.commands.specs.BuiltInCommands.{ChangesVariables, WritesText, RunsTexts, Tests, Exits, exit_status}
 use Rattle.rehearse_rules.specs.Execution.{Limits, CutDevices, Size, Request, test_effect, told, told_again, logged, set_environment, set_status, status_when, take_outcome}
 use Rattle.rehearse_machine.specs.Came.{Came}
 use Rattle.rehearse_machine.specs.Meaning.{continue, comes_to}
@@ -82,7 +81,7 @@ module _ (limits : Limits) (text : Text) (log : List LoggedCommand) (n : ℕ) wh
   called_same (BuiltIn (ChangesVariables change)) name ws script ps s h = tt
   called_same (BuiltIn RunsTexts) name [] script ps s h = tt
   called_same (BuiltIn RunsTexts) name (w ∷ ws) script ps s h = tt
-  called_same (BuiltIn Tests) name ws script ps s h = either_same (asks_device ws) (place_ask limits (record { name = name; words = ws; effect = test_effect limits.devices; again = false }) ps) (λ t. GoOn ps (set_status (status_when (verdict ws)) t)) s (ask_same (record { name = name; words = ws; effect = test_effect limits.devices; again = false }) ps s h) tt
+  called_same (BuiltIn Tests) name ws script ps s h = either_same (asks_in limits.shell ws) (place_ask limits (record { name = name; words = ws; effect = test_effect limits.devices; again = false }) ps) (λ t. GoOn ps (set_status (status_when (truth_in limits.shell ws)) t)) s (ask_same (record { name = name; words = ws; effect = test_effect limits.devices; again = false }) ps s h) tt
   called_same (BuiltIn (WritesText written)) name ws script ps s h = tt
   called_same (BuiltIn Exits) name ws script ps s h = exit_same (exit_status ws) ps s (place_exit (exit_status ws) ps (there s))
   called_same (Device effect) name ws script ps s h = ask_same (record { name = name; words = ws; effect = effect; again = false }) ps s h

@@ -80,3 +80,16 @@ quoted_value = refl
 words_of_a_for : in_each (codes "x='a b'; for i in \"$x\" c; do echo $i; done") ≡ (codes "a b\nc\n", End 0) ∷ (codes "a\nb\nc\n", End 0) ∷ (codes "a\nb\nc\n", End 0) ∷ []
 unfolding told_of
 words_of_a_for = refl
+
+-- words of `test` that no term takes hold in U-Boot, and so does a comparison that lacks its left side
+unset_in_a_test : in_each (codes "test $none = v; echo $?") ≡ (codes "1\n", End 0) ∷ (codes "0\n", End 0) ∷ (codes "0\n", End 0) ∷ []
+unfolding told_of
+unset_in_a_test = refl
+
+words_left_in_a_test : in_each (codes "test a = b c; echo $?") ≡ (codes "1\n", End 0) ∷ (codes "0\n", End 0) ∷ (codes "0\n", End 0) ∷ []
+unfolding told_of
+words_left_in_a_test = refl
+
+no_term_in_a_test : in_each (codes "test a; echo $?; test a = a; echo $?") ≡ (codes "1\n0\n", End 0) ∷ (codes "1\n0\n", End 0) ∷ (codes "1\n0\n", End 0) ∷ []
+unfolding told_of
+no_term_in_a_test = refl

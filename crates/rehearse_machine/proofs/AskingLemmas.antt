@@ -9,16 +9,15 @@ use Rattle.bootstore_state.specs.declared.frame.FrameKind.{FrameKind}
 use Rattle.bootstore_state.specs.declared.frame.FrameKind.TheVariants as kinds
 use Rattle.std.specs.Prelude.{slice_get}
 use Rattle.hushlang.specs.Trees.{tree_of}
-use Rattle.commands.specs.Verdict.{verdict}
 use Rattle.rehearse_terms.specs.State.{Text, get, State}
 use Rattle.rehearse_rules.specs.Parameters.{parameters_in}
 use Rattle.device_list.specs.Called.{Called, BuiltIn, NoCommand, Device, called_by, sets_in}
-use Rattle.commands.specs.BuiltInCommands.{ChangesVariables, WritesText, RunsTexts, Tests, Exits, asks_device, exit_status}
+use Rattle.commands.specs.BuiltInCommands.{ChangesVariables, WritesText, RunsTexts, Tests, Exits, exit_status}
 use Rattle.rehearse_rules.specs.Execution.{Limits, CutDevices, CutSteps, Size, set_status, set_local, status_when, goes, holds, Request, test_effect, told, told_again, logged, set_environment}
 use Rattle.rehearse_terms.specs.Outcomes.{Success}
 use Rattle.rehearse_machine.specs.Places.{PlaceNext, GoOn, AskOn, StopOn, list_at, joined_at, second, command_in, command_at, drop_arms, block_frame, behind, in_turn, left, to_run, place_exit, place_boot, place_tell_or_ask, place_assign, place_tree, place_text, place_name, run_move, for_turn, for_move, for_begins, place_arms, condition_ends, phase_move, place_fitting, place_ask, place_called, place_fields, place_counted, place_command, place_joined, place_begins, place_turn, place_list, place_by, place_move, place_skipped, moved_to, place}
 use Rattle.rehearse_machine.specs.AskingCommand.{words_of, fields_again, found_again, AsksAgain}
-use Rattle.rehearse_rules.specs.ByShell.{fields_in, turns_in, status_of_loop, skips_rest}
+use Rattle.rehearse_rules.specs.ByShell.{asks_in, truth_in, fields_in, turns_in, status_of_loop, skips_rest}
 
 -- a command that asks does so with these frames, in this state
 abbrev AsksHere : List RunningFrame → State → PlaceNext → Type 0
@@ -83,7 +82,7 @@ module _ (limits : Limits) where
   builtin_here (BuiltIn RunsTexts) name (w ∷ ws) script ps s = tt
   builtin_here (BuiltIn Tests) name ws script ps s =
       let r : Request = record { name = name; words = ws; effect = test_effect limits.devices; again = false } in
-      either_here ps s (asks_device ws) (place_ask limits r ps s) (GoOn ps (set_status (status_when (verdict ws)) s)) (ask_here r ps s) tt
+      either_here ps s (asks_in limits.shell ws) (place_ask limits r ps s) (GoOn ps (set_status (status_when (truth_in limits.shell ws)) s)) (ask_here r ps s) tt
   builtin_here (BuiltIn (WritesText written)) name ws script ps s = tt
   builtin_here (BuiltIn Exits) name ws script ps s = exit_here ps s (exit_status ws)
   builtin_here (Device effect) name ws script ps s = ask_here (record { name = name; words = ws; effect = effect; again = false }) ps s

@@ -1,4 +1,5 @@
 -- What the built-in commands do to a store.
+use Rattle.rehearse_rules.specs.ByShell.{asks_in, truth_in}
 use Rattle.std.proofs.Common.{ℕ, zero, suc, ◌+◌, ◌-◌, ◌*◌, Bool, true, false, cond, List, [], ◌∷◌, take, drop, length, get_or, Option, Some, None, Result, Ok, Err, refl, sym, ap, subst, ◌∙◌, ◌≡◌, ◌<◌, ◌≤◌, arith, drop-cons}
 use Rattle.std.specs.Prelude.{Vec, OnOk}
 use Rattle.std.proofs.lemmas.Bool.{lt-leb}
@@ -17,10 +18,9 @@ use Rattle.bootstore_state.specs.StoredState.{state_at}
 use Rattle.builtins.specs.Builtins.{Builtin, builtin_named, builtin_of}
 use Rattle.rehearse_rules.proofs.GivenRuns.{called_apart}
 use Rattle.device_list.specs.Called.{Called, BuiltIn, Device, NoCommand, listed_by, other_called}
-use Rattle.commands.specs.BuiltInCommands.{ChangesVariables, WritesText, Tests, carried, deed_of, asks_device, setenv, variables_changed, text_written, decimal_from}
+use Rattle.commands.specs.BuiltInCommands.{ChangesVariables, WritesText, Tests, carried, deed_of, setenv, variables_changed, text_written, decimal_from}
 use Rattle.commands.specs.VariableNames.{is_bad_name}
 use Rattle.rehearse_rules.specs.Execution.{Limits, Request, test_effect, remember, set_status, status_when}
-use Rattle.commands.specs.Verdict.{verdict}
 use Rattle.commands.specs.Computed.{Computed}
 use Rattle.device_list.specs.DeviceList.{Effect, Devices, computed_by, effect_of}
 use Rattle.bootstore_state.proofs.StateLemmas.{stored_changes, stored_deletions}
@@ -115,10 +115,10 @@ module _ (limits : Limits) (old new : Record) (name : Text) (words : List Text) 
   pub device_comes : (r : Result Step StoreError) (b : Called) (effect : Effect) → b ≡ Device effect → Comes r old new (place_ask limits (request effect) old.present.frames) → Comes r old new (place_called limits b name words script old.present.frames)
   device_comes r b effect e h = subst (λ (x : Called). Comes r old new (place_called limits x name words script old.present.frames)) (sym e) h
 
-  pub test_comes : (r : Result Step StoreError) (b : Called) (effect : Effect) → b ≡ BuiltIn Tests → asks_device words ≡ true → effect ≡ test_effect limits.devices → Comes r old new (place_ask limits (request effect) old.present.frames) → Comes r old new (place_called limits b name words script old.present.frames)
+  pub test_comes : (r : Result Step StoreError) (b : Called) (effect : Effect) → b ≡ BuiltIn Tests → asks_in limits.shell words ≡ true → effect ≡ test_effect limits.devices → Comes r old new (place_ask limits (request effect) old.present.frames) → Comes r old new (place_called limits b name words script old.present.frames)
   test_comes (Ok step) b effect e d t h = (
     λ w. h.0 w ∙ ap (λ (x : Effect). place_ask limits (request x) frames (state_at old.present w)) t
-        ∙ chosen (asks_device words) (place_ask limits (request (test_effect limits.devices)) frames (state_at old.present w)) (GoOn frames (set_status (status_when (verdict words)) (state_at old.present w))) d
+        ∙ chosen (asks_in limits.shell words) (place_ask limits (request (test_effect limits.devices)) frames (state_at old.present w)) (GoOn frames (set_status (status_when (truth_in limits.shell words)) (state_at old.present w))) d
         ∙ sym (ap (λ (x : Called). place_called limits x name words script frames (state_at old.present w)) e),
     h.1,
   )

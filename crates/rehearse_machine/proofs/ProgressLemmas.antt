@@ -4,17 +4,16 @@ use Rattle.hushlang.specs.Tree as tree
 use Rattle.hushlang.specs.Tree.{Script, Joined, Command, Arms, IsProperCommand, AreProperArms, HoldsCommand}
 use Rattle.hushlang.specs.Expansion.{joined, size, most_bytes}
 use Rattle.hushlang.specs.Trees.{tree_of}
-use Rattle.commands.specs.Verdict.{verdict}
 use Rattle.rehearse_terms.specs.State.{Text, get, State}
 use Rattle.rehearse_rules.specs.Parameters.{parameters_in}
 use Rattle.device_list.specs.Called.{Called, BuiltIn, NoCommand, Device, called_by, sets_in}
-use Rattle.commands.specs.BuiltInCommands.{ChangesVariables, WritesText, RunsTexts, Tests, Exits, asks_device, exit_status}
+use Rattle.commands.specs.BuiltInCommands.{ChangesVariables, WritesText, RunsTexts, Tests, Exits, exit_status}
 use Rattle.rehearse_rules.specs.Execution.{Limits, CutDevices, CutSteps, Size, set_status, set_local, status_when, goes, holds, Request, test_effect, told, told_again, logged, set_environment}
 use Rattle.rehearse_terms.specs.Outcomes.{Success}
 use Rattle.rehearse_machine.specs.Frames.{Frame, Lists, Linked, IfCondition, LoopCondition, LoopBody, ForBody, RunNames, RunText, Next, Go, Ask, Stop, tell_or_ask, boot_next, leave, begin_assign, begin_for, begin_arms, begin_tree, begin_text, begin_names, begin_exit, fitting, ask, begin_called, begin_fields, begin_command, move}
 use Rattle.rehearse_machine.specs.MoveCounts.{command_depth, arms_depth, script_depth, block_weight, links_weight, arms_weight, tree_weight, text_weight, names_weight, weight}
 use Rattle.rehearse_machine.specs.Meaning.{AreProperFrames}
-use Rattle.rehearse_rules.specs.ByShell.{fields_in, turns_in, skips_rest, status_of_loop}
+use Rattle.rehearse_rules.specs.ByShell.{asks_in, truth_in, fields_in, turns_in, skips_rest, status_of_loop}
 
 module _ (limits : Limits) where
   -- no step was begun since t
@@ -87,7 +86,7 @@ module _ (limits : Limits) where
   builtin-quiet (BuiltIn (ChangesVariables change)) name ws fs s = refl
   builtin-quiet (BuiltIn RunsTexts) name [] fs s = refl
   builtin-quiet (BuiltIn RunsTexts) name (w ∷ ws) fs s = refl
-  builtin-quiet (BuiltIn Tests) name ws fs s = either-quiet s (asks_device ws) (ask limits (record { name = name; words = ws; effect = test_effect limits.devices; again = false }) fs s) (Go fs (set_status (status_when (verdict ws)) s)) (ask-quiet (record { name = name; words = ws; effect = test_effect limits.devices; again = false }) fs s) refl
+  builtin-quiet (BuiltIn Tests) name ws fs s = either-quiet s (asks_in limits.shell ws) (ask limits (record { name = name; words = ws; effect = test_effect limits.devices; again = false }) fs s) (Go fs (set_status (status_when (truth_in limits.shell ws)) s)) (ask-quiet (record { name = name; words = ws; effect = test_effect limits.devices; again = false }) fs s) refl
   builtin-quiet (BuiltIn (WritesText written)) name ws fs s = refl
   builtin-quiet (BuiltIn Exits) name ws fs s = exit-quiet (exit_status ws) fs s
   builtin-quiet (Device effect) name ws fs s = ask-quiet (record { name = name; words = ws; effect = effect; again = false }) fs s

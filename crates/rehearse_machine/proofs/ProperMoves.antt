@@ -4,18 +4,17 @@ use Rattle.hushlang.specs.Tree as tree
 use Rattle.hushlang.specs.Tree.{Script, Command, Arms, IsProper, IsProperCommand, AreProperArms, HoldsCommand}
 use Rattle.hushlang.specs.Expansion.{fields, joined, size, most_bytes}
 use Rattle.hushlang.specs.Trees.{tree_of}
-use Rattle.commands.specs.Verdict.{verdict}
 use Rattle.rehearse_terms.specs.State.{Text, get, State}
 use Rattle.rehearse_rules.specs.Parameters.{parameters_in}
 use Rattle.device_list.specs.Called.{Called, BuiltIn, NoCommand, Device, called_by, sets_in}
-use Rattle.commands.specs.BuiltInCommands.{ChangesVariables, WritesText, RunsTexts, Tests, Exits, asks_device, exit_status}
+use Rattle.commands.specs.BuiltInCommands.{ChangesVariables, WritesText, RunsTexts, Tests, Exits, exit_status}
 use Rattle.rehearse_rules.specs.Execution.{Limits, CutDevices, CutSteps, Size, set_status, set_local, status_when, goes, holds, Request, test_effect, told, told_again, logged, set_environment}
 use Rattle.rehearse_terms.specs.Outcomes.{Success}
 use Rattle.rehearse_machine.specs.Frames.{Frame, Lists, Linked, IfCondition, LoopCondition, LoopBody, ForBody, RunNames, RunText, Next, Go, Stop, tell_or_ask, boot_next, leave, begin_assign, begin_for, begin_arms, begin_tree, begin_text, begin_names, begin_exit, fitting, ask, begin_called, begin_fields, begin_command, move}
 use Rattle.hushlang.proofs.ProperLemmas.{trees_are_proper}
 use Rattle.rehearse_machine.proofs.StepBoundLemmas.{block_proper}
 use Rattle.rehearse_machine.specs.Meaning.{AreProperFrames, IsProperNext}
-use Rattle.rehearse_rules.specs.ByShell.{fields_in, turns_in, skips_rest, status_of_loop}
+use Rattle.rehearse_rules.specs.ByShell.{asks_in, truth_in, fields_in, turns_in, skips_rest, status_of_loop}
 
 module _ (limits : Limits) where
   either : (b : Bool) (x y : Next) → IsProperNext x → IsProperNext y → IsProperNext (elim b [ true ↦ x | false ↦ y ])
@@ -65,7 +64,7 @@ module _ (limits : Limits) where
   builtin-proper (BuiltIn (ChangesVariables change)) name ws fs s p = p
   builtin-proper (BuiltIn RunsTexts) name [] fs s p = p
   builtin-proper (BuiltIn RunsTexts) name (w ∷ ws) fs s p = (tt, p)
-  builtin-proper (BuiltIn Tests) name ws fs s p = either (asks_device ws) (ask limits (record { name = name; words = ws; effect = test_effect limits.devices; again = false }) fs s) (Go fs (set_status (status_when (verdict ws)) s)) (ask-proper (record { name = name; words = ws; effect = test_effect limits.devices; again = false }) fs s p) p
+  builtin-proper (BuiltIn Tests) name ws fs s p = either (asks_in limits.shell ws) (ask limits (record { name = name; words = ws; effect = test_effect limits.devices; again = false }) fs s) (Go fs (set_status (status_when (truth_in limits.shell ws)) s)) (ask-proper (record { name = name; words = ws; effect = test_effect limits.devices; again = false }) fs s p) p
   builtin-proper (BuiltIn (WritesText written)) name ws fs s p = p
   builtin-proper (BuiltIn Exits) name ws fs s p = exit-proper (exit_status ws) fs s p
   builtin-proper (Device effect) name ws fs s p = ask-proper (record { name = name; words = ws; effect = effect; again = false }) fs s p

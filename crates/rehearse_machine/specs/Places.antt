@@ -12,11 +12,10 @@ use Rattle.rehearse_terms.specs.Outcomes.{Outcome, Success, Failure}
 use Rattle.hushlang.specs.Trees.{tree_of}
 use Rattle.rehearse_terms.specs.State.{Text, get, State}
 use Rattle.rehearse_terms.specs.declared.shell.Shell.{Shell}
-use Rattle.rehearse_rules.specs.ByShell.{fields_in, turns_in, skips_rest, status_of_nothing, status_of_no_block, status_of_loop}
+use Rattle.rehearse_rules.specs.ByShell.{asks_in, truth_in, fields_in, turns_in, skips_rest, status_of_nothing, status_of_no_block, status_of_loop}
 use Rattle.rehearse_rules.specs.Parameters.{parameters_in}
-use Rattle.commands.specs.Verdict.{verdict}
 use Rattle.device_list.specs.Called.{Called, BuiltIn, NoCommand, Device, called_by, sets_in}
-use Rattle.commands.specs.BuiltInCommands.{ChangesVariables, WritesText, RunsTexts, Tests, Exits, asks_device, exit_status, variables_changed, text_written}
+use Rattle.commands.specs.BuiltInCommands.{ChangesVariables, WritesText, RunsTexts, Tests, Exits, exit_status, variables_changed, text_written}
 use Rattle.rehearse_rules.specs.Execution.{Limits, Ending, End, CutDevices, CutSteps, Unknown, Syntax, Size, Booted, remember, set_status, set_local, begin_turn, status_when, goes, holds, Request, test_effect, outcome_when, told, told_again, logged, set_environment}
 use Rattle.rehearse_machine.specs.Frames.{Frame, Lists, Linked, IfCondition, LoopCondition, LoopBody, ForBody, RunNames, RunText, Next, Go, Ask, Stop, begun_text}
 
@@ -279,9 +278,9 @@ module _ (limits : Limits) where
   place_called (BuiltIn RunsTexts) name [] script ps s = GoOn ps (set_status 1 s)
   place_called (BuiltIn RunsTexts) name (w ∷ ws) script ps s = GoOn (names_frame script (w ∷ ws) ∷ ps) s
   place_called (BuiltIn Tests) name words script ps s =
-      elim (asks_device words) [
+      elim (asks_in limits.shell words) [
         | true ↦ place_ask (record { name = name; words = words; effect = test_effect limits.devices; again = false }) ps s
-        | false ↦ GoOn ps (set_status (status_when (verdict words)) s)
+        | false ↦ GoOn ps (set_status (status_when (truth_in limits.shell words)) s)
       ]
   place_called (BuiltIn (WritesText written)) name words script ps s = GoOn ps (remember (text_written written words) s)
   place_called (BuiltIn Exits) name words script ps s = place_exit (exit_status words) ps s

@@ -20,8 +20,8 @@ ghost use Rattle.rehearse_machine.specs.MovesShown.{Comes, IsExpanded, Moves, li
 ghost use Rattle.rehearse_machine.specs.CalledShown.{builtin_called};
 
 use crate::ask::Step;
-use crate::built_in::{asks_device, echo, exit_status, setenv};
-use crate::by_shell::status_of_nothing;
+use crate::built_in::{echo, exit_status, setenv};
+use crate::by_shell::{asks_in, status_of_nothing, truth_in};
 use crate::computed::carry_out;
 use crate::frames::{behind, enter, finish, place};
 use crate::named::Named;
@@ -30,7 +30,6 @@ use crate::run_and_exit::{begin_run, leave_text};
 use crate::steps::{count, turned};
 use bootstore_state::{At, Frame, FrameKind, Store, StoreError};
 use builtins::Builtin;
-use commands::verdict;
 use device_list::{Devices, Effect};
 use hushlang::{Fields, Script, Word};
 use rehearse_rules::Halt;
@@ -81,14 +80,15 @@ fn run_test<'d, S: Store>(
         (place_called (limits_of devices.now bounds) (called.BuiltIn says.Tests) name.now
         (bytes_of_words words.now) script (S.record_of store.old).present.frames) }
 {
-    if asks_device(words) {
+    let shell = bounds.shell();
+    if asks_in(shell, words) {
         let effect = Effect {
             ends: false,
             stays: devices.test_stays(),
             sets: &[],
         };
         ask(alloc, store, bounds, name, words, effect)
-    } else if verdict(words) {
+    } else if truth_in(shell, words) {
         done(store, 0)
     } else {
         done(store, 1)

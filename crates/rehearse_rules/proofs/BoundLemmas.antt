@@ -7,10 +7,9 @@ use Rattle.rehearse_terms.specs.Outcomes.{OutcomeWord, Outcome, Success, Failure
 use Rattle.hushlang.specs.Trees.{tree_of}
 use Rattle.rehearse_terms.specs.State.{Text, get, State, start}
 use Rattle.rehearse_rules.specs.Parameters.{parameters_in}
-use Rattle.commands.specs.Verdict.{verdict}
 use Rattle.device_list.specs.Called.{Called, BuiltIn, Device, NoCommand, called_by, sets_in}
-use Rattle.commands.specs.BuiltInCommands.{ChangesVariables, WritesText, RunsTexts, Tests, Exits, asks_device, exit_status}
-use Rattle.rehearse_rules.specs.ByShell.{fields_in, turns_in, skips_rest, status_of_loop}
+use Rattle.commands.specs.BuiltInCommands.{ChangesVariables, WritesText, RunsTexts, Tests, Exits, exit_status}
+use Rattle.rehearse_rules.specs.ByShell.{asks_in, truth_in, fields_in, turns_in, skips_rest, status_of_loop}
 use Rattle.rehearse_rules.specs.Execution.{Limits, Answer, Normal, Exit, Ended, Dry, Ending, CutDevices, CutSteps, Syntax, Size, go_on, set_status, set_local, status_when, goes, holds, begin, take_outcome, with_outcome, outcome_when, told, told_again, tell_or_take, device, Request, test_effect, logged, set_environment, boot, text_end, run_text, run_all, command, simple, sized, assign, turns, begin_turn, for_each, exec_script, exec_list, exec_joined, exec_command, exec_arms, exec}
 use Rattle.rehearse_rules.specs.Runs.{Task, run_on, state_of, steps}
 use Rattle.hushlang.proofs.ProperLemmas.{trees_are_proper}
@@ -119,7 +118,7 @@ module _ (limits : Limits) where
     command-ends (BuiltIn (ChangesVariables change)) name ws t h r = h
     command-ends (BuiltIn RunsTexts) name [] t h r = h
     command-ends (BuiltIn RunsTexts) name (w ∷ ws) t h r = run-ends (w ∷ ws) t h r
-    command-ends (BuiltIn Tests) name ws t h r = Ends-if (asks_device ws) (device limits (record { name = name; words = ws; effect = test_effect limits.devices; again = false }) t) (Normal (set_status (status_when (verdict ws)) t)) (λ e. device-ends t (record { name = name; words = ws; effect = test_effect limits.devices; again = false }) h) (λ e. h)
+    command-ends (BuiltIn Tests) name ws t h r = Ends-if (asks_in limits.shell ws) (device limits (record { name = name; words = ws; effect = test_effect limits.devices; again = false }) t) (Normal (set_status (status_when (truth_in limits.shell ws)) t)) (λ e. device-ends t (record { name = name; words = ws; effect = test_effect limits.devices; again = false }) h) (λ e. h)
     command-ends (BuiltIn (WritesText written)) name ws t h r = h
     command-ends (BuiltIn Exits) name ws t h r = leave-ends (exit_status ws) t h
     command-ends (Device effect) name ws t h r = device-ends t (record { name = name; words = ws; effect = effect; again = false }) h

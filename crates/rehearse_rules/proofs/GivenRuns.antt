@@ -15,7 +15,8 @@ use Rattle.device_list.specs.Called.{Called, BuiltIn, listed_by, other_called, c
 use Rattle.commands.specs.BuiltInCommands.{Deed, ChangesVariables, WritesText, RunsTexts, Tests, Exits, deed_of, carried, asks_device}
 use Rattle.commands.specs.Verdict.{verdict}
 use Rattle.device_list.specs.DeviceList.{Devices, computed_by}
-use Rattle.rehearse_rules.specs.ByShell.{fields_in, turns_in, skips_rest, status_of_nothing, status_of_no_block}
+use Rattle.rehearse_rules.specs.ByShell.{asks_in, truth_in, fields_in, turns_in, skips_rest, status_of_nothing, status_of_no_block}
+use Rattle.rehearse_terms.specs.declared.shell.Shell.{Shell}
 use Rattle.rehearse_terms.specs.declared.shell.Shell.TheVariants.{Profile}
 use Rattle.rehearse_rules.specs.Execution.{Limits, Answer, Normal, Ended, CutDevices, CutSteps, Request, tell_or_take, device, go_on, set_status, status_when, goes, begin, command, simple, sized, turns, for_each, text_end, run_text, run_all, exec_script, exec_list, exec_joined, exec_command, exec_arms, exec}
 use Rattle.rehearse_rules.specs.GivenExecution.{Others, asked_anew, given_builtin, given_simple, given_script, given_list, given_joined, given_command, given_arms, given_exec, given_run_on}
@@ -102,10 +103,15 @@ asks_anew bounds request s e = ap (λ (b : Bool). let a : Answer = elim (nat_lt 
 module _ (bounds : Limits) (own : bounds.shell ≡ Profile) (devices : Devices) (test : devices.test_stays ≡ false) (others : Others) (given : AreGiven bounds devices others) where
   module _ (f g : Script → Does) (same : f ≡ g) where
     test-same : (name : Text) (words : List Text) (s : State) → command (limits bounds devices) f (BuiltIn Tests) name words s ≡ given_builtin bounds g Tests name words s
-    test-same name words s = ap (λ (b : Bool). let a : Answer = elim (asks_device words) [
-      | true ↦ device (limits bounds devices) (record { name = name; words = words; effect = record { ends = false; stays = b; sets = [] }; again = false }) s
-      | false ↦ Normal (set_status (status_when (verdict words)) s)
-    ] in a) test
+    test-same name words s =
+        ap (λ (sh : Shell). let a : Answer = elim (asks_in sh words) [
+          | true ↦ device (limits bounds devices) (record { name = name; words = words; effect = record { ends = false; stays = devices.test_stays; sets = [] }; again = false }) s
+          | false ↦ Normal (set_status (status_when (truth_in sh words)) s)
+        ] in a) own
+        ∙ ap (λ (b : Bool). let a : Answer = elim (asks_device words) [
+          | true ↦ device (limits bounds devices) (record { name = name; words = words; effect = record { ends = false; stays = b; sets = [] }; again = false }) s
+          | false ↦ Normal (set_status (status_when (verdict words)) s)
+        ] in a) test
 
     builtin-same : (d : Deed) (name : Text) (words : List Text) (s : State) → command (limits bounds devices) f (BuiltIn d) name words s ≡ given_builtin bounds g d name words s
     builtin-same (ChangesVariables change) name words s = refl

@@ -6,16 +6,15 @@ use Rattle.hushlang.specs.Expansion.{joined, size, most_bytes}
 use Rattle.builtins.specs.Builtins.{Builtin, builtin_of}
 use Rattle.commands.specs.Computed.{Computed}
 use Rattle.device_list.specs.Called.{Called, BuiltIn, Device, NoCommand, called_by}
-use Rattle.commands.specs.BuiltInCommands.{ChangesVariables, WritesText, RunsTexts, Tests, Exits, carried, deed_of, asks_device, exit_status}
+use Rattle.commands.specs.BuiltInCommands.{ChangesVariables, WritesText, RunsTexts, Tests, Exits, carried, deed_of, exit_status}
 use Rattle.device_list.specs.DeviceList.{Effect, computed_by, effect_of}
 use Rattle.rehearse_rules.proofs.TakenOutcomes.{skipped}
-use Rattle.rehearse_rules.specs.ByShell.{fields_in, turns_in, skips_rest, status_of_loop}
+use Rattle.rehearse_rules.specs.ByShell.{asks_in, truth_in, fields_in, turns_in, skips_rest, status_of_loop}
 use Rattle.rehearse_rules.specs.Execution.{Limits, Answer, Normal, Exit, Ended, Dry, CutSteps, Syntax, Size, Request, go_on, set_status, set_local, status_when, goes, holds, begin, device, test_effect, text_end, run_text, run_all, command, simple, sized, assign, turns, begin_turn, for_each, exec_script, exec_list, exec_joined, exec_command, exec_arms, exec}
 use Rattle.rehearse_rules.specs.Runs.{state_of}
 use Rattle.rehearse_terms.specs.State.{Text, get, LoggedCommand, State}
 use Rattle.rehearse_rules.specs.Parameters.{parameters_in}
 use Rattle.hushlang.specs.Trees.{tree_of}
-use Rattle.commands.specs.Verdict.{verdict}
 
 module _ (P : List LoggedCommand → Type 0) where
   -- it holds of the log
@@ -100,7 +99,7 @@ module _ (P : List LoggedCommand → Type 0) where
       keeps-command (BuiltIn RunsTexts) name (w ∷ ws) allowed s h = keeps-run (w ∷ ws) s h
       keeps-command (BuiltIn Tests) name words allowed s h =
           let r : Request = record { name = name; words = words; effect = test_effect limits.devices; again = false } in
-          keeps-if (asks_device words) (device limits r s) (Normal (set_status (status_when (verdict words)) s)) (step r refl test s h) h
+          keeps-if (asks_in limits.shell words) (device limits r s) (Normal (set_status (status_when (truth_in limits.shell words)) s)) (step r refl test s h) h
       keeps-command (BuiltIn (WritesText written)) name words allowed s h = h
       keeps-command (BuiltIn Exits) name words allowed s h = keeps-leave (exit_status words) s h
       keeps-command (Device effect) name words allowed s h = step (record { name = name; words = words; effect = effect; again = false }) refl allowed s h

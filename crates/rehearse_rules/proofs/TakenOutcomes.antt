@@ -9,10 +9,9 @@ use Rattle.rehearse_terms.specs.State.{Text, get, Memory, State, LoggedCommand, 
 use Rattle.rehearse_rules.specs.Parameters.{parameters_in}
 use Rattle.hushlang.specs.Expansion.{joined, size, most_bytes}
 use Rattle.hushlang.specs.Trees.{tree_of}
-use Rattle.commands.specs.Verdict.{verdict}
 use Rattle.device_list.specs.Called.{Called, BuiltIn, Device, NoCommand, called_by, sets_in}
-use Rattle.commands.specs.BuiltInCommands.{ChangesVariables, WritesText, RunsTexts, Tests, Exits, asks_device, exit_status, variables_changed, text_written}
-use Rattle.rehearse_rules.specs.ByShell.{fields_in, turns_in, skips_rest, status_of_nothing, status_of_no_block, status_of_loop}
+use Rattle.commands.specs.BuiltInCommands.{ChangesVariables, WritesText, RunsTexts, Tests, Exits, exit_status, variables_changed, text_written}
+use Rattle.rehearse_rules.specs.ByShell.{asks_in, truth_in, fields_in, turns_in, skips_rest, status_of_nothing, status_of_no_block, status_of_loop}
 use Rattle.rehearse_rules.specs.Execution.{Limits, Answer, Normal, Exit, Ended, Dry, Ending, CutDevices, CutSteps, Unknown, Syntax, Size, go_on, remember, set_status, set_local, status_when, goes, holds, begin, take_outcome, with_outcome, outcome_when, told, told_again, tell_or_take, device, Request, test_effect, logged, set_environment, boot, text_end, run_text, run_all, command, simple, sized, assign, turns, begin_turn, for_each, exec_script, exec_list, exec_joined, exec_command, exec_arms, exec, succeeds}
 use Rattle.rehearse_rules.specs.Runs.{state_of}
 
@@ -284,7 +283,7 @@ module _ (limits : Limits) where
     Keeps-command (BuiltIn (ChangesVariables change)) name ws s = Keeps-normal limits.device_bound s (variables_changed change ws)
     Keeps-command (BuiltIn RunsTexts) name [] s = Keeps-normal limits.device_bound s (λ m. record m { status = 1 })
     Keeps-command (BuiltIn RunsTexts) name (w ∷ ws) s = Keeps-run (w ∷ ws) s
-    Keeps-command (BuiltIn Tests) name ws s = Keeps-if limits.device_bound s (asks_device ws) (device limits (record { name = name; words = ws; effect = test_effect limits.devices; again = false })) (λ t. Normal (set_status (status_when (verdict ws)) t)) (Keeps-device (record { name = name; words = ws; effect = test_effect limits.devices; again = false }) refl s) (Keeps-normal limits.device_bound s (λ m. record m { status = status_when (verdict ws) }))
+    Keeps-command (BuiltIn Tests) name ws s = Keeps-if limits.device_bound s (asks_in limits.shell ws) (device limits (record { name = name; words = ws; effect = test_effect limits.devices; again = false })) (λ t. Normal (set_status (status_when (truth_in limits.shell ws)) t)) (Keeps-device (record { name = name; words = ws; effect = test_effect limits.devices; again = false }) refl s) (Keeps-normal limits.device_bound s (λ m. record m { status = status_when (truth_in limits.shell ws) }))
     Keeps-command (BuiltIn (WritesText written)) name ws s = Keeps-normal limits.device_bound s (text_written written ws)
     Keeps-command (BuiltIn Exits) name ws s = Keeps-leave (exit_status ws) s
     Keeps-command (Device effect) name ws s = Keeps-device (record { name = name; words = ws; effect = effect; again = false }) refl s

@@ -11,11 +11,10 @@ use Rattle.hushlang.specs.Trees.{tree_of}
 use Rattle.rehearse_terms.specs.State.{Text, Variables, get, with_value, Memory, LoggedCommand, answer_in, State}
 use Rattle.rehearse_terms.specs.declared.shell.Shell.{Shell}
 use Rattle.rehearse_rules.specs.Parameters.{parameters_in}
-use Rattle.rehearse_rules.specs.ByShell.{fields_in, turns_in, skips_rest, status_of_nothing, status_of_no_block, status_of_loop, status_in_turn}
+use Rattle.rehearse_rules.specs.ByShell.{asks_in, truth_in, fields_in, turns_in, skips_rest, status_of_nothing, status_of_no_block, status_of_loop, status_in_turn}
 use Rattle.device_list.specs.DeviceList.{Effect, Devices}
-use Rattle.commands.specs.Verdict.{verdict}
 use Rattle.device_list.specs.Called.{Called, BuiltIn, NoCommand, Device, called_by, sets_in}
-use Rattle.commands.specs.BuiltInCommands.{ChangesVariables, WritesText, RunsTexts, Tests, Exits, asks_device, exit_status, variables_changed, text_written}
+use Rattle.commands.specs.BuiltInCommands.{ChangesVariables, WritesText, RunsTexts, Tests, Exits, exit_status, variables_changed, text_written}
 
 -- the device list, how many device commands a run may ask, how many steps it may begin, and the shell
 pub record Limits : Type 0 where
@@ -238,9 +237,9 @@ module _ (limits : Limits) where
   command script (BuiltIn RunsTexts) name [] s = Normal (set_status 1 s)
   command script (BuiltIn RunsTexts) name (w ∷ ws) s = run_all script (w ∷ ws) s
   command script (BuiltIn Tests) name words s =
-      elim (asks_device words) [
+      elim (asks_in limits.shell words) [
         | true ↦ device (record { name = name; words = words; effect = test_effect limits.devices; again = false }) s
-        | false ↦ Normal (set_status (status_when (verdict words)) s)
+        | false ↦ Normal (set_status (status_when (truth_in limits.shell words)) s)
       ]
   command script (BuiltIn (WritesText written)) name words s = Normal (remember (text_written written words) s)
   command script (BuiltIn Exits) name words s =
