@@ -35,8 +35,8 @@ _ubtool_options() {
     case $1 in
         printenv) options='-c --config --big-endian -l --lock --one-copy -n --noheader -0 --null --escaped -h --help -V --version' ;;
         setenv) options='-c --config --big-endian -l --lock --one-copy -s --script -h --help -V --version' ;;
-        rehearse) options='-c --config --big-endian -d --device-list -b --variable --devices --steps --word --failures --after --limit -h --help -V --version' ;;
-        endings) options='-c --config --big-endian -d --device-list -b --variable --devices --steps --states --flow -h --help -V --version' ;;
+        rehearse) options='-c --config --big-endian -d --device-list -b --variable --devices --steps --shell --word --failures --after --limit -h --help -V --version' ;;
+        endings) options='-c --config --big-endian -d --device-list -b --variable --devices --steps --shell --states --flow -h --help -V --version' ;;
         *) options='' ;;
     esac
 }
@@ -48,6 +48,7 @@ _ubtool_value() {
         -l | --lock) value='folder' ;;
         -b | --variable) value='name' ;;
         --devices | --steps | --word | --failures | --after | --limit | --states) value='other' ;;
+        --shell) value='listed profile old-2023.01 old-2025.01 old' ;;
         *) value='' ;;
     esac
 }
@@ -96,6 +97,10 @@ _ubtool() {
         folder)
             compopt -o filenames 2>/dev/null
             mapfile -t COMPREPLY < <(compgen -d -- "$word")
+            return
+            ;;
+        listed\ *)
+            mapfile -t COMPREPLY < <(compgen -W "${value#listed }" -- "$word")
             return
             ;;
         other) return ;;

@@ -53,7 +53,7 @@ complete -c ubtool -n __ubtool_after_help -a 'printenv setenv rehearse endings'
 # options: completions
 # Whether the word is an option whose value comes after it.
 function __ubtool_takes_value
-    contains -- $argv[1] -c --config -l --lock -s --script -d --device-list -b --variable --devices --steps --word --failures --after --limit --states
+    contains -- $argv[1] -c --config -l --lock -s --script -d --device-list -b --variable --devices --steps --shell --word --failures --after --limit --states
 end
 
 complete -c ubtool -s h -l help -d 'Print help'
@@ -73,6 +73,7 @@ complete -c ubtool -n '__fish_seen_subcommand_from rehearse' -l devices -x -d 'A
 complete -c ubtool -n '__fish_seen_subcommand_from endings' -l devices -x -d 'At most N device commands a run, 0 to 1000'
 complete -c ubtool -n '__fish_seen_subcommand_from rehearse' -l steps -x -d 'At most N steps (commands begun) a run, 0 to 1000000'
 complete -c ubtool -n '__fish_seen_subcommand_from endings' -l steps -x -d 'At most N steps (commands begun) a run, 0 to 1000000'
+complete -c ubtool -n '__fish_seen_subcommand_from rehearse endings' -l shell -x -a 'profile old-2023.01 old-2025.01 old' -d 'The shell by whose rules the scripts run: profile, old-2023.01, old-2025.01 or old'
 complete -c ubtool -n '__fish_seen_subcommand_from rehearse' -l word -x -d 'The run of WORD alone, . for the empty one'
 complete -c ubtool -n '__fish_seen_subcommand_from rehearse' -l failures -x -d 'The runs in which at most N device commands fail, 0 to 32'
 complete -c ubtool -n '__fish_seen_subcommand_from rehearse' -l after -x -d 'Begin after the run of WORD, . for the empty one'

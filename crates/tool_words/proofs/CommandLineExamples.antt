@@ -11,7 +11,7 @@ use Rattle.tool_words.specs.Answered.{IsAccepted}
 use Rattle.tool_words.specs.declared.called.CalledAs.{CalledAs}
 use Rattle.tool_words.specs.declared.called.CalledAs.TheVariants.{FwSetenv, Ubtool}
 use Rattle.tool_words.specs.Asked.{Asked, ending, header_needs_one, input_scripted, lock_needs_folder, lock_of, needs_name, page_with, printing, rehearsing, script_and_name, scripted, setting, too_many_devices, word_alone}
-use Rattle.rehearse_terms.specs.declared.shell.Shell.TheVariants.{Profile}
+use Rattle.rehearse_terms.specs.declared.shell.Shell.TheVariants.{Old2023, Old2025, Profile}
 use Rattle.rehearse_terms.specs.Asking.{Alone, Listed, whole_page}
 use Rattle.tool_words.specs.CommandLine.{ubtool}
 
@@ -322,3 +322,99 @@ signed_failures = (refl, refl)
 signed_limit : IsUnread (codes "rehearse" ∷ codes "-d" ∷ codes "d" ∷ codes "--limit" ∷ codes "+1" ∷ [])
 unfolding clap_on_literals ubtool
 signed_limit = (refl, refl)
+
+-- rehearse -d d --shell old-2023.01
+rehearsed_in_old_2023 : AsksFor (codes "rehearse" ∷ codes "-d" ∷ codes "d" ∷ codes "--shell" ∷ codes "old-2023.01" ∷ [])
+    (rehearsing (codes "/etc/fw_env.config") (codes "d") (record {
+      variable = codes "bootcmd";
+      bounds = record { devices = 16; steps = 10000; failures = None; shell = Old2023 };
+      wanted = Listed None whole_page;
+      names = [];
+    }) Little)
+unfolding clap_on_literals ubtool
+rehearsed_in_old_2023 = (refl, refl)
+
+-- rehearse -d d --shell=old --failures 1
+failures_in_newest_old : AsksFor (codes "rehearse" ∷ codes "-d" ∷ codes "d" ∷ codes "--shell=old" ∷ codes "--failures" ∷ codes "1" ∷ [])
+    (rehearsing (codes "/etc/fw_env.config") (codes "d") (record {
+      variable = codes "bootcmd";
+      bounds = record { devices = 16; steps = 10000; failures = Some 1; shell = Old2025 };
+      wanted = Listed None whole_page;
+      names = [];
+    }) Little)
+unfolding clap_on_literals ubtool
+failures_in_newest_old = (refl, refl)
+
+-- rehearse -d d --word 01 --shell old-2025.01
+word_in_old_2025 : AsksFor (codes "rehearse" ∷ codes "-d" ∷ codes "d" ∷ codes "--word" ∷ codes "01" ∷ codes "--shell" ∷ codes "old-2025.01" ∷ [])
+    (rehearsing (codes "/etc/fw_env.config") (codes "d") (record {
+      variable = codes "bootcmd";
+      bounds = record { devices = 1000; steps = 1000000; failures = None; shell = Old2025 };
+      wanted = Alone (codes "01");
+      names = [];
+    }) Little)
+unfolding clap_on_literals ubtool
+word_in_old_2025 = (refl, refl)
+
+-- rehearse -d d --shell profile --after 0
+after_in_profile : AsksFor (codes "rehearse" ∷ codes "-d" ∷ codes "d" ∷ codes "--shell" ∷ codes "profile" ∷ codes "--after" ∷ codes "0" ∷ [])
+    (rehearsing (codes "/etc/fw_env.config") (codes "d") (record {
+      variable = codes "bootcmd";
+      bounds = record { devices = 16; steps = 10000; failures = None; shell = Profile };
+      wanted = Listed (Some (codes "0")) whole_page;
+      names = [];
+    }) Little)
+unfolding clap_on_literals ubtool
+after_in_profile = (refl, refl)
+
+-- endings -d d --shell old-2023.01 --flow
+flow_in_old_2023 : AsksFor (codes "endings" ∷ codes "-d" ∷ codes "d" ∷ codes "--shell" ∷ codes "old-2023.01" ∷ codes "--flow" ∷ [])
+    (ending (codes "/etc/fw_env.config") (codes "d") (record {
+      variable = codes "bootcmd";
+      bounds = record { devices = 1000; steps = 1000000; failures = None; shell = Old2023 };
+      states = 1000000;
+      flow = true;
+    }) Little)
+unfolding clap_on_literals ubtool
+flow_in_old_2023 = (refl, refl)
+
+-- endings -d d --shell old
+endings_in_newest_old : AsksFor (codes "endings" ∷ codes "-d" ∷ codes "d" ∷ codes "--shell" ∷ codes "old" ∷ [])
+    (ending (codes "/etc/fw_env.config") (codes "d") (record {
+      variable = codes "bootcmd";
+      bounds = record { devices = 1000; steps = 1000000; failures = None; shell = Old2025 };
+      states = 1000000;
+      flow = false;
+    }) Little)
+unfolding clap_on_literals ubtool
+endings_in_newest_old = (refl, refl)
+
+-- rehearse -d d --shell modern
+modern_shell : IsUnread (codes "rehearse" ∷ codes "-d" ∷ codes "d" ∷ codes "--shell" ∷ codes "modern" ∷ [])
+unfolding clap_on_literals ubtool
+modern_shell = (refl, refl)
+
+-- endings -d d --shell modern-2025.01
+modern_endings : IsUnread (codes "endings" ∷ codes "-d" ∷ codes "d" ∷ codes "--shell" ∷ codes "modern-2025.01" ∷ [])
+unfolding clap_on_literals ubtool
+modern_endings = (refl, refl)
+
+-- rehearse -d d --shell=
+shell_without_name : IsUnread (codes "rehearse" ∷ codes "-d" ∷ codes "d" ∷ codes "--shell=" ∷ [])
+unfolding clap_on_literals ubtool
+shell_without_name = (refl, refl)
+
+-- rehearse -d d --shell Old
+shell_in_capitals : IsUnread (codes "rehearse" ∷ codes "-d" ∷ codes "d" ∷ codes "--shell" ∷ codes "Old" ∷ [])
+unfolding clap_on_literals ubtool
+shell_in_capitals = (refl, refl)
+
+-- rehearse -d d --shell old --shell old
+two_shells : IsRefused (codes "rehearse" ∷ codes "-d" ∷ codes "d" ∷ codes "--shell" ∷ codes "old" ∷ codes "--shell" ∷ codes "old" ∷ [])
+unfolding clap_on_literals ubtool
+two_shells = refl
+
+-- printenv --shell old
+printed_in_a_shell : IsRefused (codes "printenv" ∷ codes "--shell" ∷ codes "old" ∷ [])
+unfolding clap_on_literals ubtool
+printed_in_a_shell = refl

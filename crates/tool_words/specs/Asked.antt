@@ -14,7 +14,9 @@ use Rattle.tool_words.specs.declared.called.CalledAs.{CalledAs}
 use Rattle.tool_words.specs.Called.{is_tool}
 use Rattle.rehearse_terms.specs.Asking.{Asking, Wanted, Listed, Alone}
 use Rattle.rehearse_terms.specs.declared.wanted.Page.{Page}
-use Rattle.rehearse_terms.specs.Bounds.{BoundsShown, bounds_of, run_bounds_of, most_run_devices, most_steps}
+use Rattle.rehearse_terms.specs.Bounds.{BoundsShown, bounds_of, in_shell, run_bounds_of, most_run_devices, most_steps}
+use Rattle.rehearse_terms.specs.declared.shell.Shell.{Shell}
+use Rattle.rehearse_terms.specs.declared.shell.Shell.TheVariants.{Old2023, Old2025, Profile}
 use Rattle.tool_words.specs.CommandLine.{most_failures, most_records, most_states}
 
 -- what `endings` is asked for
@@ -153,6 +155,18 @@ bounds_asked rows = bounds_or usual_devices usual_steps rows
 abbrev pub run_bounds_asked : List Row → Option BoundsShown
 run_bounds_asked rows = bounds_or most_run_devices most_steps rows
 
+-- the shell of this name; the newest of U-Boot's old shells has a name without its version too
+abbrev pub shell_named : Text → Option Shell
+shell_named name =
+    if bytes_eq name (codes "profile") then Some Profile
+    else (if bytes_eq name (codes "old-2023.01") then Some Old2023
+    else (if bytes_eq name (codes "old-2025.01") then Some Old2025
+    else (if bytes_eq name (codes "old") then Some Old2025 else None)))
+
+-- the shell by whose rules the scripts run, ubtool's own if none is given; nothing if no shell has the name
+abbrev pub shell_of : List Row → Option Shell
+shell_of rows = option_map_or shell_named (first_of (codes "shell") rows) (Some Profile)
+
 -- the wanted runs, within their bounds; or the refusal that the words meet
 abbrev pub WantedAsked : Type 0
 WantedAsked = Result (BoundsShown × Wanted) Asked
@@ -187,49 +201,53 @@ abbrev pub wanted_asked : Page → (failures : Option ℕ) → List Row → Opti
 wanted_asked page failures rows =
     wanted_by (first_of (codes "word") rows) (first_of (codes "after") rows) page failures rows
 
-abbrev pub rehearsal_of : (device_list : Text) → List Row → WantedAsked → Asked
-rehearsal_of device_list rows (Ok within) =
+-- by the rules of this shell
+abbrev pub rehearsal_of : (device_list : Text) → Shell → List Row → WantedAsked → Asked
+rehearsal_of device_list shell rows (Ok within) =
     rehearsing (config_of rows) device_list (record {
       variable = variable_of rows;
-      bounds = within.0;
+      bounds = in_shell shell within.0;
       wanted = within.1;
       names = values_of (codes "names") rows;
     }) (order_of rows)
-rehearsal_of device_list rows (Err refusal) = refusal
+rehearsal_of device_list shell rows (Err refusal) = refusal
 
 -- with a device list, a page, a number of failures and bounds that can be read
-abbrev pub rehearsal_with : (device_list : Option Text) → Option Page → (failures : Option (Option ℕ)) → List Row →
-    Option Asked
-rehearsal_with (Some device_list) (Some page) (Some failures) rows =
-    option_map (rehearsal_of device_list rows) (wanted_asked page failures rows)
-rehearsal_with None page failures rows = None
-rehearsal_with (Some device_list) None failures rows = None
-rehearsal_with (Some device_list) (Some page) None rows = None
+abbrev pub rehearsal_with : (device_list : Option Text) → Option Page → (failures : Option (Option ℕ)) → Shell →
+    List Row → Option Asked
+rehearsal_with (Some device_list) (Some page) (Some failures) shell rows =
+    option_map (rehearsal_of device_list shell rows) (wanted_asked page failures rows)
+rehearsal_with None page failures shell rows = None
+rehearsal_with (Some device_list) None failures shell rows = None
+rehearsal_with (Some device_list) (Some page) None shell rows = None
 
--- the failures are at most 32
+-- the failures are at most 32, and the shell is one that has a name
 abbrev pub rehearse_asked : List Row → Option Asked
 rehearse_asked rows =
-    rehearsal_with (first_of (codes "device-list") rows) (page_asked rows)
-    (number_within 0 most_failures (codes "failures") rows) rows
+    option_and_then (λ shell. rehearsal_with (first_of (codes "device-list") rows) (page_asked rows)
+    (number_within 0 most_failures (codes "failures") rows) shell rows)
+    (shell_of rows)
 
 -- the states if none are given
 abbrev pub usual_states : ℕ
 usual_states = 1000000
 
 -- with a device list, bounds and a number of states that can be read
-abbrev pub endings_with : Option Text → Option BoundsShown → Option (Option ℕ) → List Row → Option Asked
-endings_with (Some device_list) (Some bounds) (Some states) rows =
+abbrev pub endings_with : Option Text → Option BoundsShown → Option (Option ℕ) → Shell → List Row → Option Asked
+endings_with (Some device_list) (Some bounds) (Some states) shell rows =
     Some (ending (config_of rows) device_list (record {
       variable = variable_of rows;
-      bounds = bounds;
+      bounds = in_shell shell bounds;
       states = unwrap_or states usual_states;
       flow = is_set (codes "flow") rows;
     }) (order_of rows))
-endings_with _ _ _ rows = None
+endings_with _ _ _ shell rows = None
 
 abbrev pub endings_asked : List Row → Option Asked
-endings_asked rows = endings_with (first_of (codes "device-list") rows) (run_bounds_asked rows)
-    (number_within 0 most_states (codes "states") rows) rows
+endings_asked rows =
+    option_and_then (λ shell. endings_with (first_of (codes "device-list") rows) (run_bounds_asked rows)
+    (number_within 0 most_states (codes "states") rows) shell rows)
+    (shell_of rows)
 
 -- what the entries of the subcommand of this name ask for
 abbrev pub asked_of : CalledAs → Text → List Row → Option Asked

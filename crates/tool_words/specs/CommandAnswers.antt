@@ -56,8 +56,8 @@ meaning_of Version = None
 abbrev pub asked : CalledAs → List Text → Option Asked
 asked called words = option_and_then (λ s. asked_of called s.0 s.1) (subcommand_of ubtool words)
 
--- The answer to words. A line without a mistake is that of a number with a sign, which `clap` accepts. It accepts no
--- `rehearse` or `endings` without a device list, and no number out of its range.
+-- The answer to words. A line without a mistake is that of a number with a sign, or of a name that no shell has, which
+-- `clap` accepts. It accepts no `rehearse` or `endings` without a device list, and no number out of its range.
 abbrev pub Answers : CalledAs → List Text → Result Ask UseError → Type 0
 Answers called words (Ok (Help text)) = IsAmong DisplayHelp (fault_of ubtool words)
 Answers called words (Ok Version) = IsAmong DisplayVersion (fault_of ubtool words)

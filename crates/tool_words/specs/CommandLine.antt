@@ -83,6 +83,10 @@ devices = number_option (codes "devices") 0 most_run_devices
 abbrev pub steps : Rule
 steps = number_option (codes "steps") 0 most_steps
 
+-- `--shell NAME`, by whose rules the scripts run
+abbrev pub shell : Rule
+shell = long_option (codes "shell")
+
 -- the one run that is written; or how many device commands of a listed run may fail, the run after which the listing
 -- starts, and how many records it has
 abbrev pub word : Rule
@@ -99,7 +103,7 @@ limit = number_option (codes "limit") 1 most_records
 
 abbrev pub rehearse : App
 rehearse = command (codes "rehearse")
-    (config ∷ big_endian ∷ device_list ∷ variable ∷ devices ∷ steps ∷ word ∷ failures ∷ after ∷ limit ∷ names ∷ [])
+    (config ∷ big_endian ∷ device_list ∷ variable ∷ devices ∷ steps ∷ shell ∷ word ∷ failures ∷ after ∷ limit ∷ names ∷ [])
 
 -- how many states may be searched, and the greatest number of them that can be allowed
 abbrev pub most_states : ℕ
@@ -114,7 +118,7 @@ flow = long_flag (codes "flow")
 
 abbrev pub endings : App
 endings = command (codes "endings")
-    (config ∷ big_endian ∷ device_list ∷ variable ∷ devices ∷ steps ∷ states ∷ flow ∷ [])
+    (config ∷ big_endian ∷ device_list ∷ variable ∷ devices ∷ steps ∷ shell ∷ states ∷ flow ∷ [])
 
 -- the program, which has no words of its own; its version can be asked for at each subcommand too
 abbrev pub base : App

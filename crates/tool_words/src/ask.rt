@@ -131,7 +131,8 @@ pub struct EndingsAsk {
 /// Why the words of a call are refused.
 #[derive(Debug, Drop, Error)]
 pub enum UseError {
-    /// `clap` refuses the words. The text is its message, with its line ends.
+    /// `clap` refuses the words, or they have a number with a sign or a name that no shell has. The text is the message, with
+    /// its line ends.
     #[error("{0}")]
     Line(String),
     /// `-l` is given an empty word.

@@ -11,6 +11,7 @@ mod kinds;
 mod notes;
 mod read;
 mod shared;
+mod shell;
 mod subcommand;
 mod tables;
 mod version;

@@ -15,6 +15,7 @@ use crate::ask::{
     DEFAULT_STATES, DEFAULT_STEPS, DEFAULT_VARIABLE, EndingsAsk, PrintAsk, RehearseAsk, UseError,
 };
 use crate::called::CalledAs;
+use crate::shell::{shell_of, unnamed, wanted_in_shell};
 use crate::{FAILURES_MAX, ubtool};
 use clap::ArgMatches;
 use clap::error::ErrorKind;
@@ -213,7 +214,7 @@ error: a number is written in digits alone, without a sign
 For more information, try '--help'.
 ";
 
-/// The refusal of what `clap` accepts and the program does not: a number with a sign. `clap` never
+/// The refusal of a number with a sign, which `clap` accepts and the program does not. `clap` never
 /// accepts that an argument is missing or that a number is out of its range.
 fn unread(alloc: Global) -> UseError
     ensures { IsUnread result }
@@ -327,6 +328,9 @@ fn wanted(
 fn rehearse_ask(alloc: Global, matches: &ArgMatches<'_>) -> Result<Ask, UseError>
     ensures { Says (rehearse_asked (rows_of (found_of matches.now))) result }
 {
+    let Some(shell) = shell_of(matches) else {
+        return Err(unnamed(alloc, matches));
+    };
     let list = text_of(alloc, matches, "device-list")?;
     let page = page_asked(matches);
     let failures = number_within(matches, "failures", 0, FAILURES_MAX);
@@ -342,7 +346,7 @@ fn rehearse_ask(alloc: Global, matches: &ArgMatches<'_>) -> Result<Ask, UseError
         devices_file,
         what: RehearseAsk {
             name: variable_of(alloc, matches)?,
-            wanted,
+            wanted: wanted_in_shell(wanted, shell),
             names: texts_of(alloc, matches, "names")?,
         },
         order: order_of(matches),
@@ -352,6 +356,9 @@ fn rehearse_ask(alloc: Global, matches: &ArgMatches<'_>) -> Result<Ask, UseError
 fn endings_ask(alloc: Global, matches: &ArgMatches<'_>) -> Result<Ask, UseError>
     ensures { Says (endings_asked (rows_of (found_of matches.now))) result }
 {
+    let Some(shell) = shell_of(matches) else {
+        return Err(unnamed(alloc, matches));
+    };
     let list = text_of(alloc, matches, "device-list")?;
     let bounds = bounds_or(matches, DEFAULT_RUN_DEVICES, DEFAULT_RUN_STEPS);
     let states = number_within(matches, "states", 0, u32::MAX);
@@ -363,7 +370,7 @@ fn endings_ask(alloc: Global, matches: &ArgMatches<'_>) -> Result<Ask, UseError>
         devices_file,
         what: EndingsAsk {
             name: variable_of(alloc, matches)?,
-            bounds,
+            bounds: bounds.in_shell(shell),
             states: states.unwrap_or(DEFAULT_STATES),
             flow: is_set(matches, "flow"),
         },
@@ -417,9 +424,9 @@ pub fn read_lock<S: AsStr>(alloc: Global, words: &[S]) -> Result<Option<String>,
 /// Reads the words after the program's name. If the program was called as one of U-Boot's tools,
 /// the script of `-s -` is the one on standard input, and usage lines name that tool.
 ///
-/// Refusals of `clap`, each a `Line`, come first, and so does that of a number with a sign. Then both
-/// `printenv` and `setenv` refuse an empty folder of the lock (`LockNeedsFolder`), `setenv` refuses to have no name
-/// (`NeedName`) or a script and a name (`ScriptAndName`), and `printenv -n` refuses any number of
+/// Refusals of `clap`, each a `Line`, come first, and so do those of a number with a sign and of a name that
+/// no shell has. Then both `printenv` and `setenv` refuse an empty folder of the lock (`LockNeedsFolder`),
+/// `setenv` refuses to have no name (`NeedName`) or a script and a name (`ScriptAndName`), and `printenv -n` refuses any number of
 /// names but one (`HeaderNeedsOne`). `rehearse` refuses a word beside `--after` or `--limit`
 /// (`WordAlone`), and a listing with too great a device bound (`TooManyDevices`). `Memory` is
 /// returned if a growth is refused.

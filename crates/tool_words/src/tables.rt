@@ -154,6 +154,17 @@ const STEPS: Argument<'static> = Argument {
     help: "At most N steps (commands begun) a run, 0 to 1000000 [default: 10000, with --word 1000000]",
 };
 
+const SHELL: Argument<'static> = Argument {
+    id: "shell",
+    form: Form::Value,
+    letter: None,
+    alias: None,
+    required: false,
+    value: "NAME",
+    help: "The shell by whose rules the scripts run: profile, old-2023.01, old-2025.01 or old \
+        [default: profile]",
+};
+
 const WORD: Argument<'static> = Argument {
     id: "word",
     form: Form::Value,
@@ -194,13 +205,14 @@ const LIMIT: Argument<'static> = Argument {
     help: "At most N records, 1 to 4294967295 [default: all]",
 };
 
-const REHEARSE: [Argument<'static>; 11] = [
+const REHEARSE: [Argument<'static>; 12] = [
     CONFIG,
     BIG_ENDIAN,
     DEVICE_LIST,
     VARIABLE,
     DEVICES,
     STEPS,
+    SHELL,
     WORD,
     FAILURES,
     AFTER,
@@ -231,7 +243,7 @@ const FLOW: Argument<'static> = Argument {
     help: "Write the states as a graph, a line each",
 };
 
-const ENDINGS: [Argument<'static>; 8] = [
+const ENDINGS: [Argument<'static>; 9] = [
     CONFIG,
     BIG_ENDIAN,
     DEVICE_LIST,
@@ -244,6 +256,7 @@ const ENDINGS: [Argument<'static>; 8] = [
         help: "At most N steps (commands begun) a run, 0 to 1000000 [default: 1000000]",
         ..STEPS
     },
+    SHELL,
     STATES,
     FLOW,
 ];
