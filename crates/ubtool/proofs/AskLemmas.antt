@@ -9,9 +9,10 @@ use Rattle.envimage.specs.declared.image.ByteOrder.{ByteOrder}
 use Rattle.rehearse_terms.specs.Asking.{Alone, Listed}
 use Rattle.rehearse_terms.specs.declared.wanted.Page.{Page}
 use Rattle.rehearse_terms.specs.Bounds.{BoundsShown, bounds_of}
+use Rattle.rehearse_terms.specs.declared.shell.Shell.{Shell}
 use Rattle.tool_words.specs.CommandAnswers.{Answers, asked, meaning_of}
 use Rattle.tool_words.specs.Called.{is_tool}
-use Rattle.tool_words.specs.Asked.{Asked, asked_of, bounds_asked, change_asked, config_of, endings_asked, endings_with, has_no_folder, header_needs_one, input_scripted, is_set, listing_asked, lock_needs_folder, number_within, one_copy, order_of, page_asked, print_asked, print_form, printing, printing_asked, rehearsal_of, rehearsal_with, rehearse_asked, run_bounds_asked, scripted, set_asked, too_many_devices, values_of, wanted_by, word_alone, word_asked}
+use Rattle.tool_words.specs.Asked.{Asked, asked_of, bounds_asked, change_asked, config_of, endings_asked, endings_with, has_no_folder, header_needs_one, input_scripted, is_set, listing_asked, lock_needs_folder, number_within, one_copy, order_of, page_asked, print_asked, print_form, printing, printing_asked, rehearsal_of, rehearsal_with, rehearse_asked, run_bounds_asked, scripted, set_asked, shell_of, too_many_devices, values_of, wanted_by, word_alone, word_asked}
 use Rattle.tool_words.specs.CommandLine.{most_failures, most_states, ubtool}
 use Rattle.tool_words.specs.declared.called.CalledAs.{CalledAs}
 use Rattle.tool_words.specs.declared.ask.Ask.{Ask}
@@ -31,6 +32,10 @@ either-asked : (b : Bool) (x y : Asked) → IsFit (Some x) → IsFit (Some y) �
 either-asked true x y first second = first
 either-asked false x y first second = second
 
+found-fit : {X : Type 0} (found : Option X) (what : X → Option Asked) → ((x : X) → IsFit (what x)) → IsFit (option_and_then what found)
+found-fit None what fit = tt
+found-fit (Some x) what fit = fit x
+
 print-fit : (header one : Bool) (what : Asked) → (one ≡ true → IsFit (Some what)) → (header ≡ true → IsFit (Some what))
     → IsFit (Some (if not header && not one then header_needs_one else what))
 print-fit false true what of-one of-header = of-one refl
@@ -44,41 +49,41 @@ set-fit called (Some script) (Some name) rows = tt
 set-fit called None (Some name) rows = tt
 set-fit called None None rows = tt
 
-listing-fit : (list : Text) (rows : List Row) (after : Option Text) (page : Page) (narrow : Option BoundsShown)
-    → IsFit (Some (rehearsal_of list rows (elim narrow [ Some within ↦ Ok (within, Listed after page) | None ↦ Err too_many_devices ])))
-listing-fit list rows after page (Some within) = tt
-listing-fit list rows after page None = tt
+listing-fit : (list : Text) (shell : Shell) (rows : List Row) (after : Option Text) (page : Page) (narrow : Option BoundsShown)
+    → IsFit (Some (rehearsal_of list shell rows (elim narrow [ Some within ↦ Ok (within, Listed after page) | None ↦ Err too_many_devices ])))
+listing-fit list shell rows after page (Some within) = tt
+listing-fit list shell rows after page None = tt
 
-narrow-fit : (list : Text) (rows : List Row) (after : Option Text) (page : Page) (failures : Option ℕ) (bounds : Option BoundsShown) → IsFit (option_map (rehearsal_of list rows) (option_map (listing_asked after page failures) bounds))
-narrow-fit list rows after page failures (Some bounds) = listing-fit list rows after page (bounds_of bounds.devices bounds.steps failures)
-narrow-fit list rows after page failures None = tt
+narrow-fit : (list : Text) (shell : Shell) (rows : List Row) (after : Option Text) (page : Page) (failures : Option ℕ) (bounds : Option BoundsShown) → IsFit (option_map (rehearsal_of list shell rows) (option_map (listing_asked after page failures) bounds))
+narrow-fit list shell rows after page failures (Some bounds) = listing-fit list shell rows after page (bounds_of bounds.devices bounds.steps failures)
+narrow-fit list shell rows after page failures None = tt
 
-word-fit : (list : Text) (rows : List Row) (word : Text) (bounds : BoundsShown) (beside : Bool) → IsFit (Some (rehearsal_of list rows (if beside then Err word_alone else Ok (bounds, Alone word))))
-word-fit list rows word bounds true = tt
-word-fit list rows word bounds false = tt
+word-fit : (list : Text) (shell : Shell) (rows : List Row) (word : Text) (bounds : BoundsShown) (beside : Bool) → IsFit (Some (rehearsal_of list shell rows (if beside then Err word_alone else Ok (bounds, Alone word))))
+word-fit list shell rows word bounds true = tt
+word-fit list shell rows word bounds false = tt
 
-wide-fit : (list : Text) (rows : List Row) (word : Text) (after : Option Text) (page : Page) (failures : Option ℕ) (bounds : Option BoundsShown) → IsFit (option_map (rehearsal_of list rows) (option_map (word_asked word after page failures) bounds))
-wide-fit list rows word after page failures (Some bounds) = word-fit list rows word bounds (is_some after || is_some page.limit || is_some failures)
-wide-fit list rows word after page failures None = tt
+wide-fit : (list : Text) (shell : Shell) (rows : List Row) (word : Text) (after : Option Text) (page : Page) (failures : Option ℕ) (bounds : Option BoundsShown) → IsFit (option_map (rehearsal_of list shell rows) (option_map (word_asked word after page failures) bounds))
+wide-fit list shell rows word after page failures (Some bounds) = word-fit list shell rows word bounds (is_some after || is_some page.limit || is_some failures)
+wide-fit list shell rows word after page failures None = tt
 
-wanted-fit : (list : Text) (word after : Option Text) (page : Page) (failures : Option ℕ) (rows : List Row) → IsFit (option_map (rehearsal_of list rows) (wanted_by word after page failures rows))
-wanted-fit list None after page failures rows = narrow-fit list rows after page failures (bounds_asked rows)
-wanted-fit list (Some word) after page failures rows = wide-fit list rows word after page failures (run_bounds_asked rows)
+wanted-fit : (list : Text) (shell : Shell) (word after : Option Text) (page : Page) (failures : Option ℕ) (rows : List Row) → IsFit (option_map (rehearsal_of list shell rows) (wanted_by word after page failures rows))
+wanted-fit list shell None after page failures rows = narrow-fit list shell rows after page failures (bounds_asked rows)
+wanted-fit list shell (Some word) after page failures rows = wide-fit list shell rows word after page failures (run_bounds_asked rows)
 
-rehearse-fit : (list : Option Text) (page : Option Page) (failures : Option (Option ℕ)) (rows : List Row) → IsFit (rehearsal_with list page failures rows)
-rehearse-fit (Some list) (Some page) (Some failures) rows = wanted-fit list (first_of (codes "word") rows) (first_of (codes "after") rows) page failures rows
-rehearse-fit None page failures rows = tt
-rehearse-fit (Some list) None failures rows = tt
-rehearse-fit (Some list) (Some page) None rows = tt
+rehearse-fit : (list : Option Text) (page : Option Page) (failures : Option (Option ℕ)) (shell : Shell) (rows : List Row) → IsFit (rehearsal_with list page failures shell rows)
+rehearse-fit (Some list) (Some page) (Some failures) shell rows = wanted-fit list shell (first_of (codes "word") rows) (first_of (codes "after") rows) page failures rows
+rehearse-fit None page failures shell rows = tt
+rehearse-fit (Some list) None failures shell rows = tt
+rehearse-fit (Some list) (Some page) None shell rows = tt
 
-endings-fit : (list : Option Text) (bounds : Option BoundsShown) (states : Option (Option ℕ)) (rows : List Row) → IsFit (endings_with list bounds states rows)
-endings-fit (Some list) (Some bounds) (Some states) rows = tt
-endings-fit None bounds states rows = tt
-endings-fit (Some list) None states rows = tt
-endings-fit (Some list) (Some bounds) None rows = tt
+endings-fit : (list : Option Text) (bounds : Option BoundsShown) (states : Option (Option ℕ)) (shell : Shell) (rows : List Row) → IsFit (endings_with list bounds states shell rows)
+endings-fit (Some list) (Some bounds) (Some states) shell rows = tt
+endings-fit None bounds states shell rows = tt
+endings-fit (Some list) None states shell rows = tt
+endings-fit (Some list) (Some bounds) None shell rows = tt
 
 asked-fit : (called : CalledAs) (words : List Text) → IsFit (asked called words)
-asked-fit called words = by (subcommand_of ubtool words)
+asked-fit called words = found-fit (subcommand_of ubtool words) (λ s. asked_of called s.0 s.1) (λ s. of s.0 s.1)
   where
     of : (name : Text) (rows : List Row) → IsFit (asked_of called name rows)
     of name rows =
@@ -88,18 +93,19 @@ asked-fit called words = by (subcommand_of ubtool words)
         (λ e h. eqb-true (length names) 1 e) (λ is h. let none : ⊥ = cc in absurd none)) in
         let set = either-asked (has_no_folder rows) lock_needs_folder (change_asked called (first_of (codes "script") rows) (first_of (codes "name") rows) rows) tt
         (set-fit called (first_of (codes "script") rows) (first_of (codes "name") rows) rows) in
-        let rehearsed = rehearse-fit (first_of (codes "device-list") rows) (page_asked rows) (number_within 0 most_failures (codes "failures") rows) rows in
-        let ended = endings-fit (first_of (codes "device-list") rows) (run_bounds_asked rows) (number_within 0 most_states (codes "states") rows) rows in
+        let list = first_of (codes "device-list") rows in
+        let failures = number_within 0 most_failures (codes "failures") rows in
+        let states = number_within 0 most_states (codes "states") rows in
+        let rehearsed = found-fit (shell_of rows) (λ shell. rehearsal_with list (page_asked rows) failures shell rows)
+        (λ shell. rehearse-fit list (page_asked rows) failures shell rows) in
+        let ended = found-fit (shell_of rows) (λ shell. endings_with list (run_bounds_asked rows) states shell rows)
+        (λ shell. endings-fit list (run_bounds_asked rows) states shell rows) in
         let last = either (bytes_eq name (codes "endings")) (endings_asked rows) None ended tt in
         let two = either (bytes_eq name (codes "rehearse")) (rehearse_asked rows) (if bytes_eq name (codes "endings") then endings_asked rows else None) rehearsed last in
         let three = either (bytes_eq name (codes "setenv")) (Some (set_asked called rows))
         (if bytes_eq name (codes "rehearse") then rehearse_asked rows else (if bytes_eq name (codes "endings") then endings_asked rows else None)) set two in
         either (bytes_eq name (codes "printenv")) (Some (print_asked rows))
         (if bytes_eq name (codes "setenv") then Some (set_asked called rows) else (if bytes_eq name (codes "rehearse") then rehearse_asked rows else (if bytes_eq name (codes "endings") then endings_asked rows else None))) printed three
-
-    by : (found : Option (Text × List Row)) → IsFit (option_and_then (λ s. asked_of called s.0 s.1) found)
-    by None = tt
-    by (Some s) = of s.0 s.1
 
 -- what was asked for is complete
 pub answer-complete : (called : CalledAs) (words : List Text) (ask : Ask) → Answers called words (Ok ask) → IsComplete ask
