@@ -1,2 +1,4 @@
 pub mod WordLemmas
+pub mod OldTreeLemmas
+pub mod TreeByShellLemmas
 mod OldFieldsExamples

@@ -1,2 +1,4 @@
 pub mod OldFields
 pub mod OldFieldsShown
+pub mod OldTrees
+pub mod TreesByShell

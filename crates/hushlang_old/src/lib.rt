@@ -1,9 +1,13 @@
-//! The words of a command, and those of a `for`, as U-Boot's old shell finds them.
+//! The words of a command, and those of a `for`, as U-Boot's old shell finds them, and the trees of texts by the shell.
 #![tactic(auto)]
 
 mod constant;
+mod old_trees;
 mod old_words;
 mod rereading;
+mod trees_by_shell;
 mod word_bytes;
 
+pub use old_trees::read_old;
 pub use old_words::{old_fields, old_turns};
+pub use trees_by_shell::read_text;

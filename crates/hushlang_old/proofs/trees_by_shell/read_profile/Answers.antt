@@ -1,0 +1,10 @@
+use Rattle.std.proofs.Common.{sym}
+use Rattle.hushlang.specs.TreesShown as view
+use Rattle.hushlang.proofs.TreeLemmas.{trees_are_read, refused_texts}
+use Rattle.hushlang_old.proofs.trees_by_shell.read_profile.Goals as goal
+
+pub returns-in-Ok : goal.returns-in-Ok
+returns-in-Ok c = sym ((trees_are_read c.args.text.now (view.script c.in-Ok.script)).1 c.in-Ok.ensures.tree)
+
+pub returns-in_default : goal.returns-in_default
+returns-in_default c = sym ((refused_texts c.args.text.now).1 (c.in-Err.ensures.refused (λ h. c.in_default.not-Memory h)))
