@@ -7,5 +7,6 @@ pub mod ComputedShown
 pub mod TextsShown
 pub mod UBootTest
 pub mod UBootTestShown
+pub mod UBootExit
 pub mod VariableNames
 pub mod BuiltInCommands

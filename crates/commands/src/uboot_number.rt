@@ -8,7 +8,7 @@ use crate::number::{begins_hexadecimal, behind_minus, digits_in};
 use text::digit_of;
 
 /// The number that the digits at the start spell, or 0 if there is none.
-fn read_in(base: u64, word: &[u8]) -> u64
+pub(crate) fn read_in(base: u64, word: &[u8]) -> u64
     ensures { result ≡ in_word (read_in base word.now) }
 {
     let mut number: u64 = 0;
