@@ -4,15 +4,17 @@ use Rattle.hushlang.specs.Tree as tree
 use Rattle.hushlang.specs.Tree.{Script, AndOr, Joined, Command, Arms, IsProper, IsProperList, IsProperJoined, IsProperCommand, HasArm, AreProperArms, HoldsCommand}
 use Rattle.hushlang.specs.Expansion.{joined, size, most_bytes}
 use Rattle.rehearse_terms.specs.Outcomes.{OutcomeWord, Outcome, Success, Failure}
-use Rattle.hushlang.specs.Trees.{tree_of}
+use Rattle.hushlang_old.specs.TreesByShell.{tree_in}
 use Rattle.rehearse_terms.specs.State.{Text, get, State, start}
 use Rattle.rehearse_rules.specs.Parameters.{parameters_in}
 use Rattle.device_list.specs.Called.{Called, BuiltIn, Device, NoCommand, called_by, sets_in}
-use Rattle.commands.specs.BuiltInCommands.{ChangesVariables, WritesText, RunsTexts, Tests, Exits, exit_status}
-use Rattle.rehearse_rules.specs.ByShell.{asks_in, truth_in, fields_in, turns_in, skips_rest, status_of_loop}
-use Rattle.rehearse_rules.specs.Execution.{Limits, Answer, Normal, Exit, Ended, Dry, Ending, CutDevices, CutSteps, Syntax, Size, go_on, set_status, set_local, status_when, goes, holds, begin, take_outcome, with_outcome, outcome_when, told, told_again, tell_or_take, device, Request, test_effect, logged, set_environment, boot, text_end, run_text, run_all, command, simple, sized, assign, turns, begin_turn, for_each, exec_script, exec_list, exec_joined, exec_command, exec_arms, exec}
+use Rattle.commands.specs.BuiltInCommands.{ChangesVariables, WritesText, RunsTexts, Tests, Exits}
+use Rattle.rehearse_rules.specs.ByShell.{unread, leaves_in, status_of_exit, asks_in, truth_in, fields_in, turns_in, skips_rest, status_of_loop}
+use Rattle.rehearse_rules.specs.Execution.{Limits, Answer, Normal, Exit, Ended, Dry, Ending, CutDevices, CutSteps, Size, go_on, set_status, set_local, status_when, goes, holds, begin, take_outcome, with_outcome, outcome_when, told, told_again, tell_or_take, device, Request, test_effect, logged, set_environment, boot, text_end, run_text, run_all, command, simple, sized, assign, turns, begin_turn, for_each, exec_script, exec_list, exec_joined, exec_command, exec_arms, exec}
 use Rattle.rehearse_rules.specs.Runs.{Task, run_on, state_of, steps}
-use Rattle.hushlang.proofs.ProperLemmas.{trees_are_proper}
+use Rattle.hushlang_old.proofs.TreeByShellLemmas.{trees_in_are_proper}
+use Rattle.rehearse_terms.specs.declared.shell.Shell.{Shell}
+use Rattle.rehearse_terms.specs.declared.shell.Shell.TheVariants.{Profile, Old2023, Old2025}
 use Rattle.rehearse_rules.proofs.GrowingSteps.{Grew, Grew-block}
 use Rattle.rehearse_rules.proofs.TakenOutcomes.{skipped, Track, KeepsAll, Keeps-text, Keeps-script, Keeps-list, Keeps-one, Keeps-exec, Keeps-ended}
 
@@ -94,13 +96,18 @@ module _ (limits : Limits) where
 
   -- `run` of texts, each with at most n steps left after the one that `run` began
   module _ (n : ℕ) (script : Script → State → Answer) (kept : (a : Script) → KeepsAll limits (script a)) (ends : (a : Script) → IsProper a → (t : State) → IsWithin t → limits.step_bound < n + t.steps → Ends (script a t)) where
-    tree-ends : (found : Option Script) (name : Text) (t : State) → ((a : Script) → found ≡ Some a → IsProper a) → IsWithin t → limits.step_bound < n + t.steps → Ends (elim found [ None ↦ Ended (Syntax name) t | Some a ↦ script a (elim a [ tree.Empty ↦ set_status 0 t | tree.Runs l ls ↦ t ]) ])
-    tree-ends None name t p h r = (h, tt)
+    unread-ends : (shell : Shell) (name : Text) (t : State) → IsWithin t → Ends (Ended (unread shell name) t)
+    unread-ends Profile name t h = (h, tt)
+    unread-ends Old2023 name t h = (h, tt)
+    unread-ends Old2025 name t h = (h, tt)
+
+    tree-ends : (found : Option Script) (name : Text) (t : State) → ((a : Script) → found ≡ Some a → IsProper a) → IsWithin t → limits.step_bound < n + t.steps → Ends (elim found [ None ↦ Ended (unread limits.shell name) t | Some a ↦ script a (elim a [ tree.Empty ↦ set_status 0 t | tree.Runs l ls ↦ t ]) ])
+    tree-ends None name t p h r = unread-ends limits.shell name t h
     tree-ends (Some tree.Empty) name t p h r = ends tree.Empty tt (set_status 0 t) h r
     tree-ends (Some (tree.Runs l ls)) name t p h r = ends (tree.Runs l ls) (p (tree.Runs l ls) refl) t h r
 
     text-ends : (name v : Text) (t : State) → IsWithin t → limits.step_bound < n + t.steps → Ends (run_text limits script name v t)
-    text-ends name v t h r = tree-ends (tree_of v) name t (λ a e. trees_are_proper v a e) h r
+    text-ends name v t h r = tree-ends (tree_in limits.shell v) name t (λ a e. trees_in_are_proper limits.shell v a e) h r
 
     named-ends : (o : Option Text) (name : Text) (next : State → Answer) (t : State) → IsWithin t → limits.step_bound < n + t.steps → ((u : State) → IsWithin u → limits.step_bound < n + u.steps → Ends (next u)) → Ends (elim o [ None ↦ Normal (set_status 1 t) | Some v ↦ text_end (run_text limits script name v t) next ])
     named-ends None name next t h r j = h
@@ -110,9 +117,9 @@ module _ (limits : Limits) where
     run-ends [] t h r = h
     run-ends (name ∷ names) t h r = named-ends (get t.memory.environment name) name (run_all limits script names) t h r (run-ends names)
 
-    leave-ends : (status : Option ℕ) (t : State) → IsWithin t → Ends (elim status [ Some k ↦ Exit (set_status k t) | None ↦ Normal (set_status 1 t) ])
-    leave-ends (Some k) t h = h
-    leave-ends None t h = h
+    leave-ends : (status : Option ℕ) (other : ℕ) (t : State) → IsWithin t → Ends (elim status [ Some k ↦ Exit (set_status k t) | None ↦ Normal (set_status other t) ])
+    leave-ends (Some k) other t h = h
+    leave-ends None other t h = h
 
     command-ends : (b : Called) (name : Text) (ws : List Text) (t : State) → IsWithin t → limits.step_bound < n + t.steps → Ends (command limits script b name ws t)
     command-ends (BuiltIn (ChangesVariables change)) name ws t h r = h
@@ -120,7 +127,7 @@ module _ (limits : Limits) where
     command-ends (BuiltIn RunsTexts) name (w ∷ ws) t h r = run-ends (w ∷ ws) t h r
     command-ends (BuiltIn Tests) name ws t h r = Ends-if (asks_in limits.shell ws) (device limits (record { name = name; words = ws; effect = test_effect limits.devices; again = false }) t) (Normal (set_status (status_when (truth_in limits.shell ws)) t)) (λ e. device-ends t (record { name = name; words = ws; effect = test_effect limits.devices; again = false }) h) (λ e. h)
     command-ends (BuiltIn (WritesText written)) name ws t h r = h
-    command-ends (BuiltIn Exits) name ws t h r = leave-ends (exit_status ws) t h
+    command-ends (BuiltIn Exits) name ws t h r = leave-ends (leaves_in limits.shell ws) (status_of_exit limits.shell ws) t h
     command-ends (Device effect) name ws t h r = device-ends t (record { name = name; words = ws; effect = effect; again = false }) h
     command-ends NoCommand name ws t h r = (h, tt)
 

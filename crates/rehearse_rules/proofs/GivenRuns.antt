@@ -25,22 +25,22 @@ use Rattle.rehearse_rules.specs.GivenExecution.{Others, asked_anew, given_builti
 abbrev pub Does : Type 0
 Does = State → Answer
 
--- ---- texts that `run` starts
-
-module _ (here there : Limits) (f g : Script → Does) (same : f ≡ g) where
-  run_text-same : (name text : Text) (s : State) → run_text here f name text s ≡ run_text there g name text s
-  run_text-same name text s = λ i. run_text here (same i) name text s
-
-  run_all-same : (names : List Text) → run_all here f names ≡ run_all there g names
-  run_all-same [] = refl
-  run_all-same (name ∷ names) = λ i s. elim (get s.memory.environment name) [
-    | None ↦ Normal (set_status 1 s)
-    | Some text ↦ text_end (run_text here (same i) name text s) (run_all-same names i)
-  ]
-
 -- the bounds, with these device commands
 abbrev limits : Limits → Devices → Limits
 limits bounds devices = record bounds { devices = devices }
+
+-- ---- texts that `run` starts
+
+module _ (bounds : Limits) (devices : Devices) (f g : Script → Does) (same : f ≡ g) where
+  run_text-same : (name text : Text) (s : State) → run_text (limits bounds devices) f name text s ≡ run_text bounds g name text s
+  run_text-same name text s = λ i. run_text bounds (same i) name text s
+
+  run_all-same : (names : List Text) → run_all (limits bounds devices) f names ≡ run_all bounds g names
+  run_all-same [] = refl
+  run_all-same (name ∷ names) = λ i s. elim (get s.memory.environment name) [
+    | None ↦ Normal (set_status 1 s)
+    | Some text ↦ text_end (run_text bounds (same i) name text s) (run_all-same names i)
+  ]
 
 -- in each script, a command that is not built in does what is given
 abbrev pub AreGiven : Limits → Devices → Others → Type 0
@@ -117,7 +117,7 @@ module _ (bounds : Limits) (own : bounds.shell ≡ Profile) (devices : Devices) 
     builtin-same (ChangesVariables change) name words s = refl
     builtin-same (WritesText written) name words s = refl
     builtin-same RunsTexts name [] s = refl
-    builtin-same RunsTexts name (w ∷ ws) s = λ i. run_all-same (limits bounds devices) bounds f g same (w ∷ ws) i s
+    builtin-same RunsTexts name (w ∷ ws) s = λ i. run_all-same bounds devices f g same (w ∷ ws) i s
     builtin-same Tests name words s = test-same name words s
     builtin-same Exits name words s = refl
 
@@ -172,4 +172,4 @@ module _ (bounds : Limits) (own : bounds.shell ≡ Profile) (devices : Devices) 
   pub run-same : (environment : Variables) (name text : Text) (w : OutcomeWord)
       → run_text (limits bounds devices) (exec (limits bounds devices) bounds.step_bound) name text (start environment w) ≡ given_run_on bounds others environment name text w
   run-same environment name text w =
-      run_text-same (limits bounds devices) bounds (exec (limits bounds devices) bounds.step_bound) (given_exec bounds others bounds.step_bound) (exec-same bounds.step_bound) name text (start environment w)
+      run_text-same bounds devices (exec (limits bounds devices) bounds.step_bound) (given_exec bounds others bounds.step_bound) (exec-same bounds.step_bound) name text (start environment w)

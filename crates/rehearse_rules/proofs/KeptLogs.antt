@@ -6,15 +6,15 @@ use Rattle.hushlang.specs.Expansion.{joined, size, most_bytes}
 use Rattle.builtins.specs.Builtins.{Builtin, builtin_of}
 use Rattle.commands.specs.Computed.{Computed}
 use Rattle.device_list.specs.Called.{Called, BuiltIn, Device, NoCommand, called_by}
-use Rattle.commands.specs.BuiltInCommands.{ChangesVariables, WritesText, RunsTexts, Tests, Exits, carried, deed_of, exit_status}
+use Rattle.commands.specs.BuiltInCommands.{ChangesVariables, WritesText, RunsTexts, Tests, Exits, carried, deed_of}
 use Rattle.device_list.specs.DeviceList.{Effect, computed_by, effect_of}
 use Rattle.rehearse_rules.proofs.TakenOutcomes.{skipped}
-use Rattle.rehearse_rules.specs.ByShell.{asks_in, truth_in, fields_in, turns_in, skips_rest, status_of_loop}
-use Rattle.rehearse_rules.specs.Execution.{Limits, Answer, Normal, Exit, Ended, Dry, CutSteps, Syntax, Size, Request, go_on, set_status, set_local, status_when, goes, holds, begin, device, test_effect, text_end, run_text, run_all, command, simple, sized, assign, turns, begin_turn, for_each, exec_script, exec_list, exec_joined, exec_command, exec_arms, exec}
+use Rattle.rehearse_rules.specs.ByShell.{unread, leaves_in, status_of_exit, asks_in, truth_in, fields_in, turns_in, skips_rest, status_of_loop}
+use Rattle.rehearse_rules.specs.Execution.{Limits, Answer, Normal, Exit, Ended, Dry, CutSteps, Size, Request, go_on, set_status, set_local, status_when, goes, holds, begin, device, test_effect, text_end, run_text, run_all, command, simple, sized, assign, turns, begin_turn, for_each, exec_script, exec_list, exec_joined, exec_command, exec_arms, exec}
 use Rattle.rehearse_rules.specs.Runs.{state_of}
 use Rattle.rehearse_terms.specs.State.{Text, get, LoggedCommand, State}
 use Rattle.rehearse_rules.specs.Parameters.{parameters_in}
-use Rattle.hushlang.specs.Trees.{tree_of}
+use Rattle.hushlang_old.specs.TreesByShell.{tree_in}
 
 module _ (P : List LoggedCommand → Type 0) where
   -- it holds of the log
@@ -73,13 +73,13 @@ module _ (P : List LoggedCommand → Type 0) where
     keeps-begin f h s k = keeps-if (nat_lt s.steps limits.step_bound) (f (record s { steps = suc s.steps })) (Ended CutSteps s) (h (record s { steps = suc s.steps }) k) k
 
     module _ (script : Script → State → Answer) (keeps : (a : Script) → KeepsLog (script a)) where
-      keeps-tree : (found : Option Script) (name : Text) (s : State) → Holds s → Holds (state_of (elim found [ None ↦ Ended (Syntax name) s | Some a ↦ script a (elim a [ tree.Empty ↦ set_status 0 s | tree.Runs l ls ↦ s ]) ]))
+      keeps-tree : (found : Option Script) (name : Text) (s : State) → Holds s → Holds (state_of (elim found [ None ↦ Ended (unread limits.shell name) s | Some a ↦ script a (elim a [ tree.Empty ↦ set_status 0 s | tree.Runs l ls ↦ s ]) ]))
       keeps-tree None name s h = h
       keeps-tree (Some tree.Empty) name s h = keeps tree.Empty (set_status 0 s) h
       keeps-tree (Some (tree.Runs l ls)) name s h = keeps (tree.Runs l ls) s h
 
       keeps-text : (name text : Text) → KeepsLog (run_text limits script name text)
-      keeps-text name text s h = keeps-tree (tree_of text) name s h
+      keeps-text name text s h = keeps-tree (tree_in limits.shell text) name s h
 
       keeps-named : (text : Option Text) (name : Text) (next : State → Answer) (s : State) → KeepsLog next → Holds s → Holds (state_of (elim text [ None ↦ Normal (set_status 1 s) | Some v ↦ text_end (run_text limits script name v s) next ]))
       keeps-named None name next s k h = h
@@ -89,9 +89,9 @@ module _ (P : List LoggedCommand → Type 0) where
       keeps-run [] s h = h
       keeps-run (name ∷ names) s h = keeps-named (get s.memory.environment name) name (run_all limits script names) s (keeps-run names) h
 
-      keeps-leave : (status : Option ℕ) (s : State) → Holds s → Holds (state_of (elim status [ Some n ↦ Exit (set_status n s) | None ↦ Normal (set_status 1 s) ]))
-      keeps-leave (Some n) s h = h
-      keeps-leave None s h = h
+      keeps-leave : (status : Option ℕ) (other : ℕ) (s : State) → Holds s → Holds (state_of (elim status [ Some n ↦ Exit (set_status n s) | None ↦ Normal (set_status other s) ]))
+      keeps-leave (Some n) other s h = h
+      keeps-leave None other s h = h
 
       keeps-command : (c : Called) (name : Text) (words : List Text) → IsAllowed c → KeepsLog (command limits script c name words)
       keeps-command (BuiltIn (ChangesVariables change)) name words allowed s h = h
@@ -101,7 +101,7 @@ module _ (P : List LoggedCommand → Type 0) where
           let r : Request = record { name = name; words = words; effect = test_effect limits.devices; again = false } in
           keeps-if (asks_in limits.shell words) (device limits r s) (Normal (set_status (status_when (truth_in limits.shell words)) s)) (step r refl test s h) h
       keeps-command (BuiltIn (WritesText written)) name words allowed s h = h
-      keeps-command (BuiltIn Exits) name words allowed s h = keeps-leave (exit_status words) s h
+      keeps-command (BuiltIn Exits) name words allowed s h = keeps-leave (leaves_in limits.shell words) (status_of_exit limits.shell words) s h
       keeps-command (Device effect) name words allowed s h = step (record { name = name; words = words; effect = effect; again = false }) refl allowed s h
       keeps-command NoCommand name words allowed s h = h
 

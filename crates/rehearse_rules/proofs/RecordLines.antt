@@ -4,7 +4,7 @@ use Rattle.std.specs.Prelude.{⊤}
 use Rattle.std.specs.Fmt.{digits, digits_onto, digit_glyph}
 use Rattle.rehearse_terms.specs.Outcomes.{OutcomeWord, Success, Failure}
 use Rattle.rehearse_terms.specs.State.{Text, Variables, get, State, LoggedCommand}
-use Rattle.rehearse_rules.specs.Execution.{Ending, End, CutDevices, CutSteps, Unknown, Syntax, Size, Booted}
+use Rattle.rehearse_rules.specs.Execution.{Ending, End, CutDevices, CutSteps, Unknown, Syntax, Unsupported, Size, Booted}
 use Rattle.text.specs.Escapes.{hex_digit, escaped, text_form, word_escaped, word_form}
 use Rattle.text.specs.Words.{joined_words}
 use Rattle.rehearse_rules.specs.Listing.{digit_when, outcome_digit, spelled, line, device_line, text_lines, variable_line, asked_line, variable_lines, last_line, inner_lines, record_lines}
@@ -144,6 +144,7 @@ last-is-last CutDevices = refl
 last-is-last CutSteps = refl
 last-is-last (Unknown name) = refl
 last-is-last (Syntax name) = refl
+last-is-last (Unsupported name) = refl
 last-is-last Size = refl
 last-is-last (Booted name) = refl
 
@@ -195,6 +196,7 @@ last-line CutDevices = (refl, (refl, (refl, (refl, (refl, (refl, (refl, (refl, (
 last-line CutSteps = (refl, (refl, (refl, (refl, (refl, (refl, (refl, (refl, (refl, tt)))))))))
 last-line (Unknown name) = OneLine-append (codes "stop unknown ") (word_form name) (refl, (refl, (refl, (refl, (refl, (refl, (refl, (refl, (refl, (refl, (refl, (refl, (refl, tt))))))))))))) (word-line name)
 last-line (Syntax name) = OneLine-append (codes "stop syntax ") (word_form name) (refl, (refl, (refl, (refl, (refl, (refl, (refl, (refl, (refl, (refl, (refl, (refl, tt)))))))))))) (word-line name)
+last-line (Unsupported name) = OneLine-append (codes "stop unsupported ") (word_form name) (refl, (refl, (refl, (refl, (refl, (refl, (refl, (refl, (refl, (refl, (refl, (refl, (refl, (refl, (refl, (refl, (refl, tt))))))))))))))))) (word-line name)
 last-line Size = (refl, (refl, (refl, (refl, (refl, (refl, (refl, (refl, (refl, tt)))))))))
 last-line (Booted name) = OneLine-append (codes "booted ") (word_form name) (refl, (refl, (refl, (refl, (refl, (refl, (refl, tt))))))) (word-line name)
 

@@ -8,11 +8,11 @@ use Rattle.hushlang.specs.Tree.{Script, AndOr, Joined, Command, Arms}
 use Rattle.rehearse_terms.specs.State.{Text, get, Memory, State, LoggedCommand, asked_of}
 use Rattle.rehearse_rules.specs.Parameters.{parameters_in}
 use Rattle.hushlang.specs.Expansion.{joined, size, most_bytes}
-use Rattle.hushlang.specs.Trees.{tree_of}
+use Rattle.hushlang_old.specs.TreesByShell.{tree_in}
 use Rattle.device_list.specs.Called.{Called, BuiltIn, Device, NoCommand, called_by, sets_in}
-use Rattle.commands.specs.BuiltInCommands.{ChangesVariables, WritesText, RunsTexts, Tests, Exits, exit_status, variables_changed, text_written}
-use Rattle.rehearse_rules.specs.ByShell.{asks_in, truth_in, fields_in, turns_in, skips_rest, status_of_nothing, status_of_no_block, status_of_loop}
-use Rattle.rehearse_rules.specs.Execution.{Limits, Answer, Normal, Exit, Ended, Dry, Ending, CutDevices, CutSteps, Unknown, Syntax, Size, go_on, remember, set_status, set_local, status_when, goes, holds, begin, take_outcome, with_outcome, outcome_when, told, told_again, tell_or_take, device, Request, test_effect, logged, set_environment, boot, text_end, run_text, run_all, command, simple, sized, assign, turns, begin_turn, for_each, exec_script, exec_list, exec_joined, exec_command, exec_arms, exec, succeeds}
+use Rattle.commands.specs.BuiltInCommands.{ChangesVariables, WritesText, RunsTexts, Tests, Exits, variables_changed, text_written}
+use Rattle.rehearse_rules.specs.ByShell.{unread, leaves_in, status_of_exit, asks_in, truth_in, fields_in, turns_in, skips_rest, status_of_nothing, status_of_no_block, status_of_loop}
+use Rattle.rehearse_rules.specs.Execution.{Limits, Answer, Normal, Exit, Ended, Dry, Ending, CutDevices, CutSteps, Unknown, Size, go_on, remember, set_status, set_local, status_when, goes, holds, begin, take_outcome, with_outcome, outcome_when, told, told_again, tell_or_take, device, Request, test_effect, logged, set_environment, boot, text_end, run_text, run_all, command, simple, sized, assign, turns, begin_turn, for_each, exec_script, exec_list, exec_joined, exec_command, exec_arms, exec, succeeds}
 use Rattle.rehearse_rules.specs.Runs.{state_of}
 
 -- the state with these outcomes after its own
@@ -259,13 +259,13 @@ module _ (limits : Limits) where
 
   -- a `run`, if each script keeps it
   module _ (script : Script → State → Answer) (kept : (a : Script) → KeepsAll (script a)) where
-    pub Keeps-tree : (found : Option Script) (name : Text) (s : State) → Keeps limits.device_bound s (λ t. elim found [ None ↦ Ended (Syntax name) t | Some a ↦ script a (elim a [ tree.Empty ↦ set_status 0 t | tree.Runs l ls ↦ t ]) ])
-    Keeps-tree None name s = Keeps-ended limits.device_bound s (Syntax name)
+    pub Keeps-tree : (found : Option Script) (name : Text) (s : State) → Keeps limits.device_bound s (λ t. elim found [ None ↦ Ended (unread limits.shell name) t | Some a ↦ script a (elim a [ tree.Empty ↦ set_status 0 t | tree.Runs l ls ↦ t ]) ])
+    Keeps-tree None name s = Keeps-ended limits.device_bound s (unread limits.shell name)
     Keeps-tree (Some tree.Empty) name s = Keeps-remember limits.device_bound s (λ m. record m { status = 0 }) (script tree.Empty) (kept tree.Empty (set_status 0 s))
     Keeps-tree (Some (tree.Runs l ls)) name s = kept (tree.Runs l ls) s
 
     pub Keeps-text : (name text : Text) → KeepsAll (run_text limits script name text)
-    Keeps-text name text s = Keeps-tree (tree_of text) name s
+    Keeps-text name text s = Keeps-tree (tree_in limits.shell text) name s
 
     pub Keeps-named : (text : Option Text) (name : Text) (next : State → Answer) (s : State) → KeepsAll next → Keeps limits.device_bound s (λ t. elim text [ None ↦ Normal (set_status 1 t) | Some v ↦ text_end (run_text limits script name v t) next ])
     Keeps-named None name next s h = Keeps-normal limits.device_bound s (λ m. record m { status = 1 })
@@ -275,9 +275,9 @@ module _ (limits : Limits) where
     Keeps-run [] s = Keeps-stays limits.device_bound s
     Keeps-run (name ∷ names) s = Keeps-named (get s.memory.environment name) name (run_all limits script names) s (Keeps-run names)
 
-    pub Keeps-leave : (status : Option ℕ) (s : State) → Keeps limits.device_bound s (λ t. elim status [ Some n ↦ Exit (set_status n t) | None ↦ Normal (set_status 1 t) ])
-    Keeps-leave (Some n) s = Keeps-exit limits.device_bound s (λ m. record m { status = n })
-    Keeps-leave None s = Keeps-normal limits.device_bound s (λ m. record m { status = 1 })
+    pub Keeps-leave : (status : Option ℕ) (other : ℕ) (s : State) → Keeps limits.device_bound s (λ t. elim status [ Some n ↦ Exit (set_status n t) | None ↦ Normal (set_status other t) ])
+    Keeps-leave (Some n) other s = Keeps-exit limits.device_bound s (λ m. record m { status = n })
+    Keeps-leave None other s = Keeps-normal limits.device_bound s (λ m. record m { status = other })
 
     pub Keeps-command : (b : Called) (name : Text) (ws : List Text) → KeepsAll (command limits script b name ws)
     Keeps-command (BuiltIn (ChangesVariables change)) name ws s = Keeps-normal limits.device_bound s (variables_changed change ws)
@@ -285,7 +285,7 @@ module _ (limits : Limits) where
     Keeps-command (BuiltIn RunsTexts) name (w ∷ ws) s = Keeps-run (w ∷ ws) s
     Keeps-command (BuiltIn Tests) name ws s = Keeps-if limits.device_bound s (asks_in limits.shell ws) (device limits (record { name = name; words = ws; effect = test_effect limits.devices; again = false })) (λ t. Normal (set_status (status_when (truth_in limits.shell ws)) t)) (Keeps-device (record { name = name; words = ws; effect = test_effect limits.devices; again = false }) refl s) (Keeps-normal limits.device_bound s (λ m. record m { status = status_when (truth_in limits.shell ws) }))
     Keeps-command (BuiltIn (WritesText written)) name ws s = Keeps-normal limits.device_bound s (text_written written ws)
-    Keeps-command (BuiltIn Exits) name ws s = Keeps-leave (exit_status ws) s
+    Keeps-command (BuiltIn Exits) name ws s = Keeps-leave (leaves_in limits.shell ws) (status_of_exit limits.shell ws) s
     Keeps-command (Device effect) name ws s = Keeps-device (record { name = name; words = ws; effect = effect; again = false }) refl s
     Keeps-command NoCommand name ws s = Keeps-ended limits.device_bound s (Unknown name)
 

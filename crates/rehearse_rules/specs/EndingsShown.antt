@@ -11,6 +11,7 @@ halt_shown halts.CutDevices = spec.CutDevices
 halt_shown halts.CutSteps = spec.CutSteps
 halt_shown (halts.Unknown name) = spec.Unknown name.items
 halt_shown (halts.Syntax name) = spec.Syntax name.items
+halt_shown (halts.Unsupported name) = spec.Unsupported name.items
 halt_shown halts.Size = spec.Size
 halt_shown (halts.Booted name) = spec.Booted name.items
 
@@ -20,5 +21,6 @@ ending_shown endings.CutDevices = spec.CutDevices
 ending_shown endings.CutSteps = spec.CutSteps
 ending_shown (endings.Unknown name) = spec.Unknown name.now
 ending_shown (endings.Syntax name) = spec.Syntax name.now
+ending_shown (endings.Unsupported name) = spec.Unsupported name.now
 ending_shown endings.Size = spec.Size
 ending_shown (endings.Booted name) = spec.Booted name.now

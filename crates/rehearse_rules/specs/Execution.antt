@@ -7,14 +7,15 @@ use Rattle.hushlang.specs.Expansion.{joined, size, most_bytes}
 use Rattle.hushlang.specs.declared.tree.Op.{Op}
 use Rattle.hushlang.specs.declared.tree.Op.TheVariants.{And, Or}
 use Rattle.rehearse_terms.specs.Outcomes.{Outcome, Success, Failure, OutcomeWord}
-use Rattle.hushlang.specs.Trees.{tree_of}
+use Rattle.hushlang_old.specs.TreesByShell.{tree_in}
 use Rattle.rehearse_terms.specs.State.{Text, Variables, get, with_value, Memory, LoggedCommand, answer_in, State}
 use Rattle.rehearse_terms.specs.declared.shell.Shell.{Shell}
+pub use Rattle.rehearse_rules.specs.Ending.{Ending, End, CutDevices, CutSteps, Unknown, Syntax, Unsupported, Size, Booted}
 use Rattle.rehearse_rules.specs.Parameters.{parameters_in}
-use Rattle.rehearse_rules.specs.ByShell.{asks_in, truth_in, fields_in, turns_in, skips_rest, status_of_nothing, status_of_no_block, status_of_loop, status_in_turn}
+use Rattle.rehearse_rules.specs.ByShell.{unread, leaves_in, status_of_exit, asks_in, truth_in, fields_in, turns_in, skips_rest, status_of_nothing, status_of_no_block, status_of_loop, status_in_turn}
 use Rattle.device_list.specs.DeviceList.{Effect, Devices}
 use Rattle.device_list.specs.Called.{Called, BuiltIn, NoCommand, Device, called_by, sets_in}
-use Rattle.commands.specs.BuiltInCommands.{ChangesVariables, WritesText, RunsTexts, Tests, Exits, exit_status, variables_changed, text_written}
+use Rattle.commands.specs.BuiltInCommands.{ChangesVariables, WritesText, RunsTexts, Tests, Exits, variables_changed, text_written}
 
 -- the device list, how many device commands a run may ask, how many steps it may begin, and the shell
 pub record Limits : Type 0 where
@@ -22,22 +23,6 @@ pub record Limits : Type 0 where
   pub device_bound : ℕ
   pub step_bound : ℕ
   pub shell : Shell
-
--- how a run ends
-pub data Ending : Type 0 where
-  -- the text of its variable ended, by itself or by an `exit`
-  End : (status : ℕ) → Ending
-  -- the bound forbids the next device command, or the next step
-  CutDevices : Ending
-  CutSteps : Ending
-  -- a command is neither built in nor listed
-  Unknown : (name : Text) → Ending
-  -- the text of a variable is not a script
-  Syntax : (name : Text) → Ending
-  -- words expand to too many bytes
-  Size : Ending
-  -- a final device command succeeded
-  Booted : (name : Text) → Ending
 
 -- what a part of a script comes to
 pub data Answer : Type 0 where
@@ -216,8 +201,8 @@ module _ (limits : Limits) where
   -- the text of a variable, read when its turn comes. A text without a command gives the status 0
   abbrev pub run_text : (script : Script → State → Answer) → (name text : Text) → State → Answer
   run_text script name text s =
-      elim (tree_of text) [
-        | None ↦ Ended (Syntax name) s
+      elim (tree_in limits.shell text) [
+        | None ↦ Ended (unread limits.shell name) s
         | Some t ↦ script t (elim t [ tree.Empty ↦ set_status 0 s | tree.Runs list more ↦ s ])
       ]
 
@@ -243,9 +228,9 @@ module _ (limits : Limits) where
       ]
   command script (BuiltIn (WritesText written)) name words s = Normal (remember (text_written written words) s)
   command script (BuiltIn Exits) name words s =
-      elim (exit_status words) [
+      elim (leaves_in limits.shell words) [
         | Some status ↦ Exit (set_status status s)
-        | None ↦ Normal (set_status 1 s)
+        | None ↦ Normal (set_status (status_of_exit limits.shell words) s)
       ]
   command script (Device effect) name words s =
       device (record { name = name; words = words; effect = effect; again = false }) s

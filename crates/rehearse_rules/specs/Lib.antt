@@ -1,3 +1,4 @@
+pub mod Ending
 pub mod ByShell
 pub mod Execution
 pub mod Runs

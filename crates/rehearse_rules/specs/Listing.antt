@@ -5,7 +5,7 @@ use Rattle.text.specs.Escapes.{text_form, word_form}
 use Rattle.text.specs.Words.{joined_words}
 use Rattle.rehearse_terms.specs.Outcomes.{Outcome, OutcomeWord}
 use Rattle.rehearse_terms.specs.State.{Text, Variables, get, State, LoggedCommand}
-use Rattle.rehearse_rules.specs.Execution.{Ending, End, CutDevices, CutSteps, Unknown, Syntax, Size, Booted, succeeds}
+use Rattle.rehearse_rules.specs.Execution.{Ending, End, CutDevices, CutSteps, Unknown, Syntax, Unsupported, Size, Booted, succeeds}
 use Rattle.rehearse_rules.specs.Runs.{Task, run_on, state_of, ending_of}
 use Rattle.rehearse_terms.specs.declared.wanted.Page.{Page}
 
@@ -57,6 +57,7 @@ last_line CutDevices = codes "cut devices"
 last_line CutSteps = codes "cut steps"
 last_line (Unknown name) = codes "stop unknown " ++ word_form name
 last_line (Syntax name) = codes "stop syntax " ++ word_form name
+last_line (Unsupported name) = codes "stop unsupported " ++ word_form name
 last_line Size = codes "stop size"
 last_line (Booted name) = codes "booted " ++ word_form name
 

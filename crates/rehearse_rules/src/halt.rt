@@ -14,6 +14,8 @@ pub enum Halt {
     Unknown(Vec<u8>),
     /// The text of a variable is not a script.
     Syntax(Vec<u8>),
+    /// What U-Boot's shell makes of the text of a variable is not known.
+    Unsupported(Vec<u8>),
     /// Words expand to too many bytes.
     Size,
     /// A final device command succeeded.
@@ -33,6 +35,8 @@ pub enum Ending<'v> {
     Unknown(&'v [u8]),
     /// The text of a variable is not a script.
     Syntax(&'v [u8]),
+    /// What U-Boot's shell makes of the text of a variable is not known.
+    Unsupported(&'v [u8]),
     /// Words expand to too many bytes.
     Size,
     /// A final device command succeeded.
@@ -52,6 +56,7 @@ impl Halt {
             Halt::CutSteps => Ending::CutSteps,
             Halt::Unknown(name) => Ending::Unknown(name),
             Halt::Syntax(name) => Ending::Syntax(name),
+            Halt::Unsupported(name) => Ending::Unsupported(name),
             Halt::Size => Ending::Size,
             Halt::Booted(name) => Ending::Booted(name),
         }
