@@ -8,7 +8,8 @@ use Rattle.std.specs.declared.vec.Vec.{Vec}
 use Rattle.hushlang.specs.Tree.{Script}
 use Rattle.hushlang.specs.TreesShown as view
 use Rattle.hushlang.specs.declared.tree.Script.{Script as Code}
-use Rattle.hushlang.specs.Trees.{tree_of}
+use Rattle.hushlang_old.specs.TreesByShell.{tree_in}
+use Rattle.rehearse_terms.specs.declared.shell.Shell.{Shell}
 use Rattle.bootstore_state.specs.ScriptCode.{coded_script}
 use Rattle.bootstore_state.specs.declared.scripts.TextFound.{TextFound}
 use Rattle.bootstore_state.specs.declared.scripts.TextFound.TheVariants as found
@@ -21,13 +22,13 @@ most_kept = 262144
 abbrev pub script_shown : Rc Code Global → Script
 script_shown shared = view.script shared.value
 
--- each script is that of its text
-abbrev pub AreOfTexts : List (Vec ℕ Global × Rc Code Global) → Type 0
-AreOfTexts kept = All (λ e. tree_of e.0.items ≡ Some (script_shown e.1)) kept
+-- each script is that of its text in this shell
+abbrev pub AreOfTexts : Shell → List (Vec ℕ Global × Rc Code Global) → Type 0
+AreOfTexts shell kept = All (λ e. tree_in shell e.0.items ≡ Some (script_shown e.1)) kept
 
 -- (a fact with at most one proof, as a field of a type has to be)
-pub one_proof : (kept : List (Vec ℕ Global × Rc Code Global)) → IsProp (AreOfTexts kept)
-one_proof kept p q = λ i k d below. Coded-set (coded_option coded_script) _ _ (p k d below) (q k d below) i
+pub one_proof : (shell : Shell) (kept : List (Vec ℕ Global × Rc Code Global)) → IsProp (AreOfTexts shell kept)
+one_proof shell kept p q = λ i k d below. Coded-set (coded_option coded_script) _ _ (p k d below) (q k d below) i
 
 -- what the text of a variable is: none if the variable is not set; else its script, or none if it is not one
 abbrev pub text_found : TextFound → Option (Option Script)

@@ -1,14 +1,16 @@
 //! The scripts of texts. A text that was read is not read again while its script is kept.
-ghost use Rattle.std.specs.Prelude.{◌≡◌, ◌+◌, ◌≤◌, Some, IfOk, option_map};
+ghost use Rattle.std.specs.Prelude.{◌≡◌, ◌+◌, ◌≤◌, true, Some, IfOk, option_map};
 ghost use Rattle.std.specs.FinMap.{get};
 ghost use Rattle.hushlang.specs.TreesShown as view;
-ghost use Rattle.hushlang.specs.Trees.{tree_of};
+ghost use Rattle.hushlang_old.specs.TreesByShell.{tree_in};
 ghost use Rattle.bootstore_state.specs.Scripts.{AreOfTexts, most_kept, one_proof, script_shown, text_found};
 ghost use Rattle.bootstore_state.specs.Table.{variables_of};
 
 use crate::store::StoreError;
 use crate::table::Table;
-use hushlang::{Script, SyntaxError, parse};
+use hushlang::Script;
+use hushlang_old::read_text;
+use rehearse_terms::Shell;
 use std::alloc::Global;
 use std::collections::BTreeMap;
 use std::rc::Rc;
@@ -21,32 +23,39 @@ const KEPT_MAX: usize = 262_144;
 pub enum TextFound {
     /// The variable is not set.
     Unset,
-    /// The text is not a script.
+    /// The shell cannot read the text.
     NoScript,
     /// The script of the text.
     Script(Rc<Script>),
 }
 
-/// Scripts by their texts.
+/// Scripts by their texts, all read by the rules of one shell.
 #[derive(Drop)]
 pub struct Scripts {
     alloc: Global,
+    shell: Shell,
     kept: BTreeMap<Vec<u8>, Rc<Script>>,
     bytes: usize,
-    ghost texts: { AreOfTexts kept.entries } by { one_proof kept.entries },
+    ghost texts: { AreOfTexts shell kept.entries } by { one_proof shell kept.entries },
     ghost bound: { bytes ≤ most_kept },
 }
 
-/// The script of a text, if it is one. Errors: `Memory`.
-pub fn read_script(alloc: Global, text: &[u8]) -> Result<Option<Script>, StoreError>
-    ensures { IfOk result (λ found. option_map view.script found ≡ tree_of text.now) }
+/// The script of a text, if the shell can read it. Errors: `Memory`.
+pub fn read_script(alloc: Global, shell: Shell, text: &[u8]) -> Result<Option<Script>, StoreError>
+    ensures { IfOk result (λ found. option_map view.script found ≡ tree_in shell text.now) }
 {
-    match parse(alloc, text) {
-        Ok(script) => Ok(Some(script)),
-        Err(error) => match error {
-            SyntaxError::Memory => Err(StoreError::Memory),
-            _ => Ok(None),
-        },
+    Ok(read_text(alloc, shell, text)?)
+}
+
+/// Whether two shells are the same.
+fn is_same(left: Shell, right: Shell) -> bool
+    ensures { result ≡ true → left ≡ right }
+{
+    match (left, right) {
+        (Shell::Profile, Shell::Profile) => true,
+        (Shell::Old2023, Shell::Old2023) => true,
+        (Shell::Old2025, Shell::Old2025) => true,
+        _ => false,
     }
 }
 
@@ -55,6 +64,7 @@ impl Scripts {
     pub fn new(alloc: Global) -> Scripts {
         Scripts {
             alloc,
+            shell: Shell::Profile,
             kept: BTreeMap::new(alloc),
             bytes: 0,
         }
@@ -63,7 +73,8 @@ impl Scripts {
     /// Makes room for a text of this length: lets all scripts go if there is none.
     fn make_room(&mut self, length: usize)
         requires { length ≤ most_kept }
-        ensures { self.new.bytes + length ≤ most_kept }
+        ensures room { self.new.bytes + length ≤ most_kept }
+        ensures shell { self.new.shell ≡ self.old.shell }
     {
         if length > KEPT_MAX - self.bytes {
             self.kept.clear();
@@ -73,7 +84,7 @@ impl Scripts {
 
     /// Keeps the script of a text, unless the text alone is too long. Errors: `Memory`.
     fn keep(&mut self, text: &[u8], script: &Rc<Script>) -> Result<(), StoreError>
-        requires { tree_of text.now ≡ Some (view.script script.now.value) }
+        requires { tree_in self.old.shell text.now ≡ Some (view.script script.now.value) }
     {
         if text.len() > KEPT_MAX {
             return Ok(());
@@ -85,14 +96,25 @@ impl Scripts {
         Ok(())
     }
 
-    /// The script of a text, if it is one. It is read only if it is not kept. Errors: `Memory`.
+    /// Keeps scripts of this shell alone: lets all go if they are of another one.
+    fn take_shell(&mut self, shell: Shell)
+        ensures { self.new.shell ≡ shell }
+    {
+        if !is_same(self.shell, shell) {
+            self.kept.clear();
+            self.bytes = 0;
+            self.shell = shell;
+        }
+    }
+
+    /// The script of a text, if the shell can read it. It is read only if it is not kept. Errors: `Memory`.
     fn script_of(&mut self, text: &[u8]) -> Result<Option<Rc<Script>>, StoreError>
-        ensures { IfOk result (λ found. option_map script_shown found ≡ tree_of text.now) }
+        ensures { IfOk result (λ found. option_map script_shown found ≡ tree_in self.old.shell text.now) }
     {
         if let Some(script) = self.kept.get(text) {
             return Ok(Some(script.clone()?));
         }
-        let Some(script) = read_script(self.alloc, text)? else {
+        let Some(script) = read_script(self.alloc, self.shell, text)? else {
             return Ok(None);
         };
         let script = Rc::new(self.alloc, script)?;
@@ -100,14 +122,20 @@ impl Scripts {
         Ok(Some(script))
     }
 
-    /// What the text of a variable is. Errors: `Memory`.
-    pub fn text_of(&mut self, variables: &Table, name: &[u8]) -> Result<TextFound, StoreError>
+    /// What the text of a variable is in this shell. Errors: `Memory`.
+    pub fn text_of(
+        &mut self,
+        shell: Shell,
+        variables: &Table,
+        name: &[u8],
+    ) -> Result<TextFound, StoreError>
         ensures { IfOk result (λ found. text_found found
-            ≡ option_map tree_of (get (variables_of variables.now) name.now)) }
+            ≡ option_map (tree_in shell) (get (variables_of variables.now) name.now)) }
     {
         let Some(text) = variables.get(name) else {
             return Ok(TextFound::Unset);
         };
+        self.take_shell(shell);
         match self.script_of(text)? {
             None => Ok(TextFound::NoScript),
             Some(script) => Ok(TextFound::Script(script)),

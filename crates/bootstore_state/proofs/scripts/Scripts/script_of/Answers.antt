@@ -7,4 +7,4 @@ use Rattle.bootstore_state.proofs.scripts.Scripts.script_of.Goals as goal
 pub returns-in-Some : goal.returns-in-Some
 returns-in-Some c =
     ap (λ (x : Code). Some (view.script x)) c.in_ok-clone.ensures.cases
-    ∙ script_found c.args.self.now.kept.entries c.args.text.now c.in-Some.script.now c.args.self.now.texts c.in-Some.ensures.value
+    ∙ script_found c.args.self.now.shell c.args.self.now.kept.entries c.args.text.now c.in-Some.script.now c.args.self.now.texts c.in-Some.ensures.value
