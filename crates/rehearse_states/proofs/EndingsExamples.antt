@@ -8,7 +8,7 @@ use Rattle.device_list.specs.DeviceLaws.{quiet}
 use Rattle.device_list.specs.DeviceList.{only}
 use Rattle.hushlang.specs.Trees.{tree_of}
 use Rattle.rehearse_terms.specs.State.{Text}
-use Rattle.rehearse_rules.specs.Execution.{Ending, End, CutDevices, CutSteps, Unknown, Syntax, Size, Booted}
+use Rattle.rehearse_rules.specs.Execution.{Ending, End, CutDevices, CutSteps, Unknown, Syntax, Unsupported, Size, Booted}
 use Rattle.rehearse_rules.specs.Runs.{Task, all_runs}
 use Rattle.rehearse_rules.proofs.ExampleRehearsals.{only_load, limits, bootcmd}
 use Rattle.rehearse_states.specs.Endings.{Row, ending_eq, fewer, joined as with_further, with_row, gather, endings, of_both}
@@ -79,18 +79,18 @@ asked_each_time = refl
 -- endings of every kind, two of each kind that has a number or a name
 abbrev kinds : List Ending
 kinds =
-    End 0 ∷ End 1 ∷ CutDevices ∷ CutSteps ∷ Unknown (codes "a") ∷ Unknown (codes "b") ∷ Syntax (codes "a") ∷ Syntax (codes "b") ∷ Size
-    ∷ Booted (codes "a") ∷ Booted (codes "b") ∷ []
+    End 0 ∷ End 1 ∷ CutDevices ∷ CutSteps ∷ Unknown (codes "a") ∷ Unknown (codes "b") ∷ Syntax (codes "a") ∷ Syntax (codes "b")
+    ∷ Unsupported (codes "a") ∷ Unsupported (codes "b") ∷ Size ∷ Booted (codes "a") ∷ Booted (codes "b") ∷ []
 
 -- to which of the kinds an ending is equal
 abbrev equals : Ending → List Bool
 equals e = map (ending_eq e) kinds
 
--- true at one place of eleven
+-- true at one place of thirteen
 abbrev only_at : ℕ → List Bool
-only_at n = map (nat_eq n) (0 ∷ 1 ∷ 2 ∷ 3 ∷ 4 ∷ 5 ∷ 6 ∷ 7 ∷ 8 ∷ 9 ∷ 10 ∷ [])
+only_at n = map (nat_eq n) (0 ∷ 1 ∷ 2 ∷ 3 ∷ 4 ∷ 5 ∷ 6 ∷ 7 ∷ 8 ∷ 9 ∷ 10 ∷ 11 ∷ 12 ∷ [])
 
-each_equals_itself : map equals kinds ≡ map only_at (0 ∷ 1 ∷ 2 ∷ 3 ∷ 4 ∷ 5 ∷ 6 ∷ 7 ∷ 8 ∷ 9 ∷ 10 ∷ [])
+each_equals_itself : map equals kinds ≡ map only_at (0 ∷ 1 ∷ 2 ∷ 3 ∷ 4 ∷ 5 ∷ 6 ∷ 7 ∷ 8 ∷ 9 ∷ 10 ∷ 11 ∷ 12 ∷ [])
 each_equals_itself = refl
 
 -- ---- words

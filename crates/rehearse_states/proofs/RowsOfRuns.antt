@@ -6,7 +6,7 @@ use Rattle.std.proofs.lemmas.List.Elements.{filter-append}
 use Rattle.std.proofs.lemmas.Slice.Eq.{bytes_eq-Decides}
 use Rattle.std.specs.List.{list_any}
 use Rattle.rehearse_terms.specs.Outcomes.{OutcomeWord, Outcome, Success, Failure, WordKind, Run, Short, Long, is_run_kind, words, beyond, runs_within, IsChoice, failures}
-use Rattle.rehearse_rules.specs.Execution.{Ending, End, CutDevices, CutSteps, Unknown, Syntax, Size, Booted}
+use Rattle.rehearse_rules.specs.Execution.{Ending, End, CutDevices, CutSteps, Unknown, Syntax, Unsupported, Size, Booted}
 use Rattle.rehearse_states.specs.Endings.{ending_eq, fewer, Row, joined, with_row, merge, one_run, gather, rows_within, in_front, of_both, HasRows, ends, asks}
 
 -- ---- endings
@@ -17,6 +17,7 @@ ending_same (End a) CutDevices h = absurd (let f = h in cc)
 ending_same (End a) CutSteps h = absurd (let f = h in cc)
 ending_same (End a) (Unknown b) h = absurd (let f = h in cc)
 ending_same (End a) (Syntax b) h = absurd (let f = h in cc)
+ending_same (End a) (Unsupported b) h = absurd (let f = h in cc)
 ending_same (End a) Size h = absurd (let f = h in cc)
 ending_same (End a) (Booted b) h = absurd (let f = h in cc)
 ending_same CutDevices CutDevices h = refl
@@ -24,6 +25,7 @@ ending_same CutDevices (End b) h = absurd (let f = h in cc)
 ending_same CutDevices CutSteps h = absurd (let f = h in cc)
 ending_same CutDevices (Unknown b) h = absurd (let f = h in cc)
 ending_same CutDevices (Syntax b) h = absurd (let f = h in cc)
+ending_same CutDevices (Unsupported b) h = absurd (let f = h in cc)
 ending_same CutDevices Size h = absurd (let f = h in cc)
 ending_same CutDevices (Booted b) h = absurd (let f = h in cc)
 ending_same CutSteps CutSteps h = refl
@@ -31,6 +33,7 @@ ending_same CutSteps (End b) h = absurd (let f = h in cc)
 ending_same CutSteps CutDevices h = absurd (let f = h in cc)
 ending_same CutSteps (Unknown b) h = absurd (let f = h in cc)
 ending_same CutSteps (Syntax b) h = absurd (let f = h in cc)
+ending_same CutSteps (Unsupported b) h = absurd (let f = h in cc)
 ending_same CutSteps Size h = absurd (let f = h in cc)
 ending_same CutSteps (Booted b) h = absurd (let f = h in cc)
 ending_same (Unknown a) (Unknown b) h = ap Unknown ((bytes_eq-Decides a b).0 h)
@@ -38,6 +41,7 @@ ending_same (Unknown a) (End b) h = absurd (let f = h in cc)
 ending_same (Unknown a) CutDevices h = absurd (let f = h in cc)
 ending_same (Unknown a) CutSteps h = absurd (let f = h in cc)
 ending_same (Unknown a) (Syntax b) h = absurd (let f = h in cc)
+ending_same (Unknown a) (Unsupported b) h = absurd (let f = h in cc)
 ending_same (Unknown a) Size h = absurd (let f = h in cc)
 ending_same (Unknown a) (Booted b) h = absurd (let f = h in cc)
 ending_same (Syntax a) (Syntax b) h = ap Syntax ((bytes_eq-Decides a b).0 h)
@@ -45,14 +49,24 @@ ending_same (Syntax a) (End b) h = absurd (let f = h in cc)
 ending_same (Syntax a) CutDevices h = absurd (let f = h in cc)
 ending_same (Syntax a) CutSteps h = absurd (let f = h in cc)
 ending_same (Syntax a) (Unknown b) h = absurd (let f = h in cc)
+ending_same (Syntax a) (Unsupported b) h = absurd (let f = h in cc)
 ending_same (Syntax a) Size h = absurd (let f = h in cc)
 ending_same (Syntax a) (Booted b) h = absurd (let f = h in cc)
+ending_same (Unsupported a) (Unsupported b) h = ap Unsupported ((bytes_eq-Decides a b).0 h)
+ending_same (Unsupported a) (End b) h = absurd (let f = h in cc)
+ending_same (Unsupported a) CutDevices h = absurd (let f = h in cc)
+ending_same (Unsupported a) CutSteps h = absurd (let f = h in cc)
+ending_same (Unsupported a) (Unknown b) h = absurd (let f = h in cc)
+ending_same (Unsupported a) (Syntax b) h = absurd (let f = h in cc)
+ending_same (Unsupported a) Size h = absurd (let f = h in cc)
+ending_same (Unsupported a) (Booted b) h = absurd (let f = h in cc)
 ending_same Size Size h = refl
 ending_same Size (End b) h = absurd (let f = h in cc)
 ending_same Size CutDevices h = absurd (let f = h in cc)
 ending_same Size CutSteps h = absurd (let f = h in cc)
 ending_same Size (Unknown b) h = absurd (let f = h in cc)
 ending_same Size (Syntax b) h = absurd (let f = h in cc)
+ending_same Size (Unsupported b) h = absurd (let f = h in cc)
 ending_same Size (Booted b) h = absurd (let f = h in cc)
 ending_same (Booted a) (Booted b) h = ap Booted ((bytes_eq-Decides a b).0 h)
 ending_same (Booted a) (End b) h = absurd (let f = h in cc)
@@ -60,6 +74,7 @@ ending_same (Booted a) CutDevices h = absurd (let f = h in cc)
 ending_same (Booted a) CutSteps h = absurd (let f = h in cc)
 ending_same (Booted a) (Unknown b) h = absurd (let f = h in cc)
 ending_same (Booted a) (Syntax b) h = absurd (let f = h in cc)
+ending_same (Booted a) (Unsupported b) h = absurd (let f = h in cc)
 ending_same (Booted a) Size h = absurd (let f = h in cc)
 
 pub ending_itself : (a : Ending) → ending_eq a a ≡ true
@@ -68,6 +83,7 @@ ending_itself CutDevices = refl
 ending_itself CutSteps = refl
 ending_itself (Unknown a) = (bytes_eq-Decides a a).1 refl
 ending_itself (Syntax a) = (bytes_eq-Decides a a).1 refl
+ending_itself (Unsupported a) = (bytes_eq-Decides a a).1 refl
 ending_itself Size = refl
 ending_itself (Booted a) = (bytes_eq-Decides a a).1 refl
 

@@ -2,7 +2,7 @@
 use Rattle.std.specs.Prelude.{◌≡◌, ℕ, ◌+◌, nat_eq, nat_le, Bool, true, false, cond, List, [], ◌∷◌, map}
 use Rattle.std.specs.Str.{bytes_eq}
 use Rattle.rehearse_terms.specs.Outcomes.{OutcomeWord, Outcome, Success, Failure, WordKind, Run, Short, Long, failures, runs_within, beyond}
-use Rattle.rehearse_rules.specs.Execution.{Ending, End, CutDevices, CutSteps, Unknown, Syntax, Size, Booted}
+use Rattle.rehearse_rules.specs.Execution.{Ending, End, CutDevices, CutSteps, Unknown, Syntax, Unsupported, Size, Booted}
 use Rattle.rehearse_rules.specs.Runs.{Task, run_on, ending_of, all_runs}
 
 abbrev pub ending_eq : Ending → Ending → Bool
@@ -11,6 +11,7 @@ ending_eq CutDevices CutDevices = true
 ending_eq CutSteps CutSteps = true
 ending_eq (Unknown a) (Unknown b) = bytes_eq a b
 ending_eq (Syntax a) (Syntax b) = bytes_eq a b
+ending_eq (Unsupported a) (Unsupported b) = bytes_eq a b
 ending_eq Size Size = true
 ending_eq (Booted a) (Booted b) = bytes_eq a b
 ending_eq _ _ = false

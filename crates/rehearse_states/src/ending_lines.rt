@@ -98,6 +98,10 @@ pub(crate) fn put_ending(text: &mut Vec<u8>, halt: &Halt) -> Result<(), StoreErr
             put(text, b"stop syntax ")?;
             put_word(text, name)
         }
+        Halt::Unsupported(name) => {
+            put(text, b"stop unsupported ")?;
+            put_word(text, name)
+        }
         Halt::Size => put(text, b"stop size"),
         Halt::Booted(name) => {
             put(text, b"booted ")?;

@@ -48,6 +48,7 @@ pub(crate) fn same_halt(a: &Halt, b: &Halt) -> bool
         (Halt::CutSteps, Halt::CutSteps) => true,
         (Halt::Unknown(x), Halt::Unknown(y)) => x == y,
         (Halt::Syntax(x), Halt::Syntax(y)) => x == y,
+        (Halt::Unsupported(x), Halt::Unsupported(y)) => x == y,
         (Halt::Size, Halt::Size) => true,
         (Halt::Booted(x), Halt::Booted(y)) => x == y,
         _ => false,
@@ -63,6 +64,7 @@ pub(crate) fn copy_halt(halt: &Halt) -> Result<Halt, StoreError>
         Halt::CutSteps => Halt::CutSteps,
         Halt::Unknown(name) => Halt::Unknown(name.clone()?),
         Halt::Syntax(name) => Halt::Syntax(name.clone()?),
+        Halt::Unsupported(name) => Halt::Unsupported(name.clone()?),
         Halt::Size => Halt::Size,
         Halt::Booted(name) => Halt::Booted(name.clone()?),
     })
