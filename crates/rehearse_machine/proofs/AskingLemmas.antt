@@ -8,16 +8,16 @@ use Rattle.bootstore_state.specs.Moment.{RunningFrame}
 use Rattle.bootstore_state.specs.declared.frame.FrameKind.{FrameKind}
 use Rattle.bootstore_state.specs.declared.frame.FrameKind.TheVariants as kinds
 use Rattle.std.specs.Prelude.{slice_get}
-use Rattle.hushlang.specs.Trees.{tree_of}
+use Rattle.hushlang_old.specs.TreesByShell.{tree_in}
 use Rattle.rehearse_terms.specs.State.{Text, get, State}
 use Rattle.rehearse_rules.specs.Parameters.{parameters_in}
 use Rattle.device_list.specs.Called.{Called, BuiltIn, NoCommand, Device, called_by, sets_in}
-use Rattle.commands.specs.BuiltInCommands.{ChangesVariables, WritesText, RunsTexts, Tests, Exits, exit_status}
+use Rattle.commands.specs.BuiltInCommands.{ChangesVariables, WritesText, RunsTexts, Tests, Exits}
 use Rattle.rehearse_rules.specs.Execution.{Limits, CutDevices, CutSteps, Size, set_status, set_local, status_when, goes, holds, Request, test_effect, told, told_again, logged, set_environment}
 use Rattle.rehearse_terms.specs.Outcomes.{Success}
 use Rattle.rehearse_machine.specs.Places.{PlaceNext, GoOn, AskOn, StopOn, list_at, joined_at, second, command_in, command_at, drop_arms, block_frame, behind, in_turn, left, to_run, place_exit, place_boot, place_tell_or_ask, place_assign, place_tree, place_text, place_name, run_move, for_turn, for_move, for_begins, place_arms, condition_ends, phase_move, place_fitting, place_ask, place_called, place_fields, place_counted, place_command, place_joined, place_begins, place_turn, place_list, place_by, place_move, place_skipped, moved_to, place}
 use Rattle.rehearse_machine.specs.AskingCommand.{words_of, fields_again, found_again, AsksAgain}
-use Rattle.rehearse_rules.specs.ByShell.{asks_in, truth_in, fields_in, turns_in, status_of_loop, skips_rest}
+use Rattle.rehearse_rules.specs.ByShell.{leaves_in, status_of_exit, asks_in, truth_in, fields_in, turns_in, status_of_loop, skips_rest}
 
 -- a command that asks does so with these frames, in this state
 abbrev AsksHere : List RunningFrame → State → PlaceNext → Type 0
@@ -60,9 +60,9 @@ module _ (limits : Limits) where
   left_here ps [] s t = tt
   left_here ps (q ∷ qs) s t = tt
 
-  exit_here : (ps : List RunningFrame) (s : State) (o : Option ℕ) → AsksHere ps s (place_exit o ps s)
-  exit_here ps s None = tt
-  exit_here ps s (Some status) = left_here ps (to_run ps) s (set_status status s)
+  exit_here : (ps : List RunningFrame) (s : State) (o : Option ℕ) (other : ℕ) → AsksHere ps s (place_exit o other ps s)
+  exit_here ps s None other = tt
+  exit_here ps s (Some status) other = left_here ps (to_run ps) s (set_status status s)
 
   boot_here : (ps qs : List RunningFrame) (ends : Bool) (name : Text) (s t : State) → AsksHere ps s (place_boot ends name qs t)
   boot_here ps qs true name s t = tt
@@ -84,7 +84,7 @@ module _ (limits : Limits) where
       let r : Request = record { name = name; words = ws; effect = test_effect limits.devices; again = false } in
       either_here ps s (asks_in limits.shell ws) (place_ask limits r ps s) (GoOn ps (set_status (status_when (truth_in limits.shell ws)) s)) (ask_here r ps s) tt
   builtin_here (BuiltIn (WritesText written)) name ws script ps s = tt
-  builtin_here (BuiltIn Exits) name ws script ps s = exit_here ps s (exit_status ws)
+  builtin_here (BuiltIn Exits) name ws script ps s = exit_here ps s (leaves_in limits.shell ws) (status_of_exit limits.shell ws)
   builtin_here (Device effect) name ws script ps s = ask_here (record { name = name; words = ws; effect = effect; again = false }) ps s
   builtin_here NoCommand name ws script ps s = tt
 
@@ -141,21 +141,21 @@ module _ (limits : Limits) where
   values_never (Some (tree.Loop until c b)) f ps s = tt
   values_never (Some (tree.For name words body)) f ps s = turn_never (slice_get f.words f.place.turn) name body f ps s
 
-  tree_never : (o : Option Script) (name : Text) (f : RunningFrame) (ps : List RunningFrame) (s : State) → NeverAsks (place_tree o name f ps s)
+  tree_never : (o : Option Script) (name : Text) (f : RunningFrame) (ps : List RunningFrame) (s : State) → NeverAsks (place_tree limits.shell o name f ps s)
   tree_never None name f ps s = tt
   tree_never (Some t) name f ps s = tt
 
-  text_never : (o : Option Text) (name : Text) (f : RunningFrame) (ps : List RunningFrame) (s : State) → NeverAsks (place_text o name f ps s)
+  text_never : (o : Option Text) (name : Text) (f : RunningFrame) (ps : List RunningFrame) (s : State) → NeverAsks (place_text limits.shell o name f ps s)
   text_never None name f ps s = tt
-  text_never (Some text) name f ps s = tree_never (tree_of text) name f ps s
+  text_never (Some text) name f ps s = tree_never (tree_in limits.shell text) name f ps s
 
-  name_never : (o : Option Text) (f : RunningFrame) (ps : List RunningFrame) (s : State) → NeverAsks (place_name o f ps s)
+  name_never : (o : Option Text) (f : RunningFrame) (ps : List RunningFrame) (s : State) → NeverAsks (place_name limits.shell o f ps s)
   name_never None f ps s = tt
   name_never (Some name) f ps s = text_never (get s.memory.environment name) name f ps s
 
-  run_never : (f : RunningFrame) (ps : List RunningFrame) (s : State) → NeverAsks (run_move f ps s)
+  run_never : (f : RunningFrame) (ps : List RunningFrame) (s : State) → NeverAsks (run_move limits.shell f ps s)
   run_never f ps s =
-      let named : PlaceNext = place_name (slice_get f.words f.place.turn) f ps s in
+      let named : PlaceNext = place_name limits.shell (slice_get f.words f.place.turn) f ps s in
       let h : NeverAsks named = name_never (slice_get f.words f.place.turn) f ps s in
       either_never (nat_eq f.place.turn 0) named (elim (nat_eq s.memory.status 0) [ true ↦ named | false ↦ GoOn ps s ]) h (either_never (nat_eq s.memory.status 0) named (GoOn ps s) h tt)
 
@@ -206,7 +206,7 @@ module _ (limits : Limits) where
     by_again kinds.Text s = list_again (list_at f.script f.place.list) s refl
     by_again kinds.Block s = list_again (list_at f.script f.place.list) s refl
     by_again kinds.For s = never_again (place_by limits kinds.For f fs s) (values_never (command_at (list_at f.script f.place.list) f.place.command) f fs s)
-    by_again kinds.Run s = never_again (run_move f fs s) (run_never f fs s)
+    by_again kinds.Run s = never_again (run_move limits.shell f fs s) (run_never f fs s)
 
   -- a move to a command that asks leaves the frames in which it is found again
   pub asks_again : (ps : List RunningFrame) (s : State) → AsksAgain limits (place_move limits ps s)

@@ -3,22 +3,22 @@ use Rattle.std.proofs.Common.{ℕ, zero, suc, Bool, true, false, List, [], ◌�
 use Rattle.hushlang.specs.Tree as tree
 use Rattle.hushlang.specs.Tree.{Script, Command, Arms, IsProper, IsProperCommand, HoldsCommand}
 use Rattle.hushlang.specs.Expansion.{fields, joined, size, most_bytes}
-use Rattle.hushlang.specs.Trees.{tree_of}
+use Rattle.hushlang_old.specs.TreesByShell.{tree_in}
 use Rattle.rehearse_terms.specs.Outcomes.{OutcomeWord, Success}
 use Rattle.rehearse_terms.specs.State.{Text, get, State}
 use Rattle.rehearse_rules.specs.Parameters.{parameters_in}
 use Rattle.device_list.specs.Called.{Called, BuiltIn, NoCommand, Device, called_by, sets_in}
-use Rattle.commands.specs.BuiltInCommands.{ChangesVariables, WritesText, RunsTexts, Tests, Exits, exit_status}
-use Rattle.rehearse_rules.specs.Execution.{Limits, Answer, Normal, Exit, Ended, Dry, Ending, CutDevices, CutSteps, Unknown, Syntax, Size, go_on, set_status, set_local, status_when, goes, holds, begin, tell_or_take, told, told_again, logged, boot, set_environment, Booted, device, Request, test_effect, text_end, run_text, run_all, command, simple, sized, assign, turns, for_each}
+use Rattle.commands.specs.BuiltInCommands.{ChangesVariables, WritesText, RunsTexts, Tests, Exits}
+use Rattle.rehearse_rules.specs.Execution.{Limits, Answer, Normal, Exit, Ended, Dry, Ending, CutDevices, CutSteps, Unknown, Size, go_on, set_status, set_local, status_when, goes, holds, begin, tell_or_take, told, told_again, logged, boot, set_environment, Booted, device, Request, test_effect, text_end, run_text, run_all, command, simple, sized, assign, turns, for_each}
 use Rattle.rehearse_machine.specs.Frames.{Frame, Lists, Linked, IfCondition, LoopCondition, LoopBody, ForBody, RunNames, RunText, Next, Go, Stop, tell_or_ask, boot_next, leave, begin_assign, begin_for, begin_arms, begin_tree, begin_text, begin_names, begin_exit, fitting, ask, begin_called, begin_fields, counted, begin_command, move}
 use Rattle.rehearse_machine.specs.Came.{Over, Wants}
 use Rattle.rehearse_machine.specs.Meaning.{with, full, script, one, joined_of, arms_of, again, resume, continue, comes_to, AreProperFrames}
 use Rattle.rehearse_rules.proofs.GrowingSteps.{Grew, AtLeast-track, Grew-block}
 use Rattle.rehearse_rules.proofs.TakenOutcomes.{KeepsAll, after_condition, Keeps-script, Keeps-exec}
-use Rattle.hushlang.proofs.ProperLemmas.{trees_are_proper}
+use Rattle.hushlang_old.proofs.TreeByShellLemmas.{trees_in_are_proper}
 use Rattle.rehearse_machine.proofs.BoundLemmas.{Cut-block}
 use Rattle.rehearse_machine.proofs.StepBoundLemmas.{same_go_on, same_if, closed_exec, same_turns}
-use Rattle.rehearse_rules.specs.ByShell.{asks_in, truth_in, fields_in, turns_in, skips_rest, status_of_loop}
+use Rattle.rehearse_rules.specs.ByShell.{unread, leaves_in, status_of_exit, asks_in, truth_in, fields_in, turns_in, skips_rest, status_of_loop}
 use Rattle.rehearse_rules.proofs.TakenOutcomes.{skipped}
 
 module _ (limits : Limits) where
@@ -73,16 +73,16 @@ module _ (limits : Limits) where
         let value : Text = joined (parameters_in s.memory) pair.1 in
         if-is (nat_le (length value) most_bytes) (begin_assign pairs fs (set_local pair.0 value s)) (Stop Size s) fs (assign pairs (set_local pair.0 value (with w s))) (Ended Size (with w s)) (assign-is pairs fs (set_local pair.0 value s)) (sym (continue-ended fs Size (with w s)))
 
-    tree-is : (o : Option Script) (name : Text) (names : List Text) (fs : List Frame) (s : State) → ((t : Script) → o ≡ Some t → IsProper t) → comes_to limits w (begin_tree o name names fs s) ≡ continue limits fs (text_end (elim o [ None ↦ Ended (Syntax name) (with w s) | Some a ↦ full limits a (elim a [ tree.Empty ↦ set_status 0 (with w s) | tree.Runs l ls ↦ with w s ]) ]) (run_all limits (full limits) names))
-    tree-is None name names fs s p = sym (continue-ended fs (Syntax name) (with w s))
+    tree-is : (o : Option Script) (name : Text) (names : List Text) (fs : List Frame) (s : State) → ((t : Script) → o ≡ Some t → IsProper t) → comes_to limits w (begin_tree limits.shell o name names fs s) ≡ continue limits fs (text_end (elim o [ None ↦ Ended (unread limits.shell name) (with w s) | Some a ↦ full limits a (elim a [ tree.Empty ↦ set_status 0 (with w s) | tree.Runs l ls ↦ with w s ]) ]) (run_all limits (full limits) names))
+    tree-is None name names fs s p = sym (continue-ended fs (unread limits.shell name) (with w s))
     tree-is (Some tree.Empty) name names fs s p = ap (λ (a : Answer). continue limits fs (text_end a (run_all limits (full limits) names))) (sym (closed_exec limits limits.step_bound tree.Empty tt (set_status 0 (with w s)) (omega arith)))
     tree-is (Some (tree.Runs l ls)) name names fs s p = ap (λ (a : Answer). continue limits fs (text_end a (run_all limits (full limits) names))) (sym (closed_exec limits limits.step_bound (tree.Runs l ls) (p (tree.Runs l ls) refl) (with w s) (omega arith)))
 
-    text-is : (o : Option Text) (name : Text) (names : List Text) (fs : List Frame) (s : State) → comes_to limits w (begin_text o name names fs s) ≡ continue limits fs (elim o [ None ↦ Normal (set_status 1 (with w s)) | Some v ↦ text_end (run_text limits (full limits) name v (with w s)) (run_all limits (full limits) names) ])
+    text-is : (o : Option Text) (name : Text) (names : List Text) (fs : List Frame) (s : State) → comes_to limits w (begin_text limits.shell o name names fs s) ≡ continue limits fs (elim o [ None ↦ Normal (set_status 1 (with w s)) | Some v ↦ text_end (run_text limits (full limits) name v (with w s)) (run_all limits (full limits) names) ])
     text-is None name names fs s = refl
-    text-is (Some v) name names fs s = tree-is (tree_of v) name names fs s (trees_are_proper v)
+    text-is (Some v) name names fs s = tree-is (tree_in limits.shell v) name names fs s (trees_in_are_proper limits.shell v)
 
-    names-is : (names : List Text) (fs : List Frame) (s : State) → comes_to limits w (begin_names names fs s) ≡ continue limits fs (run_all limits (full limits) names (with w s))
+    names-is : (names : List Text) (fs : List Frame) (s : State) → comes_to limits w (begin_names limits.shell names fs s) ≡ continue limits fs (run_all limits (full limits) names (with w s))
     names-is [] fs s = refl
     names-is (name ∷ names) fs s = text-is (get s.memory.environment name) name names fs s
 
@@ -99,9 +99,9 @@ module _ (limits : Limits) where
     ask-is : (request : Request) (fs : List Frame) (s : State) → comes_to limits w (ask limits request fs s) ≡ continue limits fs (device limits request (with w s))
     ask-is request fs s = if-is (nat_lt (length s.log) limits.device_bound) (tell_or_ask (told request s.log) request fs s) (Stop CutDevices s) fs (tell_or_take (told request s.log) request (with w s)) (Ended CutDevices (with w s)) (tell-is (told request s.log) request fs s) (sym (continue-ended fs CutDevices (with w s)))
 
-    exit-is : (o : Option ℕ) (fs : List Frame) (s : State) → comes_to limits w (begin_exit o fs s) ≡ continue limits fs (elim o [ Some status ↦ Exit (set_status status (with w s)) | None ↦ Normal (set_status 1 (with w s)) ])
-    exit-is (Some status) fs s = leave-is fs (set_status status s)
-    exit-is None fs s = refl
+    exit-is : (o : Option ℕ) (other : ℕ) (fs : List Frame) (s : State) → comes_to limits w (begin_exit o other fs s) ≡ continue limits fs (elim o [ Some status ↦ Exit (set_status status (with w s)) | None ↦ Normal (set_status other (with w s)) ])
+    exit-is (Some status) other fs s = leave-is fs (set_status status s)
+    exit-is None other fs s = refl
 
     builtin-is : (b : Called) (name : Text) (ws : List Text) (fs : List Frame) (s : State) → comes_to limits w (begin_called limits b name ws fs s) ≡ continue limits fs (command limits (full limits) b name ws (with w s))
     builtin-is (BuiltIn RunsTexts) name [] fs s = refl
@@ -109,7 +109,7 @@ module _ (limits : Limits) where
     builtin-is (BuiltIn (ChangesVariables change)) name ws fs s = refl
     builtin-is (BuiltIn Tests) name ws fs s = if-is (asks_in limits.shell ws) (ask limits (record { name = name; words = ws; effect = test_effect limits.devices; again = false }) fs s) (Go fs (set_status (status_when (truth_in limits.shell ws)) s)) fs (device limits (record { name = name; words = ws; effect = test_effect limits.devices; again = false }) (with w s)) (Normal (set_status (status_when (truth_in limits.shell ws)) (with w s))) (ask-is (record { name = name; words = ws; effect = test_effect limits.devices; again = false }) fs s) refl
     builtin-is (BuiltIn (WritesText written)) name ws fs s = refl
-    builtin-is (BuiltIn Exits) name ws fs s = exit-is (exit_status ws) fs s
+    builtin-is (BuiltIn Exits) name ws fs s = exit-is (leaves_in limits.shell ws) (status_of_exit limits.shell ws) fs s
     builtin-is (Device effect) name ws fs s = ask-is (record { name = name; words = ws; effect = effect; again = false }) fs s
     builtin-is NoCommand name ws fs s = sym (continue-ended fs (Unknown name) (with w s))
 
@@ -173,4 +173,4 @@ module _ (limits : Limits) where
     move-is (ForBody name [] body ∷ fs) p s = refl
     move-is (ForBody name (f ∷ values) body ∷ fs) p s = refl
     move-is (RunNames names ∷ fs) p s = names-is names fs s
-    move-is (RunText names ∷ fs) p s = if-is (nat_eq s.memory.status 0) (begin_names names fs s) (Go fs s) fs (run_all limits (full limits) names (with w s)) (Normal (with w s)) (names-is names fs s) refl
+    move-is (RunText names ∷ fs) p s = if-is (nat_eq s.memory.status 0) (begin_names limits.shell names fs s) (Go fs s) fs (run_all limits (full limits) names (with w s)) (Normal (with w s)) (names-is names fs s) refl

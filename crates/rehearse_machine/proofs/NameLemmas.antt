@@ -13,10 +13,12 @@ use Rattle.bootstore_state.specs.declared.frame.At.{At}
 use Rattle.bootstore_state.specs.Moment.{RunningFrame}
 use Rattle.bootstore_state.specs.Record.{Record, changed, with_status, without_frame}
 use Rattle.rehearse_terms.specs.Outcomes.{OutcomeWord}
-use Rattle.hushlang.specs.Trees.{tree_of}
+use Rattle.hushlang_old.specs.TreesByShell.{tree_in}
 use Rattle.rehearse_terms.specs.State.{Text, State, get}
 use Rattle.bootstore_state.specs.StoredState.{state_at}
-use Rattle.rehearse_rules.specs.Execution.{set_status, Syntax}
+use Rattle.rehearse_rules.specs.Execution.{Ending, set_status}
+use Rattle.rehearse_rules.specs.ByShell.{unread}
+use Rattle.rehearse_terms.specs.declared.shell.Shell.{Shell}
 use Rattle.bootstore_state.proofs.StateLemmas.{stored_values}
 use Rattle.rehearse_machine.specs.Frames.{begun_text}
 use Rattle.rehearse_machine.specs.Places.{PlaceNext, GoOn, StopOn, place, moved_to, in_turn, text_frame, place_name, place_text, place_tree}
@@ -59,66 +61,66 @@ module _ (r : Result Step StoreError) (old new : Record) (f child : RunningFrame
       ∙ ap (λ (x : State). framed x (state_at old.present w)) (no_lists (out-Script code).lists.items (state_at old.present w) e ∙ says (state_at old.present w)))
       (comes_after r old mid new (set_status 0) (GoOn (child ∷ moved_to at f ∷ under mid.present)) (λ w. ap (λ (x : Record). state_at x.present w) d) (subst (Keeps old) (sym d) (keeps_change (with_status 0) old refl)) comes)
 
-module _ (old : Record) (f : RunningFrame) (name bytes : Text) (found : slice_get f.words f.place.turn ≡ Some name) (bytes_are : bytes ≡ name) where
+module _ (shell : Shell) (old : Record) (f : RunningFrame) (name bytes : Text) (found : slice_get f.words f.place.turn ≡ Some name) (bytes_are : bytes ≡ name) where
   value_is : (o : Option Text) → o ≡ finite.get old.present.environment bytes → get (entries old.present.environment) name ≡ o
   value_is o e = stored_values old.present.environment name ∙ ap (finite.get old.present.environment) (sym bytes_are) ∙ sym e
 
   abbrev named : State → PlaceNext
-  named = place_name (slice_get f.words f.place.turn) f (under old.present)
+  named = place_name shell (slice_get f.words f.place.turn) f (under old.present)
 
-  with_text : (o : Option Text) (w : OutcomeWord) → o ≡ finite.get old.present.environment bytes → place_text o name f (under old.present) (state_at old.present w) ≡ named (state_at old.present w)
+  with_text : (o : Option Text) (w : OutcomeWord) → o ≡ finite.get old.present.environment bytes → place_text shell o name f (under old.present) (state_at old.present w) ≡ named (state_at old.present w)
   with_text o w e =
-      sym (ap (λ (x : Option Text). place_name x f (under old.present) (state_at old.present w)) found
-      ∙ ap (λ (x : Option Text). place_text x name f (under old.present) (state_at old.present w)) (value_is o e))
+      sym (ap (λ (x : Option Text). place_name shell x f (under old.present) (state_at old.present w)) found
+      ∙ ap (λ (x : Option Text). place_text shell x name f (under old.present) (state_at old.present w)) (value_is o e))
 
   pub unset : (mid new : Record) → mid ≡ changed without_frame old → new ≡ changed (with_status 1) mid → None ≡ finite.get old.present.environment bytes → Does steps.Going old new named
   unset mid new e d none =
       subst (λ (x : Record). Does steps.Going old x named) (sym (d ∙ ap (changed (with_status 1)) e))
       (λ w. with_text None w none, record { marked = refl; begun = omega arith })
 
-  pub no_script : (copy text : Text) → copy ≡ name → Some text ≡ finite.get old.present.environment bytes → tree_of text ≡ None → (w : OutcomeWord) → StopOn (Syntax copy) (state_at old.present w) ≡ named (state_at old.present w)
+  pub no_script : (copy text : Text) → copy ≡ name → Some text ≡ finite.get old.present.environment bytes → tree_in shell text ≡ None → (w : OutcomeWord) → StopOn (unread shell copy) (state_at old.present w) ≡ named (state_at old.present w)
   no_script copy text c e t w =
-      ap (λ (x : Text). StopOn (Syntax x) (state_at old.present w)) c
-      ∙ sym (ap (λ (x : Option Script). place_tree x name f (under old.present) (state_at old.present w)) t)
+      ap (λ (x : Text). StopOn (unread shell x) (state_at old.present w)) c
+      ∙ sym (ap (λ (x : Option Script). place_tree shell x name f (under old.present) (state_at old.present w)) t)
       ∙ with_text (Some text) w e
 
-  pub text_comes : (r : Result Step StoreError) (new : Record) (text : Text) (script : Script) → Some text ≡ finite.get old.present.environment bytes → tree_of text ≡ Some script → Comes r old new (λ s. GoOn (text_frame script ∷ in_turn (suc f.place.turn) 0 f ∷ under old.present) (begun_text script s)) → Comes r old new named
+  pub text_comes : (r : Result Step StoreError) (new : Record) (text : Text) (script : Script) → Some text ≡ finite.get old.present.environment bytes → tree_in shell text ≡ Some script → Comes r old new (λ s. GoOn (text_frame script ∷ in_turn (suc f.place.turn) 0 f ∷ under old.present) (begun_text script s)) → Comes r old new named
   text_comes r new text script e t comes =
       comes_at r old new (λ s. GoOn (text_frame script ∷ in_turn (suc f.place.turn) 0 f ∷ under old.present) (begun_text script s)) named
-      (λ w. sym (ap (λ (x : Option Script). place_tree x name f (under old.present) (state_at old.present w)) t) ∙ with_text (Some text) w e) comes
+      (λ w. sym (ap (λ (x : Option Script). place_tree shell x name f (under old.present) (state_at old.present w)) t) ∙ with_text (Some text) w e) comes
 
 -- by what reading the text of a variable found
-none_found : (o : Option Text) → None ≡ option_map tree_of o → None ≡ o
-none_found None e = refl
-none_found (Some text) e = absurd (let f = e in cc)
+none_found : (shell : Shell) (o : Option Text) → None ≡ option_map (tree_in shell) o → None ≡ o
+none_found shell None e = refl
+none_found shell (Some text) e = absurd (let f = e in cc)
 
 abbrev within : Option (Option Script) → Option Script
 within None = None
 within (Some o) = o
 
-module _ (old read : Record) (same : read ≡ old) (f : RunningFrame) (name bytes : Text) (found : slice_get f.words f.place.turn ≡ Some name) (bytes_are : bytes ≡ name) where
+module _ (shell : Shell) (old read : Record) (same : read ≡ old) (f : RunningFrame) (name bytes : Text) (found : slice_get f.words f.place.turn ≡ Some name) (bytes_are : bytes ≡ name) where
   abbrev value : Option Text
   value = finite.get old.present.environment bytes
 
   abbrev wanted : State → PlaceNext
-  wanted = place_name (slice_get f.words f.place.turn) f (under old.present)
+  wanted = place_name shell (slice_get f.words f.place.turn) f (under old.present)
 
-  pub unset_found : (mid new : Record) → mid ≡ changed without_frame read → new ≡ changed (with_status 1) mid → None ≡ option_map tree_of value → Does steps.Going old new wanted
-  unset_found mid new e d none = unset old f name bytes found bytes_are mid new (e ∙ ap (changed without_frame) same) d (none_found value none)
+  pub unset_found : (mid new : Record) → mid ≡ changed without_frame read → new ≡ changed (with_status 1) mid → None ≡ option_map (tree_in shell) value → Does steps.Going old new wanted
+  unset_found mid new e d none = unset shell old f name bytes found bytes_are mid new (e ∙ ap (changed without_frame) same) d (none_found shell value none)
 
-  refused_at : (copy : Text) → copy ≡ name → (o : Option Text) → o ≡ value → Some None ≡ option_map tree_of o → (w : OutcomeWord) → StopOn (Syntax copy) (state_at old.present w) ≡ wanted (state_at old.present w)
+  refused_at : (copy : Text) → copy ≡ name → (o : Option Text) → o ≡ value → Some None ≡ option_map (tree_in shell) o → (w : OutcomeWord) → StopOn (unread shell copy) (state_at old.present w) ≡ wanted (state_at old.present w)
   refused_at copy c None v e w = absurd (let g = e in cc)
-  refused_at copy c (Some text) v e w = no_script old f name bytes found bytes_are copy text c v (sym (ap within e)) w
+  refused_at copy c (Some text) v e w = no_script shell old f name bytes found bytes_are copy text c v (sym (ap within e)) w
 
-  pub no_script_found : (copy : Text) → copy ≡ name → Some None ≡ option_map tree_of value → ((w : OutcomeWord) → StopOn (Syntax copy) (state_at read.present w) ≡ wanted (state_at old.present w)) × Keeps old read
-  no_script_found copy c e =
-      subst (λ (x : Record). ((w : OutcomeWord) → StopOn (Syntax copy) (state_at x.present w) ≡ wanted (state_at old.present w)) × Keeps old x) (sym same)
-      (refused_at copy c value refl e, record { marked = refl; begun = refl })
+  pub no_script_found : (copy : Text) (ending : Ending) → ending ≡ unread shell copy → copy ≡ name → Some None ≡ option_map (tree_in shell) value → ((w : OutcomeWord) → StopOn ending (state_at read.present w) ≡ wanted (state_at old.present w)) × Keeps old read
+  no_script_found copy ending ends c e =
+      subst (λ (x : Record). ((w : OutcomeWord) → StopOn ending (state_at x.present w) ≡ wanted (state_at old.present w)) × Keeps old x) (sym same)
+      (λ w. ap (λ (x : Ending). StopOn x (state_at old.present w)) ends ∙ refused_at copy c value refl e w, record { marked = refl; begun = refl })
 
-  comes_at_once : (r : Result Step StoreError) (new : Record) (script : Script) (o : Option Text) → o ≡ value → Some (Some script) ≡ option_map tree_of o → Comes r old new (λ s. GoOn (text_frame script ∷ in_turn (suc f.place.turn) 0 f ∷ under old.present) (begun_text script s)) → Comes r old new wanted
+  comes_at_once : (r : Result Step StoreError) (new : Record) (script : Script) (o : Option Text) → o ≡ value → Some (Some script) ≡ option_map (tree_in shell) o → Comes r old new (λ s. GoOn (text_frame script ∷ in_turn (suc f.place.turn) 0 f ∷ under old.present) (begun_text script s)) → Comes r old new wanted
   comes_at_once r new script None v e comes = absurd (let g = e in cc)
-  comes_at_once r new script (Some text) v e comes = text_comes old f name bytes found bytes_are r new text script v (sym (ap within e)) comes
+  comes_at_once r new script (Some text) v e comes = text_comes shell old f name bytes found bytes_are r new text script v (sym (ap within e)) comes
 
-  pub text_found_comes : (r : Result Step StoreError) (new : Record) (script : Script) → Some (Some script) ≡ option_map tree_of value → Comes r read new (λ s. GoOn (text_frame script ∷ in_turn (suc f.place.turn) 0 f ∷ under read.present) (begun_text script s)) → Comes r old new wanted
+  pub text_found_comes : (r : Result Step StoreError) (new : Record) (script : Script) → Some (Some script) ≡ option_map (tree_in shell) value → Comes r read new (λ s. GoOn (text_frame script ∷ in_turn (suc f.place.turn) 0 f ∷ under read.present) (begun_text script s)) → Comes r old new wanted
   text_found_comes r new script e comes =
       comes_at_once r new script value refl e (subst (λ (x : Record). Comes r x new (λ s. GoOn (text_frame script ∷ in_turn (suc f.place.turn) 0 f ∷ under x.present) (begun_text script s))) same comes)

@@ -12,16 +12,16 @@ use Rattle.bootstore_state.specs.declared.frame.FrameKind.TheVariants as kinds
 use Rattle.bootstore_state.specs.Moment.{RunningFrame}
 use Rattle.bootstore_state.specs.Record.{without_first}
 use Rattle.rehearse_terms.specs.Outcomes.{Outcome, Success, Failure}
-use Rattle.hushlang.specs.Trees.{tree_of}
+use Rattle.hushlang_old.specs.TreesByShell.{tree_in}
 use Rattle.rehearse_terms.specs.State.{Text, get, State}
 use Rattle.rehearse_rules.specs.Parameters.{parameters_in}
 use Rattle.device_list.specs.Called.{Called, BuiltIn, NoCommand, Device, called_by, sets_in}
-use Rattle.commands.specs.BuiltInCommands.{ChangesVariables, WritesText, RunsTexts, Tests, Exits, exit_status}
+use Rattle.commands.specs.BuiltInCommands.{ChangesVariables, WritesText, RunsTexts, Tests, Exits}
 use Rattle.rehearse_rules.specs.Execution.{begin_turn, Limits, End, CutDevices, CutSteps, Size, set_status, set_local, status_when, goes, holds, Request, test_effect, outcome_when, told, told_again, logged, set_environment}
 use Rattle.rehearse_machine.specs.Frames.{Frame, Lists, Linked, IfCondition, LoopCondition, LoopBody, ForBody, Next, Go, Stop, leave, boot_next, answered, tell_or_ask, begin_assign, begin_for, begin_arms, begun_text, begin_tree, begin_text, begin_names, begin_exit, fitting, ask, begin_called, begin_fields, counted, begin_command, move}
 use Rattle.rehearse_machine.specs.Places.{list_at, drop_lists, joined_at, drop_joined, second, command_in, command_at, drop_arms, place, from_command, condition_frame, phase, from_turn, script_frames, for_frame, run_frame, frames_by, frames_of, PlaceNext, GoOn, StopOn, next_of, moved_to, behind, in_turn, text_frame, block_frame, is_run, to_run, left, place_exit, place_boot, place_answered, place_tell_or_ask, place_assign, place_tree, place_text, place_name, run_move, for_turn, for_move, for_begins, place_arms, condition_ends, phase_move, place_fitting, place_ask, place_called, place_fields, place_counted, place_command, place_joined, place_skipped, place_begins, place_turn, place_list, place_by, place_move, place_skipped}
 use Rattle.rehearse_machine.proofs.Beginnings.{chosen, passed}
-use Rattle.rehearse_rules.specs.ByShell.{asks_in, truth_in, fields_in, turns_in, skips_rest, status_of_no_block, status_of_loop}
+use Rattle.rehearse_rules.specs.ByShell.{leaves_in, status_of_exit, asks_in, truth_in, fields_in, turns_in, skips_rest, status_of_no_block, status_of_loop}
 
 -- ---- parts by their numbers
 
@@ -141,40 +141,40 @@ leave-is : (fs : List RunningFrame) (s : State) → next_of (left (to_run fs) s)
 leave-is [] s = refl
 leave-is (f ∷ fs) s = leave_by f.kind f fs s refl (leave-is fs s)
 
-exit-is : (o : Option ℕ) (ps : List RunningFrame) (s : State) → next_of (place_exit o ps s) ≡ begin_exit o (frames_of ps) s
-exit-is (Some status) ps s = leave-is ps (set_status status s)
-exit-is None ps s = refl
+exit-is : (o : Option ℕ) (other : ℕ) (ps : List RunningFrame) (s : State) → next_of (place_exit o other ps s) ≡ begin_exit o other (frames_of ps) s
+exit-is (Some status) other ps s = leave-is ps (set_status status s)
+exit-is None other ps s = refl
 
 -- ---- frames of a `run` and of a `for`
 
-module _ (f : RunningFrame) (fs : List RunningFrame) (s : State) (k : f.kind ≡ kinds.Run) where
+module _ (limits : Limits) (f : RunningFrame) (fs : List RunningFrame) (s : State) (k : f.kind ≡ kinds.Run) where
   ran : (turn last : ℕ) → frames_of (in_turn turn last f ∷ fs) ≡ run_frame turn f.words ∷ frames_of fs
   ran turn last = ap (λ (x : FrameKind). frames_by x (in_turn turn last f) ++ frames_of fs) k
 
-  tree-is : (o : Option Script) (name : Text) → next_of (place_tree o name f fs s) ≡ begin_tree o name (drop (suc f.place.turn) f.words) (frames_of fs) s
+  tree-is : (o : Option Script) (name : Text) → next_of (place_tree limits.shell o name f fs s) ≡ begin_tree limits.shell o name (drop (suc f.place.turn) f.words) (frames_of fs) s
   tree-is None name = refl
   tree-is (Some t) name = ap (λ (x : List Frame). Go x (begun_text t s)) (texted t (in_turn (suc f.place.turn) 0 f ∷ fs) ∙ ap (λ (x : List Frame). Lists t ∷ x) (ran (suc f.place.turn) 0))
 
-  text-is : (o : Option Text) (name : Text) → next_of (place_text o name f fs s) ≡ begin_text o name (drop (suc f.place.turn) f.words) (frames_of fs) s
+  text-is : (o : Option Text) (name : Text) → next_of (place_text limits.shell o name f fs s) ≡ begin_text limits.shell o name (drop (suc f.place.turn) f.words) (frames_of fs) s
   text-is None name = refl
-  text-is (Some text) name = tree-is (tree_of text) name
+  text-is (Some text) name = tree-is (tree_in limits.shell text) name
 
-  name-is : (o : Option Text) → slice_get f.words f.place.turn ≡ o → next_of (place_name o f fs s) ≡ begin_names (drop f.place.turn f.words) (frames_of fs) s
-  name-is None e = ap (λ (x : List Text). begin_names x (frames_of fs) s) (sym (text_none f.words f.place.turn e))
-  name-is (Some name) e = text-is (get s.memory.environment name) name ∙ ap (λ (x : List Text). begin_names x (frames_of fs) s) (sym (text_some f.words f.place.turn name e))
+  name-is : (o : Option Text) → slice_get f.words f.place.turn ≡ o → next_of (place_name limits.shell o f fs s) ≡ begin_names limits.shell (drop f.place.turn f.words) (frames_of fs) s
+  name-is None e = ap (λ (x : List Text). begin_names limits.shell x (frames_of fs) s) (sym (text_none f.words f.place.turn e))
+  name-is (Some name) e = text-is (get s.memory.environment name) name ∙ ap (λ (x : List Text). begin_names limits.shell x (frames_of fs) s) (sym (text_some f.words f.place.turn name e))
 
   abbrev named : PlaceNext
-  named = place_name (slice_get f.words f.place.turn) f fs s
+  named = place_name limits.shell (slice_get f.words f.place.turn) f fs s
 
   abbrev ended : PlaceNext
   ended = elim (nat_eq s.memory.status 0) [ true ↦ named | false ↦ GoOn fs s ]
 
-  run-turn-is : (limits : Limits) (turn : ℕ) → f.place.turn ≡ turn → next_of (run_move f fs s) ≡ move limits (run_frame turn f.words ∷ frames_of fs) s
-  run-turn-is limits zero e = ap next_of (sym (chosen (nat_eq f.place.turn 0) named ended (ap (λ (x : ℕ). nat_eq x 0) e))) ∙ (name-is (slice_get f.words f.place.turn) refl ∙ ap (λ (x : ℕ). begin_names (drop x f.words) (frames_of fs) s) e)
-  run-turn-is limits (suc j) e =
+  run-turn-is : (turn : ℕ) → f.place.turn ≡ turn → next_of (run_move limits.shell f fs s) ≡ move limits (run_frame turn f.words ∷ frames_of fs) s
+  run-turn-is zero e = ap next_of (sym (chosen (nat_eq f.place.turn 0) named ended (ap (λ (x : ℕ). nat_eq x 0) e))) ∙ (name-is (slice_get f.words f.place.turn) refl ∙ ap (λ (x : ℕ). begin_names limits.shell (drop x f.words) (frames_of fs) s) e)
+  run-turn-is (suc j) e =
       ap next_of (sym (passed (nat_eq f.place.turn 0) named ended (ap (λ (x : ℕ). nat_eq x 0) e ∙ eqb-suc-zero j)))
-      ∙ if_next (nat_eq s.memory.status 0) named (GoOn fs s) (begin_names (drop (suc j) f.words) (frames_of fs) s) (Go (frames_of fs) s)
-      (name-is (slice_get f.words f.place.turn) refl ∙ ap (λ (x : ℕ). begin_names (drop x f.words) (frames_of fs) s) e) refl
+      ∙ if_next (nat_eq s.memory.status 0) named (GoOn fs s) (begin_names limits.shell (drop (suc j) f.words) (frames_of fs) s) (Go (frames_of fs) s)
+      (name-is (slice_get f.words f.place.turn) refl ∙ ap (λ (x : ℕ). begin_names limits.shell (drop x f.words) (frames_of fs) s) e) refl
 
 module _ (f : RunningFrame) (fs : List RunningFrame) (s : State) (k : f.kind ≡ kinds.For) where
   abbrev looped : ℕ → ℕ → RunningFrame
@@ -252,7 +252,7 @@ module _ (limits : Limits) where
       let t : State = set_status (status_when (truth_in limits.shell ws)) s in
       if_next (asks_in limits.shell ws) (place_ask limits r ps s) (GoOn ps t) (ask limits r (frames_of ps) s) (Go (frames_of ps) t) (ask-is r ps s) refl
   builtin-is (BuiltIn (WritesText written)) name ws script ps s = refl
-  builtin-is (BuiltIn Exits) name ws script ps s = exit-is (exit_status ws) ps s
+  builtin-is (BuiltIn Exits) name ws script ps s = exit-is (leaves_in limits.shell ws) (status_of_exit limits.shell ws) ps s
   builtin-is (Device effect) name ws script ps s = ask-is (record { name = name; words = ws; effect = effect; again = false }) ps s
   builtin-is NoCommand name ws script ps s = refl
 
@@ -362,7 +362,7 @@ module _ (limits : Limits) where
   by-is kinds.Text f fs s e = script-is f fs (list_at f.script f.place.list) refl (λ p. ap (λ (x : FrameKind). frames_by x (moved_to p f)) e) s
   by-is kinds.Block f fs s e = script-is f fs (list_at f.script f.place.list) refl (λ p. ap (λ (x : FrameKind). frames_by x (moved_to p f)) e) s
   by-is kinds.For f fs s e = for-is f fs s e limits (command_at (list_at f.script f.place.list) f.place.command) refl
-  by-is kinds.Run f fs s e = run-turn-is f fs s e limits f.place.turn refl
+  by-is kinds.Run f fs s e = run-turn-is limits f fs s e f.place.turn refl
 
   -- each move at places is the move of their frames
   pub place_move-is : (ps : List RunningFrame) (s : State) → next_of (place_move limits ps s) ≡ move limits (frames_of ps) s

@@ -3,17 +3,17 @@ use Rattle.std.proofs.Common.{ℕ, suc, Bool, true, false, List, [], ◌∷◌, 
 use Rattle.hushlang.specs.Tree as tree
 use Rattle.hushlang.specs.Tree.{Script, Joined, Command, Arms, IsProperCommand, AreProperArms, HoldsCommand}
 use Rattle.hushlang.specs.Expansion.{joined, size, most_bytes}
-use Rattle.hushlang.specs.Trees.{tree_of}
+use Rattle.hushlang_old.specs.TreesByShell.{tree_in}
 use Rattle.rehearse_terms.specs.State.{Text, get, State}
 use Rattle.rehearse_rules.specs.Parameters.{parameters_in}
 use Rattle.device_list.specs.Called.{Called, BuiltIn, NoCommand, Device, called_by, sets_in}
-use Rattle.commands.specs.BuiltInCommands.{ChangesVariables, WritesText, RunsTexts, Tests, Exits, exit_status}
+use Rattle.commands.specs.BuiltInCommands.{ChangesVariables, WritesText, RunsTexts, Tests, Exits}
 use Rattle.rehearse_rules.specs.Execution.{Limits, CutDevices, CutSteps, Size, set_status, set_local, status_when, goes, holds, Request, test_effect, told, told_again, logged, set_environment}
 use Rattle.rehearse_terms.specs.Outcomes.{Success}
 use Rattle.rehearse_machine.specs.Frames.{Frame, Lists, Linked, IfCondition, LoopCondition, LoopBody, ForBody, RunNames, RunText, Next, Go, Ask, Stop, tell_or_ask, boot_next, leave, begin_assign, begin_for, begin_arms, begin_tree, begin_text, begin_names, begin_exit, fitting, ask, begin_called, begin_fields, begin_command, move}
 use Rattle.rehearse_machine.specs.MoveCounts.{command_depth, arms_depth, script_depth, block_weight, links_weight, arms_weight, tree_weight, text_weight, names_weight, weight}
 use Rattle.rehearse_machine.specs.Meaning.{AreProperFrames}
-use Rattle.rehearse_rules.specs.ByShell.{asks_in, truth_in, fields_in, turns_in, skips_rest, status_of_loop}
+use Rattle.rehearse_rules.specs.ByShell.{leaves_in, status_of_exit, asks_in, truth_in, fields_in, turns_in, skips_rest, status_of_loop}
 
 module _ (limits : Limits) where
   -- no step was begun since t
@@ -24,7 +24,7 @@ module _ (limits : Limits) where
 
   -- no step was begun, the environment is still the one of s, and less than n is left; or the end is reached
   abbrev pub IsCloser : State → ℕ → Next → Type 0
-  IsCloser s n (Go fs t) = (t.steps ≡ s.steps) × (t.memory.environment ≡ s.memory.environment) × (weight s.memory.environment fs < n)
+  IsCloser s n (Go fs t) = (t.steps ≡ s.steps) × (t.memory.environment ≡ s.memory.environment) × (weight limits.shell s.memory.environment fs < n)
   IsCloser s n (Ask r fs t) = ⊥
   IsCloser s n (Stop ending u) = u.steps ≡ s.steps
 
@@ -53,16 +53,16 @@ module _ (limits : Limits) where
   assign-quiet [] fs t s e = e
   assign-quiet (pair ∷ pairs) fs t s e = let value : Text = joined (parameters_in s.memory) pair.1 in either-quiet t (nat_le (length value) most_bytes) (begin_assign pairs fs (set_local pair.0 value s)) (Stop Size s) (assign-quiet pairs fs t (set_local pair.0 value s) e) e
 
-  tree-quiet : (o : Option Script) (name : Text) (names : List Text) (fs : List Frame) (s : State) → IsQuiet s (begin_tree o name names fs s)
+  tree-quiet : (o : Option Script) (name : Text) (names : List Text) (fs : List Frame) (s : State) → IsQuiet s (begin_tree limits.shell o name names fs s)
   tree-quiet None name names fs s = refl
   tree-quiet (Some tree.Empty) name names fs s = refl
   tree-quiet (Some (tree.Runs l ls)) name names fs s = refl
 
-  text-quiet : (o : Option Text) (name : Text) (names : List Text) (fs : List Frame) (s : State) → IsQuiet s (begin_text o name names fs s)
+  text-quiet : (o : Option Text) (name : Text) (names : List Text) (fs : List Frame) (s : State) → IsQuiet s (begin_text limits.shell o name names fs s)
   text-quiet None name names fs s = refl
-  text-quiet (Some text) name names fs s = tree-quiet (tree_of text) name names fs s
+  text-quiet (Some text) name names fs s = tree-quiet (tree_in limits.shell text) name names fs s
 
-  names-quiet : (names : List Text) (fs : List Frame) (s : State) → IsQuiet s (begin_names names fs s)
+  names-quiet : (names : List Text) (fs : List Frame) (s : State) → IsQuiet s (begin_names limits.shell names fs s)
   names-quiet [] fs s = refl
   names-quiet (name ∷ names) fs s = text-quiet (get s.memory.environment name) name names fs s
 
@@ -78,9 +78,9 @@ module _ (limits : Limits) where
   ask-quiet : (r : Request) (fs : List Frame) (s : State) → IsQuiet s (ask limits r fs s)
   ask-quiet r fs s = either-quiet s (nat_lt (length s.log) limits.device_bound) (tell_or_ask (told r s.log) r fs s) (Stop CutDevices s) (tell-quiet (told r s.log) r fs s) refl
 
-  exit-quiet : (o : Option ℕ) (fs : List Frame) (s : State) → IsQuiet s (begin_exit o fs s)
-  exit-quiet (Some n) fs s = leave-quiet fs (set_status n s)
-  exit-quiet None fs s = refl
+  exit-quiet : (o : Option ℕ) (other : ℕ) (fs : List Frame) (s : State) → IsQuiet s (begin_exit o other fs s)
+  exit-quiet (Some n) other fs s = leave-quiet fs (set_status n s)
+  exit-quiet None other fs s = refl
 
   builtin-quiet : (b : Called) (name : Text) (ws : List Text) (fs : List Frame) (s : State) → IsQuiet s (begin_called limits b name ws fs s)
   builtin-quiet (BuiltIn (ChangesVariables change)) name ws fs s = refl
@@ -88,7 +88,7 @@ module _ (limits : Limits) where
   builtin-quiet (BuiltIn RunsTexts) name (w ∷ ws) fs s = refl
   builtin-quiet (BuiltIn Tests) name ws fs s = either-quiet s (asks_in limits.shell ws) (ask limits (record { name = name; words = ws; effect = test_effect limits.devices; again = false }) fs s) (Go fs (set_status (status_when (truth_in limits.shell ws)) s)) (ask-quiet (record { name = name; words = ws; effect = test_effect limits.devices; again = false }) fs s) refl
   builtin-quiet (BuiltIn (WritesText written)) name ws fs s = refl
-  builtin-quiet (BuiltIn Exits) name ws fs s = exit-quiet (exit_status ws) fs s
+  builtin-quiet (BuiltIn Exits) name ws fs s = exit-quiet (leaves_in limits.shell ws) (status_of_exit limits.shell ws) fs s
   builtin-quiet (Device effect) name ws fs s = ask-quiet (record { name = name; words = ws; effect = effect; again = false }) fs s
   builtin-quiet NoCommand name ws fs s = refl
 
@@ -128,7 +128,7 @@ module _ (limits : Limits) where
   either_progress s n true x y h k = h
   either_progress s n false x y h k = k
 
-  arms_progress : (arms : Arms) (fs : List Frame) (s : State) → AreProperArms arms → Progress s (suc (arms_weight arms (weight s.memory.environment fs))) (begin_arms limits.shell arms fs s)
+  arms_progress : (arms : Arms) (fs : List Frame) (s : State) → AreProperArms arms → Progress s (suc (arms_weight arms (weight limits.shell s.memory.environment fs))) (begin_arms limits.shell arms fs s)
   arms_progress (tree.Arm tree.Empty b arms) fs s p = absurd p.0
   arms_progress (tree.Arm (tree.Runs l ls) b arms) fs s p = inr (refl, refl, omega arith)
   arms_progress (tree.Else b) fs s p = inr (refl, refl, omega arith)
@@ -151,20 +151,20 @@ module _ (limits : Limits) where
   command_progress (tree.Loop until c b) fs s p = loop_progress until c b 0 fs s p.0
   command_progress (tree.For name words body) fs s p = let t : State = record s { steps = suc s.steps } in inl (counted_at (nat_lt s.steps limits.step_bound) s (fitting (turns_in limits.shell (parameters_in t.memory) words) (λ f. begin_for name f body fs) t) refl (either-quiet t (nat_le (size (turns_in limits.shell (parameters_in t.memory) words)) most_bytes) (begin_for name (turns_in limits.shell (parameters_in t.memory) words) body fs t) (Stop Size t) (for-quiet name (turns_in limits.shell (parameters_in t.memory) words) body fs t) refl))
 
-  tree_progress : (o : Option Script) (name : Text) (names : List Text) (fs : List Frame) (s : State) → Progress s (suc (tree_weight o (suc (names_weight s.memory.environment names (weight s.memory.environment fs) + weight s.memory.environment fs)))) (begin_tree o name names fs s)
+  tree_progress : (o : Option Script) (name : Text) (names : List Text) (fs : List Frame) (s : State) → Progress s (suc (tree_weight o (suc (names_weight limits.shell s.memory.environment names (weight limits.shell s.memory.environment fs) + weight limits.shell s.memory.environment fs)))) (begin_tree limits.shell o name names fs s)
   tree_progress None name names fs s = inr refl
   tree_progress (Some tree.Empty) name names fs s = inr (refl, refl, omega arith)
   tree_progress (Some (tree.Runs l ls)) name names fs s = inr (refl, refl, omega arith)
 
-  text_progress : (o : Option Text) (name : Text) (names : List Text) (fs : List Frame) (s : State) → Progress s (suc (text_weight o (suc (names_weight s.memory.environment names (weight s.memory.environment fs) + weight s.memory.environment fs)) (weight s.memory.environment fs))) (begin_text o name names fs s)
+  text_progress : (o : Option Text) (name : Text) (names : List Text) (fs : List Frame) (s : State) → Progress s (suc (text_weight limits.shell o (suc (names_weight limits.shell s.memory.environment names (weight limits.shell s.memory.environment fs) + weight limits.shell s.memory.environment fs)) (weight limits.shell s.memory.environment fs))) (begin_text limits.shell o name names fs s)
   text_progress None name names fs s = inr (refl, refl, omega arith)
-  text_progress (Some text) name names fs s = tree_progress (tree_of text) name names fs s
+  text_progress (Some text) name names fs s = tree_progress (tree_in limits.shell text) name names fs s
 
-  names_progress : (names : List Text) (fs : List Frame) (s : State) → Progress s (suc (names_weight s.memory.environment names (weight s.memory.environment fs))) (begin_names names fs s)
+  names_progress : (names : List Text) (fs : List Frame) (s : State) → Progress s (suc (names_weight limits.shell s.memory.environment names (weight limits.shell s.memory.environment fs))) (begin_names limits.shell names fs s)
   names_progress [] fs s = inr (refl, refl, omega arith)
   names_progress (name ∷ names) fs s = text_progress (get s.memory.environment name) name names fs s
 
-  looped : (c : Script) (until : Bool) (b : Script) (fs : List Frame) (s : State) → HoldsCommand c → Progress s (suc (block_weight c (weight s.memory.environment fs))) (Go (Lists c ∷ LoopCondition until c b s.memory.status ∷ fs) s)
+  looped : (c : Script) (until : Bool) (b : Script) (fs : List Frame) (s : State) → HoldsCommand c → Progress s (suc (block_weight c (weight limits.shell s.memory.environment fs))) (Go (Lists c ∷ LoopCondition until c b s.memory.status ∷ fs) s)
   looped tree.Empty until b fs s p = absurd p
   looped (tree.Runs l ls) until b fs s p = inr (refl, refl, omega arith)
 
@@ -174,23 +174,23 @@ module _ (limits : Limits) where
   links_heavy (tree.Joins op c links) m = let more = links_heavy links m in omega arith
 
   -- THE MEASURE: each move begins a step, or leaves fewer moves to the next step
-  pub move_progress : (fs : List Frame) (s : State) → AreProperFrames fs → Progress s (weight s.memory.environment fs) (move limits fs s)
+  pub move_progress : (fs : List Frame) (s : State) → AreProperFrames fs → Progress s (weight limits.shell s.memory.environment fs) (move limits fs s)
   move_progress [] s p = inl (omega arith, λ h. h)
   move_progress (Lists tree.Empty ∷ fs) s p = inr (refl, refl, omega arith)
   move_progress (Lists (tree.Runs (tree.Starts c links) lists) ∷ fs) s p = command_progress c (Linked links ∷ Lists lists ∷ fs) s p.0.0.0
   move_progress (Linked tree.Alone ∷ fs) s p = inr (refl, refl, omega arith)
   move_progress (Linked (tree.Joins op c links) ∷ fs) s p =
-      let m = weight s.memory.environment fs in
+      let m = weight limits.shell s.memory.environment fs in
       either_progress s (suc (command_depth c + links_weight links m)) (goes op s.memory.status) (begin_command limits c (Linked links ∷ fs) s) (elim (skips_rest limits.shell) [ true ↦ Go fs s | false ↦ Go (Linked links ∷ fs) s ])
       (progress_more s (suc (command_depth c)) (suc (command_depth c + links_weight links m)) (begin_command limits c (Linked links ∷ fs) s) (omega arith) (command_progress c (Linked links ∷ fs) s p.0.0))
       (either_progress s (suc (command_depth c + links_weight links m)) (skips_rest limits.shell) (Go fs s) (Go (Linked links ∷ fs) s) (let more = links_heavy links m in inr (refl, refl, omega arith)) (inr (refl, refl, omega arith)))
   move_progress (IfCondition b arms ∷ fs) s p =
-      let m = weight s.memory.environment fs in
+      let m = weight limits.shell s.memory.environment fs in
       either_progress s (suc (block_weight b m + arms_weight arms m)) (nat_eq s.memory.status 0) (Go (Lists b ∷ fs) s) (begin_arms limits.shell arms fs s)
       (progress_more s (suc (block_weight b m)) (suc (block_weight b m + arms_weight arms m)) (Go (Lists b ∷ fs) s) (omega arith) (inr (refl, refl, omega arith)))
       (progress_more s (suc (arms_weight arms m)) (suc (block_weight b m + arms_weight arms m)) (begin_arms limits.shell arms fs s) (omega arith) (arms_progress arms fs s p.0.1))
   move_progress (LoopCondition until c b last ∷ fs) s p =
-      let m = weight s.memory.environment fs in
+      let m = weight limits.shell s.memory.environment fs in
       let x = block_weight b (suc (block_weight c m)) in
       either_progress s (suc (x + m)) (holds until s.memory.status) (Go (Lists b ∷ LoopBody until c b ∷ fs) s) (Go fs (set_status (status_of_loop limits.shell last s.memory.status) s))
       (inr (refl, refl, omega arith))
@@ -200,8 +200,8 @@ module _ (limits : Limits) where
   move_progress (ForBody name (f ∷ values) body ∷ fs) s p = inr (refl, refl, omega arith)
   move_progress (RunNames names ∷ fs) s p = names_progress names fs s
   move_progress (RunText names ∷ fs) s p =
-      let m = weight s.memory.environment fs in
-      let x = names_weight s.memory.environment names m in
-      either_progress s (suc (x + m)) (nat_eq s.memory.status 0) (begin_names names fs s) (Go fs s)
-      (progress_more s (suc x) (suc (x + m)) (begin_names names fs s) (omega arith) (names_progress names fs s))
+      let m = weight limits.shell s.memory.environment fs in
+      let x = names_weight limits.shell s.memory.environment names m in
+      either_progress s (suc (x + m)) (nat_eq s.memory.status 0) (begin_names limits.shell names fs s) (Go fs s)
+      (progress_more s (suc x) (suc (x + m)) (begin_names limits.shell names fs s) (omega arith) (names_progress names fs s))
       (inr (refl, refl, omega arith))

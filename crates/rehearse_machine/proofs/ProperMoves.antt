@@ -3,18 +3,18 @@ use Rattle.std.proofs.Common.{ℕ, suc, Bool, true, false, List, [], ◌∷◌, 
 use Rattle.hushlang.specs.Tree as tree
 use Rattle.hushlang.specs.Tree.{Script, Command, Arms, IsProper, IsProperCommand, AreProperArms, HoldsCommand}
 use Rattle.hushlang.specs.Expansion.{fields, joined, size, most_bytes}
-use Rattle.hushlang.specs.Trees.{tree_of}
+use Rattle.hushlang_old.specs.TreesByShell.{tree_in}
 use Rattle.rehearse_terms.specs.State.{Text, get, State}
 use Rattle.rehearse_rules.specs.Parameters.{parameters_in}
 use Rattle.device_list.specs.Called.{Called, BuiltIn, NoCommand, Device, called_by, sets_in}
-use Rattle.commands.specs.BuiltInCommands.{ChangesVariables, WritesText, RunsTexts, Tests, Exits, exit_status}
+use Rattle.commands.specs.BuiltInCommands.{ChangesVariables, WritesText, RunsTexts, Tests, Exits}
 use Rattle.rehearse_rules.specs.Execution.{Limits, CutDevices, CutSteps, Size, set_status, set_local, status_when, goes, holds, Request, test_effect, told, told_again, logged, set_environment}
 use Rattle.rehearse_terms.specs.Outcomes.{Success}
 use Rattle.rehearse_machine.specs.Frames.{Frame, Lists, Linked, IfCondition, LoopCondition, LoopBody, ForBody, RunNames, RunText, Next, Go, Stop, tell_or_ask, boot_next, leave, begin_assign, begin_for, begin_arms, begin_tree, begin_text, begin_names, begin_exit, fitting, ask, begin_called, begin_fields, begin_command, move}
-use Rattle.hushlang.proofs.ProperLemmas.{trees_are_proper}
+use Rattle.hushlang_old.proofs.TreeByShellLemmas.{trees_in_are_proper}
 use Rattle.rehearse_machine.proofs.StepBoundLemmas.{block_proper}
 use Rattle.rehearse_machine.specs.Meaning.{AreProperFrames, IsProperNext}
-use Rattle.rehearse_rules.specs.ByShell.{asks_in, truth_in, fields_in, turns_in, skips_rest, status_of_loop}
+use Rattle.rehearse_rules.specs.ByShell.{leaves_in, status_of_exit, asks_in, truth_in, fields_in, turns_in, skips_rest, status_of_loop}
 
 module _ (limits : Limits) where
   either : (b : Bool) (x y : Next) → IsProperNext x → IsProperNext y → IsProperNext (elim b [ true ↦ x | false ↦ y ])
@@ -32,15 +32,15 @@ module _ (limits : Limits) where
   leave-proper (LoopBody until c b ∷ fs) s p = leave-proper fs s p.1
   leave-proper (ForBody name fields body ∷ fs) s p = leave-proper fs s p.1
 
-  tree-proper : (o : Option Script) (name : Text) (names : List Text) (fs : List Frame) (s : State) → ((tree : Script) → o ≡ Some tree → IsProper tree) → AreProperFrames fs → IsProperNext (begin_tree o name names fs s)
+  tree-proper : (o : Option Script) (name : Text) (names : List Text) (fs : List Frame) (s : State) → ((tree : Script) → o ≡ Some tree → IsProper tree) → AreProperFrames fs → IsProperNext (begin_tree limits.shell o name names fs s)
   tree-proper None name names fs s r p = tt
   tree-proper (Some t) name names fs s r p = (r t refl, (tt, p))
 
-  text-proper : (o : Option Text) (name : Text) (names : List Text) (fs : List Frame) (s : State) → AreProperFrames fs → IsProperNext (begin_text o name names fs s)
+  text-proper : (o : Option Text) (name : Text) (names : List Text) (fs : List Frame) (s : State) → AreProperFrames fs → IsProperNext (begin_text limits.shell o name names fs s)
   text-proper None name names fs s p = p
-  text-proper (Some text) name names fs s p = tree-proper (tree_of text) name names fs s (trees_are_proper text) p
+  text-proper (Some text) name names fs s p = tree-proper (tree_in limits.shell text) name names fs s (trees_in_are_proper limits.shell text) p
 
-  names-proper : (names : List Text) (fs : List Frame) (s : State) → AreProperFrames fs → IsProperNext (begin_names names fs s)
+  names-proper : (names : List Text) (fs : List Frame) (s : State) → AreProperFrames fs → IsProperNext (begin_names limits.shell names fs s)
   names-proper [] fs s p = p
   names-proper (name ∷ names) fs s p = text-proper (get s.memory.environment name) name names fs s p
 
@@ -56,9 +56,9 @@ module _ (limits : Limits) where
   ask-proper : (request : Request) (fs : List Frame) (s : State) → AreProperFrames fs → IsProperNext (ask limits request fs s)
   ask-proper request fs s p = either (nat_lt (length s.log) limits.device_bound) (tell_or_ask (told request s.log) request fs s) (Stop CutDevices s) (tell-proper (told request s.log) request fs s p) tt
 
-  exit-proper : (o : Option ℕ) (fs : List Frame) (s : State) → AreProperFrames fs → IsProperNext (begin_exit o fs s)
-  exit-proper (Some n) fs s p = leave-proper fs (set_status n s) p
-  exit-proper None fs s p = p
+  exit-proper : (o : Option ℕ) (other : ℕ) (fs : List Frame) (s : State) → AreProperFrames fs → IsProperNext (begin_exit o other fs s)
+  exit-proper (Some n) other fs s p = leave-proper fs (set_status n s) p
+  exit-proper None other fs s p = p
 
   builtin-proper : (b : Called) (name : Text) (ws : List Text) (fs : List Frame) (s : State) → AreProperFrames fs → IsProperNext (begin_called limits b name ws fs s)
   builtin-proper (BuiltIn (ChangesVariables change)) name ws fs s p = p
@@ -66,7 +66,7 @@ module _ (limits : Limits) where
   builtin-proper (BuiltIn RunsTexts) name (w ∷ ws) fs s p = (tt, p)
   builtin-proper (BuiltIn Tests) name ws fs s p = either (asks_in limits.shell ws) (ask limits (record { name = name; words = ws; effect = test_effect limits.devices; again = false }) fs s) (Go fs (set_status (status_when (truth_in limits.shell ws)) s)) (ask-proper (record { name = name; words = ws; effect = test_effect limits.devices; again = false }) fs s p) p
   builtin-proper (BuiltIn (WritesText written)) name ws fs s p = p
-  builtin-proper (BuiltIn Exits) name ws fs s p = exit-proper (exit_status ws) fs s p
+  builtin-proper (BuiltIn Exits) name ws fs s p = exit-proper (leaves_in limits.shell ws) (status_of_exit limits.shell ws) fs s p
   builtin-proper (Device effect) name ws fs s p = ask-proper (record { name = name; words = ws; effect = effect; again = false }) fs s p
   builtin-proper NoCommand name ws fs s p = tt
 
@@ -111,4 +111,4 @@ module _ (limits : Limits) where
   move-proper (ForBody name [] body ∷ fs) s p = p.1
   move-proper (ForBody name (f ∷ values) body ∷ fs) s p = (p.0, p)
   move-proper (RunNames names ∷ fs) s p = names-proper names fs s p.1
-  move-proper (RunText names ∷ fs) s p = either (nat_eq s.memory.status 0) (begin_names names fs s) (Go fs s) (names-proper names fs s p.1) p.1
+  move-proper (RunText names ∷ fs) s p = either (nat_eq s.memory.status 0) (begin_names limits.shell names fs s) (Go fs s) (names-proper names fs s p.1) p.1

@@ -3,12 +3,13 @@ use Rattle.std.proofs.Common.{Bool, true, false, List, [], ◌∷◌, ◌++◌, 
 use Rattle.hushlang.specs.Tree as tree
 use Rattle.hushlang.specs.Tree.{Script, IsProper}
 use Rattle.rehearse_terms.specs.Outcomes.{OutcomeWord, Outcome, Success, Failure}
-use Rattle.hushlang.specs.Trees.{tree_of}
+use Rattle.hushlang_old.specs.TreesByShell.{tree_in}
 use Rattle.rehearse_terms.specs.State.{Text, State, start}
 use Rattle.device_list.specs.Called.{sets_in}
-use Rattle.rehearse_rules.specs.Execution.{Syntax, Booted, Request, take_outcome, boot, logged, set_environment}
+use Rattle.rehearse_rules.specs.Execution.{Booted, Request, take_outcome, boot, logged, set_environment}
+use Rattle.rehearse_rules.specs.ByShell.{unread}
 use Rattle.rehearse_rules.specs.Runs.{Task, run_on}
-use Rattle.hushlang.proofs.ProperLemmas.{trees_are_proper}
+use Rattle.hushlang_old.proofs.TreeByShellLemmas.{trees_in_are_proper}
 use Rattle.rehearse_machine.specs.Frames.{Frame, Lists, Next, Go, Ask, Stop, move, boot_next, answered, begun_text}
 use Rattle.rehearse_machine.specs.Came.{settled}
 use Rattle.rehearse_machine.specs.Meaning.{with, full, continue, comes_to, AreProperFrames, StandsAt, AsksAt, AfterMove}
@@ -27,19 +28,19 @@ module _ (task : Task) where
 
   -- where a run starts
   abbrev pub begun : Option Script → Next
-  begun None = Stop (Syntax task.name) (start task.environment [])
+  begun None = Stop (unread task.limits.shell task.name) (start task.environment [])
   begun (Some t) = Go (Lists t ∷ []) (begun_text t (start task.environment []))
 
-  read_as : (o : Option Script) → tree_of task.text ≡ o → (w : OutcomeWord) → run_on task w ≡ tree_answer (full task.limits) o task.name (start task.environment w)
-  read_as o e w = ap (λ (x : Option Script). tree_answer (full task.limits) x task.name (start task.environment w)) e
+  read_as : (o : Option Script) → tree_in task.limits.shell task.text ≡ o → (w : OutcomeWord) → run_on task w ≡ tree_answer task.limits.shell (full task.limits) o task.name (start task.environment w)
+  read_as o e w = ap (λ (x : Option Script). tree_answer task.limits.shell (full task.limits) x task.name (start task.environment w)) e
 
-  begins_by : (o : Option Script) → ((t : Script) → o ≡ Some t → IsProper t) → (w : OutcomeWord) → settled (tree_answer (full task.limits) o task.name (start task.environment w)) ≡ comes_to task.limits w (begun o)
+  begins_by : (o : Option Script) → ((t : Script) → o ≡ Some t → IsProper t) → (w : OutcomeWord) → settled (tree_answer task.limits.shell (full task.limits) o task.name (start task.environment w)) ≡ comes_to task.limits w (begun o)
   begins_by None p w = refl
   begins_by (Some tree.Empty) p w = ap settled (closed_exec task.limits task.limits.step_bound tree.Empty tt (with w (begun_text tree.Empty (start task.environment []))) (omega arith))
   begins_by (Some (tree.Runs l ls)) p w = ap settled (closed_exec task.limits task.limits.step_bound (tree.Runs l ls) (p (tree.Runs l ls) refl) (with w (start task.environment [])) (omega arith))
 
-  pub begins : (o : Option Script) → tree_of task.text ≡ o → AfterMove task [] (begun o)
-  begins o e = after-is [] (begun o) (λ w. ap settled (read_as o e w) ∙ begins_by o (λ t f. trees_are_proper task.text t (e ∙ f)) w)
+  pub begins : (o : Option Script) → tree_in task.limits.shell task.text ≡ o → AfterMove task [] (begun o)
+  begins o e = after-is [] (begun o) (λ w. ap settled (read_as o e w) ∙ begins_by o (λ t f. trees_in_are_proper task.limits.shell task.text t (e ∙ f)) w)
 
   boots-is : (w : OutcomeWord) (b : Bool) (name : Text) (fs : List Frame) (s : State) → continue task.limits fs (boot b name (with w s)) ≡ comes_to task.limits w (boot_next b name fs s)
   boots-is w true name fs s = continue-ended task.limits fs (Booted name) (with w s)

@@ -10,12 +10,14 @@ use Rattle.hushlang.specs.declared.tree.Script.{Script as Code}
 use Rattle.bootstore_state.specs.Moment as stored
 use Rattle.bootstore_state.specs.Record.{Record, beginning, started, changed, with_frame}
 use Rattle.rehearse_terms.specs.Outcomes.{OutcomeWord}
-use Rattle.hushlang.specs.Trees.{tree_of}
+use Rattle.hushlang_old.specs.TreesByShell.{tree_in}
 use Rattle.rehearse_terms.specs.State.{Text, Variables, get, State, start}
-use Rattle.rehearse_rules.specs.Execution.{Limits, Normal, Syntax}
+use Rattle.rehearse_rules.specs.Execution.{Limits, Normal}
+use Rattle.rehearse_terms.specs.declared.shell.Shell.{Shell}
+use Rattle.rehearse_rules.specs.ByShell.{unread}
 use Rattle.rehearse_rules.specs.Runs.{Task, run_on}
 use Rattle.bootstore_state.proofs.StateLemmas.{stored_values, stored_starts}
-use Rattle.hushlang.proofs.ProperLemmas.{trees_are_proper}
+use Rattle.hushlang_old.proofs.TreeByShellLemmas.{trees_in_are_proper}
 use Rattle.rehearse_machine.specs.Frames.{Frame, Lists, begun_text}
 use Rattle.rehearse_machine.specs.Places.{frames_of, text_frame}
 use Rattle.rehearse_machine.specs.Came.{Over, settled}
@@ -29,36 +31,36 @@ begun_start tree.Empty environment w = refl
 begun_start (tree.Runs l ls) environment w = refl
 
 -- the frame of a text means the run on it
-pub text_runs : (task : Task) (t : Script) (w : OutcomeWord) → tree_of task.text ≡ Some t → continue task.limits (frames_of (text_frame t ∷ [])) (Normal (start task.environment w)) ≡ settled (run_on task w)
+pub text_runs : (task : Task) (t : Script) (w : OutcomeWord) → tree_in task.limits.shell task.text ≡ Some t → continue task.limits (frames_of (text_frame t ∷ [])) (Normal (start task.environment w)) ≡ settled (run_on task w)
 text_runs task t w e =
     ap (λ (x : List Frame). continue task.limits x (Normal (start task.environment w))) (text_begins t)
     ∙ ap (λ (x : State). continue task.limits (Lists t ∷ []) (Normal x)) (sym (begun_start t task.environment w))
     ∙ sym (begins task (Some t) e w)
 
-pub text_sound : (text : Text) (t : Script) → tree_of text ≡ Some t → AreProperFrames (frames_of (text_frame t ∷ []))
-text_sound text t e = subst AreProperFrames (sym (text_begins t)) (trees_are_proper text t e, tt)
+pub text_sound : (shell : Shell) (text : Text) (t : Script) → tree_in shell text ≡ Some t → AreProperFrames (frames_of (text_frame t ∷ []))
+text_sound shell text t e = subst AreProperFrames (sym (text_begins t)) (trees_in_are_proper shell text t e, tt)
 
 -- the store at the start of a text
 abbrev text_moment : stored.Variables → Script → stored.Moment
 text_moment variables t = record (beginning variables) { frames = text_frame t ∷ [] }
 
-module _ (old mid new : Record) (variables : stored.Variables) (child : stored.RunningFrame) (value code : Code) (text : Text) (begun : mid ≡ started variables old) (pushed : new ≡ changed (with_frame child) mid) (child_is : child ≡ text_frame (view.script value)) (same : value ≡ code) (read : tree_of text ≡ Some (view.script code)) where
+module _ (limits : Limits) (old mid new : Record) (variables : stored.Variables) (child : stored.RunningFrame) (value code : Code) (text : Text) (begun : mid ≡ started variables old) (pushed : new ≡ changed (with_frame child) mid) (child_is : child ≡ text_frame (view.script value)) (same : value ≡ code) (read : tree_in limits.shell text ≡ Some (view.script code)) where
   pub stands : new.present ≡ text_moment variables (view.script code)
   stands =
       ap (λ (r : Record). r.present) (pushed ∙ ap (changed (with_frame child)) begun)
       ∙ ap (λ (x : stored.RunningFrame). record (beginning variables) { frames = x ∷ [] }) (child_is ∙ ap (λ (x : Code). text_frame (view.script x)) same)
 
   pub stands_sound : IsSound new.present
-  stands_sound = subst IsSound (sym stands) (text_sound text (view.script code) read)
+  stands_sound = subst IsSound (sym stands) (text_sound limits.shell text (view.script code) read)
 
-  pub stands_runs : (limits : Limits) (name : Text) (w : OutcomeWord) → to_come limits new.present w ≡ settled (run_on (record { limits = limits; environment = entries variables; name = name; text = text; failures = None }) w)
-  stands_runs limits name w =
+  pub stands_runs : (name : Text) (w : OutcomeWord) → to_come limits new.present w ≡ settled (run_on (record { limits = limits; environment = entries variables; name = name; text = text; failures = None }) w)
+  stands_runs name w =
       ap (λ (m : stored.Moment). to_come limits m w) stands
       ∙ ap (λ (x : State). continue limits (frames_of (text_frame (view.script code) ∷ [])) (Normal x)) (stored_starts variables w)
       ∙ text_runs (record { limits = limits; environment = entries variables; name = name; text = text; failures = None }) (view.script code) w read
 
--- a text that is not a script
-pub refused_runs : (task : Task) (w : OutcomeWord) → tree_of task.text ≡ None → settled (run_on task w) ≡ Over (Syntax task.name) (start task.environment w)
+-- a text that is not read
+pub refused_runs : (task : Task) (w : OutcomeWord) → tree_in task.limits.shell task.text ≡ None → settled (run_on task w) ≡ Over (unread task.limits.shell task.name) (start task.environment w)
 refused_runs task w e = begins task None e w
 
 -- the text that a rehearsal reads

@@ -2,8 +2,9 @@
 use Rattle.std.specs.Prelude.{ℕ, suc, ◌+◌, List, [], ◌∷◌, Option, Some, None}
 use Rattle.hushlang.specs.Tree as tree
 use Rattle.hushlang.specs.Tree.{Script, AndOr, Joined, Command, Arms}
-use Rattle.hushlang.specs.Trees.{tree_of}
+use Rattle.hushlang_old.specs.TreesByShell.{tree_in}
 use Rattle.rehearse_terms.specs.State.{Text, Variables, get}
+use Rattle.rehearse_terms.specs.declared.shell.Shell.{Shell}
 use Rattle.rehearse_machine.specs.Frames.{Frame, Lists, Linked, IfCondition, LoopCondition, LoopBody, ForBody, RunNames, RunText}
 
 -- how many moves lead from a command to the first step in it
@@ -50,25 +51,25 @@ tree_weight None x = 0
 tree_weight (Some tree.Empty) x = suc x
 tree_weight (Some (tree.Runs l ls)) x = suc (list_depth l)
 
-abbrev pub text_weight : Option Text → ℕ → ℕ → ℕ
-text_weight None x m = m
-text_weight (Some text) x m = tree_weight (tree_of text) x
+abbrev pub text_weight : Shell → Option Text → ℕ → ℕ → ℕ
+text_weight shell None x m = m
+text_weight shell (Some text) x m = tree_weight (tree_in shell text) x
 
-abbrev pub names_weight : Variables → List Text → ℕ → ℕ
-names_weight environment [] m = m
-names_weight environment (name ∷ names) m =
-    text_weight (get environment name) (suc (names_weight environment names m + m)) m
+abbrev pub names_weight : Shell → Variables → List Text → ℕ → ℕ
+names_weight shell environment [] m = m
+names_weight shell environment (name ∷ names) m =
+    text_weight shell (get environment name) (suc (names_weight shell environment names m + m)) m
 
-abbrev pub frame_weight : Variables → Frame → ℕ → ℕ
-frame_weight environment (Lists lists) m = block_weight lists m
-frame_weight environment (Linked links) m = links_weight links m
-frame_weight environment (IfCondition b arms) m = suc (block_weight b m + arms_weight arms m)
-frame_weight environment (LoopCondition until c b last) m = suc (block_weight b (suc (block_weight c m)) + m)
-frame_weight environment (LoopBody until c b) m = suc (block_weight c m)
-frame_weight environment (ForBody name values body) m = for_weight body values m
-frame_weight environment (RunNames names) m = suc (names_weight environment names m)
-frame_weight environment (RunText names) m = suc (names_weight environment names m + m)
+abbrev pub frame_weight : Shell → Variables → Frame → ℕ → ℕ
+frame_weight shell environment (Lists lists) m = block_weight lists m
+frame_weight shell environment (Linked links) m = links_weight links m
+frame_weight shell environment (IfCondition b arms) m = suc (block_weight b m + arms_weight arms m)
+frame_weight shell environment (LoopCondition until c b last) m = suc (block_weight b (suc (block_weight c m)) + m)
+frame_weight shell environment (LoopBody until c b) m = suc (block_weight c m)
+frame_weight shell environment (ForBody name values body) m = for_weight body values m
+frame_weight shell environment (RunNames names) m = suc (names_weight shell environment names m)
+frame_weight shell environment (RunText names) m = suc (names_weight shell environment names m + m)
 
-abbrev pub weight : Variables → List Frame → ℕ
-weight environment [] = 0
-weight environment (f ∷ fs) = frame_weight environment f (weight environment fs)
+abbrev pub weight : Shell → Variables → List Frame → ℕ
+weight shell environment [] = 0
+weight shell environment (f ∷ fs) = frame_weight shell environment f (weight shell environment fs)

@@ -26,7 +26,7 @@ continued limits (nexts.Loops words) f fs s =
     (λ found. for_begins found f fs) t) s
 continued limits nexts.Turns f fs s =
     for_move limits.shell (command_at (list_at f.script f.place.list) f.place.command) f fs s
-continued limits nexts.Names f fs s = run_move f fs s
+continued limits nexts.Names f fs s = run_move limits.shell f fs s
 
 -- the frame f does next what is said, within any limits
 abbrev pub Continues : Next → RunningFrame → (Limits → List RunningFrame → State → PlaceNext) → Type 0

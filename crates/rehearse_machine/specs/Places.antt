@@ -9,14 +9,14 @@ use Rattle.bootstore_state.specs.declared.frame.FrameKind.{FrameKind}
 use Rattle.bootstore_state.specs.declared.frame.FrameKind.TheVariants as kinds
 use Rattle.bootstore_state.specs.Moment.{RunningFrame}
 use Rattle.rehearse_terms.specs.Outcomes.{Outcome, Success, Failure}
-use Rattle.hushlang.specs.Trees.{tree_of}
+use Rattle.hushlang_old.specs.TreesByShell.{tree_in}
 use Rattle.rehearse_terms.specs.State.{Text, get, State}
 use Rattle.rehearse_terms.specs.declared.shell.Shell.{Shell}
-use Rattle.rehearse_rules.specs.ByShell.{asks_in, truth_in, fields_in, turns_in, skips_rest, status_of_nothing, status_of_no_block, status_of_loop}
+use Rattle.rehearse_rules.specs.ByShell.{unread, leaves_in, status_of_exit, asks_in, truth_in, fields_in, turns_in, skips_rest, status_of_nothing, status_of_no_block, status_of_loop}
 use Rattle.rehearse_rules.specs.Parameters.{parameters_in}
 use Rattle.device_list.specs.Called.{Called, BuiltIn, NoCommand, Device, called_by, sets_in}
-use Rattle.commands.specs.BuiltInCommands.{ChangesVariables, WritesText, RunsTexts, Tests, Exits, exit_status, variables_changed, text_written}
-use Rattle.rehearse_rules.specs.Execution.{Limits, Ending, End, CutDevices, CutSteps, Unknown, Syntax, Size, Booted, remember, set_status, set_local, begin_turn, status_when, goes, holds, Request, test_effect, outcome_when, told, told_again, logged, set_environment}
+use Rattle.commands.specs.BuiltInCommands.{ChangesVariables, WritesText, RunsTexts, Tests, Exits, variables_changed, text_written}
+use Rattle.rehearse_rules.specs.Execution.{Limits, Ending, End, CutDevices, CutSteps, Unknown, Size, Booted, remember, set_status, set_local, begin_turn, status_when, goes, holds, Request, test_effect, outcome_when, told, told_again, logged, set_environment}
 use Rattle.rehearse_machine.specs.Frames.{Frame, Lists, Linked, IfCondition, LoopCondition, LoopBody, ForBody, RunNames, RunText, Next, Go, Ask, Stop, begun_text}
 
 -- ---- parts of a script by their numbers
@@ -162,9 +162,10 @@ abbrev pub left : List RunningFrame → State → PlaceNext
 left [] s = StopOn (End s.memory.status) s
 left (f ∷ fs) s = GoOn (f ∷ fs) s
 
-abbrev pub place_exit : Option ℕ → List RunningFrame → State → PlaceNext
-place_exit (Some status) ps s = left (to_run ps) (set_status status s)
-place_exit None ps s = GoOn ps (set_status 1 s)
+-- `exit` leaves the text that is running with a status, or has the other status
+abbrev pub place_exit : Option ℕ → (other : ℕ) → List RunningFrame → State → PlaceNext
+place_exit (Some status) other ps s = left (to_run ps) (set_status status s)
+place_exit None other ps s = GoOn ps (set_status other s)
 
 abbrev pub place_boot : Bool → Text → List RunningFrame → State → PlaceNext
 place_boot true name ps s = StopOn (Booted name) s
@@ -190,25 +191,25 @@ place_assign (pair ∷ pairs) ps s =
     ]
 
 -- the text of a name of a `run`, which is f
-abbrev pub place_tree : Option Script → Text → RunningFrame → List RunningFrame → State → PlaceNext
-place_tree None name f fs s = StopOn (Syntax name) s
-place_tree (Some t) name f fs s = GoOn (text_frame t ∷ in_turn (suc f.place.turn) 0 f ∷ fs) (begun_text t s)
+abbrev pub place_tree : Shell → Option Script → Text → RunningFrame → List RunningFrame → State → PlaceNext
+place_tree shell None name f fs s = StopOn (unread shell name) s
+place_tree shell (Some t) name f fs s = GoOn (text_frame t ∷ in_turn (suc f.place.turn) 0 f ∷ fs) (begun_text t s)
 
-abbrev pub place_text : Option Text → Text → RunningFrame → List RunningFrame → State → PlaceNext
-place_text None name f fs s = GoOn fs (set_status 1 s)
-place_text (Some text) name f fs s = place_tree (tree_of text) name f fs s
+abbrev pub place_text : Shell → Option Text → Text → RunningFrame → List RunningFrame → State → PlaceNext
+place_text shell None name f fs s = GoOn fs (set_status 1 s)
+place_text shell (Some text) name f fs s = place_tree shell (tree_in shell text) name f fs s
 
-abbrev pub place_name : Option Text → RunningFrame → List RunningFrame → State → PlaceNext
-place_name None f fs s = GoOn fs s
-place_name (Some name) f fs s = place_text (get s.memory.environment name) name f fs s
+abbrev pub place_name : Shell → Option Text → RunningFrame → List RunningFrame → State → PlaceNext
+place_name shell None f fs s = GoOn fs s
+place_name shell (Some name) f fs s = place_text shell (get s.memory.environment name) name f fs s
 
-abbrev pub run_move : RunningFrame → List RunningFrame → State → PlaceNext
-run_move f fs s =
+abbrev pub run_move : Shell → RunningFrame → List RunningFrame → State → PlaceNext
+run_move shell f fs s =
     elim (nat_eq f.place.turn 0) [
-      | true ↦ place_name (slice_get f.words f.place.turn) f fs s
+      | true ↦ place_name shell (slice_get f.words f.place.turn) f fs s
       | false ↦
           elim (nat_eq s.memory.status 0) [
-            | true ↦ place_name (slice_get f.words f.place.turn) f fs s
+            | true ↦ place_name shell (slice_get f.words f.place.turn) f fs s
             | false ↦ GoOn fs s
           ]
     ]
@@ -283,7 +284,7 @@ module _ (limits : Limits) where
         | false ↦ GoOn ps (set_status (status_when (truth_in limits.shell words)) s)
       ]
   place_called (BuiltIn (WritesText written)) name words script ps s = GoOn ps (remember (text_written written words) s)
-  place_called (BuiltIn Exits) name words script ps s = place_exit (exit_status words) ps s
+  place_called (BuiltIn Exits) name words script ps s = place_exit (leaves_in limits.shell words) (status_of_exit limits.shell words) ps s
   place_called (Device effect) name words script ps s =
       place_ask (record { name = name; words = words; effect = effect; again = false }) ps s
   place_called NoCommand name words script ps s = StopOn (Unknown name) s
@@ -340,7 +341,7 @@ module _ (limits : Limits) where
   place_by kinds.Text f fs s = place_list (list_at f.script f.place.list) f fs s
   place_by kinds.Block f fs s = place_list (list_at f.script f.place.list) f fs s
   place_by kinds.For f fs s = for_move limits.shell (command_at (list_at f.script f.place.list) f.place.command) f fs s
-  place_by kinds.Run f fs s = run_move f fs s
+  place_by kinds.Run f fs s = run_move limits.shell f fs s
 
   -- one move, at places
   abbrev pub place_move : List RunningFrame → State → PlaceNext

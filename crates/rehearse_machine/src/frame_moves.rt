@@ -7,6 +7,7 @@ ghost use Rattle.rehearse_machine.specs.MovesShown.{Moves};
 ghost use Rattle.rehearse_machine.specs.NextMoves.{ContinuesAt, HasRoom};
 
 use crate::ask::Step;
+use crate::by_shell::unread;
 use crate::for_turn::next_turn;
 use crate::frames::{enter, in_turn, leave, place, text};
 use crate::list_commands::command_of;
@@ -15,7 +16,6 @@ use crate::next_move::Next;
 use crate::scripts::end_block;
 use bootstore_state::{Frame, FrameKind, Store, StoreError, TextFound};
 use hushlang::{Command, Script};
-use rehearse_rules::Halt;
 use rehearse_terms::Shell;
 use std::rc::Rc;
 
@@ -84,36 +84,44 @@ pub(crate) fn move_for<'d, S: Store>(
 
 /// Advances a `run` frame: starts the next name if it is the first, or if the previous text ended
 /// with status 0. Else the `run` has ended.
-pub(crate) fn move_run<'d, S: Store>(store: &mut S, frame: &Frame) -> Result<Step<'d>, StoreError>
+pub(crate) fn move_run<'d, S: Store>(
+    store: &mut S,
+    frame: &Frame,
+    shell: Shell,
+) -> Result<Step<'d>, StoreError>
     ensures { Moves frame.now result (S.record_of store.old) (S.record_of store.new)
-        (places.run_move frame.now) }
+        (places.run_move shell frame.now) }
 {
     if frame.at().turn == 0 {
-        return next_name(store, frame);
+        return next_name(store, frame, shell);
     }
     if store.get_status() == 0 {
-        return next_name(store, frame);
+        return next_name(store, frame, shell);
     }
     leave(store)
 }
 
 /// Starts the text of the next name of a `run`, or ends the `run` if no name is left. A name that
-/// is not set ends it with status 1. A text that is not a script ends the whole run.
-fn next_name<'d, S: Store>(store: &mut S, frame: &Frame) -> Result<Step<'d>, StoreError>
+/// is not set ends it with status 1. A text that the shell cannot read ends the whole run.
+fn next_name<'d, S: Store>(
+    store: &mut S,
+    frame: &Frame,
+    shell: Shell,
+) -> Result<Step<'d>, StoreError>
     ensures { Moves frame.now result (S.record_of store.old) (S.record_of store.new)
-        (places.place_name (slice_get frame.now.words frame.now.place.turn) frame.now) }
+        (places.place_name shell (slice_get frame.now.words frame.now.place.turn) frame.now) }
 {
     let at = frame.at();
     let Some(name) = frame.words().get(at.turn) else {
         return leave(store);
     };
-    match store.text_of(name)? {
+    match store.text_of(shell, name)? {
         TextFound::Unset => {
             store.pop()?;
             store.set_status(1)?;
             Ok(Step::Going)
         }
-        TextFound::NoScript => Ok(Step::Ends(Halt::Syntax(name.clone()?))),
+        TextFound::NoScript => Ok(Step::Ends(unread(shell, name.clone()?))),
         TextFound::Script(script) => begin_text(store, frame, script),
     }
 }

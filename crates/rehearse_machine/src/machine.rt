@@ -60,7 +60,7 @@ fn proceed<'d, S: Store>(
         Next::Assigns(values) => begin_assign(alloc, store, frame, bounds, values),
         Next::Loops(words) => begin_for(alloc, store, fields, frame, bounds, words),
         Next::Turns => move_for(store, frame, bounds.shell()),
-        Next::Names => move_run(store, frame),
+        Next::Names => move_run(store, frame, bounds.shell()),
     }
 }
 

@@ -11,6 +11,7 @@ ghost use Rattle.rehearse_machine.specs.Tasks.{task_in};
 
 use crate::ask::Step;
 use crate::asking::find_again;
+use crate::by_shell::unread;
 use crate::frames::text;
 use crate::machine::drive;
 use crate::outcomes::answer;
@@ -133,11 +134,12 @@ pub fn begin<S: Store>(rehearsal: &Rehearsal<'_>, store: &mut S) -> Result<Stop,
     ensures within { OnOk result ((S.record_of store.new).present.steps ≤ most_steps) }
 {
     let _bound = rehearsal.bounds.steps();
+    let shell = rehearsal.bounds.shell();
     store.start(rehearsal.env)?;
     let text_found = text_of(store, rehearsal.name);
-    let Some(script) = read_script(rehearsal.alloc, text_found)? else {
+    let Some(script) = read_script(rehearsal.alloc, shell, text_found)? else {
         let name = Vec::from_slice(rehearsal.alloc, rehearsal.name)?;
-        return Ok(Stop::Ends(Halt::Syntax(name)));
+        return Ok(Stop::Ends(unread(shell, name)));
     };
     store.push(text(Rc::new(rehearsal.alloc, script)?))?;
     go_on(rehearsal, store)

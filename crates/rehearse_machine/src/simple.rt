@@ -4,7 +4,7 @@ ghost use Rattle.builtins.specs.Builtins.{builtin_named};
 ghost use Rattle.builtins.specs.BuiltinsShown.{builtin_shown};
 ghost use Rattle.hushlang.specs.TreesShown as view;
 ghost use Rattle.hushlang.specs.Tree as tree;
-ghost use Rattle.rehearse_rules.specs.ByShell.{fields_in, turns_in};
+ghost use Rattle.rehearse_rules.specs.ByShell.{fields_in, leaves_in, status_of_exit, turns_in};
 ghost use Rattle.rehearse_terms.specs.State.{Text};
 ghost use Rattle.rehearse_rules.specs.Parameters.{parameters_in};
 ghost use Rattle.rehearse_rules.specs.Execution.{Limits, set_status};
@@ -20,8 +20,8 @@ ghost use Rattle.rehearse_machine.specs.MovesShown.{Comes, IsExpanded, Moves, li
 ghost use Rattle.rehearse_machine.specs.CalledShown.{builtin_called};
 
 use crate::ask::Step;
-use crate::built_in::{echo, exit_status, setenv};
-use crate::by_shell::{asks_in, status_of_nothing, truth_in};
+use crate::built_in::{echo, setenv};
+use crate::by_shell::{asks_in, leaves_in, status_of_exit, status_of_nothing, truth_in};
 use crate::computed::carry_out;
 use crate::frames::{behind, enter, finish, place};
 use crate::named::Named;
@@ -33,7 +33,7 @@ use builtins::Builtin;
 use device_list::{Devices, Effect};
 use hushlang::{Fields, Script, Word};
 use rehearse_rules::Halt;
-use rehearse_terms::RunBounds;
+use rehearse_terms::{RunBounds, Shell};
 use std::alloc::Global;
 use std::rc::Rc;
 use text::copied_words;
@@ -95,19 +95,24 @@ fn run_test<'d, S: Store>(
     }
 }
 
-/// `exit`: ends the text that is running with the status that the words name. Other words give the
-/// status 1.
-fn run_exit<'d, S: Store>(store: &mut S, words: &[Vec<u8>]) -> Result<Step<'d>, StoreError>
+/// `exit`: ends the text that is running with the status that the words name, if the shell ends it.
+/// Else it is a command with a status.
+fn run_exit<'d, S: Store>(
+    store: &mut S,
+    shell: Shell,
+    words: &[Vec<u8>],
+) -> Result<Step<'d>, StoreError>
     ensures { Comes result (S.record_of store.old) (S.record_of store.new)
-        (place_exit (says.exit_status (bytes_of_words words.now))
+        (place_exit (leaves_in shell (bytes_of_words words.now))
+        (status_of_exit shell (bytes_of_words words.now))
         (S.record_of store.old).present.frames) }
 {
-    match exit_status(words) {
+    match leaves_in(shell, words) {
         Some(status) => {
             store.set_status(status)?;
             leave_text(store)
         }
-        None => done(store, 1),
+        None => done(store, status_of_exit(shell, words)),
     }
 }
 
@@ -140,7 +145,7 @@ fn run_builtin<'d, S: Store>(
         }
         Builtin::True => done(store, 0),
         Builtin::False => done(store, 1),
-        Builtin::Leave => run_exit(store, words),
+        Builtin::Leave => run_exit(store, bounds.shell(), words),
     }
 }
 

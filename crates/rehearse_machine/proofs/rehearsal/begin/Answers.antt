@@ -3,8 +3,10 @@ use Rattle.std.specs.Prelude.{option_map}
 use Rattle.hushlang.specs.TreesShown as view
 use Rattle.bootstore_state.specs.Moment.{environment_of}
 use Rattle.bootstore_state.specs.Record.{Record}
-use Rattle.hushlang.specs.Trees.{tree_of}
-use Rattle.rehearse_rules.specs.Execution.{Syntax}
+use Rattle.hushlang_old.specs.TreesByShell.{tree_in}
+use Rattle.rehearse_terms.specs.declared.shell.Shell.{Shell}
+use Rattle.rehearse_rules.specs.Execution.{Ending}
+use Rattle.rehearse_rules.specs.ByShell.{unread}
 use Rattle.bootstore_state.specs.StoredState.{state_at}
 use Rattle.rehearse_rules.specs.Runs.{run_on}
 use Rattle.bootstore_state.proofs.StateLemmas.{stored_starts}
@@ -21,10 +23,12 @@ returns-in_default-clause-stops g c w =
     let variables = environment_of c.args.rehearsal.now.env.now in
     let start = g.S.Store.record_of c.start.new.self in
     let same = same_text variables task.name c.text_of-text_found.result.now start.present (ap (λ (r : Record). r.present.environment) c.in_ok-start.ensures.ok) c.text_of-text_found.ensures in
-    let read = ap tree_of (sym same) ∙ sym c.in_ok-script.ensures ∙ ap (option_map view.script) c.in_default.is in
-    refused_runs task w read ∙ ap (Over (Syntax task.name)) (sym (stored_starts variables w))
-    ∙ ap (λ (r : Record). Over (Syntax task.name) (state_at r.present w)) (sym c.in_ok-start.ensures.ok)
-    ∙ ap (λ (n : List ℕ). Over (Syntax n) (state_at start.present w)) (sym c.in_ok-name.ensures.items)
+    let read = ap (λ (x : Shell). tree_in x task.text) (sym c.shell-shell.ensures) ∙ ap (tree_in c.shell-shell.result) (sym same) ∙ sym c.in_ok-script.ensures ∙ ap (option_map view.script) c.in_default.is in
+    refused_runs task w read ∙ ap (Over (unread task.limits.shell task.name)) (sym (stored_starts variables w))
+    ∙ ap (λ (r : Record). Over (unread task.limits.shell task.name) (state_at r.present w)) (sym c.in_ok-start.ensures.ok)
+    ∙ ap (λ (n : List ℕ). Over (unread task.limits.shell n) (state_at start.present w)) (sym c.in_ok-name.ensures.items)
+    ∙ ap (λ (x : Shell). Over (unread x c.in_ok-name.name.items) (state_at start.present w)) (sym c.shell-shell.ensures)
+    ∙ ap (λ (x : Ending). Over x (state_at start.present w)) (sym c.unread.ensures)
 
 pub go_on-requires-clause-sound : goal.go_on-requires-clause-sound
 go_on-requires-clause-sound g c =
@@ -32,8 +36,8 @@ go_on-requires-clause-sound g c =
     let variables = environment_of c.args.rehearsal.now.env.now in
     let start = g.S.Store.record_of c.start.new.self in
     let same = same_text variables task.name c.text_of-text_found.result.now start.present (ap (λ (r : Record). r.present.environment) c.in_ok-start.ensures.ok) c.text_of-text_found.ensures in
-    let read = ap tree_of (sym same) ∙ sym c.in_ok-script.ensures ∙ ap (option_map view.script) c.in-Some.is in
-    stands_sound (g.S.Store.record_of c.args.store.now) start (g.S.Store.record_of c.push.new.self) variables c.text.result c.in_ok-new.field-0.value c.in-Some.script task.text
+    let read = ap (λ (x : Shell). tree_in x task.text) (sym c.shell-shell.ensures) ∙ ap (tree_in c.shell-shell.result) (sym same) ∙ sym c.in_ok-script.ensures ∙ ap (option_map view.script) c.in-Some.is in
+    stands_sound task.limits (g.S.Store.record_of c.args.store.now) start (g.S.Store.record_of c.push.new.self) variables c.text.result c.in_ok-new.field-0.value c.in-Some.script task.text
     c.in_ok-start.ensures.ok c.in_ok-push.ensures.ok c.text.ensures c.in_ok-new.ensures.ok read
 
 pub returns-clause-stops : goal.returns-clause-stops
@@ -44,7 +48,7 @@ returns-clause-stops g c =
     let start = g.S.Store.record_of c.start.new.self in
     let new = g.S.Store.record_of c.push.new.self in
     let same = same_text variables task.name c.text_of-text_found.result.now start.present (ap (λ (r : Record). r.present.environment) c.in_ok-start.ensures.ok) c.text_of-text_found.ensures in
-    let read = ap tree_of (sym same) ∙ sym c.in_ok-script.ensures ∙ ap (option_map view.script) c.in-Some.is in
+    let read = ap (λ (x : Shell). tree_in x task.text) (sym c.shell-shell.ensures) ∙ ap (tree_in c.shell-shell.result) (sym same) ∙ sym c.in_ok-script.ensures ∙ ap (option_map view.script) c.in-Some.is in
     all_stop_as c.go_on.result task.limits (to_come task.limits new.present) (λ w. settled (run_on task w)) (g.S.Store.record_of c.go_on.new.store)
-    (λ w. sym (stands_runs old start new variables c.text.result c.in_ok-new.field-0.value c.in-Some.script task.text c.in_ok-start.ensures.ok c.in_ok-push.ensures.ok c.text.ensures c.in_ok-new.ensures.ok read task.limits task.name w))
+    (λ w. sym (stands_runs task.limits old start new variables c.text.result c.in_ok-new.field-0.value c.in-Some.script task.text c.in_ok-start.ensures.ok c.in_ok-push.ensures.ok c.text.ensures c.in_ok-new.ensures.ok read task.name w))
     c.go_on.ensures.stops
