@@ -5,6 +5,7 @@ ghost use Rattle.bootstore_trail.specs.Inverse.{CanGoBack, KeepsOnce};
 use crate::inverse::{Inverse, Kept, Marked, Since, undo_to_mark};
 use bootstore_state::{At, Frame, LogEntry, Present, Scope, Scripts, Store, StoreError, TextFound};
 use envtools::Env;
+use rehearse_terms::Shell;
 use std::alloc::Global;
 
 /// The present state, and what takes back the changes since the first mark. While nothing is
@@ -179,8 +180,8 @@ impl Store for Trail {
         self.since = undo_to_mark(&mut self.present, &mut self.kept);
     }
 
-    fn text_of(&mut self, name: &[u8]) -> Result<TextFound, StoreError> {
-        self.scripts.text_of(&self.present.environment, name)
+    fn text_of(&mut self, shell: Shell, name: &[u8]) -> Result<TextFound, StoreError> {
+        self.scripts.text_of(shell, &self.present.environment, name)
     }
 
     fn present(&self) -> &Present {
