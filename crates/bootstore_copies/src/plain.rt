@@ -2,6 +2,7 @@
 use crate::copies::copy_of;
 use bootstore_state::{At, Frame, LogEntry, Present, Scripts, Store, StoreError, TextFound};
 use envtools::Env;
+use rehearse_terms::Shell;
 use std::alloc::Global;
 
 /// The present state, and the marked ones.
@@ -93,8 +94,8 @@ impl Store for Plain {
         }
     }
 
-    fn text_of(&mut self, name: &[u8]) -> Result<TextFound, StoreError> {
-        self.scripts.text_of(&self.present.environment, name)
+    fn text_of(&mut self, shell: Shell, name: &[u8]) -> Result<TextFound, StoreError> {
+        self.scripts.text_of(shell, &self.present.environment, name)
     }
 
     fn present(&self) -> &Present {
