@@ -326,6 +326,7 @@ fn put_last<O: Out>(out: &mut O, page: &mut BytePage, ending: Ending<'_>) -> Res
         Ending::CutSteps => put(out, page, b"cut steps\n"),
         Ending::Unknown(name) => put_word_line(out, page, b"stop unknown ", name),
         Ending::Syntax(name) => put_word_line(out, page, b"stop syntax ", name),
+        Ending::Unsupported(name) => put_word_line(out, page, b"stop unsupported ", name),
         Ending::Size => put(out, page, b"stop size\n"),
         Ending::Booted(name) => put_word_line(out, page, b"booted ", name),
     }

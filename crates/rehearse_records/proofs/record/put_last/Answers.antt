@@ -8,3 +8,6 @@ returns-in-Unknown g c = rw c.in-Unknown.is c.put_word_line.ensures
 
 pub returns-in-Syntax : goal.returns-in-Syntax
 returns-in-Syntax g c = rw c.in-Syntax.is c.put_word_line-in-Syntax.ensures
+
+pub returns-in-Unsupported : goal.returns-in-Unsupported
+returns-in-Unsupported g c = rw c.in-Unsupported.is c.put_word_line-in-Unsupported.ensures
