@@ -3,7 +3,7 @@ use Rattle.std.proofs.Common.{◌≡◌, List, [], ◌∷◌, None, codes, refl,
 use Rattle.rehearse_terms.specs.State.{Text}
 use Rattle.rehearse_terms.specs.declared.shell.Shell.{Shell}
 use Rattle.rehearse_terms.specs.declared.shell.Shell.TheVariants.{Profile, Old2023, Old2025}
-use Rattle.rehearse_rules.specs.Execution.{End}
+use Rattle.rehearse_rules.specs.Execution.{End, Syntax, Unsupported}
 use Rattle.rehearse_rules.proofs.ExampleRehearsals.{only_load, limits, bootcmd, z, listed, Told, told_of}
 
 -- what a text writes and how it ends in each shell
@@ -93,3 +93,25 @@ words_left_in_a_test = refl
 no_term_in_a_test : in_each (codes "test a; echo $?; test a = a; echo $?") ≡ (codes "1\n0\n", End 0) ∷ (codes "1\n0\n", End 0) ∷ (codes "1\n0\n", End 0) ∷ []
 unfolding told_of
 no_term_in_a_test = refl
+
+-- a text that is not read ends the run before it acts
+unread_text : in_each (codes "if true; then") ≡ ([], Syntax (codes "bootcmd")) ∷ ([], Unsupported (codes "bootcmd")) ∷ ([], Unsupported (codes "bootcmd")) ∷ []
+unfolding told_of
+unread_text = refl
+
+-- `exit` ends nothing in 2023.01, and its status says whether its number is 0
+exit_with_a_number : in_each (codes "exit 3; echo $?") ≡ ([], End 3) ∷ (codes "1\n", End 0) ∷ ([], End 3) ∷ []
+unfolding told_of
+exit_with_a_number = refl
+
+exit_without_a_word : in_each (codes "false; exit; echo $?") ≡ ([], End 0) ∷ (codes "0\n", End 0) ∷ ([], End 0) ∷ []
+unfolding told_of
+exit_without_a_word = refl
+
+exit_with_a_name : in_each (codes "exit x; echo $?") ≡ (codes "1\n", End 0) ∷ (codes "0\n", End 0) ∷ (codes "1\n", End 0) ∷ []
+unfolding told_of
+exit_with_a_name = refl
+
+exit_numbers : in_shell (codes "exit 0x0; echo $?; exit 0X10; echo $?; exit 4294967296; echo $?; exit 010; echo $?; exit 0 0; echo $?") Old2023 ≡ (codes "0\n1\n0\n1\n1\n", End 0)
+unfolding told_of
+exit_numbers = refl
