@@ -1,5 +1,5 @@
 -- A command that asks was not told an answer: it takes an outcome of the word.
-use Rattle.rehearse_rules.specs.ByShell.{asks_in, truth_in, fields_in}
+use Rattle.rehearse_rules.specs.ByShell.{leaves_in, status_of_exit, asks_in, truth_in, fields_in}
 use Rattle.std.proofs.Common.{ℕ, Bool, true, false, List, [], ◌∷◌, length, Option, Some, None, refl, subst, ◌≡◌, nat_lt, nat_le}
 use Rattle.hushlang.specs.Tree as tree
 use Rattle.hushlang.specs.Tree.{Script}
@@ -10,7 +10,7 @@ use Rattle.rehearse_terms.specs.Outcomes.{Success}
 use Rattle.rehearse_terms.specs.State.{Text, State}
 use Rattle.rehearse_rules.specs.Parameters.{parameters_in}
 use Rattle.device_list.specs.Called.{Called, BuiltIn, NoCommand, Device, called_by, sets_in}
-use Rattle.commands.specs.BuiltInCommands.{ChangesVariables, WritesText, RunsTexts, Tests, Exits, exit_status}
+use Rattle.commands.specs.BuiltInCommands.{ChangesVariables, WritesText, RunsTexts, Tests, Exits}
 use Rattle.rehearse_rules.specs.Execution.{Limits, CutDevices, Size, Request, test_effect, told, told_again, logged, set_environment, set_status, status_when}
 use Rattle.rehearse_machine.specs.Places.{PlaceNext, GoOn, AskOn, StopOn, left, to_run, place_boot, place_exit, place_tell_or_ask, place_ask, place_called, place_fields}
 use Rattle.rehearse_machine.specs.AskingCommand.{words_in_front, fields_again, found_again}
@@ -29,9 +29,9 @@ left_anew : (ps : List RunningFrame) (s : State) → AsksAnew (left ps s)
 left_anew [] s = tt
 left_anew (p ∷ ps) s = tt
 
-exit_anew : (o : Option ℕ) (ps : List RunningFrame) (s : State) → AsksAnew (place_exit o ps s)
-exit_anew None ps s = tt
-exit_anew (Some status) ps s = left_anew (to_run ps) (set_status status s)
+exit_anew : (o : Option ℕ) (other : ℕ) (ps : List RunningFrame) (s : State) → AsksAnew (place_exit o other ps s)
+exit_anew None other ps s = tt
+exit_anew (Some status) other ps s = left_anew (to_run ps) (set_status status s)
 
 boot_anew : (ends : Bool) (name : Text) (ps : List RunningFrame) (s : State) → AsksAnew (place_boot ends name ps s)
 boot_anew true name ps s = tt
@@ -54,7 +54,7 @@ module _ (limits : Limits) where
       let r : Request = record { name = name; words = ws; effect = test_effect limits.devices; again = false } in
       either_anew (asks_in limits.shell ws) (place_ask limits r ps s) (GoOn ps (set_status (status_when (truth_in limits.shell ws)) s)) (ask_anew r ps s refl) tt
   called_anew (BuiltIn (WritesText written)) name ws script ps s = tt
-  called_anew (BuiltIn Exits) name ws script ps s = exit_anew (exit_status ws) ps s
+  called_anew (BuiltIn Exits) name ws script ps s = exit_anew (leaves_in limits.shell ws) (status_of_exit limits.shell ws) ps s
   called_anew (Device effect) name ws script ps s = ask_anew (record { name = name; words = ws; effect = effect; again = false }) ps s refl
   called_anew NoCommand name ws script ps s = tt
 

@@ -1,5 +1,5 @@
 -- If a device command asks at two moments with the same core, the same is to come, as far as the bounds allow.
-use Rattle.rehearse_rules.specs.ByShell.{asks_in, truth_in, fields_in}
+use Rattle.rehearse_rules.specs.ByShell.{leaves_in, status_of_exit, asks_in, truth_in, fields_in}
 use Rattle.std.proofs.Common.{ℕ, Bool, true, false, cond, List, [], ◌∷◌, length, Option, Some, None, refl, sym, ap, subst, ◌∙◌, ◌≡◌, append-nil, arith, nat_lt, nat_le}
 use Rattle.std.specs.FinMap.{entries}
 use Rattle.hushlang.specs.Tree as tree
@@ -12,7 +12,7 @@ use Rattle.rehearse_terms.specs.State.{Text, State, Variables, LoggedCommand, an
 use Rattle.rehearse_rules.specs.Parameters.{parameters_in}
 use Rattle.bootstore_state.specs.StoredState.{state_at}
 use Rattle.device_list.specs.Called.{Called, BuiltIn, NoCommand, Device, called_by, sets_in}
-use Rattle.commands.specs.BuiltInCommands.{ChangesVariables, WritesText, RunsTexts, Tests, Exits, exit_status}
+use Rattle.commands.specs.BuiltInCommands.{ChangesVariables, WritesText, RunsTexts, Tests, Exits}
 use Rattle.rehearse_rules.specs.Execution.{Limits, CutDevices, Size, Request, test_effect, told, told_again, logged, set_environment, set_status, status_when, take_outcome}
 use Rattle.rehearse_machine.specs.Came.{Came}
 use Rattle.rehearse_machine.specs.Meaning.{continue, comes_to}
@@ -43,9 +43,9 @@ module _ (limits : Limits) (text : Text) (log : List LoggedCommand) (n : ℕ) wh
   left_same [] s b = tt
   left_same (p ∷ ps) s b = tt
 
-  exit_same : (o : Option ℕ) (ps : List RunningFrame) (s : State) (b : PlaceNext) → AskSame (place_exit o ps s) b
-  exit_same None ps s b = tt
-  exit_same (Some status) ps s b = left_same (to_run ps) (set_status status s) b
+  exit_same : (o : Option ℕ) (other : ℕ) (ps : List RunningFrame) (s : State) (b : PlaceNext) → AskSame (place_exit o other ps s) b
+  exit_same None other ps s b = tt
+  exit_same (Some status) other ps s b = left_same (to_run ps) (set_status status s) b
 
   either_same : (b : Bool) (f g : State → PlaceNext) (s : State) → AskSame (f s) (f (there s)) → AskSame (g s) (g (there s)) → AskSame (elim b [ true ↦ f s | false ↦ g s ]) (elim b [ true ↦ f (there s) | false ↦ g (there s) ])
   either_same true f g s h k = h
@@ -83,7 +83,7 @@ module _ (limits : Limits) (text : Text) (log : List LoggedCommand) (n : ℕ) wh
   called_same (BuiltIn RunsTexts) name (w ∷ ws) script ps s h = tt
   called_same (BuiltIn Tests) name ws script ps s h = either_same (asks_in limits.shell ws) (place_ask limits (record { name = name; words = ws; effect = test_effect limits.devices; again = false }) ps) (λ t. GoOn ps (set_status (status_when (truth_in limits.shell ws)) t)) s (ask_same (record { name = name; words = ws; effect = test_effect limits.devices; again = false }) ps s h) tt
   called_same (BuiltIn (WritesText written)) name ws script ps s h = tt
-  called_same (BuiltIn Exits) name ws script ps s h = exit_same (exit_status ws) ps s (place_exit (exit_status ws) ps (there s))
+  called_same (BuiltIn Exits) name ws script ps s h = exit_same (leaves_in limits.shell ws) (status_of_exit limits.shell ws) ps s (place_exit (leaves_in limits.shell ws) (status_of_exit limits.shell ws) ps (there s))
   called_same (Device effect) name ws script ps s h = ask_same (record { name = name; words = ws; effect = effect; again = false }) ps s h
   called_same NoCommand name ws script ps s h = tt
 

@@ -3,7 +3,7 @@ use Rattle.std.proofs.Common.{ℕ, suc, ◌+◌, ◌≤◌, ◌<◌, max, Bool, 
 use Rattle.bootstore_state.specs.Moment.{Moment}
 use Rattle.rehearse_terms.specs.Outcomes.{OutcomeWord, Success, Failure, WordKind}
 use Rattle.bootstore_state.specs.StoredState.{state_at}
-use Rattle.rehearse_rules.specs.Execution.{Limits, Ending, End, CutDevices, CutSteps, Unknown, Syntax, Size, Booted}
+use Rattle.rehearse_rules.specs.Execution.{Limits, Ending, End, CutDevices, CutSteps, Unknown, Syntax, Unsupported, Size, Booted}
 use Rattle.rehearse_machine.specs.Came.{Came, Over, Wants}
 use Rattle.rehearse_machine.specs.Machine.{IsAsking, asked_at}
 use Rattle.rehearse_endings.specs.Elsewhere.{IsCutBy}
@@ -51,6 +51,7 @@ module _ (limits : Limits) (m t : Moment) (s : Summary) (sums : Sums (asked_at l
   never_by w CutSteps e h = never_cut_steps s.cut_steps m.steps t.steps s.steps limits.step_bound (asked_at limits m w) fits.steps (λ u. sums.uncut_steps u w) e h
   never_by w (Unknown name) e h = h
   never_by w (Syntax name) e h = h
+  never_by w (Unsupported name) e h = h
   never_by w Size e h = h
   never_by w (Booted name) e h = h
 
