@@ -49,7 +49,7 @@ impl Call {
     ghost use Rattle.hushlang.specs.declared.token.SyntaxError.TheVariants.{Memory};
 
     /// A simple command of these words. Errors: `Memory`.
-    pub(crate) fn new(alloc: Global, words: Vec<Word>) -> Result<Call, SyntaxError>
+    pub fn new(alloc: Global, words: Vec<Word>) -> Result<Call, SyntaxError>
         ensures words { IfOk result (λ call. view.call call ≡ view.words_in words) }
         ensures err { IfErr result (λ error. error ≡ Memory) }
     {

@@ -1,4 +1,5 @@
 pub mod WordLemmas
+pub mod BuildingLemmas
 pub mod OldTreeLemmas
 pub mod TreeByShellLemmas
 mod OldFieldsExamples

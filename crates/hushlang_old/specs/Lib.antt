@@ -1,4 +1,7 @@
 pub mod OldFields
 pub mod OldFieldsShown
+pub mod OldTokens
+pub mod OldTokensShown
 pub mod OldTrees
+pub mod OldTreesShown
 pub mod TreesByShell

@@ -21,7 +21,7 @@ fn is_constant(piece: &Piece) -> bool
     }
 }
 
-fn are_constant_pieces(pieces: &[Piece]) -> bool
+pub(crate) fn are_constant_pieces(pieces: &[Piece]) -> bool
     ensures { result ≡ list_all (λ piece. known.is_constant (view.piece piece)) pieces.now }
 {
     pieces.iter().all(|piece| is_constant(piece))

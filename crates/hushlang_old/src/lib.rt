@@ -1,10 +1,15 @@
 //! The words of a command, and those of a `for`, as U-Boot's old shell finds them, and the trees of texts by the shell.
 #![tactic(auto)]
 
+mod building;
 mod constant;
+mod found_words;
+mod old_tokens;
 mod old_trees;
 mod old_words;
+mod open_commands;
 mod rereading;
+mod reserved;
 mod trees_by_shell;
 mod word_bytes;
 

@@ -1,0 +1,438 @@
+//! The tokens of a text, byte by byte.
+ghost use Rattle.std.specs.Prelude.{◌≡◌, false, map, option_map, IfOk, OnOk};
+ghost use Rattle.hushlang.specs.TreesShown as view;
+ghost use Rattle.hushlang.specs.ByteClasses as classes;
+ghost use Rattle.hushlang_old.specs.OldTokens as says;
+ghost use Rattle.hushlang_old.specs.OldTokensShown as shown;
+
+use hushlang::{Op, Piece};
+use std::alloc::{AllocError, Global};
+use std::mem;
+
+/// A word: its pieces, none of which is quotes; whether it has quotes; and whether it has a backslash.
+#[derive(Drop)]
+pub(crate) struct FoundWord {
+    pub(crate) pieces: Vec<Piece>,
+    pub(crate) quoted: bool,
+    pub(crate) escaped: bool,
+}
+
+/// A token.
+#[derive(Drop)]
+pub(crate) enum Token {
+    /// A word.
+    Word(FoundWord),
+    /// `;` or a newline.
+    Ends,
+    /// `&&` or `||`.
+    Joins(Op),
+}
+
+/// What the next byte is. The bytes of a name stand in the reading.
+#[derive(Clone, Copy)]
+enum Place {
+    /// A byte that may act.
+    Open,
+    /// The byte behind a backslash.
+    Behind,
+    /// A byte in single quotes, and whether it is behind a backslash.
+    Single(bool),
+    /// The byte behind `$`.
+    Dollar,
+    /// The byte behind `$` and the first bytes of a name.
+    Name,
+    /// The byte behind `${` and some bytes.
+    Brace,
+    /// A byte of a comment.
+    Comment,
+    /// The byte behind the first `&` or `|`.
+    Joint(Op),
+    /// A byte behind what is not followed.
+    Refused,
+}
+
+/// A text that is being read: the tokens that are whole; of the word on the way its whole pieces, the
+/// bytes behind them, whether it has quotes and whether a backslash; whether double quotes are open;
+/// what the next byte is; and the bytes of a name.
+#[derive(Drop)]
+struct TextReading {
+    alloc: Global,
+    tokens: Vec<Token>,
+    pieces: Vec<Piece>,
+    bytes: Vec<u8>,
+    quoted: bool,
+    escaped: bool,
+    double: bool,
+    place: Place,
+    name: Vec<u8>,
+}
+
+fn is_between(low: u8, high: u8, byte: u8) -> bool
+    ensures { result ≡ classes.is_between low high byte }
+{
+    low <= byte && byte <= high
+}
+
+fn is_foreign(byte: u8) -> bool
+    ensures { result ≡ says.is_foreign byte }
+{
+    byte == 3 || byte == 4 || byte > 127
+}
+
+/// Whether a byte is an ASCII letter.
+pub(crate) fn is_letter(byte: u8) -> bool
+    ensures { result ≡ says.is_letter byte }
+{
+    is_between(b'a', b'z', byte) || is_between(b'A', b'Z', byte)
+}
+
+/// Whether a byte is an ASCII letter, a digit or `_`.
+pub(crate) fn is_name_byte(byte: u8) -> bool
+    ensures { result ≡ says.is_name_byte byte }
+{
+    is_letter(byte) || is_between(b'0', b'9', byte) || byte == b'_'
+}
+
+fn is_brace_exception(byte: u8) -> bool
+    ensures { result ≡ classes.is_brace_exception byte }
+{
+    match byte {
+        b'$' | b'{' | b'}' | b':' | b'=' | b'"' | b'\'' | b'\\' | b'`' => true,
+        _ => false,
+    }
+}
+
+fn is_brace_byte(byte: u8) -> bool
+    ensures { result ≡ classes.is_brace_byte byte }
+{
+    is_between(b'!', b'~', byte) && !is_brace_exception(byte)
+}
+
+fn sign_of(op: Op) -> u8
+    ensures { result ≡ says.sign_of op }
+{
+    match op {
+        Op::And => b'&',
+        Op::Or => b'|',
+    }
+}
+
+impl TextReading {
+    fn new(alloc: Global) -> TextReading
+        ensures { shown.reading result ≡ says.nothing_read }
+    {
+        TextReading {
+            alloc,
+            tokens: Vec::new(alloc),
+            pieces: Vec::new(alloc),
+            bytes: Vec::new(alloc),
+            quoted: false,
+            escaped: false,
+            double: false,
+            place: Place::Open,
+            name: Vec::new(alloc),
+        }
+    }
+
+    /// Whether a byte or a variable has been read of the word on the way.
+    fn has_read(&self) -> bool
+        ensures { result ≡ says.has_read (shown.reading self.now) }
+    {
+        !self.bytes.is_empty() || !self.pieces.is_empty()
+    }
+
+    /// Makes a piece of the bytes behind the pieces, if there are any.
+    fn close_bytes(&mut self) -> Result<(), AllocError>
+        ensures { OnOk result
+            (shown.reading self.new ≡ says.bytes_closed (shown.reading self.old)) }
+    {
+        if self.bytes.is_empty() {
+            return Ok(());
+        }
+        let bytes = mem::replace(&mut self.bytes, Vec::new(self.alloc));
+        self.pieces.push(Piece::Bytes(bytes))?;
+        Ok(())
+    }
+
+    fn push_piece(&mut self, piece: Piece) -> Result<(), AllocError>
+        ensures { OnOk result (shown.reading self.new
+            ≡ says.with_piece (view.piece piece) (shown.reading self.old)) }
+    {
+        self.close_bytes()?;
+        self.pieces.push(piece)?;
+        Ok(())
+    }
+
+    /// Ends the word on the way.
+    fn end_word(&mut self) -> Result<(), AllocError>
+        ensures { OnOk result
+            (shown.reading self.new ≡ says.word_ended (shown.reading self.old)) }
+    {
+        let found = self.quoted || self.has_read();
+        self.close_bytes()?;
+        let pieces = mem::replace(&mut self.pieces, Vec::new(self.alloc));
+        if found {
+            self.tokens.push(Token::Word(FoundWord {
+                pieces,
+                quoted: self.quoted,
+                escaped: self.escaped,
+            }))?;
+        }
+        self.quoted = false;
+        self.escaped = false;
+        Ok(())
+    }
+
+    /// Ends the word on the way, and adds a token that is no word.
+    fn push_token(&mut self, token: Token) -> Result<(), AllocError>
+        ensures { OnOk result (shown.reading self.new
+            ≡ says.with_token (shown.token token) (shown.reading self.old)) }
+    {
+        self.end_word()?;
+        self.tokens.push(token)?;
+        Ok(())
+    }
+
+    /// Reads a byte outside all quotes that is neither a quote, a backslash nor `$`.
+    fn read_bare(&mut self, byte: u8) -> Result<(), AllocError>
+        ensures { OnOk result
+            (shown.reading self.new ≡ says.read_bare byte (shown.reading self.old)) }
+    {
+        if byte == b'\n' || byte == b';' {
+            return self.push_token(Token::Ends);
+        }
+        if byte == b' ' || byte == b'\t' {
+            return self.end_word();
+        }
+        if byte == b'&' {
+            self.end_word()?;
+            self.place = Place::Joint(Op::And);
+            return Ok(());
+        }
+        if byte == b'|' {
+            self.end_word()?;
+            self.place = Place::Joint(Op::Or);
+            return Ok(());
+        }
+        if byte == b'#' && !self.has_read() {
+            self.place = Place::Comment;
+            return Ok(());
+        }
+        self.bytes.push(byte)?;
+        Ok(())
+    }
+
+    /// Reads a byte that may act.
+    #[tactic(auto, unfolding(crate::specs::OldTokens::read_open))]
+    fn read_open(&mut self, byte: u8) -> Result<(), AllocError>
+        ensures { OnOk result
+            (shown.reading self.new ≡ says.read_open byte (shown.reading self.old)) }
+    {
+        if is_foreign(byte) {
+            self.place = Place::Refused;
+            return Ok(());
+        }
+        match byte {
+            b'\\' => self.place = Place::Behind,
+            b'\'' => {
+                self.quoted = true;
+                self.place = Place::Single(false);
+            }
+            b'"' => {
+                self.quoted = true;
+                self.double = !self.double;
+            }
+            b'$' => self.place = Place::Dollar,
+            _ => {
+                if self.double {
+                    self.bytes.push(byte)?;
+                    return Ok(());
+                }
+                return self.read_bare(byte);
+            }
+        }
+        Ok(())
+    }
+
+    /// Reads the byte behind a backslash, which stays in double quotes.
+    fn read_behind(&mut self, byte: u8) -> Result<(), AllocError>
+        ensures { OnOk result
+            (shown.reading self.new ≡ says.read_behind byte (shown.reading self.old)) }
+    {
+        if is_foreign(byte) {
+            self.place = Place::Refused;
+            return Ok(());
+        }
+        self.escaped = true;
+        if self.double {
+            self.bytes.push(b'\\')?;
+        }
+        self.bytes.push(byte)?;
+        self.place = Place::Open;
+        Ok(())
+    }
+
+    /// Reads a byte in single quotes.
+    fn read_single(&mut self, behind: bool, byte: u8) -> Result<(), AllocError>
+        ensures { OnOk result
+            (shown.reading self.new ≡ says.read_single behind byte (shown.reading self.old)) }
+    {
+        if is_foreign(byte) {
+            self.place = Place::Refused;
+            return Ok(());
+        }
+        if byte == b'\'' {
+            self.place = if behind { Place::Refused } else { Place::Open };
+            return Ok(());
+        }
+        if byte == b'\\' && !behind {
+            self.escaped = true;
+            self.place = Place::Single(true);
+            return Ok(());
+        }
+        self.bytes.push(byte)?;
+        self.place = Place::Single(false);
+        Ok(())
+    }
+
+    /// Adds the variable of the name.
+    fn push_variable(&mut self) -> Result<(), AllocError>
+        requires { self.old.place ≡ shown.at_open }
+        ensures { OnOk result (shown.reading self.new
+            ≡ says.variable self.old.name.items (shown.reading self.old)) }
+    {
+        let name = mem::replace(&mut self.name, Vec::new(self.alloc));
+        let split = !self.double;
+        self.push_piece(Piece::Var { name, split })
+    }
+
+    /// Reads the byte behind `$`.
+    fn read_dollar(&mut self, byte: u8) -> Result<(), AllocError>
+        ensures { OnOk result
+            (shown.reading self.new ≡ says.read_dollar byte (shown.reading self.old)) }
+    {
+        if is_letter(byte) {
+            self.name.clear();
+            self.name.push(byte)?;
+            self.place = Place::Name;
+            return Ok(());
+        }
+        if byte == b'?' {
+            self.place = Place::Open;
+            return self.push_piece(Piece::Status);
+        }
+        if byte == b'{' {
+            self.name.clear();
+            self.place = Place::Brace;
+            return Ok(());
+        }
+        self.bytes.push(b'$')?;
+        self.place = Place::Open;
+        self.read_open(byte)
+    }
+
+    /// Reads the byte behind `$` and the first bytes of a name.
+    fn read_name(&mut self, byte: u8) -> Result<(), AllocError>
+        requires { self.old.place ≡ shown.in_name }
+        ensures { OnOk result (shown.reading self.new
+            ≡ says.read_name self.old.name.items byte (shown.reading self.old)) }
+    {
+        if is_name_byte(byte) {
+            self.name.push(byte)?;
+            return Ok(());
+        }
+        self.place = Place::Open;
+        self.push_variable()?;
+        self.read_open(byte)
+    }
+
+    /// Reads the byte behind `${` and some bytes.
+    fn read_brace(&mut self, byte: u8) -> Result<(), AllocError>
+        requires { self.old.place ≡ shown.in_brace }
+        ensures { OnOk result (shown.reading self.new
+            ≡ says.read_brace self.old.name.items byte (shown.reading self.old)) }
+    {
+        if byte == b'}' && !self.name.is_empty() {
+            self.place = Place::Open;
+            return self.push_variable();
+        }
+        if is_brace_byte(byte) {
+            self.name.push(byte)?;
+        } else {
+            self.place = Place::Refused;
+        }
+        Ok(())
+    }
+
+    /// Reads a byte of a comment.
+    fn read_comment(&mut self, byte: u8) -> Result<(), AllocError>
+        ensures { OnOk result
+            (shown.reading self.new ≡ says.read_comment byte (shown.reading self.old)) }
+    {
+        if byte == b'\n' {
+            self.place = Place::Open;
+            return self.push_token(Token::Ends);
+        }
+        Ok(())
+    }
+
+    /// Reads the byte behind the first `&` or `|`.
+    fn read_joint(&mut self, op: Op, byte: u8) -> Result<(), AllocError>
+        ensures { OnOk result
+            (shown.reading self.new ≡ says.read_joint op byte (shown.reading self.old)) }
+    {
+        if byte == sign_of(op) {
+            self.place = Place::Open;
+            return self.push_token(Token::Joins(op));
+        }
+        self.place = Place::Refused;
+        Ok(())
+    }
+
+    /// Reads a byte.
+    #[tactic(auto, unfolding(crate::specs::OldTokens::read))]
+    fn read(&mut self, byte: u8) -> Result<(), AllocError>
+        ensures { OnOk result (shown.reading self.new ≡ says.read byte (shown.reading self.old)) }
+    {
+        match self.place {
+            Place::Open => self.read_open(byte),
+            Place::Behind => self.read_behind(byte),
+            Place::Single(behind) => self.read_single(behind, byte),
+            Place::Dollar => self.read_dollar(byte),
+            Place::Name => self.read_name(byte),
+            Place::Brace => self.read_brace(byte),
+            Place::Comment => self.read_comment(byte),
+            Place::Joint(op) => self.read_joint(op, byte),
+            Place::Refused => Ok(()),
+        }
+    }
+
+    /// The tokens, if the text ends where a byte may act and outside double quotes.
+    fn into_tokens(self) -> Result<Option<Vec<Token>>, AllocError>
+        ensures { IfOk result (λ tokens. option_map shown.tokens tokens
+            ≡ says.tokens_in (shown.reading self)) }
+    {
+        let mut reading = self;
+        if reading.double {
+            return Ok(None);
+        }
+        let Place::Open = reading.place else {
+            return Ok(None);
+        };
+        reading.push_token(Token::Ends)?;
+        Ok(Some(reading.tokens))
+    }
+}
+
+/// The tokens of a text, if all its constructs are followed.
+#[tactic(auto, unfolding(crate::specs::OldTokens::old_tokens))]
+pub(crate) fn old_tokens(alloc: Global, text: &[u8]) -> Result<Option<Vec<Token>>, AllocError>
+    ensures { IfOk result (λ tokens. option_map shown.tokens tokens ≡ says.old_tokens text.now) }
+{
+    let mut reading = TextReading::new(alloc);
+    for byte in text {
+        reading.read(*byte)?;
+    }
+    reading.read(b'\n')?;
+    reading.into_tokens()
+}
