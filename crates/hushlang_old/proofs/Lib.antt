@@ -3,3 +3,4 @@ pub mod BuildingLemmas
 pub mod OldTreeLemmas
 pub mod TreeByShellLemmas
 mod OldFieldsExamples
+mod OldTreesExamples

@@ -15,7 +15,7 @@ use Rattle.hushlang.specs.KnownFields.{is_constant}
 use Rattle.hushlang.specs.declared.tree.Op.{Op}
 use Rattle.hushlang.specs.declared.tree.Op.TheVariants.{And, Or}
 use Rattle.hushlang_old.specs.OldFields.{has_bytes}
-use Rattle.hushlang_old.specs.OldTokens.{FoundWord, Token, Word, Ends, Joins, is_letter, is_name_byte, old_tokens}
+use Rattle.hushlang_old.specs.OldTokens.{FoundWord, Token, Word, Ends, Joins, is_letter, is_name_byte, read, read_open, old_tokens}
 use Rattle.hushlang_old.specs.declared.reserved.Reserved.{Reserved}
 use Rattle.hushlang_old.specs.declared.reserved.Reserved.TheVariants as r
 
@@ -359,4 +359,5 @@ abbrev pub tree_of_tokens : List Token → Option Script
 tree_of_tokens tokens = elim (read_tokens tokens nothing_built) [ None ↦ None | Some b ↦ tree_in b ]
 
 unfoldable pub old_tree_of : (text : List ℕ) → Option Script
+unfolding old_tokens read read_open reserved_bytes assignment read_token
 old_tree_of text = elim (old_tokens text) [ None ↦ None | Some tokens ↦ tree_of_tokens tokens ]

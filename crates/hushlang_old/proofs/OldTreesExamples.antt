@@ -1,0 +1,140 @@
+-- Worked examples of the texts that U-Boot's old shell reads, computed. A sandbox of U-Boot 2023.01 does with each what this
+-- says; the texts are among those that the comparison with it runs.
+use Rattle.std.proofs.Common.{◌≡◌, ℕ, true, false, List, [], ◌∷◌, ◌++◌, map, refl, replicate, Some, None, is_some, Option}
+use Rattle.std.specs.Prelude.{codes}
+use Rattle.std.specs.List.{flat_map}
+use Rattle.hushlang.specs.Tree.{Script, Empty, Runs, Starts, Alone, Joins, Simple, Assign, If, Arm, Else, NoElse, Loop, For, Bytes, Mark, Var, Status, Word}
+use Rattle.hushlang.specs.Trees.{tree_of}
+use Rattle.hushlang_old.specs.OldTrees.{old_tree_of}
+
+abbrev Text : Type 0
+Text = List ℕ
+
+-- a text, and the one that ubtool's own language reads in the same way
+abbrev Pair : Type 0
+Pair = Text × Text
+
+abbrev by_shell : List Pair → List (Option Script)
+by_shell pairs = map (λ pair. old_tree_of pair.0) pairs
+
+abbrev by_profile : List Pair → List (Option Script)
+by_profile pairs = map (λ pair. tree_of pair.1) pairs
+
+abbrev alike : Text → Pair
+alike text = (text, text)
+
+-- ---- commands and lists
+
+abbrev lists : List Pair
+lists =
+    alike [] ∷ alike (codes "a b; c\nd") ∷ alike (codes "a && b || c; d") ∷ alike (codes "a # b;c\nd#e") ∷ alike (codes " \ta\t b ;; \n; c;")
+    ∷ (codes "a &&\nb || ; c", codes "a; b; c") ∷ (codes "if a; then b && fi", codes "if a; then b; fi") ∷ []
+
+lists_read : by_shell lists ≡ by_profile lists
+unfolding old_tree_of tree_of
+lists_read = refl
+
+-- ---- words
+
+abbrev words : List Pair
+words =
+    (codes "a'b c'\"d e\" ''", codes "'ab cd e' ''") ∷ alike (codes "a\\ b \\;") ∷ alike (codes "$a \"$b_1\"c ${d.e} ${1f} $? $ $1 $@ a$") ∷ alike (codes "\"$?;#\n&|\"")
+    ∷ (codes "'a\\b' 'c\\\\d'", codes "'ab' 'c\\d'") ∷ (codes "\"a\\$b\\\"c\\\\d\"", codes "'a\\$b\\\"c\\\\d'")
+    ∷ (codes "\"it's a'\"", codes "'its a'") ∷ (codes "a \"\"#b", codes "a \"\"") ∷ (codes "$_x", codes "\\$_x") ∷ (codes "a\"b\"", codes "''ab")
+    ∷ (codes "${a}b#c", codes "${a}b#c") ∷ []
+
+words_read : by_shell words ≡ by_profile words
+unfolding old_tree_of tree_of
+words_read = refl
+
+-- a newline behind a backslash belongs to its word, also at the end of a text; `${?}` is a variable
+abbrev one : Word → Option Script
+one word = Some (Runs (Starts (Simple (word ∷ [])) Alone) Empty)
+
+own_words : map old_tree_of (codes "a\\\nb" ∷ codes "a\\" ∷ codes "${?}" ∷ [])
+    ≡ one (Bytes (codes "a\nb") ∷ []) ∷ one (Bytes (codes "a\n") ∷ []) ∷ one (Var (codes "?") true ∷ []) ∷ []
+unfolding old_tree_of
+own_words = refl
+
+-- ---- assignments
+
+abbrev assignments : List Pair
+assignments =
+    alike (codes "x=1") ∷ alike (codes "x=$a y_2=") ∷ (codes "x=$a\"b c\"", codes "x=$a\\b\\ c") ∷ alike (codes "a x=1") ∷ alike (codes "1x=2") ∷ (codes "'x'=1", codes "x=1")
+    ∷ (codes "x=1 load a", codes "x=1 && load a") ∷ (codes "x=1 y=2 if || c", codes "x=1 y=2 && \\if || c")
+    ∷ (codes "_x=1", codes "\\_x=1") ∷ []
+
+assignments_read : by_shell assignments ≡ by_profile assignments
+unfolding old_tree_of tree_of
+assignments_read = refl
+
+-- ---- compound commands
+
+abbrev compounds : List Pair
+compounds =
+    alike (codes "if a; then b; elif c\nthen d\nelse e; fi; f") ∷ alike (codes "while a; do b; done || until c; do d; done")
+    ∷ alike (codes "for x in 'a b' $c; do d; done; for y in\n\n do e; done") ∷ alike (codes "if if a; then b; fi; then c; fi && d") ∷ alike (codes "\\if a; b if then fi")
+    ∷ (codes "for \"x\" in a fi; do b; done", codes "for x in a fi; do b; done") ∷ (codes "i'f' a; \"then\" b; fi", codes "if a; then b; fi") ∷ []
+
+compounds_read : by_shell compounds ≡ by_profile compounds
+unfolding old_tree_of tree_of
+compounds_read = refl
+
+-- a block without a command has one without words
+abbrev a : Script
+a = Runs (Starts (Simple ((Bytes (codes "a") ∷ []) ∷ [])) Alone) Empty
+
+abbrev nothing : Script
+nothing = Runs (Starts (Simple []) Alone) Empty
+
+empty_blocks : map old_tree_of (codes "if a; then # b\nfi" ∷ codes "if a; then fi" ∷ codes "if a; then; elif a; then a; else; fi" ∷ codes "while a; do done" ∷ codes "for x in y; do\ndone" ∷ [])
+    ≡ Some (Runs (Starts (If (Arm a nothing NoElse)) Alone) Empty) ∷ Some (Runs (Starts (If (Arm a nothing NoElse)) Alone) Empty)
+    ∷ Some (Runs (Starts (If (Arm a nothing (Arm a a (Else nothing)))) Alone) Empty)
+    ∷ Some (Runs (Starts (Loop false a nothing) Alone) Empty) ∷ Some (Runs (Starts (For (codes "x") ((Bytes (codes "y") ∷ []) ∷ []) nothing) Alone) Empty) ∷ []
+unfolding old_tree_of
+empty_blocks = refl
+
+-- ---- texts that are not followed
+
+abbrev nothing_of : List Text → List (Option Script)
+nothing_of texts = map (λ text. None) texts
+
+-- quotes, braces and signs
+abbrev broken_words : List Text
+broken_words =
+    codes "'a" ∷ codes "\"a" ∷ codes "${a" ∷ codes "${a:-b}" ∷ codes "${}" ∷ codes "a & b" ∷ codes "a | b" ∷ codes "a &| b" ∷ codes "a &" ∷ codes "'a\\' b"
+    ∷ codes "\"it's\"" ∷ (97 ∷ 3 ∷ []) ∷ (97 ∷ 4 ∷ []) ∷ (97 ∷ 128 ∷ []) ∷ (39 ∷ 200 ∷ 39 ∷ []) ∷ (92 ∷ 200 ∷ []) ∷ []
+
+broken_words_refused : map old_tree_of broken_words ≡ nothing_of broken_words
+unfolding old_tree_of
+broken_words_refused = refl
+
+-- commands and assignments
+abbrev broken_commands : List Text
+broken_commands =
+    codes "&& a" ∷ codes "a && && b" ∷ codes "\"\" a" ∷ codes "x=$a load" ∷ codes "x=1 load $a" ∷ codes "x=1 load a $?" ∷ codes "HUSH_VERSION=1" ∷ codes "x=1 HUSH_NO_EVAL=1"
+    ∷ codes "in" ∷ codes "fi" ∷ codes "'done'" ∷ []
+
+broken_commands_refused : map old_tree_of broken_commands ≡ nothing_of broken_commands
+unfolding old_tree_of
+broken_commands_refused = refl
+
+-- compound commands
+abbrev broken_compounds : List Text
+broken_compounds =
+    codes "if a; then b" ∷ codes "if a; then b; fi c" ∷ codes "if a; then b; fi fi" ∷ codes "if; then b; fi" ∷ codes "while; do b; done" ∷ codes "if a; then elif b; then c; fi" ∷ codes "if a; else b; fi"
+    ∷ codes "if a; then b; else c; elif d; then e; fi" ∷ codes "while a; then b; done" ∷ codes "for x in a; do b; fi" ∷ codes "for fi in a; do b; done" ∷ codes "for 1 in a; do b; done"
+    ∷ codes "for $x in a; do b; done" ∷ codes "for HUSH_VERSION in a; do b; done" ∷ codes "for x; in a; do b; done" ∷ codes "for; x in a; do b; done" ∷ codes "for x on a; do b; done" ∷ codes "for x in fi; do b; done"
+    ∷ codes "for x in a && b; do c; done" ∷ codes "for x in a; b; do c; done" ∷ []
+
+broken_compounds_refused : map old_tree_of broken_compounds ≡ nothing_of broken_compounds
+unfolding old_tree_of
+broken_compounds_refused = refl
+
+-- compound commands stand in one another 64 deep, and no deeper
+abbrev nested : ℕ → Text
+nested levels = flat_map {X = ℕ} (λ level. codes "if a; then ") (replicate levels 0) ++ codes "a" ++ flat_map {X = ℕ} (λ level. codes "; fi") (replicate levels 0)
+
+nesting : map is_some (old_tree_of (nested 64) ∷ old_tree_of (nested 65) ∷ []) ≡ true ∷ false ∷ []
+unfolding old_tree_of
+nesting = refl
