@@ -1,5 +1,5 @@
 -- A command that asks was not told an answer: it takes an outcome of the word.
-use Rattle.rehearse_rules.specs.ByShell.{leaves_in, status_of_exit, asks_in, truth_in, fields_in}
+use Rattle.rehearse_rules.specs.ByShell.{leaves_in, status_of_exit, asks_in, truth_in, fields_in, follows}
 use Rattle.std.proofs.Common.{ℕ, Bool, true, false, List, [], ◌∷◌, length, Option, Some, None, refl, subst, ◌≡◌, nat_lt, nat_le}
 use Rattle.hushlang.specs.Tree as tree
 use Rattle.hushlang.specs.Tree.{Script}
@@ -11,7 +11,7 @@ use Rattle.rehearse_terms.specs.State.{Text, State}
 use Rattle.rehearse_rules.specs.Parameters.{parameters_in}
 use Rattle.device_list.specs.Called.{Called, BuiltIn, NoCommand, Device, called_by, sets_in}
 use Rattle.commands.specs.BuiltInCommands.{ChangesVariables, WritesText, RunsTexts, Tests, Exits}
-use Rattle.rehearse_rules.specs.Execution.{Limits, CutDevices, Size, Request, test_effect, told, told_again, logged, set_environment, set_status, status_when}
+use Rattle.rehearse_rules.specs.Execution.{Limits, CutDevices, Size, Request, test_effect, told, told_again, logged, set_environment, set_status, status_when, Unsupported}
 use Rattle.rehearse_machine.specs.Places.{PlaceNext, GoOn, AskOn, StopOn, left, to_run, place_boot, place_exit, place_tell_or_ask, place_ask, place_called, place_fields}
 use Rattle.rehearse_machine.specs.AskingCommand.{words_in_front, fields_again, found_again}
 use Rattle.rehearse_machine.specs.Machine.{Asking}
@@ -60,7 +60,7 @@ module _ (limits : Limits) where
 
   fields_anew : (fs : List Text) (script : Script) (ps : List RunningFrame) (s : State) → AsksAnew (place_fields limits fs script ps s)
   fields_anew [] script ps s = tt
-  fields_anew (name ∷ ws) script ps s = called_anew (called_by limits.devices name ws) name ws script ps s
+  fields_anew (name ∷ ws) script ps s = either_anew (follows limits.shell limits.devices name ws) (place_called limits (called_by limits.devices name ws) name ws script ps s) (StopOn (Unsupported name) s) (called_anew (called_by limits.devices name ws) name ws script ps s) tt
 
   again_anew : (o : Option (List tree.Word)) (f : RunningFrame) (fs : List RunningFrame) (s : State) → AsksAnew (fields_again limits o f fs s)
   again_anew None f fs s = tt

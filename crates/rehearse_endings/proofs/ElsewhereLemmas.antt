@@ -12,8 +12,8 @@ use Rattle.hushlang.specs.Expansion.{joined, size, most_bytes}
 use Rattle.hushlang_old.specs.TreesByShell.{tree_in}
 use Rattle.device_list.specs.Called.{Called, BuiltIn, Device, NoCommand, called_by, sets_in}
 use Rattle.commands.specs.BuiltInCommands.{ChangesVariables, WritesText, RunsTexts, Tests, Exits, variables_changed, text_written}
-use Rattle.rehearse_rules.specs.ByShell.{unread, leaves_in, status_of_exit, asks_in, truth_in, fields_in, turns_in, skips_rest, status_of_nothing, status_of_no_block, status_of_loop, status_in_turn}
-use Rattle.rehearse_rules.specs.Execution.{begin_turn, Limits, Answer, Normal, Exit, Ended, Dry, Ending, CutDevices, CutSteps, Unknown, Size, go_on, remember, set_status, set_local, status_when, goes, holds, begin, take_outcome, with_outcome, outcome_when, succeeds, told, told_again, tell_or_take, device, Request, test_effect, logged, set_environment, boot, text_end, run_text, run_all, command, simple, sized, assign, turns, for_each, exec_script, exec_list, exec_joined, exec_command, exec_arms, exec}
+use Rattle.rehearse_rules.specs.ByShell.{unread, leaves_in, status_of_exit, asks_in, truth_in, fields_in, turns_in, skips_rest, status_of_nothing, status_of_no_block, status_of_loop, status_in_turn, follows}
+use Rattle.rehearse_rules.specs.Execution.{begin_turn, Limits, Answer, Normal, Exit, Ended, Dry, Ending, CutDevices, CutSteps, Unknown, Size, go_on, remember, set_status, set_local, status_when, goes, holds, begin, take_outcome, with_outcome, outcome_when, succeeds, told, told_again, tell_or_take, device, Request, test_effect, logged, set_environment, boot, text_end, run_text, run_all, command, simple, sized, assign, turns, for_each, exec_script, exec_list, exec_joined, exec_command, exec_arms, exec, Unsupported}
 use Rattle.rehearse_rules.specs.Runs.{state_of}
 use Rattle.rehearse_rules.proofs.TakenOutcomes.{skipped, Track-of, KeepsAll, Keeps-script, Keeps-joined, Keeps-arms, Keeps-exec, Keeps-run, Keeps-turns, Keeps-for, Keeps-if, Keeps-stays, after_condition, Keeps-after_condition, Keeps-ended, Keeps-simple, Keeps-sized, Keeps-assign}
 use Rattle.rehearse_endings.specs.Elsewhere.{elsewhere, devices_of, HaveFurther, AreApart, IsBeyond, IsAlike, same, cut_here, beyond, Alike}
@@ -291,7 +291,7 @@ module _ (limits : Limits) (i j : ℕ) (k l : List LoggedCommand) where
 
     pub Alike-simple : (fs : List Text) → AlwaysDoes (simple limits script fs)
     Alike-simple [] s = Alike-normal s (λ m. record m { status = status_of_nothing limits.shell m.status }) (λ text. (text, refl))
-    Alike-simple (name ∷ ws) s = Alike-command (called_by limits.devices name ws) name ws s
+    Alike-simple (name ∷ ws) s = Alike-if s (follows limits.shell limits.devices name ws) (command limits script (called_by limits.devices name ws) name ws) (Ended (Unsupported name)) (Alike-command (called_by limits.devices name ws) name ws s) (Alike-ended s (Unsupported name))
 
   pub Alike-after : (until : Bool) (b again : State → Answer) → AlwaysDoes b → AlwaysDoes again → KeepsAll limits again → (last : ℕ) → AlwaysDoes (after_condition limits until b again last)
   Alike-after until b again h does kept last t = Alike-if t (holds until t.memory.status) (λ v. go_on (b v) again) (λ v. Normal (set_status (status_of_loop limits.shell last v.memory.status) v)) (Alike-go_on t b again (h t) does kept) (Alike-normal t (λ m. record m { status = status_of_loop limits.shell last m.status }) (λ text. (text, refl)))

@@ -1,5 +1,5 @@
 -- If a device command asks at two moments with the same core, the same is to come, as far as the bounds allow.
-use Rattle.rehearse_rules.specs.ByShell.{leaves_in, status_of_exit, asks_in, truth_in, fields_in}
+use Rattle.rehearse_rules.specs.ByShell.{leaves_in, status_of_exit, asks_in, truth_in, fields_in, follows}
 use Rattle.std.proofs.Common.{ℕ, Bool, true, false, cond, List, [], ◌∷◌, length, Option, Some, None, refl, sym, ap, subst, ◌∙◌, ◌≡◌, append-nil, arith, nat_lt, nat_le}
 use Rattle.std.specs.FinMap.{entries}
 use Rattle.hushlang.specs.Tree as tree
@@ -13,7 +13,7 @@ use Rattle.rehearse_rules.specs.Parameters.{parameters_in}
 use Rattle.bootstore_state.specs.StoredState.{state_at}
 use Rattle.device_list.specs.Called.{Called, BuiltIn, NoCommand, Device, called_by, sets_in}
 use Rattle.commands.specs.BuiltInCommands.{ChangesVariables, WritesText, RunsTexts, Tests, Exits}
-use Rattle.rehearse_rules.specs.Execution.{Limits, CutDevices, Size, Request, test_effect, told, told_again, logged, set_environment, set_status, status_when, take_outcome}
+use Rattle.rehearse_rules.specs.Execution.{Limits, CutDevices, Size, Request, test_effect, told, told_again, logged, set_environment, set_status, status_when, take_outcome, Unsupported}
 use Rattle.rehearse_machine.specs.Came.{Came}
 use Rattle.rehearse_machine.specs.Meaning.{continue, comes_to}
 use Rattle.rehearse_machine.specs.Places.{PlaceNext, GoOn, AskOn, StopOn, next_of, frames_of, left, to_run, place_exit, place_boot, place_tell_or_ask, place_ask, place_called, place_fields}
@@ -89,7 +89,7 @@ module _ (limits : Limits) (text : Text) (log : List LoggedCommand) (n : ℕ) wh
 
   fields_same : (fs : List Text) (script : Script) (ps : List RunningFrame) (s : State) → answers_in log ≡ answers_in s.log → AskSame (place_fields limits fs script ps s) (place_fields limits fs script ps (there s))
   fields_same [] script ps s h = tt
-  fields_same (name ∷ ws) script ps s h = called_same (called_by limits.devices name ws) name ws script ps s h
+  fields_same (name ∷ ws) script ps s h = either_same (follows limits.shell limits.devices name ws) (place_called limits (called_by limits.devices name ws) name ws script ps) (StopOn (Unsupported name)) s (called_same (called_by limits.devices name ws) name ws script ps s h) tt
 
   again_same : (o : Option (List tree.Word)) (f : RunningFrame) (fs : List RunningFrame) (s : State) → answers_in log ≡ answers_in s.log → AskSame (fields_again limits o f fs s) (fields_again limits o f fs (there s))
   again_same None f fs s h = tt

@@ -17,7 +17,7 @@ use Rattle.rehearse_terms.specs.State.{Text, Variables, State, with_value, witho
 use Rattle.bootstore_state.specs.StoredState.{state_at}
 use Rattle.builtins.specs.Builtins.{Builtin, builtin_named, builtin_of}
 use Rattle.rehearse_rules.proofs.GivenRuns.{called_apart}
-use Rattle.device_list.specs.Called.{Called, BuiltIn, Device, NoCommand, listed_by, other_called}
+use Rattle.device_list.specs.Called.{Called, BuiltIn, Device, NoCommand, listed_by, other_called, called_by}
 use Rattle.commands.specs.BuiltInCommands.{ChangesVariables, WritesText, Tests, carried, deed_of, setenv, variables_changed, text_written, decimal_from}
 use Rattle.commands.specs.VariableNames.{is_bad_name}
 use Rattle.rehearse_rules.specs.Execution.{Limits, Request, test_effect, remember, set_status, status_when}
@@ -26,7 +26,7 @@ use Rattle.device_list.specs.DeviceList.{Effect, Devices, computed_by, effect_of
 use Rattle.bootstore_state.proofs.StateLemmas.{stored_changes, stored_deletions}
 use Rattle.rehearse_machine.specs.declared.ask.Step.{Step}
 use Rattle.rehearse_machine.specs.declared.ask.Step.TheVariants as steps
-use Rattle.rehearse_machine.specs.Places.{GoOn, place_ask, place_called, place_fields}
+use Rattle.rehearse_machine.specs.Places.{GoOn, place_ask, place_called}
 use Rattle.rehearse_machine.specs.MovesShown.{Does, Comes, Changes, Changed}
 use Rattle.rehearse_machine.proofs.Beginnings.{chosen}
 
@@ -134,16 +134,13 @@ other_listed devices name words o none is =
     ap (λ (o : Option Computed). let c : Called = elim o [ Some computed ↦ BuiltIn (ChangesVariables (λ ws. carried computed)) | None ↦ listed_by devices name words ] in c) none
     ∙ ap (λ (o : Option Effect). let c : Called = elim o [ Some effect ↦ Device effect | None ↦ NoCommand ] in c) (sym is)
 
--- what the built-in command of the first field does, or the call if it is of none, the fields do
-pub fields_called : (limits : Limits) (fields : List (Vec ℕ Global)) (name : Vec ℕ Global) (rest : List (Vec ℕ Global)) (o : Option Builtin) (script : Script) (r : Result Step StoreError) (old new : Record) → fields ≡ name ∷ rest → o ≡ builtin_named (bytes_of_words fields)
-    → Comes r old new (place_called limits (elim o [ Some builtin ↦ BuiltIn (deed_of builtin) | None ↦ other_called limits.devices name.items (bytes_of_words rest) ]) name.items (bytes_of_words rest) script old.present.frames)
-    → Comes r old new (place_fields limits (bytes_of_words fields) script old.present.frames)
-fields_called limits fields name rest o script r old new all is h =
-    let words = bytes_of_words rest in
-    let named : o ≡ builtin_of name.items = is ∙ ap (λ (x : List (Vec ℕ Global)). builtin_named (bytes_of_words x)) all in
-    let called = ap (λ (o : Option Builtin). let c : Called = elim o [ Some builtin ↦ BuiltIn (deed_of builtin) | None ↦ other_called limits.devices name.items words ] in c) named ∙ sym (called_apart limits.devices name.items words) in
-    subst (λ (x : List (Vec ℕ Global)). Comes r old new (place_fields limits (bytes_of_words x) script old.present.frames)) (sym all)
-    (subst (λ (x : Called). Comes r old new (place_called limits x name.items words script old.present.frames)) called h)
+-- what the built-in command of a name does, or the call if it is of none, the name does
+pub name_called : (limits : Limits) (name : Text) (words : List Text) (o : Option Builtin) (script : Script) (r : Result Step StoreError) (old new : Record) → o ≡ builtin_of name
+    → Comes r old new (place_called limits (elim o [ Some builtin ↦ BuiltIn (deed_of builtin) | None ↦ other_called limits.devices name words ]) name words script old.present.frames)
+    → Comes r old new (place_called limits (called_by limits.devices name words) name words script old.present.frames)
+name_called limits name words o script r old new named h =
+    let called = ap (λ (o : Option Builtin). let c : Called = elim o [ Some builtin ↦ BuiltIn (deed_of builtin) | None ↦ other_called limits.devices name words ] in c) named ∙ sym (called_apart limits.devices name words) in
+    subst (λ (x : Called). Comes r old new (place_called limits x name words script old.present.frames)) called h
 
 pub empty_rest : (ys : List (Vec ℕ Global)) → true ≡ eqb (length ys) 0 → ys ≡ []
 empty_rest [] e = refl

@@ -9,7 +9,7 @@ use Rattle.rehearse_terms.specs.State.{Text, get, State}
 use Rattle.rehearse_rules.specs.Parameters.{parameters_in}
 use Rattle.device_list.specs.Called.{Called, BuiltIn, NoCommand, Device, called_by, sets_in}
 use Rattle.commands.specs.BuiltInCommands.{ChangesVariables, WritesText, RunsTexts, Tests, Exits}
-use Rattle.rehearse_rules.specs.Execution.{Limits, Answer, Normal, Exit, Ended, Dry, Ending, CutDevices, CutSteps, Unknown, Size, go_on, set_status, set_local, status_when, goes, holds, begin, tell_or_take, told, told_again, logged, boot, set_environment, Booted, device, Request, test_effect, text_end, run_text, run_all, command, simple, sized, assign, turns, for_each}
+use Rattle.rehearse_rules.specs.Execution.{Limits, Answer, Normal, Exit, Ended, Dry, Ending, CutDevices, CutSteps, Unknown, Size, go_on, set_status, set_local, status_when, goes, holds, begin, tell_or_take, told, told_again, logged, boot, set_environment, Booted, device, Request, test_effect, text_end, run_text, run_all, command, simple, sized, assign, turns, for_each, Unsupported}
 use Rattle.rehearse_machine.specs.Frames.{Frame, Lists, Linked, IfCondition, LoopCondition, LoopBody, ForBody, RunNames, RunText, Next, Go, Stop, tell_or_ask, boot_next, leave, begin_assign, begin_for, begin_arms, begin_tree, begin_text, begin_names, begin_exit, fitting, ask, begin_called, begin_fields, counted, begin_command, move}
 use Rattle.rehearse_machine.specs.Came.{Over, Wants}
 use Rattle.rehearse_machine.specs.Meaning.{with, full, script, one, joined_of, arms_of, again, resume, continue, comes_to, AreProperFrames}
@@ -18,7 +18,7 @@ use Rattle.rehearse_rules.proofs.TakenOutcomes.{KeepsAll, after_condition, Keeps
 use Rattle.hushlang_old.proofs.TreeByShellLemmas.{trees_in_are_proper}
 use Rattle.rehearse_machine.proofs.BoundLemmas.{Cut-block}
 use Rattle.rehearse_machine.proofs.StepBoundLemmas.{same_go_on, same_if, closed_exec, same_turns}
-use Rattle.rehearse_rules.specs.ByShell.{unread, leaves_in, status_of_exit, asks_in, truth_in, fields_in, turns_in, skips_rest, status_of_loop}
+use Rattle.rehearse_rules.specs.ByShell.{unread, leaves_in, status_of_exit, asks_in, truth_in, fields_in, turns_in, skips_rest, status_of_loop, follows}
 use Rattle.rehearse_rules.proofs.TakenOutcomes.{skipped}
 
 module _ (limits : Limits) where
@@ -115,7 +115,7 @@ module _ (limits : Limits) where
 
     fields-is : (ws : List Text) (fs : List Frame) (s : State) → comes_to limits w (begin_fields limits ws fs s) ≡ continue limits fs (simple limits (full limits) ws (with w s))
     fields-is [] fs s = refl
-    fields-is (name ∷ ws) fs s = builtin-is (called_by limits.devices name ws) name ws fs s
+    fields-is (name ∷ ws) fs s = if-is (follows limits.shell limits.devices name ws) (begin_called limits (called_by limits.devices name ws) name ws fs s) (Stop (Unsupported name) s) fs (command limits (full limits) (called_by limits.devices name ws) name ws (with w s)) (Ended (Unsupported name) (with w s)) (builtin-is (called_by limits.devices name ws) name ws fs s) (sym (continue-ended fs (Unsupported name) (with w s)))
 
     counted-is : (next : State → Next) (f : State → Answer) (fs : List Frame) (s : State) → ((t : State) → comes_to limits w (next t) ≡ continue limits fs (f (with w t))) → comes_to limits w (counted limits next s) ≡ continue limits fs (begin limits f (with w s))
     counted-is next f fs s e = if-is (nat_lt s.steps limits.step_bound) (next (record s { steps = suc s.steps })) (Stop CutSteps s) fs (f (with w (record s { steps = suc s.steps }))) (Ended CutSteps (with w s)) (e (record s { steps = suc s.steps })) (sym (continue-ended fs CutSteps (with w s)))

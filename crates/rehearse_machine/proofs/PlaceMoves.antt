@@ -17,11 +17,11 @@ use Rattle.rehearse_terms.specs.State.{Text, get, State}
 use Rattle.rehearse_rules.specs.Parameters.{parameters_in}
 use Rattle.device_list.specs.Called.{Called, BuiltIn, NoCommand, Device, called_by, sets_in}
 use Rattle.commands.specs.BuiltInCommands.{ChangesVariables, WritesText, RunsTexts, Tests, Exits}
-use Rattle.rehearse_rules.specs.Execution.{begin_turn, Limits, End, CutDevices, CutSteps, Size, set_status, set_local, status_when, goes, holds, Request, test_effect, outcome_when, told, told_again, logged, set_environment}
+use Rattle.rehearse_rules.specs.Execution.{begin_turn, Limits, End, CutDevices, CutSteps, Size, set_status, set_local, status_when, goes, holds, Request, test_effect, outcome_when, told, told_again, logged, set_environment, Unsupported}
 use Rattle.rehearse_machine.specs.Frames.{Frame, Lists, Linked, IfCondition, LoopCondition, LoopBody, ForBody, Next, Go, Stop, leave, boot_next, answered, tell_or_ask, begin_assign, begin_for, begin_arms, begun_text, begin_tree, begin_text, begin_names, begin_exit, fitting, ask, begin_called, begin_fields, counted, begin_command, move}
 use Rattle.rehearse_machine.specs.Places.{list_at, drop_lists, joined_at, drop_joined, second, command_in, command_at, drop_arms, place, from_command, condition_frame, phase, from_turn, script_frames, for_frame, run_frame, frames_by, frames_of, PlaceNext, GoOn, StopOn, next_of, moved_to, behind, in_turn, text_frame, block_frame, is_run, to_run, left, place_exit, place_boot, place_answered, place_tell_or_ask, place_assign, place_tree, place_text, place_name, run_move, for_turn, for_move, for_begins, place_arms, condition_ends, phase_move, place_fitting, place_ask, place_called, place_fields, place_counted, place_command, place_joined, place_skipped, place_begins, place_turn, place_list, place_by, place_move, place_skipped}
 use Rattle.rehearse_machine.proofs.Beginnings.{chosen, passed}
-use Rattle.rehearse_rules.specs.ByShell.{leaves_in, status_of_exit, asks_in, truth_in, fields_in, turns_in, skips_rest, status_of_no_block, status_of_loop}
+use Rattle.rehearse_rules.specs.ByShell.{leaves_in, status_of_exit, asks_in, truth_in, fields_in, turns_in, skips_rest, status_of_no_block, status_of_loop, follows}
 
 -- ---- parts by their numbers
 
@@ -258,7 +258,7 @@ module _ (limits : Limits) where
 
   fields-is : (ws : List Text) (script : Script) (ps : List RunningFrame) (s : State) → next_of (place_fields limits ws script ps s) ≡ begin_fields limits ws (frames_of ps) s
   fields-is [] script ps s = refl
-  fields-is (name ∷ ws) script ps s = builtin-is (called_by limits.devices name ws) name ws script ps s
+  fields-is (name ∷ ws) script ps s = if_next (follows limits.shell limits.devices name ws) (place_called limits (called_by limits.devices name ws) name ws script ps s) (StopOn (Unsupported name) s) (begin_called limits (called_by limits.devices name ws) name ws (frames_of ps) s) (Stop (Unsupported name) s) (builtin-is (called_by limits.devices name ws) name ws script ps s) refl
 
   -- at a list of a script that is running
   module _ (f : RunningFrame) (fs : List RunningFrame) (list : AndOr) (at_list : list_at f.script f.place.list ≡ Some list) (scripted : (p : At) → frames_by f.kind (moved_to p f) ≡ script_frames (list_at f.script p.list) p (drop_lists (suc p.list) f.script)) where

@@ -8,13 +8,13 @@ use Rattle.rehearse_terms.specs.State.{Text, get, State}
 use Rattle.rehearse_rules.specs.Parameters.{parameters_in}
 use Rattle.device_list.specs.Called.{Called, BuiltIn, NoCommand, Device, called_by, sets_in}
 use Rattle.commands.specs.BuiltInCommands.{ChangesVariables, WritesText, RunsTexts, Tests, Exits}
-use Rattle.rehearse_rules.specs.Execution.{Limits, CutDevices, CutSteps, Size, set_status, set_local, status_when, goes, holds, Request, test_effect, told, told_again, logged, set_environment}
+use Rattle.rehearse_rules.specs.Execution.{Limits, CutDevices, CutSteps, Size, set_status, set_local, status_when, goes, holds, Request, test_effect, told, told_again, logged, set_environment, Unsupported}
 use Rattle.rehearse_terms.specs.Outcomes.{Success}
 use Rattle.rehearse_machine.specs.Frames.{Frame, Lists, Linked, IfCondition, LoopCondition, LoopBody, ForBody, RunNames, RunText, Next, Go, Stop, tell_or_ask, boot_next, leave, begin_assign, begin_for, begin_arms, begin_tree, begin_text, begin_names, begin_exit, fitting, ask, begin_called, begin_fields, begin_command, move}
 use Rattle.hushlang_old.proofs.TreeByShellLemmas.{trees_in_are_proper}
 use Rattle.rehearse_machine.proofs.StepBoundLemmas.{block_proper}
 use Rattle.rehearse_machine.specs.Meaning.{AreProperFrames, IsProperNext}
-use Rattle.rehearse_rules.specs.ByShell.{leaves_in, status_of_exit, asks_in, truth_in, fields_in, turns_in, skips_rest, status_of_loop}
+use Rattle.rehearse_rules.specs.ByShell.{leaves_in, status_of_exit, asks_in, truth_in, fields_in, turns_in, skips_rest, status_of_loop, follows}
 
 module _ (limits : Limits) where
   either : (b : Bool) (x y : Next) → IsProperNext x → IsProperNext y → IsProperNext (elim b [ true ↦ x | false ↦ y ])
@@ -72,7 +72,7 @@ module _ (limits : Limits) where
 
   fields-proper : (ws : List Text) (fs : List Frame) (s : State) → AreProperFrames fs → IsProperNext (begin_fields limits ws fs s)
   fields-proper [] fs s p = p
-  fields-proper (name ∷ ws) fs s p = builtin-proper (called_by limits.devices name ws) name ws fs s p
+  fields-proper (name ∷ ws) fs s p = either (follows limits.shell limits.devices name ws) (begin_called limits (called_by limits.devices name ws) name ws fs s) (Stop (Unsupported name) s) (builtin-proper (called_by limits.devices name ws) name ws fs s p) tt
 
   for-proper : (name : Text) (values : List Text) (body : Script) (fs : List Frame) (s : State) → HoldsCommand body → AreProperFrames fs → IsProperNext (begin_for name values body fs s)
   for-proper name [] body fs s q p = p

@@ -12,11 +12,11 @@ use Rattle.rehearse_terms.specs.Outcomes.{Outcome, Success, Failure}
 use Rattle.hushlang_old.specs.TreesByShell.{tree_in}
 use Rattle.rehearse_terms.specs.State.{Text, get, State}
 use Rattle.rehearse_terms.specs.declared.shell.Shell.{Shell}
-use Rattle.rehearse_rules.specs.ByShell.{unread, leaves_in, status_of_exit, asks_in, truth_in, fields_in, turns_in, skips_rest, status_of_nothing, status_of_no_block, status_of_loop}
+use Rattle.rehearse_rules.specs.ByShell.{unread, leaves_in, status_of_exit, asks_in, truth_in, fields_in, turns_in, skips_rest, status_of_nothing, status_of_no_block, status_of_loop, follows}
 use Rattle.rehearse_rules.specs.Parameters.{parameters_in}
 use Rattle.device_list.specs.Called.{Called, BuiltIn, NoCommand, Device, called_by, sets_in}
 use Rattle.commands.specs.BuiltInCommands.{ChangesVariables, WritesText, RunsTexts, Tests, Exits, variables_changed, text_written}
-use Rattle.rehearse_rules.specs.Execution.{Limits, Ending, End, CutDevices, CutSteps, Unknown, Size, Booted, remember, set_status, set_local, begin_turn, status_when, goes, holds, Request, test_effect, outcome_when, told, told_again, logged, set_environment}
+use Rattle.rehearse_rules.specs.Execution.{Limits, Ending, End, CutDevices, CutSteps, Unknown, Size, Booted, remember, set_status, set_local, begin_turn, status_when, goes, holds, Request, test_effect, outcome_when, told, told_again, logged, set_environment, Unsupported}
 use Rattle.rehearse_machine.specs.Frames.{Frame, Lists, Linked, IfCondition, LoopCondition, LoopBody, ForBody, RunNames, RunText, Next, Go, Ask, Stop, begun_text}
 
 -- ---- parts of a script by their numbers
@@ -291,7 +291,11 @@ module _ (limits : Limits) where
 
   abbrev pub place_fields : List Text → Script → List RunningFrame → State → PlaceNext
   place_fields [] script ps s = GoOn ps (set_status (status_of_nothing limits.shell s.memory.status) s)
-  place_fields (name ∷ ws) script ps s = place_called (called_by limits.devices name ws) name ws script ps s
+  place_fields (name ∷ ws) script ps s =
+      elim (follows limits.shell limits.devices name ws) [
+        | true ↦ place_called (called_by limits.devices name ws) name ws script ps s
+        | false ↦ StopOn (Unsupported name) s
+      ]
 
   abbrev pub place_counted : (State → PlaceNext) → State → PlaceNext
   place_counted next s =

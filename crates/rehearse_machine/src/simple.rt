@@ -1,6 +1,6 @@
 //! Simple commands.
 ghost use Rattle.std.specs.Prelude.{◌≡◌, ◌+◌, ◌<◌, ◌^◌, List, true, map, option_map};
-ghost use Rattle.builtins.specs.Builtins.{builtin_named};
+ghost use Rattle.builtins.specs.Builtins.{builtin_named, builtin_of};
 ghost use Rattle.builtins.specs.BuiltinsShown.{builtin_shown};
 ghost use Rattle.hushlang.specs.TreesShown as view;
 ghost use Rattle.hushlang.specs.Tree as tree;
@@ -21,7 +21,7 @@ ghost use Rattle.rehearse_machine.specs.CalledShown.{builtin_called};
 
 use crate::ask::Step;
 use crate::built_in::{echo, setenv};
-use crate::by_shell::{asks_in, leaves_in, status_of_exit, status_of_nothing, truth_in};
+use crate::by_shell::{asks_in, follows, leaves_in, status_of_exit, status_of_nothing, truth_in};
 use crate::computed::carry_out;
 use crate::frames::{behind, enter, finish, place};
 use crate::named::Named;
@@ -175,7 +175,32 @@ fn run_other<'d, S: Store>(
     }
 }
 
-/// Runs the command that fields name. `named` says what they name.
+/// Runs the command of a name. `named` says what the name names.
+fn run_called<'d, S: Store>(
+    alloc: Global,
+    store: &mut S,
+    script: &Rc<Script>,
+    devices: &'d Devices,
+    bounds: RunBounds,
+    named: Named,
+    name: &[u8],
+    words: &[Vec<u8>],
+) -> Result<Step<'d>, StoreError>
+    requires { option_map builtin_shown named.builtin ≡ builtin_of name.now }
+    ensures { Comes result (S.record_of store.old) (S.record_of store.new)
+        (place_called (limits_of devices.now bounds)
+        (called.called_by devices.now name.now (bytes_of_words words.now)) name.now
+        (bytes_of_words words.now) (view.script script.now.value)
+        (S.record_of store.old).present.frames) }
+{
+    match named.builtin {
+        Some(builtin) => run_builtin(alloc, store, script, devices, bounds, builtin, name, words),
+        None => run_other(alloc, store, devices, bounds, named.place, name, words),
+    }
+}
+
+/// Runs the command that fields name, if the shell's call of it is followed; else the run ends.
+/// `named` says what they name.
 pub(crate) fn run_fields<'d, S: Store>(
     alloc: Global,
     store: &mut S,
@@ -195,10 +220,10 @@ pub(crate) fn run_fields<'d, S: Store>(
         let status = status_of_nothing(bounds.shell(), store.get_status());
         return done(store, status);
     };
-    match named.builtin {
-        Some(builtin) => run_builtin(alloc, store, script, devices, bounds, builtin, name, words),
-        None => run_other(alloc, store, devices, bounds, named.place, name, words),
+    if !follows(bounds.shell(), devices, named.builtin, name, words) {
+        return Ok(Step::Ends(Halt::Unsupported(Vec::from_slice(alloc, name)?)));
     }
+    run_called(alloc, store, script, devices, bounds, named, name, words)
 }
 
 /// Begins a step for a simple command whose fields were found, moves its frame to the place after

@@ -9,8 +9,8 @@ use Rattle.rehearse_terms.specs.State.{Text, get, State, start}
 use Rattle.rehearse_rules.specs.Parameters.{parameters_in}
 use Rattle.device_list.specs.Called.{Called, BuiltIn, Device, NoCommand, called_by, sets_in}
 use Rattle.commands.specs.BuiltInCommands.{ChangesVariables, WritesText, RunsTexts, Tests, Exits}
-use Rattle.rehearse_rules.specs.ByShell.{unread, leaves_in, status_of_exit, asks_in, truth_in, fields_in, turns_in, skips_rest, status_of_loop}
-use Rattle.rehearse_rules.specs.Execution.{Limits, Answer, Normal, Exit, Ended, Dry, Ending, CutDevices, CutSteps, Size, go_on, set_status, set_local, status_when, goes, holds, begin, take_outcome, with_outcome, outcome_when, told, told_again, tell_or_take, device, Request, test_effect, logged, set_environment, boot, text_end, run_text, run_all, command, simple, sized, assign, turns, begin_turn, for_each, exec_script, exec_list, exec_joined, exec_command, exec_arms, exec}
+use Rattle.rehearse_rules.specs.ByShell.{unread, leaves_in, status_of_exit, asks_in, truth_in, fields_in, turns_in, skips_rest, status_of_loop, follows}
+use Rattle.rehearse_rules.specs.Execution.{Limits, Answer, Normal, Exit, Ended, Dry, Ending, CutDevices, CutSteps, Size, go_on, set_status, set_local, status_when, goes, holds, begin, take_outcome, with_outcome, outcome_when, told, told_again, tell_or_take, device, Request, test_effect, logged, set_environment, boot, text_end, run_text, run_all, command, simple, sized, assign, turns, begin_turn, for_each, exec_script, exec_list, exec_joined, exec_command, exec_arms, exec, Unsupported}
 use Rattle.rehearse_rules.specs.Runs.{Task, run_on, state_of, steps}
 use Rattle.hushlang_old.proofs.TreeByShellLemmas.{trees_in_are_proper}
 use Rattle.rehearse_terms.specs.declared.shell.Shell.{Shell}
@@ -133,7 +133,7 @@ module _ (limits : Limits) where
 
     simple-ends : (fs : List Text) (t : State) → IsWithin t → limits.step_bound < n + t.steps → Ends (simple limits script fs t)
     simple-ends [] t h r = h
-    simple-ends (name ∷ ws) t h r = command-ends (called_by limits.devices name ws) name ws t h r
+    simple-ends (name ∷ ws) t h r = Ends-if (follows limits.shell limits.devices name ws) (command limits script (called_by limits.devices name ws) name ws t) (Ended (Unsupported name) t) (λ e. command-ends (called_by limits.devices name ws) name ws t h r) (λ e. (h, tt))
 
   -- over the tree, with n steps left
   module _ (n : ℕ) (text : Script → State → Answer) (kept : (a : Script) → KeepsAll limits (text a)) (ends : (a : Script) → IsProper a → (t : State) → IsWithin t → limits.step_bound < n + t.steps → Ends (text a t)) where

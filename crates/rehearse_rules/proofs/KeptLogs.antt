@@ -9,8 +9,8 @@ use Rattle.device_list.specs.Called.{Called, BuiltIn, Device, NoCommand, called_
 use Rattle.commands.specs.BuiltInCommands.{ChangesVariables, WritesText, RunsTexts, Tests, Exits, carried, deed_of}
 use Rattle.device_list.specs.DeviceList.{Effect, computed_by, effect_of}
 use Rattle.rehearse_rules.proofs.TakenOutcomes.{skipped}
-use Rattle.rehearse_rules.specs.ByShell.{unread, leaves_in, status_of_exit, asks_in, truth_in, fields_in, turns_in, skips_rest, status_of_loop}
-use Rattle.rehearse_rules.specs.Execution.{Limits, Answer, Normal, Exit, Ended, Dry, CutSteps, Size, Request, go_on, set_status, set_local, status_when, goes, holds, begin, device, test_effect, text_end, run_text, run_all, command, simple, sized, assign, turns, begin_turn, for_each, exec_script, exec_list, exec_joined, exec_command, exec_arms, exec}
+use Rattle.rehearse_rules.specs.ByShell.{unread, leaves_in, status_of_exit, asks_in, truth_in, fields_in, turns_in, skips_rest, status_of_loop, follows}
+use Rattle.rehearse_rules.specs.Execution.{Limits, Answer, Normal, Exit, Ended, Dry, CutSteps, Size, Request, go_on, set_status, set_local, status_when, goes, holds, begin, device, test_effect, text_end, run_text, run_all, command, simple, sized, assign, turns, begin_turn, for_each, exec_script, exec_list, exec_joined, exec_command, exec_arms, exec, Unsupported}
 use Rattle.rehearse_rules.specs.Runs.{state_of}
 use Rattle.rehearse_terms.specs.State.{Text, get, LoggedCommand, State}
 use Rattle.rehearse_rules.specs.Parameters.{parameters_in}
@@ -107,7 +107,9 @@ module _ (P : List LoggedCommand → Type 0) where
 
       keeps-simple : (fs : List Text) → KeepsLog (simple limits script fs)
       keeps-simple [] s h = h
-      keeps-simple (name ∷ words) s h = keeps-command (called_by limits.devices name words) name words (called_allowed name words) s h
+      keeps-simple (name ∷ words) s h =
+          keeps-if (follows limits.shell limits.devices name words) (command limits script (called_by limits.devices name words) name words s) (Ended (Unsupported name) s)
+          (keeps-command (called_by limits.devices name words) name words (called_allowed name words) s h) h
 
     -- ---- the tree
 

@@ -11,8 +11,8 @@ use Rattle.hushlang.specs.Expansion.{joined, size, most_bytes}
 use Rattle.hushlang_old.specs.TreesByShell.{tree_in}
 use Rattle.device_list.specs.Called.{Called, BuiltIn, Device, NoCommand, called_by, sets_in}
 use Rattle.commands.specs.BuiltInCommands.{ChangesVariables, WritesText, RunsTexts, Tests, Exits, variables_changed, text_written}
-use Rattle.rehearse_rules.specs.ByShell.{unread, leaves_in, status_of_exit, asks_in, truth_in, fields_in, turns_in, skips_rest, status_of_nothing, status_of_no_block, status_of_loop}
-use Rattle.rehearse_rules.specs.Execution.{Limits, Answer, Normal, Exit, Ended, Dry, Ending, CutDevices, CutSteps, Unknown, Size, go_on, remember, set_status, set_local, status_when, goes, holds, begin, take_outcome, with_outcome, outcome_when, told, told_again, tell_or_take, device, Request, test_effect, logged, set_environment, boot, text_end, run_text, run_all, command, simple, sized, assign, turns, begin_turn, for_each, exec_script, exec_list, exec_joined, exec_command, exec_arms, exec, succeeds}
+use Rattle.rehearse_rules.specs.ByShell.{unread, leaves_in, status_of_exit, asks_in, truth_in, fields_in, turns_in, skips_rest, status_of_nothing, status_of_no_block, status_of_loop, follows}
+use Rattle.rehearse_rules.specs.Execution.{Limits, Answer, Normal, Exit, Ended, Dry, Ending, CutDevices, CutSteps, Unknown, Size, go_on, remember, set_status, set_local, status_when, goes, holds, begin, take_outcome, with_outcome, outcome_when, told, told_again, tell_or_take, device, Request, test_effect, logged, set_environment, boot, text_end, run_text, run_all, command, simple, sized, assign, turns, begin_turn, for_each, exec_script, exec_list, exec_joined, exec_command, exec_arms, exec, succeeds, Unsupported}
 use Rattle.rehearse_rules.specs.Runs.{state_of}
 
 -- the state with these outcomes after its own
@@ -291,7 +291,7 @@ module _ (limits : Limits) where
 
     pub Keeps-simple : (fs : List Text) → KeepsAll (simple limits script fs)
     Keeps-simple [] s = Keeps-normal limits.device_bound s (λ m. record m { status = status_of_nothing limits.shell m.status })
-    Keeps-simple (name ∷ ws) s = Keeps-command (called_by limits.devices name ws) name ws s
+    Keeps-simple (name ∷ ws) s = Keeps-if limits.device_bound s (follows limits.shell limits.devices name ws) (command limits script (called_by limits.devices name ws) name ws) (Ended (Unsupported name)) (Keeps-command (called_by limits.devices name ws) name ws s) (Keeps-ended limits.device_bound s (Unsupported name))
 
   -- what a turn of a loop does after its condition
   abbrev pub after_condition : Bool → (State → Answer) → (State → Answer) → ℕ → State → Answer

@@ -12,7 +12,7 @@ use Rattle.rehearse_terms.specs.State.{Text, Variables, get, with_value, Memory,
 use Rattle.rehearse_terms.specs.declared.shell.Shell.{Shell}
 pub use Rattle.rehearse_rules.specs.Ending.{Ending, End, CutDevices, CutSteps, Unknown, Syntax, Unsupported, Size, Booted}
 use Rattle.rehearse_rules.specs.Parameters.{parameters_in}
-use Rattle.rehearse_rules.specs.ByShell.{unread, leaves_in, status_of_exit, asks_in, truth_in, fields_in, turns_in, skips_rest, status_of_nothing, status_of_no_block, status_of_loop, status_in_turn}
+use Rattle.rehearse_rules.specs.ByShell.{unread, leaves_in, status_of_exit, asks_in, truth_in, fields_in, turns_in, skips_rest, status_of_nothing, status_of_no_block, status_of_loop, status_in_turn, follows}
 use Rattle.device_list.specs.DeviceList.{Effect, Devices}
 use Rattle.device_list.specs.Called.{Called, BuiltIn, NoCommand, Device, called_by, sets_in}
 use Rattle.commands.specs.BuiltInCommands.{ChangesVariables, WritesText, RunsTexts, Tests, Exits, variables_changed, text_written}
@@ -239,7 +239,11 @@ module _ (limits : Limits) where
   -- words that expand to no field do nothing
   abbrev pub simple : (script : Script → State → Answer) → List Text → State → Answer
   simple script [] s = Normal (set_status (status_of_nothing limits.shell s.memory.status) s)
-  simple script (name ∷ words) s = command script (called_by limits.devices name words) name words s
+  simple script (name ∷ words) s =
+      elim (follows limits.shell limits.devices name words) [
+        | true ↦ command script (called_by limits.devices name words) name words s
+        | false ↦ Ended (Unsupported name) s
+      ]
 
   -- over the tree, with this many steps left; `text` is what the texts do that `run` starts
   module _ (left : ℕ) (text : Script → State → Answer) where
