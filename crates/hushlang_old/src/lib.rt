@@ -16,3 +16,4 @@ mod word_bytes;
 pub use old_trees::read_old;
 pub use old_words::{old_fields, old_turns};
 pub use trees_by_shell::read_text;
+pub use word_bytes::inserted;

@@ -57,7 +57,7 @@ fn newlines_to_spaces(alloc: Global, bytes: &[u8]) -> Result<Vec<u8>, AllocError
 }
 
 /// All bytes of a word; if it has a variable, each newline in it is a space then.
-pub(crate) fn inserted<V: Vars>(alloc: Global, word: &Word, vars: &V) -> Result<Vec<u8>, AllocError>
+pub fn inserted<V: Vars>(alloc: Global, word: &Word, vars: &V) -> Result<Vec<u8>, AllocError>
     ensures { IfOk result (λ bytes.
         bytes.items ≡ says.inserted (V.parameters vars.now) (view.word word.now)) }
 {

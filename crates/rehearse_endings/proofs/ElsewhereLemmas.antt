@@ -12,8 +12,8 @@ use Rattle.hushlang.specs.Expansion.{joined, size, most_bytes}
 use Rattle.hushlang_old.specs.TreesByShell.{tree_in}
 use Rattle.device_list.specs.Called.{Called, BuiltIn, Device, NoCommand, called_by, sets_in}
 use Rattle.commands.specs.BuiltInCommands.{ChangesVariables, WritesText, RunsTexts, Tests, Exits, variables_changed, text_written}
-use Rattle.rehearse_rules.specs.ByShell.{unread, leaves_in, status_of_exit, asks_in, truth_in, fields_in, turns_in, skips_rest, status_of_nothing, status_of_no_block, status_of_loop, status_in_turn, follows}
-use Rattle.rehearse_rules.specs.Execution.{begin_turn, Limits, Answer, Normal, Exit, Ended, Dry, Ending, CutDevices, CutSteps, Unknown, Size, go_on, remember, set_status, set_local, status_when, goes, holds, begin, take_outcome, with_outcome, outcome_when, succeeds, told, told_again, tell_or_take, device, Request, test_effect, logged, set_environment, boot, text_end, run_text, run_all, command, simple, sized, assign, turns, for_each, exec_script, exec_list, exec_joined, exec_command, exec_arms, exec, Unsupported}
+use Rattle.rehearse_rules.specs.ByShell.{unread, leaves_in, status_of_exit, asks_in, truth_in, fields_in, turns_in, skips_rest, status_of_nothing, status_of_no_block, status_of_loop, status_in_turn, follows, assigned_in, locals_in}
+use Rattle.rehearse_rules.specs.Execution.{begin_turn, Limits, Answer, Normal, Exit, Ended, Dry, Ending, CutDevices, CutSteps, Unknown, Size, go_on, remember, set_status, set_local, status_when, goes, holds, begin, take_outcome, with_outcome, outcome_when, succeeds, told, told_again, tell_or_take, device, Request, test_effect, logged, set_environment, boot, text_end, run_text, run_all, command, simple, sized, assign, turns, for_each, exec_script, exec_list, exec_joined, exec_command, exec_arms, exec, Unsupported, assign_local}
 use Rattle.rehearse_rules.specs.Runs.{state_of}
 use Rattle.rehearse_rules.proofs.TakenOutcomes.{skipped, Track-of, KeepsAll, Keeps-script, Keeps-joined, Keeps-arms, Keeps-exec, Keeps-run, Keeps-turns, Keeps-for, Keeps-if, Keeps-stays, after_condition, Keeps-after_condition, Keeps-ended, Keeps-simple, Keeps-sized, Keeps-assign}
 use Rattle.rehearse_endings.specs.Elsewhere.{elsewhere, devices_of, HaveFurther, AreApart, IsBeyond, IsAlike, same, cut_here, beyond, Alike}
@@ -249,12 +249,12 @@ module _ (limits : Limits) (i j : ℕ) (k l : List LoggedCommand) where
   pub Alike-sized : (fs : List Text) (f : List Text → State → Answer) → ((gs : List Text) → AlwaysDoes (f gs)) → AlwaysDoes (sized fs f)
   Alike-sized fs f h s = Alike-if s (nat_le (size fs) most_bytes) (f fs) (Ended Size) (h fs s) (Alike-ended s Size)
 
-  pub Alike-assign : (pairs : List (Text × tree.Word)) → AlwaysDoes (assign pairs)
+  pub Alike-assign : (pairs : List (Text × tree.Word)) → AlwaysDoes (assign limits.shell pairs)
   Alike-assign [] s = Alike-normal s (λ m. record m { status = 0 }) (reaches_status 0 s.memory)
   Alike-assign (pair ∷ pairs) s =
-      let value : Text = joined (parameters_in s.memory) pair.1 in
-      Alike-if s (nat_le (length value) most_bytes) (λ t. assign pairs (set_local pair.0 value t)) (Ended Size)
-      (Alike-remember s (λ m. record m { locals = with_value m.locals pair.0 value }) (assign pairs) (λ text. (text, refl)) (Alike-assign pairs (set_local pair.0 value s)))
+      let value : Text = assigned_in limits.shell (parameters_in s.memory) pair.1 in
+      Alike-if s (nat_le (length value) most_bytes) (λ t. assign limits.shell pairs (assign_local limits.shell pair.0 value t)) (Ended Size)
+      (Alike-remember s (λ m. record m { locals = locals_in limits.shell pair.0 value m.locals }) (assign limits.shell pairs) (λ text. (text, refl)) (Alike-assign pairs (assign_local limits.shell pair.0 value s)))
       (Alike-ended s Size)
 
   -- a `run`, if each script is alike
@@ -327,7 +327,7 @@ module _ (limits : Limits) (i j : ℕ) (k l : List LoggedCommand) where
 
       pub Alike-one : (a : Command) → AlwaysDoes (exec_command limits left text a)
       Alike-one (tree.Simple words) s = Alike-begin (λ t. sized (fields_in limits.shell (parameters_in t.memory) words) (simple limits text) t) (λ t. Alike-sized (fields_in limits.shell (parameters_in t.memory) words) (simple limits text) (Alike-simple text kept does) t) (λ t. Keeps-sized limits (fields_in limits.shell (parameters_in t.memory) words) (simple limits text) (Keeps-simple limits text kept) t) s
-      Alike-one (tree.Assign pairs) s = Alike-begin (assign pairs) (Alike-assign pairs) (Keeps-assign limits pairs) s
+      Alike-one (tree.Assign pairs) s = Alike-begin (assign limits.shell pairs) (Alike-assign pairs) (Keeps-assign limits pairs) s
       Alike-one (tree.If arms) s = Alike-arms arms s
       Alike-one (tree.Loop until c b) s = Alike-turns left until (exec_script limits left text c) (exec_script limits left text b) (Alike-script c) (Alike-script b) (Keeps-script limits left text kept c) (Keeps-script limits left text kept b) 0 s
       Alike-one (tree.For name words b) s = Alike-begin (λ t. sized (turns_in limits.shell (parameters_in t.memory) words) (for_each limits.shell name (exec_script limits left text b) 0) t) (λ t. Alike-sized (turns_in limits.shell (parameters_in t.memory) words) (for_each limits.shell name (exec_script limits left text b) 0) (λ fs. Alike-for name (exec_script limits left text b) (Alike-script b) (Keeps-script limits left text kept b) 0 fs) t) (λ t. Keeps-sized limits (turns_in limits.shell (parameters_in t.memory) words) (for_each limits.shell name (exec_script limits left text b) 0) (λ fs. Keeps-for limits name (exec_script limits left text b) (Keeps-script limits left text kept b) 0 fs) t) s

@@ -67,7 +67,7 @@ unfolding told_of
 comment_in_a_value = refl
 
 -- a single quote that is not closed: the command is not run, and the status stays
-open_quote_in_a_value : in_each (codes "x=\"it's\"; false; echo $x; echo $?") ≡ (codes "it's\n0\n", End 0) ∷ (codes "1\n", End 0) ∷ (codes "1\n", End 0) ∷ []
+open_quote_in_a_value : in_each (codes "x=it\\'s; false; echo $x; echo $?") ≡ (codes "it's\n0\n", End 0) ∷ (codes "1\n", End 0) ∷ (codes "1\n", End 0) ∷ []
 unfolding told_of
 open_quote_in_a_value = refl
 
@@ -99,19 +99,62 @@ unread_text : in_each (codes "if true; then") ≡ ([], Syntax (codes "bootcmd"))
 unfolding told_of
 unread_text = refl
 
--- `exit` ends nothing in 2023.01, and its status says whether its number is 0
-exit_with_a_number : in_each (codes "exit 3; echo $?") ≡ ([], End 3) ∷ (codes "1\n", End 0) ∷ ([], End 3) ∷ []
+-- `exit` ends nothing in 2023.01, and its status says whether its number is 0. That of 2025.01 is not followed
+exit_with_a_number : in_each (codes "exit 3; echo $?") ≡ ([], End 3) ∷ (codes "1\n", End 0) ∷ ([], Unsupported (codes "exit")) ∷ []
 unfolding told_of
 exit_with_a_number = refl
 
-exit_without_a_word : in_each (codes "false; exit; echo $?") ≡ ([], End 0) ∷ (codes "0\n", End 0) ∷ ([], End 0) ∷ []
+exit_without_a_word : in_each (codes "false; exit; echo $?") ≡ ([], End 0) ∷ (codes "0\n", End 0) ∷ ([], Unsupported (codes "exit")) ∷ []
 unfolding told_of
 exit_without_a_word = refl
 
-exit_with_a_name : in_each (codes "exit x; echo $?") ≡ (codes "1\n", End 0) ∷ (codes "0\n", End 0) ∷ (codes "1\n", End 0) ∷ []
+exit_with_a_name : in_each (codes "exit x; echo $?") ≡ (codes "1\n", End 0) ∷ (codes "0\n", End 0) ∷ ([], Unsupported (codes "exit")) ∷ []
 unfolding told_of
 exit_with_a_name = refl
 
 exit_numbers : in_shell (codes "exit 0x0; echo $?; exit 0X10; echo $?; exit 4294967296; echo $?; exit 010; echo $?; exit 0 0; echo $?") Old2023 ≡ (codes "0\n1\n0\n1\n1\n", End 0)
 unfolding told_of
 exit_numbers = refl
+
+-- an assignment of an empty value changes nothing in 2023.01
+empty_value : in_each (codes "x=a; x=; echo $?$x; x=$none; echo $?$x") ≡ (codes "0\n0\n", End 0) ∷ (codes "0a\n0a\n", End 0) ∷ (codes "0\n0\n", End 0) ∷ []
+unfolding told_of
+empty_value = refl
+
+-- calls that are not followed: an option of `setenv`, an empty name, a file among other words of `test`, more than 16 words
+option_of_setenv : in_each (codes "echo a; setenv -f b c; echo $?") ≡ (codes "a\n1\n", End 0) ∷ (codes "a\n", Unsupported (codes "setenv")) ∷ (codes "a\n", Unsupported (codes "setenv")) ∷ []
+unfolding told_of
+option_of_setenv = refl
+
+empty_name_of_setenv : in_each (codes "setenv \"\" c; echo $?") ≡ (codes "1\n", End 0) ∷ ([], Unsupported (codes "setenv")) ∷ ([], Unsupported (codes "setenv")) ∷ []
+unfolding told_of
+empty_name_of_setenv = refl
+
+file_among_words : in_each (codes "test ! -e mmc 0:1 /a; echo $?") ≡ (codes "1\n", End 0) ∷ ([], Unsupported (codes "test")) ∷ ([], Unsupported (codes "test")) ∷ []
+unfolding told_of
+file_among_words = refl
+
+many_words : in_each (codes "echo 1 2 3 4 5 6 7 8 9 a b c d e f; echo 1 2 3 4 5 6 7 8 9 a b c d e f g") ≡ (codes "1 2 3 4 5 6 7 8 9 a b c d e f\n1 2 3 4 5 6 7 8 9 a b c d e f g\n", End 0)
+    ∷ (codes "1 2 3 4 5 6 7 8 9 a b c d e f\n", Unsupported (codes "echo")) ∷ (codes "1 2 3 4 5 6 7 8 9 a b c d e f\n", Unsupported (codes "echo")) ∷ []
+unfolding told_of
+many_words = refl
+
+-- a call of 16 words and fewer, and `setenv` with a name, are made
+plain_calls : in_each (codes "setenv a -f; test -e mmc 0:1; echo $a $?") ≡ (codes "-f 1\n", End 0) ∷ (codes "-f 0\n", End 0) ∷ (codes "-f 0\n", End 0) ∷ []
+unfolding told_of
+plain_calls = refl
+
+-- blocks without a command, and a comment alone
+blocks_of_nothing : in_each (codes "if true; then # a\nelse; fi; echo $?") ≡ ([], Syntax (codes "bootcmd")) ∷ (codes "0\n", End 0) ∷ (codes "0\n", End 0) ∷ []
+unfolding told_of
+blocks_of_nothing = refl
+
+-- an operator at the end of a line does nothing
+operator_at_the_end : in_each (codes "false &&\necho a") ≡ ([], End 1) ∷ (codes "a\n", End 0) ∷ (codes "a\n", End 0) ∷ []
+unfolding told_of
+operator_at_the_end = refl
+
+-- an assignment in front of a command is made, and then the command runs
+assignment_in_front : in_each (codes "x=1 echo a; echo $x") ≡ ([], Syntax (codes "bootcmd")) ∷ (codes "a\n1\n", End 0) ∷ (codes "a\n1\n", End 0) ∷ []
+unfolding told_of
+assignment_in_front = refl

@@ -13,11 +13,11 @@ use Rattle.rehearse_terms.specs.State.{Text, get, State}
 use Rattle.rehearse_rules.specs.Parameters.{parameters_in}
 use Rattle.device_list.specs.Called.{Called, BuiltIn, NoCommand, Device, called_by, sets_in}
 use Rattle.commands.specs.BuiltInCommands.{ChangesVariables, WritesText, RunsTexts, Tests, Exits}
-use Rattle.rehearse_rules.specs.Execution.{Limits, CutDevices, CutSteps, Size, set_status, set_local, status_when, goes, holds, Request, test_effect, told, told_again, logged, set_environment, Unsupported}
+use Rattle.rehearse_rules.specs.Execution.{Limits, CutDevices, CutSteps, Size, set_status, set_local, status_when, goes, holds, Request, test_effect, told, told_again, logged, set_environment, Unsupported, assign_local}
 use Rattle.rehearse_terms.specs.Outcomes.{Success}
 use Rattle.rehearse_machine.specs.Places.{PlaceNext, GoOn, AskOn, StopOn, list_at, joined_at, second, command_in, command_at, drop_arms, block_frame, behind, in_turn, left, to_run, place_exit, place_boot, place_tell_or_ask, place_assign, place_tree, place_text, place_name, run_move, for_turn, for_move, for_begins, place_arms, condition_ends, phase_move, place_fitting, place_ask, place_called, place_fields, place_counted, place_command, place_joined, place_begins, place_turn, place_list, place_by, place_move, place_skipped, moved_to, place}
 use Rattle.rehearse_machine.specs.AskingCommand.{words_of, fields_again, found_again, AsksAgain}
-use Rattle.rehearse_rules.specs.ByShell.{leaves_in, status_of_exit, asks_in, truth_in, fields_in, turns_in, status_of_loop, skips_rest, follows}
+use Rattle.rehearse_rules.specs.ByShell.{leaves_in, status_of_exit, asks_in, truth_in, fields_in, turns_in, status_of_loop, skips_rest, follows, assigned_in}
 
 -- a command that asks does so with these frames, in this state
 abbrev AsksHere : List RunningFrame → State → PlaceNext → Type 0
@@ -94,11 +94,11 @@ module _ (limits : Limits) where
 
   -- ---- what never asks
 
-  assign_never : (pairs : List (Text × tree.Word)) (ps : List RunningFrame) (s : State) → NeverAsks (place_assign pairs ps s)
+  assign_never : (pairs : List (Text × tree.Word)) (ps : List RunningFrame) (s : State) → NeverAsks (place_assign limits.shell pairs ps s)
   assign_never [] ps s = tt
   assign_never (pair ∷ pairs) ps s =
-      let value : Text = joined (parameters_in s.memory) pair.1 in
-      either_never (nat_le (length value) most_bytes) (place_assign pairs ps (set_local pair.0 value s)) (StopOn Size s) (assign_never pairs ps (set_local pair.0 value s)) tt
+      let value : Text = assigned_in limits.shell (parameters_in s.memory) pair.1 in
+      either_never (nat_le (length value) most_bytes) (place_assign limits.shell pairs ps (assign_local limits.shell pair.0 value s)) (StopOn Size s) (assign_never pairs ps (assign_local limits.shell pair.0 value s)) tt
 
   for_never : (fs : List Text) (f : RunningFrame) (ps : List RunningFrame) (s : State) → NeverAsks (for_begins fs f ps s)
   for_never [] f ps s = tt
@@ -175,7 +175,7 @@ module _ (limits : Limits) where
 
     command_again : (c : Command) (s : State) → command_at (list_at f.script f.place.list) f.place.command ≡ Some c → AsksAgain limits (place_command limits c f fs s)
     command_again (tree.Simple words) s e = simple_again words s e
-    command_again (tree.Assign pairs) s e = never_again (place_command limits (tree.Assign pairs) f fs s) (counted_never (place_assign pairs (behind f ∷ fs)) s (assign_never pairs (behind f ∷ fs) (record s { steps = suc s.steps })))
+    command_again (tree.Assign pairs) s e = never_again (place_command limits (tree.Assign pairs) f fs s) (counted_never (place_assign limits.shell pairs (behind f ∷ fs)) s (assign_never pairs (behind f ∷ fs) (record s { steps = suc s.steps })))
     command_again (tree.If arms) s e = never_again (place_arms limits.shell arms 0 f fs s) (arms_never arms 0 f fs s)
     command_again (tree.Loop until c b) s e = tt
     command_again (tree.For name words body) s e =

@@ -18,7 +18,7 @@ module _ (limits : Limits) (left : ℕ) (text : Script → State → Answer) whe
   mutual
     pub Cut-command : (a : Command) → IsProperCommand a → (s : State) → limits.step_bound ≤ s.steps → exec_command limits left text a s ≡ Ended CutSteps s
     Cut-command (tree.Simple words) p s h = Cut-begin s (λ t. sized (fields_in limits.shell (parameters_in t.memory) words) (simple limits text) t) h
-    Cut-command (tree.Assign pairs) p s h = Cut-begin s (assign pairs) h
+    Cut-command (tree.Assign pairs) p s h = Cut-begin s (assign limits.shell pairs) h
     Cut-command (tree.If arms) p s h = Cut-if arms p s h
     Cut-command (tree.Loop until c b) p s h = Cut-turns left until (exec_script limits left text c) (exec_script limits left text b) 0 s (Cut-block c p.0 s h)
     Cut-command (tree.For name words b) p s h = Cut-begin s (λ t. sized (turns_in limits.shell (parameters_in t.memory) words) (for_each limits.shell name (exec_script limits left text b) 0) t) h

@@ -9,7 +9,7 @@ use Rattle.rehearse_terms.specs.State.{Text, get, State}
 use Rattle.rehearse_rules.specs.Parameters.{parameters_in}
 use Rattle.device_list.specs.Called.{Called, BuiltIn, NoCommand, Device, called_by, sets_in}
 use Rattle.commands.specs.BuiltInCommands.{ChangesVariables, WritesText, RunsTexts, Tests, Exits}
-use Rattle.rehearse_rules.specs.Execution.{Limits, Answer, Normal, Exit, Ended, Dry, Ending, CutDevices, CutSteps, Unknown, Size, go_on, set_status, set_local, status_when, goes, holds, begin, tell_or_take, told, told_again, logged, boot, set_environment, Booted, device, Request, test_effect, text_end, run_text, run_all, command, simple, sized, assign, turns, for_each, Unsupported}
+use Rattle.rehearse_rules.specs.Execution.{Limits, Answer, Normal, Exit, Ended, Dry, Ending, CutDevices, CutSteps, Unknown, Size, go_on, set_status, set_local, status_when, goes, holds, begin, tell_or_take, told, told_again, logged, boot, set_environment, Booted, device, Request, test_effect, text_end, run_text, run_all, command, simple, sized, assign, turns, for_each, Unsupported, assign_local}
 use Rattle.rehearse_machine.specs.Frames.{Frame, Lists, Linked, IfCondition, LoopCondition, LoopBody, ForBody, RunNames, RunText, Next, Go, Stop, tell_or_ask, boot_next, leave, begin_assign, begin_for, begin_arms, begin_tree, begin_text, begin_names, begin_exit, fitting, ask, begin_called, begin_fields, counted, begin_command, move}
 use Rattle.rehearse_machine.specs.Came.{Over, Wants}
 use Rattle.rehearse_machine.specs.Meaning.{with, full, script, one, joined_of, arms_of, again, resume, continue, comes_to, AreProperFrames}
@@ -18,7 +18,7 @@ use Rattle.rehearse_rules.proofs.TakenOutcomes.{KeepsAll, after_condition, Keeps
 use Rattle.hushlang_old.proofs.TreeByShellLemmas.{trees_in_are_proper}
 use Rattle.rehearse_machine.proofs.BoundLemmas.{Cut-block}
 use Rattle.rehearse_machine.proofs.StepBoundLemmas.{same_go_on, same_if, closed_exec, same_turns}
-use Rattle.rehearse_rules.specs.ByShell.{unread, leaves_in, status_of_exit, asks_in, truth_in, fields_in, turns_in, skips_rest, status_of_loop, follows}
+use Rattle.rehearse_rules.specs.ByShell.{unread, leaves_in, status_of_exit, asks_in, truth_in, fields_in, turns_in, skips_rest, status_of_loop, follows, assigned_in}
 use Rattle.rehearse_rules.proofs.TakenOutcomes.{skipped}
 
 module _ (limits : Limits) where
@@ -67,11 +67,11 @@ module _ (limits : Limits) where
     if-is true x y fs u v e k = e
     if-is false x y fs u v e k = k
 
-    assign-is : (pairs : List (Text × tree.Word)) (fs : List Frame) (s : State) → comes_to limits w (begin_assign pairs fs s) ≡ continue limits fs (assign pairs (with w s))
+    assign-is : (pairs : List (Text × tree.Word)) (fs : List Frame) (s : State) → comes_to limits w (begin_assign limits.shell pairs fs s) ≡ continue limits fs (assign limits.shell pairs (with w s))
     assign-is [] fs s = refl
     assign-is (pair ∷ pairs) fs s =
-        let value : Text = joined (parameters_in s.memory) pair.1 in
-        if-is (nat_le (length value) most_bytes) (begin_assign pairs fs (set_local pair.0 value s)) (Stop Size s) fs (assign pairs (set_local pair.0 value (with w s))) (Ended Size (with w s)) (assign-is pairs fs (set_local pair.0 value s)) (sym (continue-ended fs Size (with w s)))
+        let value : Text = assigned_in limits.shell (parameters_in s.memory) pair.1 in
+        if-is (nat_le (length value) most_bytes) (begin_assign limits.shell pairs fs (assign_local limits.shell pair.0 value s)) (Stop Size s) fs (assign limits.shell pairs (assign_local limits.shell pair.0 value (with w s))) (Ended Size (with w s)) (assign-is pairs fs (assign_local limits.shell pair.0 value s)) (sym (continue-ended fs Size (with w s)))
 
     tree-is : (o : Option Script) (name : Text) (names : List Text) (fs : List Frame) (s : State) → ((t : Script) → o ≡ Some t → IsProper t) → comes_to limits w (begin_tree limits.shell o name names fs s) ≡ continue limits fs (text_end (elim o [ None ↦ Ended (unread limits.shell name) (with w s) | Some a ↦ full limits a (elim a [ tree.Empty ↦ set_status 0 (with w s) | tree.Runs l ls ↦ with w s ]) ]) (run_all limits (full limits) names))
     tree-is None name names fs s p = sym (continue-ended fs (unread limits.shell name) (with w s))
@@ -154,7 +154,7 @@ module _ (limits : Limits) where
 
     command-is : (c : Command) → IsProperCommand c → (fs : List Frame) (s : State) → comes_to limits w (begin_command limits c fs s) ≡ continue limits fs (one limits c (with w s))
     command-is (tree.Simple words) p fs s = counted-is (λ t. fitting (fields_in limits.shell (parameters_in t.memory) words) (λ f. begin_fields limits f fs) t) (λ t. sized (fields_in limits.shell (parameters_in t.memory) words) (simple limits (full limits)) t) fs s (λ t. fitting-is (fields_in limits.shell (parameters_in t.memory) words) (λ f. begin_fields limits f fs) (simple limits (full limits)) fs t (fields-is (fields_in limits.shell (parameters_in t.memory) words) fs t))
-    command-is (tree.Assign pairs) p fs s = counted-is (begin_assign pairs fs) (assign pairs) fs s (λ t. assign-is pairs fs t)
+    command-is (tree.Assign pairs) p fs s = counted-is (begin_assign limits.shell pairs fs) (assign limits.shell pairs) fs s (λ t. assign-is pairs fs t)
     command-is (tree.If arms) p fs s = arms-is arms fs s
     command-is (tree.Loop until c b) p fs s = ap (continue limits fs) (sym (turn_more until c b p.0 p.1 0 (with w s)))
     command-is (tree.For name words body) p fs s = counted-is (λ t. fitting (turns_in limits.shell (parameters_in t.memory) words) (λ f. begin_for name f body fs) t) (λ t. sized (turns_in limits.shell (parameters_in t.memory) words) (for_each limits.shell name (script limits body) 0) t) fs s (λ t. fitting-is (turns_in limits.shell (parameters_in t.memory) words) (λ f. begin_for name f body fs) (for_each limits.shell name (script limits body) 0) fs t (for-is name (turns_in limits.shell (parameters_in t.memory) words) body fs t))

@@ -17,11 +17,12 @@ use Rattle.rehearse_terms.specs.State.{Text, get, State}
 use Rattle.rehearse_rules.specs.Parameters.{parameters_in}
 use Rattle.device_list.specs.Called.{Called, BuiltIn, NoCommand, Device, called_by, sets_in}
 use Rattle.commands.specs.BuiltInCommands.{ChangesVariables, WritesText, RunsTexts, Tests, Exits}
-use Rattle.rehearse_rules.specs.Execution.{begin_turn, Limits, End, CutDevices, CutSteps, Size, set_status, set_local, status_when, goes, holds, Request, test_effect, outcome_when, told, told_again, logged, set_environment, Unsupported}
+use Rattle.rehearse_rules.specs.Execution.{begin_turn, Limits, End, CutDevices, CutSteps, Size, set_status, set_local, status_when, goes, holds, Request, test_effect, outcome_when, told, told_again, logged, set_environment, Unsupported, assign_local}
 use Rattle.rehearse_machine.specs.Frames.{Frame, Lists, Linked, IfCondition, LoopCondition, LoopBody, ForBody, Next, Go, Stop, leave, boot_next, answered, tell_or_ask, begin_assign, begin_for, begin_arms, begun_text, begin_tree, begin_text, begin_names, begin_exit, fitting, ask, begin_called, begin_fields, counted, begin_command, move}
 use Rattle.rehearse_machine.specs.Places.{list_at, drop_lists, joined_at, drop_joined, second, command_in, command_at, drop_arms, place, from_command, condition_frame, phase, from_turn, script_frames, for_frame, run_frame, frames_by, frames_of, PlaceNext, GoOn, StopOn, next_of, moved_to, behind, in_turn, text_frame, block_frame, is_run, to_run, left, place_exit, place_boot, place_answered, place_tell_or_ask, place_assign, place_tree, place_text, place_name, run_move, for_turn, for_move, for_begins, place_arms, condition_ends, phase_move, place_fitting, place_ask, place_called, place_fields, place_counted, place_command, place_joined, place_skipped, place_begins, place_turn, place_list, place_by, place_move, place_skipped}
 use Rattle.rehearse_machine.proofs.Beginnings.{chosen, passed}
-use Rattle.rehearse_rules.specs.ByShell.{leaves_in, status_of_exit, asks_in, truth_in, fields_in, turns_in, skips_rest, status_of_no_block, status_of_loop, follows}
+use Rattle.rehearse_terms.specs.declared.shell.Shell.{Shell}
+use Rattle.rehearse_rules.specs.ByShell.{leaves_in, status_of_exit, asks_in, truth_in, fields_in, turns_in, skips_rest, status_of_no_block, status_of_loop, follows, assigned_in}
 
 -- ---- parts by their numbers
 
@@ -199,11 +200,11 @@ module _ (f : RunningFrame) (fs : List RunningFrame) (s : State) (k : f.kind ≡
 
 -- ---- commands; `below` is what the frame of their script describes after them
 
-assign-is : (pairs : List (Text × tree.Word)) (ps : List RunningFrame) (s : State) → next_of (place_assign pairs ps s) ≡ begin_assign pairs (frames_of ps) s
-assign-is [] ps s = refl
-assign-is (pair ∷ pairs) ps s =
-    let value : Text = joined (parameters_in s.memory) pair.1 in
-    if_next (nat_le (length value) most_bytes) (place_assign pairs ps (set_local pair.0 value s)) (StopOn Size s) (begin_assign pairs (frames_of ps) (set_local pair.0 value s)) (Stop Size s) (assign-is pairs ps (set_local pair.0 value s)) refl
+assign-is : (shell : Shell) (pairs : List (Text × tree.Word)) (ps : List RunningFrame) (s : State) → next_of (place_assign shell pairs ps s) ≡ begin_assign shell pairs (frames_of ps) s
+assign-is shell [] ps s = refl
+assign-is shell (pair ∷ pairs) ps s =
+    let value : Text = assigned_in shell (parameters_in s.memory) pair.1 in
+    if_next (nat_le (length value) most_bytes) (place_assign shell pairs ps (assign_local shell pair.0 value s)) (StopOn Size s) (begin_assign shell pairs (frames_of ps) (assign_local shell pair.0 value s)) (Stop Size s) (assign-is shell pairs ps (assign_local shell pair.0 value s)) refl
 
 fitting-is : (ws : List Text) (n : List Text → State → PlaceNext) (m : List Text → State → Next) (s : State) → next_of (n ws s) ≡ m ws s → next_of (place_fitting ws n s) ≡ fitting ws m s
 fitting-is ws n m s e = if_next (nat_le (size ws) most_bytes) (n ws s) (StopOn Size s) (m ws s) (Stop Size s) e refl
@@ -297,7 +298,7 @@ module _ (limits : Limits) where
     command-is : (c : Command) → command_in list f.place.command ≡ Some c → (s : State) → next_of (place_command limits c f fs s) ≡ begin_command limits c below s
     command-is (tree.Simple words) e s = counted-is (λ t. place_fitting (fields_in limits.shell (parameters_in t.memory) words) (λ found. place_fields limits found f.script (behind f ∷ fs)) t) (λ t. fitting (fields_in limits.shell (parameters_in t.memory) words) (λ found. begin_fields limits found below) t) s
         (λ t. fitting-is (fields_in limits.shell (parameters_in t.memory) words) (λ found. place_fields limits found f.script (behind f ∷ fs)) (λ found. begin_fields limits found below) t (fields-is (fields_in limits.shell (parameters_in t.memory) words) f.script (behind f ∷ fs) t ∙ ap (λ (x : List Frame). begin_fields limits (fields_in limits.shell (parameters_in t.memory) words) x t) behind-is))
-    command-is (tree.Assign pairs) e s = counted-is (place_assign pairs (behind f ∷ fs)) (begin_assign pairs below) s (λ t. assign-is pairs (behind f ∷ fs) t ∙ ap (λ (x : List Frame). begin_assign pairs x t) behind-is)
+    command-is (tree.Assign pairs) e s = counted-is (place_assign limits.shell pairs (behind f ∷ fs)) (begin_assign limits.shell pairs below) s (λ t. assign-is limits.shell pairs (behind f ∷ fs) t ∙ ap (λ (x : List Frame). begin_assign limits.shell pairs x t) behind-is)
     command-is (tree.If arms) e s = arms-is arms arms 0 e refl s
     command-is (tree.Loop until c b) e s = looped-is until c b e 0 s
     command-is (tree.For name words body) e s = counted-is (λ t. place_fitting (turns_in limits.shell (parameters_in t.memory) words) (λ found. for_begins found f fs) t) (λ t. fitting (turns_in limits.shell (parameters_in t.memory) words) (λ found. begin_for name found body below) t) s

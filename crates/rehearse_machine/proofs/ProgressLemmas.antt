@@ -8,12 +8,12 @@ use Rattle.rehearse_terms.specs.State.{Text, get, State}
 use Rattle.rehearse_rules.specs.Parameters.{parameters_in}
 use Rattle.device_list.specs.Called.{Called, BuiltIn, NoCommand, Device, called_by, sets_in}
 use Rattle.commands.specs.BuiltInCommands.{ChangesVariables, WritesText, RunsTexts, Tests, Exits}
-use Rattle.rehearse_rules.specs.Execution.{Limits, CutDevices, CutSteps, Size, set_status, set_local, status_when, goes, holds, Request, test_effect, told, told_again, logged, set_environment, Unsupported}
+use Rattle.rehearse_rules.specs.Execution.{Limits, CutDevices, CutSteps, Size, set_status, set_local, status_when, goes, holds, Request, test_effect, told, told_again, logged, set_environment, Unsupported, assign_local}
 use Rattle.rehearse_terms.specs.Outcomes.{Success}
 use Rattle.rehearse_machine.specs.Frames.{Frame, Lists, Linked, IfCondition, LoopCondition, LoopBody, ForBody, RunNames, RunText, Next, Go, Ask, Stop, tell_or_ask, boot_next, leave, begin_assign, begin_for, begin_arms, begin_tree, begin_text, begin_names, begin_exit, fitting, ask, begin_called, begin_fields, begin_command, move}
 use Rattle.rehearse_machine.specs.MoveCounts.{command_depth, arms_depth, script_depth, block_weight, links_weight, arms_weight, tree_weight, text_weight, names_weight, weight}
 use Rattle.rehearse_machine.specs.Meaning.{AreProperFrames}
-use Rattle.rehearse_rules.specs.ByShell.{leaves_in, status_of_exit, asks_in, truth_in, fields_in, turns_in, skips_rest, status_of_loop, follows}
+use Rattle.rehearse_rules.specs.ByShell.{leaves_in, status_of_exit, asks_in, truth_in, fields_in, turns_in, skips_rest, status_of_loop, follows, assigned_in}
 
 module _ (limits : Limits) where
   -- no step was begun since t
@@ -49,9 +49,9 @@ module _ (limits : Limits) where
   leave-quiet (LoopBody until c b ∷ fs) s = leave-quiet fs s
   leave-quiet (ForBody name values body ∷ fs) s = leave-quiet fs s
 
-  assign-quiet : (pairs : List (Text × tree.Word)) (fs : List Frame) (t s : State) → s.steps ≡ t.steps → IsQuiet t (begin_assign pairs fs s)
+  assign-quiet : (pairs : List (Text × tree.Word)) (fs : List Frame) (t s : State) → s.steps ≡ t.steps → IsQuiet t (begin_assign limits.shell pairs fs s)
   assign-quiet [] fs t s e = e
-  assign-quiet (pair ∷ pairs) fs t s e = let value : Text = joined (parameters_in s.memory) pair.1 in either-quiet t (nat_le (length value) most_bytes) (begin_assign pairs fs (set_local pair.0 value s)) (Stop Size s) (assign-quiet pairs fs t (set_local pair.0 value s) e) e
+  assign-quiet (pair ∷ pairs) fs t s e = let value : Text = assigned_in limits.shell (parameters_in s.memory) pair.1 in either-quiet t (nat_le (length value) most_bytes) (begin_assign limits.shell pairs fs (assign_local limits.shell pair.0 value s)) (Stop Size s) (assign-quiet pairs fs t (assign_local limits.shell pair.0 value s) e) e
 
   tree-quiet : (o : Option Script) (name : Text) (names : List Text) (fs : List Frame) (s : State) → IsQuiet s (begin_tree limits.shell o name names fs s)
   tree-quiet None name names fs s = refl
@@ -146,7 +146,7 @@ module _ (limits : Limits) where
 
   command_progress : (c : Command) (fs : List Frame) (s : State) → IsProperCommand c → Progress s (suc (command_depth c)) (begin_command limits c fs s)
   command_progress (tree.Simple words) fs s p = let t : State = record s { steps = suc s.steps } in inl (counted_at (nat_lt s.steps limits.step_bound) s (fitting (fields_in limits.shell (parameters_in t.memory) words) (λ f. begin_fields limits f fs) t) refl (either-quiet t (nat_le (size (fields_in limits.shell (parameters_in t.memory) words)) most_bytes) (begin_fields limits (fields_in limits.shell (parameters_in t.memory) words) fs t) (Stop Size t) (fields-quiet (fields_in limits.shell (parameters_in t.memory) words) fs t) refl))
-  command_progress (tree.Assign pairs) fs s p = let t : State = record s { steps = suc s.steps } in inl (counted_at (nat_lt s.steps limits.step_bound) s (begin_assign pairs fs t) refl (assign-quiet pairs fs t t refl))
+  command_progress (tree.Assign pairs) fs s p = let t : State = record s { steps = suc s.steps } in inl (counted_at (nat_lt s.steps limits.step_bound) s (begin_assign limits.shell pairs fs t) refl (assign-quiet pairs fs t t refl))
   command_progress (tree.If arms) fs s p = if_progress arms fs s p
   command_progress (tree.Loop until c b) fs s p = loop_progress until c b 0 fs s p.0
   command_progress (tree.For name words body) fs s p = let t : State = record s { steps = suc s.steps } in inl (counted_at (nat_lt s.steps limits.step_bound) s (fitting (turns_in limits.shell (parameters_in t.memory) words) (λ f. begin_for name f body fs) t) refl (either-quiet t (nat_le (size (turns_in limits.shell (parameters_in t.memory) words)) most_bytes) (begin_for name (turns_in limits.shell (parameters_in t.memory) words) body fs t) (Stop Size t) (for-quiet name (turns_in limits.shell (parameters_in t.memory) words) body fs t) refl))

@@ -8,13 +8,13 @@ use Rattle.rehearse_terms.specs.State.{Text, get, State}
 use Rattle.rehearse_rules.specs.Parameters.{parameters_in}
 use Rattle.device_list.specs.Called.{Called, BuiltIn, NoCommand, Device, called_by, sets_in}
 use Rattle.commands.specs.BuiltInCommands.{ChangesVariables, WritesText, RunsTexts, Tests, Exits}
-use Rattle.rehearse_rules.specs.Execution.{Limits, CutDevices, CutSteps, Size, set_status, set_local, status_when, goes, holds, Request, test_effect, told, told_again, logged, set_environment, Unsupported}
+use Rattle.rehearse_rules.specs.Execution.{Limits, CutDevices, CutSteps, Size, set_status, set_local, status_when, goes, holds, Request, test_effect, told, told_again, logged, set_environment, Unsupported, assign_local}
 use Rattle.rehearse_terms.specs.Outcomes.{Success}
 use Rattle.rehearse_machine.specs.Frames.{Frame, Lists, Linked, IfCondition, LoopCondition, LoopBody, ForBody, RunNames, RunText, Next, Go, Stop, tell_or_ask, boot_next, leave, begin_assign, begin_for, begin_arms, begin_tree, begin_text, begin_names, begin_exit, fitting, ask, begin_called, begin_fields, begin_command, move}
 use Rattle.hushlang_old.proofs.TreeByShellLemmas.{trees_in_are_proper}
 use Rattle.rehearse_machine.proofs.StepBoundLemmas.{block_proper}
 use Rattle.rehearse_machine.specs.Meaning.{AreProperFrames, IsProperNext}
-use Rattle.rehearse_rules.specs.ByShell.{leaves_in, status_of_exit, asks_in, truth_in, fields_in, turns_in, skips_rest, status_of_loop, follows}
+use Rattle.rehearse_rules.specs.ByShell.{leaves_in, status_of_exit, asks_in, truth_in, fields_in, turns_in, skips_rest, status_of_loop, follows, assigned_in}
 
 module _ (limits : Limits) where
   either : (b : Bool) (x y : Next) → IsProperNext x → IsProperNext y → IsProperNext (elim b [ true ↦ x | false ↦ y ])
@@ -88,13 +88,13 @@ module _ (limits : Limits) where
   if-proper (tree.Else b) q = absurd q
   if-proper tree.NoElse q = absurd q
 
-  assign-proper : (pairs : List (Text × tree.Word)) (fs : List Frame) (s : State) → AreProperFrames fs → IsProperNext (begin_assign pairs fs s)
+  assign-proper : (pairs : List (Text × tree.Word)) (fs : List Frame) (s : State) → AreProperFrames fs → IsProperNext (begin_assign limits.shell pairs fs s)
   assign-proper [] fs s p = p
-  assign-proper (pair ∷ pairs) fs s p = let value : Text = joined (parameters_in s.memory) pair.1 in either (nat_le (length value) most_bytes) (begin_assign pairs fs (set_local pair.0 value s)) (Stop Size s) (assign-proper pairs fs (set_local pair.0 value s) p) tt
+  assign-proper (pair ∷ pairs) fs s p = let value : Text = assigned_in limits.shell (parameters_in s.memory) pair.1 in either (nat_le (length value) most_bytes) (begin_assign limits.shell pairs fs (assign_local limits.shell pair.0 value s)) (Stop Size s) (assign-proper pairs fs (assign_local limits.shell pair.0 value s) p) tt
 
   command-proper : (c : Command) (fs : List Frame) (s : State) → IsProperCommand c → AreProperFrames fs → IsProperNext (begin_command limits c fs s)
   command-proper (tree.Simple words) fs s q p = let t : State = record s { steps = suc s.steps } in either (nat_lt s.steps limits.step_bound) (fitting (fields_in limits.shell (parameters_in t.memory) words) (λ f. begin_fields limits f fs) t) (Stop CutSteps s) (either (nat_le (size (fields_in limits.shell (parameters_in t.memory) words)) most_bytes) (begin_fields limits (fields_in limits.shell (parameters_in t.memory) words) fs t) (Stop Size t) (fields-proper (fields_in limits.shell (parameters_in t.memory) words) fs t p) tt) tt
-  command-proper (tree.Assign pairs) fs s q p = let t : State = record s { steps = suc s.steps } in either (nat_lt s.steps limits.step_bound) (begin_assign pairs fs t) (Stop CutSteps s) (assign-proper pairs fs t p) tt
+  command-proper (tree.Assign pairs) fs s q p = let t : State = record s { steps = suc s.steps } in either (nat_lt s.steps limits.step_bound) (begin_assign limits.shell pairs fs t) (Stop CutSteps s) (assign-proper pairs fs t p) tt
   command-proper (tree.If arms) fs s q p = arms-proper arms fs s (if-proper arms q) p
   command-proper (tree.Loop until c b) fs s q p = (block_proper c q.0, (q, p))
   command-proper (tree.For name words body) fs s q p = let t : State = record s { steps = suc s.steps } in either (nat_lt s.steps limits.step_bound) (fitting (turns_in limits.shell (parameters_in t.memory) words) (λ f. begin_for name f body fs) t) (Stop CutSteps s) (either (nat_le (size (turns_in limits.shell (parameters_in t.memory) words)) most_bytes) (begin_for name (turns_in limits.shell (parameters_in t.memory) words) body fs t) (Stop Size t) (for-proper name (turns_in limits.shell (parameters_in t.memory) words) body fs t q p) tt) tt

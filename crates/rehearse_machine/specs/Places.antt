@@ -12,11 +12,11 @@ use Rattle.rehearse_terms.specs.Outcomes.{Outcome, Success, Failure}
 use Rattle.hushlang_old.specs.TreesByShell.{tree_in}
 use Rattle.rehearse_terms.specs.State.{Text, get, State}
 use Rattle.rehearse_terms.specs.declared.shell.Shell.{Shell}
-use Rattle.rehearse_rules.specs.ByShell.{unread, leaves_in, status_of_exit, asks_in, truth_in, fields_in, turns_in, skips_rest, status_of_nothing, status_of_no_block, status_of_loop, follows}
+use Rattle.rehearse_rules.specs.ByShell.{unread, leaves_in, status_of_exit, asks_in, truth_in, fields_in, turns_in, skips_rest, status_of_nothing, status_of_no_block, status_of_loop, follows, assigned_in}
 use Rattle.rehearse_rules.specs.Parameters.{parameters_in}
 use Rattle.device_list.specs.Called.{Called, BuiltIn, NoCommand, Device, called_by, sets_in}
 use Rattle.commands.specs.BuiltInCommands.{ChangesVariables, WritesText, RunsTexts, Tests, Exits, variables_changed, text_written}
-use Rattle.rehearse_rules.specs.Execution.{Limits, Ending, End, CutDevices, CutSteps, Unknown, Size, Booted, remember, set_status, set_local, begin_turn, status_when, goes, holds, Request, test_effect, outcome_when, told, told_again, logged, set_environment, Unsupported}
+use Rattle.rehearse_rules.specs.Execution.{Limits, Ending, End, CutDevices, CutSteps, Unknown, Size, Booted, remember, set_status, set_local, begin_turn, status_when, goes, holds, Request, test_effect, outcome_when, told, told_again, logged, set_environment, Unsupported, assign_local}
 use Rattle.rehearse_machine.specs.Frames.{Frame, Lists, Linked, IfCondition, LoopCondition, LoopBody, ForBody, RunNames, RunText, Next, Go, Ask, Stop, begun_text}
 
 -- ---- parts of a script by their numbers
@@ -181,12 +181,12 @@ abbrev pub place_tell_or_ask : (told : Option Bool) → Request → List Running
 place_tell_or_ask (Some success) request ps s = place_answered (outcome_when success) (told_again request) ps s
 place_tell_or_ask None request ps s = AskOn request ps s
 
-abbrev pub place_assign : List (Text × tree.Word) → List RunningFrame → State → PlaceNext
-place_assign [] ps s = GoOn ps (set_status 0 s)
-place_assign (pair ∷ pairs) ps s =
-    let value = joined (parameters_in s.memory) pair.1 in
+abbrev pub place_assign : Shell → List (Text × tree.Word) → List RunningFrame → State → PlaceNext
+place_assign shell [] ps s = GoOn ps (set_status 0 s)
+place_assign shell (pair ∷ pairs) ps s =
+    let value = assigned_in shell (parameters_in s.memory) pair.1 in
     elim (nat_le (length value) most_bytes) [
-      | true ↦ place_assign pairs ps (set_local pair.0 value s)
+      | true ↦ place_assign shell pairs ps (assign_local shell pair.0 value s)
       | false ↦ StopOn Size s
     ]
 
@@ -309,7 +309,7 @@ module _ (limits : Limits) where
       place_counted (λ t.
       place_fitting (fields_in limits.shell (parameters_in t.memory) words)
       (λ found. place_fields found f.script (behind f ∷ fs)) t) s
-  place_command (tree.Assign pairs) f fs s = place_counted (place_assign pairs (behind f ∷ fs)) s
+  place_command (tree.Assign pairs) f fs s = place_counted (place_assign limits.shell pairs (behind f ∷ fs)) s
   place_command (tree.If arms) f fs s = place_arms limits.shell arms 0 f fs s
   place_command (tree.Loop until c b) f fs s = GoOn (block_frame c ∷ in_turn 1 0 f ∷ fs) s
   place_command (tree.For name words body) f fs s =

@@ -2,7 +2,7 @@
 ghost use Rattle.std.specs.Prelude.{◌≡◌, ◌+◌, ◌<◌, ◌^◌, IfOk, map, nat_le, true, false, Some, None};
 ghost use Rattle.hushlang.specs.TreesShown as view;
 ghost use Rattle.hushlang.specs.Expansion as expansion;
-ghost use Rattle.rehearse_rules.specs.ByShell.{fields_in, turns_in};
+ghost use Rattle.rehearse_rules.specs.ByShell.{assigned_in, fields_in, turns_in};
 ghost use Rattle.text.specs.TextsShown.{bytes_of_words};
 ghost use Rattle.rehearse_machine.specs.Variables.{parameters_at};
 ghost use Rattle.rehearse_machine.specs.MovesShown.{IsExpanded, IsExpandedOne, IsCounted};
@@ -10,7 +10,7 @@ ghost use Rattle.rehearse_machine.specs.MovesShown.{IsExpanded, IsExpandedOne, I
 use crate::memory::Memory;
 use bootstore_state::{Store, StoreError};
 use hushlang::{ExpandError, Fields, Word, expand_one};
-use hushlang_old::{old_fields, old_turns};
+use hushlang_old::{inserted, old_fields, old_turns};
 use rehearse_terms::{RunBounds, Shell};
 use std::alloc::Global;
 
@@ -112,7 +112,7 @@ fn fits(fields: &[Vec<u8>]) -> bool
 }
 
 /// Expands a word to its bytes. Gives `None` if there are too many.
-pub(crate) fn expanded_one<S: Store>(
+fn expanded_one<S: Store>(
     alloc: Global,
     store: &S,
     word: &Word,
@@ -124,5 +124,35 @@ pub(crate) fn expanded_one<S: Store>(
         Ok(value) => Ok(Some(value)),
         Err(ExpandError::TooLong) => Ok(None),
         Err(ExpandError::Memory) => Err(StoreError::Memory),
+    }
+}
+
+/// The value, unless it has too many bytes.
+fn within(value: Vec<u8>) -> Option<Vec<u8>>
+    ensures { IsExpandedOne result value.items }
+{
+    if value.len() > MOST_BYTES {
+        return None;
+    }
+    Some(value)
+}
+
+/// The value that an assignment gives in a shell. Gives `None` if it has too many bytes.
+pub(crate) fn assigned_value<S: Store>(
+    alloc: Global,
+    store: &S,
+    shell: Shell,
+    word: &Word,
+) -> Result<Option<Vec<u8>>, StoreError>
+    ensures { IfOk result (λ found. IsExpandedOne found
+        (assigned_in shell (parameters_at (S.record_of store.now).present)
+        (view.word word.now))) }
+{
+    match shell {
+        Shell::Profile => expanded_one(alloc, store, word),
+        Shell::Old2023 | Shell::Old2025 => {
+            let value = inserted(alloc, word, &Memory { store })?;
+            Ok(within(value))
+        }
     }
 }

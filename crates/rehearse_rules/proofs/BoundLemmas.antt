@@ -9,8 +9,8 @@ use Rattle.rehearse_terms.specs.State.{Text, get, State, start}
 use Rattle.rehearse_rules.specs.Parameters.{parameters_in}
 use Rattle.device_list.specs.Called.{Called, BuiltIn, Device, NoCommand, called_by, sets_in}
 use Rattle.commands.specs.BuiltInCommands.{ChangesVariables, WritesText, RunsTexts, Tests, Exits}
-use Rattle.rehearse_rules.specs.ByShell.{unread, leaves_in, status_of_exit, asks_in, truth_in, fields_in, turns_in, skips_rest, status_of_loop, follows}
-use Rattle.rehearse_rules.specs.Execution.{Limits, Answer, Normal, Exit, Ended, Dry, Ending, CutDevices, CutSteps, Size, go_on, set_status, set_local, status_when, goes, holds, begin, take_outcome, with_outcome, outcome_when, told, told_again, tell_or_take, device, Request, test_effect, logged, set_environment, boot, text_end, run_text, run_all, command, simple, sized, assign, turns, begin_turn, for_each, exec_script, exec_list, exec_joined, exec_command, exec_arms, exec, Unsupported}
+use Rattle.rehearse_rules.specs.ByShell.{unread, leaves_in, status_of_exit, asks_in, truth_in, fields_in, turns_in, skips_rest, status_of_loop, follows, assigned_in}
+use Rattle.rehearse_rules.specs.Execution.{Limits, Answer, Normal, Exit, Ended, Dry, Ending, CutDevices, CutSteps, Size, go_on, set_status, set_local, status_when, goes, holds, begin, take_outcome, with_outcome, outcome_when, told, told_again, tell_or_take, device, Request, test_effect, logged, set_environment, boot, text_end, run_text, run_all, command, simple, sized, assign, turns, begin_turn, for_each, exec_script, exec_list, exec_joined, exec_command, exec_arms, exec, Unsupported, assign_local}
 use Rattle.rehearse_rules.specs.Runs.{Task, run_on, state_of, steps}
 use Rattle.hushlang_old.proofs.TreeByShellLemmas.{trees_in_are_proper}
 use Rattle.rehearse_terms.specs.declared.shell.Shell.{Shell}
@@ -88,11 +88,11 @@ module _ (limits : Limits) where
   Ends-sized : (fs : List Text) (f : List Text → State → Answer) (s : State) → IsWithin s → Ends (f fs s) → Ends (sized fs f s)
   Ends-sized fs f s h k = Ends-if (nat_le (size fs) most_bytes) (f fs s) (Ended Size s) (λ e. k) (λ e. (h, tt))
 
-  Ends-assign : (pairs : List (Text × tree.Word)) (s : State) → IsWithin s → Ends (assign pairs s)
+  Ends-assign : (pairs : List (Text × tree.Word)) (s : State) → IsWithin s → Ends (assign limits.shell pairs s)
   Ends-assign [] s h = h
   Ends-assign (pair ∷ pairs) s h =
-      let value : Text = joined (parameters_in s.memory) pair.1 in
-      Ends-if (nat_le (length value) most_bytes) (assign pairs (set_local pair.0 value s)) (Ended Size s) (λ e. Ends-assign pairs (set_local pair.0 value s) h) (λ e. (h, tt))
+      let value : Text = assigned_in limits.shell (parameters_in s.memory) pair.1 in
+      Ends-if (nat_le (length value) most_bytes) (assign limits.shell pairs (assign_local limits.shell pair.0 value s)) (Ended Size s) (λ e. Ends-assign pairs (assign_local limits.shell pair.0 value s) h) (λ e. (h, tt))
 
   -- `run` of texts, each with at most n steps left after the one that `run` began
   module _ (n : ℕ) (script : Script → State → Answer) (kept : (a : Script) → KeepsAll limits (script a)) (ends : (a : Script) → IsProper a → (t : State) → IsWithin t → limits.step_bound < n + t.steps → Ends (script a t)) where
@@ -169,7 +169,7 @@ module _ (limits : Limits) where
 
       one-ends : (a : Command) → IsProperCommand a → EndsAll n (exec_command limits n text a)
       one-ends (tree.Simple words) p s r = Ends-begin n (λ t. sized (fields_in limits.shell (parameters_in t.memory) words) (simple limits text) t) (λ t h q. Ends-sized (fields_in limits.shell (parameters_in t.memory) words) (simple limits text) t h (simple-ends n text kept ends (fields_in limits.shell (parameters_in t.memory) words) t h q)) s r
-      one-ends (tree.Assign pairs) p s r = Ends-begin n (assign pairs) (λ t h q. Ends-assign pairs t h) s r
+      one-ends (tree.Assign pairs) p s r = Ends-begin n (assign limits.shell pairs) (λ t h q. Ends-assign pairs t h) s r
       one-ends (tree.If arms) p s r = arm-ends arms p s r
       one-ends (tree.Loop until c b) p s r = turns-end n until (exec_script limits n text c) (exec_script limits n text b) (Keeps-script limits n text kept c) (Keeps-script limits n text kept b) (block-ends c p.0) (block-ends b p.1) (Grew-block limits n text kept c p.0) 0 s r.0 r.1 r.1
       one-ends (tree.For name words b) p s r = Ends-begin n (λ t. sized (turns_in limits.shell (parameters_in t.memory) words) (for_each limits.shell name (exec_script limits n text b) 0) t) (λ t h q. Ends-sized (turns_in limits.shell (parameters_in t.memory) words) (for_each limits.shell name (exec_script limits n text b) 0) t h (for-ends name (exec_script limits n text b) (Keeps-script limits n text kept b) (block-ends b p) 0 (turns_in limits.shell (parameters_in t.memory) words) t h (omega arith))) s r

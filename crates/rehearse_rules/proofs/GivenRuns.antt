@@ -18,7 +18,7 @@ use Rattle.device_list.specs.DeviceList.{Devices, computed_by}
 use Rattle.rehearse_rules.specs.ByShell.{asks_in, truth_in, fields_in, turns_in, skips_rest, status_of_nothing, status_of_no_block, follows}
 use Rattle.rehearse_terms.specs.declared.shell.Shell.{Shell}
 use Rattle.rehearse_terms.specs.declared.shell.Shell.TheVariants.{Profile}
-use Rattle.rehearse_rules.specs.Execution.{Limits, Answer, Normal, Ended, CutDevices, CutSteps, Request, tell_or_take, device, go_on, set_status, status_when, goes, begin, command, simple, sized, turns, for_each, text_end, run_text, run_all, exec_script, exec_list, exec_joined, exec_command, exec_arms, exec, Unsupported}
+use Rattle.rehearse_rules.specs.Execution.{Limits, Answer, Normal, Ended, CutDevices, CutSteps, Request, tell_or_take, device, go_on, set_status, status_when, goes, begin, command, simple, sized, turns, for_each, text_end, run_text, run_all, exec_script, exec_list, exec_joined, exec_command, exec_arms, exec, Unsupported, assign}
 use Rattle.rehearse_rules.specs.GivenExecution.{Others, asked_anew, given_builtin, given_simple, given_script, given_list, given_joined, given_command, given_arms, given_exec, given_run_on}
 
 -- what a part of a script does to states
@@ -155,7 +155,7 @@ module _ (bounds : Limits) (own : bounds.shell ≡ Profile) (devices : Devices) 
 
       one-same : (a : Command) → exec_command (limits bounds devices) left f a ≡ given_command bounds others left g a
       one-same (tree.Simple words) = λ i s. begin (limits bounds devices) (λ t. sized (fields_in (own i) (parameters_in t.memory) words) (λ fs u. simple-same f g same fs u i) t) s
-      one-same (tree.Assign values) = refl
+      one-same (tree.Assign values) = λ i s. begin (limits bounds devices) (assign (own i) values) s
       one-same (tree.If arms) = arms-same arms
       one-same (tree.Loop until cond body) = λ i s. turns (own i) left until (script-same cond i) (script-same body i) 0 s
       one-same (tree.For name words body) = λ i s. begin (limits bounds devices) (λ t. sized (turns_in (own i) (parameters_in t.memory) words) (for_each (own i) name (script-same body i) 0) t) s

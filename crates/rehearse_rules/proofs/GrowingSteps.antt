@@ -48,7 +48,7 @@ module _ (limits : Limits) (left : ℕ) (text : Script → State → Answer) (ke
   mutual
     pub Grew-command : (a : Command) → IsProperCommand a → (s : State) → Grew s.steps (exec_command limits left text a s)
     Grew-command (tree.Simple words) p s = Grew-begin (nat_lt s.steps limits.step_bound) s (λ t. sized (fields_in limits.shell (parameters_in t.memory) words) (simple limits text) t) (λ t. Keeps-sized limits (fields_in limits.shell (parameters_in t.memory) words) (simple limits text) (Keeps-simple limits text kept) t)
-    Grew-command (tree.Assign pairs) p s = Grew-begin (nat_lt s.steps limits.step_bound) s (assign pairs) (Keeps-assign limits pairs)
+    Grew-command (tree.Assign pairs) p s = Grew-begin (nat_lt s.steps limits.step_bound) s (assign limits.shell pairs) (Keeps-assign limits pairs)
     Grew-command (tree.If arms) p s = Grew-if arms p s
     Grew-command (tree.Loop until c b) p s = Grew-turns left until (exec_script limits left text c) (exec_script limits left text b) (Keeps-script limits left text kept c) (Keeps-script limits left text kept b) (Grew-block c p.0) 0 s
     Grew-command (tree.For name words b) p s = Grew-begin (nat_lt s.steps limits.step_bound) s (λ t. sized (turns_in limits.shell (parameters_in t.memory) words) (for_each limits.shell name (exec_script limits left text b) 0) t) (λ t. Keeps-sized limits (turns_in limits.shell (parameters_in t.memory) words) (for_each limits.shell name (exec_script limits left text b) 0) (λ fs. Keeps-for limits name (exec_script limits left text b) (Keeps-script limits left text kept b) 0 fs) t)

@@ -9,8 +9,9 @@ use Rattle.device_list.specs.Called.{Called, BuiltIn, Device, NoCommand, called_
 use Rattle.commands.specs.BuiltInCommands.{ChangesVariables, WritesText, RunsTexts, Tests, Exits, carried, deed_of}
 use Rattle.device_list.specs.DeviceList.{Effect, computed_by, effect_of}
 use Rattle.rehearse_rules.proofs.TakenOutcomes.{skipped}
-use Rattle.rehearse_rules.specs.ByShell.{unread, leaves_in, status_of_exit, asks_in, truth_in, fields_in, turns_in, skips_rest, status_of_loop, follows}
-use Rattle.rehearse_rules.specs.Execution.{Limits, Answer, Normal, Exit, Ended, Dry, CutSteps, Size, Request, go_on, set_status, set_local, status_when, goes, holds, begin, device, test_effect, text_end, run_text, run_all, command, simple, sized, assign, turns, begin_turn, for_each, exec_script, exec_list, exec_joined, exec_command, exec_arms, exec, Unsupported}
+use Rattle.rehearse_terms.specs.declared.shell.Shell.{Shell}
+use Rattle.rehearse_rules.specs.ByShell.{unread, leaves_in, status_of_exit, asks_in, truth_in, fields_in, turns_in, skips_rest, status_of_loop, follows, assigned_in}
+use Rattle.rehearse_rules.specs.Execution.{Limits, Answer, Normal, Exit, Ended, Dry, CutSteps, Size, Request, go_on, set_status, set_local, status_when, goes, holds, begin, device, test_effect, text_end, run_text, run_all, command, simple, sized, assign, turns, begin_turn, for_each, exec_script, exec_list, exec_joined, exec_command, exec_arms, exec, Unsupported, assign_local}
 use Rattle.rehearse_rules.specs.Runs.{state_of}
 use Rattle.rehearse_terms.specs.State.{Text, get, LoggedCommand, State}
 use Rattle.rehearse_rules.specs.Parameters.{parameters_in}
@@ -44,11 +45,11 @@ module _ (P : List LoggedCommand → Type 0) where
   keeps-sized : (fs : List Text) (f : List Text → State → Answer) → ((gs : List Text) → KeepsLog (f gs)) → KeepsLog (sized fs f)
   keeps-sized fs f h s k = keeps-if (nat_le (size fs) most_bytes) (f fs s) (Ended Size s) (h fs s k) k
 
-  keeps-assign : (pairs : List (Text × tree.Word)) → KeepsLog (assign pairs)
-  keeps-assign [] s h = h
-  keeps-assign (pair ∷ pairs) s h =
-      let value : Text = joined (parameters_in s.memory) pair.1 in
-      keeps-if (nat_le (length value) most_bytes) (assign pairs (set_local pair.0 value s)) (Ended Size s) (keeps-assign pairs (set_local pair.0 value s) h) h
+  keeps-assign : (shell : Shell) (pairs : List (Text × tree.Word)) → KeepsLog (assign shell pairs)
+  keeps-assign shell [] s h = h
+  keeps-assign shell (pair ∷ pairs) s h =
+      let value : Text = assigned_in shell (parameters_in s.memory) pair.1 in
+      keeps-if (nat_le (length value) most_bytes) (assign shell pairs (assign_local shell pair.0 value s)) (Ended Size s) (keeps-assign shell pairs (assign_local shell pair.0 value s) h) h
 
   -- `Allowed` is what the device list says of the effects that device commands have
   module _ (limits : Limits) (Allowed : Effect → Type 0) (test : Allowed (test_effect limits.devices))
@@ -141,7 +142,7 @@ module _ (P : List LoggedCommand → Type 0) where
 
         keeps-one : (a : Command) → KeepsLog (exec_command limits left text a)
         keeps-one (tree.Simple words) s h = keeps-begin (λ t. sized (fields_in limits.shell (parameters_in t.memory) words) (simple limits text) t) (λ t. keeps-sized (fields_in limits.shell (parameters_in t.memory) words) (simple limits text) (keeps-simple text keeps) t) s h
-        keeps-one (tree.Assign pairs) s h = keeps-begin (assign pairs) (keeps-assign pairs) s h
+        keeps-one (tree.Assign pairs) s h = keeps-begin (assign limits.shell pairs) (keeps-assign limits.shell pairs) s h
         keeps-one (tree.If arms) s h = keeps-arms arms s h
         keeps-one (tree.Loop until c b) s h = keeps-turns left until (exec_script limits left text c) (exec_script limits left text b) (keeps-script c) (keeps-script b) 0 s h
         keeps-one (tree.For name words b) s h = keeps-begin (λ t. sized (turns_in limits.shell (parameters_in t.memory) words) (for_each limits.shell name (exec_script limits left text b) 0) t)

@@ -11,8 +11,8 @@ use Rattle.hushlang.specs.Expansion.{joined, size, most_bytes}
 use Rattle.hushlang_old.specs.TreesByShell.{tree_in}
 use Rattle.device_list.specs.Called.{Called, BuiltIn, Device, NoCommand, called_by, sets_in}
 use Rattle.commands.specs.BuiltInCommands.{ChangesVariables, WritesText, RunsTexts, Tests, Exits, variables_changed, text_written}
-use Rattle.rehearse_rules.specs.ByShell.{unread, leaves_in, status_of_exit, asks_in, truth_in, fields_in, turns_in, skips_rest, status_of_nothing, status_of_no_block, status_of_loop, follows}
-use Rattle.rehearse_rules.specs.Execution.{Limits, Answer, Normal, Exit, Ended, Dry, Ending, CutDevices, CutSteps, Unknown, Size, go_on, remember, set_status, set_local, status_when, goes, holds, begin, take_outcome, with_outcome, outcome_when, told, told_again, tell_or_take, device, Request, test_effect, logged, set_environment, boot, text_end, run_text, run_all, command, simple, sized, assign, turns, begin_turn, for_each, exec_script, exec_list, exec_joined, exec_command, exec_arms, exec, succeeds, Unsupported}
+use Rattle.rehearse_rules.specs.ByShell.{unread, leaves_in, status_of_exit, asks_in, truth_in, fields_in, turns_in, skips_rest, status_of_nothing, status_of_no_block, status_of_loop, follows, assigned_in}
+use Rattle.rehearse_rules.specs.Execution.{Limits, Answer, Normal, Exit, Ended, Dry, Ending, CutDevices, CutSteps, Unknown, Size, go_on, remember, set_status, set_local, status_when, goes, holds, begin, take_outcome, with_outcome, outcome_when, told, told_again, tell_or_take, device, Request, test_effect, logged, set_environment, boot, text_end, run_text, run_all, command, simple, sized, assign, turns, begin_turn, for_each, exec_script, exec_list, exec_joined, exec_command, exec_arms, exec, succeeds, Unsupported, assign_local}
 use Rattle.rehearse_rules.specs.Runs.{state_of}
 
 -- the state with these outcomes after its own
@@ -249,12 +249,12 @@ module _ (limits : Limits) where
   pub Keeps-sized : (fs : List Text) (f : List Text → State → Answer) → ((gs : List Text) → KeepsAll (f gs)) → KeepsAll (sized fs f)
   Keeps-sized fs f h s = Keeps-if limits.device_bound s (nat_le (size fs) most_bytes) (f fs) (Ended Size) (h fs s) (Keeps-ended limits.device_bound s Size)
 
-  pub Keeps-assign : (pairs : List (Text × tree.Word)) → KeepsAll (assign pairs)
+  pub Keeps-assign : (pairs : List (Text × tree.Word)) → KeepsAll (assign limits.shell pairs)
   Keeps-assign [] s = Keeps-normal limits.device_bound s (λ m. record m { status = 0 })
   Keeps-assign (pair ∷ pairs) s =
-      let value : Text = joined (parameters_in s.memory) pair.1 in
-      Keeps-if limits.device_bound s (nat_le (length value) most_bytes) (λ t. assign pairs (set_local pair.0 value t)) (Ended Size)
-      (Keeps-remember limits.device_bound s (λ m. (set_local pair.0 value (record s { memory = m })).memory) (assign pairs) (Keeps-assign pairs (set_local pair.0 value s)))
+      let value : Text = assigned_in limits.shell (parameters_in s.memory) pair.1 in
+      Keeps-if limits.device_bound s (nat_le (length value) most_bytes) (λ t. assign limits.shell pairs (assign_local limits.shell pair.0 value t)) (Ended Size)
+      (Keeps-remember limits.device_bound s (λ m. (assign_local limits.shell pair.0 value (record s { memory = m })).memory) (assign limits.shell pairs) (Keeps-assign pairs (assign_local limits.shell pair.0 value s)))
       (Keeps-ended limits.device_bound s Size)
 
   -- a `run`, if each script keeps it
@@ -338,7 +338,7 @@ module _ (limits : Limits) where
 
       pub Keeps-one : (a : Command) → KeepsAll (exec_command limits left text a)
       Keeps-one (tree.Simple words) s = Keeps-begin (λ t. sized (fields_in limits.shell (parameters_in t.memory) words) (simple limits text) t) (λ t. Keeps-sized (fields_in limits.shell (parameters_in t.memory) words) (simple limits text) (Keeps-simple text kept) t) s
-      Keeps-one (tree.Assign pairs) s = Keeps-begin (assign pairs) (Keeps-assign pairs) s
+      Keeps-one (tree.Assign pairs) s = Keeps-begin (assign limits.shell pairs) (Keeps-assign pairs) s
       Keeps-one (tree.If arms) s = Keeps-arms arms s
       Keeps-one (tree.Loop until c b) s = Keeps-turns left until (exec_script limits left text c) (exec_script limits left text b) (Keeps-script c) (Keeps-script b) 0 s
       Keeps-one (tree.For name words b) s = Keeps-begin (λ t. sized (turns_in limits.shell (parameters_in t.memory) words) (for_each limits.shell name (exec_script limits left text b) 0) t) (λ t. Keeps-sized (turns_in limits.shell (parameters_in t.memory) words) (for_each limits.shell name (exec_script limits left text b) 0) (λ fs. Keeps-for name (exec_script limits left text b) (Keeps-script b) 0 fs) t) s

@@ -3,7 +3,7 @@
 use Rattle.std.specs.Prelude.{ℕ, zero, suc, nat_lt, nat_le, nat_eq, Bool, true, false, not, List, [], ◌∷◌, ◌++◌, length, Option, Some, None, if◌then◌else◌}
 use Rattle.hushlang.specs.Tree as tree
 use Rattle.hushlang.specs.Tree.{Script, AndOr, Joined, Command, Arms}
-use Rattle.hushlang.specs.Expansion.{joined, size, most_bytes}
+use Rattle.hushlang.specs.Expansion.{size, most_bytes}
 use Rattle.hushlang.specs.declared.tree.Op.{Op}
 use Rattle.hushlang.specs.declared.tree.Op.TheVariants.{And, Or}
 use Rattle.rehearse_terms.specs.Outcomes.{Outcome, Success, Failure, OutcomeWord}
@@ -12,7 +12,7 @@ use Rattle.rehearse_terms.specs.State.{Text, Variables, get, with_value, Memory,
 use Rattle.rehearse_terms.specs.declared.shell.Shell.{Shell}
 pub use Rattle.rehearse_rules.specs.Ending.{Ending, End, CutDevices, CutSteps, Unknown, Syntax, Unsupported, Size, Booted}
 use Rattle.rehearse_rules.specs.Parameters.{parameters_in}
-use Rattle.rehearse_rules.specs.ByShell.{unread, leaves_in, status_of_exit, asks_in, truth_in, fields_in, turns_in, skips_rest, status_of_nothing, status_of_no_block, status_of_loop, status_in_turn, follows}
+use Rattle.rehearse_rules.specs.ByShell.{unread, leaves_in, status_of_exit, asks_in, truth_in, fields_in, turns_in, skips_rest, status_of_nothing, status_of_no_block, status_of_loop, status_in_turn, follows, assigned_in, locals_in}
 use Rattle.device_list.specs.DeviceList.{Effect, Devices}
 use Rattle.device_list.specs.Called.{Called, BuiltIn, NoCommand, Device, called_by, sets_in}
 use Rattle.commands.specs.BuiltInCommands.{ChangesVariables, WritesText, RunsTexts, Tests, Exits, variables_changed, text_written}
@@ -51,6 +51,13 @@ set_status status = remember (λ m. record m { status = status })
 -- sets a shell variable
 abbrev pub set_local : Text → Text → State → State
 set_local name value = remember (λ m. record m { locals = with_value m.locals name value })
+
+-- assigns a shell variable
+abbrev pub assigned : Shell → (name value : Text) → Memory → Memory
+assigned shell name value m = record m { locals = locals_in shell name value m.locals }
+
+abbrev pub assign_local : Shell → Text → Text → State → State
+assign_local shell name value = remember (assigned shell name value)
 
 abbrev pub status_when : Bool → ℕ
 status_when true = 0
@@ -152,11 +159,11 @@ abbrev pub sized : List Text → (List Text → State → Answer) → State → 
 sized fs next s = elim (nat_le (size fs) most_bytes) [ true ↦ next fs s | false ↦ Ended Size s ]
 
 -- assignments, from the left; if one ends the run, the ones before it are kept
-abbrev pub assign : List (Text × tree.Word) → State → Answer
-assign [] s = Normal (set_status 0 s)
-assign (pair ∷ pairs) s =
-    let value = joined (parameters_in s.memory) pair.1 in elim (nat_le (length value) most_bytes) [
-      | true ↦ assign pairs (set_local pair.0 value s)
+abbrev pub assign : Shell → List (Text × tree.Word) → State → Answer
+assign shell [] s = Normal (set_status 0 s)
+assign shell (pair ∷ pairs) s =
+    let value = assigned_in shell (parameters_in s.memory) pair.1 in elim (nat_le (length value) most_bytes) [
+      | true ↦ assign shell pairs (assign_local shell pair.0 value s)
       | false ↦ Ended Size s
     ]
 
@@ -267,7 +274,7 @@ module _ (limits : Limits) where
       pub exec_command : Command → State → Answer
       exec_command (tree.Simple words) s =
           begin (λ t. sized (fields_in limits.shell (parameters_in t.memory) words) (simple text) t) s
-      exec_command (tree.Assign values) s = begin (assign values) s
+      exec_command (tree.Assign values) s = begin (assign limits.shell values) s
       exec_command (tree.If arms) s = exec_arms arms s
       exec_command (tree.Loop until cond body) s =
           turns limits.shell left until (exec_script cond) (exec_script body) 0 s

@@ -68,7 +68,7 @@ module _ (bounds : Limits) (others : Others) where
       pub given_command : Command → State → Answer
       given_command (tree.Simple words) s =
           begin bounds (λ t. sized (fields (parameters_in t.memory) words) (given_simple text) t) s
-      given_command (tree.Assign values) s = begin bounds (assign values) s
+      given_command (tree.Assign values) s = begin bounds (assign Profile values) s
       given_command (tree.If arms) s = given_arms arms s
       given_command (tree.Loop until cond body) s =
           turns Profile left until (given_script cond) (given_script body) 0 s
