@@ -198,6 +198,7 @@ fn name_of(ending: Ending<'_>) -> &'static str {
         Ending::CutSteps => "cut steps",
         Ending::Unknown(_) => "stop unknown",
         Ending::Syntax(_) => "stop syntax",
+        Ending::Unsupported(_) => "stop unsupported",
         Ending::Size => "stop size",
         Ending::Booted(_) => "booted",
     }
