@@ -1,7 +1,7 @@
 // SPDX-License-Identifier: GPL-2.0+
 /*
  * Commands for U-Boot's sandbox whose results are scripted, put into cmd/ of its sources by
- * tests/compare_hush:
+ * tests/sandboxes:
  *
  * - `load` and `dhcp` take the next digit of a word: 0 is success, 1 is failure. `test -e` asks in the same
  *   way whether a file is there.
@@ -12,6 +12,10 @@
  *   20 seconds.
  *   The variables of N.image are set as they stand there; N.imported in its place is read by U-Boot's import.
  *   SHELL is `old` or, in a U-Boot that has it, `modern`.
+ * - `scripted COUNT DEVICES SHELL LIST` takes N.image or N.imported, and writes to N.theirs the record of the run of
+ *   each word of N.words, a line each. LIST is a device list in the form of docs/RUNNING.md, with the lines `known` of
+ *   all commands that it may have. U-Boot has its commands then, beside those of the shell, and no other. The text of
+ *   a record is what `echo` writes, and no message. A call of which the list does not speak ends the run.
  *
  * Three endings are U-Boot's own: `broken`, if a run reads or writes where nothing is; `panic`, if the modern shell
  * gives up, on which a board resets or hangs; `prompt STATUS`, if the modern shell asks for a command before the
@@ -24,6 +28,7 @@
 #include <command.h>
 #include <console.h>
 #include <env.h>
+#include <env_callback.h>
 #include <env_internal.h>
 #include <fs.h>
 #include <malloc.h>
@@ -44,11 +49,23 @@ int waitpid(int process, int *status, int options);
 uint alarm(uint seconds);
 void (*signal(int number, void (*handler)(int)))(int);
 
-enum { LONGEST_WORD = 64, LARGEST_TEXT = 0x40000, SECONDS = 20, BAD_ADDRESS = 11 };
+enum {
+	LONGEST_WORD = 1001, LARGEST_TEXT = 0x40000, SECONDS = 20, BAD_ADDRESS = 11,
+	MOST_LINES = 400, MOST_WORDS = 16,
+	/* The greatest CONFIG_SYS_MAXARGS of a board. */
+	MOST_ARGUMENTS = 64
+};
+
+/* A line of the device list. A setting is a name and, behind its end, a value. */
+struct device_line {
+	bool final, steady;
+	char *name, *sub, *settings[MOST_WORDS];
+};
 
 static char outcomes[LONGEST_WORD + 1];
 static int asked, bound, listing, report;
-static bool own_import, modern;
+static bool own_import, modern, by_list;
+static struct device_line lines[MOST_LINES], *end_of_lines = lines;
 static char record[8 * LARGEST_TEXT];
 static int record_size;
 static char text[LARGEST_TEXT];
@@ -153,28 +170,46 @@ static void end_run(const char *how, const char *status)
 	os_exit(0);
 }
 
-static int ask(int argc, char *const argv[])
+/* What the words of the record's last line, which begins there, were answered before; 0 where they were not asked. */
+static char earlier_answer(int start)
 {
-	int i;
+	int at;
+
+	for (at = 0; at < start; at++)
+		if ((!at || record[at - 1] == '\n') &&
+		    !memcmp(record + at + 5, record + start + 5, record_size - start - 5))
+			return record[at + 4];
+	return 0;
+}
+
+static int ask(int argc, char *const argv[], bool steady)
+{
+	int start = record_size, i;
+	char answer;
 
 	if (asked == bound)
 		end_run("cut devices", "");
-	if (!outcomes[asked]) {
-		outcomes[asked] = '0';
-		outcomes[asked + 1] = '\0';
-	}
-	add(outcomes[asked] == '0' ? "dev 0" : "dev 1");
+	add("dev 0");
 	for (i = 0; i < argc; i++) {
 		add(" ");
 		add_form(argv[i], strlen(argv[i]), true);
 	}
 	add("\n");
-	return outcomes[asked++] - '0';
+	answer = steady ? earlier_answer(start) : 0;
+	if (!answer) {
+		if (!outcomes[asked]) {
+			outcomes[asked] = '0';
+			outcomes[asked + 1] = '\0';
+		}
+		answer = outcomes[asked++];
+	}
+	record[start + 4] = answer;
+	return answer - '0';
 }
 
 static int do_device(struct cmd_tbl *cmdtp, int flag, int argc, char *const argv[])
 {
-	return ask(argc, argv);
+	return ask(argc, argv, false);
 }
 
 /* In the place of file_exists, for `test -e`. */
@@ -182,7 +217,222 @@ int scripted_exists(const char *interface, const char *part, const char *path, i
 {
 	char *const words[] = { "test", "-e", (char *)interface, (char *)part, (char *)path };
 
-	return !ask(5, words);
+	return !ask(5, words, false);
+}
+
+/* In the place of puts and putc, in `echo`. */
+void scripted_puts(const char *bytes)
+{
+	gd->flags |= GD_FLG_RECORD;
+	puts(bytes);
+	if (by_list)
+		gd->flags &= ~GD_FLG_RECORD;
+}
+
+void scripted_putc(const char byte)
+{
+	char bytes[] = { byte, '\0' };
+
+	scripted_puts(bytes);
+}
+
+/* Whether a line speaks of a call: of its first word if `sub`, otherwise of the name alone. */
+static bool speaks(const struct device_line *line, bool sub, int argc, char *const argv[])
+{
+	if (strcmp(line->name, argv[0]) || !line->sub == sub)
+		return false;
+	return !sub || (argc > 1 && !strcmp(line->sub, argv[1]));
+}
+
+/* Sets the variables of a line whose command succeeds. */
+static void set_by_line(const struct device_line *line, int argc, char *const argv[])
+{
+	char *const *setting;
+	int word;
+
+	for (setting = line->settings; *setting; setting++) {
+		const char *name = *setting, *value = name + strlen(name) + 1;
+
+		if (line->sub && *name == '@') {
+			word = strcmp(name, "@last") ? dectoul(name + 1, NULL) : argc - 1;
+			name = word < argc ? argv[word] : "";
+		}
+		if (*name && *name != '-' && !strchr(name, '='))
+			env_set(name, value);
+	}
+}
+
+/* A command of the device list. */
+static int do_listed(struct cmd_tbl *cmdtp, int flag, int argc, char *const argv[])
+{
+	bool sub = false, known = false, final = false, steady = false;
+	const struct device_line *line;
+
+	for (line = lines; line < end_of_lines; line++)
+		sub |= speaks(line, true, argc, argv);
+	for (line = lines; line < end_of_lines; line++) {
+		if (speaks(line, sub, argc, argv)) {
+			known = true;
+			final |= line->final;
+			steady |= line->steady;
+		}
+	}
+	if (!known)
+		end_run("stop unknown ", argv[0]);
+	if (ask(argc, argv, steady))
+		return 1;
+	for (line = lines; line < end_of_lines; line++)
+		if (speaks(line, sub, argc, argv))
+			set_by_line(line, argc, argv);
+	if (final)
+		end_run("booted ", argv[0]);
+	return 0;
+}
+
+/* Whether the words of `env`, `itest` or `setexpr` are computed. */
+static bool is_computed(int argc, char *const argv[])
+{
+	if (!strcmp(argv[0], "env"))
+		return argc < 2 || !strcmp(argv[1], "exists") || !strcmp(argv[1], "set") || !strcmp(argv[1], "delete");
+	if (!strcmp(argv[0], "itest"))
+		return argc != 4 || (*argv[1] != '*' && *argv[3] != '*');
+	if (strcmp(argv[0], "setexpr"))
+		return false;
+	if (argc < 3)
+		return true;
+	if (*argv[2] == '*' || !strcmp(argv[2], "fmt") || !strcmp(argv[2], "sub") || !strcmp(argv[2], "gsub"))
+		return false;
+	return argc < 5 || (*argv[4] != '*' && (hextoul(argv[4], NULL) || !strchr("/%", *argv[3])));
+}
+
+/* The three of these, and what they do in U-Boot. */
+static struct {
+	struct cmd_tbl *command;
+	int (*own)(struct cmd_tbl *cmdtp, int flag, int argc, char *const argv[]);
+} computed[3];
+
+static int do_computed(struct cmd_tbl *cmdtp, int flag, int argc, char *const argv[])
+{
+	int i = 0;
+
+	if (!is_computed(argc, argv))
+		return do_listed(cmdtp, flag, argc, argv);
+	while (computed[i].command != cmdtp)
+		i++;
+	return computed[i].own(cmdtp, flag, argc, argv);
+}
+
+/* Places in U-Boot's table of commands; a command without a name is one that no script calls. */
+#define NO_NAME "\1"
+ll_entry_declare_list(struct cmd_tbl, scripted_places, cmd) = {
+	[0 ... MOST_LINES - 1] = { NO_NAME, MOST_ARGUMENTS, cmd_always_repeatable, do_listed, "" }
+};
+
+/* What U-Boot does when some variables are set, which would refuse what the sandbox has not, as a console. */
+static void forget_callbacks(void)
+{
+	struct env_clbk_tbl *callback = ll_entry_start(struct env_clbk_tbl, env_clbk);
+	int left;
+
+	for (left = ll_entry_count(struct env_clbk_tbl, env_clbk); left; left--)
+		(callback++)->name = NO_NAME;
+}
+
+/* U-Boot's table of commands, by the device list. */
+static void make_table(void)
+{
+	static const char kept[] = " echo exit false printenv run setenv showvar test true ";
+	static const char asked_for[] = " env itest setexpr ";
+	struct cmd_tbl *place = _u_boot_list_2_cmd_2_scripted_places, *command;
+	struct cmd_tbl *start = ll_entry_start(struct cmd_tbl, cmd), *end = start + ll_entry_count(struct cmd_tbl, cmd);
+	const struct device_line *line;
+	char name[64];
+	int i = 0;
+
+	for (command = start; command < end; command++) {
+		snprintf(name, sizeof(name), " %s ", command->name);
+		if (command->maxargs == CONFIG_SYS_MAXARGS)
+			command->maxargs = MOST_ARGUMENTS;
+		if (strstr(asked_for, name)) {
+			computed[i].command = command;
+			computed[i++].own = command->cmd;
+			command->cmd = do_computed;
+		} else if (!strstr(kept, name)) {
+			command->name = NO_NAME;
+		}
+	}
+	for (line = lines; line < end_of_lines; line++) {
+		snprintf(name, sizeof(name), "%s", line->name);
+		name[strcspn(name, ".")] = '\0';
+		for (command = start; command < end && strcmp(command->name, name); command++)
+			;
+		if (command == end)
+			(place++)->name = strdup(name);
+	}
+}
+
+/* The text of a file; NULL where there is none. */
+static char *text_of(const char *name)
+{
+	void *bytes;
+	char *copy;
+	int size;
+
+	if (os_read_file(name, &bytes, &size))
+		return NULL;
+	copy = calloc(1, size + 1);
+	if (!copy)
+		fail("no memory");
+	memcpy(copy, bytes, size);
+	os_free(bytes);
+	return copy;
+}
+
+/* Reads a line of the device list, but for a comment. */
+static void read_line(char *row)
+{
+	struct device_line *line = end_of_lines;
+	char *words[MOST_WORDS + 2] = { NULL }, **at = words, **word = words;
+
+	while (row && word < words + MOST_WORDS) {
+		*word = strsep(&row, " \t\r");
+		word += **word != '\0';
+	}
+	if (row || end_of_lines == lines + MOST_LINES)
+		fail("the device list is too large");
+	*word = NULL;
+	if (!*at || (!strcmp(*at, "known") && at[1] && !at[2]))
+		return;
+	line->final = !strcmp(*at, "final") && at[1] && !strchr(at[1], '=');
+	at += line->final;
+	line->steady = !strcmp(*at, "steady") && at[1] && !strchr(at[1], '=');
+	at += line->steady;
+	if (!strcmp(*at, "sub") && at[1] && at[2] && !strchr(at[1], '=') && !strchr(at[2], '=')) {
+		line->sub = at[2];
+		line->name = at[1];
+		at += 2;
+	} else {
+		line->name = *at;
+	}
+	for (word = line->settings; *++at; word++) {
+		*word = *at;
+		*strchr(*at, '=') = '\0';
+	}
+	end_of_lines++;
+}
+
+static void read_list(const char *name)
+{
+	char *rest = text_of(name), *row;
+
+	if (!rest)
+		fail(name);
+	while ((row = strsep(&rest, "\n")))
+		if (*row != '#')
+			read_line(row);
+	make_table();
+	forget_callbacks();
+	by_list = true;
 }
 
 #ifdef CONFIG_HUSH_MODERN_PARSER
@@ -287,6 +537,8 @@ static void run_word(const char *image, int size)
 	disable_ctrlc(1);
 	signal(BAD_ADDRESS, end_broken_run);
 	console_record_reset_enable();
+	if (by_list)
+		gd->flags &= ~GD_FLG_RECORD;
 	status = run_command_list(env_get("bootcmd"), -1, 0);
 	if (gd->flags & GD_FLG_RECORD_OVF)
 		fail("the text is too large");
@@ -335,9 +587,20 @@ static bool next_word(void)
 	return true;
 }
 
+/* The next word of a file's text, in the place of that: false where none follows. */
+static bool take_word(char **words)
+{
+	char *word = strsep(words, "\n");
+
+	if (!word || !*word)
+		return false;
+	snprintf(outcomes, sizeof(outcomes), "%s", strcmp(word, ".") ? word : "");
+	return true;
+}
+
 static void list_runs(int number)
 {
-	char name[32];
+	char name[32], *words = NULL;
 	void *image;
 	int size;
 
@@ -349,12 +612,15 @@ static void list_runs(int number)
 	if (listing < 0 || (!own_import && os_read_file(name, &image, &size)))
 		fail(name);
 	outcomes[0] = '\0';
+	sprintf(name, "%d.words", number);
+	if (by_list && (!(words = text_of(name)) || !take_word(&words)))
+		fail(name);
 	do {
 		if (!run_process(image, size)) {
 			os_write(listing, "no end\n", 7);
 			break;
 		}
-	} while (next_word());
+	} while (by_list ? take_word(&words) : next_word());
 	os_write(listing, "done\n", 5);
 	os_close(listing);
 	os_free(image);
@@ -364,7 +630,7 @@ static int do_scripted(struct cmd_tbl *cmdtp, int flag, int argc, char *const ar
 {
 	int number, count;
 
-	if (argc != 4)
+	if (argc != 4 && argc != 5)
 		return CMD_RET_USAGE;
 	count = dectoul(argv[1], NULL);
 	bound = dectoul(argv[2], NULL);
@@ -373,6 +639,8 @@ static int do_scripted(struct cmd_tbl *cmdtp, int flag, int argc, char *const ar
 	modern = !strcmp(argv[3], "modern");
 	if (modern)
 		choose_modern();
+	if (argc == 5)
+		read_list(argv[4]);
 	for (number = 1; number <= count; number++)
 		list_runs(number);
 	os_exit(0);
@@ -381,4 +649,4 @@ static int do_scripted(struct cmd_tbl *cmdtp, int flag, int argc, char *const ar
 
 U_BOOT_CMD(load, CONFIG_SYS_MAXARGS, 1, do_device, "a scripted command", "WORDS");
 U_BOOT_CMD(dhcp, CONFIG_SYS_MAXARGS, 1, do_device, "a scripted command", "WORDS");
-U_BOOT_CMD(scripted, 4, 0, do_scripted, "all runs of each bootcmd", "COUNT DEVICES SHELL");
+U_BOOT_CMD(scripted, 5, 0, do_scripted, "runs of each bootcmd", "COUNT DEVICES SHELL [LIST]");
