@@ -9,7 +9,7 @@
  *   a record of each run of bootcmd, in the form of docs/RUNNING.md. A device command beyond the word is taken
  *   to succeed; the next word is the last one that was used up, with its last 0 made 1 and what stood behind
  *   it left out. So the runs come in dictionary order, each once. Each run is a process of its own, which has
- *   20 seconds.
+ *   20 seconds. In 1.echoed, 2.echoed and so on the text of each record is what `echo` writes, and no message.
  *   The variables of N.image are set as they stand there; N.imported in its place is read by U-Boot's import.
  *   SHELL is `old` or, in a U-Boot that has it, `modern`.
  * - `scripted COUNT DEVICES SHELL LIST` takes N.image or N.imported, and writes to N.theirs the record of the run of
@@ -63,12 +63,13 @@ struct device_line {
 };
 
 static char outcomes[LONGEST_WORD + 1];
-static int asked, bound, listing, report;
+static int asked, bound, listing, plain, report;
 static bool own_import, modern, by_list;
 static struct device_line lines[MOST_LINES], *end_of_lines = lines;
 static char record[8 * LARGEST_TEXT];
 static int record_size;
-static char text[LARGEST_TEXT];
+static char text[LARGEST_TEXT], echoed[LARGEST_TEXT];
+static int echoed_size;
 
 static void fail(const char *why)
 {
@@ -145,7 +146,31 @@ static void add_variables(void)
 	}
 }
 
-/* Ends a run: its record is written, its word told, and its process ends. */
+static void add_text(const char *bytes, int size)
+{
+	if (size) {
+		add("text ");
+		add_form(bytes, size, false);
+		add("\n");
+	}
+}
+
+/* Writes the record with its text behind what the run asked, and takes them off it again. */
+static void write_record(int file, const char *first, const char *bytes, int size, const char *how, const char *status)
+{
+	int before = record_size;
+
+	add_text(bytes, size);
+	add_variables();
+	add(how);
+	add(status);
+	add("\n");
+	os_write(file, first, strlen(first));
+	os_write(file, record, record_size);
+	record_size = before;
+}
+
+/* Ends a run: its records are written, its word told, and its process ends. */
 static void end_run(const char *how, const char *status)
 {
 	char first[sizeof(outcomes) + 8];
@@ -153,19 +178,11 @@ static void end_run(const char *how, const char *status)
 
 	gd->flags &= ~GD_FLG_RECORD;
 	size = membuff_get((struct membuff *)&gd->console_out, text, sizeof(text));
-	if (size) {
-		add("text ");
-		add_form(text, size, false);
-		add("\n");
-	}
-	add_variables();
-	add(how);
-	add(status);
-	add("\n");
 	outcomes[asked] = '\0';
 	sprintf(first, "run %s\n", asked ? outcomes : ".");
-	os_write(listing, first, strlen(first));
-	os_write(listing, record, record_size);
+	if (!by_list)
+		write_record(listing, first, text, size, how, status);
+	write_record(by_list ? listing : plain, first, echoed, echoed_size, how, status);
 	os_write(report, outcomes, asked);
 	os_exit(0);
 }
@@ -223,10 +240,13 @@ int scripted_exists(const char *interface, const char *part, const char *path, i
 /* In the place of puts and putc, in `echo`. */
 void scripted_puts(const char *bytes)
 {
-	gd->flags |= GD_FLG_RECORD;
+	int size = strlen(bytes);
+
 	puts(bytes);
-	if (by_list)
-		gd->flags &= ~GD_FLG_RECORD;
+	if (echoed_size + size > sizeof(echoed))
+		fail("the text is too large");
+	memcpy(echoed + echoed_size, bytes, size);
+	echoed_size += size;
 }
 
 void scripted_putc(const char byte)
@@ -598,6 +618,13 @@ static bool take_word(char **words)
 	return true;
 }
 
+/* Writes a line to both listings. */
+static void write_line(const char *line)
+{
+	os_write(listing, line, strlen(line));
+	os_write(plain, line, strlen(line));
+}
+
 static void list_runs(int number)
 {
 	char name[32], *words = NULL;
@@ -606,10 +633,12 @@ static void list_runs(int number)
 
 	sprintf(name, "%d.theirs", number);
 	listing = os_open(name, OS_O_WRONLY | OS_O_CREAT | OS_O_TRUNC);
+	sprintf(name, by_list ? "/dev/null" : "%d.echoed", number);
+	plain = os_open(name, OS_O_WRONLY | OS_O_CREAT | OS_O_TRUNC);
 	sprintf(name, "%d.imported", number);
 	own_import = !os_read_file(name, &image, &size);
 	sprintf(name, "%d.image", number);
-	if (listing < 0 || (!own_import && os_read_file(name, &image, &size)))
+	if (listing < 0 || plain < 0 || (!own_import && os_read_file(name, &image, &size)))
 		fail(name);
 	outcomes[0] = '\0';
 	sprintf(name, "%d.words", number);
@@ -617,12 +646,13 @@ static void list_runs(int number)
 		fail(name);
 	do {
 		if (!run_process(image, size)) {
-			os_write(listing, "no end\n", 7);
+			write_line("no end\n");
 			break;
 		}
 	} while (by_list ? take_word(&words) : next_word());
-	os_write(listing, "done\n", 5);
+	write_line("done\n");
 	os_close(listing);
+	os_close(plain);
 	os_free(image);
 }
 
