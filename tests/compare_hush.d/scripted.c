@@ -187,7 +187,7 @@ static void end_run(const char *how, const char *status)
 	os_exit(0);
 }
 
-/* What the words of the record's last line, which begins there, were answered before; 0 where they were not asked. */
+/* The answer in an earlier line of the record with the words of its last, which begins at `start`; 0 if there is none. */
 static char earlier_answer(int start)
 {
 	int at;
