@@ -66,8 +66,8 @@ static char outcomes[LONGEST_WORD + 1];
 static int asked, bound, listing, plain, report;
 static bool own_import, modern, by_list;
 static struct device_line lines[MOST_LINES], *end_of_lines = lines;
-static char record[8 * LARGEST_TEXT];
-static int record_size;
+static char record[8 * LARGEST_TEXT], variables[sizeof(record)];
+static int record_size, variables_size;
 static char text[LARGEST_TEXT], echoed[LARGEST_TEXT];
 static int echoed_size;
 
@@ -155,18 +155,29 @@ static void add_text(const char *bytes, int size)
 	}
 }
 
-/* Writes the record with its text behind what the run asked, and takes them off it again. */
+/* Keeps the variables as lines. U-Boot's export writes beyond its memory where a value has a backslash, so it is called once. */
+static void keep_variables(void)
+{
+	int before = record_size;
+
+	add_variables();
+	variables_size = record_size - before;
+	memcpy(variables, record + before, variables_size);
+	record_size = before;
+}
+
+/* Writes the record with its text behind what the run asked, and takes the text off it again. */
 static void write_record(int file, const char *first, const char *bytes, int size, const char *how, const char *status)
 {
 	int before = record_size;
 
 	add_text(bytes, size);
-	add_variables();
-	add(how);
-	add(status);
-	add("\n");
 	os_write(file, first, strlen(first));
 	os_write(file, record, record_size);
+	os_write(file, variables, variables_size);
+	os_write(file, how, strlen(how));
+	os_write(file, status, strlen(status));
+	os_write(file, "\n", 1);
 	record_size = before;
 }
 
@@ -180,6 +191,7 @@ static void end_run(const char *how, const char *status)
 	size = membuff_get((struct membuff *)&gd->console_out, text, sizeof(text));
 	outcomes[asked] = '\0';
 	sprintf(first, "run %s\n", asked ? outcomes : ".");
+	keep_variables();
 	if (!by_list)
 		write_record(listing, first, text, size, how, status);
 	write_record(by_list ? listing : plain, first, echoed, echoed_size, how, status);
