@@ -158,3 +158,12 @@ operator_at_the_end = refl
 assignment_in_front : in_each (codes "x=1 echo a; echo $x") ≡ ([], Syntax (codes "bootcmd")) ∷ (codes "a\n1\n", End 0) ∷ (codes "a\n1\n", End 0) ∷ []
 unfolding told_of
 assignment_in_front = refl
+
+-- `env set` has its options computed in each shell, and an empty name is not followed in it either
+abbrev env_computed : Text → Shell → Told
+env_computed text shell = told_of (bootcmd (record (limits (record only_load { known = codes "env" ∷ [] }) 2 10000) { shell = shell }) text)
+
+empty_name_of_env : map (env_computed (codes "env set -f a b; echo $a; env set \"\" c; echo $?")) (Profile ∷ Old2023 ∷ Old2025 ∷ [])
+    ≡ (codes "b\n1\n", End 0) ∷ (codes "b\n", Unsupported (codes "env")) ∷ (codes "b\n", Unsupported (codes "env")) ∷ []
+unfolding told_of
+empty_name_of_env = refl
