@@ -71,7 +71,7 @@ in_front-assigned p q later =
     ]
 
 -- one pair more at the end
-env_of-snoc : (ps : List Pair) (q : Pair) → env_of (ps ++ q ∷ []) ≡ assigned (env_of ps) q.0 q.1
+pub env_of-snoc : (ps : List Pair) (q : Pair) → env_of (ps ++ q ∷ []) ≡ assigned (env_of ps) q.0 q.1
 env_of-snoc [] q = refl
 env_of-snoc (p ∷ ps) q = ap (in_front p) (env_of-snoc ps q) ∙ in_front-assigned p q (env_of ps)
 

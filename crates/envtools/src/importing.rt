@@ -1,0 +1,109 @@
+//! The environment that a board has once U-Boot has read an image.
+ghost use Rattle.std.specs.Prelude.{◌≡◌, IfOk, OnOk, false};
+ghost use Rattle.text.specs.Words.{is_space};
+ghost use Rattle.envimage.specs.Data.{IsVariable};
+ghost use Rattle.envtools.specs.Importing as says;
+
+use crate::env::Env;
+use std::alloc::{AllocError, Global};
+use text::{cut_front, is_space};
+
+/// Whether a name begins with `#`.
+fn begins_comment(name: &[u8]) -> bool
+    ensures { result ≡ says.begins_comment name.now }
+{
+    match name {
+        [byte, ..] => *byte == b'#',
+        [] => false,
+    }
+}
+
+/// Whether a name begins with a space or a tab.
+fn begins_with_blank(name: &[u8]) -> bool
+    ensures { result ≡ says.begins_with_blank name.now }
+{
+    match name {
+        [byte, ..] => is_space(*byte),
+        [] => false,
+    }
+}
+
+/// Whether a byte is a space or a tab.
+fn is_blank(byte: u8) -> bool
+    ensures { result ≡ is_space byte }
+{
+    is_space(byte)
+}
+
+/// A name without the blanks in front of it.
+fn imported_name(name: &[u8]) -> &[u8]
+    ensures { result.now ≡ says.imported_name name.now }
+{
+    cut_front(name, is_blank)
+}
+
+/// Whether a stored variable is set on the board.
+fn is_kept(name: &[u8], value: &[u8]) -> bool
+    ensures { result ≡ says.is_kept (name.now, value.now) }
+{
+    !begins_comment(imported_name(name)) && !value.is_empty()
+}
+
+/// Whether it is not followed what U-Boot does with a stored variable.
+fn is_doubtful(name: &[u8], value: &[u8]) -> bool
+    ensures { result ≡ says.is_doubtful (name.now, value.now) }
+{
+    imported_name(name).is_empty() || begins_with_blank(name) && value.is_empty()
+}
+
+/// A value without the backslash before each byte.
+fn imported_value(alloc: Global, value: &[u8]) -> Result<Vec<u8>, AllocError>
+    ensures { IfOk result (λ bytes. bytes.items ≡ says.imported_value false value.now) }
+{
+    let mut bytes = Vec::new(alloc);
+    let mut behind = false;
+    for byte in value {
+        behind = *byte == b'\\' && !behind;
+        if !behind {
+            bytes.push(*byte)?;
+        }
+    }
+    if behind {
+        bytes.push(b'\\')?;
+    }
+    Ok(bytes)
+}
+
+impl Env {
+    /// Sets a stored variable, unless it is not set on the board.
+    fn import(&mut self, name: &[u8], value: &[u8]) -> Result<(), AllocError>
+        requires variable { IsVariable (name.now, value.now) }
+        requires plain { says.is_doubtful (name.now, value.now) ≡ false }
+        ensures { OnOk result (self.new ≡ says.with_imported self.old (name.now, value.now)) }
+    {
+        if !is_kept(name, value) {
+            return Ok(());
+        }
+        let value = imported_value(self.allocator(), value)?;
+        self.assign(imported_name(name), &value)
+    }
+
+    /// The environment that a board has once U-Boot has read this one from its image: backslashes in
+    /// values and blanks in front of names are dropped, and empty values and names that begin with `#`
+    /// are left out. It is empty if a name has blanks alone, or a variable whose name begins with one
+    /// an empty value: what U-Boot does then is not followed. Errors: memory ran out. Source:
+    /// lib/hashtable.c, `himport_r`.
+    pub fn imported(&self) -> Result<Env, AllocError>
+        ensures { IfOk result (λ env. env ≡ says.imported self.now) }
+    {
+        let mut env = Env::new(self.allocator());
+        for place in 0..self.len() {
+            let (name, value) = self.pair(place).unwrap();
+            if is_doubtful(name, value) {
+                return Ok(Env::new(self.allocator()));
+            }
+            env.import(name, value)?;
+        }
+        Ok(env)
+    }
+}
