@@ -1,5 +1,5 @@
 -- The scripts of texts that were read. Ours.
-use Rattle.std.specs.Prelude.{◌≡◌, ℕ, List, Option, Some, None}
+use Rattle.std.specs.Prelude.{◌≡◌, ℕ, Bool, true, false, List, Option, Some, None}
 use Rattle.std.specs.List.{All}
 use Rattle.std.specs.Coded.{Coded-set, coded_option}
 use Rattle.std.specs.declared.alloc.Global.{Global}
@@ -34,4 +34,12 @@ one_proof shell kept p q = λ i k d below. Coded-set (coded_option coded_script)
 abbrev pub text_found : TextFound → Option (Option Script)
 text_found found.Unset = None
 text_found found.NoScript = Some None
+text_found found.NoEnd = Some None
 text_found (found.Script script) = Some (Some (script_shown script))
+
+-- whether the text of a variable is no script since its end is missing; none if the variable is not set
+abbrev pub end_missing : TextFound → Option Bool
+end_missing found.Unset = None
+end_missing found.NoScript = Some false
+end_missing found.NoEnd = Some true
+end_missing (found.Script script) = Some false

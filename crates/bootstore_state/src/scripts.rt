@@ -1,15 +1,15 @@
 //! The scripts of texts. A text that was read is not read again while its script is kept.
-ghost use Rattle.std.specs.Prelude.{◌≡◌, ◌+◌, ◌≤◌, true, Some, IfOk, option_map};
+ghost use Rattle.std.specs.Prelude.{◌≡◌, ◌+◌, ◌≤◌, true, Some, None, IfOk, option_map};
 ghost use Rattle.std.specs.FinMap.{get};
 ghost use Rattle.hushlang.specs.TreesShown as view;
-ghost use Rattle.hushlang_old.specs.TreesByShell.{tree_in};
-ghost use Rattle.bootstore_state.specs.Scripts.{AreOfTexts, most_kept, one_proof, script_shown, text_found};
+ghost use Rattle.hushlang_old.specs.TreesByShell.{lacks_end_in, tree_in};
+ghost use Rattle.bootstore_state.specs.Scripts.{AreOfTexts, end_missing, most_kept, one_proof, script_shown, text_found};
 ghost use Rattle.bootstore_state.specs.Table.{variables_of};
 
 use crate::store::StoreError;
 use crate::table::Table;
 use hushlang::Script;
-use hushlang_old::read_text;
+use hushlang_old::{read_text, text_lacks_end};
 use rehearse_terms::Shell;
 use std::alloc::Global;
 use std::collections::BTreeMap;
@@ -23,8 +23,10 @@ const KEPT_MAX: usize = 262_144;
 pub enum TextFound {
     /// The variable is not set.
     Unset,
-    /// The shell cannot read the text.
+    /// The shell cannot read the text, or what it does with it is not known.
     NoScript,
+    /// The shell cannot read the text, since its end is missing.
+    NoEnd,
     /// The script of the text.
     Script(Rc<Script>),
 }
@@ -45,6 +47,18 @@ pub fn read_script(alloc: Global, shell: Shell, text: &[u8]) -> Result<Option<Sc
     ensures { IfOk result (λ found. option_map view.script found ≡ tree_in shell text.now) }
 {
     Ok(read_text(alloc, shell, text)?)
+}
+
+/// What a text is that has no script. Errors: `Memory`.
+fn without_script(alloc: Global, shell: Shell, text: &[u8]) -> Result<TextFound, StoreError>
+    ensures found { IfOk result (λ found. text_found found ≡ Some None) }
+    ensures ends { IfOk result (λ found. end_missing found ≡ Some (lacks_end_in shell text.now)) }
+{
+    if text_lacks_end(alloc, shell, text)? {
+        Ok(TextFound::NoEnd)
+    } else {
+        Ok(TextFound::NoScript)
+    }
 }
 
 /// Whether two shells are the same.
@@ -123,21 +137,24 @@ impl Scripts {
     }
 
     /// What the text of a variable is in this shell. Errors: `Memory`.
+    #[tactic(auto, using(hushlang_old::proofs::TreeByShellLemmas::read_has_end))]
     pub fn text_of(
         &mut self,
         shell: Shell,
         variables: &Table,
         name: &[u8],
     ) -> Result<TextFound, StoreError>
-        ensures { IfOk result (λ found. text_found found
+        ensures found { IfOk result (λ found. text_found found
             ≡ option_map (tree_in shell) (get (variables_of variables.now) name.now)) }
+        ensures ends { IfOk result (λ found. end_missing found
+            ≡ option_map (lacks_end_in shell) (get (variables_of variables.now) name.now)) }
     {
         let Some(text) = variables.get(name) else {
             return Ok(TextFound::Unset);
         };
         self.take_shell(shell);
         match self.script_of(text)? {
-            None => Ok(TextFound::NoScript),
+            None => without_script(self.alloc, shell, text),
             Some(script) => Ok(TextFound::Script(script)),
         }
     }

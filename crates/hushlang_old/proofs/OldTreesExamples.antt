@@ -1,11 +1,11 @@
 -- Worked examples of the texts that U-Boot's old shell reads, computed. A sandbox of U-Boot 2023.01 does with each what this
 -- says; the texts are among those that the comparison with it runs.
-use Rattle.std.proofs.Common.{◌≡◌, ℕ, true, false, List, [], ◌∷◌, ◌++◌, map, refl, replicate, Some, None, is_some, Option}
+use Rattle.std.proofs.Common.{◌≡◌, ℕ, true, false, List, [], ◌∷◌, ◌++◌, map, drop, refl, replicate, Some, None, is_some, Option}
 use Rattle.std.specs.Prelude.{codes}
 use Rattle.std.specs.List.{flat_map}
 use Rattle.hushlang.specs.Tree.{Script, Empty, Runs, Starts, Alone, Joins, Simple, Assign, If, Arm, Else, NoElse, Loop, For, Bytes, Mark, Var, Status, Word}
 use Rattle.hushlang.specs.Trees.{tree_of}
-use Rattle.hushlang_old.specs.OldTrees.{old_tree_of}
+use Rattle.hushlang_old.specs.OldTrees.{old_tree_of, lacks_end}
 
 abbrev Text : Type 0
 Text = List ℕ
@@ -130,6 +130,19 @@ broken_compounds =
 broken_compounds_refused : map old_tree_of broken_compounds ≡ nothing_of broken_compounds
 unfolding old_tree_of
 broken_compounds_refused = refl
+
+-- a text whose end is missing; what is wrong before it is another fault, which is not told here
+abbrev without_end : List Text
+without_end =
+    codes "if a; then b" ∷ codes "if a" ∷ codes "if a; then b; else c # fi" ∷ codes "if a; then if b; then c; fi; d" ∷ codes "while a; do" ∷ codes "for x in a b" ∷ codes "for x in a; do b; done; until c\nd" ∷ []
+
+abbrev with_end : List Text
+with_end =
+    codes "" ∷ codes "a; b" ∷ codes "if a; then b; fi" ∷ codes "fi" ∷ codes "'a" ∷ codes "if 'a" ∷ codes "if a; then b; fi fi" ∷ codes "if a; b; fi; if c" ∷ codes "for" ∷ codes "for x" ∷ codes "if ${a:-b}; then" ∷ codes "if a && " ∷ []
+
+ends_missing : map lacks_end without_end ++ map lacks_end with_end ≡ map (λ text. true) without_end ++ map (λ text. false) (drop 1 with_end) ++ true ∷ []
+unfolding lacks_end
+ends_missing = refl
 
 -- compound commands stand in one another 64 deep, and no deeper
 abbrev nested : ℕ → Text

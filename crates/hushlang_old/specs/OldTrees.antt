@@ -361,3 +361,14 @@ tree_of_tokens tokens = elim (read_tokens tokens nothing_built) [ None ↦ None 
 unfoldable pub old_tree_of : (text : List ℕ) → Option Script
 unfolding old_tokens read read_open reserved_bytes assignment read_token
 old_tree_of text = elim (old_tokens text) [ None ↦ None | Some tokens ↦ tree_of_tokens tokens ]
+
+-- whether the text ends in a compound command that is open
+abbrev pub is_open : Building → Bool
+is_open b = elim b.opens [ [] ↦ false | first ∷ opens ↦ true ]
+
+abbrev pub are_open : List Token → Bool
+are_open tokens = elim (read_tokens tokens nothing_built) [ None ↦ false | Some b ↦ is_open b ]
+
+unfoldable pub lacks_end : (text : List ℕ) → Bool
+unfolding old_tokens read read_open reserved_bytes assignment read_token
+lacks_end text = elim (old_tokens text) [ None ↦ false | Some tokens ↦ are_open tokens ]

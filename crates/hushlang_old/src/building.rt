@@ -455,6 +455,13 @@ impl Building {
         }
     }
 
+    /// Whether a compound command is open.
+    pub(crate) fn is_open(&self) -> bool
+        ensures { result ≡ says.is_open (shown.building self.now) }
+    {
+        self.opens.len() > 0
+    }
+
     /// The tree, if no compound command is open.
     #[tactic(auto, using(hushlang::proofs::ViewLemmas::what_it_says))]
     pub(crate) fn into_tree(self) -> Option<Script>

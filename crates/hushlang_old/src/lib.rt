@@ -13,7 +13,7 @@ mod reserved;
 mod trees_by_shell;
 mod word_bytes;
 
-pub use old_trees::read_old;
+pub use old_trees::{lacks_end, read_old};
 pub use old_words::{old_fields, old_turns};
-pub use trees_by_shell::read_text;
+pub use trees_by_shell::{read_text, text_lacks_end};
 pub use word_bytes::inserted;

@@ -3,16 +3,17 @@ ghost use Rattle.std.specs.Prelude.{◌≡◌, map, option_map, IfOk};
 ghost use Rattle.hushlang.specs.TreesShown as view;
 ghost use Rattle.hushlang_old.specs.OldTokensShown as tokens;
 ghost use Rattle.hushlang_old.specs.OldTrees as says;
+ghost use Rattle.hushlang_old.specs.OldTreesShown as shown;
 
 use crate::building::Building;
 use crate::old_tokens::{Token, old_tokens};
 use hushlang::Script;
 use std::alloc::{AllocError, Global};
 
-/// The tree of tokens.
-fn tree_of_tokens(alloc: Global, found: Vec<Token>) -> Result<Option<Script>, AllocError>
-    ensures { IfOk result (λ script. option_map view.script script
-        ≡ says.tree_of_tokens (tokens.tokens found)) }
+/// What is built of tokens, if all of them are followed.
+fn build(alloc: Global, found: Vec<Token>) -> Result<Option<Building>, AllocError>
+    ensures { IfOk result (λ built. option_map shown.building built
+        ≡ says.read_tokens (tokens.tokens found) says.nothing_built) }
 {
     let mut building = Building::new(alloc);
     for token in found.into_iter() {
@@ -21,7 +22,28 @@ fn tree_of_tokens(alloc: Global, found: Vec<Token>) -> Result<Option<Script>, Al
             return Ok(None);
         }
     }
-    Ok(building.into_tree())
+    Ok(Some(building))
+}
+
+/// The tree of tokens.
+fn tree_of_tokens(alloc: Global, found: Vec<Token>) -> Result<Option<Script>, AllocError>
+    ensures { IfOk result (λ script. option_map view.script script
+        ≡ says.tree_of_tokens (tokens.tokens found)) }
+{
+    match build(alloc, found)? {
+        Some(building) => Ok(building.into_tree()),
+        None => Ok(None),
+    }
+}
+
+/// Whether tokens end in a compound command that is open.
+fn are_open(alloc: Global, found: Vec<Token>) -> Result<bool, AllocError>
+    ensures { IfOk result (λ is. is ≡ says.are_open (tokens.tokens found)) }
+{
+    match build(alloc, found)? {
+        Some(building) => Ok(building.is_open()),
+        None => Ok(false),
+    }
 }
 
 /// Reads the tree of a text as U-Boot's old shell does. A text that has a construct that is not
@@ -33,5 +55,17 @@ pub fn read_old(alloc: Global, text: &[u8]) -> Result<Option<Script>, AllocError
     match old_tokens(alloc, text)? {
         Some(tokens) => tree_of_tokens(alloc, tokens),
         None => Ok(None),
+    }
+}
+
+/// Whether a text has no tree since it ends in a compound command that is open. To U-Boot's old shell
+/// that is a fault. Errors: memory ran out.
+#[tactic(auto, unfolding(crate::specs::OldTrees::lacks_end))]
+pub fn lacks_end(alloc: Global, text: &[u8]) -> Result<bool, AllocError>
+    ensures { IfOk result (λ lacks. lacks ≡ says.lacks_end text.now) }
+{
+    match old_tokens(alloc, text)? {
+        Some(tokens) => are_open(alloc, tokens),
+        None => Ok(false),
     }
 }

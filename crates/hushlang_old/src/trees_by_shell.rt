@@ -2,9 +2,9 @@
 ghost use Rattle.std.specs.Prelude.{◌≡◌, IfOk, option_map};
 ghost use Rattle.hushlang.specs.TreesShown as view;
 ghost use Rattle.hushlang.specs.Trees.{tree_of};
-ghost use Rattle.hushlang_old.specs.TreesByShell.{tree_in};
+ghost use Rattle.hushlang_old.specs.TreesByShell.{lacks_end_in, tree_in};
 
-use crate::old_trees::read_old;
+use crate::old_trees::{lacks_end, read_old};
 use hushlang::{Script, SyntaxError, parse};
 use rehearse_terms::Shell;
 use std::alloc::{AllocError, Global};
@@ -29,5 +29,16 @@ pub fn read_text(alloc: Global, shell: Shell, text: &[u8]) -> Result<Option<Scri
     match shell {
         Shell::Profile => read_profile(alloc, text),
         Shell::Old2023 | Shell::Old2025 => read_old(alloc, text),
+    }
+}
+
+/// Whether a text has no tree since its end is missing, and the shell takes that for a fault. Errors:
+/// memory ran out.
+pub fn text_lacks_end(alloc: Global, shell: Shell, text: &[u8]) -> Result<bool, AllocError>
+    ensures { IfOk result (λ lacks. lacks ≡ lacks_end_in shell text.now) }
+{
+    match shell {
+        Shell::Profile => Ok(false),
+        Shell::Old2023 | Shell::Old2025 => lacks_end(alloc, text),
     }
 }

@@ -3,7 +3,7 @@ use Rattle.std.specs.Vec.Iter.{into_iter_items}
 use Rattle.hushlang_old.specs.OldTokensShown as tokens
 use Rattle.hushlang_old.specs.OldTrees as says
 use Rattle.hushlang_old.specs.OldTreesShown as shown
-use Rattle.hushlang_old.proofs.old_trees.tree_of_tokens.Given as goal
+use Rattle.hushlang_old.proofs.old_trees.build.Given as goal
 
 abbrev pub invariant-loop-token : goal.invariant-loop-token
 invariant-loop-token l =
