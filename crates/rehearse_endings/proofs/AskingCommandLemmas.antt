@@ -11,7 +11,7 @@ use Rattle.rehearse_terms.specs.State.{Text, State}
 use Rattle.rehearse_rules.specs.Parameters.{parameters_in}
 use Rattle.device_list.specs.Called.{Called, BuiltIn, NoCommand, Device, called_by, sets_in}
 use Rattle.commands.specs.BuiltInCommands.{ChangesVariables, WritesText, RunsTexts, Tests, Exits}
-use Rattle.rehearse_rules.specs.Execution.{Limits, CutDevices, Size, Request, test_effect, told, told_again, logged, set_environment, set_status, status_when, Unsupported}
+use Rattle.rehearse_rules.specs.Execution.{Limits, CutDevices, Size, Request, test_effect, told, told_again, logged, set_environment, set_status, status_when, Unsupported, request_of, test_request}
 use Rattle.rehearse_machine.specs.Places.{PlaceNext, GoOn, AskOn, StopOn, left, to_run, place_boot, place_exit, place_tell_or_ask, place_ask, place_called, place_fields}
 use Rattle.rehearse_machine.specs.AskingCommand.{words_in_front, fields_again, found_again}
 use Rattle.rehearse_machine.specs.Machine.{Asking}
@@ -51,11 +51,11 @@ module _ (limits : Limits) where
   called_anew (BuiltIn RunsTexts) name [] script ps s = tt
   called_anew (BuiltIn RunsTexts) name (w ∷ ws) script ps s = tt
   called_anew (BuiltIn Tests) name ws script ps s =
-      let r : Request = record { name = name; words = ws; effect = test_effect limits.devices; again = false } in
+      let r : Request = test_request limits name ws in
       either_anew (asks_in limits.shell ws) (place_ask limits r ps s) (GoOn ps (set_status (status_when (truth_in limits.shell ws)) s)) (ask_anew r ps s refl) tt
   called_anew (BuiltIn (WritesText written)) name ws script ps s = tt
   called_anew (BuiltIn Exits) name ws script ps s = exit_anew (leaves_in limits.shell ws) (status_of_exit limits.shell ws) ps s
-  called_anew (Device effect) name ws script ps s = ask_anew (record { name = name; words = ws; effect = effect; again = false }) ps s refl
+  called_anew (Device effect) name ws script ps s = ask_anew (request_of name ws effect) ps s refl
   called_anew NoCommand name ws script ps s = tt
 
   fields_anew : (fs : List Text) (script : Script) (ps : List RunningFrame) (s : State) → AsksAnew (place_fields limits fs script ps s)

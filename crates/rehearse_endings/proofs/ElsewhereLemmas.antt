@@ -9,11 +9,11 @@ use Rattle.hushlang.specs.Tree.{Script, AndOr, Joined, Command, Arms}
 use Rattle.rehearse_terms.specs.State.{Text, get, Memory, State, with_value, LoggedCommand, asked_of, answers_in, same_words}
 use Rattle.rehearse_rules.specs.Parameters.{parameters_in}
 use Rattle.hushlang.specs.Expansion.{joined, size, most_bytes}
-use Rattle.hushlang_old.specs.TreesByShell.{tree_in}
+use Rattle.hushlang_old.specs.TreesByShell.{tree_in, lacks_end_in}
 use Rattle.device_list.specs.Called.{Called, BuiltIn, Device, NoCommand, called_by, sets_in}
 use Rattle.commands.specs.BuiltInCommands.{ChangesVariables, WritesText, RunsTexts, Tests, Exits, variables_changed, text_written}
 use Rattle.rehearse_rules.specs.ByShell.{unread, leaves_in, status_of_exit, asks_in, truth_in, fields_in, turns_in, skips_rest, status_of_nothing, status_of_no_block, status_of_loop, status_in_turn, follows, assigned_in, locals_in}
-use Rattle.rehearse_rules.specs.Execution.{begin_turn, Limits, Answer, Normal, Exit, Ended, Dry, Ending, CutDevices, CutSteps, Unknown, Size, go_on, remember, set_status, set_local, status_when, goes, holds, begin, take_outcome, with_outcome, outcome_when, succeeds, told, told_again, tell_or_take, device, Request, test_effect, logged, set_environment, boot, text_end, run_text, run_all, command, simple, sized, assign, turns, for_each, exec_script, exec_list, exec_joined, exec_command, exec_arms, exec, Unsupported, assign_local}
+use Rattle.rehearse_rules.specs.Execution.{begin_turn, Limits, Answer, Normal, Exit, Ended, Dry, Ending, CutDevices, CutSteps, Unknown, Size, go_on, remember, set_status, set_local, status_when, goes, holds, begin, take_outcome, with_outcome, outcome_when, succeeds, told, told_again, tell_or_take, device, Request, test_effect, logged, set_environment, boot, text_end, run_text, run_all, command, simple, sized, assign, turns, for_each, exec_script, exec_list, exec_joined, exec_command, exec_arms, exec, Unsupported, assign_local, request_of, test_request, started_text}
 use Rattle.rehearse_rules.specs.Runs.{state_of}
 use Rattle.rehearse_rules.proofs.TakenOutcomes.{skipped, Track-of, KeepsAll, Keeps-script, Keeps-joined, Keeps-arms, Keeps-exec, Keeps-run, Keeps-turns, Keeps-for, Keeps-if, Keeps-stays, after_condition, Keeps-after_condition, Keeps-ended, Keeps-simple, Keeps-sized, Keeps-assign}
 use Rattle.rehearse_endings.specs.Elsewhere.{elsewhere, devices_of, HaveFurther, AreApart, IsBeyond, IsAlike, same, cut_here, beyond, Alike}
@@ -267,9 +267,12 @@ module _ (limits : Limits) (i j : ℕ) (k l : List LoggedCommand) where
     pub Alike-text : (name text : Text) → AlwaysDoes (run_text limits script name text)
     Alike-text name text s = Alike-tree (tree_in limits.shell text) name s
 
-    Alike-named : (text : Option Text) (name : Text) (next : State → Answer) (s : State) → AlwaysDoes next → KeepsAll limits next → Does s (λ t. elim text [ None ↦ Normal (set_status 1 t) | Some v ↦ text_end (run_text limits script name v t) next ])
+    Alike-started : (name text : Text) → AlwaysDoes (started_text limits script name text)
+    Alike-started name text s = Alike-if s (lacks_end_in limits.shell text) (λ t. Normal (set_status 1 t)) (run_text limits script name text) (Alike-normal s (λ m. record m { status = 1 }) (reaches_status 1 s.memory)) (Alike-text name text s)
+
+    Alike-named : (text : Option Text) (name : Text) (next : State → Answer) (s : State) → AlwaysDoes next → KeepsAll limits next → Does s (λ t. elim text [ None ↦ Normal (set_status 1 t) | Some v ↦ text_end (started_text limits script name v t) next ])
     Alike-named None name next s h k' = Alike-normal s (λ m. record m { status = 1 }) (reaches_status 1 s.memory)
-    Alike-named (Some v) name next s h k' = Alike-text_end s (run_text limits script name v) next (Alike-text name v s) h k'
+    Alike-named (Some v) name next s h k' = Alike-text_end s (started_text limits script name v) next (Alike-started name v s) h k'
 
     pub Alike-run : (names : List Text) → AlwaysDoes (run_all limits script names)
     Alike-run [] s = Alike-stays s
@@ -283,10 +286,10 @@ module _ (limits : Limits) (i j : ℕ) (k l : List LoggedCommand) where
     Alike-command (BuiltIn (ChangesVariables change)) name ws s = Alike-normal s (variables_changed change ws) (λ text. (text, refl))
     Alike-command (BuiltIn RunsTexts) name [] s = Alike-normal s (λ m. record m { status = 1 }) (reaches_status 1 s.memory)
     Alike-command (BuiltIn RunsTexts) name (w ∷ ws) s = Alike-run (w ∷ ws) s
-    Alike-command (BuiltIn Tests) name ws s = Alike-if s (asks_in limits.shell ws) (device limits (record { name = name; words = ws; effect = test_effect limits.devices; again = false })) (λ t. Normal (set_status (status_when (truth_in limits.shell ws)) t)) (Alike-device (record { name = name; words = ws; effect = test_effect limits.devices; again = false }) s) (Alike-normal s (λ m. record m { status = status_when (truth_in limits.shell ws) }) (reaches_status (status_when (truth_in limits.shell ws)) s.memory))
+    Alike-command (BuiltIn Tests) name ws s = Alike-if s (asks_in limits.shell ws) (device limits (test_request limits name ws)) (λ t. Normal (set_status (status_when (truth_in limits.shell ws)) t)) (Alike-device (test_request limits name ws) s) (Alike-normal s (λ m. record m { status = status_when (truth_in limits.shell ws) }) (reaches_status (status_when (truth_in limits.shell ws)) s.memory))
     Alike-command (BuiltIn (WritesText written)) name ws s = Alike-normal s (text_written written ws) (λ text. (text ++ written ws, refl))
     Alike-command (BuiltIn Exits) name ws s = Alike-leave (leaves_in limits.shell ws) (status_of_exit limits.shell ws) s
-    Alike-command (Device effect) name ws s = Alike-device (record { name = name; words = ws; effect = effect; again = false }) s
+    Alike-command (Device effect) name ws s = Alike-device (request_of name ws effect) s
     Alike-command NoCommand name ws s = Alike-ended s (Unknown name)
 
     pub Alike-simple : (fs : List Text) → AlwaysDoes (simple limits script fs)

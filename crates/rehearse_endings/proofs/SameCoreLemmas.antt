@@ -13,7 +13,7 @@ use Rattle.rehearse_rules.specs.Parameters.{parameters_in}
 use Rattle.bootstore_state.specs.StoredState.{state_at}
 use Rattle.device_list.specs.Called.{Called, BuiltIn, NoCommand, Device, called_by, sets_in}
 use Rattle.commands.specs.BuiltInCommands.{ChangesVariables, WritesText, RunsTexts, Tests, Exits}
-use Rattle.rehearse_rules.specs.Execution.{Limits, CutDevices, Size, Request, test_effect, told, told_again, logged, set_environment, set_status, status_when, take_outcome, Unsupported}
+use Rattle.rehearse_rules.specs.Execution.{Limits, CutDevices, Size, Request, test_effect, told, told_again, logged, set_environment, set_status, status_when, take_outcome, Unsupported, request_of, test_request}
 use Rattle.rehearse_machine.specs.Came.{Came}
 use Rattle.rehearse_machine.specs.Meaning.{continue, comes_to}
 use Rattle.rehearse_machine.specs.Places.{PlaceNext, GoOn, AskOn, StopOn, next_of, frames_of, left, to_run, place_exit, place_boot, place_tell_or_ask, place_ask, place_called, place_fields}
@@ -81,10 +81,10 @@ module _ (limits : Limits) (text : Text) (log : List LoggedCommand) (n : ℕ) wh
   called_same (BuiltIn (ChangesVariables change)) name ws script ps s h = tt
   called_same (BuiltIn RunsTexts) name [] script ps s h = tt
   called_same (BuiltIn RunsTexts) name (w ∷ ws) script ps s h = tt
-  called_same (BuiltIn Tests) name ws script ps s h = either_same (asks_in limits.shell ws) (place_ask limits (record { name = name; words = ws; effect = test_effect limits.devices; again = false }) ps) (λ t. GoOn ps (set_status (status_when (truth_in limits.shell ws)) t)) s (ask_same (record { name = name; words = ws; effect = test_effect limits.devices; again = false }) ps s h) tt
+  called_same (BuiltIn Tests) name ws script ps s h = either_same (asks_in limits.shell ws) (place_ask limits (test_request limits name ws) ps) (λ t. GoOn ps (set_status (status_when (truth_in limits.shell ws)) t)) s (ask_same (test_request limits name ws) ps s h) tt
   called_same (BuiltIn (WritesText written)) name ws script ps s h = tt
   called_same (BuiltIn Exits) name ws script ps s h = exit_same (leaves_in limits.shell ws) (status_of_exit limits.shell ws) ps s (place_exit (leaves_in limits.shell ws) (status_of_exit limits.shell ws) ps (there s))
-  called_same (Device effect) name ws script ps s h = ask_same (record { name = name; words = ws; effect = effect; again = false }) ps s h
+  called_same (Device effect) name ws script ps s h = ask_same (request_of name ws effect) ps s h
   called_same NoCommand name ws script ps s h = tt
 
   fields_same : (fs : List Text) (script : Script) (ps : List RunningFrame) (s : State) → answers_in log ≡ answers_in s.log → AskSame (place_fields limits fs script ps s) (place_fields limits fs script ps (there s))

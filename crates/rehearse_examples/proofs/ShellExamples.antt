@@ -94,6 +94,27 @@ no_term_in_a_test : in_each (codes "test a; echo $?; test a = a; echo $?") ≡ (
 unfolding told_of
 no_term_in_a_test = refl
 
+-- a file among other words of `test` is asked for, and the status says whether the words hold
+file_among_words : listed (bootcmd (record (limits only_load 2 10000) { shell = Old2023 }) (codes "test ! -e mmc 0:1 /a && test -n a -a -e mmc 0 b; echo $?")) z None
+    ≡ codes "run 0\ndev 0 test -e mmc 0:1 /a\ntext 1\\n\nunset z\nend 0\nrun 10\ndev 1 test -e mmc 0:1 /a\ndev 0 test -e mmc 0 b\ntext 0\\n\nunset z\nend 0\nrun 11\ndev 1 test -e mmc 0:1 /a\ndev 1 test -e mmc 0 b\ntext 1\\n\nunset z\nend 0\ndone\n"
+unfolding listed
+file_among_words = refl
+
+-- words behind the file that U-Boot cannot read hold, whether it is there or not
+file_in_front_of_a_word : listed (bootcmd (record (limits only_load 2 10000) { shell = Old2025 }) (codes "test -e mmc 0 a b; echo $?")) z None
+    ≡ codes "run 0\ndev 0 test -e mmc 0 a\ntext 0\\n\nunset z\nend 0\nrun 1\ndev 1 test -e mmc 0 a\ntext 0\\n\nunset z\nend 0\ndone\n"
+unfolding listed
+file_in_front_of_a_word = refl
+
+-- a text of `run` whose end is missing has the status 1, and nothing of it is run
+text_without_end : in_each (codes "setenv t 'echo b; if true; then echo a'; run t; echo $?; run t || echo c") ≡ ([], Syntax (codes "t")) ∷ (codes "1\nc\n", End 0) ∷ (codes "1\nc\n", End 0) ∷ []
+unfolding told_of
+text_without_end = refl
+
+other_fault_of_a_text : in_each (codes "setenv t 'echo b; fi'; run t") ≡ ([], Syntax (codes "t")) ∷ ([], Unsupported (codes "t")) ∷ ([], Unsupported (codes "t")) ∷ []
+unfolding told_of
+other_fault_of_a_text = refl
+
 -- a text that is not read ends the run before it acts
 unread_text : in_each (codes "if true; then") ≡ ([], Syntax (codes "bootcmd")) ∷ ([], Unsupported (codes "bootcmd")) ∷ ([], Unsupported (codes "bootcmd")) ∷ []
 unfolding told_of
@@ -121,7 +142,7 @@ empty_value : in_each (codes "x=a; x=; echo $?$x; x=$none; echo $?$x") ≡ (code
 unfolding told_of
 empty_value = refl
 
--- calls that are not followed: an option of `setenv`, an empty name, a file among other words of `test`, more than 16 words
+-- calls that are not followed: an option of `setenv`, an empty name, more than one file among the words of `test`, more than 16 words
 option_of_setenv : in_each (codes "echo a; setenv -f b c; echo $?") ≡ (codes "a\n1\n", End 0) ∷ (codes "a\n", Unsupported (codes "setenv")) ∷ (codes "a\n", Unsupported (codes "setenv")) ∷ []
 unfolding told_of
 option_of_setenv = refl
@@ -130,9 +151,9 @@ empty_name_of_setenv : in_each (codes "setenv \"\" c; echo $?") ≡ (codes "1\n"
 unfolding told_of
 empty_name_of_setenv = refl
 
-file_among_words : in_each (codes "test ! -e mmc 0:1 /a; echo $?") ≡ (codes "1\n", End 0) ∷ ([], Unsupported (codes "test")) ∷ ([], Unsupported (codes "test")) ∷ []
+files_of_a_test : in_each (codes "test -e mmc 0:1 /a -o -e mmc 0:1 /b; echo $?") ≡ (codes "1\n", End 0) ∷ ([], Unsupported (codes "test")) ∷ ([], Unsupported (codes "test")) ∷ []
 unfolding told_of
-file_among_words = refl
+files_of_a_test = refl
 
 many_words : in_each (codes "echo 1 2 3 4 5 6 7 8 9 a b c d e f; echo 1 2 3 4 5 6 7 8 9 a b c d e f g") ≡ (codes "1 2 3 4 5 6 7 8 9 a b c d e f\n1 2 3 4 5 6 7 8 9 a b c d e f g\n", End 0)
     ∷ (codes "1 2 3 4 5 6 7 8 9 a b c d e f\n", Unsupported (codes "echo")) ∷ (codes "1 2 3 4 5 6 7 8 9 a b c d e f\n", Unsupported (codes "echo")) ∷ []

@@ -8,12 +8,12 @@ use Rattle.bootstore_state.specs.Moment.{RunningFrame}
 use Rattle.bootstore_state.specs.declared.frame.FrameKind.{FrameKind}
 use Rattle.bootstore_state.specs.declared.frame.FrameKind.TheVariants as kinds
 use Rattle.std.specs.Prelude.{slice_get}
-use Rattle.hushlang_old.specs.TreesByShell.{tree_in}
+use Rattle.hushlang_old.specs.TreesByShell.{tree_in, lacks_end_in}
 use Rattle.rehearse_terms.specs.State.{Text, get, State}
 use Rattle.rehearse_rules.specs.Parameters.{parameters_in}
 use Rattle.device_list.specs.Called.{Called, BuiltIn, NoCommand, Device, called_by, sets_in}
 use Rattle.commands.specs.BuiltInCommands.{ChangesVariables, WritesText, RunsTexts, Tests, Exits}
-use Rattle.rehearse_rules.specs.Execution.{Limits, CutDevices, CutSteps, Size, set_status, set_local, status_when, goes, holds, Request, test_effect, told, told_again, logged, set_environment, Unsupported, assign_local}
+use Rattle.rehearse_rules.specs.Execution.{Limits, CutDevices, CutSteps, Size, set_status, set_local, status_when, goes, holds, Request, test_effect, told, told_again, logged, set_environment, Unsupported, assign_local, request_of, test_request}
 use Rattle.rehearse_terms.specs.Outcomes.{Success}
 use Rattle.rehearse_machine.specs.Places.{PlaceNext, GoOn, AskOn, StopOn, list_at, joined_at, second, command_in, command_at, drop_arms, block_frame, behind, in_turn, left, to_run, place_exit, place_boot, place_tell_or_ask, place_assign, place_tree, place_text, place_name, run_move, for_turn, for_move, for_begins, place_arms, condition_ends, phase_move, place_fitting, place_ask, place_called, place_fields, place_counted, place_command, place_joined, place_begins, place_turn, place_list, place_by, place_move, place_skipped, moved_to, place}
 use Rattle.rehearse_machine.specs.AskingCommand.{words_of, fields_again, found_again, AsksAgain}
@@ -81,11 +81,11 @@ module _ (limits : Limits) where
   builtin_here (BuiltIn RunsTexts) name [] script ps s = tt
   builtin_here (BuiltIn RunsTexts) name (w ∷ ws) script ps s = tt
   builtin_here (BuiltIn Tests) name ws script ps s =
-      let r : Request = record { name = name; words = ws; effect = test_effect limits.devices; again = false } in
+      let r : Request = test_request limits name ws in
       either_here ps s (asks_in limits.shell ws) (place_ask limits r ps s) (GoOn ps (set_status (status_when (truth_in limits.shell ws)) s)) (ask_here r ps s) tt
   builtin_here (BuiltIn (WritesText written)) name ws script ps s = tt
   builtin_here (BuiltIn Exits) name ws script ps s = exit_here ps s (leaves_in limits.shell ws) (status_of_exit limits.shell ws)
-  builtin_here (Device effect) name ws script ps s = ask_here (record { name = name; words = ws; effect = effect; again = false }) ps s
+  builtin_here (Device effect) name ws script ps s = ask_here (request_of name ws effect) ps s
   builtin_here NoCommand name ws script ps s = tt
 
   fields_here : (fs : List Text) (script : Script) (ps : List RunningFrame) (s : State) → AsksHere ps s (place_fields limits fs script ps s)
@@ -147,7 +147,9 @@ module _ (limits : Limits) where
 
   text_never : (o : Option Text) (name : Text) (f : RunningFrame) (ps : List RunningFrame) (s : State) → NeverAsks (place_text limits.shell o name f ps s)
   text_never None name f ps s = tt
-  text_never (Some text) name f ps s = tree_never (tree_in limits.shell text) name f ps s
+  text_never (Some text) name f ps s =
+      either_never (lacks_end_in limits.shell text) (GoOn ps (set_status 1 s)) (place_tree limits.shell (tree_in limits.shell text) name f ps s) tt
+      (tree_never (tree_in limits.shell text) name f ps s)
 
   name_never : (o : Option Text) (f : RunningFrame) (ps : List RunningFrame) (s : State) → NeverAsks (place_name limits.shell o f ps s)
   name_never None f ps s = tt

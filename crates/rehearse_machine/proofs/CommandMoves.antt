@@ -20,7 +20,7 @@ use Rattle.rehearse_rules.proofs.GivenRuns.{called_apart}
 use Rattle.device_list.specs.Called.{Called, BuiltIn, Device, NoCommand, listed_by, other_called, called_by}
 use Rattle.commands.specs.BuiltInCommands.{ChangesVariables, WritesText, Tests, carried, deed_of, setenv, variables_changed, text_written, decimal_from}
 use Rattle.commands.specs.VariableNames.{is_bad_name}
-use Rattle.rehearse_rules.specs.Execution.{Limits, Request, test_effect, remember, set_status, status_when}
+use Rattle.rehearse_rules.specs.Execution.{Limits, Request, remember, set_status, status_when, request_of, test_request}
 use Rattle.commands.specs.Computed.{Computed}
 use Rattle.device_list.specs.DeviceList.{Effect, Devices, computed_by, effect_of}
 use Rattle.bootstore_state.proofs.StateLemmas.{stored_changes, stored_deletions}
@@ -109,20 +109,20 @@ module _ (limits : Limits) (old new : Record) (name : Text) (words : List Text) 
   )
 
   abbrev request : Effect → Request
-  request effect = record { name = name; words = words; effect = effect; again = false }
+  request effect = request_of name words effect
 
   -- what a device command does, the name does
   pub device_comes : (r : Result Step StoreError) (b : Called) (effect : Effect) → b ≡ Device effect → Comes r old new (place_ask limits (request effect) old.present.frames) → Comes r old new (place_called limits b name words script old.present.frames)
   device_comes r b effect e h = subst (λ (x : Called). Comes r old new (place_called limits x name words script old.present.frames)) (sym e) h
 
-  pub test_comes : (r : Result Step StoreError) (b : Called) (effect : Effect) → b ≡ BuiltIn Tests → asks_in limits.shell words ≡ true → effect ≡ test_effect limits.devices → Comes r old new (place_ask limits (request effect) old.present.frames) → Comes r old new (place_called limits b name words script old.present.frames)
-  test_comes (Ok step) b effect e d t h = (
-    λ w. h.0 w ∙ ap (λ (x : Effect). place_ask limits (request x) frames (state_at old.present w)) t
-        ∙ chosen (asks_in limits.shell words) (place_ask limits (request (test_effect limits.devices)) frames (state_at old.present w)) (GoOn frames (set_status (status_when (truth_in limits.shell words)) (state_at old.present w))) d
+  pub test_comes : (r : Result Step StoreError) (b : Called) → b ≡ BuiltIn Tests → asks_in limits.shell words ≡ true → Comes r old new (place_ask limits (test_request limits name words) old.present.frames) → Comes r old new (place_called limits b name words script old.present.frames)
+  test_comes (Ok step) b e d h = (
+    λ w. h.0 w
+        ∙ chosen (asks_in limits.shell words) (place_ask limits (test_request limits name words) frames (state_at old.present w)) (GoOn frames (set_status (status_when (truth_in limits.shell words)) (state_at old.present w))) d
         ∙ sym (ap (λ (x : Called). place_called limits x name words script frames (state_at old.present w)) e),
     h.1,
   )
-  test_comes (Err x) b effect e d t h = tt
+  test_comes (Err x) b e d h = tt
 
 -- a call that is computed, and one that goes by the list
 pub other_computed : (devices : Devices) (name : Text) (words : List Text) (computed : Computed) → computed_by devices name words ≡ Some computed → other_called devices name words ≡ BuiltIn (ChangesVariables (λ ws. carried computed))

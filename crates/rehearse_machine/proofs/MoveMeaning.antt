@@ -3,13 +3,13 @@ use Rattle.std.proofs.Common.{ℕ, zero, suc, Bool, true, false, List, [], ◌�
 use Rattle.hushlang.specs.Tree as tree
 use Rattle.hushlang.specs.Tree.{Script, Command, Arms, IsProper, IsProperCommand, HoldsCommand}
 use Rattle.hushlang.specs.Expansion.{fields, joined, size, most_bytes}
-use Rattle.hushlang_old.specs.TreesByShell.{tree_in}
+use Rattle.hushlang_old.specs.TreesByShell.{tree_in, lacks_end_in}
 use Rattle.rehearse_terms.specs.Outcomes.{OutcomeWord, Success}
 use Rattle.rehearse_terms.specs.State.{Text, get, State}
 use Rattle.rehearse_rules.specs.Parameters.{parameters_in}
 use Rattle.device_list.specs.Called.{Called, BuiltIn, NoCommand, Device, called_by, sets_in}
 use Rattle.commands.specs.BuiltInCommands.{ChangesVariables, WritesText, RunsTexts, Tests, Exits}
-use Rattle.rehearse_rules.specs.Execution.{Limits, Answer, Normal, Exit, Ended, Dry, Ending, CutDevices, CutSteps, Unknown, Size, go_on, set_status, set_local, status_when, goes, holds, begin, tell_or_take, told, told_again, logged, boot, set_environment, Booted, device, Request, test_effect, text_end, run_text, run_all, command, simple, sized, assign, turns, for_each, Unsupported, assign_local}
+use Rattle.rehearse_rules.specs.Execution.{Limits, Answer, Normal, Exit, Ended, Dry, Ending, CutDevices, CutSteps, Unknown, Size, go_on, set_status, set_local, status_when, goes, holds, begin, tell_or_take, told, told_again, logged, boot, set_environment, Booted, device, Request, test_effect, text_end, run_text, run_all, command, simple, sized, assign, turns, for_each, Unsupported, assign_local, request_of, test_request, started_text}
 use Rattle.rehearse_machine.specs.Frames.{Frame, Lists, Linked, IfCondition, LoopCondition, LoopBody, ForBody, RunNames, RunText, Next, Go, Stop, tell_or_ask, boot_next, leave, begin_assign, begin_for, begin_arms, begin_tree, begin_text, begin_names, begin_exit, fitting, ask, begin_called, begin_fields, counted, begin_command, move}
 use Rattle.rehearse_machine.specs.Came.{Over, Wants}
 use Rattle.rehearse_machine.specs.Meaning.{with, full, script, one, joined_of, arms_of, again, resume, continue, comes_to, AreProperFrames}
@@ -78,9 +78,13 @@ module _ (limits : Limits) where
     tree-is (Some tree.Empty) name names fs s p = ap (λ (a : Answer). continue limits fs (text_end a (run_all limits (full limits) names))) (sym (closed_exec limits limits.step_bound tree.Empty tt (set_status 0 (with w s)) (omega arith)))
     tree-is (Some (tree.Runs l ls)) name names fs s p = ap (λ (a : Answer). continue limits fs (text_end a (run_all limits (full limits) names))) (sym (closed_exec limits limits.step_bound (tree.Runs l ls) (p (tree.Runs l ls) refl) (with w s) (omega arith)))
 
-    text-is : (o : Option Text) (name : Text) (names : List Text) (fs : List Frame) (s : State) → comes_to limits w (begin_text limits.shell o name names fs s) ≡ continue limits fs (elim o [ None ↦ Normal (set_status 1 (with w s)) | Some v ↦ text_end (run_text limits (full limits) name v (with w s)) (run_all limits (full limits) names) ])
+    started-is : (b : Bool) (v name : Text) (names : List Text) (fs : List Frame) (s : State) → comes_to limits w (elim b [ true ↦ Go fs (set_status 1 s) | false ↦ begin_tree limits.shell (tree_in limits.shell v) name names fs s ]) ≡ continue limits fs (text_end (elim b [ true ↦ Normal (set_status 1 (with w s)) | false ↦ run_text limits (full limits) name v (with w s) ]) (run_all limits (full limits) names))
+    started-is true v name names fs s = refl
+    started-is false v name names fs s = tree-is (tree_in limits.shell v) name names fs s (trees_in_are_proper limits.shell v)
+
+    text-is : (o : Option Text) (name : Text) (names : List Text) (fs : List Frame) (s : State) → comes_to limits w (begin_text limits.shell o name names fs s) ≡ continue limits fs (elim o [ None ↦ Normal (set_status 1 (with w s)) | Some v ↦ text_end (started_text limits (full limits) name v (with w s)) (run_all limits (full limits) names) ])
     text-is None name names fs s = refl
-    text-is (Some v) name names fs s = tree-is (tree_in limits.shell v) name names fs s (trees_in_are_proper limits.shell v)
+    text-is (Some v) name names fs s = started-is (lacks_end_in limits.shell v) v name names fs s
 
     names-is : (names : List Text) (fs : List Frame) (s : State) → comes_to limits w (begin_names limits.shell names fs s) ≡ continue limits fs (run_all limits (full limits) names (with w s))
     names-is [] fs s = refl
@@ -107,10 +111,10 @@ module _ (limits : Limits) where
     builtin-is (BuiltIn RunsTexts) name [] fs s = refl
     builtin-is (BuiltIn RunsTexts) name (v ∷ ws) fs s = refl
     builtin-is (BuiltIn (ChangesVariables change)) name ws fs s = refl
-    builtin-is (BuiltIn Tests) name ws fs s = if-is (asks_in limits.shell ws) (ask limits (record { name = name; words = ws; effect = test_effect limits.devices; again = false }) fs s) (Go fs (set_status (status_when (truth_in limits.shell ws)) s)) fs (device limits (record { name = name; words = ws; effect = test_effect limits.devices; again = false }) (with w s)) (Normal (set_status (status_when (truth_in limits.shell ws)) (with w s))) (ask-is (record { name = name; words = ws; effect = test_effect limits.devices; again = false }) fs s) refl
+    builtin-is (BuiltIn Tests) name ws fs s = if-is (asks_in limits.shell ws) (ask limits (test_request limits name ws) fs s) (Go fs (set_status (status_when (truth_in limits.shell ws)) s)) fs (device limits (test_request limits name ws) (with w s)) (Normal (set_status (status_when (truth_in limits.shell ws)) (with w s))) (ask-is (test_request limits name ws) fs s) refl
     builtin-is (BuiltIn (WritesText written)) name ws fs s = refl
     builtin-is (BuiltIn Exits) name ws fs s = exit-is (leaves_in limits.shell ws) (status_of_exit limits.shell ws) fs s
-    builtin-is (Device effect) name ws fs s = ask-is (record { name = name; words = ws; effect = effect; again = false }) fs s
+    builtin-is (Device effect) name ws fs s = ask-is (request_of name ws effect) fs s
     builtin-is NoCommand name ws fs s = sym (continue-ended fs (Unknown name) (with w s))
 
     fields-is : (ws : List Text) (fs : List Frame) (s : State) → comes_to limits w (begin_fields limits ws fs s) ≡ continue limits fs (simple limits (full limits) ws (with w s))

@@ -12,7 +12,7 @@ use Rattle.device_list.specs.DevicesShown.{setting_shown}
 use Rattle.device_list.specs.declared.setting.Setting.{Setting}
 use Rattle.rehearse_terms.specs.State.{Text, Variables, State, LoggedCommand}
 use Rattle.bootstore_state.specs.StoredState.{state_at}
-use Rattle.rehearse_rules.specs.Execution.{Request, Booted, remember, succeeds, status_when, logged, with_all, set_environment}
+use Rattle.rehearse_rules.specs.Execution.{Request, Booted, remember, succeeds, logged, with_all, set_environment, status_after}
 use Rattle.bootstore_state.proofs.StateLemmas.{stored_changes}
 use Rattle.rehearse_machine.specs.declared.ask.Step.{Step}
 use Rattle.rehearse_machine.specs.declared.ask.Step.TheVariants as steps
@@ -90,12 +90,12 @@ sets_one words set old new name e made = (
   subst (Keeps old) (sym made) (keeps_change (with_environment name (Some set.1)) old refl),
 )
 
-module _ (outcome : Outcome) (request : Request) (old mid late : Record) (entry : LoggedCommand) (words : entry.words ≡ request.name ∷ request.words) (stays : entry.stays ≡ request.effect.stays) (again : entry.again ≡ request.again) (success : succeeds outcome ≡ entry.success) (device : mid ≡ changed (with_device entry) old) (n : ℕ) (code : n ≡ status_when (succeeds outcome)) (status : late ≡ changed (with_status n) mid) where
+module _ (outcome : Outcome) (request : Request) (old mid late : Record) (entry : LoggedCommand) (words : entry.words ≡ request.name ∷ request.words) (stays : entry.stays ≡ request.effect.stays) (again : entry.again ≡ request.again) (success : succeeds outcome ≡ entry.success) (device : mid ≡ changed (with_device entry) old) (n : ℕ) (code : n ≡ status_after outcome request) (status : late ≡ changed (with_status n) mid) where
   entry_is : entry ≡ record { success = succeeds outcome; words = request.name ∷ request.words; stays = request.effect.stays; again = request.again }
   entry_is = λ i. record { success = sym success i; words = words i; stays = stays i; again = again i }
 
-  late_is : late ≡ changed (with_status (status_when (succeeds outcome))) (changed (with_device (record { success = succeeds outcome; words = request.name ∷ request.words; stays = request.effect.stays; again = request.again })) old)
-  late_is = status ∙ ap (λ (x : ℕ). changed (with_status x) mid) code ∙ ap (changed (with_status (status_when (succeeds outcome)))) (device ∙ ap (λ (x : LoggedCommand). changed (with_device x) old) entry_is)
+  late_is : late ≡ changed (with_status (status_after outcome request)) (changed (with_device (record { success = succeeds outcome; words = request.name ∷ request.words; stays = request.effect.stays; again = request.again })) old)
+  late_is = status ∙ ap (λ (x : ℕ). changed (with_status x) mid) code ∙ ap (changed (with_status (status_after outcome request))) (device ∙ ap (λ (x : LoggedCommand). changed (with_device x) old) entry_is)
 
   pub logged_state : (w : OutcomeWord) → state_at late.present w ≡ logged outcome request (state_at old.present w)
   logged_state w = ap (λ (x : Record). state_at x.present w) late_is
@@ -105,6 +105,14 @@ module _ (outcome : Outcome) (request : Request) (old mid late : Record) (entry 
 
   pub logged_keeps : Keeps old late
   logged_keeps = subst (Keeps old) (sym late_is) (record { marked = refl; begun = omega arith })
+
+pub after_failure : (outcome : Outcome) (request : Request) → succeeds outcome ≡ false → request.on_failure ≡ status_after outcome request
+after_failure Success request e = absurd (let f = e in cc)
+after_failure Failure request e = refl
+
+pub after_success : (outcome : Outcome) (request : Request) → succeeds outcome ≡ true → request.on_success ≡ status_after outcome request
+after_success Success request e = refl
+after_success Failure request e = absurd (let f = e in cc)
 
 pub failed : (outcome : Outcome) (request : Request) (ps : List RunningFrame) (s : State) → succeeds outcome ≡ false → GoOn ps (logged outcome request s) ≡ place_answered outcome request ps s
 failed Success request ps s e = absurd (let f = e in cc)

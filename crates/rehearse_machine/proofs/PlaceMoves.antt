@@ -12,12 +12,12 @@ use Rattle.bootstore_state.specs.declared.frame.FrameKind.TheVariants as kinds
 use Rattle.bootstore_state.specs.Moment.{RunningFrame}
 use Rattle.bootstore_state.specs.Record.{without_first}
 use Rattle.rehearse_terms.specs.Outcomes.{Outcome, Success, Failure}
-use Rattle.hushlang_old.specs.TreesByShell.{tree_in}
+use Rattle.hushlang_old.specs.TreesByShell.{tree_in, lacks_end_in}
 use Rattle.rehearse_terms.specs.State.{Text, get, State}
 use Rattle.rehearse_rules.specs.Parameters.{parameters_in}
 use Rattle.device_list.specs.Called.{Called, BuiltIn, NoCommand, Device, called_by, sets_in}
 use Rattle.commands.specs.BuiltInCommands.{ChangesVariables, WritesText, RunsTexts, Tests, Exits}
-use Rattle.rehearse_rules.specs.Execution.{begin_turn, Limits, End, CutDevices, CutSteps, Size, set_status, set_local, status_when, goes, holds, Request, test_effect, outcome_when, told, told_again, logged, set_environment, Unsupported, assign_local}
+use Rattle.rehearse_rules.specs.Execution.{begin_turn, Limits, End, CutDevices, CutSteps, Size, set_status, set_local, status_when, goes, holds, Request, test_effect, outcome_when, told, told_again, logged, set_environment, Unsupported, assign_local, request_of, test_request}
 use Rattle.rehearse_machine.specs.Frames.{Frame, Lists, Linked, IfCondition, LoopCondition, LoopBody, ForBody, Next, Go, Stop, leave, boot_next, answered, tell_or_ask, begin_assign, begin_for, begin_arms, begun_text, begin_tree, begin_text, begin_names, begin_exit, fitting, ask, begin_called, begin_fields, counted, begin_command, move}
 use Rattle.rehearse_machine.specs.Places.{list_at, drop_lists, joined_at, drop_joined, second, command_in, command_at, drop_arms, place, from_command, condition_frame, phase, from_turn, script_frames, for_frame, run_frame, frames_by, frames_of, PlaceNext, GoOn, StopOn, next_of, moved_to, behind, in_turn, text_frame, block_frame, is_run, to_run, left, place_exit, place_boot, place_answered, place_tell_or_ask, place_assign, place_tree, place_text, place_name, run_move, for_turn, for_move, for_begins, place_arms, condition_ends, phase_move, place_fitting, place_ask, place_called, place_fields, place_counted, place_command, place_joined, place_skipped, place_begins, place_turn, place_list, place_by, place_move, place_skipped}
 use Rattle.rehearse_machine.proofs.Beginnings.{chosen, passed}
@@ -158,7 +158,9 @@ module _ (limits : Limits) (f : RunningFrame) (fs : List RunningFrame) (s : Stat
 
   text-is : (o : Option Text) (name : Text) → next_of (place_text limits.shell o name f fs s) ≡ begin_text limits.shell o name (drop (suc f.place.turn) f.words) (frames_of fs) s
   text-is None name = refl
-  text-is (Some text) name = tree-is (tree_in limits.shell text) name
+  text-is (Some text) name =
+      if_next (lacks_end_in limits.shell text) (GoOn fs (set_status 1 s)) (place_tree limits.shell (tree_in limits.shell text) name f fs s) (Go (frames_of fs) (set_status 1 s))
+      (begin_tree limits.shell (tree_in limits.shell text) name (drop (suc f.place.turn) f.words) (frames_of fs) s) refl (tree-is (tree_in limits.shell text) name)
 
   name-is : (o : Option Text) → slice_get f.words f.place.turn ≡ o → next_of (place_name limits.shell o f fs s) ≡ begin_names limits.shell (drop f.place.turn f.words) (frames_of fs) s
   name-is None e = ap (λ (x : List Text). begin_names limits.shell x (frames_of fs) s) (sym (text_none f.words f.place.turn e))
@@ -249,12 +251,12 @@ module _ (limits : Limits) where
   builtin-is (BuiltIn RunsTexts) name [] script ps s = refl
   builtin-is (BuiltIn RunsTexts) name (w ∷ ws) script ps s = refl
   builtin-is (BuiltIn Tests) name ws script ps s =
-      let r : Request = record { name = name; words = ws; effect = test_effect limits.devices; again = false } in
+      let r : Request = test_request limits name ws in
       let t : State = set_status (status_when (truth_in limits.shell ws)) s in
       if_next (asks_in limits.shell ws) (place_ask limits r ps s) (GoOn ps t) (ask limits r (frames_of ps) s) (Go (frames_of ps) t) (ask-is r ps s) refl
   builtin-is (BuiltIn (WritesText written)) name ws script ps s = refl
   builtin-is (BuiltIn Exits) name ws script ps s = exit-is (leaves_in limits.shell ws) (status_of_exit limits.shell ws) ps s
-  builtin-is (Device effect) name ws script ps s = ask-is (record { name = name; words = ws; effect = effect; again = false }) ps s
+  builtin-is (Device effect) name ws script ps s = ask-is (request_of name ws effect) ps s
   builtin-is NoCommand name ws script ps s = refl
 
   fields-is : (ws : List Text) (script : Script) (ps : List RunningFrame) (s : State) → next_of (place_fields limits ws script ps s) ≡ begin_fields limits ws (frames_of ps) s

@@ -3,12 +3,12 @@ use Rattle.std.proofs.Common.{ℕ, suc, Bool, true, false, List, [], ◌∷◌, 
 use Rattle.hushlang.specs.Tree as tree
 use Rattle.hushlang.specs.Tree.{Script, Joined, Command, Arms, IsProperCommand, AreProperArms, HoldsCommand}
 use Rattle.hushlang.specs.Expansion.{joined, size, most_bytes}
-use Rattle.hushlang_old.specs.TreesByShell.{tree_in}
+use Rattle.hushlang_old.specs.TreesByShell.{tree_in, lacks_end_in}
 use Rattle.rehearse_terms.specs.State.{Text, get, State}
 use Rattle.rehearse_rules.specs.Parameters.{parameters_in}
 use Rattle.device_list.specs.Called.{Called, BuiltIn, NoCommand, Device, called_by, sets_in}
 use Rattle.commands.specs.BuiltInCommands.{ChangesVariables, WritesText, RunsTexts, Tests, Exits}
-use Rattle.rehearse_rules.specs.Execution.{Limits, CutDevices, CutSteps, Size, set_status, set_local, status_when, goes, holds, Request, test_effect, told, told_again, logged, set_environment, Unsupported, assign_local}
+use Rattle.rehearse_rules.specs.Execution.{Limits, CutDevices, CutSteps, Size, set_status, set_local, status_when, goes, holds, Request, test_effect, told, told_again, logged, set_environment, Unsupported, assign_local, request_of, test_request}
 use Rattle.rehearse_terms.specs.Outcomes.{Success}
 use Rattle.rehearse_machine.specs.Frames.{Frame, Lists, Linked, IfCondition, LoopCondition, LoopBody, ForBody, RunNames, RunText, Next, Go, Ask, Stop, tell_or_ask, boot_next, leave, begin_assign, begin_for, begin_arms, begin_tree, begin_text, begin_names, begin_exit, fitting, ask, begin_called, begin_fields, begin_command, move}
 use Rattle.rehearse_machine.specs.MoveCounts.{command_depth, arms_depth, script_depth, block_weight, links_weight, arms_weight, tree_weight, text_weight, names_weight, weight}
@@ -60,7 +60,9 @@ module _ (limits : Limits) where
 
   text-quiet : (o : Option Text) (name : Text) (names : List Text) (fs : List Frame) (s : State) → IsQuiet s (begin_text limits.shell o name names fs s)
   text-quiet None name names fs s = refl
-  text-quiet (Some text) name names fs s = tree-quiet (tree_in limits.shell text) name names fs s
+  text-quiet (Some text) name names fs s =
+      either-quiet s (lacks_end_in limits.shell text) (Go fs (set_status 1 s)) (begin_tree limits.shell (tree_in limits.shell text) name names fs s) refl
+      (tree-quiet (tree_in limits.shell text) name names fs s)
 
   names-quiet : (names : List Text) (fs : List Frame) (s : State) → IsQuiet s (begin_names limits.shell names fs s)
   names-quiet [] fs s = refl
@@ -86,10 +88,10 @@ module _ (limits : Limits) where
   builtin-quiet (BuiltIn (ChangesVariables change)) name ws fs s = refl
   builtin-quiet (BuiltIn RunsTexts) name [] fs s = refl
   builtin-quiet (BuiltIn RunsTexts) name (w ∷ ws) fs s = refl
-  builtin-quiet (BuiltIn Tests) name ws fs s = either-quiet s (asks_in limits.shell ws) (ask limits (record { name = name; words = ws; effect = test_effect limits.devices; again = false }) fs s) (Go fs (set_status (status_when (truth_in limits.shell ws)) s)) (ask-quiet (record { name = name; words = ws; effect = test_effect limits.devices; again = false }) fs s) refl
+  builtin-quiet (BuiltIn Tests) name ws fs s = either-quiet s (asks_in limits.shell ws) (ask limits (test_request limits name ws) fs s) (Go fs (set_status (status_when (truth_in limits.shell ws)) s)) (ask-quiet (test_request limits name ws) fs s) refl
   builtin-quiet (BuiltIn (WritesText written)) name ws fs s = refl
   builtin-quiet (BuiltIn Exits) name ws fs s = exit-quiet (leaves_in limits.shell ws) (status_of_exit limits.shell ws) fs s
-  builtin-quiet (Device effect) name ws fs s = ask-quiet (record { name = name; words = ws; effect = effect; again = false }) fs s
+  builtin-quiet (Device effect) name ws fs s = ask-quiet (request_of name ws effect) fs s
   builtin-quiet NoCommand name ws fs s = refl
 
   fields-quiet : (ws : List Text) (fs : List Frame) (s : State) → IsQuiet s (begin_fields limits ws fs s)
@@ -156,9 +158,16 @@ module _ (limits : Limits) where
   tree_progress (Some tree.Empty) name names fs s = inr (refl, refl, omega arith)
   tree_progress (Some (tree.Runs l ls)) name names fs s = inr (refl, refl, omega arith)
 
+  started_progress : (b : Bool) (n k : ℕ) (s : State) (x y : Next) → Progress s (suc n) x → Progress s (suc k) y → Progress s (suc (elim b [ true ↦ n | false ↦ k ])) (elim b [ true ↦ x | false ↦ y ])
+  started_progress true n k s x y p q = p
+  started_progress false n k s x y p q = q
+
   text_progress : (o : Option Text) (name : Text) (names : List Text) (fs : List Frame) (s : State) → Progress s (suc (text_weight limits.shell o (suc (names_weight limits.shell s.memory.environment names (weight limits.shell s.memory.environment fs) + weight limits.shell s.memory.environment fs)) (weight limits.shell s.memory.environment fs))) (begin_text limits.shell o name names fs s)
   text_progress None name names fs s = inr (refl, refl, omega arith)
-  text_progress (Some text) name names fs s = tree_progress (tree_in limits.shell text) name names fs s
+  text_progress (Some text) name names fs s =
+      started_progress (lacks_end_in limits.shell text) (weight limits.shell s.memory.environment fs)
+      (tree_weight (tree_in limits.shell text) (suc (names_weight limits.shell s.memory.environment names (weight limits.shell s.memory.environment fs) + weight limits.shell s.memory.environment fs)))
+      s (Go fs (set_status 1 s)) (begin_tree limits.shell (tree_in limits.shell text) name names fs s) (inr (refl, refl, omega arith)) (tree_progress (tree_in limits.shell text) name names fs s)
 
   names_progress : (names : List Text) (fs : List Frame) (s : State) → Progress s (suc (names_weight limits.shell s.memory.environment names (weight limits.shell s.memory.environment fs))) (begin_names limits.shell names fs s)
   names_progress [] fs s = inr (refl, refl, omega arith)

@@ -3,12 +3,12 @@ use Rattle.std.proofs.Common.{ℕ, suc, Bool, true, false, List, [], ◌∷◌, 
 use Rattle.hushlang.specs.Tree as tree
 use Rattle.hushlang.specs.Tree.{Script, Command, Arms, IsProper, IsProperCommand, AreProperArms, HoldsCommand}
 use Rattle.hushlang.specs.Expansion.{fields, joined, size, most_bytes}
-use Rattle.hushlang_old.specs.TreesByShell.{tree_in}
+use Rattle.hushlang_old.specs.TreesByShell.{tree_in, lacks_end_in}
 use Rattle.rehearse_terms.specs.State.{Text, get, State}
 use Rattle.rehearse_rules.specs.Parameters.{parameters_in}
 use Rattle.device_list.specs.Called.{Called, BuiltIn, NoCommand, Device, called_by, sets_in}
 use Rattle.commands.specs.BuiltInCommands.{ChangesVariables, WritesText, RunsTexts, Tests, Exits}
-use Rattle.rehearse_rules.specs.Execution.{Limits, CutDevices, CutSteps, Size, set_status, set_local, status_when, goes, holds, Request, test_effect, told, told_again, logged, set_environment, Unsupported, assign_local}
+use Rattle.rehearse_rules.specs.Execution.{Limits, CutDevices, CutSteps, Size, set_status, set_local, status_when, goes, holds, Request, test_effect, told, told_again, logged, set_environment, Unsupported, assign_local, request_of, test_request}
 use Rattle.rehearse_terms.specs.Outcomes.{Success}
 use Rattle.rehearse_machine.specs.Frames.{Frame, Lists, Linked, IfCondition, LoopCondition, LoopBody, ForBody, RunNames, RunText, Next, Go, Stop, tell_or_ask, boot_next, leave, begin_assign, begin_for, begin_arms, begin_tree, begin_text, begin_names, begin_exit, fitting, ask, begin_called, begin_fields, begin_command, move}
 use Rattle.hushlang_old.proofs.TreeByShellLemmas.{trees_in_are_proper}
@@ -38,7 +38,9 @@ module _ (limits : Limits) where
 
   text-proper : (o : Option Text) (name : Text) (names : List Text) (fs : List Frame) (s : State) → AreProperFrames fs → IsProperNext (begin_text limits.shell o name names fs s)
   text-proper None name names fs s p = p
-  text-proper (Some text) name names fs s p = tree-proper (tree_in limits.shell text) name names fs s (trees_in_are_proper limits.shell text) p
+  text-proper (Some text) name names fs s p =
+      either (lacks_end_in limits.shell text) (Go fs (set_status 1 s)) (begin_tree limits.shell (tree_in limits.shell text) name names fs s) p
+      (tree-proper (tree_in limits.shell text) name names fs s (trees_in_are_proper limits.shell text) p)
 
   names-proper : (names : List Text) (fs : List Frame) (s : State) → AreProperFrames fs → IsProperNext (begin_names limits.shell names fs s)
   names-proper [] fs s p = p
@@ -64,10 +66,10 @@ module _ (limits : Limits) where
   builtin-proper (BuiltIn (ChangesVariables change)) name ws fs s p = p
   builtin-proper (BuiltIn RunsTexts) name [] fs s p = p
   builtin-proper (BuiltIn RunsTexts) name (w ∷ ws) fs s p = (tt, p)
-  builtin-proper (BuiltIn Tests) name ws fs s p = either (asks_in limits.shell ws) (ask limits (record { name = name; words = ws; effect = test_effect limits.devices; again = false }) fs s) (Go fs (set_status (status_when (truth_in limits.shell ws)) s)) (ask-proper (record { name = name; words = ws; effect = test_effect limits.devices; again = false }) fs s p) p
+  builtin-proper (BuiltIn Tests) name ws fs s p = either (asks_in limits.shell ws) (ask limits (test_request limits name ws) fs s) (Go fs (set_status (status_when (truth_in limits.shell ws)) s)) (ask-proper (test_request limits name ws) fs s p) p
   builtin-proper (BuiltIn (WritesText written)) name ws fs s p = p
   builtin-proper (BuiltIn Exits) name ws fs s p = exit-proper (leaves_in limits.shell ws) (status_of_exit limits.shell ws) fs s p
-  builtin-proper (Device effect) name ws fs s p = ask-proper (record { name = name; words = ws; effect = effect; again = false }) fs s p
+  builtin-proper (Device effect) name ws fs s p = ask-proper (request_of name ws effect) fs s p
   builtin-proper NoCommand name ws fs s p = tt
 
   fields-proper : (ws : List Text) (fs : List Frame) (s : State) → AreProperFrames fs → IsProperNext (begin_fields limits ws fs s)

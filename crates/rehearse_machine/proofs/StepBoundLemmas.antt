@@ -3,15 +3,15 @@ use Rattle.std.proofs.Common.{ℕ, zero, suc, Bool, true, false, List, [], ◌�
 use Rattle.hushlang.specs.Tree as tree
 use Rattle.hushlang.specs.Tree.{Script, AndOr, Joined, Command, Arms, IsProper, IsProperList, IsProperJoined, IsProperCommand, AreProperArms, HoldsCommand}
 use Rattle.hushlang.specs.Expansion.{size, most_bytes}
-use Rattle.hushlang_old.specs.TreesByShell.{tree_in}
+use Rattle.hushlang_old.specs.TreesByShell.{tree_in, lacks_end_in}
 use Rattle.rehearse_terms.specs.State.{Text, get, State}
 use Rattle.rehearse_terms.specs.declared.shell.Shell.{Shell}
 use Rattle.rehearse_rules.specs.Parameters.{parameters_in}
 use Rattle.device_list.specs.Called.{Called, BuiltIn, NoCommand, Device, called_by}
 use Rattle.commands.specs.BuiltInCommands.{ChangesVariables, WritesText, RunsTexts, Tests, Exits}
-use Rattle.rehearse_rules.specs.Execution.{begin_turn, Limits, Answer, Normal, Exit, Ended, Dry, CutSteps, Size, go_on, set_status, goes, holds, begin, text_end, run_text, run_all, command, simple, sized, turns, for_each, exec_script, exec_list, exec_joined, exec_command, exec_arms, exec, Unsupported}
+use Rattle.rehearse_rules.specs.Execution.{begin_turn, Limits, Answer, Normal, Exit, Ended, Dry, CutSteps, Size, go_on, set_status, goes, holds, begin, text_end, run_text, run_all, command, simple, sized, turns, for_each, exec_script, exec_list, exec_joined, exec_command, exec_arms, exec, Unsupported, started_text}
 use Rattle.rehearse_rules.proofs.GrowingSteps.{AtLeast, Grew, AtLeast-track, Grew-block}
-use Rattle.rehearse_rules.proofs.TakenOutcomes.{KeepsAll, after_condition, Keeps-script, Keeps-list, Keeps-one, Keeps-exec, Keeps-text}
+use Rattle.rehearse_rules.proofs.TakenOutcomes.{KeepsAll, after_condition, Keeps-script, Keeps-list, Keeps-one, Keeps-exec, Keeps-started}
 use Rattle.hushlang_old.proofs.TreeByShellLemmas.{trees_in_are_proper}
 use Rattle.rehearse_machine.proofs.BoundLemmas.{Cut-block, Cut-turns}
 use Rattle.rehearse_rules.specs.ByShell.{unread, fields_in, turns_in, skips_rest, status_of_loop, follows}
@@ -34,7 +34,7 @@ abbrev pub tree_answer : Shell → (Script → State → Answer) → Option Scri
 tree_answer shell text o name t = elim o [ None ↦ Ended (unread shell name) t | Some a ↦ text a (elim a [ tree.Empty ↦ set_status 0 t | tree.Runs l ls ↦ t ]) ]
 
 abbrev named_answer : Limits → (Script → State → Answer) → Option Text → Text → (State → Answer) → State → Answer
-named_answer limits text o name f t = elim o [ None ↦ Normal (set_status 1 t) | Some v ↦ text_end (run_text limits text name v t) f ]
+named_answer limits text o name f t = elim o [ None ↦ Normal (set_status 1 t) | Some v ↦ text_end (started_text limits text name v t) f ]
 
 pub same_if : (b : Bool) (x y u v : Answer) → x ≡ u → y ≡ v → pick b x y ≡ pick b u v
 same_if true x y u v e k = e
@@ -56,9 +56,12 @@ module _ (limits : Limits) where
     same_text : (name v : Text) (t : State) → limits.step_bound < n + t.steps → run_text limits text name v t ≡ run_text limits text' name v t
     same_text name v t h = same_tree (tree_in limits.shell v) name (trees_in_are_proper limits.shell v) t h
 
+    same_started : (name v : Text) (t : State) → limits.step_bound < n + t.steps → started_text limits text name v t ≡ started_text limits text' name v t
+    same_started name v t h = same_if (lacks_end_in limits.shell v) (Normal (set_status 1 t)) (run_text limits text name v t) (Normal (set_status 1 t)) (run_text limits text' name v t) refl (same_text name v t h)
+
     same_named : (o : Option Text) (name : Text) (f g : State → Answer) (t : State) → limits.step_bound < n + t.steps → ((u : State) → t.steps ≤ u.steps → f u ≡ g u) → named_answer limits text o name f t ≡ named_answer limits text' o name g t
     same_named None name f g t h k = refl
-    same_named (Some v) name f g t h k = same_text_end t.steps (run_text limits text name v t) (run_text limits text' name v t) f g (AtLeast-track limits.device_bound t (run_text limits text name v t) (Keeps-text limits text kept name v t).0) (same_text name v t h) k
+    same_named (Some v) name f g t h k = same_text_end t.steps (started_text limits text name v t) (started_text limits text' name v t) f g (AtLeast-track limits.device_bound t (started_text limits text name v t) (Keeps-started limits text kept name v t).0) (same_started name v t h) k
 
     same_run : (names : List Text) (t : State) → limits.step_bound < n + t.steps → run_all limits text names t ≡ run_all limits text' names t
     same_run [] t h = refl

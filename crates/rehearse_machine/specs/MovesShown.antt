@@ -26,6 +26,8 @@ request_shown ask =
       words = bytes_of_words ask.words.items;
       effect = lent_effect ask.effect;
       again = ask.again;
+      on_success = ask.statuses.success;
+      on_failure = ask.statuses.failure;
     }
 
 -- the result of a move that has led to a moment

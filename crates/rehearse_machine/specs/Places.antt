@@ -9,14 +9,14 @@ use Rattle.bootstore_state.specs.declared.frame.FrameKind.{FrameKind}
 use Rattle.bootstore_state.specs.declared.frame.FrameKind.TheVariants as kinds
 use Rattle.bootstore_state.specs.Moment.{RunningFrame}
 use Rattle.rehearse_terms.specs.Outcomes.{Outcome, Success, Failure}
-use Rattle.hushlang_old.specs.TreesByShell.{tree_in}
+use Rattle.hushlang_old.specs.TreesByShell.{tree_in, lacks_end_in}
 use Rattle.rehearse_terms.specs.State.{Text, get, State}
 use Rattle.rehearse_terms.specs.declared.shell.Shell.{Shell}
 use Rattle.rehearse_rules.specs.ByShell.{unread, leaves_in, status_of_exit, asks_in, truth_in, fields_in, turns_in, skips_rest, status_of_nothing, status_of_no_block, status_of_loop, follows, assigned_in}
 use Rattle.rehearse_rules.specs.Parameters.{parameters_in}
 use Rattle.device_list.specs.Called.{Called, BuiltIn, NoCommand, Device, called_by, sets_in}
 use Rattle.commands.specs.BuiltInCommands.{ChangesVariables, WritesText, RunsTexts, Tests, Exits, variables_changed, text_written}
-use Rattle.rehearse_rules.specs.Execution.{Limits, Ending, End, CutDevices, CutSteps, Unknown, Size, Booted, remember, set_status, set_local, begin_turn, status_when, goes, holds, Request, test_effect, outcome_when, told, told_again, logged, set_environment, Unsupported, assign_local}
+use Rattle.rehearse_rules.specs.Execution.{Limits, Ending, End, CutDevices, CutSteps, Unknown, Size, Booted, remember, set_status, set_local, begin_turn, status_when, goes, holds, Request, test_effect, outcome_when, told, told_again, logged, set_environment, Unsupported, assign_local, request_of, test_request}
 use Rattle.rehearse_machine.specs.Frames.{Frame, Lists, Linked, IfCondition, LoopCondition, LoopBody, ForBody, RunNames, RunText, Next, Go, Ask, Stop, begun_text}
 
 -- ---- parts of a script by their numbers
@@ -197,7 +197,11 @@ place_tree shell (Some t) name f fs s = GoOn (text_frame t ∷ in_turn (suc f.pl
 
 abbrev pub place_text : Shell → Option Text → Text → RunningFrame → List RunningFrame → State → PlaceNext
 place_text shell None name f fs s = GoOn fs (set_status 1 s)
-place_text shell (Some text) name f fs s = place_tree shell (tree_in shell text) name f fs s
+place_text shell (Some text) name f fs s =
+    elim (lacks_end_in shell text) [
+      | true ↦ GoOn fs (set_status 1 s)
+      | false ↦ place_tree shell (tree_in shell text) name f fs s
+    ]
 
 abbrev pub place_name : Shell → Option Text → RunningFrame → List RunningFrame → State → PlaceNext
 place_name shell None f fs s = GoOn fs s
@@ -280,13 +284,13 @@ module _ (limits : Limits) where
   place_called (BuiltIn RunsTexts) name (w ∷ ws) script ps s = GoOn (names_frame script (w ∷ ws) ∷ ps) s
   place_called (BuiltIn Tests) name words script ps s =
       elim (asks_in limits.shell words) [
-        | true ↦ place_ask (record { name = name; words = words; effect = test_effect limits.devices; again = false }) ps s
+        | true ↦ place_ask (test_request limits name words) ps s
         | false ↦ GoOn ps (set_status (status_when (truth_in limits.shell words)) s)
       ]
   place_called (BuiltIn (WritesText written)) name words script ps s = GoOn ps (remember (text_written written words) s)
   place_called (BuiltIn Exits) name words script ps s = place_exit (leaves_in limits.shell words) (status_of_exit limits.shell words) ps s
   place_called (Device effect) name words script ps s =
-      place_ask (record { name = name; words = words; effect = effect; again = false }) ps s
+      place_ask (request_of name words effect) ps s
   place_called NoCommand name words script ps s = StopOn (Unknown name) s
 
   abbrev pub place_fields : List Text → Script → List RunningFrame → State → PlaceNext

@@ -3,6 +3,15 @@
 use device_list::Effect;
 use rehearse_rules::Halt;
 
+/// The status of a command that was asked, by its outcome.
+#[derive(Clone, Copy)]
+pub struct Statuses {
+    /// On success.
+    pub success: u8,
+    /// On failure.
+    pub failure: u8,
+}
+
 /// A device command that asks for its outcome.
 #[derive(Drop)]
 pub struct Ask<'a> {
@@ -14,6 +23,8 @@ pub struct Ask<'a> {
     pub effect: Effect<'a>,
     /// Whether it was asked before, and is told the same again.
     pub again: bool,
+    /// Its status.
+    pub statuses: Statuses,
 }
 
 /// The result of a move.

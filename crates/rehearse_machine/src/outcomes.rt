@@ -10,7 +10,7 @@ ghost use Rattle.device_list.specs.DeviceList.{Devices as ListedDevices};
 ghost use Rattle.rehearse_machine.specs.Places.{place_answered, place_ask};
 ghost use Rattle.rehearse_machine.specs.MovesShown.{Changed, Comes, request_shown, limits_of};
 
-use crate::ask::{Ask, Step};
+use crate::ask::{Ask, Statuses, Step};
 use crate::told::told;
 use bootstore_state::{LogEntry, Store, StoreError};
 use commands::is_bad_name;
@@ -20,8 +20,8 @@ use rehearse_terms::RunBounds;
 use std::alloc::Global;
 use text::copied_words;
 
-/// Gives a device command its outcome, which goes into the log and is the status. On success the
-/// command sets its variables, and may end the run.
+/// Gives a device command its outcome, which goes into the log and decides the status. On success
+/// the command sets its variables, and may end the run.
 pub(crate) fn answer<'d, S: Store>(
     store: &mut S,
     ask: Ask<'d>,
@@ -36,6 +36,7 @@ pub(crate) fn answer<'d, S: Store>(
         mut words,
         effect,
         again,
+        statuses,
     } = ask;
     set_all(store, &words, sets_on(success, effect))?;
     words.insert(0, name.clone()?)?;
@@ -47,10 +48,10 @@ pub(crate) fn answer<'d, S: Store>(
         again,
     })?;
     if !success {
-        store.set_status(1)?;
+        store.set_status(statuses.failure)?;
         return Ok(Step::Going);
     }
-    store.set_status(0)?;
+    store.set_status(statuses.success)?;
     if effect.ends {
         return Ok(Step::Ends(Halt::Booted(name)));
     }
@@ -66,6 +67,7 @@ pub(crate) fn ask<'d, S: Store>(
     name: &[u8],
     words: &[Vec<u8>],
     effect: Effect<'d>,
+    statuses: Statuses,
 ) -> Result<Step<'d>, StoreError>
     ensures { (devices : ListedDevices) → Comes result (S.record_of store.old)
         (S.record_of store.new) (place_ask (limits_of devices bounds) (record {
@@ -73,6 +75,8 @@ pub(crate) fn ask<'d, S: Store>(
           words = bytes_of_words words.now;
           effect = lent_effect effect.entry;
           again = false;
+          on_success = statuses.success;
+          on_failure = statuses.failure;
         }) (S.record_of store.old).present.frames) }
 {
     let asked = store.log().len();
@@ -85,6 +89,7 @@ pub(crate) fn ask<'d, S: Store>(
         words: copied_words(alloc, words)?,
         effect,
         again: answered.is_some(),
+        statuses,
     };
     match answered {
         Some(success) => answer(store, request, success),

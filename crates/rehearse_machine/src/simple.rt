@@ -7,21 +7,24 @@ ghost use Rattle.hushlang.specs.Tree as tree;
 ghost use Rattle.rehearse_rules.specs.ByShell.{fields_in, leaves_in, status_of_exit, turns_in};
 ghost use Rattle.rehearse_terms.specs.State.{Text};
 ghost use Rattle.rehearse_rules.specs.Parameters.{parameters_in};
-ghost use Rattle.rehearse_rules.specs.Execution.{Limits, set_status};
+ghost use Rattle.rehearse_rules.specs.Execution.{Limits, set_status, test_request};
 ghost use Rattle.commands.specs.BuiltInCommands as says;
 ghost use Rattle.device_list.specs.Called as called;
 ghost use Rattle.text.specs.TextsShown.{bytes_of_words};
 ghost use Rattle.device_list.specs.DeviceList.{Devices as ListedDevices};
-ghost use Rattle.rehearse_machine.specs.Places.{place_fields, place_called, place_exit, place_command, place_counted, place_fitting, for_begins, GoOn};
+ghost use Rattle.rehearse_machine.specs.Places.{place_ask, place_fields, place_called, place_exit, place_command, place_counted, place_fitting, for_begins, GoOn};
 ghost use Rattle.rehearse_machine.specs.Places.{behind as goes_behind};
 ghost use Rattle.bootstore_state.specs.Moment.{RunningFrame};
 ghost use Rattle.rehearse_machine.specs.Variables.{parameters_at};
 ghost use Rattle.rehearse_machine.specs.MovesShown.{Comes, IsExpanded, Moves, limits_of};
 ghost use Rattle.rehearse_machine.specs.CalledShown.{builtin_called};
 
-use crate::ask::Step;
+use crate::ask::{Statuses, Step};
 use crate::built_in::{echo, setenv};
-use crate::by_shell::{asks_in, follows, leaves_in, status_of_exit, status_of_nothing, truth_in};
+use crate::by_shell::{
+    asks_in, follows, leaves_in, question_in, status_of_exit, status_of_nothing, statuses_in,
+    truth_in,
+};
 use crate::computed::carry_out;
 use crate::frames::{behind, enter, finish, place};
 use crate::named::Named;
@@ -66,8 +69,31 @@ fn run_names<'d, S: Store>(
     }
 }
 
-/// `test`: the status says whether its words hold. If they are `-e` and three more, it is a device
-/// command.
+/// Asks for the file of a `test`.
+fn ask_file<'d, S: Store>(
+    alloc: Global,
+    store: &mut S,
+    devices: &'d Devices,
+    bounds: RunBounds,
+    name: &[u8],
+    words: &[Vec<u8>],
+) -> Result<Step<'d>, StoreError>
+    ensures { Comes result (S.record_of store.old) (S.record_of store.new)
+        (place_ask (limits_of devices.now bounds) (test_request (limits_of devices.now bounds)
+        name.now (bytes_of_words words.now)) (S.record_of store.old).present.frames) }
+{
+    let shell = bounds.shell();
+    let question = question_in(alloc, shell, words)?;
+    let statuses = statuses_in(shell, words);
+    let effect = Effect {
+        ends: false,
+        stays: devices.test_stays(),
+        sets: &[],
+    };
+    ask(alloc, store, bounds, name, &question, effect, statuses)
+}
+
+/// `test`: the status says whether its words hold. If they ask for a file, it is a device command.
 fn run_test<'d, S: Store>(
     alloc: Global,
     store: &mut S,
@@ -82,12 +108,7 @@ fn run_test<'d, S: Store>(
 {
     let shell = bounds.shell();
     if asks_in(shell, words) {
-        let effect = Effect {
-            ends: false,
-            stays: devices.test_stays(),
-            sets: &[],
-        };
-        ask(alloc, store, bounds, name, words, effect)
+        ask_file(alloc, store, devices, bounds, name, words)
     } else if truth_in(shell, words) {
         done(store, 0)
     } else {
@@ -149,6 +170,12 @@ fn run_builtin<'d, S: Store>(
     }
 }
 
+/// The status of a device command: 0 on success, 1 on failure.
+const BY_OUTCOME: Statuses = Statuses {
+    success: 0,
+    failure: 1,
+};
+
 /// Runs a command that is not built in: its call is computed, or it is a device command. An unknown
 /// name ends the run. The device list is looked at first at `place`.
 fn run_other<'d, S: Store>(
@@ -170,7 +197,7 @@ fn run_other<'d, S: Store>(
         return Ok(Step::Going);
     }
     match devices.effect_near(name, words, place) {
-        Some(effect) => ask(alloc, store, bounds, name, words, effect),
+        Some(effect) => ask(alloc, store, bounds, name, words, effect, BY_OUTCOME),
         None => Ok(Step::Ends(Halt::Unknown(Vec::from_slice(alloc, name)?))),
     }
 }

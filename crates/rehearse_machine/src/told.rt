@@ -2,7 +2,7 @@
 ghost use Rattle.std.specs.Prelude.{◌≡◌, ◌∷◌, ◌&&◌, not, false};
 ghost use Rattle.text.specs.TextsShown.{bytes_of_words};
 ghost use Rattle.device_list.specs.CommandsShown.{lent_effect};
-ghost use Rattle.rehearse_rules.specs.Execution.{told};
+ghost use Rattle.rehearse_rules.specs.Execution.{request_of, told};
 ghost use Rattle.rehearse_terms.specs.State.{same_words, answer_in};
 
 use bootstore_state::{LogEntry, Store};
@@ -47,12 +47,8 @@ pub(crate) fn told<S: Store>(
     words: &[Vec<u8>],
     effect: Effect<'_>,
 ) -> Option<bool>
-    ensures { result ≡ told (record {
-      name = name.now;
-      words = bytes_of_words words.now;
-      effect = lent_effect effect.entry;
-      again = false;
-    }) (S.record_of store.now).present.log }
+    ensures { result ≡ told
+        (request_of name.now (bytes_of_words words.now) (lent_effect effect.entry)) (S.record_of store.now).present.log }
 {
     if effect.stays {
         answer_in(store.log(), name, words)

@@ -4,19 +4,19 @@ use Rattle.hushlang.specs.Tree as tree
 use Rattle.hushlang.specs.Tree.{Script, AndOr, Joined, Command, Arms, IsProper, IsProperList, IsProperJoined, IsProperCommand, HasArm, AreProperArms, HoldsCommand}
 use Rattle.hushlang.specs.Expansion.{joined, size, most_bytes}
 use Rattle.rehearse_terms.specs.Outcomes.{OutcomeWord, Outcome, Success, Failure}
-use Rattle.hushlang_old.specs.TreesByShell.{tree_in}
+use Rattle.hushlang_old.specs.TreesByShell.{tree_in, lacks_end_in}
 use Rattle.rehearse_terms.specs.State.{Text, get, State, start}
 use Rattle.rehearse_rules.specs.Parameters.{parameters_in}
 use Rattle.device_list.specs.Called.{Called, BuiltIn, Device, NoCommand, called_by, sets_in}
 use Rattle.commands.specs.BuiltInCommands.{ChangesVariables, WritesText, RunsTexts, Tests, Exits}
 use Rattle.rehearse_rules.specs.ByShell.{unread, leaves_in, status_of_exit, asks_in, truth_in, fields_in, turns_in, skips_rest, status_of_loop, follows, assigned_in}
-use Rattle.rehearse_rules.specs.Execution.{Limits, Answer, Normal, Exit, Ended, Dry, Ending, CutDevices, CutSteps, Size, go_on, set_status, set_local, status_when, goes, holds, begin, take_outcome, with_outcome, outcome_when, told, told_again, tell_or_take, device, Request, test_effect, logged, set_environment, boot, text_end, run_text, run_all, command, simple, sized, assign, turns, begin_turn, for_each, exec_script, exec_list, exec_joined, exec_command, exec_arms, exec, Unsupported, assign_local}
+use Rattle.rehearse_rules.specs.Execution.{Limits, Answer, Normal, Exit, Ended, Dry, Ending, CutDevices, CutSteps, Size, go_on, set_status, set_local, status_when, goes, holds, begin, take_outcome, with_outcome, outcome_when, told, told_again, tell_or_take, device, Request, test_effect, logged, set_environment, boot, text_end, run_text, run_all, command, simple, sized, assign, turns, begin_turn, for_each, exec_script, exec_list, exec_joined, exec_command, exec_arms, exec, Unsupported, assign_local, request_of, test_request, started_text}
 use Rattle.rehearse_rules.specs.Runs.{Task, run_on, state_of, steps}
 use Rattle.hushlang_old.proofs.TreeByShellLemmas.{trees_in_are_proper}
 use Rattle.rehearse_terms.specs.declared.shell.Shell.{Shell}
 use Rattle.rehearse_terms.specs.declared.shell.Shell.TheVariants.{Profile, Old2023, Old2025}
 use Rattle.rehearse_rules.proofs.GrowingSteps.{Grew, Grew-block}
-use Rattle.rehearse_rules.proofs.TakenOutcomes.{skipped, Track, KeepsAll, Keeps-text, Keeps-script, Keeps-list, Keeps-one, Keeps-exec, Keeps-ended}
+use Rattle.rehearse_rules.proofs.TakenOutcomes.{skipped, Track, KeepsAll, Keeps-started, Keeps-script, Keeps-list, Keeps-one, Keeps-exec, Keeps-ended}
 
 -- ---- no run goes past a bound
 
@@ -109,9 +109,12 @@ module _ (limits : Limits) where
     text-ends : (name v : Text) (t : State) → IsWithin t → limits.step_bound < n + t.steps → Ends (run_text limits script name v t)
     text-ends name v t h r = tree-ends (tree_in limits.shell v) name t (λ a e. trees_in_are_proper limits.shell v a e) h r
 
-    named-ends : (o : Option Text) (name : Text) (next : State → Answer) (t : State) → IsWithin t → limits.step_bound < n + t.steps → ((u : State) → IsWithin u → limits.step_bound < n + u.steps → Ends (next u)) → Ends (elim o [ None ↦ Normal (set_status 1 t) | Some v ↦ text_end (run_text limits script name v t) next ])
+    started-ends : (name v : Text) (t : State) → IsWithin t → limits.step_bound < n + t.steps → Ends (started_text limits script name v t)
+    started-ends name v t h r = Ends-if (lacks_end_in limits.shell v) (Normal (set_status 1 t)) (run_text limits script name v t) (λ e. h) (λ e. text-ends name v t h r)
+
+    named-ends : (o : Option Text) (name : Text) (next : State → Answer) (t : State) → IsWithin t → limits.step_bound < n + t.steps → ((u : State) → IsWithin u → limits.step_bound < n + u.steps → Ends (next u)) → Ends (elim o [ None ↦ Normal (set_status 1 t) | Some v ↦ text_end (started_text limits script name v t) next ])
     named-ends None name next t h r j = h
-    named-ends (Some v) name next t h r j = Ends-text_end t (run_text limits script name v t) next (Keeps-text limits script kept name v t).0 (text-ends name v t h r) (λ u w l. j u w (omega arith))
+    named-ends (Some v) name next t h r j = Ends-text_end t (started_text limits script name v t) next (Keeps-started limits script kept name v t).0 (started-ends name v t h r) (λ u w l. j u w (omega arith))
 
     run-ends : (names : List Text) (t : State) → IsWithin t → limits.step_bound < n + t.steps → Ends (run_all limits script names t)
     run-ends [] t h r = h
@@ -125,10 +128,10 @@ module _ (limits : Limits) where
     command-ends (BuiltIn (ChangesVariables change)) name ws t h r = h
     command-ends (BuiltIn RunsTexts) name [] t h r = h
     command-ends (BuiltIn RunsTexts) name (w ∷ ws) t h r = run-ends (w ∷ ws) t h r
-    command-ends (BuiltIn Tests) name ws t h r = Ends-if (asks_in limits.shell ws) (device limits (record { name = name; words = ws; effect = test_effect limits.devices; again = false }) t) (Normal (set_status (status_when (truth_in limits.shell ws)) t)) (λ e. device-ends t (record { name = name; words = ws; effect = test_effect limits.devices; again = false }) h) (λ e. h)
+    command-ends (BuiltIn Tests) name ws t h r = Ends-if (asks_in limits.shell ws) (device limits (test_request limits name ws) t) (Normal (set_status (status_when (truth_in limits.shell ws)) t)) (λ e. device-ends t (test_request limits name ws) h) (λ e. h)
     command-ends (BuiltIn (WritesText written)) name ws t h r = h
     command-ends (BuiltIn Exits) name ws t h r = leave-ends (leaves_in limits.shell ws) (status_of_exit limits.shell ws) t h
-    command-ends (Device effect) name ws t h r = device-ends t (record { name = name; words = ws; effect = effect; again = false }) h
+    command-ends (Device effect) name ws t h r = device-ends t (request_of name ws effect) h
     command-ends NoCommand name ws t h r = (h, tt)
 
     simple-ends : (fs : List Text) (t : State) → IsWithin t → limits.step_bound < n + t.steps → Ends (simple limits script fs t)

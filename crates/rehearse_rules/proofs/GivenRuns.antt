@@ -15,10 +15,10 @@ use Rattle.device_list.specs.Called.{Called, BuiltIn, listed_by, other_called, c
 use Rattle.commands.specs.BuiltInCommands.{Deed, ChangesVariables, WritesText, RunsTexts, Tests, Exits, deed_of, carried, asks_device}
 use Rattle.commands.specs.Verdict.{verdict}
 use Rattle.device_list.specs.DeviceList.{Devices, computed_by}
-use Rattle.rehearse_rules.specs.ByShell.{asks_in, truth_in, fields_in, turns_in, skips_rest, status_of_nothing, status_of_no_block, follows}
+use Rattle.rehearse_rules.specs.ByShell.{asks_in, truth_in, fields_in, turns_in, skips_rest, status_of_nothing, status_of_no_block, follows, question_in, truth_if}
 use Rattle.rehearse_terms.specs.declared.shell.Shell.{Shell}
 use Rattle.rehearse_terms.specs.declared.shell.Shell.TheVariants.{Profile}
-use Rattle.rehearse_rules.specs.Execution.{Limits, Answer, Normal, Ended, CutDevices, CutSteps, Request, tell_or_take, device, go_on, set_status, status_when, goes, begin, command, simple, sized, turns, for_each, text_end, run_text, run_all, exec_script, exec_list, exec_joined, exec_command, exec_arms, exec, Unsupported, assign}
+use Rattle.rehearse_rules.specs.Execution.{Limits, Answer, Normal, Ended, CutDevices, CutSteps, Request, tell_or_take, device, go_on, set_status, status_when, goes, begin, command, simple, sized, turns, for_each, text_end, run_text, run_all, exec_script, exec_list, exec_joined, exec_command, exec_arms, exec, Unsupported, assign, started_text}
 use Rattle.rehearse_rules.specs.GivenExecution.{Others, asked_anew, given_builtin, given_simple, given_script, given_list, given_joined, given_command, given_arms, given_exec, given_run_on}
 
 -- what a part of a script does to states
@@ -35,11 +35,14 @@ module _ (bounds : Limits) (devices : Devices) (f g : Script → Does) (same : f
   run_text-same : (name text : Text) (s : State) → run_text (limits bounds devices) f name text s ≡ run_text bounds g name text s
   run_text-same name text s = λ i. run_text bounds (same i) name text s
 
+  started-same : (name text : Text) (s : State) → started_text (limits bounds devices) f name text s ≡ started_text bounds g name text s
+  started-same name text s = λ i. started_text bounds (same i) name text s
+
   run_all-same : (names : List Text) → run_all (limits bounds devices) f names ≡ run_all bounds g names
   run_all-same [] = refl
   run_all-same (name ∷ names) = λ i s. elim (get s.memory.environment name) [
     | None ↦ Normal (set_status 1 s)
-    | Some text ↦ text_end (run_text bounds (same i) name text s) (run_all-same names i)
+    | Some text ↦ text_end (started-same name text s i) (run_all-same names i)
   ]
 
 -- in each script, a command that is not built in does what is given
@@ -102,14 +105,24 @@ asks_anew bounds request s e = ap (λ (b : Bool). let a : Answer = elim (nat_lt 
 
 module _ (bounds : Limits) (own : bounds.shell ≡ Profile) (devices : Devices) (test : devices.test_stays ≡ false) (others : Others) (given : AreGiven bounds devices others) where
   module _ (f g : Script → Does) (same : f ≡ g) where
+    abbrev asked_in : Shell → (stays : Bool) → (name : Text) → (words : List Text) → Request
+    asked_in shell stays name words = record {
+      name = name;
+      words = question_in shell words;
+      effect = record { ends = false; stays = stays; sets = [] };
+      again = false;
+      on_success = status_when (truth_if shell true words);
+      on_failure = status_when (truth_if shell false words);
+    }
+
     test-same : (name : Text) (words : List Text) (s : State) → command (limits bounds devices) f (BuiltIn Tests) name words s ≡ given_builtin bounds g Tests name words s
     test-same name words s =
         ap (λ (sh : Shell). let a : Answer = elim (asks_in sh words) [
-          | true ↦ device (limits bounds devices) (record { name = name; words = words; effect = record { ends = false; stays = devices.test_stays; sets = [] }; again = false }) s
+          | true ↦ device (limits bounds devices) (asked_in sh devices.test_stays name words) s
           | false ↦ Normal (set_status (status_when (truth_in sh words)) s)
         ] in a) own
         ∙ ap (λ (b : Bool). let a : Answer = elim (asks_device words) [
-          | true ↦ device (limits bounds devices) (record { name = name; words = words; effect = record { ends = false; stays = b; sets = [] }; again = false }) s
+          | true ↦ device (limits bounds devices) (asked_in Profile b name words) s
           | false ↦ Normal (set_status (status_when (verdict words)) s)
         ] in a) test
 

@@ -11,11 +11,11 @@ use Rattle.device_list.specs.DeviceList.{Effect, computed_by, effect_of}
 use Rattle.rehearse_rules.proofs.TakenOutcomes.{skipped}
 use Rattle.rehearse_terms.specs.declared.shell.Shell.{Shell}
 use Rattle.rehearse_rules.specs.ByShell.{unread, leaves_in, status_of_exit, asks_in, truth_in, fields_in, turns_in, skips_rest, status_of_loop, follows, assigned_in}
-use Rattle.rehearse_rules.specs.Execution.{Limits, Answer, Normal, Exit, Ended, Dry, CutSteps, Size, Request, go_on, set_status, set_local, status_when, goes, holds, begin, device, test_effect, text_end, run_text, run_all, command, simple, sized, assign, turns, begin_turn, for_each, exec_script, exec_list, exec_joined, exec_command, exec_arms, exec, Unsupported, assign_local}
+use Rattle.rehearse_rules.specs.Execution.{Limits, Answer, Normal, Exit, Ended, Dry, CutSteps, Size, Request, go_on, set_status, set_local, status_when, goes, holds, begin, device, test_effect, text_end, run_text, run_all, command, simple, sized, assign, turns, begin_turn, for_each, exec_script, exec_list, exec_joined, exec_command, exec_arms, exec, Unsupported, assign_local, request_of, test_request, started_text}
 use Rattle.rehearse_rules.specs.Runs.{state_of}
 use Rattle.rehearse_terms.specs.State.{Text, get, LoggedCommand, State}
 use Rattle.rehearse_rules.specs.Parameters.{parameters_in}
-use Rattle.hushlang_old.specs.TreesByShell.{tree_in}
+use Rattle.hushlang_old.specs.TreesByShell.{tree_in, lacks_end_in}
 
 module _ (P : List LoggedCommand → Type 0) where
   -- it holds of the log
@@ -82,9 +82,12 @@ module _ (P : List LoggedCommand → Type 0) where
       keeps-text : (name text : Text) → KeepsLog (run_text limits script name text)
       keeps-text name text s h = keeps-tree (tree_in limits.shell text) name s h
 
-      keeps-named : (text : Option Text) (name : Text) (next : State → Answer) (s : State) → KeepsLog next → Holds s → Holds (state_of (elim text [ None ↦ Normal (set_status 1 s) | Some v ↦ text_end (run_text limits script name v s) next ]))
+      keeps-started : (name text : Text) → KeepsLog (started_text limits script name text)
+      keeps-started name text s h = keeps-if (lacks_end_in limits.shell text) (Normal (set_status 1 s)) (run_text limits script name text s) h (keeps-text name text s h)
+
+      keeps-named : (text : Option Text) (name : Text) (next : State → Answer) (s : State) → KeepsLog next → Holds s → Holds (state_of (elim text [ None ↦ Normal (set_status 1 s) | Some v ↦ text_end (started_text limits script name v s) next ]))
       keeps-named None name next s k h = h
-      keeps-named (Some v) name next s k h = keeps-text_end (run_text limits script name v s) next (keeps-text name v s h) k
+      keeps-named (Some v) name next s k h = keeps-text_end (started_text limits script name v s) next (keeps-started name v s h) k
 
       keeps-run : (names : List Text) → KeepsLog (run_all limits script names)
       keeps-run [] s h = h
@@ -99,11 +102,11 @@ module _ (P : List LoggedCommand → Type 0) where
       keeps-command (BuiltIn RunsTexts) name [] allowed s h = h
       keeps-command (BuiltIn RunsTexts) name (w ∷ ws) allowed s h = keeps-run (w ∷ ws) s h
       keeps-command (BuiltIn Tests) name words allowed s h =
-          let r : Request = record { name = name; words = words; effect = test_effect limits.devices; again = false } in
+          let r : Request = test_request limits name words in
           keeps-if (asks_in limits.shell words) (device limits r s) (Normal (set_status (status_when (truth_in limits.shell words)) s)) (step r refl test s h) h
       keeps-command (BuiltIn (WritesText written)) name words allowed s h = h
       keeps-command (BuiltIn Exits) name words allowed s h = keeps-leave (leaves_in limits.shell words) (status_of_exit limits.shell words) s h
-      keeps-command (Device effect) name words allowed s h = step (record { name = name; words = words; effect = effect; again = false }) refl allowed s h
+      keeps-command (Device effect) name words allowed s h = step (request_of name words effect) refl allowed s h
       keeps-command NoCommand name words allowed s h = h
 
       keeps-simple : (fs : List Text) → KeepsLog (simple limits script fs)

@@ -9,7 +9,7 @@ use Rattle.device_list.specs.Called.{Device, NoCommand}
 use Rattle.device_list.specs.DeviceList.{Effect, Devices, effect_in, effect_of, listed}
 use Rattle.device_list.specs.DeviceLaws.{quiet}
 use Rattle.device_list.specs.PlainList.{plain_names}
-use Rattle.rehearse_rules.specs.Execution.{Limits, Answer, Ended, CutDevices, Unknown, take_outcome, command}
+use Rattle.rehearse_rules.specs.Execution.{Limits, Answer, Ended, CutDevices, Unknown, take_outcome, command, request_of}
 use Rattle.rehearse_rules.specs.Runs.{run_on, runs, rest, state_of, ending_of, kind_of}
 use Rattle.rehearse_rules.specs.Listing.{record_text, record_of, listing}
 use Rattle.rehearse_rules.specs.PlainExecution.{PlainTask, task_over, bounds_alone, answer, ask, plain_others, plain_run_on, plain_runs, plain_rest, plain_record, PlainRunsStand, PlainListingsStand, PlainRestsStand}
@@ -35,7 +35,7 @@ effect-quiet names name (word ∷ words) = named-quiet names name
 
 -- ---- an outcome without an effect
 
-take-quiet : (name : Text) (words : List Text) (w : OutcomeWord) (s : State) → take_outcome (record { name = name; words = words; effect = quiet; again = false }) w s ≡ answer (name ∷ words) w s
+take-quiet : (name : Text) (words : List Text) (w : OutcomeWord) (s : State) → take_outcome (request_of name words quiet) w s ≡ answer (name ∷ words) w s
 take-quiet name words [] s = refl
 take-quiet name words (Success ∷ rest) s = refl
 take-quiet name words (Failure ∷ rest) s = refl

@@ -8,11 +8,11 @@ use Rattle.hushlang.specs.Tree.{Script, AndOr, Joined, Command, Arms}
 use Rattle.rehearse_terms.specs.State.{Text, get, Memory, State, LoggedCommand, asked_of}
 use Rattle.rehearse_rules.specs.Parameters.{parameters_in}
 use Rattle.hushlang.specs.Expansion.{joined, size, most_bytes}
-use Rattle.hushlang_old.specs.TreesByShell.{tree_in}
+use Rattle.hushlang_old.specs.TreesByShell.{tree_in, lacks_end_in}
 use Rattle.device_list.specs.Called.{Called, BuiltIn, Device, NoCommand, called_by, sets_in}
 use Rattle.commands.specs.BuiltInCommands.{ChangesVariables, WritesText, RunsTexts, Tests, Exits, variables_changed, text_written}
 use Rattle.rehearse_rules.specs.ByShell.{unread, leaves_in, status_of_exit, asks_in, truth_in, fields_in, turns_in, skips_rest, status_of_nothing, status_of_no_block, status_of_loop, follows, assigned_in}
-use Rattle.rehearse_rules.specs.Execution.{Limits, Answer, Normal, Exit, Ended, Dry, Ending, CutDevices, CutSteps, Unknown, Size, go_on, remember, set_status, set_local, status_when, goes, holds, begin, take_outcome, with_outcome, outcome_when, told, told_again, tell_or_take, device, Request, test_effect, logged, set_environment, boot, text_end, run_text, run_all, command, simple, sized, assign, turns, begin_turn, for_each, exec_script, exec_list, exec_joined, exec_command, exec_arms, exec, succeeds, Unsupported, assign_local}
+use Rattle.rehearse_rules.specs.Execution.{Limits, Answer, Normal, Exit, Ended, Dry, Ending, CutDevices, CutSteps, Unknown, Size, go_on, remember, set_status, set_local, status_when, goes, holds, begin, take_outcome, with_outcome, outcome_when, told, told_again, tell_or_take, device, Request, test_effect, logged, set_environment, boot, text_end, run_text, run_all, command, simple, sized, assign, turns, begin_turn, for_each, exec_script, exec_list, exec_joined, exec_command, exec_arms, exec, succeeds, Unsupported, assign_local, request_of, test_request, started_text}
 use Rattle.rehearse_rules.specs.Runs.{state_of}
 
 -- the state with these outcomes after its own
@@ -267,9 +267,12 @@ module _ (limits : Limits) where
     pub Keeps-text : (name text : Text) → KeepsAll (run_text limits script name text)
     Keeps-text name text s = Keeps-tree (tree_in limits.shell text) name s
 
-    pub Keeps-named : (text : Option Text) (name : Text) (next : State → Answer) (s : State) → KeepsAll next → Keeps limits.device_bound s (λ t. elim text [ None ↦ Normal (set_status 1 t) | Some v ↦ text_end (run_text limits script name v t) next ])
+    pub Keeps-started : (name text : Text) → KeepsAll (started_text limits script name text)
+    Keeps-started name text s = Keeps-if limits.device_bound s (lacks_end_in limits.shell text) (λ t. Normal (set_status 1 t)) (run_text limits script name text) (Keeps-normal limits.device_bound s (λ m. record m { status = 1 })) (Keeps-text name text s)
+
+    pub Keeps-named : (text : Option Text) (name : Text) (next : State → Answer) (s : State) → KeepsAll next → Keeps limits.device_bound s (λ t. elim text [ None ↦ Normal (set_status 1 t) | Some v ↦ text_end (started_text limits script name v t) next ])
     Keeps-named None name next s h = Keeps-normal limits.device_bound s (λ m. record m { status = 1 })
-    Keeps-named (Some v) name next s h = Keeps-text_end s (run_text limits script name v) next (Keeps-text name v s) h
+    Keeps-named (Some v) name next s h = Keeps-text_end s (started_text limits script name v) next (Keeps-started name v s) h
 
     pub Keeps-run : (names : List Text) → KeepsAll (run_all limits script names)
     Keeps-run [] s = Keeps-stays limits.device_bound s
@@ -283,10 +286,10 @@ module _ (limits : Limits) where
     Keeps-command (BuiltIn (ChangesVariables change)) name ws s = Keeps-normal limits.device_bound s (variables_changed change ws)
     Keeps-command (BuiltIn RunsTexts) name [] s = Keeps-normal limits.device_bound s (λ m. record m { status = 1 })
     Keeps-command (BuiltIn RunsTexts) name (w ∷ ws) s = Keeps-run (w ∷ ws) s
-    Keeps-command (BuiltIn Tests) name ws s = Keeps-if limits.device_bound s (asks_in limits.shell ws) (device limits (record { name = name; words = ws; effect = test_effect limits.devices; again = false })) (λ t. Normal (set_status (status_when (truth_in limits.shell ws)) t)) (Keeps-device (record { name = name; words = ws; effect = test_effect limits.devices; again = false }) refl s) (Keeps-normal limits.device_bound s (λ m. record m { status = status_when (truth_in limits.shell ws) }))
+    Keeps-command (BuiltIn Tests) name ws s = Keeps-if limits.device_bound s (asks_in limits.shell ws) (device limits (test_request limits name ws)) (λ t. Normal (set_status (status_when (truth_in limits.shell ws)) t)) (Keeps-device (test_request limits name ws) refl s) (Keeps-normal limits.device_bound s (λ m. record m { status = status_when (truth_in limits.shell ws) }))
     Keeps-command (BuiltIn (WritesText written)) name ws s = Keeps-normal limits.device_bound s (text_written written ws)
     Keeps-command (BuiltIn Exits) name ws s = Keeps-leave (leaves_in limits.shell ws) (status_of_exit limits.shell ws) s
-    Keeps-command (Device effect) name ws s = Keeps-device (record { name = name; words = ws; effect = effect; again = false }) refl s
+    Keeps-command (Device effect) name ws s = Keeps-device (request_of name ws effect) refl s
     Keeps-command NoCommand name ws s = Keeps-ended limits.device_bound s (Unknown name)
 
     pub Keeps-simple : (fs : List Text) → KeepsAll (simple limits script fs)

@@ -5,14 +5,14 @@ use Rattle.rehearse_terms.specs.State.{Text, Variables, LoggedCommand, State, st
 use Rattle.device_list.specs.DeviceList.{Variable, Effect, only}
 use Rattle.device_list.specs.DeviceLaws.{quiet}
 use Rattle.rehearse_terms.specs.declared.shell.Shell.TheVariants.{Profile}
-use Rattle.rehearse_rules.specs.Execution.{Limits, Normal, Ended, Dry, Booted, CutDevices, Request, told, tell_or_take, device, test_effect}
+use Rattle.rehearse_rules.specs.Execution.{Limits, Normal, Ended, Dry, Booted, CutDevices, Request, told, tell_or_take, device, test_effect, request_of}
 
 abbrev steady : Effect
 steady = record quiet { stays = true }
 
 -- `load a`, which is asked
 abbrev request : Effect → Request
-request effect = record { name = codes "load"; words = codes "a" ∷ []; effect = effect; again = false }
+request effect = request_of (codes "load") (codes "a" ∷ []) effect
 
 abbrev logged : Text → LoggedCommand
 logged name = record { success = false; words = name ∷ codes "a" ∷ []; stays = true; again = false }

@@ -7,12 +7,12 @@ use Rattle.hushlang.specs.Expansion.{size, most_bytes}
 use Rattle.hushlang.specs.declared.tree.Op.{Op}
 use Rattle.hushlang.specs.declared.tree.Op.TheVariants.{And, Or}
 use Rattle.rehearse_terms.specs.Outcomes.{Outcome, Success, Failure, OutcomeWord}
-use Rattle.hushlang_old.specs.TreesByShell.{tree_in}
+use Rattle.hushlang_old.specs.TreesByShell.{tree_in, lacks_end_in}
 use Rattle.rehearse_terms.specs.State.{Text, Variables, get, with_value, Memory, LoggedCommand, answer_in, State}
 use Rattle.rehearse_terms.specs.declared.shell.Shell.{Shell}
 pub use Rattle.rehearse_rules.specs.Ending.{Ending, End, CutDevices, CutSteps, Unknown, Syntax, Unsupported, Size, Booted}
 use Rattle.rehearse_rules.specs.Parameters.{parameters_in}
-use Rattle.rehearse_rules.specs.ByShell.{unread, leaves_in, status_of_exit, asks_in, truth_in, fields_in, turns_in, skips_rest, status_of_nothing, status_of_no_block, status_of_loop, status_in_turn, follows, assigned_in, locals_in}
+use Rattle.rehearse_rules.specs.ByShell.{unread, leaves_in, status_of_exit, asks_in, question_in, truth_in, truth_if, fields_in, turns_in, skips_rest, status_of_nothing, status_of_no_block, status_of_loop, status_in_turn, follows, assigned_in, locals_in}
 use Rattle.device_list.specs.DeviceList.{Effect, Devices}
 use Rattle.device_list.specs.Called.{Called, BuiltIn, NoCommand, Device, called_by, sets_in}
 use Rattle.commands.specs.BuiltInCommands.{ChangesVariables, WritesText, RunsTexts, Tests, Exits, variables_changed, text_written}
@@ -83,22 +83,43 @@ holds true status = not (nat_eq status 0)
 
 -- ---- device commands
 
--- a device command that is asked: its name, its words, and what it does on success; and whether it was asked before,
--- and is told the same again
+-- a device command that is asked: its name, its words, and what it does on success; whether it was asked before, and is
+-- told the same again; and its status on success, and on failure
 pub record Request : Type 0 where
   pub name : Text
   pub words : List Text
   pub effect : Effect
   pub again : Bool
+  pub on_success : ℕ
+  pub on_failure : ℕ
+
+-- a command that has the status of its outcome
+abbrev pub request_of : (name : Text) → (words : List Text) → Effect → Request
+request_of name words effect = record { name = name; words = words; effect = effect; again = false; on_success = 0; on_failure = 1 }
+
+abbrev pub status_after : Outcome → Request → ℕ
+status_after Success request = request.on_success
+status_after Failure request = request.on_failure
 
 -- `test -e` changes nothing; its answers stay if the list says so
 abbrev pub test_effect : Devices → Effect
 test_effect devices = record { ends = false; stays = devices.test_stays; sets = [] }
 
--- the command and its outcome are in the log, and the outcome is the status
+-- the question of a `test`: its status says whether the words hold
+abbrev pub test_request : Limits → (name : Text) → (words : List Text) → Request
+test_request limits name words = record {
+  name = name;
+  words = question_in limits.shell words;
+  effect = test_effect limits.devices;
+  again = false;
+  on_success = status_when (truth_if limits.shell true words);
+  on_failure = status_when (truth_if limits.shell false words);
+}
+
+-- the command and its outcome are in the log, and its status is as it says
 abbrev pub logged : Outcome → Request → State → State
 logged outcome request s =
-    set_status (status_when (succeeds outcome))
+    set_status (status_after outcome request)
     (record s {
       log = s.log ++ record {
         success = succeeds outcome;
@@ -213,13 +234,18 @@ module _ (limits : Limits) where
         | Some t ↦ script t (elim t [ tree.Empty ↦ set_status 0 s | tree.Runs list more ↦ s ])
       ]
 
+  -- a text that `run` starts. Of one whose end is missing nothing is run, and the status is 1
+  abbrev pub started_text : (script : Script → State → Answer) → (name text : Text) → State → Answer
+  started_text script name text s =
+      elim (lacks_end_in limits.shell text) [ true ↦ Normal (set_status 1 s) | false ↦ run_text script name text s ]
+
   -- the texts of these variables in turn, up to the first that fails or is not set
   abbrev pub run_all : (script : Script → State → Answer) → List Text → State → Answer
   run_all script [] s = Normal s
   run_all script (name ∷ names) s =
       elim (get s.memory.environment name) [
         | None ↦ Normal (set_status 1 s)
-        | Some text ↦ text_end (run_text script name text s) (run_all script names)
+        | Some text ↦ text_end (started_text script name text s) (run_all script names)
       ]
 
   -- a command by its fields, the name first
@@ -230,7 +256,7 @@ module _ (limits : Limits) where
   command script (BuiltIn RunsTexts) name (w ∷ ws) s = run_all script (w ∷ ws) s
   command script (BuiltIn Tests) name words s =
       elim (asks_in limits.shell words) [
-        | true ↦ device (record { name = name; words = words; effect = test_effect limits.devices; again = false }) s
+        | true ↦ device (test_request limits name words) s
         | false ↦ Normal (set_status (status_when (truth_in limits.shell words)) s)
       ]
   command script (BuiltIn (WritesText written)) name words s = Normal (remember (text_written written words) s)
@@ -240,7 +266,7 @@ module _ (limits : Limits) where
         | None ↦ Normal (set_status (status_of_exit limits.shell words) s)
       ]
   command script (Device effect) name words s =
-      device (record { name = name; words = words; effect = effect; again = false }) s
+      device (request_of name words effect) s
   command script NoCommand name words s = Ended (Unknown name) s
 
   -- words that expand to no field do nothing

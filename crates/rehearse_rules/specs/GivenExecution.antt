@@ -13,7 +13,7 @@ use Rattle.commands.specs.Verdict.{verdict}
 use Rattle.device_list.specs.Called.{BuiltIn}
 use Rattle.commands.specs.BuiltInCommands.{Deed, Tests, deed_of, asks_device}
 use Rattle.device_list.specs.DeviceLaws.{quiet}
-use Rattle.rehearse_rules.specs.Execution.{Limits, Answer, Normal, Ended, CutDevices, CutSteps, Request, take_outcome, go_on, set_status, status_when, goes, begin, command, sized, assign, turns, for_each, run_text}
+use Rattle.rehearse_rules.specs.Execution.{Limits, Answer, Normal, Ended, CutDevices, CutSteps, Request, take_outcome, go_on, set_status, status_when, goes, begin, command, sized, assign, turns, for_each, run_text, request_of}
 
 -- what a command does that is not built in, by its name and its words
 abbrev pub Others : Type 0
@@ -32,7 +32,7 @@ abbrev pub given_builtin : Limits → (script : Script → State → Answer) →
     State → Answer
 given_builtin bounds script Tests name words s =
     elim (asks_device words) [
-      | true ↦ asked_anew bounds (record { name = name; words = words; effect = quiet; again = false }) s
+      | true ↦ asked_anew bounds (request_of name words quiet) s
       | false ↦ Normal (set_status (status_when (verdict words)) s)
     ]
 given_builtin bounds script deed name words s = command bounds script (BuiltIn deed) name words s
