@@ -1,9 +1,11 @@
 -- From the rehearsal of an environment to the rehearsal of an image.
-use Rattle.std.proofs.Common.{◌≡◌, ℕ, List, Option, Result, Ok, Err, inl, inr}
+use Rattle.std.proofs.Common.{◌≡◌, ℕ, List, Option, Result, Ok, Err, inl, inr, subst}
 use Rattle.envimage.specs.Data.{Pair}
 use Rattle.output.specs.Sink.{Sink}
 use Rattle.envimage.specs.declared.image.ByteOrder.{ByteOrder}
 use Rattle.envimage.specs.declared.image.ImageError.{ImageError}
+use Rattle.device_list.specs.DeviceList.{Devices}
+use Rattle.rehearse_rules.specs.Runs.{Task}
 use Rattle.rehearse_terms.specs.Asking.{Asking}
 use Rattle.rehearse_terms.specs.State.{Text}
 use Rattle.rehearse_runs.specs.RehearsedEnvironment as below
@@ -11,6 +13,7 @@ use Rattle.rehearse_runs.specs.declared.listing.Finish.{Finish}
 use Rattle.rehearse_rules.specs.declared.rehearse_error.RehearseError.{RehearseError}
 use Rattle.rehearse_rules.specs.declared.rehearse_error.RehearseError.TheVariants as rehearsal
 use Rattle.ubtool.specs.Faults.{image_error, rehearse_error}
+use Rattle.ubtool.specs.BoardEnvironment.{on_board}
 use Rattle.ubtool.specs.Given.{given}
 use Rattle.ubtool.specs.Headline.{Rehearses}
 use Rattle.tool_images.specs.PrintingImages.{Finds, environment_in}
@@ -28,16 +31,19 @@ unfound answer IsSo told memory (faulty.Content fault) h = told (faulty.Content 
 unfound answer IsSo told memory faulty.TooLarge h = told faulty.TooLarge h
 unfound answer IsSo told memory faulty.Memory h = memory h.0 h.1
 
-module _ (order : ByteOrder) (first : List ℕ) (second : Option (List ℕ)) (list : Text) (asking : Asking) (environment : List Pair) (old new : Sink) (image : environment_in order first second ≡ Ok environment) where
-  pub rehearses-image : (finish : Finish) → below.WithDevices list (λ devices. below.Rehearses (below.task_asked environment devices asking) asking old new finish) → Rehearses (given order first second list asking) old new finish
-  rehearses-image finish h = record { environment = environment; devices = h.devices; image = image; device_list = h.listed_as; so = h.so }
+module _ (order : ByteOrder) (first : List ℕ) (second : Option (List ℕ)) (list : Text) (asking : Asking) (board environment : List Pair) (old new : Sink) (image : environment_in order first second ≡ Ok environment) (is : board ≡ on_board asking.bounds.shell environment) where
+  on : (devices : Devices) (IsSo : Option Task → Type 0) → IsSo (below.task_asked board devices asking) → IsSo (below.task_asked (on_board asking.bounds.shell environment) devices asking)
+  on devices IsSo h = subst (λ (env : List Pair). IsSo (below.task_asked env devices asking)) is h
 
-  pub refused-image : (error : RehearseError) → below.RefusesAsk environment list asking old new error → Refuses (given order first second list asking) old new (rehearse_error error)
+  pub rehearses-image : (finish : Finish) → below.WithDevices list (λ devices. below.Rehearses (below.task_asked board devices asking) asking old new finish) → Rehearses (given order first second list asking) old new finish
+  rehearses-image finish h = record { environment = environment; devices = h.devices; image = image; device_list = h.listed_as; so = on h.devices _ h.so }
+
+  pub refused-image : (error : RehearseError) → below.RefusesAsk board list asking old new error → Refuses (given order first second list asking) old new (rehearse_error error)
   refused-image (rehearsal.DeviceList fault) h = (record { environment = environment; image = image }, h.0, h.1)
-  refused-image rehearsal.NoSuchVariable h = (record { environment = environment; devices = h.devices; image = image; device_list = h.listed_as; so = h.so.0 }, h.so.1)
-  refused-image rehearsal.NotARun h = (record { environment = environment; devices = h.devices; image = image; device_list = h.listed_as; so = h.so.0 }, h.so.1)
+  refused-image rehearsal.NoSuchVariable h = (record { environment = environment; devices = h.devices; image = image; device_list = h.listed_as; so = on h.devices _ h.so.0 }, h.so.1)
+  refused-image rehearsal.NotARun h = (record { environment = environment; devices = h.devices; image = image; device_list = h.listed_as; so = on h.devices _ h.so.0 }, h.so.1)
   refused-image rehearsal.States h = h.so
   refused-image rehearsal.Failed h = h.so
-  refused-image rehearsal.Write h = record { environment = environment; devices = h.devices; image = image; device_list = h.listed_as; so = h.so }
+  refused-image rehearsal.Write h = record { environment = environment; devices = h.devices; image = image; device_list = h.listed_as; so = on h.devices _ h.so }
   refused-image rehearsal.Memory (inl nothing) = inl (record { environment = environment; image = image }, nothing)
-  refused-image rehearsal.Memory (inr h) = inr (record { environment = environment; devices = h.devices; image = image; device_list = h.listed_as; so = h.so })
+  refused-image rehearsal.Memory (inr h) = inr (record { environment = environment; devices = h.devices; image = image; device_list = h.listed_as; so = on h.devices _ h.so })

@@ -14,6 +14,7 @@ use Rattle.rehearse_rules.specs.Runs.{Task}
 use Rattle.rehearse_machine.specs.Tasks.{task_set}
 use Rattle.rehearse_runs.specs.RehearsedEnvironment as below
 use Rattle.rehearse_runs.specs.declared.listing.Finish.{Finish}
+use Rattle.ubtool.specs.BoardEnvironment.{on_board}
 use Rattle.ubtool.specs.Given.{Given}
 use Rattle.tool_images.specs.PrintingImages.{environment_in}
 
@@ -21,12 +22,13 @@ use Rattle.tool_images.specs.PrintingImages.{environment_in}
 pub record HasDevices (g : Given) (IsSo : Option Task → Type 0) : Type 0 where
   pub environment : List Pair
   pub devices : Devices
-  -- "every valid environment image": these are the variables of the copy that counts
+  -- "every valid environment image": these are the variables of the copy that counts, and the rehearsal has them as a board of
+  -- the shell that is asked for
   pub image : environment_in g.order g.first g.second ≡ Ok environment
   -- "device list"
   pub device_list : listed g.device_list ≡ Ok devices
   -- "and bounds"; "bootcmd": the variable that is named
-  pub so : IsSo (task_set environment devices g.asking.variable g.asking.bounds)
+  pub so : IsSo (task_set (on_board g.asking.bounds.shell environment) devices g.asking.variable g.asking.bounds)
 
 -- "the rehearsal writes the records"
 abbrev pub Rehearses : Given → (old new : Sink) → Finish → Type 0

@@ -1,5 +1,6 @@
 pub mod Faults
 pub mod Given
+pub mod BoardEnvironment
 pub mod Headline
 pub mod Refusing
 pub mod EndingsOfImages

@@ -3,17 +3,18 @@ ghost use Rattle.std.specs.Prelude.{IfOk, IfErr};
 ghost use Rattle.std.specs.Option.{option_copied};
 ghost use Rattle.ubtool.specs.EndingsOfImages.{RefusesEndings, TellsEndings, endings_given};
 
+use crate::board_environment::env_of_board;
 use crate::rehearsal_error::RehearsalError;
 use bootstore_trail::Trail;
 use envimage::ByteOrder;
 use output::Out;
 use rehearse_endings::{EndingsAsk, endings_env};
 use std::alloc::Global;
-use tool_images::env_of_image;
 
 /// Writes how all runs of a variable end, of an image or of the current copy of a pair: a line for
 /// each ending, and one for all runs. For the flow, writes a line for each state in which a device
-/// command asks and for each way to end.
+/// command asks and for each way to end. In a shell of U-Boot, the variables are those that U-Boot
+/// reads from the image.
 ///
 /// Refusals in order: the image, the device list, `NoSuchVariable`, `States` and `Memory`, with
 /// nothing written; then `Write` if the output fails, with a prefix of the lines written. `Memory`
@@ -34,7 +35,7 @@ pub fn endings_bytes<O: Out>(
         (λ e. RefusesEndings (endings_given order first.now (option_copied second.entry)
         devices_text.now ask.now) ask.now.flow ask.now.states (O.sink out.old) (O.sink out.new) e) }
 {
-    let env = env_of_image(alloc, first, second, order)?;
+    let env = env_of_board(alloc, first, second, order, ask.bounds.shell())?;
     endings_env::<Trail, O>(alloc, &env, devices_text, ask, out)?;
     Ok(())
 }

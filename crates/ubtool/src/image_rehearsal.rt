@@ -9,17 +9,18 @@ ghost use Rattle.ubtool.specs.Given.{given};
 ghost use Rattle.ubtool.specs.Headline.{Rehearses};
 ghost use Rattle.ubtool.specs.Refusing.{Refuses};
 
+use crate::board_environment::{env_of_board, shell_wanted};
 use crate::rehearsal_error::RehearsalError;
 use bootstore_trail::Trail;
 use envimage::ByteOrder;
 use output::Out;
 use rehearse_runs::{Ask, Finish, rehearse_env};
 use std::alloc::Global;
-use tool_images::env_of_image;
 
 /// Rehearses a variable of an image, or of the current copy of a pair, and writes the listing of
 /// its runs: a page of all of them in order, or of the runs after a word; or the record of the run
-/// of one word, and `done`. Returns `More` if runs are left out at the end, else `Done`.
+/// of one word, and `done`. Returns `More` if runs are left out at the end, else `Done`. In a shell of
+/// U-Boot, the variables are those that U-Boot reads from the image.
 ///
 /// Refusals in order: the image, the device list, `NoSuchVariable`, `NotARun`, with nothing
 /// written; then `Write` during the listing, and `Memory` wherever a growth is made. After these
@@ -41,6 +42,6 @@ pub fn rehearse_bytes<O: Out>(
         (λ e. Refuses (given order first.now (option_copied second.entry) devices_text.now
         (asking_of ask.now)) (O.sink out.old) (O.sink out.new) e) }
 {
-    let env = env_of_image(alloc, first, second, order)?;
+    let env = env_of_board(alloc, first, second, order, shell_wanted(ask.wanted))?;
     Ok(rehearse_env::<Trail, O>(alloc, &env, devices_text, ask, out)?)
 }

@@ -1,6 +1,7 @@
 //! The program from its words to its status, over any files and outputs, and what it does with the bytes of images.
 #![tactic(auto)]
 
+mod board_environment;
 mod endings;
 mod fault;
 mod image_endings;

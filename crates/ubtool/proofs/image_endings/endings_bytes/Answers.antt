@@ -2,6 +2,8 @@ use Rattle.std.proofs.Common.{◌≡◌, ◌∙◌, ap, sym, subst, refl, Result
 use Rattle.std.proofs.lemmas.Result.{err_from_is_err_and}
 use Rattle.std.specs.Option.{option_copied}
 use Rattle.ubtool.specs.EndingsOfImages.{RefusesEndings, endings_given}
+use Rattle.rehearse_terms.specs.declared.shell.Shell.{Shell}
+use Rattle.ubtool.specs.BoardEnvironment.{on_board}
 use Rattle.ubtool.specs.Faults.{image_error, rehearse_error}
 use Rattle.tool_images.specs.PrintingImages.{environment_in}
 use Rattle.ubtool.specs.declared.rehearsal_error.RehearsalError.{RehearsalError}
@@ -27,8 +29,8 @@ returns-in_err-endings_env-clause-err g c =
     let p = err_from_is_err_and c.from_residual-in_err-endings_env.result c.from_residual-in_err-endings_env.ensures.1 in
     let answer : c.from_residual-in_err-endings_env.result ≡ Err (rehearse_error c.in_err-endings_env.field-0.0) = p.1 ∙ ap Err p.2 in
     let P : Result (Unit {0}) RehearsalError → Type 0 = λ r. IfErr r (λ e. RefusesEndings (endings_given c.args.order c.args.first.now second c.args.devices_text.now c.args.ask.now) c.args.ask.now.flow c.args.ask.now.states out out' e) in
-    subst P (sym answer) (refused-endings c.args.order c.args.first.now second c.args.devices_text.now c.args.ask.now _ out out' c.in_err-endings_env.field-0.0 c.in_ok-env.ensures c.in_err-endings_env.ensures.err)
+    subst P (sym answer) (refused-endings c.args.order c.args.first.now second c.args.devices_text.now c.args.ask.now _ c.in_ok-env.ensures.0 out out' c.in_err-endings_env.field-0.0 c.in_ok-env.ensures.1 (c.in_ok-env.ensures.2 ∙ ap (λ (shell : Shell). on_board shell c.in_ok-env.ensures.0) c.shell.ensures) c.in_err-endings_env.ensures.err)
 
 pub returns-clause-ok : goal.returns-clause-ok
 returns-clause-ok g c =
-    tells-image c.args.order c.args.first.now (option_copied c.args.second) c.args.devices_text.now c.args.ask.now _ (g.O.Out.sink c.args.out.now) (g.O.Out.sink c.endings_env.new.out) c.in_ok-env.ensures c.in_ok-endings_env.ensures.ok
+    tells-image c.args.order c.args.first.now (option_copied c.args.second) c.args.devices_text.now c.args.ask.now _ c.in_ok-env.ensures.0 (g.O.Out.sink c.args.out.now) (g.O.Out.sink c.endings_env.new.out) c.in_ok-env.ensures.1 (c.in_ok-env.ensures.2 ∙ ap (λ (shell : Shell). on_board shell c.in_ok-env.ensures.0) c.shell.ensures) c.in_ok-endings_env.ensures.ok
