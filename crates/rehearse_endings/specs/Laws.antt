@@ -9,7 +9,7 @@ use Rattle.rehearse_states.specs.EndingLines.{counted}
 abbrev pub RunsAreCounted : Type 0
 RunsAreCounted = (task : Task) → counted (endings task) ≡ length (all_runs task)
 
--- a row counts the runs with its ending; a count of 2^128 - 1 or more is written as `at least` that number
+-- a row counts the runs with its ending; a count of 2^128 - 1 or more is written as `>=` and that number
 -- (`count_text` of EndingLines.antt)
 abbrev pub RowsCountRuns : Type 0
 RowsCountRuns = (task : Task) (r : Row) (before behind : List Row) → endings task ≡ before ++ r ∷ behind →

@@ -7,7 +7,7 @@ use Rattle.rehearse_rules.specs.Runs.{Task, all_runs}
 use Rattle.rehearse_machine.specs.Tasks.{task_set}
 use Rattle.rehearse_states.specs.Endings.{endings}
 use Rattle.rehearse_states.specs.Flow.{Node, IsFlow, flow_text}
-use Rattle.rehearse_states.specs.EndingLines.{endings_text}
+use Rattle.rehearse_states.specs.EndingLines.{endings_text, failing}
 use Rattle.rehearse_endings.specs.States.{HasStates}
 use Rattle.rehearse_endings.specs.declared.telling.EndingsAsk.{EndingsAsk}
 use Rattle.rehearse_rules.specs.declared.rehearse_error.RehearseError.{RehearseError}
@@ -23,7 +23,7 @@ pub record HasDevices (environment : List (Text × Text)) (devices_text : Text) 
 -- the flow of the task, or how its runs end; its runs come to this many states
 abbrev pub Tells : (flow : Bool) → Task → (states : ℕ) → Text → Type 0
 Tells true task states text = (nodes : List Node) × IsFlow task nodes × (text ≡ flow_text nodes)
-Tells false task states text = text ≡ endings_text (endings task) (length (all_runs task)) states
+Tells false task states text = text ≡ endings_text (failing task) (endings task) (length (all_runs task)) states
 
 -- the lines of the task; its runs come to this many states, no two alike, and to no more than allowed
 abbrev pub AreLines : (flow : Bool) → (most : ℕ) → Option Task → Text → Type 0

@@ -50,7 +50,7 @@ fn lines_of<S: Store>(
         let text = flow_text_of(rehearsal.alloc, &found.nodes)?;
         return Ok(text);
     }
-    let text = text_of(rehearsal.alloc, &found.rows, found.states)?;
+    let text = text_of(rehearsal.alloc, &found.rows, &found.nodes, found.states)?;
     Ok(text)
 }
 
@@ -100,10 +100,11 @@ fn endings_with<S: Store, O: Out>(
     }
 }
 
-/// Writes how all runs of a variable end: a line for each ending, and one for all runs. Or it
-/// writes their flow: a line for each state in which a device command asks, and for each way to
-/// end. Refusals in order: the device list, the variable, `States` and `Memory`, with nothing
-/// written; then `Write`, with a prefix of the lines written.
+/// Writes how all runs of a variable end: for each ending a line, and the device commands that fail
+/// in the run with the fewest failures; then a line for all runs. Or it writes their flow: a line
+/// for each state in which a device command asks, and for each way to end. Refusals in order: the
+/// device list, the variable, `States` and `Memory`, with nothing written; then `Write`, with a
+/// prefix of the lines written.
 pub fn endings_env<S: Store, O: Out>(
     alloc: Global,
     env: &Env,

@@ -9,7 +9,9 @@ use Rattle.rehearse_rules.specs.Execution.{outcome_when, Ending}
 use Rattle.rehearse_rules.specs.Runs.{Task, all_runs}
 use Rattle.rehearse_states.specs.Endings.{Row, ending_eq, joined, with_row, merge, one_run, ending, endings}
 use Rattle.rehearse_states.specs.RowsShown.{most_runs, saturated}
-use Rattle.rehearse_states.specs.EndingLines.{count_text, row_text, all_text, endings_text, counted}
+use Rattle.rehearse_states.specs.Flow.{Node, Seen, IsFlow}
+use Rattle.rehearse_states.specs.Drawing.{failing_on}
+use Rattle.rehearse_states.specs.EndingLines.{failed, failing, fails_lines, count_text, row_text, row_lines, all_text, endings_text, counted}
 
 -- ---- counts that are too large
 
@@ -18,7 +20,7 @@ count_if true n h = let l = ltb-true n most_runs h in ap count_text (let e : min
 count_if false n h =
     let l = ltb-false n most_runs h in
     ap count_text (let e : min n most_runs ≡ most_runs = omega arith in e)
-    ∙ sym (ap (λ (b : Bool). if b then decimal n else codes "at least " ++ decimal most_runs) h)
+    ∙ sym (ap (λ (b : Bool). if b then decimal n else codes ">=" ++ decimal most_runs) h)
 
 count_told : (n : ℕ) → count_text (min n most_runs) ≡ count_text n
 count_told n = count_if (nat_lt n most_runs) n refl
@@ -26,11 +28,17 @@ count_told n = count_if (nat_lt n most_runs) n refl
 row_told : (r : Row) → row_text (saturated r) ≡ row_text r
 row_told r = ap (λ (t : Text). codes "ends " ++ t ++ codes " first " ++ spelled r.word ++ codes " fewest " ++ decimal (failures r.fewest) ++ codes " " ++ spelled r.fewest ++ codes " " ++ last_line r.ending) (count_told r.count)
 
-rows_told : (rows : List Row) → flat_map (λ r. line (row_text r)) (map saturated rows) ≡ flat_map (λ r. line (row_text r)) rows
-rows_told [] = refl
-rows_told (r ∷ rs) =
-    ap (λ (t : Text). line t ++ flat_map (λ r. line (row_text r)) (map saturated rs)) (row_told r)
-    ∙ ap (λ (t : Text). line (row_text r) ++ t) (rows_told rs)
+-- what fails is told of the same word
+lines_told : (fails other : OutcomeWord → List (List Text)) → ((w : OutcomeWord) → fails w ≡ other w) → (r : Row) → row_lines fails (saturated r) ≡ row_lines other r
+lines_told fails other same r =
+    ap (λ (t : Text). line t ++ fails_lines (fails r.fewest)) (row_told r)
+    ∙ ap (λ (commands : List (List Text)). line (row_text r) ++ fails_lines commands) (same r.fewest)
+
+rows_told : (fails other : OutcomeWord → List (List Text)) → ((w : OutcomeWord) → fails w ≡ other w) → (rows : List Row) → flat_map (row_lines fails) (map saturated rows) ≡ flat_map (row_lines other) rows
+rows_told fails other same [] = refl
+rows_told fails other same (r ∷ rs) =
+    ap (λ (t : Text). t ++ flat_map (row_lines fails) (map saturated rs)) (lines_told fails other same r)
+    ∙ ap (λ (t : Text). row_lines other r ++ t) (rows_told fails other same rs)
 
 counted_up : (rows : List Row) → min (counted (map saturated rows)) most_runs ≡ min (counted rows) most_runs
 counted_up [] = refl
@@ -41,10 +49,10 @@ all_told rows states =
     ap (λ (t : Text). codes "all " ++ t ++ codes " states " ++ decimal states)
     (sym (count_told (counted (map saturated rows))) ∙ ap count_text (counted_up rows) ∙ count_told (counted rows))
 
-saturated_told : (rows : List Row) (states : ℕ) → endings_text (map saturated rows) (counted (map saturated rows)) states ≡ endings_text rows (counted rows) states
-saturated_told rows states =
-    ap (λ (t : Text). t ++ line (all_text (counted (map saturated rows)) states)) (rows_told rows)
-    ∙ ap (λ (t : Text). flat_map (λ r. line (row_text r)) rows ++ line t) (all_told rows states)
+saturated_told : (fails other : OutcomeWord → List (List Text)) → ((w : OutcomeWord) → fails w ≡ other w) → (rows : List Row) (states : ℕ) → endings_text fails (map saturated rows) (counted (map saturated rows)) states ≡ endings_text other rows (counted rows) states
+saturated_told fails other same rows states =
+    ap (λ (t : Text). t ++ line (all_text (counted (map saturated rows)) states)) (rows_told fails other same rows)
+    ∙ ap (λ (t : Text). flat_map (row_lines other) rows ++ line t) (all_told rows states)
 
 -- ---- the number of all runs
 
@@ -76,12 +84,13 @@ counted_all task =
     let l = length-map (all_runs task) pair in
     omega (arith, h, k, l)
 
--- what is written of rows with counts up to the greatest
-pub text_told : (task : Task) (rows : List Row) (text : Text) (states : ℕ) → rows ≡ map saturated (endings task) → text ≡ endings_text rows (counted rows) states → text ≡ endings_text (endings task) (length (all_runs task)) states
-text_told task rows text states e h =
-    h ∙ ap (λ (x : List Row). endings_text x (counted x) states) e
-    ∙ saturated_told (endings task) states
-    ∙ ap (λ (n : ℕ). endings_text (endings task) n states) (counted_all task)
+-- what is written of rows with counts up to the greatest, and of the nodes of the flow
+pub text_told : (task : Task) (nodes : List Node) (rows : List Row) (text : Text) (states : ℕ) → IsFlow task nodes → rows ≡ map saturated (endings task) → text ≡ endings_text (failing_on nodes) rows (counted rows) states
+    → text ≡ endings_text (failing task) (endings task) (length (all_runs task)) states
+text_told task nodes rows text states flow e h =
+    h ∙ ap (λ (x : List Row). endings_text (failing_on nodes) x (counted x) states) e
+    ∙ saturated_told (failing_on nodes) (failing task) (λ w. ap (λ (s : Seen). failed s.log) (flow w)) (endings task) states
+    ∙ ap (λ (n : ℕ). endings_text (failing task) (endings task) n states) (counted_all task)
 
 -- ---- digits
 

@@ -12,7 +12,7 @@ use Rattle.rehearse_rules.specs.Execution.{Ending, End, CutDevices, CutSteps, Un
 use Rattle.rehearse_rules.specs.Runs.{Task, all_runs}
 use Rattle.rehearse_rules.proofs.ExampleRehearsals.{only_load, limits, bootcmd}
 use Rattle.rehearse_states.specs.Endings.{Row, ending_eq, fewer, joined as with_further, with_row, gather, endings, of_both}
-use Rattle.rehearse_states.specs.EndingLines.{count_text, endings_text, counted}
+use Rattle.rehearse_states.specs.EndingLines.{failing, count_text, endings_text, counted}
 use Rattle.rehearse_states.specs.RowsShown.{most_runs, saturated, with_row_up}
 
 abbrev task : ℕ → Text → Task
@@ -20,22 +20,22 @@ task devices text = bootcmd (limits only_load devices 20) text
 
 -- the lines of all runs, with the number of states
 abbrev lines : Task → ℕ → Text
-lines t states = endings_text (endings t) (length (all_runs t)) states
+lines t states = endings_text (failing t) (endings t) (length (all_runs t)) states
 
 -- ---- scripts
 
 -- two runs end alike, and one ends differently
-two_attempts : lines (task 3 (codes "load a || load b")) 2 ≡ codes "ends 2 first 0 fewest 0 0 end 0\nends 1 first 11 fewest 2 11 end 1\nall 3 states 2\n"
+two_attempts : lines (task 3 (codes "load a || load b")) 2 ≡ codes "ends 2 first 0 fewest 0 0 end 0\nends 1 first 11 fewest 2 11 end 1\nfails load a\nfails load b\nall 3 states 2\n"
 unfolding tree_of fields joined atoms digits
 two_attempts = refl
 
 -- the first run with this ending has more failures than a later one
-later_has_fewer : lines (task 3 (codes "if load a; then load b || load c || exit 3; else exit 3; fi")) 3 ≡ codes "ends 2 first 00 fewest 0 00 end 0\nends 2 first 011 fewest 1 1 end 3\nall 4 states 3\n"
+later_has_fewer : lines (task 3 (codes "if load a; then load b || load c || exit 3; else exit 3; fi")) 3 ≡ codes "ends 2 first 00 fewest 0 00 end 0\nends 2 first 011 fewest 1 1 end 3\nfails load a\nall 4 states 3\n"
 unfolding tree_of fields joined atoms digits
 later_has_fewer = refl
 
 -- of two runs with equally many failures, the first has the fewest
-first_of_as_many : lines (task 3 (codes "if load a; then load b || exit 3; else exit 3; fi")) 2 ≡ codes "ends 1 first 00 fewest 0 00 end 0\nends 2 first 01 fewest 1 01 end 3\nall 3 states 2\n"
+first_of_as_many : lines (task 3 (codes "if load a; then load b || exit 3; else exit 3; fi")) 2 ≡ codes "ends 1 first 00 fewest 0 00 end 0\nends 2 first 01 fewest 1 01 end 3\nfails load b\nall 3 states 2\n"
 unfolding tree_of fields joined atoms digits
 first_of_as_many = refl
 
@@ -45,32 +45,53 @@ unfolding tree_of fields joined atoms digits
 no_device = refl
 
 -- an ending whose first run comes after the first run of another ending, though more runs have it
-in_order_of_first : lines (task 2 (codes "load a && true; load b")) 3 ≡ codes "ends 2 first 00 fewest 0 00 end 0\nends 2 first 01 fewest 1 01 end 1\nall 4 states 3\n"
+in_order_of_first : lines (task 2 (codes "load a && true; load b")) 3 ≡ codes "ends 2 first 00 fewest 0 00 end 0\nends 2 first 01 fewest 1 01 end 1\nfails load b\nall 4 states 3\n"
 unfolding tree_of fields joined atoms digits
 in_order_of_first = refl
 
 -- cut by either bound, and stopped by a name and by a text
-cut_by_devices : lines (task 2 (codes "while load a; do true; done")) 2 ≡ codes "ends 1 first 00 fewest 0 00 cut devices\nends 2 first 01 fewest 1 01 end 0\nall 3 states 2\n"
+cut_by_devices : lines (task 2 (codes "while load a; do true; done")) 2 ≡ codes "ends 1 first 00 fewest 0 00 cut devices\nends 2 first 01 fewest 1 01 end 0\nfails load a\nall 3 states 2\n"
 unfolding tree_of fields joined atoms digits
 cut_by_devices = refl
 
-cut_by_steps : lines (task 2 (codes "if load a; then while true; do true; done; fi")) 1 ≡ codes "ends 1 first 0 fewest 0 0 cut steps\nends 1 first 1 fewest 1 1 end 0\nall 2 states 1\n"
+cut_by_steps : lines (task 2 (codes "if load a; then while true; do true; done; fi")) 1 ≡ codes "ends 1 first 0 fewest 0 0 cut steps\nends 1 first 1 fewest 1 1 end 0\nfails load a\nall 2 states 1\n"
 unfolding tree_of fields joined atoms digits
 cut_by_steps = refl
 
-unknown_command : lines (task 2 (codes "load a && boom; load b")) 2 ≡ codes "ends 1 first 0 fewest 0 0 stop unknown boom\nends 1 first 10 fewest 1 10 end 0\nends 1 first 11 fewest 2 11 end 1\nall 3 states 2\n"
+unknown_command : lines (task 2 (codes "load a && boom; load b")) 2 ≡ codes "ends 1 first 0 fewest 0 0 stop unknown boom\nends 1 first 10 fewest 1 10 end 0\nfails load a\nends 1 first 11 fewest 2 11 end 1\nfails load a\nfails load b\nall 3 states 2\n"
 unfolding tree_of fields joined atoms digits
 unknown_command = refl
+
+-- what fails is from the run with the fewest failures, not from the first, and in the order of the run; a command that
+-- succeeds between two that fail is left out
+in_order_of_the_run : failing (task 3 (codes "load b; load c; load a")) (Failure ∷ Success ∷ Failure ∷ []) ≡ (codes "load" ∷ codes "b" ∷ []) ∷ (codes "load" ∷ codes "a" ∷ []) ∷ []
+unfolding tree_of fields joined atoms
+in_order_of_the_run = refl
+
+-- the same command may fail more than once, with the same words
+each_time : failing (task 3 (codes "load; load")) (Failure ∷ Failure ∷ []) ≡ (codes "load" ∷ []) ∷ (codes "load" ∷ []) ∷ []
+unfolding tree_of fields joined atoms
+each_time = refl
+
+-- the words are what the command was called with
+after_expansion : lines (task 3 (codes "x=\"a b\"; load \"$x\" ''; exit $?")) 1 ≡ codes "ends 1 first 0 fewest 0 0 end 0\nends 1 first 1 fewest 1 1 end 1\nfails load a\\x20b \\e\nall 2 states 1\n"
+unfolding tree_of fields joined atoms digits
+after_expansion = refl
 
 -- the device list `steady load`: of the four runs that succeed and fail in turn, two are left, and each is one state
 abbrev steady : Text → Task
 steady text = bootcmd (limits (only ((codes "load", record quiet { stays = true }) ∷ [])) 3 20) text
 
-told_again : lines (steady (codes "load; load; exit $?")) 1 ≡ codes "ends 1 first 0 fewest 0 0 end 0\nends 1 first 1 fewest 1 1 end 1\nall 2 states 1\n"
+told_again : lines (steady (codes "load; load; exit $?")) 1 ≡ codes "ends 1 first 0 fewest 0 0 end 0\nends 1 first 1 fewest 1 1 end 1\nfails load\nall 2 states 1\n"
 unfolding tree_of fields joined atoms digits
 told_again = refl
 
-asked_each_time : lines (task 3 (codes "load; load; exit $?")) 3 ≡ codes "ends 2 first 00 fewest 0 00 end 0\nends 2 first 01 fewest 1 01 end 1\nall 4 states 3\n"
+-- a command that is told again that it failed is no further failure
+told_again_is_no_failure : failing (steady (codes "load; load")) (Failure ∷ []) ≡ (codes "load" ∷ []) ∷ []
+unfolding tree_of fields joined atoms
+told_again_is_no_failure = refl
+
+asked_each_time : lines (task 3 (codes "load; load; exit $?")) 3 ≡ codes "ends 2 first 00 fewest 0 00 end 0\nends 2 first 01 fewest 1 01 end 1\nfails load\nall 4 states 3\n"
 unfolding tree_of fields joined atoms digits
 asked_each_time = refl
 
@@ -139,7 +160,7 @@ both_sides = refl
 greatest_count : most_runs + 1 ≡ 2 ^ 128
 greatest_count = refl
 
-counts_told : map count_text (0 ∷ 12 ∷ (most_runs - 1) ∷ most_runs ∷ (most_runs + 1) ∷ []) ≡ codes "0" ∷ codes "12" ∷ codes "340282366920938463463374607431768211454" ∷ codes "at least 340282366920938463463374607431768211455" ∷ codes "at least 340282366920938463463374607431768211455" ∷ []
+counts_told : map count_text (0 ∷ 12 ∷ (most_runs - 1) ∷ most_runs ∷ (most_runs + 1) ∷ []) ≡ codes "0" ∷ codes "12" ∷ codes "340282366920938463463374607431768211454" ∷ codes ">=340282366920938463463374607431768211455" ∷ codes ">=340282366920938463463374607431768211455" ∷ []
 unfolding digits
 counts_told = refl
 
@@ -152,7 +173,8 @@ too_great_together = refl
 
 -- ---- lines
 
-lines_of_rows : endings_text (row (Booted (codes "go")) 3 (Success ∷ Failure ∷ []) [] ∷ row (Syntax (codes "b")) 1 (Failure ∷ []) (Failure ∷ []) ∷ []) 4 17 ≡ codes "ends 3 first 01 fewest 0 . booted go\nends 1 first 1 fewest 1 1 stop syntax b\nall 4 states 17\n"
+-- two commands fail for the first ending, and none for the second
+lines_of_rows : endings_text (λ w. elim w [ [] ↦ [] | d ∷ v ↦ (codes "load" ∷ codes "a b" ∷ []) ∷ (codes "b" ∷ []) ∷ [] ]) (row (Booted (codes "go")) 3 (Success ∷ Failure ∷ []) [] ∷ row (Syntax (codes "b")) 1 (Failure ∷ []) (Failure ∷ []) ∷ []) 4 17 ≡ codes "ends 3 first 01 fewest 0 . booted go\nends 1 first 1 fewest 1 1 stop syntax b\nfails load a\\x20b\nfails b\nall 4 states 17\n"
 unfolding digits
 lines_of_rows = refl
 

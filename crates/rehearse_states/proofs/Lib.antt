@@ -9,3 +9,4 @@ mod EndingsExamples
 mod FlowExamples
 pub mod RowLemmas
 pub mod EndingLineLemmas
+pub mod NumberedNodes

@@ -4,7 +4,10 @@ use Rattle.std.specs.Prelude.{◌≡◌, ℕ, ◌-◌, List, ◌++◌, map, Vec}
 use Rattle.std.specs.declared.alloc.Global.{Global}
 use Rattle.text.specs.TextsShown.{bytes_of_words}
 use Rattle.rehearse_rules.specs.EndingsShown.{halt_shown}
-use Rattle.rehearse_states.specs.Flow.{Node, Asks, Ends}
+use Rattle.rehearse_terms.specs.Outcomes.{OutcomeWord}
+use Rattle.rehearse_terms.specs.State.{Text}
+use Rattle.rehearse_states.specs.EndingLines.{failed}
+use Rattle.rehearse_states.specs.Flow.{Node, Asks, Ends, numbered, walk}
 use Rattle.rehearse_states.specs.declared.flow.Node as rt
 use Rattle.rehearse_states.specs.declared.flow.Node.TheVariants as made
 
@@ -24,3 +27,9 @@ HasMore old new = (more : List Node) × (new ≡ old ++ more)
 abbrev pub renumbered : ℕ → Node → Node
 renumbered count (Asks words success failure) = Asks words (count - success) (count - failure)
 renumbered count (Ends ending) = Ends ending
+
+-- ---- what fails on the way
+
+-- the commands that fail on the walk from the first line by a word
+abbrev pub failing_on : List Node → OutcomeWord → List (List Text)
+failing_on nodes w = failed (walk (numbered nodes) w 1).log

@@ -1,14 +1,38 @@
 -- The lines that say how runs end. Ours.
-use Rattle.std.specs.Prelude.{ℕ, ◌+◌, nat_lt, List, [], ◌∷◌, ◌++◌, flat_map, codes, decimal, if◌then◌else◌}
+use Rattle.std.specs.Prelude.{ℕ, ◌+◌, nat_lt, not, List, [], ◌∷◌, ◌++◌, map, filter, flat_map, codes, decimal, if◌then◌else◌}
+use Rattle.text.specs.Escapes.{word_form}
+use Rattle.text.specs.Words.{joined_words}
 use Rattle.rehearse_terms.specs.State.{Text}
 use Rattle.rehearse_rules.specs.Listing.{spelled, line, last_line}
-use Rattle.rehearse_terms.specs.Outcomes.{failures}
+use Rattle.rehearse_rules.specs.Runs.{Task, run_on, state_of}
+use Rattle.rehearse_terms.specs.Outcomes.{OutcomeWord, failures}
 use Rattle.rehearse_states.specs.Endings.{Row}
+use Rattle.rehearse_states.specs.Flow.{Answered, asked_in}
 use Rattle.rehearse_states.specs.RowsShown.{most_runs}
 
--- a number of runs; one that is too large is written as the greatest
+-- ---- the commands that failed
+
+-- the words of those that failed, in their order
+abbrev pub failed : List Answered → List (List Text)
+failed answered = map (λ a. a.1) (filter (λ a. not a.0) answered)
+
+-- the device commands that fail in the run on a word, in the order of the run; one that is told again that it failed is
+-- left out
+abbrev pub failing : Task → OutcomeWord → List (List Text)
+failing task w = failed (asked_in (state_of (run_on task w)).log)
+
+-- the words of one, as a `dev` line has them
+abbrev pub fails_text : List Text → Text
+fails_text words = codes "fails " ++ joined_words (map word_form words)
+
+abbrev pub fails_lines : List (List Text) → Text
+fails_lines commands = flat_map (λ words. line (fails_text words)) commands
+
+-- ---- the endings
+
+-- a number of runs; one that is too large is written as at least the greatest
 abbrev pub count_text : ℕ → Text
-count_text n = if nat_lt n most_runs then decimal n else codes "at least " ++ decimal most_runs
+count_text n = if nat_lt n most_runs then decimal n else codes ">=" ++ decimal most_runs
 
 -- how many runs have this ending, the first of them, the first of them with the fewest failures, and the last line of
 -- their records
@@ -20,9 +44,13 @@ row_text r =
 abbrev pub all_text : (runs states : ℕ) → Text
 all_text runs states = codes "all " ++ count_text runs ++ codes " states " ++ decimal states
 
--- a line for each ending, and one for all
-abbrev pub endings_text : List Row → (runs states : ℕ) → Text
-endings_text rows runs states = flat_map (λ r. line (row_text r)) rows ++ line (all_text runs states)
+-- the line of an ending, and what has to fail for it: the commands that fail in its run with the fewest failures
+abbrev pub row_lines : (fails : OutcomeWord → List (List Text)) → Row → Text
+row_lines fails r = line (row_text r) ++ fails_lines (fails r.fewest)
+
+-- the lines of each ending, and one for all
+abbrev pub endings_text : (fails : OutcomeWord → List (List Text)) → List Row → (runs states : ℕ) → Text
+endings_text fails rows runs states = flat_map (row_lines fails) rows ++ line (all_text runs states)
 
 -- how many runs the rows count
 abbrev pub counted : List Row → ℕ

@@ -7,8 +7,11 @@ ghost use Rattle.rehearse_rules.specs.EndingsShown.{halt_shown};
 ghost use Rattle.rehearse_rules.specs.Execution.{outcome_when};
 ghost use Rattle.rehearse_terms.specs.Outcomes.{failures};
 ghost use Rattle.rehearse_states.specs.EndingLines.{count_text, row_text, endings_text, counted};
+ghost use Rattle.rehearse_states.specs.Drawing.{failing_on, nodes_shown};
 ghost use Rattle.rehearse_states.specs.RowsShown.{most_runs, row_shown, rows_shown};
 
+use crate::fail_lines::put_fails;
+use crate::flow::Node;
 use crate::rows::{Row, failures};
 use bootstore_state::StoreError;
 use rehearse_rules::Halt;
@@ -36,7 +39,7 @@ fn put_count(text: &mut Vec<u8>, count: u128) -> Result<(), StoreError>
     ensures { OnOk result (text.new.items ≡ text.old.items ++ count_text count) }
 {
     if count == u128::MAX {
-        put(text, b"at least ")?;
+        put(text, b">=")?;
     }
     put_number(text, count)
 }
@@ -110,7 +113,7 @@ pub(crate) fn put_ending(text: &mut Vec<u8>, halt: &Halt) -> Result<(), StoreErr
     }
 }
 
-/// Adds the line of an ending.
+/// Adds the line of an ending, without what fails.
 fn put_row(alloc: Global, text: &mut Vec<u8>, row: &Row) -> Result<(), StoreError>
     ensures { OnOk result (text.new.items ≡ text.old.items ++ line (row_text (row_shown row.now))) }
 {
@@ -138,14 +141,21 @@ fn total(rows: &Vec<Row>) -> u128
     count
 }
 
-/// The lines of all endings, and one for all runs.
-pub fn text_of(alloc: Global, rows: &Vec<Row>, states: u32) -> Result<Vec<u8>, StoreError>
-    ensures { IfOk result (λ text. text.items ≡ endings_text (rows_shown rows.now)
-        (counted (rows_shown rows.now)) states) }
+/// The lines of all endings, and one for all runs. The nodes are the flow of these runs, with which
+/// it finds the commands that fail.
+pub fn text_of(
+    alloc: Global,
+    rows: &Vec<Row>,
+    nodes: &Vec<Node>,
+    states: u32,
+) -> Result<Vec<u8>, StoreError>
+    ensures { IfOk result (λ text. text.items ≡ endings_text (failing_on (nodes_shown nodes.now))
+        (rows_shown rows.now) (counted (rows_shown rows.now)) states) }
 {
     let mut text = Vec::new(alloc);
     for row in rows {
         put_row(alloc, &mut text, row)?;
+        put_fails(&mut text, nodes, &row.fewest, 1)?;
     }
     put(&mut text, b"all ")?;
     put_count(&mut text, total(rows))?;

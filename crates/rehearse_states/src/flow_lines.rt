@@ -25,7 +25,7 @@ fn put_spaced(text: &mut Vec<u8>, words: &[Vec<u8>]) -> Result<(), StoreError>
 }
 
 /// Adds words in word form, with a blank between them.
-fn put_words(text: &mut Vec<u8>, words: &[Vec<u8>]) -> Result<(), StoreError>
+pub(crate) fn put_words(text: &mut Vec<u8>, words: &[Vec<u8>]) -> Result<(), StoreError>
     ensures { OnOk result (text.new.items
         ≡ text.old.items ++ joined_words (map word_form (bytes_of_words words.now))) }
 {

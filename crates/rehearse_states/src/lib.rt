@@ -4,6 +4,7 @@
 mod cores;
 mod ending_lines;
 mod environments;
+mod fail_lines;
 mod flow;
 mod flow_lines;
 mod hashing;

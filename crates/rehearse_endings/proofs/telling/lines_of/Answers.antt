@@ -20,5 +20,5 @@ returns-clause-ok g c =
     let states = c.in_ok-found.found.states in
     let is : c.args.flow ≡ false = search rules in
     let text = c.in_ok-text-2.text.items in
-    let told : Tells false task states text = text_told task (rows_shown c.in_ok-found.found.rows) text states c.in_ok-found.ensures.rows c.in_ok-text-2.ensures in
+    let told : Tells false task states text = text_told task (nodes_shown c.in_ok-found.found.nodes) (rows_shown c.in_ok-found.found.rows) text states c.in_ok-found.ensures.flow c.in_ok-found.ensures.rows c.in_ok-text-2.ensures in
     (task, states, refl, c.in_ok-found.ensures.states, c.in_ok-found.ensures.met, subst (λ (flow : Bool). Tells flow task states text) (sym is) told)

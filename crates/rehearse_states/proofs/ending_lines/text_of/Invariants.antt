@@ -1,9 +1,9 @@
 use Rattle.std.proofs.Common.{◌≡◌, flat_map, take, map}
-use Rattle.rehearse_rules.specs.Listing.{line}
+use Rattle.rehearse_states.specs.Drawing.{failing_on, nodes_shown}
 use Rattle.rehearse_states.specs.RowsShown.{row_shown}
-use Rattle.rehearse_states.specs.EndingLines.{row_text}
+use Rattle.rehearse_states.specs.EndingLines.{row_lines}
 use Rattle.rehearse_states.proofs.ending_lines.text_of.Given as goal
 
 -- the lines of the rows so far
 abbrev pub invariant-loop-row : goal.invariant-loop-row
-invariant-loop-row l = l.text.items ≡ flat_map (λ r. line (row_text r)) (map row_shown (take l.row-index l.row-items))
+invariant-loop-row l = l.text.items ≡ flat_map (row_lines (failing_on (nodes_shown l.fn.nodes))) (map row_shown (take l.row-index l.row-items))

@@ -1,0 +1,70 @@
+//! The lines of the device commands that fail on the way through a flow.
+ghost use Rattle.std.specs.Prelude.{◌≡◌, ◌∷◌, ◌++◌, [], OnOk, map, option_map, reverse};
+ghost use Rattle.text.specs.TextsShown.{bytes_of_words};
+ghost use Rattle.rehearse_rules.specs.Execution.{outcome_when};
+ghost use Rattle.rehearse_states.specs.Flow.{next, numbered, walk};
+ghost use Rattle.rehearse_states.specs.Drawing.{node_shown};
+ghost use Rattle.rehearse_states.specs.EndingLines.{failed, fails_lines};
+
+use crate::ending_lines::put;
+use crate::flow::Node;
+use crate::flow_lines::put_words;
+use bootstore_state::StoreError;
+
+/// The node of a line; lines count from 1.
+fn node_at(nodes: &[Node], number: usize) -> Option<&Node>
+    ensures { option_map (λ node. node_shown node.now) result
+        ≡ numbered (map node_shown nodes.now) number }
+{
+    let place = number.checked_sub(1)?;
+    nodes.get(place)
+}
+
+/// The line that follows the success or the failure.
+fn next_of(success: bool, won: usize, lost: usize) -> usize
+    ensures { result ≡ next (outcome_when success) won lost }
+{
+    if success { won } else { lost }
+}
+
+/// Adds the line of a device command, if it failed.
+fn put_fail(text: &mut Vec<u8>, words: &[Vec<u8>], success: bool) -> Result<(), StoreError>
+    ensures { OnOk result (text.new.items
+        ≡ text.old.items ++ fails_lines (failed ((success, bytes_of_words words.now) ∷ []))) }
+{
+    if success {
+        return Ok(());
+    }
+    put(text, b"fails ")?;
+    put_words(text, words)?;
+    put(text, b"\n")
+}
+
+/// Adds a line for each device command that fails on the way from a line of a flow by the outcomes
+/// of a word, whose last outcome comes first in `word`.
+pub(crate) fn put_fails(
+    text: &mut Vec<u8>,
+    nodes: &[Node],
+    word: &[bool],
+    number: usize,
+) -> Result<(), StoreError>
+    ensures { OnOk result (text.new.items ≡ text.old.items
+        ++ fails_lines (failed (walk (numbered (map node_shown nodes.now))
+        (reverse (map outcome_when word.now)) number).log)) }
+{
+    let Some((success, rest)) = word.split_last() else {
+        return Ok(());
+    };
+    let Some(
+        Node::Asks {
+            words,
+            success: won,
+            failure: lost,
+        },
+    ) = node_at(nodes, number)
+    else {
+        return Ok(());
+    };
+    put_fail(text, words, *success)?;
+    put_fails(text, nodes, rest, next_of(*success, *won, *lost))
+}
