@@ -117,18 +117,21 @@ Examples:
 ";
 
 pub(crate) const ENDINGS_NOTES: &str = "\
-All runs are counted by how they end, also where they are too many to be listed.
-A line for each ending, in the order of the first run that ends so, and one for
-all runs are written:
+All runs are counted by how they end, even if they are too many to list. A line
+for each ending is written, in the order of the first run that ends so. After it
+comes a line for each device command that has to fail. The last line is about
+all runs:
 
   ends COUNT first WORD fewest FAILURES WORD ENDING
+  fails WORDS
   all COUNT states STATES
 
 COUNT runs end so. The first WORD is that of the first of them, the second that
 of the first of those in which the fewest device commands fail, where what a
 steady command is told again does not count. ENDING is the last line of their
-records, as rehearse lists them. A state is what variables, status and script
-are when a device command asks; each is gone through once.
+records, as rehearse lists them. The lines fails are the device commands that
+fail in the run of the second WORD, in its order. A state is what variables,
+status and script are when a device command asks; each is gone through once.
 
 With --flow a line for each state and for each way to end is written instead.
 Numbers count from 1, where a run begins, and a word leads from line to line:
