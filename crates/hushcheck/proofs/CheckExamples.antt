@@ -27,7 +27,7 @@ no_then_place : place_in no_then 22 ≡ record { line = 2; column = 18 }
 no_then_place = refl
 
 no_then_lines : fault_lines (codes "bootcmd") no_then (Unexpected 22) ≡ codes "bootcmd:2:18: unexpected token\nif true; echo x; fi\n                 ^\n"
-unfolding digits
+unfolding digits front word_front step bare
 no_then_lines = refl
 
 -- at the end of the text, with a tab in its last line
@@ -37,7 +37,7 @@ ends_lines = refl
 
 -- bytes that do not print
 odd_lines : fault_lines (codes "a") (233 ∷ 32 ∷ 38 ∷ []) (Unexpected 2) ≡ codes "a:1:3: unexpected token\n? &\n  ^\n"
-unfolding digits
+unfolding digits front word_front step bare
 odd_lines = refl
 
 -- ---- names that are run

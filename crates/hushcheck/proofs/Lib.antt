@@ -9,4 +9,5 @@ pub mod AskedLemmas
 pub mod TellingLemmas
 pub mod CheckExamples
 pub mod CallsExamples
+pub mod WarningsExamples
 mod ShownExamples

@@ -23,7 +23,3 @@ found_is old a b new form what shown first second last =
     last ∙ ap (λ t. t ++ (codes "\n" ++ shown)) (second ∙ ap (λ t. t ++ what) first)
     ∙ append_assoc (old ++ form) what (codes "\n" ++ shown) ∙ append_assoc old form (what ++ (codes "\n" ++ shown))
     ∙ ap (λ t. old ++ t) (sym (append_assoc form what (codes "\n" ++ shown)) ∙ sym (append_assoc (form ++ what) (codes "\n") shown))
-
--- a line, and what is after it
-pub read_is : (old a new line more : List ℕ) → a ≡ old ++ line → new ≡ a ++ more → new ≡ old ++ (line ++ more)
-read_is old a new line more first last = last ∙ ap (λ t. t ++ more) first ∙ append_assoc old line more

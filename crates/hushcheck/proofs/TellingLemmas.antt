@@ -79,7 +79,7 @@ module _ (name text : List ℕ) (found : List Found) where
   pub words_wrote : (a b : Sink) (i : ℕ) → length found ≤ i → Wrote a b (flat_map word_lines (take i found)) → Wrote a b (found_lines name text (all_found found))
   words_wrote a b i past w = wrote-as a b _ _ whole (wrote-all word_lines found a b i past w)
 
--- the first lines, and then what was found
-pub read_so : (result : Result (Unit {0}) CheckError) (a b c : Sink) (first bytes lines : List ℕ) → bytes ≡ first → Wrote a b bytes → Writes result b c lines → Writes result a c (first ++ lines)
-read_so (Ok done) a b c first bytes lines e w h = Wrote-append (wrote-as a b bytes first e w) h
-read_so (Err error) a b c first bytes lines e w h = stops-after a b c first lines error (wrote-as a b bytes first e w) h
+-- a text, and then another one
+pub then_so : (result : Result (Unit {0}) CheckError) (a b c : Sink) (xs ys : List ℕ) → Wrote a b xs → Writes result b c ys → Writes result a c (xs ++ ys)
+then_so (Ok done) a b c xs ys w h = Wrote-append w h
+then_so (Err error) a b c xs ys w h = stops-after a b c xs ys error w h

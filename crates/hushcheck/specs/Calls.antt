@@ -12,6 +12,8 @@ use Rattle.device_list.specs.DeviceList.{Devices, is_listed}
 use Rattle.text.specs.Escapes.{word_form}
 use Rattle.hushcheck.specs.Names.{Text, is_run, written_out}
 use Rattle.hushcheck.specs.Places.{lines_at}
+use Rattle.hushcheck.specs.WarningTexts.{warning_text}
+use Rattle.hushcheck.specs.declared.warning.Warning.{Warning}
 
 -- ---- what a device list lacks
 
@@ -36,6 +38,8 @@ pub data Remark : Type 0 where
   NotFollowed : Remark
   -- the device list lacks a command
   Lacks : (name : Text) → Remark
+  -- a shell of U-Boot reads something otherwise
+  Warns : (warning : Warning) → Remark
 
 -- the device list, the places of the words that are left, what was found at which places, and whether a command is
 -- lacking
@@ -129,6 +133,7 @@ calls_of devices text script = after_script (begun devices text) script
 abbrev pub remark_text : Remark → Text
 remark_text NotFollowed = codes "note: not followed, since the name holds a variable"
 remark_text (Lacks name) = codes "the device list lacks " ++ word_form name
+remark_text (Warns warning) = warning_text warning
 
 -- the lines of a word
 abbrev pub remark_lines : (name text : Text) → ℕ × Remark → Text

@@ -3,7 +3,11 @@ pub mod Shown
 pub mod Names
 pub mod Order
 pub mod Places
+pub mod WarningTexts
 pub mod Calls
+pub mod Sights
+pub mod Seats
+pub mod Warnings
 pub mod Remarks
 pub mod Report
 pub mod Telling

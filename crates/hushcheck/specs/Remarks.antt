@@ -2,12 +2,13 @@
 use Rattle.std.specs.Prelude.{ℕ, List, map}
 use Rattle.hushcheck.specs.Calls as spec
 use Rattle.hushcheck.specs.declared.remark.Remark.{Remark}
-use Rattle.hushcheck.specs.declared.remark.Remark.TheVariants.{Lacks, NotFollowed}
+use Rattle.hushcheck.specs.declared.remark.Remark.TheVariants.{Lacks, NotFollowed, Warns}
 use Rattle.hushcheck.specs.declared.remark.Found.{Found}
 
 abbrev pub remark : Remark → spec.Remark
 remark NotFollowed = spec.NotFollowed
 remark (Lacks name) = spec.Lacks name.items
+remark (Warns warning) = spec.Warns warning
 
 abbrev pub found_at : Found → ℕ × spec.Remark
 found_at found = (found.at, remark found.remark)

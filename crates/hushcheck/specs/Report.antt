@@ -1,11 +1,9 @@
 -- What is reported of each text. Ours; the faults are those of the language.
-use Rattle.std.specs.Prelude.{◌≡◌, ◌==◌, ◌&&◌, ◌++◌, ℕ, Bool, true, false, not, List, [], length, map, Option, Some, None, Result, Ok, Err, Contains, codes, if◌then◌else◌}
-use Rattle.std.specs.List.{flat_map, list_all}
+use Rattle.std.specs.Prelude.{◌≡◌, ◌==◌, ◌&&◌, ◌++◌, ℕ, Bool, true, false, not, List, length, map, Option, Some, None, Result, Ok, Err, Contains, codes, if◌then◌else◌}
+use Rattle.std.specs.List.{flat_map, list_all, list_any}
 use Rattle.envimage.specs.Data.{Pair}
 use Rattle.envtools.specs.Environment.{value_of}
 use Rattle.envtools.specs.Printing.{all_found}
-use Rattle.hushlang.specs.CursorShown.{input_in}
-use Rattle.hushlang.specs.AfterCompound.{straight}
 use Rattle.hushlang.specs.Tree.{Script}
 use Rattle.hushlang.specs.declared.token.SyntaxError.{SyntaxError}
 use Rattle.hushlang.specs.declared.token.SyntaxError.TheVariants.{OpenQuote, LoneBackslash, OpenBrace, BadVariable, SingleAmp, SinglePipe, Unexpected, MissingWord, AssignmentBeforeCommand, TooDeep, Memory}
@@ -13,6 +11,7 @@ use Rattle.hushcheck.specs.Names.{Text, read_in, run_by_name}
 use Rattle.hushcheck.specs.Order.{IsOrder, IsReached, once}
 use Rattle.hushcheck.specs.Places.{lines_at}
 use Rattle.hushcheck.specs.Calls.{calls_of, found_lines}
+use Rattle.hushcheck.specs.Warnings.{blocks_of, warnings_of}
 use Rattle.device_list.specs.DeviceList.{Devices}
 use Rattle.text.specs.Escapes.{word_form}
 
@@ -30,38 +29,37 @@ byte_of (AssignmentBeforeCommand at) = at
 byte_of (TooDeep at) = at
 byte_of Memory = 0
 
--- what is wrong there, in a text of this many bytes
-abbrev pub what_of : ℕ → SyntaxError → Text
-what_of size (OpenQuote at) = codes "the quote is not closed"
-what_of size (LoneBackslash at) = codes "the backslash is the last byte"
-what_of size (OpenBrace at) = codes "the brace is not closed"
-what_of size (BadVariable at) = codes "the braces hold no name"
-what_of size (SingleAmp at) = codes "a single &"
-what_of size (SinglePipe at) = codes "a single |"
-what_of size (Unexpected at) = if at == size then codes "unexpected end of the text" else codes "unexpected token"
-what_of size (MissingWord at) = codes "a word is missing"
-what_of size (AssignmentBeforeCommand at) = codes "an assignment stands before the command"
-what_of size (TooDeep at) = codes "nested too deep"
-what_of size Memory = codes "out of memory"
+-- what is wrong there, in a text of this many bytes, in which these words are behind blocks without a command
+abbrev pub what_of : (size : ℕ) → (blocks : List ℕ) → SyntaxError → Text
+what_of size blocks (OpenQuote at) = codes "the quote is not closed"
+what_of size blocks (LoneBackslash at) = codes "the backslash is the last byte"
+what_of size blocks (OpenBrace at) = codes "the brace is not closed"
+what_of size blocks (BadVariable at) = codes "the braces hold no name"
+what_of size blocks (SingleAmp at) = codes "a single &"
+what_of size blocks (SinglePipe at) = codes "a single |"
+what_of size blocks (Unexpected at) =
+    if at == size then codes "unexpected end of the text"
+    else (if list_any (λ place. place == at) blocks then codes "the block before this word is empty: write true in it"
+    else codes "unexpected token")
+what_of size blocks (MissingWord at) = codes "a word is missing"
+what_of size blocks (AssignmentBeforeCommand at) = codes "an assignment stands before the command"
+what_of size blocks (TooDeep at) = codes "nested too deep"
+what_of size blocks Memory = codes "out of memory"
 
 -- the place at which a text is refused, and what is wrong there
 abbrev pub fault_lines : (name text : Text) → SyntaxError → Text
-fault_lines name text error = lines_at name text (byte_of error) (what_of (length text) error)
+fault_lines name text error = lines_at name text (byte_of error) (what_of (length text) (blocks_of text) error)
 
--- a word that U-Boot's old shell refuses in a text that is well-formed
-abbrev pub warned_at : (name text : Text) → Option ℕ → Text
-warned_at name text None = []
-warned_at name text (Some at) = lines_at name text at (codes "warning: U-Boot's old shell wants ; before this word")
-
+-- what U-Boot's shells read otherwise in a text, well-formed or not
 abbrev pub warning_lines : (name text : Text) → Text
-warning_lines name text = warned_at name text (straight (input_in text).tokens)
+warning_lines name text = found_lines name text (warnings_of text)
 
--- the lines of a text that was read, or refused: the warning comes before what is reported of the calls
+-- The lines of a text that was read, or refused, and then its warnings. What is reported of the calls comes last.
 abbrev pub lines_read : Option Devices → (name text : Text) → Result Script SyntaxError → Text
 lines_read devices name text (Ok script) =
     word_form name ++ codes ": ok\n" ++ warning_lines name text
     ++ found_lines name text (calls_of devices text script).found
-lines_read devices name text (Err error) = fault_lines name text error
+lines_read devices name text (Err error) = fault_lines name text error ++ warning_lines name text
 
 abbrev pub lines_of_text : Option Devices → (name text : Text) → Text
 lines_of_text devices name text = lines_read devices name text (read_in text)

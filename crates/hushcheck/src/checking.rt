@@ -11,6 +11,7 @@ use crate::check_error::CheckError;
 use crate::names::{Names, asked_names};
 use crate::telling::{write_fault, write_read, write_unset};
 use crate::walk::add_script;
+use crate::watch::warnings_of;
 use device_list::Devices;
 use envtools::Env;
 use hushlang::{Script, SyntaxError, parse};
@@ -60,10 +61,11 @@ fn check_text<O: Out>(
     ensures script { IfOk result (λ checked. run_by_found checked.script
         ≡ run_by_text text.now) }
 {
+    let warnings = warnings_of(alloc, text)?;
     match parse(alloc, text) {
         Ok(script) => {
             let calls = calls_of(alloc, devices, text, &script)?;
-            write_read(alloc, name, text, &calls.found, out)?;
+            write_read(alloc, name, text, &warnings.found, &calls.found, out)?;
             Ok(Checked {
                 script: Some(script),
                 fine: !calls.lacks,
@@ -71,7 +73,7 @@ fn check_text<O: Out>(
         }
         Err(SyntaxError::Memory) => Err(CheckError::Memory),
         Err(error) => {
-            write_fault(alloc, name, text, error, out)?;
+            write_fault(alloc, name, text, &warnings, error, out)?;
             Ok(Checked {
                 script: None,
                 fine: false,
@@ -144,10 +146,11 @@ fn take_turn<O: Out>(
 
 /// Checks the variables that are asked for, and then the variables that the text of each in turn
 /// runs by a name that is written out, each once. Writes for each whether its text is well-formed,
-/// and if not, where it breaks; which commands the device list lacks, if there is one; and which
-/// names of `run` are not followed. Returns whether all is well: each name that is asked for is
-/// set, each text is well-formed, and the device list lacks no command. The lines are written as
-/// the check goes. Errors: the output failed, or memory ran out; the first lines are then written.
+/// and if not, where it breaks; what U-Boot's shells read otherwise in it; which commands the
+/// device list lacks, if there is one; and which names of `run` are not followed. Returns whether
+/// all is well: each name that is asked for is set, each text is well-formed, and the device list
+/// lacks no command. The lines are written as the check goes. Errors: the output failed, or memory
+/// ran out; the first lines are then written.
 pub fn check<O: Out>(
     alloc: Global,
     devices: Option<&Devices>,

@@ -1,5 +1,7 @@
 //! Why a text is refused, in words.
-ghost use Rattle.std.specs.Prelude.{◌≡◌};
+ghost use Rattle.std.specs.Prelude.{◌≡◌, ◌==◌};
+ghost use Rattle.std.specs.List.{list_any};
+ghost use Rattle.hushlang.specs.declared.token.SyntaxError.TheVariants.{Unexpected};
 ghost use Rattle.hushcheck.specs.Report as spec;
 
 use hushlang::SyntaxError;
@@ -23,9 +25,31 @@ pub(crate) fn byte_of(error: SyntaxError) -> usize
     }
 }
 
-/// What is wrong there, in a text of this many bytes.
-pub(crate) fn what_of(size: usize, error: SyntaxError) -> &'static [u8]
-    ensures { result.now ≡ spec.what_of size error }
+/// Whether a place is one of these.
+fn is_among(places: &[usize], at: usize) -> bool
+    ensures { result ≡ list_any (λ place. place == at) places.now }
+{
+    places.iter().any(|place| *place == at)
+}
+
+/// What is unexpected at a place, in a text of this many bytes, in which these words are behind
+/// blocks without a command.
+fn unexpected(size: usize, blocks: &[usize], at: usize) -> &'static [u8]
+    ensures { result.now ≡ spec.what_of size blocks.now (Unexpected at) }
+{
+    if at == size {
+        b"unexpected end of the text"
+    } else if is_among(blocks, at) {
+        b"the block before this word is empty: write true in it"
+    } else {
+        b"unexpected token"
+    }
+}
+
+/// What is wrong there, in a text of this many bytes, in which these words are behind blocks
+/// without a command.
+pub(crate) fn what_of(size: usize, blocks: &[usize], error: SyntaxError) -> &'static [u8]
+    ensures { result.now ≡ spec.what_of size blocks.now error }
 {
     match error {
         SyntaxError::OpenQuote(_) => b"the quote is not closed",
@@ -34,8 +58,7 @@ pub(crate) fn what_of(size: usize, error: SyntaxError) -> &'static [u8]
         SyntaxError::BadVariable(_) => b"the braces hold no name",
         SyntaxError::SingleAmp(_) => b"a single &",
         SyntaxError::SinglePipe(_) => b"a single |",
-        SyntaxError::Unexpected(at) if at == size => b"unexpected end of the text",
-        SyntaxError::Unexpected(_) => b"unexpected token",
+        SyntaxError::Unexpected(at) => unexpected(size, blocks, at),
         SyntaxError::MissingWord(_) => b"a word is missing",
         SyntaxError::AssignmentBeforeCommand(_) => b"an assignment stands before the command",
         SyntaxError::TooDeep(_) => b"nested too deep",

@@ -11,9 +11,13 @@ mod names;
 mod place;
 mod reading;
 mod remark;
+mod seat;
 mod shown;
+mod sights;
 mod telling;
 mod walk;
+mod warning;
+mod watch;
 
 pub use asked::asked_names;
 pub use check_error::CheckError;

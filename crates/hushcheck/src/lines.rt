@@ -5,13 +5,15 @@ ghost use Rattle.hushcheck.specs.Place.{IsPoint, front_shown, place_in, rest_sho
 ghost use Rattle.hushcheck.specs.Places as places;
 ghost use Rattle.hushcheck.specs.Remarks as shown;
 ghost use Rattle.hushcheck.specs.Report as spec;
+ghost use Rattle.hushcheck.specs.Warnings.{blocks_of};
 ghost use Rattle.text.specs.Escapes.{word_form};
 
 use crate::fault::{byte_of, what_of};
 use crate::place::{Place, Point, Shown, first_point, moved, place_of_point, shown_at};
 use crate::remark::Remark;
 use crate::shown::{push_line, push_mark, push_name};
-use hushlang::{SyntaxError, word_straight_behind};
+use crate::warning::warning_text;
+use hushlang::SyntaxError;
 use itoa::Buffer;
 use std::alloc::AllocError;
 
@@ -90,6 +92,7 @@ fn push_remark(told: &mut Vec<u8>, remark: &Remark) -> Result<(), AllocError>
             told.extend_from_slice(b"the device list lacks ")?;
             push_name(told, name)
         }
+        Remark::Warns(warning) => told.extend_from_slice(warning_text(*warning)),
     }
 }
 
@@ -133,38 +136,18 @@ pub(crate) fn push_fault(
     told: &mut Vec<u8>,
     name: &[u8],
     text: &[u8],
+    blocks: &[usize],
     error: SyntaxError,
 ) -> Result<(), AllocError>
+    requires { blocks.now ≡ blocks_of text.now }
     ensures { OnOk result (told.new.items ≡ told.old.items
         ++ spec.fault_lines name.now text.now error) }
 {
-    push_at(told, name, text, byte_of(error), what_of(text.len(), error))
-}
-
-/// Adds a warning at the end of `told`, if U-Boot's old shell refuses the first word that is
-/// straight after a compound command.
-fn push_warning(told: &mut Vec<u8>, name: &[u8], text: &[u8]) -> Result<(), AllocError>
-    ensures { OnOk result (told.new.items ≡ told.old.items
-        ++ spec.warning_lines name.now text.now) }
-{
-    match word_straight_behind(text) {
-        Some(at) => push_at(
-            told,
-            name,
-            text,
-            at,
-            b"warning: U-Boot's old shell wants ; before this word",
-        ),
-        None => Ok(()),
-    }
-}
-
-/// Adds what is reported of a well-formed text, without its calls, at the end of `told`.
-#[tactic(auto, using(crate::proofs::LinesLemmas::read_is))]
-pub(crate) fn push_read(told: &mut Vec<u8>, name: &[u8], text: &[u8]) -> Result<(), AllocError>
-    ensures { OnOk result (told.new.items ≡ told.old.items
-        ++ (word_form name.now ++ codes ": ok\n" ++ spec.warning_lines name.now text.now)) }
-{
-    push_named(told, name, b": ok\n")?;
-    push_warning(told, name, text)
+    push_at(
+        told,
+        name,
+        text,
+        byte_of(error),
+        what_of(text.len(), blocks, error),
+    )
 }

@@ -1,4 +1,6 @@
-//! What is found in a text that is well-formed.
+//! What is found in a text.
+
+use crate::warning::Warning;
 
 /// What is reported of a word.
 #[derive(Drop)]
@@ -7,6 +9,8 @@ pub(crate) enum Remark {
     NotFollowed,
     /// The device list lacks the command of this name.
     Lacks(Vec<u8>),
+    /// A shell of U-Boot reads something otherwise.
+    Warns(Warning),
 }
 
 /// What is reported of a word, and where the word starts.

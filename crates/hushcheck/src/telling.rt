@@ -4,12 +4,14 @@ ghost use Rattle.hushcheck.specs.Calls as calls;
 ghost use Rattle.hushcheck.specs.Remarks as shown;
 ghost use Rattle.hushcheck.specs.Report as spec;
 ghost use Rattle.hushcheck.specs.Telling.{Writes};
+ghost use Rattle.hushcheck.specs.Warnings.{blocks_of};
 ghost use Rattle.text.specs.Escapes.{word_form};
 
 use crate::check_error::CheckError;
-use crate::lines::{push_fault, push_found, push_named, push_read};
+use crate::lines::{push_fault, push_found, push_named};
 use crate::place::{first_point, moved};
 use crate::remark::Found;
+use crate::watch::Warnings;
 use hushlang::SyntaxError;
 use output::{Out, write_all};
 use std::alloc::Global;
@@ -36,37 +38,86 @@ fn write_found<O: Out>(
     Ok(())
 }
 
-/// Writes the lines of a well-formed text, in whose calls this was found.
+/// Writes the first line of a well-formed text, and its warnings.
+fn write_ok<O: Out>(
+    alloc: Global,
+    name: &[u8],
+    text: &[u8],
+    warnings: &[Found],
+    out: &mut O,
+) -> Result<(), CheckError>
+    ensures { Writes result (O.sink out.old) (O.sink out.new) (word_form name.now
+        ++ codes ": ok\n" ++ calls.found_lines name.now text.now (shown.all_found warnings.now)) }
+{
+    write_named(alloc, name, b": ok\n", out)?;
+    write_found(alloc, name, text, warnings, out)
+}
+
+/// Writes the lines of a well-formed text, with these warnings, in whose calls this was found.
 pub(crate) fn write_read<O: Out>(
     alloc: Global,
     name: &[u8],
     text: &[u8],
+    warnings: &[Found],
     found: &[Found],
     out: &mut O,
 ) -> Result<(), CheckError>
-    ensures { Writes result (O.sink out.old) (O.sink out.new)
-        (word_form name.now ++ codes ": ok\n" ++ spec.warning_lines name.now text.now
+    ensures { Writes result (O.sink out.old) (O.sink out.new) (word_form name.now
+        ++ codes ": ok\n" ++ calls.found_lines name.now text.now (shown.all_found warnings.now)
         ++ calls.found_lines name.now text.now (shown.all_found found.now)) }
 {
-    let mut lines = Vec::new(alloc);
-    push_read(&mut lines, name, text)?;
-    write_all(out, &lines)?;
+    write_ok(alloc, name, text, warnings, out)?;
     write_found(alloc, name, text, found, out)
 }
 
-/// Writes the lines of a text that is not well-formed.
-pub(crate) fn write_fault<O: Out>(
+/// Writes what is wrong with a text, in which these words are behind blocks without a command.
+fn write_wrong<O: Out>(
     alloc: Global,
     name: &[u8],
     text: &[u8],
+    blocks: &[usize],
     error: SyntaxError,
     out: &mut O,
 ) -> Result<(), CheckError>
+    requires { blocks.now ≡ blocks_of text.now }
     ensures { Writes result (O.sink out.old) (O.sink out.new)
         (spec.fault_lines name.now text.now error) }
 {
     let mut lines = Vec::new(alloc);
-    push_fault(&mut lines, name, text, error)?;
+    push_fault(&mut lines, name, text, blocks, error)?;
+    write_all(out, &lines)?;
+    Ok(())
+}
+
+/// Writes the lines of a text that is not well-formed, with these warnings.
+pub(crate) fn write_fault<O: Out>(
+    alloc: Global,
+    name: &[u8],
+    text: &[u8],
+    warnings: &Warnings,
+    error: SyntaxError,
+    out: &mut O,
+) -> Result<(), CheckError>
+    requires { warnings.now.blocks.items ≡ blocks_of text.now }
+    ensures { Writes result (O.sink out.old) (O.sink out.new)
+        (spec.fault_lines name.now text.now error
+        ++ calls.found_lines name.now text.now (shown.all_found warnings.now.found.items)) }
+{
+    write_wrong(alloc, name, text, &warnings.blocks, error, out)?;
+    write_found(alloc, name, text, &warnings.found, out)
+}
+
+/// Writes a line that starts with a name.
+fn write_named<O: Out>(
+    alloc: Global,
+    name: &[u8],
+    rest: &[u8],
+    out: &mut O,
+) -> Result<(), CheckError>
+    ensures { Writes result (O.sink out.old) (O.sink out.new) (word_form name.now ++ rest.now) }
+{
+    let mut lines = Vec::new(alloc);
+    push_named(&mut lines, name, rest)?;
     write_all(out, &lines)?;
     Ok(())
 }
@@ -76,8 +127,5 @@ pub(crate) fn write_unset<O: Out>(alloc: Global, name: &[u8], out: &mut O) -> Re
     ensures { Writes result (O.sink out.old) (O.sink out.new)
         (word_form name.now ++ codes ": not set\n") }
 {
-    let mut lines = Vec::new(alloc);
-    push_named(&mut lines, name, b": not set\n")?;
-    write_all(out, &lines)?;
-    Ok(())
+    write_named(alloc, name, b": not set\n", out)
 }

@@ -1,7 +1,7 @@
 use Rattle.std.proofs.Common.{◌≡◌, ap, ◌∙◌, length}
 use Rattle.std.specs.List.{fold}
 use Rattle.hushlang.specs.TreesShown as view
-use Rattle.hushcheck.specs.Calls.{after_arm, after_command, after_list, after_script, skip}
+use Rattle.hushcheck.specs.Calls.{after_command, after_list, after_script, skip}
 use Rattle.hushcheck.proofs.CallsLemmas.{after_other, by_arms, by_commands, by_for, by_lists, by_loop, by_values, by_words, fold_all, fold_item, two_scripts, with_other, without_other}
 use Rattle.hushcheck.proofs.WalkLemmas.{ok_so}
 use Rattle.hushcheck.proofs.calls.+calls.Goals as goal

@@ -4,5 +4,5 @@ use Rattle.hushcheck.proofs.checking.check_text.Goals as goal
 
 pub returns-in_err-calls-in-Ok-clause-lines : goal.returns-in_err-calls-in-Ok-clause-lines
 returns-in_err-calls-in-Ok-clause-lines g c =
-    let p = err_from_is_err_and c.from_residual.result c.from_residual.ensures.1 in
+    let p = err_from_is_err_and c.from_residual-in_err-calls-in-Ok.result c.from_residual-in_err-calls-in-Ok.ensures.1 in
     rw (p.1, p.2) (front-nothing (g.O.Out.sink c.args.out.now) _)

@@ -1,4 +1,4 @@
-use Rattle.std.proofs.Common.{◌≡◌, ◌+◌, ◌-◌, ◌++◌, length}
+use Rattle.std.proofs.Common.{◌≡◌, ◌-◌, ◌++◌, length}
 use Rattle.hushlang.specs.CursorShown.{input_in}
 use Rattle.hushlang.specs.LexerShown.{tokens_to_come}
 use Rattle.hushcheck.specs.Calls.{word_places}
