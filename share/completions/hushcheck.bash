@@ -33,7 +33,7 @@ _hushcheck_names() {
 # _hushcheck_options COMMAND: the options of the command, in `options`.
 _hushcheck_options() {
     case $1 in
-        hushcheck) options='-c --config --big-endian -d --device-list --all -h --help -V --version' ;;
+        hushcheck) options='-c --config --big-endian -d --device-list --all --shell -h --help -V --version' ;;
         *) options='' ;;
     esac
 }
@@ -42,6 +42,7 @@ _hushcheck_options() {
 _hushcheck_value() {
     case $1 in
         -c | --config | -d | --device-list) value='file' ;;
+        --shell) value='listed profile old-2023.01 old-2025.01 old' ;;
         *) value='' ;;
     esac
 }
@@ -57,11 +58,17 @@ _hushcheck() {
         [ "${line[number]}" != -- ] || options=''
     done
     [ -z "$options" ] || _hushcheck_value "${line[last - 1]}"
-    if [ "$value" = file ]; then
-        compopt -o filenames 2>/dev/null
-        mapfile -t COMPREPLY < <(compgen -f -- "$word")
-        return
-    fi
+    case $value in
+        file)
+            compopt -o filenames 2>/dev/null
+            mapfile -t COMPREPLY < <(compgen -f -- "$word")
+            return
+            ;;
+        listed\ *)
+            mapfile -t COMPREPLY < <(compgen -W "${value#listed }" -- "$word")
+            return
+            ;;
+    esac
     if [[ $word == -* && -n $options ]]; then
         words=$options
     else

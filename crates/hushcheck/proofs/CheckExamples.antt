@@ -59,16 +59,16 @@ circle = (codes "bootcmd", codes "run a x") ∷ (codes "a", codes "run bootcmd; 
 abbrev circle_order : List Text
 circle_order = codes "bootcmd" ∷ codes "a" ∷ codes "x" ∷ []
 
-circle_turns : circle_order ≡ once ((codes "bootcmd" ∷ []) ++ flat_map (run_by_name circle) circle_order)
+circle_turns : circle_order ≡ once ((codes "bootcmd" ∷ []) ++ flat_map (run_by_name None circle) circle_order)
 unfolding whole script command simple keyword next behind sees expect joined joined_all and_or lists lists_all block arm arms arms_all if_command body_of loop_command for_command name name_next expect_in in_next all_words separators separator_next closes_next op_next refusal missing at_last word_next assignment_next assignments reserved_of reserved assignment name_in name_of is_in_word pieces step bare dollar braced inside front word_front
 circle_turns = refl
 
-first_runs : run_by_name circle (codes "bootcmd") ≡ codes "a" ∷ codes "x" ∷ []
+first_runs : run_by_name None circle (codes "bootcmd") ≡ codes "a" ∷ codes "x" ∷ []
 unfolding whole script command simple keyword next behind sees expect joined joined_all and_or lists lists_all block arm arms arms_all if_command body_of loop_command for_command name name_next expect_in in_next all_words separators separator_next closes_next op_next refusal missing at_last word_next assignment_next assignments reserved_of reserved assignment name_in name_of is_in_word pieces step bare dollar braced inside front word_front
 first_runs = refl
 
 abbrev Reached : Text → Type 0
-Reached = IsReached circle (codes "bootcmd" ∷ [])
+Reached = IsReached None circle (codes "bootcmd" ∷ [])
 
 reached_first : Reached (codes "bootcmd")
 reached_first = is_asked (codes "bootcmd") (0, omega arith, refl)
@@ -79,9 +79,9 @@ circle_reached n (suc zero, h, e) = subst Reached e (is_run (codes "bootcmd") (c
 circle_reached n (suc (suc zero), h, e) = subst Reached e (is_run (codes "bootcmd") (codes "x") reached_first (rw first_runs (1, omega arith, refl)))
 circle_reached n (suc (suc (suc k)), h, e) = absurd (omega (arith, h))
 
-circle_is : IsOrder circle (codes "bootcmd" ∷ []) circle_order
+circle_is : IsOrder None circle (codes "bootcmd" ∷ []) circle_order
 circle_is = record { in_turn = circle_turns; reached = circle_reached }
 
-circle_lines : flat_map (lines_of None circle) circle_order ≡ codes "bootcmd: ok\na: ok\nx: not set\n"
+circle_lines : flat_map (lines_of (record { devices = None; shell = None }) circle) circle_order ≡ codes "bootcmd: ok\na: ok\nx: not set\n"
 unfolding whole script command simple keyword next behind sees expect joined joined_all and_or lists lists_all block arm arms arms_all if_command body_of loop_command for_command name name_next expect_in in_next all_words separators separator_next closes_next op_next refusal missing at_last word_next assignment_next assignments reserved_of reserved assignment name_in name_of is_in_word pieces step bare dollar braced inside front word_front
 circle_lines = refl

@@ -11,8 +11,9 @@ use Rattle.std.specs.List.{flat_map, list_all, list_any}
 use Rattle.envimage.specs.Data.{Pair}
 use Rattle.envtools.specs.Environment.{same}
 use Rattle.envtools.specs.Printing.{all_found}
-use Rattle.device_list.specs.DeviceList.{Devices}
 use Rattle.hushcheck.specs.Names.{Text, run_by_name, run_by_value}
+use Rattle.hushcheck.specs.Rules.{Rules}
+use Rattle.rehearse_terms.specs.declared.shell.Shell.{Shell}
 use Rattle.hushcheck.specs.Order.{IsReached, is_asked, is_run, once, with_name, with_names}
 use Rattle.hushcheck.specs.Report.{BeginsCheck, Checks, is_fine, is_sound, lines_of}
 use Rattle.hushcheck.proofs.OrderLemmas.{with_names-append}
@@ -119,9 +120,9 @@ abbrev left_of : Bool → ℕ → ℕ
 left_of true n = 0
 left_of false n = n
 
-abbrev pub left : List Pair → List Text → ℕ
-left [] done = 0
-left (p ∷ env) done = left_of (list_any (same p.0) done) (length (run_by_value (Some p.1))) + left env done
+abbrev pub left : Option Shell → List Pair → List Text → ℕ
+left shell [] done = 0
+left shell (p ∷ env) done = left_of (list_any (same p.0) done) (length (run_by_value shell (Some p.1))) + left shell env done
 
 any_push : (p n : Text) (done : List Text) → list_any (same p) (done ++ n ∷ []) ≡ (list_any (same p) done || (same p n || false))
 any_push p n done = list_any-append (same p) done (n ∷ [])
@@ -131,50 +132,50 @@ less_of true b r = omega arith
 less_of false true r = omega arith
 less_of false false r = omega arith
 
-left-push : (env : List Pair) (done : List Text) (n : Text) → left env (done ++ n ∷ []) ≤ left env done
-left-push [] done n = omega arith
-left-push (p ∷ env) done n =
+left-push : (shell : Option Shell) (env : List Pair) (done : List Text) (n : Text) → left shell env (done ++ n ∷ []) ≤ left shell env done
+left-push shell [] done n = omega arith
+left-push shell (p ∷ env) done n =
     let e = any_push p.0 n done in
-    let one = less_of (list_any (same p.0) done) (same p.0 n || false) (length (run_by_value (Some p.1))) in
-    let rest = left-push env done n in
+    let one = less_of (list_any (same p.0) done) (same p.0 n || false) (length (run_by_value shell (Some p.1))) in
+    let rest = left-push shell env done n in
     rw e (omega (arith, one, rest))
 
-pub left-turn : (env : List Pair) (done : List Text) (n : Text) → list_any (same n) done ≡ false → left env (done ++ n ∷ []) + length (run_by_name env n) ≤ left env done
-left-turn [] done n new = omega arith
-left-turn (p ∷ env) done n new =
+pub left-turn : (shell : Option Shell) (env : List Pair) (done : List Text) (n : Text) → list_any (same n) done ≡ false → left shell env (done ++ n ∷ []) + length (run_by_name shell env n) ≤ left shell env done
+left-turn shell [] done n new = omega arith
+left-turn shell (p ∷ env) done n new =
     elim (cases_Bool (same n p.0)) [
       | inl is ↦
           let eq : n ≡ p.0 = (bytes_decides n p.0).0 is in
           let fresh : list_any (same p.0) done ≡ false = subst (λ x. list_any (same x) done ≡ false) eq new in
           let there : same p.0 n ≡ true = nat_list_eq_equiv.symm p.0 n ∙ is in
           let e = any_push p.0 n done in
-          let rest = left-push env done n in
+          let rest = left-push shell env done n in
           rw (is, e, fresh, there) (omega (arith, rest))
       | inr other ↦
           let away : same p.0 n ≡ false = nat_list_eq_equiv.symm p.0 n ∙ other in
           let e = any_push p.0 n done in
-          let one = less_of (list_any (same p.0) done) (false || false) (length (run_by_value (Some p.1))) in
-          let rest = left-turn env done n new in
+          let one = less_of (list_any (same p.0) done) (false || false) (length (run_by_value shell (Some p.1))) in
+          let rest = left-turn shell env done n new in
           rw (other, e, away) (omega (arith, one, rest))
     ]
 
 -- ---- one turn
 
-module _ (devices : Option Devices) (env : List Pair) (asked : List Text) (names : List Text) (at : ℕ) where
+module _ (rules : Rules) (env : List Pair) (asked : List Text) (names : List Text) (at : ℕ) where
   -- the names so far are in order, and so is what was reported of the names before a place
   pub record Standing (told : Text) (sound : Bool) : Type 0 where
     pub within : at ≤ length names
-    pub in_turn : names ≡ once (asked ++ flat_map (run_by_name env) (take at names))
-    pub reached : (m : Text) → Contains names m → IsReached env asked m
-    pub told_is : told ≡ flat_map (lines_of devices env) (take at names)
-    pub sound_is : sound ≡ is_sound devices env asked (take at names)
+    pub in_turn : names ≡ once (asked ++ flat_map (run_by_name rules.shell env) (take at names))
+    pub reached : (m : Text) → Contains names m → IsReached rules.shell env asked m
+    pub told_is : told ≡ flat_map (lines_of rules env) (take at names)
+    pub sound_is : sound ≡ is_sound rules env asked (take at names)
 
 -- before the first turn
-pub standing_first : (devices : Option Devices) (env : List Pair) (asked names : List Text) (told : Text) (sound : Bool) → names ≡ once asked → told ≡ [] → sound ≡ all_found env asked → Standing devices env asked names 0 told sound
-standing_first devices env asked names told sound e t s = record {
+pub standing_first : (rules : Rules) (env : List Pair) (asked names : List Text) (told : Text) (sound : Bool) → names ≡ once asked → told ≡ [] → sound ≡ all_found env asked → Standing rules env asked names 0 told sound
+standing_first rules env asked names told sound e t s = record {
   within = omega arith;
   in_turn = e ∙ ap once (sym (append-nil asked));
-  reached = subst (λ ns. (m : Text) → Contains ns m → IsReached env asked m) (sym e) (good-with_names (IsReached env asked) [] asked (λ m c. absurd (let h = c.1 in omega (arith, h))) (λ m c. is_asked m c));
+  reached = subst (λ ns. (m : Text) → Contains ns m → IsReached rules.shell env asked m) (sym e) (good-with_names (IsReached rules.shell env asked) [] asked (λ m c. absurd (let h = c.1 in omega (arith, h))) (λ m c. is_asked m c));
   told_is = t;
   sound_is = s ∙ sym (and_true (all_found env asked));
 }
@@ -203,29 +204,29 @@ one_more : {X : Type 0} (f : Text → List X) (xs : List Text) (x : Text) → fl
 one_more f xs x = flat_map-append f xs (x ∷ []) ∙ ap (λ ys. flat_map f xs ++ ys) (append-nil (f x))
 
 -- after one more turn
-pub standing_next : (devices : Option Devices) (env : List Pair) (asked names names' : List Text) (at : ℕ) (told told' : Text) (sound sound' : Bool) → at < length names → Standing devices env asked names at told sound
-    → names' ≡ with_names names (run_by_name env (get_or names at []))
-    → told' ≡ told ++ lines_of devices env (get_or names at [])
-    → sound' ≡ (sound && is_fine devices env (get_or names at []))
-    → Standing devices env asked names' (at + 1) told' sound'
-standing_next devices env asked names names' at told told' sound sound' within s e t w =
+pub standing_next : (rules : Rules) (env : List Pair) (asked names names' : List Text) (at : ℕ) (told told' : Text) (sound sound' : Bool) → at < length names → Standing rules env asked names at told sound
+    → names' ≡ with_names names (run_by_name rules.shell env (get_or names at []))
+    → told' ≡ told ++ lines_of rules env (get_or names at [])
+    → sound' ≡ (sound && is_fine rules env (get_or names at []))
+    → Standing rules env asked names' (at + 1) told' sound'
+standing_next rules env asked names names' at told told' sound sound' within s e t w =
     let n = get_or names at [] in
-    let more = run_by_name env n in
+    let more = run_by_name rules.shell env n in
     let front : take (at + 1) names' ≡ take at names ++ n ∷ [] = ap (take (at + 1)) e ∙ take_turn names more at within in
     let x = extends names more in
     let long : length names' ≡ length names + length x.0 = ap (λ ns. length ns) (e ∙ x.1) ∙ length-append names x.0 in
-    let before = flat_map (run_by_name env) (take at names) in
+    let before = flat_map (run_by_name rules.shell env) (take at names) in
     record {
       within = omega (arith, long, within);
       in_turn =
           e ∙ ap (λ ns. with_names ns more) s.in_turn ∙ sym (with_names-append [] (asked ++ before) more)
-          ∙ ap once (append_assoc asked before more ∙ ap (λ ns. asked ++ ns) (sym (ap (flat_map (run_by_name env)) front ∙ one_more (run_by_name env) (take at names) n)));
-      reached = subst (λ ns. (m : Text) → Contains ns m → IsReached env asked m) (sym e)
-          (good-with_names (IsReached env asked) names more s.reached (λ m c. is_run n m (s.reached n (at, within, refl_at names at within)) c));
-      told_is = t ∙ ap (λ ts. ts ++ lines_of devices env n) s.told_is ∙ sym (ap (flat_map (lines_of devices env)) front ∙ one_more (lines_of devices env) (take at names) n);
+          ∙ ap once (append_assoc asked before more ∙ ap (λ ns. asked ++ ns) (sym (ap (flat_map (run_by_name rules.shell env)) front ∙ one_more (run_by_name rules.shell env) (take at names) n)));
+      reached = subst (λ ns. (m : Text) → Contains ns m → IsReached rules.shell env asked m) (sym e)
+          (good-with_names (IsReached rules.shell env asked) names more s.reached (λ m c. is_run n m (s.reached n (at, within, refl_at names at within)) c));
+      told_is = t ∙ ap (λ ts. ts ++ lines_of rules env n) s.told_is ∙ sym (ap (flat_map (lines_of rules env)) front ∙ one_more (lines_of rules env) (take at names) n);
       sound_is =
-          w ∙ ap (λ b. b && is_fine devices env n) s.sound_is ∙ and_assoc (all_found env asked) (list_all (is_fine devices env) (take at names)) (is_fine devices env n)
-          ∙ ap (λ b. all_found env asked && b) (sym (ap (list_all (is_fine devices env)) front ∙ list_all-append (is_fine devices env) (take at names) (n ∷ []) ∙ and_end (list_all (is_fine devices env) (take at names)) (is_fine devices env n)));
+          w ∙ ap (λ b. b && is_fine rules env n) s.sound_is ∙ and_assoc (all_found env asked) (list_all (is_fine rules env) (take at names)) (is_fine rules env n)
+          ∙ ap (λ b. all_found env asked && b) (sym (ap (list_all (is_fine rules env)) front ∙ list_all-append (is_fine rules env) (take at names) (n ∷ []) ∙ and_end (list_all (is_fine rules env) (take at names)) (is_fine rules env n)));
     }
   where
     refl_at : (xs : List Text) (k : ℕ) → k < length xs → get_or xs k (get_or xs k []) ≡ get_or xs k []
@@ -234,35 +235,35 @@ standing_next devices env asked names names' at told told' sound sound' within s
     refl_at (y ∷ ys) (suc k) h = refl_at ys k (omega (arith, h))
 
 -- fewer names are left
-pub left_less : (devices : Option Devices) (env : List Pair) (asked names names' : List Text) (at : ℕ) (told : Text) (sound : Bool) → at < length names → Standing devices env asked names at told sound
-    → names' ≡ with_names names (run_by_name env (get_or names at []))
-    → left env (take (at + 1) names') + (length names' - (at + 1)) < left env (take at names) + (length names - at)
-left_less devices env asked names names' at told sound within s e =
+pub left_less : (rules : Rules) (env : List Pair) (asked names names' : List Text) (at : ℕ) (told : Text) (sound : Bool) → at < length names → Standing rules env asked names at told sound
+    → names' ≡ with_names names (run_by_name rules.shell env (get_or names at []))
+    → left rules.shell env (take (at + 1) names') + (length names' - (at + 1)) < left rules.shell env (take at names) + (length names - at)
+left_less rules env asked names names' at told sound within s e =
     let n = get_or names at [] in
-    let more = run_by_name env n in
+    let more = run_by_name rules.shell env n in
     let front : take (at + 1) names' ≡ take at names ++ n ∷ [] = ap (take (at + 1)) e ∙ take_turn names more at within in
-    let new = new-once names (asked ++ flat_map (run_by_name env) (take at names)) s.in_turn at within in
-    let fewer : left env (take (at + 1) names') + length more ≤ left env (take at names) = rw front (left-turn env (take at names) n new) in
+    let new = new-once names (asked ++ flat_map (run_by_name rules.shell env) (take at names)) s.in_turn at within in
+    let fewer : left rules.shell env (take (at + 1) names') + length more ≤ left rules.shell env (take at names) = rw front (left-turn rules.shell env (take at names) n new) in
     let long : length names' ≤ length names + length more = rw e (length-with_names names more) in
     omega (arith, fewer, long, within)
 
 -- after the last turn
-pub standing_last : (devices : Option Devices) (env : List Pair) (asked names : List Text) (at : ℕ) (told : Text) (sound : Bool) → length names ≤ at → Standing devices env asked names at told sound → Checks devices env asked told sound
-standing_last devices env asked names at told sound past s =
+pub standing_last : (rules : Rules) (env : List Pair) (asked names : List Text) (at : ℕ) (told : Text) (sound : Bool) → length names ≤ at → Standing rules env asked names at told sound → Checks rules env asked told sound
+standing_last rules env asked names at told sound past s =
     let all : take at names ≡ names = take_all at names past in
     record {
       order = names;
       is_order = record {
-        in_turn = s.in_turn ∙ ap (λ ns. once (asked ++ flat_map (run_by_name env) ns)) all;
+        in_turn = s.in_turn ∙ ap (λ ns. once (asked ++ flat_map (run_by_name rules.shell env) ns)) all;
         reached = s.reached;
       };
-      told_is = s.told_is ∙ ap (flat_map (lines_of devices env)) all;
-      sound_is = s.sound_is ∙ ap (is_sound devices env asked) all;
+      told_is = s.told_is ∙ ap (flat_map (lines_of rules env)) all;
+      sound_is = s.sound_is ∙ ap (is_sound rules env asked) all;
     }
 
 -- before the first turn nothing is told
-pub begins_first : (devices : Option Devices) (env : List Pair) (asked : List Text) → BeginsCheck devices env asked []
-begins_first devices env asked = record {
+pub begins_first : (rules : Rules) (env : List Pair) (asked : List Text) → BeginsCheck rules env asked []
+begins_first rules env asked = record {
   turns = [];
   behind = once (asked ++ []);
   in_turn = refl;
@@ -271,12 +272,12 @@ begins_first devices env asked = record {
 }
 
 -- in a turn
-pub begins_next : (devices : Option Devices) (env : List Pair) (asked names : List Text) (at : ℕ) (told : Text) (sound : Bool) → at < length names → Standing devices env asked names at told sound
-    → BeginsCheck devices env asked (told ++ lines_of devices env (get_or names at []))
-begins_next devices env asked names at told sound within s =
+pub begins_next : (rules : Rules) (env : List Pair) (asked names : List Text) (at : ℕ) (told : Text) (sound : Bool) → at < length names → Standing rules env asked names at told sound
+    → BeginsCheck rules env asked (told ++ lines_of rules env (get_or names at []))
+begins_next rules env asked names at told sound within s =
     let n = get_or names at [] in
-    let more = run_by_name env n in
-    let next = standing_next devices env asked names (with_names names more) at told (told ++ lines_of devices env n) sound (sound && is_fine devices env n) within s refl refl refl in
+    let more = run_by_name rules.shell env n in
+    let next = standing_next rules env asked names (with_names names more) at told (told ++ lines_of rules env n) sound (sound && is_fine rules env n) within s refl refl refl in
     let all = with_names names more in
     record {
       turns = take (at + 1) all;

@@ -7,6 +7,7 @@ pub mod LinesLemmas
 pub mod CallsLemmas
 pub mod AskedLemmas
 pub mod TellingLemmas
+pub mod ByShellLemmas
 pub mod CheckExamples
 pub mod CallsExamples
 pub mod WarningsExamples

@@ -1,6 +1,7 @@
 pub mod Place
 pub mod Shown
 pub mod Names
+pub mod Rules
 pub mod Order
 pub mod Places
 pub mod WarningTexts
@@ -8,6 +9,7 @@ pub mod Calls
 pub mod Sights
 pub mod Seats
 pub mod Warnings
+pub mod WarningsByShell
 pub mod Remarks
 pub mod Report
 pub mod Telling

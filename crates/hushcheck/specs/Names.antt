@@ -12,6 +12,9 @@ use Rattle.hushlang.specs.Tree.{Script, Empty, Runs, AndOr, Starts, Joined, Alon
 use Rattle.hushlang.specs.TreesShown as view
 use Rattle.hushlang.specs.declared.tree.Script as code_script
 use Rattle.hushlang.specs.declared.token.SyntaxError.{SyntaxError}
+use Rattle.hushlang_old.specs.TreesByShell.{tree_in}
+use Rattle.rehearse_terms.specs.declared.shell.Shell.{Shell}
+use Rattle.rehearse_terms.specs.declared.shell.Shell.TheVariants.{Profile, Old2023, Old2025}
 
 -- bytes before what follows, if that is known
 abbrev pub in_front : Text → Option Text → Option Text
@@ -74,16 +77,32 @@ abbrev pub run_by_read : Result Script SyntaxError → List Text
 run_by_read (Ok script) = run_by_script script
 run_by_read (Err error) = []
 
-abbrev pub run_by_text : Text → List Text
-run_by_text text = run_by_read (read_in text)
+-- what U-Boot's old shell reads in a text, if the call names it
+abbrev pub old_script : Option Shell → Text → Option Script
+old_script None text = None
+old_script (Some Profile) text = None
+old_script (Some Old2023) text = tree_in Old2023 text
+old_script (Some Old2025) text = tree_in Old2025 text
+
+abbrev pub or_old : Option Script → Result Script SyntaxError → Result Script SyntaxError
+or_old old (Ok script) = Ok script
+or_old (Some script) (Err error) = Ok script
+or_old None (Err error) = Err error
+
+-- What is read in a text: by the language; and if that refuses it, by the old shell that the call names.
+abbrev pub read_by : Option Shell → Text → Result Script SyntaxError
+read_by shell text = or_old (old_script shell text) (read_in text)
+
+abbrev pub run_by_text : Option Shell → Text → List Text
+run_by_text shell text = run_by_read (read_by shell text)
 
 -- the names that the text of a variable runs; a variable that is not set runs nothing
-abbrev pub run_by_value : Option Text → List Text
-run_by_value None = []
-run_by_value (Some text) = run_by_text text
+abbrev pub run_by_value : Option Shell → Option Text → List Text
+run_by_value shell None = []
+run_by_value shell (Some text) = run_by_text shell text
 
-abbrev pub run_by_name : List Pair → Text → List Text
-run_by_name env name = run_by_value (value_of env name)
+abbrev pub run_by_name : Option Shell → List Pair → Text → List Text
+run_by_name shell env name = run_by_value shell (value_of env name)
 
 -- the names that a script runs, if one was found
 abbrev pub run_by_found : Option code_script.Script → List Text

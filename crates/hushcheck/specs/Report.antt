@@ -7,12 +7,14 @@ use Rattle.envtools.specs.Printing.{all_found}
 use Rattle.hushlang.specs.Tree.{Script}
 use Rattle.hushlang.specs.declared.token.SyntaxError.{SyntaxError}
 use Rattle.hushlang.specs.declared.token.SyntaxError.TheVariants.{OpenQuote, LoneBackslash, OpenBrace, BadVariable, SingleAmp, SinglePipe, Unexpected, MissingWord, AssignmentBeforeCommand, TooDeep, Memory}
-use Rattle.hushcheck.specs.Names.{Text, read_in, run_by_name}
+use Rattle.hushcheck.specs.Names.{Text, read_by, run_by_name}
 use Rattle.hushcheck.specs.Order.{IsOrder, IsReached, once}
 use Rattle.hushcheck.specs.Places.{lines_at}
 use Rattle.hushcheck.specs.Calls.{calls_of, found_lines}
-use Rattle.hushcheck.specs.Warnings.{blocks_of, warnings_of}
-use Rattle.device_list.specs.DeviceList.{Devices}
+use Rattle.hushcheck.specs.Warnings.{blocks_of}
+use Rattle.hushcheck.specs.WarningsByShell.{warnings_by}
+use Rattle.rehearse_terms.specs.declared.shell.Shell.{Shell}
+use Rattle.hushcheck.specs.Rules.{Rules}
 use Rattle.text.specs.Escapes.{word_form}
 
 -- the byte at which a text is refused
@@ -51,63 +53,63 @@ abbrev pub fault_lines : (name text : Text) → SyntaxError → Text
 fault_lines name text error = lines_at name text (byte_of error) (what_of (length text) (blocks_of text) error)
 
 -- what U-Boot's shells read otherwise in a text, well-formed or not
-abbrev pub warning_lines : (name text : Text) → Text
-warning_lines name text = found_lines name text (warnings_of text)
+abbrev pub warning_lines : Option Shell → (name text : Text) → Text
+warning_lines shell name text = found_lines name text (warnings_by shell text)
 
 -- The lines of a text that was read, or refused, and then its warnings. What is reported of the calls comes last.
-abbrev pub lines_read : Option Devices → (name text : Text) → Result Script SyntaxError → Text
-lines_read devices name text (Ok script) =
-    word_form name ++ codes ": ok\n" ++ warning_lines name text
-    ++ found_lines name text (calls_of devices text script).found
-lines_read devices name text (Err error) = fault_lines name text error ++ warning_lines name text
+abbrev pub lines_read : Rules → (name text : Text) → Result Script SyntaxError → Text
+lines_read rules name text (Ok script) =
+    word_form name ++ codes ": ok\n" ++ warning_lines rules.shell name text
+    ++ found_lines name text (calls_of rules.devices text script).found
+lines_read rules name text (Err error) = fault_lines name text error ++ warning_lines rules.shell name text
 
-abbrev pub lines_of_text : Option Devices → (name text : Text) → Text
-lines_of_text devices name text = lines_read devices name text (read_in text)
+abbrev pub lines_of_text : Rules → (name text : Text) → Text
+lines_of_text rules name text = lines_read rules name text (read_by rules.shell text)
 
 -- the lines of a variable
-abbrev pub lines_of_value : Option Devices → Text → Option Text → Text
-lines_of_value devices name None = word_form name ++ codes ": not set\n"
-lines_of_value devices name (Some text) = lines_of_text devices name text
+abbrev pub lines_of_value : Rules → Text → Option Text → Text
+lines_of_value rules name None = word_form name ++ codes ": not set\n"
+lines_of_value rules name (Some text) = lines_of_text rules name text
 
-abbrev pub lines_of : Option Devices → List Pair → Text → Text
-lines_of devices env name = lines_of_value devices name (value_of env name)
+abbrev pub lines_of : Rules → List Pair → Text → Text
+lines_of rules env name = lines_of_value rules name (value_of env name)
 
 -- the text is well-formed, and the device list lacks no command of it
-abbrev pub is_fine_read : Option Devices → (text : Text) → Result Script SyntaxError → Bool
-is_fine_read devices text (Ok script) = not (calls_of devices text script).lacks
-is_fine_read devices text (Err error) = false
+abbrev pub is_fine_read : Rules → (text : Text) → Result Script SyntaxError → Bool
+is_fine_read rules text (Ok script) = not (calls_of rules.devices text script).lacks
+is_fine_read rules text (Err error) = false
 
-abbrev pub is_fine_text : Option Devices → (text : Text) → Bool
-is_fine_text devices text = is_fine_read devices text (read_in text)
+abbrev pub is_fine_text : Rules → (text : Text) → Bool
+is_fine_text rules text = is_fine_read rules text (read_by rules.shell text)
 
 -- a variable that is not set has no text that could be wrong
-abbrev pub is_fine_value : Option Devices → Option Text → Bool
-is_fine_value devices None = true
-is_fine_value devices (Some text) = is_fine_text devices text
+abbrev pub is_fine_value : Rules → Option Text → Bool
+is_fine_value rules None = true
+is_fine_value rules (Some text) = is_fine_text rules text
 
-abbrev pub is_fine : Option Devices → List Pair → Text → Bool
-is_fine devices env name = is_fine_value devices (value_of env name)
+abbrev pub is_fine : Rules → List Pair → Text → Bool
+is_fine rules env name = is_fine_value rules (value_of env name)
 
 -- all is well: each name that is asked for is set, and each text that is reached is fine
-abbrev pub is_sound : Option Devices → List Pair → (asked order : List Text) → Bool
-is_sound devices env asked order = all_found env asked && list_all (is_fine devices env) order
+abbrev pub is_sound : Rules → List Pair → (asked order : List Text) → Bool
+is_sound rules env asked order = all_found env asked && list_all (is_fine rules env) order
 
 -- the lines of the names that are reached, in their order, and whether all is well
-pub record Checks (devices : Option Devices) (env : List Pair) (asked : List Text) (told : Text) (sound : Bool) :
+pub record Checks (rules : Rules) (env : List Pair) (asked : List Text) (told : Text) (sound : Bool) :
     Type 0 where
   pub order : List Text
-  pub is_order : IsOrder env asked order
-  pub told_is : told ≡ flat_map (lines_of devices env) order
-  pub sound_is : sound ≡ is_sound devices env asked order
+  pub is_order : IsOrder rules.shell env asked order
+  pub told_is : told ≡ flat_map (lines_of rules env) order
+  pub sound_is : sound ≡ is_sound rules env asked order
 
 -- What is told of a check that does not come to its end: the lines of the names whose turn has come, which are the first
 -- of those that are asked for and that the texts of these run.
-pub record BeginsCheck (devices : Option Devices) (env : List Pair) (asked : List Text) (told : Text) : Type 0 where
+pub record BeginsCheck (rules : Rules) (env : List Pair) (asked : List Text) (told : Text) : Type 0 where
   pub turns : List Text
   pub behind : List Text
-  pub in_turn : once (asked ++ flat_map (run_by_name env) turns) ≡ turns ++ behind
-  pub reached : (name : Text) → Contains turns name → IsReached env asked name
-  pub told_is : told ≡ flat_map (lines_of devices env) turns
+  pub in_turn : once (asked ++ flat_map (run_by_name rules.shell env) turns) ≡ turns ++ behind
+  pub reached : (name : Text) → Contains turns name → IsReached rules.shell env asked name
+  pub told_is : told ≡ flat_map (lines_of rules env) turns
 
 -- ---- which names are asked for
 

@@ -1,10 +1,10 @@
 -- What is written of the lines of a check, which are written as it goes.
-use Rattle.std.specs.Prelude.{Bool, List, Option, Result, Ok, Err}
+use Rattle.std.specs.Prelude.{Bool, List, Result, Ok, Err}
 use Rattle.envimage.specs.Data.{Pair}
-use Rattle.device_list.specs.DeviceList.{Devices}
 use Rattle.output.specs.Sink.{Sink, BrokeOff, Wrote}
 use Rattle.output.specs.Outputs.{WroteFront}
 use Rattle.hushcheck.specs.Names.{Text}
+use Rattle.hushcheck.specs.Rules.{Rules}
 use Rattle.hushcheck.specs.Report.{BeginsCheck, Checks}
 use Rattle.hushcheck.specs.declared.check_error.CheckError.{CheckError}
 use Rattle.hushcheck.specs.declared.check_error.CheckError.TheVariants.{Memory, Write}
@@ -21,6 +21,6 @@ Writes (Err error) old new text = Stops error old new text
 
 -- What a check wrote: all lines, and whether all is well. Or the output failed, or memory ran out, within the lines of
 -- the names whose turn had come.
-abbrev pub WritesCheck : Option Devices → List Pair → (asked : List Text) → Result Bool CheckError → Sink → Sink → Type 0
-WritesCheck devices env asked (Ok sound) old new = (told : Text) × Checks devices env asked told sound × Wrote old new told
-WritesCheck devices env asked (Err error) old new = (told : Text) × BeginsCheck devices env asked told × Stops error old new told
+abbrev pub WritesCheck : Rules → List Pair → (asked : List Text) → Result Bool CheckError → Sink → Sink → Type 0
+WritesCheck rules env asked (Ok sound) old new = (told : Text) × Checks rules env asked told sound × Wrote old new told
+WritesCheck rules env asked (Err error) old new = (told : Text) × BeginsCheck rules env asked told × Stops error old new told

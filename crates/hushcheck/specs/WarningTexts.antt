@@ -3,7 +3,7 @@
 use Rattle.std.specs.Prelude.{codes}
 use Rattle.hushcheck.specs.Names.{Text}
 use Rattle.hushcheck.specs.declared.warning.Warning.{Warning}
-use Rattle.hushcheck.specs.declared.warning.Warning.TheVariants.{StraightBehind, MixedList, OperatorAtLineEnd, WordOfFor, ReservedName, Exit, EmptyAssignment, UnderscoreName, BackslashInSingle, BackslashInDouble, Apostrophe, PartlyQuoted, LooseOperand, FileTest, EmptyWord, OptionOfSetenv, ManyWords, StatusInBraces, OddName, SpecialParameter, Parenthesis, BackslashAtLineEnd}
+use Rattle.hushcheck.specs.declared.warning.Warning.TheVariants.{StraightBehind, MixedList, OperatorAtLineEnd, WordOfFor, ReservedName, Exit, EmptyAssignment, UnderscoreName, BackslashInSingle, BackslashInDouble, Apostrophe, PartlyQuoted, LooseOperand, FileTest, EmptyWord, OptionOfSetenv, ManyWords, StatusInBraces, OddName, SpecialParameter, Parenthesis, BackslashAtLineEnd, NotFollowedText}
 
 abbrev pub warning_text : Warning → Text
 warning_text StraightBehind = codes "warning: U-Boot's old shell wants ; before this word"
@@ -28,3 +28,4 @@ warning_text OddName = codes "warning: U-Boot's modern shell refuses this name i
 warning_text SpecialParameter = codes "warning: U-Boot's modern shell takes $ and the byte after it for a variable"
 warning_text Parenthesis = codes "warning: U-Boot's modern shell refuses ( outside quotes"
 warning_text BackslashAtLineEnd = codes "warning: U-Boot's old shell keeps the line's end behind this backslash"
+warning_text NotFollowedText = codes "warning: a rehearsal by this shell stops where this text is run"

@@ -6,16 +6,18 @@ ghost use Rattle.hushcheck.specs.Order.{with_names};
 ghost use Rattle.hushcheck.specs.Report.{is_fine, is_fine_text, lines_of, lines_of_text};
 ghost use Rattle.hushcheck.specs.Telling.{Writes, WritesCheck};
 
+use crate::by_shell::{TextRead, read_by, warnings_by};
 use crate::calls::calls_of;
 use crate::check_error::CheckError;
 use crate::names::{Names, asked_names};
+use crate::rules::Rules;
 use crate::telling::{write_fault, write_read, write_unset};
 use crate::walk::add_script;
-use crate::watch::warnings_of;
 use device_list::Devices;
 use envtools::Env;
-use hushlang::{Script, SyntaxError, parse};
+use hushlang::{Script, SyntaxError};
 use output::Out;
+use rehearse_terms::Shell;
 use std::alloc::{AllocError, Global};
 
 /// Whether all of the names are set.
@@ -50,19 +52,22 @@ struct Checked {
 fn check_text<O: Out>(
     alloc: Global,
     devices: Option<&Devices>,
+    shell: Option<Shell>,
     name: &[u8],
     text: &[u8],
     out: &mut O,
 ) -> Result<Checked, CheckError>
     ensures lines { Writes result (O.sink out.old) (O.sink out.new)
-        (lines_of_text (option_map (λ d. d.now) devices.entry) name.now text.now) }
-    ensures fine { IfOk result (λ checked. checked.fine
-        ≡ is_fine_text (option_map (λ d. d.now) devices.entry) text.now) }
+        (lines_of_text record { devices = option_map (λ d. d.now) devices.entry; shell = shell }
+        name.now text.now) }
+    ensures fine { IfOk result (λ checked. checked.fine ≡ is_fine_text
+        record { devices = option_map (λ d. d.now) devices.entry; shell = shell } text.now) }
     ensures script { IfOk result (λ checked. run_by_found checked.script
-        ≡ run_by_text text.now) }
+        ≡ run_by_text shell text.now) }
 {
-    let warnings = warnings_of(alloc, text)?;
-    match parse(alloc, text) {
+    let TextRead { script, by_old } = read_by(alloc, shell, text)?;
+    let warnings = warnings_by(alloc, shell, by_old, text)?;
+    match script {
         Ok(script) => {
             let calls = calls_of(alloc, devices, text, &script)?;
             write_read(alloc, name, text, &warnings.found, &calls.found, out)?;
@@ -85,20 +90,20 @@ fn check_text<O: Out>(
 /// Checks a variable, and writes its lines.
 fn check_name<O: Out>(
     alloc: Global,
-    devices: Option<&Devices>,
+    rules: &Rules<'_>,
     env: &Env,
     name: &[u8],
     out: &mut O,
 ) -> Result<Checked, CheckError>
     ensures lines { Writes result (O.sink out.old) (O.sink out.new)
-        (lines_of (option_map (λ d. d.now) devices.entry) env.now name.now) }
+        (lines_of rules.now env.now name.now) }
     ensures fine { IfOk result (λ checked. checked.fine
-        ≡ is_fine (option_map (λ d. d.now) devices.entry) env.now name.now) }
+        ≡ is_fine rules.now env.now name.now) }
     ensures script { IfOk result (λ checked. run_by_found checked.script
-        ≡ run_by_name env.now name.now) }
+        ≡ run_by_name rules.now.shell env.now name.now) }
 {
     match env.get(name) {
-        Some(text) => check_text(alloc, devices, name, text, out),
+        Some(text) => check_text(alloc, rules.devices, rules.shell, name, text, out),
         None => {
             write_unset(alloc, name, out)?;
             Ok(Checked {
@@ -123,7 +128,7 @@ fn add_found(alloc: Global, script: Option<Script>, names: &mut Names) -> Result
 /// whether nothing is wrong with it.
 fn take_turn<O: Out>(
     alloc: Global,
-    devices: Option<&Devices>,
+    rules: &Rules<'_>,
     env: &Env,
     names: &mut Names,
     at: usize,
@@ -131,15 +136,14 @@ fn take_turn<O: Out>(
 ) -> Result<bool, CheckError>
     requires { at < length names.old }
     ensures lines { Writes result (O.sink out.old) (O.sink out.new)
-        (lines_of (option_map (λ d. d.now) devices.entry) env.now
+        (lines_of rules.now env.now
         (slice_index_or names.old at [])) }
-    ensures fine { IfOk result (λ fine. fine ≡ is_fine (option_map (λ d. d.now) devices.entry)
-        env.now (slice_index_or names.old at [])) }
+    ensures fine { IfOk result (λ fine. fine ≡ is_fine rules.now env.now (slice_index_or names.old at [])) }
     ensures names { OnOk result (names.new
-        ≡ with_names names.old (run_by_name env.now (slice_index_or names.old at []))) }
+        ≡ with_names names.old (run_by_name rules.now.shell env.now (slice_index_or names.old at []))) }
 {
     let name = names.name_at(at);
-    let Checked { script, fine } = check_name(alloc, devices, env, name, out)?;
+    let Checked { script, fine } = check_name(alloc, rules, env, name, out)?;
     add_found(alloc, script, names)?;
     Ok(fine)
 }
@@ -153,19 +157,19 @@ fn take_turn<O: Out>(
 /// ran out; the first lines are then written.
 pub fn check<O: Out>(
     alloc: Global,
-    devices: Option<&Devices>,
+    rules: &Rules<'_>,
     env: &Env,
     asked: &[&[u8]],
     out: &mut O,
 ) -> Result<bool, CheckError>
-    ensures { WritesCheck (option_map (λ d. d.now) devices.entry) env.now
+    ensures { WritesCheck rules.now env.now
         (map (λ name. name.now) asked.now) result (O.sink out.old) (O.sink out.new) }
 {
     let mut names = asked_names(alloc, asked)?;
     let mut sound = are_set(env, asked);
     let mut at = 0;
     'names: while at < names.len() {
-        let fine = take_turn(alloc, devices, env, &mut names, at, out)?;
+        let fine = take_turn(alloc, rules, env, &mut names, at, out)?;
         sound = both(sound, fine);
         at += 1;
     }

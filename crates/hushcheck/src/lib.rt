@@ -2,6 +2,7 @@
 #![tactic(auto)]
 
 mod asked;
+mod by_shell;
 mod calls;
 mod check_error;
 mod checking;
@@ -11,6 +12,7 @@ mod names;
 mod place;
 mod reading;
 mod remark;
+mod rules;
 mod seat;
 mod shown;
 mod sights;
@@ -23,3 +25,4 @@ pub use asked::asked_names;
 pub use check_error::CheckError;
 pub use checking::check;
 pub use place::{Place, place_of};
+pub use rules::Rules;

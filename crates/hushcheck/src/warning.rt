@@ -49,6 +49,8 @@ pub(crate) enum Warning {
     Parenthesis,
     /// A backslash before the end of a line, within a word.
     BackslashAtLineEnd,
+    /// A text that is not followed as the old shell reads it.
+    NotFollowedText,
 }
 
 /// What U-Boot does there, in words.
@@ -104,6 +106,9 @@ pub(crate) fn warning_text(warning: Warning) -> &'static [u8]
         Warning::Parenthesis => b"warning: U-Boot's modern shell refuses ( outside quotes",
         Warning::BackslashAtLineEnd => {
             b"warning: U-Boot's old shell keeps the line's end behind this backslash"
+        }
+        Warning::NotFollowedText => {
+            b"warning: a rehearsal by this shell stops where this text is run"
         }
     }
 }

@@ -11,6 +11,7 @@ use Rattle.hushcheck_main.specs.Asked.{Asked}
 use Rattle.hushcheck_main.specs.Checking.{AreFound, ChecksFrom, ChecksText, FromFiles, Given, IsUnread, LeavesOutput, Lists, ReadsList, given, given_by, TellsAll, IsBadList, BreaksOff, WritesFront}
 use Rattle.hushcheck.specs.Names.{Text}
 use Rattle.device_list.specs.DeviceList.{Devices}
+use Rattle.rehearse_terms.specs.declared.shell.Shell.{Shell}
 use Rattle.device_list.specs.declared.devices_error.DevicesError.{DevicesError}
 use Rattle.hushcheck_main.specs.Faults.{CountsShared, of_image}
 use Rattle.hushcheck_main.specs.declared.fault.CheckFault.{CheckFault}
@@ -94,10 +95,10 @@ only-read config (Some list) found x y z (Some text) read listed = OnlyReads-the
 
 module _ (asked : Asked) (out out' : Sink) (found : List Copy) (text : Option (Vec ℕ Global)) (x y z : Told) (read : HasRead asked.config x y found) (listed : ReadsList asked.device_list y z (Ok text)) where
   abbrev pub here : Given
-  here = given_by asked.order found (bytes_if text) asked.names asked.all
+  here = given_by asked.order found (bytes_if text) asked.names asked.all asked.shell
 
   from-files : (IsSo : Given → Type 0) → IsSo here → FromFiles asked x z IsSo
-  from-files IsSo so = are-found asked.config asked.device_list found x y z text (λ copies list. IsSo (given_by asked.order copies list asked.names asked.all)) read listed so
+  from-files IsSo so = are-found asked.config asked.device_list found x y z text (λ copies list. IsSo (given_by asked.order copies list asked.names asked.all asked.shell)) read listed so
 
   -- what is not refused so by the texts: the images and the list were read
   pub checks-read : (answer : Result Bool CheckFault) → ChecksText here out out' answer → ChecksFrom asked out out' x z answer
@@ -163,41 +164,41 @@ counts-none g out out' count (Err (Shared (fault.InputCutOff line))) h = refl
 -- ---- one environment
 
 -- what is said of the environment that was found, by the names as they are given
-pub texts-in : (answer : Result (List Pair) ImageError) (env : List Pair) (devices : Result (Option Devices) DevicesError) (names names' : List Text) (all : Bool) (old new : Sink) (told : Result Bool CheckFault) → answer ≡ Ok env
-    → names ≡ names' → ChecksText (given (Ok env) devices names all) old new told → ChecksText (given answer devices names' all) old new told
-texts-in answer env devices names names' all old new told found same h =
-    subst (λ (e : Result (List Pair) ImageError). ChecksText (given e devices names' all) old new told) (sym found)
-    (subst (λ (ns : List Text). ChecksText (given (Ok env) devices ns all) old new told) same h)
+pub texts-in : (answer : Result (List Pair) ImageError) (env : List Pair) (devices : Result (Option Devices) DevicesError) (names names' : List Text) (all : Bool) (shell : Option Shell) (old new : Sink) (told : Result Bool CheckFault) → answer ≡ Ok env
+    → names ≡ names' → ChecksText (given (Ok env) devices names all shell) old new told → ChecksText (given answer devices names' all shell) old new told
+texts-in answer env devices names names' all shell old new told found same h =
+    subst (λ (e : Result (List Pair) ImageError). ChecksText (given e devices names' all shell) old new told) (sym found)
+    (subst (λ (ns : List Text). ChecksText (given (Ok env) devices ns all shell) old new told) same h)
 
 -- the refusal of the image
-pub no-texts : (answer : Result (List Pair) ImageError) (devices : Result (Option Devices) DevicesError) (names : List Text) (all : Bool) (old : Sink) (error : ImageError) → Finds answer (Err error)
-    → ChecksText (given answer devices names all) old old (Err (of_image error))
-no-texts answer devices names all old image.WrongSize h = (h, refl)
-no-texts answer devices names all old image.BadCrc h = (h, refl)
-no-texts answer devices names all old (image.Content error) h = (h, refl)
-no-texts answer devices names all old image.TooLarge h = (h, refl)
-no-texts answer devices names all old image.Memory h = inl refl
+pub no-texts : (answer : Result (List Pair) ImageError) (devices : Result (Option Devices) DevicesError) (names : List Text) (all : Bool) (shell : Option Shell) (old : Sink) (error : ImageError) → Finds answer (Err error)
+    → ChecksText (given answer devices names all shell) old old (Err (of_image error))
+no-texts answer devices names all shell old image.WrongSize h = (h, refl)
+no-texts answer devices names all shell old image.BadCrc h = (h, refl)
+no-texts answer devices names all shell old (image.Content error) h = (h, refl)
+no-texts answer devices names all shell old image.TooLarge h = (h, refl)
+no-texts answer devices names all shell old image.Memory h = inl refl
 
 -- the refusal of the device list
-pub no-list : (answer : Result (Option Devices) DevicesError) (env : List Pair) (names : List Text) (all : Bool) (old : Sink) (error : CheckFault) → Lists answer (Err error)
-    → ChecksText (given (Ok env) answer names all) old old (Err error)
-no-list answer env names all old (DeviceList error) h = (record { env = env; there = refl; refused = h }, refl)
-no-list answer env names all old (Shared fault.Memory) h = inl refl
-no-list answer env names all old (Shared (fault.Tool error)) h = absurd h
-no-list answer env names all old (Shared (fault.Config error)) h = absurd h
-no-list answer env names all old (Shared (fault.Lock error)) h = absurd h
-no-list answer env names all old (Shared (fault.CannotRead path)) h = absurd h
-no-list answer env names all old (Shared (fault.CannotWrite path)) h = absurd h
-no-list answer env names all old (Shared (fault.FileShort path)) h = absurd h
-no-list answer env names all old (Shared (fault.FileTooLong path)) h = absurd h
-no-list answer env names all old (Shared fault.CannotReadInput) h = absurd h
-no-list answer env names all old (Shared fault.InputTooLong) h = absurd h
-no-list answer env names all old (Shared (fault.InputCutOff line)) h = absurd h
+pub no-list : (answer : Result (Option Devices) DevicesError) (env : List Pair) (names : List Text) (all : Bool) (shell : Option Shell) (old : Sink) (error : CheckFault) → Lists answer (Err error)
+    → ChecksText (given (Ok env) answer names all shell) old old (Err error)
+no-list answer env names all shell old (DeviceList error) h = (record { env = env; there = refl; refused = h }, refl)
+no-list answer env names all shell old (Shared fault.Memory) h = inl refl
+no-list answer env names all shell old (Shared (fault.Tool error)) h = absurd h
+no-list answer env names all shell old (Shared (fault.Config error)) h = absurd h
+no-list answer env names all shell old (Shared (fault.Lock error)) h = absurd h
+no-list answer env names all shell old (Shared (fault.CannotRead path)) h = absurd h
+no-list answer env names all shell old (Shared (fault.CannotWrite path)) h = absurd h
+no-list answer env names all shell old (Shared (fault.FileShort path)) h = absurd h
+no-list answer env names all shell old (Shared (fault.FileTooLong path)) h = absurd h
+no-list answer env names all shell old (Shared fault.CannotReadInput) h = absurd h
+no-list answer env names all shell old (Shared fault.InputTooLong) h = absurd h
+no-list answer env names all shell old (Shared (fault.InputCutOff line)) h = absurd h
 
 -- the same check with a device list that is another way to write this one
-pub listed-as : (answer answer' : Result (Option Devices) DevicesError) (env : List Pair) (names : List Text) (all : Bool) (old new : Sink) (told : Result Bool CheckFault) → answer ≡ answer'
-    → ChecksText (given (Ok env) answer names all) old new told → ChecksText (given (Ok env) answer' names all) old new told
-listed-as answer answer' env names all old new told e h = subst (λ (d : Result (Option Devices) DevicesError). ChecksText (given (Ok env) d names all) old new told) e h
+pub listed-as : (answer answer' : Result (Option Devices) DevicesError) (env : List Pair) (names : List Text) (all : Bool) (shell : Option Shell) (old new : Sink) (told : Result Bool CheckFault) → answer ≡ answer'
+    → ChecksText (given (Ok env) answer names all shell) old new told → ChecksText (given (Ok env) answer' names all shell) old new told
+listed-as answer answer' env names all shell old new told e h = subst (λ (d : Result (Option Devices) DevicesError). ChecksText (given (Ok env) d names all shell) old new told) e h
 
 -- the environment of the images, by the bytes of their copies
 pub found-in : (order : ByteOrder) (images : Images) (first : List ℕ) (second : Option (List ℕ)) → first ≡ images.first.bytes.items → second ≡ option_map (λ copy. copy.bytes.items) images.second

@@ -1,19 +1,22 @@
 -- What the words of a call ask for, from the entries that `clap` finds in them. Ours; that `bootcmd` is the variable
 -- that boots is U-Boot's (doc/usage/environment).
-use Rattle.std.specs.Prelude.{◌∷◌, Bool, List, [], Option, codes, map, option_map, string_bytes, String, if◌then◌else◌}
+use Rattle.std.specs.Prelude.{◌∷◌, Bool, List, [], Option, Some, None, codes, map, option_map, string_bytes, String, if◌then◌else◌}
+use Rattle.std.specs.Option.{option_map_or}
 use Rattle.std.specs.declared.alloc.Global.{Global}
 use Rattle.clap.specs.Words.{Row, Text, first_of}
 use Rattle.envimage.specs.declared.image.ByteOrder.{ByteOrder}
 use Rattle.hushcheck_main.specs.declared.ask.CheckAsk.{CheckAsk}
-use Rattle.tool_words.specs.Asked.{config_of, is_set, order_of, values_of}
+use Rattle.tool_words.specs.Asked.{config_of, is_set, order_of, shell_named, values_of}
+use Rattle.rehearse_terms.specs.declared.shell.Shell.{Shell}
 
 -- the paths of the configuration and of the device list, if there is one; the variables to check, and whether every
--- variable is checked after them; and how the checksum is stored
+-- variable is checked after them; the shell that is named, if one is; and how the checksum is stored
 pub record Asked : Type 0 where
   pub config : Text
   pub device_list : Option Text
   pub names : List Text
   pub all : Bool
+  pub shell : Option Shell
   pub order : ByteOrder
 
 -- `bootcmd` if no name is given, and not every variable is asked for
@@ -21,14 +24,27 @@ abbrev pub or_bootcmd : (all : Bool) → List Text → List Text
 or_bootcmd all [] = if all then [] else codes "bootcmd" ∷ []
 or_bootcmd all (name ∷ names) = name ∷ names
 
-abbrev pub asked_of : List Row → Asked
-asked_of rows = record {
+-- the shell of a name, as one that is named; nothing if no shell has it
+abbrev pub some_shell : Text → Option (Option Shell)
+some_shell name = option_map (λ shell. Some shell) (shell_named name)
+
+-- the shell that is named, if one is; nothing if no shell has the name
+abbrev pub shell_by : Option Text → Option (Option Shell)
+shell_by name = option_map_or some_shell name (Some None)
+
+abbrev pub asked_in : List Row → Option Shell → Asked
+asked_in rows shell = record {
   config = config_of rows;
   device_list = first_of (codes "device-list") rows;
   names = or_bootcmd (is_set (codes "all") rows) (values_of (codes "names") rows);
   all = is_set (codes "all") rows;
+  shell = shell;
   order = order_of rows;
 }
+
+-- nothing is asked for if no shell has the name that is given
+abbrev pub asked_of : List Row → Option Asked
+asked_of rows = option_map (asked_in rows) (shell_by (first_of (codes "shell") rows))
 
 -- what the program's answer asks for
 abbrev pub asked_by : String Global → Option (String Global) → CheckAsk → ByteOrder → Asked
@@ -37,5 +53,6 @@ asked_by config list what order = record {
   device_list = option_map string_bytes list;
   names = map string_bytes what.names.items;
   all = what.all;
+  shell = what.shell;
   order = order;
 }

@@ -11,6 +11,8 @@ use Rattle.hushcheck_main.specs.declared.fault.CheckFault.{CheckFault}
 use Rattle.hushcheck_main.specs.declared.fault.CheckFault.TheVariants.{DeviceList, Shared}
 use Rattle.hushcheck.specs.Names.{Text}
 use Rattle.hushcheck.specs.Report.{BeginsCheck, Checks, asked_names}
+use Rattle.hushcheck.specs.Rules.{Rules}
+use Rattle.rehearse_terms.specs.declared.shell.Shell.{Shell}
 use Rattle.device_list.specs.DeviceList.{Devices, listed}
 use Rattle.device_list.specs.declared.devices_error.DevicesError.{DevicesError}
 use Rattle.tool_files.specs.CallOrder.{OnlyReads}
@@ -25,16 +27,19 @@ use Rattle.tool_steps.specs.Sources.{AreRead, IsUnlisted}
 
 -- ---- what is checked
 
--- the environment that was found, the device list if there is one, the names that the call gives, and whether every
--- variable is checked after them
+-- the environment that was found, the device list if there is one, the names that the call gives, whether every
+-- variable is checked after them, and the shell that is named, if one is
 pub record Given : Type 0 where
   pub env : Result (List Pair) ImageError
   pub devices : Result (Option Devices) DevicesError
   pub names : List Text
   pub all : Bool
+  pub shell : Option Shell
 
-abbrev pub given : Result (List Pair) ImageError → Result (Option Devices) DevicesError → List Text → Bool → Given
-given env devices names all = record { env = env; devices = devices; names = names; all = all }
+abbrev pub given : Result (List Pair) ImageError → Result (Option Devices) DevicesError → List Text → Bool →
+    Option Shell → Given
+given env devices names all shell =
+    record { env = env; devices = devices; names = names; all = all; shell = shell }
 
 abbrev pub with_list : Result Devices DevicesError → Result (Option Devices) DevicesError
 with_list (Ok devices) = Ok (Some devices)
@@ -46,8 +51,12 @@ list_in None = Ok None
 list_in (Some text) = with_list (listed text)
 
 -- the same for copies and the text of a device list
-abbrev pub given_by : ByteOrder → List Copy → (list : Option Text) → List Text → Bool → Given
-given_by order found list names all = given (environment order found) (list_in list) names all
+abbrev pub given_by : ByteOrder → List Copy → (list : Option Text) → List Text → Bool → Option Shell → Given
+given_by order found list names all shell = given (environment order found) (list_in list) names all shell
+
+-- what the texts are held to
+abbrev pub rules_in : Option Devices → Given → Rules
+rules_in devices g = record { devices = devices; shell = g.shell }
 
 -- ---- one environment
 
@@ -64,7 +73,7 @@ pub record AreTexts (g : Given) (told : Text) (sound : Bool) : Type 0 where
   pub there : g.env ≡ Ok env
   pub devices : Option Devices
   pub are_listed : g.devices ≡ Ok devices
-  pub checks : Checks devices env (asked_names g.all env g.names) told sound
+  pub checks : Checks (rules_in devices g) env (asked_names g.all env g.names) told sound
 
 -- The environment is right, and the device list is refused for this.
 pub record IsBadList (g : Given) (fault : DevicesError) : Type 0 where
@@ -78,7 +87,7 @@ pub record BeginTexts (g : Given) (told : Text) : Type 0 where
   pub there : g.env ≡ Ok env
   pub devices : Option Devices
   pub are_listed : g.devices ≡ Ok devices
-  pub begins : BeginsCheck devices env (asked_names g.all env g.names) told
+  pub begins : BeginsCheck (rules_in devices g) env (asked_names g.all env g.names) told
 
 -- all that is reported was written
 abbrev pub TellsAll : Given → (old new : Sink) → (sound : Bool) → Type 0
@@ -125,7 +134,7 @@ IsUnread config (Some list) old fault = IsImagesFault config old.stored fault �
 abbrev pub FromFiles : Asked → (old new : Told) → (Given → Type 0) → Type 0
 FromFiles asked old new IsSo =
     AreFound asked.config asked.device_list old new (λ found list.
-    IsSo (given_by asked.order found list asked.names asked.all))
+    IsSo (given_by asked.order found list asked.names asked.all asked.shell))
 
 -- The images and the device list were read and the texts checked, or the image or the list is refused; or a read is
 -- refused, and files were only read. Memory may run out at any time, also when lines were written.

@@ -1,6 +1,7 @@
 //! What a call asks for.
 
 use envimage::ByteOrder;
+use rehearse_terms::Shell;
 
 /// To check the texts of variables, and the texts that these run.
 #[derive(Debug, Drop)]
@@ -22,4 +23,6 @@ pub struct CheckAsk {
     pub names: Vec<String>,
     /// Whether every variable is checked after them.
     pub all: bool,
+    /// The shell that is named, if one is.
+    pub shell: Option<Shell>,
 }

@@ -30,6 +30,7 @@ Examples:
   hushcheck bootcmd altbootcmd
   hushcheck --all -d devices
   hushcheck -c fw_env.config --big-endian
+  hushcheck --shell old
 ";
 
 /// The program, without its words.
@@ -44,7 +45,7 @@ fn base<'a>(alloc: Global) -> Result<Command<'a>, AllocError>
     Ok(command.no_binary_name(true))
 }
 
-const ARGUMENTS: [Argument<'static>; 5] = [
+const ARGUMENTS: [Argument<'static>; 6] = [
     CONFIG,
     BIG_ENDIAN,
     Argument {
@@ -60,6 +61,16 @@ const ARGUMENTS: [Argument<'static>; 5] = [
         required: false,
         value: "",
         help: "Check every variable of the image, after the NAMEs",
+    },
+    Argument {
+        id: "shell",
+        form: Form::Value,
+        letter: None,
+        alias: None,
+        required: false,
+        value: "NAME",
+        help: "Name what a rehearsal by this shell does not follow: profile, old-2023.01, \
+            old-2025.01 or old [default: what any shell reads otherwise]",
     },
     Argument {
         help: "Variables to check, in order [default: bootcmd, with --all none]",

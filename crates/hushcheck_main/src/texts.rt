@@ -13,8 +13,9 @@ use crate::fault::CheckFault;
 use device_list::{Devices, DevicesError};
 use envimage::ByteOrder;
 use envtools::Env;
-use hushcheck::{CheckError, asked_names, check};
+use hushcheck::{CheckError, Rules, asked_names, check};
 use output::Out;
+use rehearse_terms::Shell;
 use std::alloc::Global;
 use tool_files::Files;
 use tool_images::{Fault, ToolError, env_of_image};
@@ -43,15 +44,16 @@ fn check_with<O: Out>(
     env: &Env,
     names: &[&[u8]],
     all: bool,
+    shell: Option<Shell>,
     out: &mut O,
 ) -> Result<bool, CheckFault>
     ensures { ChecksText (given (Ok env.now) (Ok (option_map (λ d. d.now) devices.entry))
-        (map (λ n. n.now) names.now) all) (O.sink out.old) (O.sink out.new) result }
+        (map (λ n. n.now) names.now) all shell) (O.sink out.old) (O.sink out.new) result }
 {
     let Ok(names) = asked_names(alloc, env, names, all) else {
         return Err(CheckFault::Shared(Fault::Memory));
     };
-    match check(alloc, devices, env, &names, out) {
+    match check(alloc, &Rules { devices, shell }, env, &names, out) {
         Ok(sound) => Ok(sound),
         Err(CheckError::Write) => Err(CheckFault::Shared(Fault::Tool(ToolError::Write))),
         Err(CheckError::Memory) => Err(CheckFault::Shared(Fault::Memory)),
@@ -65,13 +67,14 @@ fn check_env<O: Out>(
     list: Option<&[u8]>,
     names: &[&[u8]],
     all: bool,
+    shell: Option<Shell>,
     out: &mut O,
 ) -> Result<bool, CheckFault>
     ensures { ChecksText (given (Ok env.now) (list_in (option_copied list.entry))
-        (map (λ n. n.now) names.now) all) (O.sink out.old) (O.sink out.new) result }
+        (map (λ n. n.now) names.now) all shell) (O.sink out.old) (O.sink out.new) result }
 {
     let devices = list_of(alloc, list)?;
-    check_with(alloc, devices.as_ref(), env, names, all, out)
+    check_with(alloc, devices.as_ref(), env, names, all, shell, out)
 }
 
 /// The same for images that were read, a single one or a pair.
@@ -84,15 +87,15 @@ fn check_images<O: Out>(
     out: &mut O,
 ) -> Result<bool, CheckFault>
     ensures { ChecksText (given_by order (copies images.now) (option_copied list.entry)
-        (map string_bytes what.now.names.items) what.now.all) (O.sink out.old)
-        (O.sink out.new) result }
+        (map string_bytes what.now.names.items) what.now.all what.now.shell)
+        (O.sink out.old) (O.sink out.new) result }
 {
     let Ok(names) = slices_of(alloc, &what.names) else {
         return Err(CheckFault::Shared(Fault::Memory));
     };
     let second = images.second_bytes();
     let env = env_of_image(alloc, &images.first.bytes, second, order)?;
-    check_env(alloc, &env, list, &names, what.all, out)
+    check_env(alloc, &env, list, &names, what.all, what.shell, out)
 }
 
 /// Reads the text of the device list, if one is named.

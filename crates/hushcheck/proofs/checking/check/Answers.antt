@@ -1,4 +1,3 @@
-use Rattle.std.specs.Prelude.{option_map}
 use Rattle.std.proofs.Common.{◌<◌, ◌≤◌, ◌&&◌, ◌++◌, [], length, map, get_or, refl, ap, ◌∙◌, arith}
 use Rattle.std.proofs.lemmas.Result.{err_from_is_err_and}
 use Rattle.output.proofs.SinkLemmas.{Wrote-append, Wrote-none}
@@ -10,28 +9,28 @@ use Rattle.hushcheck.proofs.checking.check.Goals as goal
 pub returns-in_err-names : goal.returns-in_err-names
 returns-in_err-names g c =
     let p = err_from_is_err_and c.from_residual.result c.from_residual.ensures.1 in
-    rw (p.1, p.2) ([], begins_first (option_map (λ d. d.now) c.args.devices) c.args.env.now (map (λ name. name.now) c.args.asked.now), front-nothing (g.O.Out.sink c.args.out.now) [])
+    rw (p.1, p.2) ([], begins_first (c.args.rules.now) c.args.env.now (map (λ name. name.now) c.args.asked.now), front-nothing (g.O.Out.sink c.args.out.now) [])
 
 pub names-init : goal.names-init
 names-init g c = (
   [],
-  standing_first (option_map (λ d. d.now) c.args.devices) c.args.env.now (map (λ name. name.now) c.args.asked.now) c.in_ok-names.names [] c.are_set-sound.result c.in_ok-names.ensures refl c.are_set-sound.ensures,
+  standing_first (c.args.rules.now) c.args.env.now (map (λ name. name.now) c.args.asked.now) c.in_ok-names.names [] c.are_set-sound.result c.in_ok-names.ensures refl c.are_set-sound.ensures,
   Wrote-none (g.O.Out.sink c.args.out.now),
 )
 
 pub names-smaller : goal.names-smaller
 names-smaller g c =
     let within : c.names.at < length c.names.names = (let l = c.len.ensures.count in let h = c.names-test.true in omega (arith, l, h)) in
-    left_less (option_map (λ d. d.now) c.args.devices) c.args.env.now (map (λ name. name.now) c.args.asked.now) c.names.names c.take_turn.new.names c.names.at c.names.invariant.0 c.names.sound within c.names.invariant.1 c.in_ok-fine.ensures.names
+    left_less (c.args.rules.now) c.args.env.now (map (λ name. name.now) c.args.asked.now) c.names.names c.take_turn.new.names c.names.at c.names.invariant.0 c.names.sound within c.names.invariant.1 c.in_ok-fine.ensures.names
 
 pub names-preserved : goal.names-preserved
 names-preserved g c =
     let within : c.names.at < length c.names.names = (let l = c.len.ensures.count in let h = c.names-test.true in omega (arith, l, h)) in
-    let devices = option_map (λ d. d.now) c.args.devices in
+    let rules = c.args.rules.now in
     let told = c.names.invariant.0 in
-    let lines = lines_of devices c.args.env.now (get_or c.names.names c.names.at []) in (
+    let lines = lines_of rules c.args.env.now (get_or c.names.names c.names.at []) in (
       told ++ lines,
-      standing_next devices c.args.env.now (map (λ name. name.now) c.args.asked.now) c.names.names c.take_turn.new.names c.names.at
+      standing_next rules c.args.env.now (map (λ name. name.now) c.args.asked.now) c.names.names c.take_turn.new.names c.names.at
           told (told ++ lines) c.names.sound c.both-sound.result
           within c.names.invariant.1 c.in_ok-fine.ensures.names refl (c.both-sound.ensures ∙ ap (λ b. c.names.sound && b) c.in_ok-fine.ensures.fine),
       Wrote-append c.names.invariant.2 c.in_ok-fine.ensures.lines,
@@ -40,13 +39,13 @@ names-preserved g c =
 pub returns-in_err-fine : goal.returns-in_err-fine
 returns-in_err-fine g c =
     let within : c.names.at < length c.names.names = (let l = c.len.ensures.count in let h = c.names-test.true in omega (arith, l, h)) in
-    let devices = option_map (λ d. d.now) c.args.devices in
+    let rules = c.args.rules.now in
     let told = c.names.invariant.0 in
-    let lines = lines_of devices c.args.env.now (get_or c.names.names c.names.at []) in
+    let lines = lines_of rules c.args.env.now (get_or c.names.names c.names.at []) in
     let p = err_from_is_err_and c.from_residual-in_err-fine.result c.from_residual-in_err-fine.ensures.1 in
     rw (p.1, p.2) (
       told ++ lines,
-      begins_next devices c.args.env.now (map (λ name. name.now) c.args.asked.now) c.names.names c.names.at told c.names.sound within c.names.invariant.1,
+      begins_next rules c.args.env.now (map (λ name. name.now) c.args.asked.now) c.names.names c.names.at told c.names.sound within c.names.invariant.1,
       stops-after (g.O.Out.sink c.args.out.now) (g.O.Out.sink c.names.out) (g.O.Out.sink c.take_turn.new.out) told lines c.in_err-fine.field-0.0 c.names.invariant.2 c.in_err-fine.ensures.lines,
     )
 
@@ -54,6 +53,6 @@ pub returns : goal.returns
 returns g c =
     let past : length c.names.names ≤ c.names.at = (let l = c.len.ensures.count in let h = c.names-test.false in omega (arith, l, h)) in (
       c.names.invariant.0,
-      standing_last (option_map (λ d. d.now) c.args.devices) c.args.env.now (map (λ name. name.now) c.args.asked.now) c.names.names c.names.at c.names.invariant.0 c.names.sound past c.names.invariant.1,
+      standing_last (c.args.rules.now) c.args.env.now (map (λ name. name.now) c.args.asked.now) c.names.names c.names.at c.names.invariant.0 c.names.sound past c.names.invariant.1,
       c.names.invariant.2,
     )

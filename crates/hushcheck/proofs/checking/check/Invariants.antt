@@ -1,4 +1,3 @@
-use Rattle.std.specs.Prelude.{option_map}
 use Rattle.std.proofs.Common.{◌+◌, ◌-◌, length, map, take}
 use Rattle.hushcheck.specs.Names.{Text}
 use Rattle.output.specs.Sink.{Wrote}
@@ -8,9 +7,9 @@ use Rattle.hushcheck.proofs.checking.check.Given as goal
 -- the names before the place had their turns, and their lines were written
 abbrev pub invariant-names : goal.invariant-names
 invariant-names g l =
-    (told : Text) × Standing (option_map (λ d. d.now) l.devices) l.env (map (λ name. name.now) l.asked) l.names l.at told l.sound
+    (told : Text) × Standing l.rules l.env (map (λ name. name.now) l.asked) l.names l.at told l.sound
     × Wrote (g.O.Out.sink l.fn.out) (g.O.Out.sink l.out) told
 
 -- the names that may still come, and the names that wait for their turns
 abbrev pub decreases-names : goal.decreases-names
-decreases-names g l = left l.env (take l.at l.names) + (length l.names - l.at)
+decreases-names g l = left l.rules.shell l.env (take l.at l.names) + (length l.names - l.at)

@@ -6,3 +6,8 @@ pub returns-in_err-calls-in-Ok-clause-lines : goal.returns-in_err-calls-in-Ok-cl
 returns-in_err-calls-in-Ok-clause-lines g c =
     let p = err_from_is_err_and c.from_residual-in_err-calls-in-Ok.result c.from_residual-in_err-calls-in-Ok.ensures.1 in
     rw (p.1, p.2) (front-nothing (g.O.Out.sink c.args.out.now) _)
+
+pub returns-in_err-warnings-clause-lines : goal.returns-in_err-warnings-clause-lines
+returns-in_err-warnings-clause-lines g c =
+    let p = err_from_is_err_and c.from_residual-in_err-warnings.result c.from_residual-in_err-warnings.ensures.1 in
+    rw (p.1, p.2) (front-nothing (g.O.Out.sink c.args.out.now) _)

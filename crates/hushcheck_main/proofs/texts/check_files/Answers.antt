@@ -1,4 +1,4 @@
-use Rattle.std.proofs.Common.{◌≡◌, ◌∙◌, ap, sym, subst, Bool, Ok, Err, Result, List, ℕ, Option}
+use Rattle.std.proofs.Common.{◌≡◌, ◌∙◌, ap, sym, subst, Bool, Err, Result, List, ℕ, Option}
 use Rattle.std.proofs.lemmas.Result.{err_from_is_err_and}
 use Rattle.hushcheck_main.specs.declared.fault.CheckFault.{CheckFault}
 use Rattle.hushcheck_main.specs.declared.fault.CheckFault.TheVariants.{Shared}
@@ -34,6 +34,6 @@ returns-clause-told g c =
     let asked : Asked = asked_by c.args.config c.args.list c.args.what.now c.args.order in
     let found = copies c.in_ok-images.images in
     let text = c.in_ok-list.list in
-    let Q : Option (List ℕ) → Type 0 = λ t. ChecksText (given_by asked.order found t asked.names asked.all) out out' c.check_images.result in
+    let Q : Option (List ℕ) → Type 0 = λ t. ChecksText (given_by asked.order found t asked.names asked.all asked.shell) out out' c.check_images.result in
     let checked : Q (bytes_if text) = subst Q c.as_deref.ensures.value c.check_images.ensures in
     IfTold-then a b d (λ x y z h i. checks-read asked out out' found text x y z h i c.check_images.result checked) c.in_ok-images.ensures.told c.in_ok-list.ensures.told

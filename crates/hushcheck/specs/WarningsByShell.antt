@@ -1,0 +1,59 @@
+-- Which warnings a text has, by the shell that the call names. Ours.
+use Rattle.std.specs.Prelude.{ℕ, ◌++◌, ◌&&◌, not, Bool, true, false, List, [], ◌∷◌, filter, Option, Some, None, is_some}
+use Rattle.hushcheck.specs.Calls.{Remark, NotFollowed, Lacks, Warns}
+use Rattle.hushcheck.specs.Names.{Text, old_script}
+use Rattle.hushcheck.specs.Warnings.{warnings_of}
+use Rattle.hushcheck.specs.declared.warning.Warning.{Warning}
+use Rattle.hushcheck.specs.declared.warning.Warning.TheVariants.{Exit, FileTest, ManyWords, NotFollowedText, OptionOfSetenv, ReservedName, StraightBehind}
+use Rattle.rehearse_terms.specs.declared.shell.Shell.{Shell}
+use Rattle.rehearse_terms.specs.declared.shell.Shell.TheVariants.{Profile, Old2023, Old2025}
+
+-- what a rehearsal by an old shell of U-Boot does not follow
+abbrev pub stops_old : Warning → Bool
+stops_old StraightBehind = true
+stops_old ReservedName = true
+stops_old FileTest = true
+stops_old OptionOfSetenv = true
+stops_old ManyWords = true
+stops_old warning = false
+
+-- by that of 2025.01 `exit` too
+abbrev pub stops_newer : Warning → Bool
+stops_newer Exit = true
+stops_newer warning = stops_old warning
+
+-- All warnings are told if no shell is named. Of a shell those are told of which a rehearsal stops there, and ubtool's own
+-- reading has none.
+abbrev pub tells : Option Shell → Warning → Bool
+tells None warning = true
+tells (Some Profile) warning = false
+tells (Some Old2023) warning = stops_old warning
+tells (Some Old2025) warning = stops_newer warning
+
+abbrev pub tells_remark : Option Shell → Remark → Bool
+tells_remark shell (Warns warning) = tells shell warning
+tells_remark shell NotFollowed = true
+tells_remark shell (Lacks name) = true
+
+abbrev pub is_old : Option Shell → Bool
+is_old None = false
+is_old (Some Profile) = false
+is_old (Some Old2023) = true
+is_old (Some Old2025) = true
+
+-- the old shell that the call names reads the text in a way that is not followed
+abbrev pub is_unread : Option Shell → (text : Text) → Bool
+is_unread shell text = is_old shell && not (is_some (old_script shell text))
+
+-- it is told at the first byte
+abbrev pub unread : Bool → List (ℕ × Remark)
+unread true = (0, Warns NotFollowedText) ∷ []
+unread false = []
+
+-- those of the warnings that are told of a shell
+abbrev pub told_by : Option Shell → List (ℕ × Remark) → List (ℕ × Remark)
+told_by shell found = filter (λ f. tells_remark shell f.1) found
+
+-- the warnings of a text
+abbrev pub warnings_by : Option Shell → (text : Text) → List (ℕ × Remark)
+warnings_by shell text = unread (is_unread shell text) ++ told_by shell (warnings_of text)
