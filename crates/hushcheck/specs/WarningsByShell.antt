@@ -4,7 +4,7 @@ use Rattle.hushcheck.specs.Calls.{Remark, NotFollowed, Lacks, Warns}
 use Rattle.hushcheck.specs.Names.{Text, old_script}
 use Rattle.hushcheck.specs.Warnings.{warnings_of}
 use Rattle.hushcheck.specs.declared.warning.Warning.{Warning}
-use Rattle.hushcheck.specs.declared.warning.Warning.TheVariants.{Exit, FileTest, ManyWords, NotFollowedText, OptionOfSetenv, ReservedName, StraightBehind}
+use Rattle.hushcheck.specs.declared.warning.Warning.TheVariants.{Exit, ManyWords, NotFollowedText, OptionOfSetenv, ReservedName, StraightBehind}
 use Rattle.rehearse_terms.specs.declared.shell.Shell.{Shell}
 use Rattle.rehearse_terms.specs.declared.shell.Shell.TheVariants.{Profile, Old2023, Old2025}
 
@@ -12,7 +12,6 @@ use Rattle.rehearse_terms.specs.declared.shell.Shell.TheVariants.{Profile, Old20
 abbrev pub stops_old : Warning → Bool
 stops_old StraightBehind = true
 stops_old ReservedName = true
-stops_old FileTest = true
 stops_old OptionOfSetenv = true
 stops_old ManyWords = true
 stops_old warning = false
