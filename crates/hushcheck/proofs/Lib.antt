@@ -11,4 +11,5 @@ pub mod ByShellLemmas
 pub mod CheckExamples
 pub mod CallsExamples
 pub mod WarningsExamples
+pub mod ByShellExamples
 mod ShownExamples
