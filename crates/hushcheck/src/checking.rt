@@ -150,11 +150,12 @@ fn take_turn<O: Out>(
 
 /// Checks the variables that are asked for, and then the variables that the text of each in turn
 /// runs by a name that is written out, each once. Writes for each whether its text is well-formed,
-/// and if not, where it breaks; what U-Boot's shells read otherwise in it; which commands the
-/// device list lacks, if there is one; and which names of `run` are not followed. Returns whether
-/// all is well: each name that is asked for is set, each text is well-formed, and the device list
-/// lacks no command. The lines are written as the check goes. Errors: the output failed, or memory
-/// ran out; the first lines are then written.
+/// and if not, where it breaks; what U-Boot's shells read otherwise in it, or if a shell is named,
+/// what a rehearsal by it does not follow; which commands the device list lacks, if there is one;
+/// and which names of `run` are not followed. With an old shell a text is well-formed too if that
+/// shell reads it. Returns whether all is well: each name that is asked for is set, each text is
+/// well-formed, and the device list lacks no command. The lines are written as the check goes.
+/// Errors: the output failed, or memory ran out; the first lines are then written.
 pub fn check<O: Out>(
     alloc: Global,
     rules: &Rules<'_>,
