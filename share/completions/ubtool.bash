@@ -111,7 +111,7 @@ _ubtool() {
         words=$(_ubtool_names "$1")
     else
         case ${line[1]} in
-            printenv | rehearse) words=$(_ubtool_names "$1") ;;
+            printenv | rehearse | endings) words=$(_ubtool_names "$1") ;;
             setenv) ! _ubtool_first || words=$(_ubtool_names "$1") ;;
         esac
     fi

@@ -82,5 +82,5 @@ complete -c ubtool -n '__fish_seen_subcommand_from endings' -l states -x -d 'At 
 complete -c ubtool -n '__fish_seen_subcommand_from endings' -l flow -d 'Write the states as a graph, a line each'
 # end
 
-complete -c ubtool -n '__fish_seen_subcommand_from printenv rehearse' -a '(__ubtool_names)' -d Variable
+complete -c ubtool -n '__fish_seen_subcommand_from printenv rehearse endings' -a '(__ubtool_names)' -d Variable
 complete -c ubtool -n __ubtool_setenv_first -a '(__ubtool_names)' -d Variable

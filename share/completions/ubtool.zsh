@@ -97,9 +97,8 @@ _ubtool() {
             _ubtool_options $words[1]
             case $words[1] in
                 help) (( CURRENT != 2 )) || _describe -t commands command commands ;;
-                printenv|rehearse) _arguments -S $specs '*: :_ubtool_names' ;;
+                printenv|rehearse|endings) _arguments -S $specs '*: :_ubtool_names' ;;
                 setenv) _arguments -S $specs '1: :_ubtool_names' '*:value: ' ;;
-                endings) _arguments -S $specs ;;
             esac
             ;;
     esac

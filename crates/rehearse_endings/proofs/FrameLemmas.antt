@@ -71,16 +71,16 @@ module _ (limits : Limits) (i j : ℕ) (k l : List LoggedCommand) where
   resume_alike (RunText names) a b h = text_end_alike limits i j k l a b (run_all limits (full limits) names) (Alike-run limits i j k l (full limits) kept_full full_does names) (Keeps-run limits (full limits) kept_full names) h
 
   settled_alike : (a b : Answer) → Is a b → CameAlike limits i j k l (settled a) (settled b)
-  settled_alike (Normal u) b (same h) = subst (λ (x : Answer). CameAlike limits i j k l (settled (Normal u)) (settled x)) (sym h.is) (futures.same (record { kind = refl; ending = refl; ended = refl; steps = h.apart.0; devices = further_apart k l u.log h.log h.apart.1; logs = h.apart.1 }))
+  settled_alike (Normal u) b (same h) = subst (λ (x : Answer). CameAlike limits i j k l (settled (Normal u)) (settled x)) (sym h.is) (futures.same (record { kind = refl; ending = refl; ended = refl; environment = refl; steps = h.apart.0; devices = further_apart k l u.log h.log h.apart.1; logs = h.apart.1 }))
   settled_alike (Normal u) b (cut_here h) = absurd h
   settled_alike (Normal u) b (beyond h) = futures.beyond h
-  settled_alike (Exit u) b (same h) = subst (λ (x : Answer). CameAlike limits i j k l (settled (Exit u)) (settled x)) (sym h.is) (futures.same (record { kind = refl; ending = refl; ended = refl; steps = h.apart.0; devices = further_apart k l u.log h.log h.apart.1; logs = h.apart.1 }))
+  settled_alike (Exit u) b (same h) = subst (λ (x : Answer). CameAlike limits i j k l (settled (Exit u)) (settled x)) (sym h.is) (futures.same (record { kind = refl; ending = refl; ended = refl; environment = refl; steps = h.apart.0; devices = further_apart k l u.log h.log h.apart.1; logs = h.apart.1 }))
   settled_alike (Exit u) b (cut_here h) = absurd h
   settled_alike (Exit u) b (beyond h) = futures.beyond h
-  settled_alike (Ended ending u) b (same h) = subst (λ (x : Answer). CameAlike limits i j k l (settled (Ended ending u)) (settled x)) (sym h.is) (futures.same (record { kind = refl; ending = refl; ended = refl; steps = h.apart.0; devices = further_apart k l u.log h.log h.apart.1; logs = h.apart.1 }))
+  settled_alike (Ended ending u) b (same h) = subst (λ (x : Answer). CameAlike limits i j k l (settled (Ended ending u)) (settled x)) (sym h.is) (futures.same (record { kind = refl; ending = refl; ended = refl; environment = refl; steps = h.apart.0; devices = further_apart k l u.log h.log h.apart.1; logs = h.apart.1 }))
   settled_alike (Ended ending u) b (cut_here h) = futures.cut_here h
   settled_alike (Ended ending u) b (beyond h) = futures.beyond h
-  settled_alike (Dry u) b (same h) = subst (λ (x : Answer). CameAlike limits i j k l (settled (Dry u)) (settled x)) (sym h.is) (futures.same (record { kind = refl; ending = refl; ended = refl; steps = h.apart.0; devices = (let e = further_apart k l u.log h.log h.apart.1 in omega arith); logs = h.apart.1 }))
+  settled_alike (Dry u) b (same h) = subst (λ (x : Answer). CameAlike limits i j k l (settled (Dry u)) (settled x)) (sym h.is) (futures.same (record { kind = refl; ending = refl; ended = refl; environment = refl; steps = h.apart.0; devices = (let e = further_apart k l u.log h.log h.apart.1 in omega arith); logs = h.apart.1 }))
   settled_alike (Dry u) b (cut_here h) = absurd h
   settled_alike (Dry u) b (beyond h) = futures.beyond h
 

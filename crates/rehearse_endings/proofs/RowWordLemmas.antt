@@ -3,11 +3,11 @@ use Rattle.std.proofs.Common.{◌≡◌, ◌<◌, ◌≤◌, nat_le, Bool, true,
 use Rattle.std.proofs.lemmas.Bool.{leb-true, leb-false}
 use Rattle.std.specs.List.{list_any}
 use Rattle.rehearse_terms.specs.Outcomes.{OutcomeWord, failures}
-use Rattle.rehearse_rules.specs.Execution.{Ending}
+use Rattle.rehearse_terms.specs.State.{Text}
 use Rattle.rehearse_rules.specs.Runs.{Task, all_runs}
-use Rattle.rehearse_states.specs.Endings.{Row, ending_eq, joined, with_row, merge, one_run, ending, endings}
+use Rattle.rehearse_states.specs.Endings.{RunEnd, Row, end_eq, joined, with_row, merge, one_run, end_of, endings}
 use Rattle.rehearse_endings.specs.Laws.{Each, IsFirst, IsFewest}
-use Rattle.rehearse_states.proofs.RowsOfRuns.{AreApart, Misses, row_if, apart_on, either_left, either_right, neither, ending_itself, ending_same, stands_on, stands_new}
+use Rattle.rehearse_states.proofs.RowsOfRuns.{AreApart, Misses, row_if, apart_on, either_left, either_right, neither, end_itself, end_same, stands_on, stands_new}
 
 -- ---- each of some words
 
@@ -57,45 +57,45 @@ module _ (IsSo : OutcomeWord → Type 0) (seen : List OutcomeWord) (x : OutcomeW
 
 -- ---- what rows say of the runs that were seen
 
-module _ (ends : OutcomeWord → Ending) where
+module _ (ends : OutcomeWord → RunEnd) where
   abbrev single : OutcomeWord → Row
   single w = one_run (ends w, w)
 
-  abbrev EndsSo : Ending → OutcomeWord → Type 0
+  abbrev EndsSo : RunEnd → OutcomeWord → Type 0
   EndsSo e w = ends w ≡ e
 
   abbrev IsTold : List OutcomeWord → Row → Type 0
-  IsTold seen r = IsFirst (EndsSo r.ending) r.word seen × IsFewest (EndsSo r.ending) r.fewest seen
+  IsTold seen r = IsFirst (EndsSo r.run_end) r.word seen × IsFewest (EndsSo r.run_end) r.fewest seen
 
   abbrev AreTold : List OutcomeWord → List Row → Type 0
   AreTold seen [] = Unit {0}
   AreTold seen (r ∷ rs) = IsTold seen r × AreTold seen rs
 
-  abbrev NoneEnds : Ending → List OutcomeWord → Type 0
+  abbrev NoneEnds : RunEnd → List OutcomeWord → Type 0
   NoneEnds e seen = Each (λ w. EndsSo e w → ⊥) seen
 
   module _ (seen : List OutcomeWord) (x : OutcomeWord) where
-    differs : (e : Ending) → ending_eq e (ends x) ≡ false → EndsSo e x → ⊥
-    differs e h k = let l : ending_eq e (ends x) ≡ true = ap (ending_eq e) k ∙ ending_itself e in cc
+    differs : (e : RunEnd) → end_eq e (ends x) ≡ false → EndsSo e x → ⊥
+    differs e h k = let l : end_eq e (ends x) ≡ true = ap (end_eq e) k ∙ end_itself e in cc
 
-    other_told : (r : Row) → ending_eq r.ending (ends x) ≡ false → IsTold seen r → IsTold (seen ++ x ∷ []) r
-    other_told r d h = (first_on (EndsSo r.ending) seen x r.word h.0, fewest_on (EndsSo r.ending) seen x r.fewest (λ s. absurd (differs r.ending d s)) h.1)
+    other_told : (r : Row) → end_eq r.run_end (ends x) ≡ false → IsTold seen r → IsTold (seen ++ x ∷ []) r
+    other_told r d h = (first_on (EndsSo r.run_end) seen x r.word h.0, fewest_on (EndsSo r.run_end) seen x r.fewest (λ s. absurd (differs r.run_end d s)) h.1)
 
     others_told : (rs : List Row) → Misses (ends x) rs → AreTold seen rs → AreTold (seen ++ x ∷ []) rs
     others_told [] d h = tt
     others_told (r ∷ rs) d h = (
-      other_told r (either_left (ending_eq r.ending (ends x)) (list_any (λ q. ending_eq q.ending (ends x)) rs) d) h.0,
-      others_told rs (either_right (ending_eq r.ending (ends x)) (list_any (λ q. ending_eq q.ending (ends x)) rs) d) h.1,
+      other_told r (either_left (end_eq r.run_end (ends x)) (list_any (λ q. end_eq q.run_end (ends x)) rs) d) h.0,
+      others_told rs (either_right (end_eq r.run_end (ends x)) (list_any (λ q. end_eq q.run_end (ends x)) rs) d) h.1,
     )
 
-    joined_told : (r : Row) → r.ending ≡ ends x → IsTold seen r → IsTold (seen ++ x ∷ []) (joined r (single x))
+    joined_told : (r : Row) → r.run_end ≡ ends x → IsTold seen r → IsTold (seen ++ x ∷ []) (joined r (single x))
     joined_told r same h =
-        (first_on (EndsSo r.ending) seen x r.word h.0, fewest_both (EndsSo r.ending) seen x r.fewest (nat_le (failures r.fewest) (failures x)) refl (sym same) h.1)
+        (first_on (EndsSo r.run_end) seen x r.word h.0, fewest_both (EndsSo r.run_end) seen x r.fewest (nat_le (failures r.fewest) (failures x)) refl (sym same) h.1)
 
-    step_if : (b : Bool) (r : Row) (rs : List Row) → ending_eq r.ending (ends x) ≡ b → AreApart (r ∷ rs) → AreTold seen (r ∷ rs) → (b ≡ false → AreTold (seen ++ x ∷ []) (with_row rs (single x))) → AreTold (seen ++ x ∷ []) (row_if b r rs (single x))
+    step_if : (b : Bool) (r : Row) (rs : List Row) → end_eq r.run_end (ends x) ≡ b → AreApart (r ∷ rs) → AreTold seen (r ∷ rs) → (b ≡ false → AreTold (seen ++ x ∷ []) (with_row rs (single x))) → AreTold (seen ++ x ∷ []) (row_if b r rs (single x))
     step_if true r rs e d h k =
-        let same : r.ending ≡ ends x = ending_same r.ending (ends x) e in
-        (joined_told r same h.0, others_told rs (subst (λ (z : Ending). Misses z rs) same d.0) h.1)
+        let same : r.run_end ≡ ends x = end_same r.run_end (ends x) e in
+        (joined_told r same h.0, others_told rs (subst (λ (z : RunEnd). Misses z rs) same d.0) h.1)
     step_if false r rs e d h k = (other_told r e h.0, k refl)
 
     -- one more run
@@ -103,18 +103,18 @@ module _ (ends : OutcomeWord → Ending) where
     step [] d h none =
         ((first_new (EndsSo (ends x)) seen x refl (none refl), fewest_new (EndsSo (ends x)) seen x refl (each_weaker (λ v. EndsSo (ends x) v → ⊥) (λ v. EndsSo (ends x) v → failures x < failures v) seen (λ v k s. absurd (k s)) (none refl))), tt)
     step (r ∷ rs) d h none =
-        step_if (ending_eq r.ending (ends x)) r rs refl d h (λ e. step rs d.1 h.1 (λ m. none (neither (ending_eq r.ending (ends x)) (list_any (λ q. ending_eq q.ending (ends x)) rs) e m)))
+        step_if (end_eq r.run_end (ends x)) r rs refl d h (λ e. step rs d.1 h.1 (λ m. none (neither (end_eq r.run_end (ends x)) (list_any (λ q. end_eq q.run_end (ends x)) rs) e m)))
 
-    before_if : (b : Bool) (e : Ending) (rs : List Row) → list_any (λ q. ending_eq q.ending e) rs ≡ b → Misses e (with_row rs (single x)) → Misses e rs
+    before_if : (b : Bool) (e : RunEnd) (rs : List Row) → list_any (λ q. end_eq q.run_end e) rs ≡ b → Misses e (with_row rs (single x)) → Misses e rs
     before_if true e rs k m = absurd (let s = stands_on e rs (single x) k in cc)
     before_if false e rs k m = k
 
     -- an ending that is in no row after this run was in none before, and this run has another
-    missing_on : (rows : List Row) → ((e : Ending) → Misses e rows → NoneEnds e seen) → (e : Ending) → Misses e (with_row rows (single x)) → NoneEnds e (seen ++ x ∷ [])
+    missing_on : (rows : List Row) → ((e : RunEnd) → Misses e rows → NoneEnds e seen) → (e : RunEnd) → Misses e (with_row rows (single x)) → NoneEnds e (seen ++ x ∷ [])
     missing_on rows h e m =
-        each_append (λ w. EndsSo e w → ⊥) seen (x ∷ []) (h e (before_if (list_any (λ q. ending_eq q.ending e) rows) e rows refl m)) ((λ s. absurd (let k = stands_new e rows (single x) s in cc)), tt)
+        each_append (λ w. EndsSo e w → ⊥) seen (x ∷ []) (h e (before_if (list_any (λ q. end_eq q.run_end e) rows) e rows refl m)) ((λ s. absurd (let k = stands_new e rows (single x) s in cc)), tt)
 
-  told_all : (ws seen : List OutcomeWord) (rows : List Row) → AreApart rows → AreTold seen rows → ((e : Ending) → Misses e rows → NoneEnds e seen) → AreTold (seen ++ ws) (merge rows (map one_run (map (λ w. (ends w, w)) ws)))
+  told_all : (ws seen : List OutcomeWord) (rows : List Row) → AreApart rows → AreTold seen rows → ((e : RunEnd) → Misses e rows → NoneEnds e seen) → AreTold (seen ++ ws) (merge rows (map one_run (map (λ w. (ends w, w)) ws)))
   told_all [] seen rows d h m = subst (λ (s : List OutcomeWord). AreTold s rows) (sym (append-nil seen)) h
   told_all (w ∷ ws) seen rows d h m =
       subst (λ (s : List OutcomeWord). AreTold s (merge (with_row rows (single w)) (map one_run (map (λ v. (ends v, v)) ws)))) (append_assoc seen (w ∷ []) ws)
@@ -124,7 +124,7 @@ module _ (ends : OutcomeWord → Ending) where
   told_in seen [] r behind h = h.0
   told_in seen (q ∷ before) r behind h = told_in seen before r behind h.1
 
-pub rows_tell_of_runs : (task : Task) (r : Row) (before behind : List Row) → endings task ≡ before ++ r ∷ behind → IsFirst (λ w. ending task w ≡ r.ending) r.word (all_runs task) × IsFewest (λ w. ending task w ≡ r.ending) r.fewest (all_runs task)
-rows_tell_of_runs task r before behind is =
-    told_in (ending task) (all_runs task) before r behind
-    (subst (AreTold (ending task) (all_runs task)) is (told_all (ending task) (all_runs task) [] [] tt tt (λ e m. tt)))
+pub rows_tell_of_runs : (names : List Text) (task : Task) (r : Row) (before behind : List Row) → endings names task ≡ before ++ r ∷ behind → IsFirst (λ w. end_of names task w ≡ r.run_end) r.word (all_runs task) × IsFewest (λ w. end_of names task w ≡ r.run_end) r.fewest (all_runs task)
+rows_tell_of_runs names task r before behind is =
+    told_in (end_of names task) (all_runs task) before r behind
+    (subst (AreTold (end_of names task) (all_runs task)) is (told_all (end_of names task) (all_runs task) [] [] tt tt (λ e m. tt)))

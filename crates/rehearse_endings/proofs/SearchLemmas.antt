@@ -4,12 +4,13 @@ use Rattle.std.proofs.lemmas.List.{length-map}
 use Rattle.std.proofs.lemmas.List.Elements.{All-append}
 use Rattle.std.proofs.lemmas.Bool.{ltb-true}
 use Rattle.std.specs.Prelude.{nat_lt, MatchOption, ⊤}
+use Rattle.std.specs.FinMap.{entries}
 use Rattle.bootstore_state.specs.Record.{Record, with_mark, gone_back, returned}
 use Rattle.rehearse_terms.specs.Bounds.{most_steps}
 use Rattle.rehearse_machine.specs.Machine.{outcome_when, Stops, IsAsking, asked_at}
 use Rattle.bootstore_state.specs.Moment.{Moment}
 use Rattle.rehearse_terms.specs.Outcomes.{OutcomeWord, Outcome, Success, Failure}
-use Rattle.rehearse_terms.specs.State.{State, LoggedCommand, asked_of, start}
+use Rattle.rehearse_terms.specs.State.{Text, State, LoggedCommand, asked_of, start}
 use Rattle.bootstore_state.specs.StoredState.{state_at}
 use Rattle.rehearse_rules.specs.Execution.{Limits, Answer, Normal, Exit, Ended, Dry, Ending, succeeds}
 use Rattle.rehearse_rules.specs.Runs.{Task, run_on, state_of, kind, kind_of, ending_of}
@@ -23,8 +24,8 @@ use Rattle.rehearse_machine.specs.declared.rehearsal.Stop.{Stop}
 use Rattle.rehearse_machine.specs.declared.rehearsal.Stop.TheVariants.{Asks, Ends}
 use Rattle.rehearse_machine.specs.StoppedTexts.{StoppedAt}
 use Rattle.rehearse_machine.proofs.StoppedTextLemmas.{asked_within, stopped_on}
-use Rattle.rehearse_endings.specs.Futures.{came_kind, came_ending, came_state, came_steps, came_devices, HaveSameCore}
-use Rattle.rehearse_states.specs.Endings.{Row, HasRows, ending, endings}
+use Rattle.rehearse_endings.specs.Futures.{came_kind, came_ending, came_end, came_state, came_steps, came_devices, HaveSameCore}
+use Rattle.rehearse_states.specs.Endings.{RunEnd, Row, HasRows, ending, end_with, end_of, endings}
 use Rattle.rehearse_states.specs.Cores.{CoreShown, core_shown, core_of}
 use Rattle.rehearse_states.specs.Summaries.{Summary, summary_of_sides, summary_at_end}
 use Rattle.rehearse_endings.specs.SummedRuns.{Sums, FitsIf, Fits, moved_by, moved_on, of_end, of_sides, Summed}
@@ -114,27 +115,36 @@ future_is limits (Ends halt) f n h w = h w
 
 -- ---- summaries
 
-pub summed_as : (f g : OutcomeWord → Came) (s t : Summary) → ((w : OutcomeWord) → f w ≡ g w) → s ≡ t → Summed f s → Summed g t
-summed_as f g s t e k h = (h.0, sums_same f g h.0 e h.1, sym k ∙ h.2)
+pub summed_as : (names : List Text) (f g : OutcomeWord → Came) (s t : Summary) → ((w : OutcomeWord) → f w ≡ g w) → s ≡ t → Summed names f s → Summed names g t
+summed_as names f g s t e k h = (h.0, sums_same names f g h.0 e h.1, sym k ∙ h.2)
 
-end_shown : (ending : Ending) (m : Moment) → saturated_summary (of_end ending m) ≡ of_end ending m
-end_shown ending m = refl
+end_shown : (names : List Text) (ending : Ending) (m : Moment) → saturated_summary (of_end names ending m) ≡ of_end names ending m
+end_shown names ending m = refl
 
-pub summed_end : (limits : Limits) (halt : Halt) (m : Moment) (depth steps : ℕ) (s : Summary) → length m.log ≡ depth → steps ≡ m.steps → s ≡ summary_at_end (halt_shown halt) steps depth → Summed (future limits (Ends halt) m) s
-summed_end limits halt m depth steps s e k h =
-    (of_end (halt_shown halt) m, sums_end (halt_shown halt) m, h ∙ ap (λ (n : ℕ). summary_at_end (halt_shown halt) n depth) k ∙ ap (λ (n : ℕ). summary_at_end (halt_shown halt) m.steps n) (sym e) ∙ sym (end_shown (halt_shown halt) m))
+pub summed_end : (names : List Text) (limits : Limits) (halt : Halt) (run_end : RunEnd) (m : Moment) (depth steps : ℕ) (s : Summary) → length m.log ≡ depth → steps ≡ m.steps → run_end ≡ end_with names (halt_shown halt) (entries m.environment) → s ≡ summary_at_end run_end steps depth
+    → Summed names (future limits (Ends halt) m) s
+summed_end names limits halt run_end m depth steps s e k so h =
+    let left = end_with names (halt_shown halt) (entries m.environment) in (
+      of_end names (halt_shown halt) m,
+      sums_end names (halt_shown halt) m,
+      h
+          ∙ ap (λ (x : RunEnd). summary_at_end x steps depth) so
+          ∙ ap (λ (n : ℕ). summary_at_end left n depth) k
+          ∙ ap (λ (n : ℕ). summary_at_end left m.steps n) (sym e)
+          ∙ sym (end_shown names (halt_shown halt) m),
+    )
 
-module _ (task : Task) (depth : ℕ) (m : Moment) (reached : IsReached task depth Asks m) where
+module _ (names : List Text) (task : Task) (depth : ℕ) (m : Moment) (reached : IsReached task depth Asks m) where
   -- a device command that asks, from its two sides
   pub summed_sides : (won_stop lost_stop : Stop) (won_at lost_at : Moment) (won lost s : Summary) (steps devices : ℕ) → steps ≡ m.steps → devices ≡ length m.log
       → Stops task.limits won_stop (λ w. asked_at task.limits m (Success ∷ w)) won_at → Stops task.limits lost_stop (λ w. asked_at task.limits m (Failure ∷ w)) lost_at
-      → Summed (future task.limits won_stop won_at) won → Summed (future task.limits lost_stop lost_at) lost
-      → s ≡ summary_of_sides of_both_up steps devices won lost → Summed (asked_at task.limits m) s
+      → Summed names (future task.limits won_stop won_at) won → Summed names (future task.limits lost_stop lost_at) lost
+      → s ≡ summary_of_sides of_both_up steps devices won lost → Summed names (asked_at task.limits m) s
   summed_sides won_stop lost_stop won_at lost_at won lost s steps devices k log a b h g e =
-      let up : Sums (λ w. asked_at task.limits m (Success ∷ w)) h.0 = sums_same (future task.limits won_stop won_at) (λ w. asked_at task.limits m (Success ∷ w)) h.0 (λ w. sym (future_is task.limits won_stop (λ v. asked_at task.limits m (Success ∷ v)) won_at a w)) h.1 in
-      let down : Sums (λ w. asked_at task.limits m (Failure ∷ w)) g.0 = sums_same (future task.limits lost_stop lost_at) (λ w. asked_at task.limits m (Failure ∷ w)) g.0 (λ w. sym (future_is task.limits lost_stop (λ v. asked_at task.limits m (Failure ∷ v)) lost_at b w)) g.1 in (
+      let up : Sums names (λ w. asked_at task.limits m (Success ∷ w)) h.0 = sums_same names (future task.limits won_stop won_at) (λ w. asked_at task.limits m (Success ∷ w)) h.0 (λ w. sym (future_is task.limits won_stop (λ v. asked_at task.limits m (Success ∷ v)) won_at a w)) h.1 in
+      let down : Sums names (λ w. asked_at task.limits m (Failure ∷ w)) g.0 = sums_same names (future task.limits lost_stop lost_at) (λ w. asked_at task.limits m (Failure ∷ w)) g.0 (λ w. sym (future_is task.limits lost_stop (λ v. asked_at task.limits m (Failure ∷ v)) lost_at b w)) g.1 in (
         of_sides m h.0 g.0,
-        sums_sides (asked_at task.limits m) m h.0 g.0 (reached_wants task depth m reached) up down,
+        sums_sides names (asked_at task.limits m) m h.0 g.0 (reached_wants task depth m reached) up down,
         e
             ∙ ap (λ (n : ℕ). summary_of_sides of_both_up n devices won lost) k
             ∙ ap (λ (n : ℕ). summary_of_sides of_both_up m.steps n won lost) log
@@ -160,7 +170,7 @@ some_there es slice i same within None = tt
 some_there es slice i same within (Some s) = λ none. let l = ltb-true i (length slice) (sym within) in let a : length slice ≡ 0 = ap length (same ∙ none) in absurd (omega arith)
 
 -- an entry that fits
-module _ (limits : Limits) (nodes : List Node) (e : Entry) (t : Moment) (depth : ℕ) (h : IsEntry limits nodes e) (asks : IsAsking limits t) (log : length t.log ≡ depth) (core : core_shown e.core ≡ core_of t)
+module _ (names : List Text) (limits : Limits) (nodes : List Node) (e : Entry) (t : Moment) (depth : ℕ) (h : IsEntry names limits nodes e) (asks : IsAsking limits t) (log : length t.log ≡ depth) (core : core_shown e.core ≡ core_of t)
     (steps : FitsIf e.summary.cut_steps e.steps t.steps e.summary.steps limits.step_bound) (devices : FitsIf e.summary.cut_devices e.devices depth e.summary.devices limits.device_bound) where
   fits_there : Fits limits h.summary h.moment t
   fits_there =
@@ -175,13 +185,13 @@ module _ (limits : Limits) (nodes : List Node) (e : Entry) (t : Moment) (depth :
       (subst (λ (n : ℕ). FitsIf e.summary.cut_devices n depth e.summary.devices limits.device_bound) h.devices devices)) in
       record { core = same_core m t (sym h.core ∙ core); steps = fits_steps; devices = fits_devices }
 
-  summed_there : (s : Summary) → s ≡ moved_by e.steps t.steps e.devices depth (summary_shown e.summary) → Summed (asked_at limits t) s
+  summed_there : (s : Summary) → s ≡ moved_by e.steps t.steps e.devices depth (summary_shown e.summary) → Summed names (asked_at limits t) s
   summed_there s is =
       let m : Moment = h.moment in
       let kept : Summary = h.summary in
       let shown : summary_shown e.summary ≡ saturated_summary kept = h.shown in (
         moved_on m t kept,
-        sums_there limits m t kept h.sums h.reach_steps h.reach_devices fits_there h.asks asks,
+        sums_there names limits m t kept h.sums h.reach_steps h.reach_devices fits_there h.asks asks,
         is
             ∙ ap (λ (n : ℕ). moved_by n t.steps e.devices depth (summary_shown e.summary)) h.steps
             ∙ ap (λ (n : ℕ). moved_by m.steps t.steps n depth (summary_shown e.summary)) h.devices
@@ -192,10 +202,10 @@ module _ (limits : Limits) (nodes : List Node) (e : Entry) (t : Moment) (depth :
   drawn_there : (place : ℕ) → place ≡ e.summary.place → Draws nodes place (seen_at limits t)
   drawn_there place is =
       subst (λ (p : ℕ). Draws nodes p (seen_at limits t)) (sym is)
-      (draws_there limits h.moment t nodes e.summary.place (came_same limits h.moment t h.summary h.sums h.reach_steps h.reach_devices fits_there h.asks asks) h.draws)
+      (draws_there limits h.moment t nodes e.summary.place (came_same names limits h.moment t h.summary h.sums h.reach_steps h.reach_devices fits_there h.asks asks) h.draws)
 
   -- what a look-up in the table finds
-  pub look_there : (o : Option kept.Summary) (steps_now : ℕ) → steps_now ≡ t.steps → MatchOption o ⊤ (λ s. summary_shown s ≡ moved_by e.steps steps_now e.devices depth (summary_shown e.summary)) → MatchOption o ⊤ (λ s. Summed (asked_at limits t) (summary_shown s))
+  pub look_there : (o : Option kept.Summary) (steps_now : ℕ) → steps_now ≡ t.steps → MatchOption o ⊤ (λ s. summary_shown s ≡ moved_by e.steps steps_now e.devices depth (summary_shown e.summary)) → MatchOption o ⊤ (λ s. Summed names (asked_at limits t) (summary_shown s))
   look_there None steps_now at is = is
   look_there (Some s) steps_now at is = summed_there (summary_shown s) (is ∙ ap (λ (n : ℕ). moved_by e.steps n e.devices depth (summary_shown e.summary)) at)
 
@@ -203,26 +213,26 @@ module _ (limits : Limits) (nodes : List Node) (e : Entry) (t : Moment) (depth :
   place_there None is = is
   place_there (Some s) is = drawn_there s.place is
 
-pub entry_in : (limits : Limits) (nodes : List Node) (es slice : List Entry) (i : ℕ) (e : Entry) → slice ≡ es → true ≡ nat_lt i (length slice) → e ≡ get_or slice i e → AreEntries limits nodes es → IsEntry limits nodes e
-entry_in limits nodes es slice i e same within is all =
-    subst (IsEntry limits nodes) (sym is) ((subst (AreEntries limits nodes) (sym same) all) i e (ltb-true i (length slice) (sym within)))
+pub entry_in : (names : List Text) (limits : Limits) (nodes : List Node) (es slice : List Entry) (i : ℕ) (e : Entry) → slice ≡ es → true ≡ nat_lt i (length slice) → e ≡ get_or slice i e → AreEntries names limits nodes es → IsEntry names limits nodes e
+entry_in names limits nodes es slice i e same within is all =
+    subst (IsEntry names limits nodes) (sym is) ((subst (AreEntries names limits nodes) (sym same) all) i e (ltb-true i (length slice) (sym within)))
 
-reach_steps_of : (task : Task) (m : Moment) (s : Summary) → asked_at task.limits m [] ≡ Wants (state_at m []) → Sums (asked_at task.limits m) s → m.steps ≤ s.steps
-reach_steps_of task m s e h = let a = h.steps [] in let b : came_steps (asked_at task.limits m []) ≡ m.steps = ap came_steps e in omega arith
+reach_steps_of : (names : List Text) (task : Task) (m : Moment) (s : Summary) → asked_at task.limits m [] ≡ Wants (state_at m []) → Sums names (asked_at task.limits m) s → m.steps ≤ s.steps
+reach_steps_of names task m s e h = let a = h.steps [] in let b : came_steps (asked_at task.limits m []) ≡ m.steps = ap came_steps e in omega arith
 
-reach_devices_of : (task : Task) (m : Moment) (s : Summary) → asked_at task.limits m [] ≡ Wants (state_at m []) → Sums (asked_at task.limits m) s → length m.log ≤ s.devices
-reach_devices_of task m s e h = let a = h.devices [] in let b : came_devices (asked_at task.limits m []) ≡ suc (length m.log) = ap came_devices e in omega arith
+reach_devices_of : (names : List Text) (task : Task) (m : Moment) (s : Summary) → asked_at task.limits m [] ≡ Wants (state_at m []) → Sums names (asked_at task.limits m) s → length m.log ≤ s.devices
+reach_devices_of names task m s e h = let a = h.devices [] in let b : came_devices (asked_at task.limits m []) ≡ suc (length m.log) = ap came_devices e in omega arith
 
-module _ (limits : Limits) (nodes : List Node) where
-  one_at : (e : Entry) → IsEntry limits nodes e → (n : ℕ) (d : Entry) → n < 1 → IsEntry limits nodes (get_or (e ∷ []) n d)
+module _ (names : List Text) (limits : Limits) (nodes : List Node) where
+  one_at : (e : Entry) → IsEntry names limits nodes e → (n : ℕ) (d : Entry) → n < 1 → IsEntry names limits nodes (get_or (e ∷ []) n d)
   one_at e k zero d l = k
   one_at e k (suc n) d l = absurd (omega arith)
 
-  all_append : (es : List Entry) (e : Entry) → AreEntries limits nodes es → IsEntry limits nodes e → AreEntries limits nodes (es ++ e ∷ [])
-  all_append es e h k = All-append (IsEntry limits nodes) es (e ∷ []) h (one_at e k)
+  all_append : (es : List Entry) (e : Entry) → AreEntries names limits nodes es → IsEntry names limits nodes e → AreEntries names limits nodes (es ++ e ∷ [])
+  all_append es e h k = All-append (IsEntry names limits nodes) es (e ∷ []) h (one_at e k)
 
   -- more nodes
-  wider : (new : List Node) (e : Entry) → HasMore nodes new → IsEntry limits nodes e → IsEntry limits new e
+  wider : (new : List Node) (e : Entry) → HasMore nodes new → IsEntry names limits nodes e → IsEntry names limits new e
   wider new e h k = record {
     moment = k.moment;
     asks = k.asks;
@@ -237,17 +247,17 @@ module _ (limits : Limits) (nodes : List Node) where
     draws = draws_on nodes new e.summary.place (seen_at limits k.moment) h k.draws;
   }
 
-  pub entries_as : (old new : List Entry) → new ≡ old → AreEntries limits nodes old → AreEntries limits nodes new
-  entries_as old new e h = subst (AreEntries limits nodes) (sym e) h
+  pub entries_as : (old new : List Entry) → new ≡ old → AreEntries names limits nodes old → AreEntries names limits nodes new
+  entries_as old new e h = subst (AreEntries names limits nodes) (sym e) h
 
-  pub all_wider : (new : List Node) (es : List Entry) → HasMore nodes new → AreEntries limits nodes es → AreEntries limits new es
+  pub all_wider : (new : List Node) (es : List Entry) → HasMore nodes new → AreEntries names limits nodes es → AreEntries names limits new es
   all_wider new es h k = λ n d l. wider new (get_or es n d) h (k n d l)
 
 -- one more entry
-pub entries_more : (task : Task) (nodes : List Node) (depth devices : ℕ) (m : Moment) (old new : List Entry) (core : CoreShown) (steps place : ℕ) (s : Summary) → IsReached task depth Asks m → AreEntries task.limits nodes old → core ≡ core_of m → steps ≡ m.steps → Summed (asked_at task.limits m) s → Draws nodes place (seen_at task.limits m) → devices ≡ length m.log → IsKept old new core steps devices place s → AreEntries task.limits nodes new
-entries_more task nodes depth devices m old new core steps place s reached all same at summed draws log kept =
+pub entries_more : (names : List Text) (task : Task) (nodes : List Node) (depth devices : ℕ) (m : Moment) (old new : List Entry) (core : CoreShown) (steps place : ℕ) (s : Summary) → IsReached task depth Asks m → AreEntries names task.limits nodes old → core ≡ core_of m → steps ≡ m.steps → Summed names (asked_at task.limits m) s → Draws nodes place (seen_at task.limits m) → devices ≡ length m.log → IsKept old new core steps devices place s → AreEntries names task.limits nodes new
+entries_more names task nodes depth devices m old new core steps place s reached all same at summed draws log kept =
     let wants = reached_wants task depth m reached in
-    let entry : IsEntry task.limits nodes kept.0 = record {
+    let entry : IsEntry names task.limits nodes kept.0 = record {
       moment = m;
       asks = reached_asks task depth m reached;
       core = kept.2 ∙ same;
@@ -255,12 +265,12 @@ entries_more task nodes depth devices m old new core steps place s reached all s
       devices = kept.4 ∙ log;
       summary = summed.0;
       sums = summed.1;
-      reach_steps = reach_steps_of task m summed.0 wants summed.1;
-      reach_devices = reach_devices_of task m summed.0 wants summed.1;
+      reach_steps = reach_steps_of names task m summed.0 wants summed.1;
+      reach_devices = reach_devices_of names task m summed.0 wants summed.1;
       shown = kept.5 ∙ summed.2;
       draws = subst (λ (p : ℕ). Draws nodes p (seen_at task.limits m)) (sym kept.6) draws;
     } in
-    subst (AreEntries task.limits nodes) (sym kept.1) (all_append task.limits nodes old kept.0 all entry)
+    subst (AreEntries names task.limits nodes) (sym kept.1) (all_append names task.limits nodes old kept.0 all entry)
 
 -- ---- marks
 
@@ -347,8 +357,8 @@ begun_sides r₀ r r₁ r₂ back r₃ r₄ v₀ v₁ v₂ v₃ v₄ marked on w
 pub room_kept : (visited most visited' most' : ℕ) → visited' ≡ visited → most' ≡ most → visited ≤ most → visited' ≤ most'
 room_kept visited most visited' most' e f l = omega arith
 
-none_there : (limits : Limits) (nodes : List Node) (n : ℕ) (d : Entry) → n < 0 → IsEntry limits nodes (get_or [] n d)
-none_there limits nodes n d l = absurd (omega arith)
+none_there : (names : List Text) (limits : Limits) (nodes : List Node) (n : ℕ) (d : Entry) → n < 0 → IsEntry names limits nodes (get_or [] n d)
+none_there names limits nodes n d l = absurd (omega arith)
 
 -- ---- the whole
 
@@ -367,12 +377,17 @@ ending_settled (Dry s) = refl
 pub reached_first : (task : Task) (stop : Stop) (m : Moment) → Stops task.limits stop (λ w. settled (run_on task w)) m → IsReached task 0 stop m
 reached_first task stop m h = ([], refl, h)
 
-pub no_entries : (limits : Limits) (nodes : List Node) (es : List Entry) → es ≡ [] → AreEntries limits nodes es
-no_entries limits nodes es e = subst (AreEntries limits nodes) (sym e) (none_there limits nodes)
+pub no_entries : (names : List Text) (limits : Limits) (nodes : List Node) (es : List Entry) → es ≡ [] → AreEntries names limits nodes es
+no_entries names limits nodes es e = subst (AreEntries names limits nodes) (sym e) (none_there names limits nodes)
 
-pub whole_rows : (task : Task) (stop : Stop) (m : Moment) (s : Summary) → Stops task.limits stop (λ w. settled (run_on task w)) m → Summed (future task.limits stop m) s → s.rows ≡ map saturated (endings task)
-whole_rows task stop m s h k =
+end_settled : (names : List Text) (task : Task) (w : OutcomeWord) → came_end names (settled (run_on task w)) ≡ end_of names task w
+end_settled names task w =
+    ap (λ (x : Ending). end_with names x (came_state (settled (run_on task w))).memory.environment) (ending_settled (run_on task w))
+    ∙ ap (λ (x : State). end_with names (ending task w) x.memory.environment) (state_settled (run_on task w))
+
+pub whole_rows : (names : List Text) (task : Task) (stop : Stop) (m : Moment) (s : Summary) → Stops task.limits stop (λ w. settled (run_on task w)) m → Summed names (future task.limits stop m) s → s.rows ≡ map saturated (endings names task)
+whole_rows names task stop m s h k =
     let f : OutcomeWord → Came = λ w. settled (run_on task w) in
-    let sums : Sums f k.0 = sums_same (future task.limits stop m) f k.0 (λ w. sym (future_is task.limits stop f m h w)) k.1 in
-    let has : HasRows (kind task) (ending task) k.0.rows = rows_as f (kind task) (ending task) k.0.rows (λ w. kind_settled (run_on task w)) (λ w. ending_settled (run_on task w)) sums.has_rows in
-    ap (λ (x : Summary). x.rows) k.2 ∙ ap (map saturated) (are_rows (kind task) (ending task) k.0.rows task.limits.device_bound has (task_chooses task))
+    let sums : Sums names f k.0 = sums_same names (future task.limits stop m) f k.0 (λ w. sym (future_is task.limits stop f m h w)) k.1 in
+    let has : HasRows (kind task) (end_of names task) k.0.rows = rows_as names f (kind task) (end_of names task) k.0.rows (λ w. kind_settled (run_on task w)) (end_settled names task) sums.has_rows in
+    ap (λ (x : Summary). x.rows) k.2 ∙ ap (map saturated) (are_rows (kind task) (end_of names task) k.0.rows task.limits.device_bound has (task_chooses task))

@@ -2,14 +2,15 @@
 use Rattle.std.proofs.Common.{ℕ, suc, ◌+◌, ◌≤◌, ◌<◌, max, Bool, true, false, ◌||◌, List, [], ◌∷◌, length, refl, sym, ap, subst, ◌∙◌, ◌≡◌, inl, inr, arith}
 use Rattle.bootstore_state.specs.Moment.{Moment}
 use Rattle.rehearse_terms.specs.Outcomes.{OutcomeWord, Success, Failure, WordKind}
+use Rattle.rehearse_terms.specs.State.{Text, Variables}
 use Rattle.bootstore_state.specs.StoredState.{state_at}
 use Rattle.rehearse_rules.specs.Execution.{Limits, Ending, End, CutDevices, CutSteps, Unknown, Syntax, Unsupported, Size, Booted}
 use Rattle.rehearse_machine.specs.Came.{Came, Over, Wants}
 use Rattle.rehearse_machine.specs.Machine.{IsAsking, asked_at}
 use Rattle.rehearse_endings.specs.Elsewhere.{IsCutBy}
 use Rattle.rehearse_endings.specs.Futures as futures
-use Rattle.rehearse_endings.specs.Futures.{came_kind, came_ending, came_steps, came_devices, IsSameCame, CameCut, CameAlike}
-use Rattle.rehearse_states.specs.Endings.{Row, HasRows, ends, asks}
+use Rattle.rehearse_endings.specs.Futures.{came_kind, came_ending, came_end, came_state, came_steps, came_devices, IsSameCame, CameCut, CameAlike}
+use Rattle.rehearse_states.specs.Endings.{RunEnd, Row, HasRows, end_with, ends, asks}
 use Rattle.rehearse_states.specs.Summaries.{Summary, is_cut_steps, is_cut_devices}
 use Rattle.rehearse_endings.specs.SummedRuns.{Sums, FitsIf, Fits, moved_on, of_end, of_sides}
 use Rattle.rehearse_endings.proofs.SameCoreLemmas.{asked_alike}
@@ -17,23 +18,29 @@ use Rattle.rehearse_endings.proofs.SameCoreLemmas.{asked_alike}
 pub same_function : {A B : Type 0} (f g : A → B) → ((x : A) → f x ≡ g x) → f ≡ g
 same_function f g h = λ i. λ x. h x i
 
-same_rows : (f g : OutcomeWord → Came) (rows : List Row) → ((w : OutcomeWord) → came_kind (f w) ≡ came_kind (g w)) → ((w : OutcomeWord) → came_ending (f w) ≡ came_ending (g w)) → HasRows (λ w. came_kind (f w)) (λ w. came_ending (f w)) rows → HasRows (λ w. came_kind (g w)) (λ w. came_ending (g w)) rows
-same_rows f g rows k e h =
-    subst (λ (x : OutcomeWord → Ending). HasRows (λ w. came_kind (g w)) x rows) (same_function (λ w. came_ending (f w)) (λ w. came_ending (g w)) e)
-    (subst (λ (x : OutcomeWord → WordKind). HasRows x (λ w. came_ending (f w)) rows) (same_function (λ w. came_kind (f w)) (λ w. came_kind (g w)) k) h)
+same_rows : (names : List Text) (f g : OutcomeWord → Came) (rows : List Row) → ((w : OutcomeWord) → came_kind (f w) ≡ came_kind (g w)) → ((w : OutcomeWord) → came_end names (f w) ≡ came_end names (g w)) → HasRows (λ w. came_kind (f w)) (λ w. came_end names (f w)) rows → HasRows (λ w. came_kind (g w)) (λ w. came_end names (g w)) rows
+same_rows names f g rows k e h =
+    subst (λ (x : OutcomeWord → RunEnd). HasRows (λ w. came_kind (g w)) x rows) (same_function (λ w. came_end names (f w)) (λ w. came_end names (g w)) e)
+    (subst (λ (x : OutcomeWord → WordKind). HasRows x (λ w. came_end names (f w)) rows) (same_function (λ w. came_kind (f w)) (λ w. came_kind (g w)) k) h)
 
-pub rows_as : (f : OutcomeWord → Came) (kinds : OutcomeWord → WordKind) (endings : OutcomeWord → Ending) (rows : List Row) → ((w : OutcomeWord) → came_kind (f w) ≡ kinds w) → ((w : OutcomeWord) → came_ending (f w) ≡ endings w) → HasRows (λ w. came_kind (f w)) (λ w. came_ending (f w)) rows → HasRows kinds endings rows
-rows_as f kinds endings rows k e h =
-    subst (λ (x : OutcomeWord → Ending). HasRows kinds x rows) (same_function (λ w. came_ending (f w)) endings e)
-    (subst (λ (x : OutcomeWord → WordKind). HasRows x (λ w. came_ending (f w)) rows) (same_function (λ w. came_kind (f w)) kinds k) h)
+pub rows_as : (names : List Text) (f : OutcomeWord → Came) (kinds : OutcomeWord → WordKind) (endings : OutcomeWord → RunEnd) (rows : List Row) → ((w : OutcomeWord) → came_kind (f w) ≡ kinds w) → ((w : OutcomeWord) → came_end names (f w) ≡ endings w) → HasRows (λ w. came_kind (f w)) (λ w. came_end names (f w)) rows → HasRows kinds endings rows
+rows_as names f kinds endings rows k e h =
+    subst (λ (x : OutcomeWord → RunEnd). HasRows kinds x rows) (same_function (λ w. came_end names (f w)) endings e)
+    (subst (λ (x : OutcomeWord → WordKind). HasRows x (λ w. came_end names (f w)) rows) (same_function (λ w. came_kind (f w)) kinds k) h)
 
 -- two things that come to the same have the same summary
-pub sums_same : (f g : OutcomeWord → Came) (s : Summary) → ((w : OutcomeWord) → f w ≡ g w) → Sums f s → Sums g s
-sums_same f g s e h = subst (λ (x : OutcomeWord → Came). Sums x s) (same_function f g e) h
+pub sums_same : (names : List Text) (f g : OutcomeWord → Came) (s : Summary) → ((w : OutcomeWord) → f w ≡ g w) → Sums names f s → Sums names g s
+sums_same names f g s e h = subst (λ (x : OutcomeWord → Came). Sums names x s) (same_function f g e) h
+
+-- the same ending, and the same variables
+end_as : (names : List Text) (c d : Came) → came_ending d ≡ came_ending c → (came_state d).memory.environment ≡ (came_state c).memory.environment → came_end names c ≡ came_end names d
+end_as names c d e v =
+    ap (λ (x : Ending). end_with names x (came_state c).memory.environment) (sym e)
+    ∙ ap (λ (x : Variables). end_with names (came_ending d) x) (sym v)
 
 -- ---- another moment of the same core
 
-module _ (limits : Limits) (m t : Moment) (s : Summary) (sums : Sums (asked_at limits m) s) (reach_steps : m.steps ≤ s.steps) (reach_devices : length m.log ≤ s.devices) (fits : Fits limits s m t) where
+module _ (names : List Text) (limits : Limits) (m t : Moment) (s : Summary) (sums : Sums names (asked_at limits m) s) (reach_steps : m.steps ≤ s.steps) (reach_devices : length m.log ≤ s.devices) (fits : Fits limits s m t) where
   abbrev Alike : OutcomeWord → Type 0
   Alike w = CameAlike limits m.steps t.steps m.log t.log (asked_at limits m w) (asked_at limits t w)
 
@@ -73,11 +80,11 @@ module _ (limits : Limits) (m t : Moment) (s : Summary) (sums : Sums (asked_at l
   came_same am at w = same_there w (asked_alike limits m t am at fits.core w)
 
   -- the law of the table: what was summed at one moment is the summary of another
-  pub sums_there : IsAsking limits m → IsAsking limits t → Sums (asked_at limits t) (moved_on m t s)
+  pub sums_there : IsAsking limits m → IsAsking limits t → Sums names (asked_at limits t) (moved_on m t s)
   sums_there am at =
       let same = came_same am at in
       record {
-        has_rows = same_rows (asked_at limits m) (asked_at limits t) s.rows (λ w. sym (same w).kind) (λ w. sym (same w).ending) sums.has_rows;
+        has_rows = same_rows names (asked_at limits m) (asked_at limits t) s.rows (λ w. sym (same w).kind) (λ w. end_as names (asked_at limits m w) (asked_at limits t w) (same w).ending (same w).environment) sums.has_rows;
         steps = λ w. let a = (same w).steps in let b = sums.steps w in omega arith;
         devices = λ w. let a = (same w).devices in let b = sums.devices w in omega arith;
         uncut_steps = λ u w e. sums.uncut_steps u w (sym (same w).ending ∙ e);
@@ -93,8 +100,8 @@ cut_devices_by : (ending : Ending) → is_cut_devices ending ≡ false → endin
 cut_devices_by ending h e = let f = ap is_cut_devices e in cc
 
 -- a run that is over
-pub sums_end : (ending : Ending) (m : Moment) → Sums (λ w. Over ending (state_at m w)) (of_end ending m)
-sums_end ending m = record {
+pub sums_end : (names : List Text) (ending : Ending) (m : Moment) → Sums names (λ w. Over ending (state_at m w)) (of_end names ending m)
+sums_end names ending m = record {
   has_rows = ends refl (λ d w. refl);
   steps = λ w. omega arith;
   devices = λ w. omega arith;
@@ -113,7 +120,7 @@ or_right false b h = h
 not_wanted : (f : OutcomeWord → Came) (m : Moment) (ending : Ending) → f [] ≡ Wants (state_at m []) → came_ending (f []) ≡ ending → End m.status ≡ ending
 not_wanted f m ending e h = sym (ap came_ending e) ∙ h
 
-module _ (f : OutcomeWord → Came) (m : Moment) (won lost : Summary) (wants : f [] ≡ Wants (state_at m [])) (up : Sums (λ w. f (Success ∷ w)) won) (down : Sums (λ w. f (Failure ∷ w)) lost) where
+module _ (names : List Text) (f : OutcomeWord → Came) (m : Moment) (won lost : Summary) (wants : f [] ≡ Wants (state_at m [])) (up : Sums names (λ w. f (Success ∷ w)) won) (down : Sums names (λ w. f (Failure ∷ w)) lost) where
   side_steps : (w : OutcomeWord) → came_steps (f w) ≤ max m.steps (max won.steps lost.steps)
   side_steps [] = let e : came_steps (f []) ≡ m.steps = ap came_steps wants in omega arith
   side_steps (Success ∷ w) = let l = up.steps w in omega arith
@@ -135,5 +142,5 @@ module _ (f : OutcomeWord → Came) (m : Moment) (won lost : Summary) (wants : f
   side_cut_devices u (Failure ∷ w) e = down.uncut_devices (or_right won.cut_devices lost.cut_devices u) w e
 
   -- a device command that asks
-  pub sums_sides : Sums f (of_sides m won lost)
+  pub sums_sides : Sums names f (of_sides m won lost)
   sums_sides = record { has_rows = asks (ap came_kind wants) up.has_rows down.has_rows; steps = side_steps; devices = side_devices; uncut_steps = side_cut_steps; uncut_devices = side_cut_devices }

@@ -94,10 +94,10 @@ last_made old asked new node place kept at made_so same kept_at =
     omega (arith, a, b, c, d, e, at, kept_at)
 
 -- the entries of a table, when a state is entered
-pub entered_as : (limits : Limits) (old new : Table) → new.entries.items ≡ old.entries.items → new.flow ≡ old.flow → AreEntries limits (nodes_shown old.flow.nodes) old.entries.items → AreEntries limits (nodes_shown new.flow.nodes) new.entries.items
-entered_as limits old new e f h =
-    subst (λ (x : Flow). AreEntries limits (nodes_shown x.nodes) new.entries.items) (sym f)
-    (subst (AreEntries limits (nodes_shown old.flow.nodes)) (sym e) h)
+pub entered_as : (names : List Text) (limits : Limits) (old new : Table) → new.entries.items ≡ old.entries.items → new.flow ≡ old.flow → AreEntries names limits (nodes_shown old.flow.nodes) old.entries.items → AreEntries names limits (nodes_shown new.flow.nodes) new.entries.items
+entered_as names limits old new e f h =
+    subst (λ (x : Flow). AreEntries names limits (nodes_shown x.nodes) new.entries.items) (sym f)
+    (subst (AreEntries names limits (nodes_shown old.flow.nodes)) (sym e) h)
 
 -- ---- the order of the lines
 

@@ -3,10 +3,11 @@ use Rattle.std.specs.Prelude.{◌≡◌, ℕ, suc, ◌+◌, ◌<◌, ◌⊎◌, 
 use Rattle.std.specs.FinMap.{entries}
 use Rattle.bootstore_state.specs.Moment.{Moment}
 use Rattle.rehearse_terms.specs.Outcomes.{WordKind, Short}
-use Rattle.rehearse_terms.specs.State.{State, LoggedCommand, answers_in}
+use Rattle.rehearse_terms.specs.State.{Text, State, LoggedCommand, answers_in}
 use Rattle.rehearse_rules.specs.Execution.{Limits, Ending, End}
 use Rattle.rehearse_rules.specs.Runs.{taken_kind}
 use Rattle.rehearse_machine.specs.Came.{Came, Over, Wants}
+use Rattle.rehearse_states.specs.Endings.{RunEnd, end_with}
 use Rattle.rehearse_endings.specs.Elsewhere.{HaveFurther, IsCutBy}
 
 -- whether the word is a run, too short or too long
@@ -19,14 +20,18 @@ abbrev pub came_ending : Came → Ending
 came_ending (Over ending s) = ending
 came_ending (Wants s) = End s.memory.status
 
+abbrev pub came_state : Came → State
+came_state (Over ending s) = s
+came_state (Wants s) = s
+
+-- with the values of these variables there
+abbrev pub came_end : (names : List Text) → Came → RunEnd
+came_end names c = end_with names (came_ending c) (came_state c).memory.environment
+
 -- how the run ended, if it did
 abbrev pub came_to_end : Came → Option Ending
 came_to_end (Over ending s) = Some ending
 came_to_end (Wants s) = None
-
-abbrev pub came_state : Came → State
-came_state (Over ending s) = s
-came_state (Wants s) = s
 
 abbrev pub came_log : Came → List LoggedCommand
 came_log c = (came_state c).log
@@ -53,6 +58,7 @@ module _ (limits : Limits) (steps_here steps_there : ℕ) (log_here log_there : 
     pub kind : came_kind d ≡ came_kind c
     pub ending : came_ending d ≡ came_ending c
     pub ended : came_to_end d ≡ came_to_end c
+    pub environment : (came_state d).memory.environment ≡ (came_state c).memory.environment
     pub steps : steps_here + came_steps d ≡ steps_there + came_steps c
     pub devices : length log_here + came_devices d ≡ length log_there + came_devices c
     pub logs : HaveFurther log_here log_there (came_log c) (came_log d)

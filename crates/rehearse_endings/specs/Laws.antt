@@ -1,24 +1,26 @@
 -- What the rows of endings say of the list of all runs. Ours.
 use Rattle.std.specs.Prelude.{◌≡◌, ◌≢◌, ◌<◌, ◌≤◌, List, [], ◌∷◌, ◌++◌, length, filter}
 use Rattle.rehearse_terms.specs.Outcomes.{OutcomeWord, failures}
+use Rattle.rehearse_terms.specs.State.{Text}
 use Rattle.rehearse_rules.specs.Runs.{Task, all_runs}
-use Rattle.rehearse_states.specs.Endings.{Row, ending_eq, ending, endings}
+use Rattle.rehearse_states.specs.Endings.{Row, end_eq, end_of, endings}
 use Rattle.rehearse_states.specs.EndingLines.{counted}
 
 -- each run is counted, and only once
 abbrev pub RunsAreCounted : Type 0
-RunsAreCounted = (task : Task) → counted (endings task) ≡ length (all_runs task)
+RunsAreCounted = (names : List Text) (task : Task) → counted (endings names task) ≡ length (all_runs task)
 
--- a row counts the runs with its ending; a count of 2^128 - 1 or more is written as `>=` and that number
+-- a row counts the runs that end like this and leave its values; a count of 2^128 - 1 or more is written as `>=` and that number
 -- (`count_text` of EndingLines.antt)
 abbrev pub RowsCountRuns : Type 0
-RowsCountRuns = (task : Task) (r : Row) (before behind : List Row) → endings task ≡ before ++ r ∷ behind →
-    r.count ≡ length (filter (λ w. ending_eq (ending task w) r.ending) (all_runs task))
+RowsCountRuns = (names : List Text) (task : Task) (r : Row) (before behind : List Row) →
+    endings names task ≡ before ++ r ∷ behind →
+    r.count ≡ length (filter (λ w. end_eq (end_of names task w) r.run_end) (all_runs task))
 
--- no two rows have the same ending
+-- no two rows have the same ending and the same values
 abbrev pub NoEndingTwice : Type 0
-NoEndingTwice = (task : Task) (r s : Row) (before between behind : List Row) →
-    endings task ≡ before ++ r ∷ between ++ s ∷ behind → r.ending ≢ s.ending
+NoEndingTwice = (names : List Text) (task : Task) (r s : Row) (before between behind : List Row) →
+    endings names task ≡ before ++ r ∷ between ++ s ∷ behind → r.run_end ≢ s.run_end
 
 -- each of these words has this property
 abbrev pub Each : (OutcomeWord → Type 0) → List OutcomeWord → Type 0
@@ -42,8 +44,9 @@ pub record IsFewest (IsSo : OutcomeWord → Type 0) (w : OutcomeWord) (words : L
   pub more : Each (λ v. IsSo v → failures w < failures v) front
   pub no_fewer : Each (λ v. IsSo v → failures w ≤ failures v) rest
 
--- a row's words are the first run with its ending, and the first of these runs with the fewest failures
+-- a row's words are the first run that ends like this and leaves its values, and the first of these runs with the fewest failures
 abbrev pub RowsTellOfRuns : Type 0
-RowsTellOfRuns = (task : Task) (r : Row) (before behind : List Row) → endings task ≡ before ++ r ∷ behind →
-    IsFirst (λ w. ending task w ≡ r.ending) r.word (all_runs task)
-    × IsFewest (λ w. ending task w ≡ r.ending) r.fewest (all_runs task)
+RowsTellOfRuns = (names : List Text) (task : Task) (r : Row) (before behind : List Row) →
+    endings names task ≡ before ++ r ∷ behind →
+    IsFirst (λ w. end_of names task w ≡ r.run_end) r.word (all_runs task)
+    × IsFewest (λ w. end_of names task w ≡ r.run_end) r.fewest (all_runs task)

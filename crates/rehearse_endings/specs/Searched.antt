@@ -3,6 +3,7 @@ use Rattle.std.specs.Prelude.{◌≡◌, ◌+◌, ◌*◌, ◌≤◌, List, [], 
 use Rattle.bootstore_state.specs.Record.{Record}
 use Rattle.rehearse_terms.specs.Bounds.{most_steps}
 use Rattle.rehearse_terms.specs.Outcomes.{OutcomeWord}
+use Rattle.rehearse_terms.specs.State.{Text}
 use Rattle.rehearse_rules.specs.Runs.{Task}
 use Rattle.rehearse_machine.specs.declared.rehearsal.Stop.{Stop}
 use Rattle.rehearse_machine.specs.StoppedTexts.{StoppedAt}
@@ -16,13 +17,13 @@ use Rattle.rehearse_states.specs.declared.summary.Summary.{Summary}
 use Rattle.rehearse_endings.specs.declared.table.Table.{Table}
 
 -- everything after the stop is searched: the summary says what is to come, and the table has what was entered
-pub record IsSearched (task : Task) (stop : Stop) (old new : Record) (before after : Table) (s : Summary) : Type 0 where
-  pub sums : Summed (future task.limits stop old.present) (summary_shown s)
+pub record IsSearched (names : List Text) (task : Task) (stop : Stop) (old new : Record) (before after : Table) (s : Summary) : Type 0 where
+  pub sums : Summed names (future task.limits stop old.present) (summary_shown s)
   pub draws : Draws (nodes_shown after.flow.nodes) s.place (seen_from task.limits stop old.present)
   pub grows : HasMore (nodes_shown before.flow.nodes) (nodes_shown after.flow.nodes)
   pub last : before.entries.items ≡ [] → before.flow.nodes.items ≡ [] → s.place + 1 ≡ length after.flow.nodes.items
   pub marks : new.marked ≡ old.marked
-  pub table : AreEntries task.limits (nodes_shown after.flow.nodes) after.entries.items
+  pub table : AreEntries names task.limits (nodes_shown after.flow.nodes) after.entries.items
   pub begun : new.begun + 2 * before.visited * most_steps ≤ old.begun + 2 * after.visited * most_steps
   pub room : after.visited ≤ after.most
   pub most : after.most ≡ before.most

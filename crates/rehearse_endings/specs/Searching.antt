@@ -2,6 +2,7 @@
 use Rattle.std.specs.Prelude.{◌≡◌, ℕ, ◌≤◌, List, [], ◌∷◌, ◌++◌, length, All}
 use Rattle.bootstore_state.specs.Moment.{Moment}
 use Rattle.rehearse_terms.specs.Outcomes.{OutcomeWord}
+use Rattle.rehearse_terms.specs.State.{Text}
 use Rattle.bootstore_state.specs.StoredState.{state_at}
 use Rattle.rehearse_rules.specs.Execution.{Limits}
 use Rattle.rehearse_rules.specs.Runs.{Task}
@@ -33,21 +34,21 @@ abbrev pub IsReached : Task → (depth : ℕ) → Stop → Moment → Type 0
 IsReached task depth stop m = (p : OutcomeWord) × (length p ≡ depth) × StoppedAt task p stop m
 
 -- an entry is the summary of a moment at which a device command asks, and the nodes draw what is to come of it
-pub record IsEntry (limits : Limits) (nodes : List Node) (e : Entry) : Type 0 where
+pub record IsEntry (names : List Text) (limits : Limits) (nodes : List Node) (e : Entry) : Type 0 where
   pub moment : Moment
   pub asks : IsAsking limits moment
   pub core : core_shown e.core ≡ core_of moment
   pub steps : e.steps ≡ moment.steps
   pub devices : e.devices ≡ length moment.log
   pub summary : Summary
-  pub sums : Sums (asked_at limits moment) summary
+  pub sums : Sums names (asked_at limits moment) summary
   pub reach_steps : moment.steps ≤ summary.steps
   pub reach_devices : length moment.log ≤ summary.devices
   pub shown : summary_shown e.summary ≡ saturated_summary summary
   pub draws : Draws nodes e.summary.place (seen_at limits moment)
 
-abbrev pub AreEntries : Limits → List Node → List Entry → Type 0
-AreEntries limits nodes entries = All (IsEntry limits nodes) entries
+abbrev pub AreEntries : (names : List Text) → Limits → List Node → List Entry → Type 0
+AreEntries names limits nodes entries = All (IsEntry names limits nodes) entries
 
 -- one more entry
 abbrev pub IsKept : (old new : List Entry) → CoreShown → (steps devices place : ℕ) → Summary → Type 0

@@ -1,17 +1,19 @@
 -- What a summary says of the runs to come, and where else it may be used. Ours.
-use Rattle.std.specs.Prelude.{◌≡◌, ℕ, ◌+◌, ◌-◌, ◌≤◌, length, Bool, true, false}
+use Rattle.std.specs.Prelude.{◌≡◌, ℕ, ◌+◌, ◌-◌, ◌≤◌, List, length, Bool, true, false}
+use Rattle.std.specs.FinMap.{entries}
 use Rattle.bootstore_state.specs.Moment.{Moment}
 use Rattle.rehearse_terms.specs.Outcomes.{OutcomeWord}
+use Rattle.rehearse_terms.specs.State.{Text}
 use Rattle.rehearse_rules.specs.Execution.{Limits, Ending, CutDevices, CutSteps}
 use Rattle.rehearse_machine.specs.Came.{Came}
-use Rattle.rehearse_endings.specs.Futures.{came_kind, came_ending, came_steps, came_devices, HaveSameCore}
-use Rattle.rehearse_states.specs.Endings.{HasRows, of_both}
+use Rattle.rehearse_endings.specs.Futures.{came_kind, came_ending, came_end, came_steps, came_devices, HaveSameCore}
+use Rattle.rehearse_states.specs.Endings.{HasRows, end_with, of_both}
 use Rattle.rehearse_states.specs.Summaries.{Summary, summary_at_end, summary_of_sides}
 use Rattle.rehearse_states.specs.RowsShown.{saturated_summary}
 
--- the summary of what f comes to, for every word
-pub record Sums (f : OutcomeWord → Came) (s : Summary) : Type 0 where
-  pub has_rows : HasRows (λ w. came_kind (f w)) (λ w. came_ending (f w)) s.rows
+-- the summary of what f comes to, for every word, with the values of these variables
+pub record Sums (names : List Text) (f : OutcomeWord → Came) (s : Summary) : Type 0 where
+  pub has_rows : HasRows (λ w. came_kind (f w)) (λ w. came_end names (f w)) s.rows
   pub steps : (w : OutcomeWord) → came_steps (f w) ≤ s.steps
   pub devices : (w : OutcomeWord) → came_devices (f w) ≤ s.devices
   pub uncut_steps : s.cut_steps ≡ false → (w : OutcomeWord) → came_ending (f w) ≡ CutSteps → ⊥
@@ -42,12 +44,12 @@ moved_by here there devices_here devices_there s = record {
 abbrev pub moved_on : (m t : Moment) → Summary → Summary
 moved_on m t s = moved_by m.steps t.steps (length m.log) (length t.log) s
 
-abbrev pub of_end : Ending → Moment → Summary
-of_end ending m = summary_at_end ending m.steps (length m.log)
+abbrev pub of_end : (names : List Text) → Ending → Moment → Summary
+of_end names ending m = summary_at_end (end_with names ending (entries m.environment)) m.steps (length m.log)
 
 abbrev pub of_sides : Moment → (won lost : Summary) → Summary
 of_sides m won lost = summary_of_sides of_both m.steps (length m.log) won lost
 
 -- the summary of what f comes to, except for counts that are too large
-abbrev pub Summed : (OutcomeWord → Came) → Summary → Type 0
-Summed f shown = (s : Summary) × Sums f s × (shown ≡ saturated_summary s)
+abbrev pub Summed : (names : List Text) → (OutcomeWord → Came) → Summary → Type 0
+Summed names f shown = (s : Summary) × Sums names f s × (shown ≡ saturated_summary s)

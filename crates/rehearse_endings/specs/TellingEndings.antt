@@ -1,5 +1,5 @@
 -- What is written of the endings of an environment's variable, and why it is refused. Ours.
-use Rattle.std.specs.Prelude.{◌≡◌, ℕ, ◌+◌, ◌≤◌, Bool, true, false, List, length, Option, Some, None, Ok, Err}
+use Rattle.std.specs.Prelude.{◌≡◌, ℕ, ◌+◌, ◌≤◌, Bool, true, false, List, length, map, Option, Some, None, Ok, Err}
 use Rattle.output.specs.Sink.{Sink, Wrote, BrokeOff}
 use Rattle.rehearse_terms.specs.State.{Text}
 use Rattle.device_list.specs.DeviceList.{Devices, listed}
@@ -13,6 +13,10 @@ use Rattle.rehearse_endings.specs.declared.telling.EndingsAsk.{EndingsAsk}
 use Rattle.rehearse_rules.specs.declared.rehearse_error.RehearseError.{RehearseError}
 use Rattle.rehearse_rules.specs.declared.rehearse_error.RehearseError.TheVariants.{DeviceList, NoSuchVariable, States, Write, Memory}
 
+-- the variables whose values are asked for
+abbrev pub names_of : EndingsAsk → List Text
+names_of ask = map (λ n. n.now) ask.names.now
+
 -- the device list is valid, and the task has this property, if the variable is set
 pub record HasDevices (environment : List (Text × Text)) (devices_text : Text) (ask : EndingsAsk)
     (IsSo : Option Task → Type 0) : Type 0 where
@@ -20,15 +24,15 @@ pub record HasDevices (environment : List (Text × Text)) (devices_text : Text) 
   pub listed_as : listed devices_text ≡ Ok devices
   pub so : IsSo (task_set environment devices ask.name.now ask.bounds)
 
--- the flow of the task, or how its runs end; its runs come to this many states
-abbrev pub Tells : (flow : Bool) → Task → (states : ℕ) → Text → Type 0
-Tells true task states text = (nodes : List Node) × IsFlow task nodes × (text ≡ flow_text nodes)
-Tells false task states text = text ≡ endings_text (failing task) (endings task) (length (all_runs task)) states
+-- the flow of the task, or how its runs end, and the values of these variables there; its runs come to this many states
+abbrev pub Tells : (names : List Text) → (flow : Bool) → Task → (states : ℕ) → Text → Type 0
+Tells names true task states text = (nodes : List Node) × IsFlow task nodes × (text ≡ flow_text nodes)
+Tells names false task states text = text ≡ endings_text names (failing task) (endings names task) (length (all_runs task)) states
 
 -- the lines of the task; its runs come to this many states, no two alike, and to no more than allowed
-abbrev pub AreLines : (flow : Bool) → (most : ℕ) → Option Task → Text → Type 0
-AreLines flow most found text = (task : Task) × (states : ℕ) × (found ≡ Some task) × (states ≤ most)
-    × HasStates task states × Tells flow task states text
+abbrev pub AreLines : (names : List Text) → (flow : Bool) → (most : ℕ) → Option Task → Text → Type 0
+AreLines names flow most found text = (task : Task) × (states : ℕ) × (found ≡ Some task) × (states ≤ most)
+    × HasStates task states × Tells names flow task states text
 
 -- the runs of the task come to more states than allowed, no two of them alike
 abbrev pub HasMoreStates : (most : ℕ) → Option Task → Type 0
@@ -44,13 +48,13 @@ IsUntold most found _ = ⊥
 -- the lines were written
 abbrev pub TellsEndings : List (Text × Text) → Text → EndingsAsk → (old new : Sink) → Type 0
 TellsEndings environment devices_text ask old new =
-    HasDevices environment devices_text ask (λ found. (text : Text) × AreLines ask.flow ask.states found text
+    HasDevices environment devices_text ask (λ found. (text : Text) × AreLines (names_of ask) ask.flow ask.states found text
     × Wrote old new text)
 
 -- the output failed inside the lines
 abbrev pub BreaksOff : List (Text × Text) → Text → EndingsAsk → (old new : Sink) → Type 0
 BreaksOff environment devices_text ask old new =
-    HasDevices environment devices_text ask (λ found. (text : Text) × AreLines ask.flow ask.states found text
+    HasDevices environment devices_text ask (λ found. (text : Text) × AreLines (names_of ask) ask.flow ask.states found text
     × BrokeOff old new text)
 
 abbrev pub RefusesEndings : List (Text × Text) → Text → EndingsAsk → (old new : Sink) → RehearseError → Type 0

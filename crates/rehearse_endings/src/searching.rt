@@ -17,12 +17,12 @@ use crate::sum_error::SumError;
 use crate::table::Table;
 use bootstore_state::Store;
 use rehearse_machine::{Rehearsal, Stop, begin, resume};
-use rehearse_states::{Node, Row, Summary, hash_of, of_end, of_sides, words_at};
+use rehearse_states::{Node, Row, Summary, hash_of, of_end, of_sides, run_end_of, words_at};
 
 /// How the runs of a script end.
 #[derive(Drop)]
 pub struct Endings {
-    /// For each ending, in the order of the first runs, which runs have it.
+    /// For each way to end, in the order of the first runs, which runs end so.
     pub rows: Vec<Row>,
     /// How many states were searched in which a device command asks.
     pub states: u32,
@@ -45,18 +45,19 @@ fn summed<S: Store>(
     rehearsal: &Rehearsal<'_>,
     store: &mut S,
     table: &mut Table,
+    names: &[&[u8]],
     depth: u32,
     stop: Stop,
 ) -> Result<Summary, SumError>
     requires reached { IsReached (task_in rehearsal.now) depth stop
         (S.record_of store.old).present }
-    requires table { AreEntries (task_in rehearsal.now).limits (nodes_shown table.old.flow.nodes)
+    requires table { AreEntries (map (λ n. n.now) names.now) (task_in rehearsal.now).limits (nodes_shown table.old.flow.nodes)
         table.old.entries.items }
     requires within { (S.record_of store.old).present.steps ≤ most_steps }
     requires bound { (task_in rehearsal.now).limits.device_bound < 2 ^ 32 }
     requires begun { (S.record_of store.old).begun ≤ (2 * table.old.visited + 1) * most_steps }
     requires room { table.old.visited ≤ table.old.most }
-    ensures searched { IfOk result (λ s. IsSearched (task_in rehearsal.now) stop
+    ensures searched { IfOk result (λ s. IsSearched (map (λ n. n.now) names.now) (task_in rehearsal.now) stop
         (S.record_of store.old) (S.record_of store.new) table.old table.new s) }
     ensures refused { (p : OutcomeWord) (kept pending : List Asked)
         → StoppedAt (task_in rehearsal.now) p stop (S.record_of store.old).present
@@ -67,7 +68,8 @@ fn summed<S: Store>(
     match stop {
         Stop::Ends(halt) => {
             let place = table.flow.end(&halt)?;
-            let summary = of_end(rehearsal.alloc, store.steps(), devices, halt, place)?;
+            let run_end = run_end_of(rehearsal.alloc, store, halt, names)?;
+            let summary = of_end(rehearsal.alloc, store.steps(), devices, run_end, place)?;
             Ok(summary)
         }
         Stop::Asks => {
@@ -77,6 +79,7 @@ fn summed<S: Store>(
                 store,
                 rehearsal.devices,
                 rehearsal.bounds,
+                names,
                 hash,
                 devices,
             )? {
@@ -87,10 +90,10 @@ fn summed<S: Store>(
             store.mark()?;
             let won_stop = resume(rehearsal, store, true)?;
             let words = words_at(rehearsal.alloc, store, devices)?;
-            let won = summed(rehearsal, store, table, depth + 1, won_stop)?;
+            let won = summed(rehearsal, store, table, names, depth + 1, won_stop)?;
             store.back();
             let lost_stop = resume(rehearsal, store, false)?;
-            let lost = summed(rehearsal, store, table, depth + 1, lost_stop)?;
+            let lost = summed(rehearsal, store, table, names, depth + 1, lost_stop)?;
             let place = table.flow.ask(words, won.place, lost.place)?;
             let summary = of_sides(rehearsal.alloc, steps, devices, won, lost, place)?;
             table.keep(rehearsal.alloc, hash, core, steps, devices, &summary)?;
@@ -101,18 +104,21 @@ fn summed<S: Store>(
 
 /// Counts how all runs of the text of the variable end. For each ending it gives how many runs have
 /// it, or 2^128 - 1 if there are more; the first of them; and the first of them with the fewest
-/// failures. The endings are in the order of their first runs. Enters no more states than allowed,
+/// failures. Runs that leave other values of the named variables are told apart. The endings are in
+/// the order of their first runs. Enters no more states than allowed,
 /// and searches each once, so at most two stretches of steps start at a state. Returns `States` if
 /// the runs come to more states than allowed, no two of them alike. Errors: `Memory`, `States`.
 pub fn sum_endings<S: Store>(
     rehearsal: &Rehearsal<'_>,
     store: &mut S,
+    names: &[&[u8]],
     most_states: u32,
 ) -> Result<Endings, SumError>
     requires begun { (S.record_of store.old).begun ≡ 0 }
     requires bound { (task_in rehearsal.now).limits.device_bound < 2 ^ 32 }
     ensures rows { IfOk result
-        (λ e. rows_shown e.rows ≡ map saturated (endings (task_in rehearsal.now))) }
+        (λ e. rows_shown e.rows ≡ map saturated
+        (endings (map (λ n. n.now) names.now) (task_in rehearsal.now))) }
     ensures flow { IfOk result (λ e. IsFlow (task_in rehearsal.now) (nodes_shown e.nodes)) }
     ensures states { IfOk result (λ e. e.states ≤ most_states) }
     ensures met { IfOk result (λ e. HasStates (task_in rehearsal.now) e.states) }
@@ -123,7 +129,7 @@ pub fn sum_endings<S: Store>(
 {
     let stop = begin(rehearsal, store)?;
     let mut table = Table::new(rehearsal.alloc, most_states);
-    let summary = summed(rehearsal, store, &mut table, 0, stop)?;
+    let summary = summed(rehearsal, store, &mut table, names, 0, stop)?;
     let states = table.visited;
     let nodes = table.flow.into_lines(rehearsal.alloc)?;
     Ok(Endings {

@@ -1,5 +1,5 @@
 //! The table of the states in which device commands asked.
-ghost use Rattle.std.specs.Prelude.{◌≡◌, ◌≢◌, ◌≤◌, ◌<◌, ◌^◌, IfOk, OnOk, MatchOption, IsTrue, length, [], ⊤};
+ghost use Rattle.std.specs.Prelude.{◌≡◌, ◌≢◌, ◌≤◌, ◌<◌, ◌^◌, IfOk, OnOk, MatchOption, IsTrue, length, map, [], ⊤};
 ghost use Rattle.rehearse_machine.specs.Machine.{IsAsking, asked_at};
 ghost use Rattle.rehearse_machine.specs.MovesShown.{limits_of};
 ghost use Rattle.rehearse_endings.specs.SummedRuns.{Summed, FitsIf, moved_by};
@@ -85,23 +85,25 @@ impl Table {
         Ok(core)
     }
 
-    /// The summary of the present state, if an entry under this number fits. Errors: `Memory`.
+    /// The summary of the present state, with the values of variables, if an entry under this number
+    /// fits. Errors: `Memory`.
     pub(crate) fn find<S: Store>(
         &self,
         alloc: Global,
         store: &S,
         devices: &Devices,
         bounds: RunBounds,
+        names: &[&[u8]],
         hash: u64,
         depth: u32,
     ) -> Result<Option<Summary>, StoreError>
         requires asks { IsAsking (limits_of devices.now bounds) (S.record_of store.now).present }
         requires depth { length (S.record_of store.now).present.log ≡ depth }
-        requires table { AreEntries (limits_of devices.now bounds) (nodes_shown self.now.flow.nodes)
+        requires table { AreEntries (map (λ n. n.now) names.now) (limits_of devices.now bounds) (nodes_shown self.now.flow.nodes)
             self.now.entries.items }
         ensures sums { IfOk result
             (λ found. MatchOption found ⊤
-            (λ s. Summed (asked_at (limits_of devices.now bounds) (S.record_of store.now).present)
+            (λ s. Summed (map (λ n. n.now) names.now) (asked_at (limits_of devices.now bounds) (S.record_of store.now).present)
             (summary_shown s))) }
         ensures draws { IfOk result
             (λ found. MatchOption found ⊤
@@ -110,7 +112,7 @@ impl Table {
         ensures some { IfOk result
             (λ found. MatchOption found ⊤ (λ s. self.now.entries.items ≢ [])) }
     {
-        let _devices = devices;
+        let (_devices, _names) = (devices, names);
         let Some(places) = self.places.get(&hash) else {
             return Ok(None);
         };

@@ -1,11 +1,11 @@
 //! How the runs of an environment's variable end, from the text of its device list to the lines.
-ghost use Rattle.std.specs.Prelude.{◌≡◌, ◌+◌, IfOk, IfErr, Ok, Some};
+ghost use Rattle.std.specs.Prelude.{◌≡◌, ◌+◌, IfOk, IfErr, Ok, Some, map};
 ghost use Rattle.rehearse_terms.specs.State.{Text};
 ghost use Rattle.device_list.specs.DeviceList.{listed};
 ghost use Rattle.rehearse_machine.specs.Tasks.{task_in, task_set};
 ghost use Rattle.rehearse_endings.specs.declared.sum_error.SumError.TheVariants.{States};
 ghost use Rattle.rehearse_endings.specs.States.{HasStates};
-ghost use Rattle.rehearse_endings.specs.TellingEndings.{AreLines, IsUntold, TellsEndings, RefusesEndings};
+ghost use Rattle.rehearse_endings.specs.TellingEndings.{AreLines, IsUntold, names_of, TellsEndings, RefusesEndings};
 
 use crate::searching::sum_endings;
 use crate::sum_error::SumError;
@@ -28,6 +28,8 @@ pub struct EndingsAsk<'a> {
     pub bounds: RunBounds,
     /// How many states may be searched.
     pub states: u32,
+    /// The variables by whose values runs are told apart, in this order.
+    pub names: &'a [&'a [u8]],
     /// Whether the flow is written, not the endings.
     pub flow: bool,
 }
@@ -35,22 +37,29 @@ pub struct EndingsAsk<'a> {
 /// The lines that say how all runs of a rehearsal end, or the lines of their flow.
 fn lines_of<S: Store>(
     rehearsal: &Rehearsal<'_>,
+    names: &[&[u8]],
     most_states: u32,
     flow: bool,
 ) -> Result<Vec<u8>, SumError>
-    ensures ok { IfOk result (λ text. AreLines flow most_states (Some (task_in rehearsal.now))
-        text.items) }
+    ensures ok { IfOk result (λ text. AreLines (map (λ n. n.now) names.now) flow most_states
+        (Some (task_in rehearsal.now)) text.items) }
     ensures err { IfErr result
         (λ e. e ≡ States → HasStates (task_in rehearsal.now) (most_states + 1)) }
 {
     let _bound = rehearsal.bounds.devices();
     let mut store = S::new(rehearsal.alloc);
-    let found = sum_endings(rehearsal, &mut store, most_states)?;
+    let found = sum_endings(rehearsal, &mut store, names, most_states)?;
     if flow {
         let text = flow_text_of(rehearsal.alloc, &found.nodes)?;
         return Ok(text);
     }
-    let text = text_of(rehearsal.alloc, &found.rows, &found.nodes, found.states)?;
+    let text = text_of(
+        rehearsal.alloc,
+        names,
+        &found.rows,
+        &found.nodes,
+        found.states,
+    )?;
     Ok(text)
 }
 
@@ -61,7 +70,7 @@ fn lines_in<S: Store>(
     devices: &Devices,
     ask: &EndingsAsk<'_>,
 ) -> Result<Vec<u8>, RehearseError>
-    ensures ok { IfOk result (λ text. AreLines ask.now.flow ask.now.states
+    ensures ok { IfOk result (λ text. AreLines (names_of ask.now) ask.now.flow ask.now.states
         (task_set env.now devices.now ask.now.name.now ask.now.bounds) text.items) }
     ensures err { IfErr result
         (λ e. IsUntold ask.now.states (task_set env.now devices.now ask.now.name.now ask.now.bounds)
@@ -70,7 +79,7 @@ fn lines_in<S: Store>(
     let Some(rehearsal) = Rehearsal::of(alloc, env, devices, ask.name, ask.bounds) else {
         return Err(RehearseError::NoSuchVariable);
     };
-    match lines_of::<S>(&rehearsal, ask.states, ask.flow) {
+    match lines_of::<S>(&rehearsal, ask.names, ask.states, ask.flow) {
         Ok(text) => Ok(text),
         Err(SumError::States) => Err(RehearseError::States),
         Err(SumError::Memory) => Err(RehearseError::Memory),
@@ -100,11 +109,11 @@ fn endings_with<S: Store, O: Out>(
     }
 }
 
-/// Writes how all runs of a variable end: for each ending a line, and the device commands that fail
-/// in the run with the fewest failures; then a line for all runs. Or it writes their flow: a line
-/// for each state in which a device command asks, and for each way to end. Refusals in order: the
-/// device list, the variable, `States` and `Memory`, with nothing written; then `Write`, with a
-/// prefix of the lines written.
+/// Writes how all runs of a variable end: for each ending a line, the values that are left of the
+/// named variables, and the device commands that fail in the run with the fewest failures; then a
+/// line for all runs. Or it writes their flow: a line for each state in which a device command
+/// asks, and for each way to end. Refusals in order: the device list, the variable, `States` and
+/// `Memory`, with nothing written; then `Write`, with a prefix of the lines written.
 pub fn endings_env<S: Store, O: Out>(
     alloc: Global,
     env: &Env,

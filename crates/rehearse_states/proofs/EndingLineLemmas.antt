@@ -1,17 +1,17 @@
 -- The lines of endings: counts that are too large, and the number of all runs.
-use Rattle.std.proofs.Common.{ℕ, ◌+◌, ◌<◌, min, Bool, true, false, List, [], ◌∷◌, ◌++◌, map, flat_map, length, reverse, refl, sym, ap, ◌∙◌, ◌≡◌, nat_lt, codes, decimal, if◌then◌else◌, arith}
+use Rattle.std.proofs.Common.{ℕ, ◌+◌, ◌<◌, min, Bool, true, false, List, [], ◌∷◌, ◌++◌, map, flat_map, length, reverse, refl, sym, ap, ◌∙◌, ◌≡◌, nat_lt, codes, decimal, if◌then◌else◌, append_assoc, arith}
 use Rattle.std.proofs.lemmas.Bool.{ltb-true, ltb-false}
 use Rattle.std.proofs.lemmas.List.{length-map, length-reverse, map-append, reverse-append}
 use Rattle.rehearse_terms.specs.State.{Text}
 use Rattle.rehearse_rules.specs.Listing.{digit_when, outcome_digit, spelled, line, last_line}
 use Rattle.rehearse_terms.specs.Outcomes.{OutcomeWord, Outcome, failures}
-use Rattle.rehearse_rules.specs.Execution.{outcome_when, Ending}
+use Rattle.rehearse_rules.specs.Execution.{outcome_when}
 use Rattle.rehearse_rules.specs.Runs.{Task, all_runs}
-use Rattle.rehearse_states.specs.Endings.{Row, ending_eq, joined, with_row, merge, one_run, ending, endings}
+use Rattle.rehearse_states.specs.Endings.{RunEnd, Row, end_eq, joined, with_row, merge, one_run, end_of, endings}
 use Rattle.rehearse_states.specs.RowsShown.{most_runs, saturated}
 use Rattle.rehearse_states.specs.Flow.{Node, Seen, IsFlow}
 use Rattle.rehearse_states.specs.Drawing.{failing_on}
-use Rattle.rehearse_states.specs.EndingLines.{failed, failing, fails_lines, count_text, row_text, row_lines, all_text, endings_text, counted}
+use Rattle.rehearse_states.specs.EndingLines.{failed, failing, fails_lines, count_text, row_text, value_lines, row_lines, all_text, endings_text, counted}
 
 -- ---- counts that are too large
 
@@ -26,19 +26,19 @@ count_told : (n : ℕ) → count_text (min n most_runs) ≡ count_text n
 count_told n = count_if (nat_lt n most_runs) n refl
 
 row_told : (r : Row) → row_text (saturated r) ≡ row_text r
-row_told r = ap (λ (t : Text). codes "ends " ++ t ++ codes " first " ++ spelled r.word ++ codes " fewest " ++ decimal (failures r.fewest) ++ codes " " ++ spelled r.fewest ++ codes " " ++ last_line r.ending) (count_told r.count)
+row_told r = ap (λ (t : Text). codes "ends " ++ t ++ codes " first " ++ spelled r.word ++ codes " fewest " ++ decimal (failures r.fewest) ++ codes " " ++ spelled r.fewest ++ codes " " ++ last_line r.run_end.ending) (count_told r.count)
 
 -- what fails is told of the same word
-lines_told : (fails other : OutcomeWord → List (List Text)) → ((w : OutcomeWord) → fails w ≡ other w) → (r : Row) → row_lines fails (saturated r) ≡ row_lines other r
-lines_told fails other same r =
-    ap (λ (t : Text). line t ++ fails_lines (fails r.fewest)) (row_told r)
-    ∙ ap (λ (commands : List (List Text)). line (row_text r) ++ fails_lines commands) (same r.fewest)
+lines_told : (names : List Text) (fails other : OutcomeWord → List (List Text)) → ((w : OutcomeWord) → fails w ≡ other w) → (r : Row) → row_lines names fails (saturated r) ≡ row_lines names other r
+lines_told names fails other same r =
+    ap (λ (t : Text). line t ++ value_lines names r.run_end.values ++ fails_lines (fails r.fewest)) (row_told r)
+    ∙ ap (λ (commands : List (List Text)). line (row_text r) ++ value_lines names r.run_end.values ++ fails_lines commands) (same r.fewest)
 
-rows_told : (fails other : OutcomeWord → List (List Text)) → ((w : OutcomeWord) → fails w ≡ other w) → (rows : List Row) → flat_map (row_lines fails) (map saturated rows) ≡ flat_map (row_lines other) rows
-rows_told fails other same [] = refl
-rows_told fails other same (r ∷ rs) =
-    ap (λ (t : Text). t ++ flat_map (row_lines fails) (map saturated rs)) (lines_told fails other same r)
-    ∙ ap (λ (t : Text). row_lines other r ++ t) (rows_told fails other same rs)
+rows_told : (names : List Text) (fails other : OutcomeWord → List (List Text)) → ((w : OutcomeWord) → fails w ≡ other w) → (rows : List Row) → flat_map (row_lines names fails) (map saturated rows) ≡ flat_map (row_lines names other) rows
+rows_told names fails other same [] = refl
+rows_told names fails other same (r ∷ rs) =
+    ap (λ (t : Text). t ++ flat_map (row_lines names fails) (map saturated rs)) (lines_told names fails other same r)
+    ∙ ap (λ (t : Text). row_lines names other r ++ t) (rows_told names fails other same rs)
 
 counted_up : (rows : List Row) → min (counted (map saturated rows)) most_runs ≡ min (counted rows) most_runs
 counted_up [] = refl
@@ -49,10 +49,10 @@ all_told rows states =
     ap (λ (t : Text). codes "all " ++ t ++ codes " states " ++ decimal states)
     (sym (count_told (counted (map saturated rows))) ∙ ap count_text (counted_up rows) ∙ count_told (counted rows))
 
-saturated_told : (fails other : OutcomeWord → List (List Text)) → ((w : OutcomeWord) → fails w ≡ other w) → (rows : List Row) (states : ℕ) → endings_text fails (map saturated rows) (counted (map saturated rows)) states ≡ endings_text other rows (counted rows) states
-saturated_told fails other same rows states =
-    ap (λ (t : Text). t ++ line (all_text (counted (map saturated rows)) states)) (rows_told fails other same rows)
-    ∙ ap (λ (t : Text). flat_map (row_lines other) rows ++ line t) (all_told rows states)
+saturated_told : (names : List Text) (fails other : OutcomeWord → List (List Text)) → ((w : OutcomeWord) → fails w ≡ other w) → (rows : List Row) (states : ℕ) → endings_text names fails (map saturated rows) (counted (map saturated rows)) states ≡ endings_text names other rows (counted rows) states
+saturated_told names fails other same rows states =
+    ap (λ (t : Text). t ++ line (all_text (counted (map saturated rows)) states)) (rows_told names fails other same rows)
+    ∙ ap (λ (t : Text). flat_map (row_lines names other) rows ++ line t) (all_told rows states)
 
 -- ---- the number of all runs
 
@@ -65,19 +65,19 @@ counted_if false r rs row h = omega (arith, h)
 
 counted_with : (rs : List Row) (row : Row) → counted (with_row rs row) ≡ counted rs + row.count
 counted_with [] row = omega arith
-counted_with (r ∷ rs) row = counted_if (ending_eq r.ending row.ending) r rs row (counted_with rs row)
+counted_with (r ∷ rs) row = counted_if (end_eq r.run_end row.run_end) r rs row (counted_with rs row)
 
 counted_merge : (rs ts : List Row) → counted (merge rs ts) ≡ counted rs + counted ts
 counted_merge rs [] = omega arith
 counted_merge rs (t ∷ ts) = let h = counted_merge (with_row rs t) ts in let k = counted_with rs t in omega (arith, h, k)
 
-counted_singles : (es : List (Ending × OutcomeWord)) → counted (map one_run es) ≡ length es
+counted_singles : (es : List (RunEnd × OutcomeWord)) → counted (map one_run es) ≡ length es
 counted_singles [] = refl
 counted_singles (e ∷ es) = let h = counted_singles es in omega (arith, h)
 
-pub counted_all : (task : Task) → counted (endings task) ≡ length (all_runs task)
-counted_all task =
-    let pair : OutcomeWord → Ending × OutcomeWord = λ w. (ending task w, w) in
+pub counted_all : (names : List Text) (task : Task) → counted (endings names task) ≡ length (all_runs task)
+counted_all names task =
+    let pair : OutcomeWord → RunEnd × OutcomeWord = λ w. (end_of names task w, w) in
     let es = map pair (all_runs task) in
     let h = counted_merge [] (map one_run es) in
     let k = counted_singles es in
@@ -85,12 +85,21 @@ counted_all task =
     omega (arith, h, k, l)
 
 -- what is written of rows with counts up to the greatest, and of the nodes of the flow
-pub text_told : (task : Task) (nodes : List Node) (rows : List Row) (text : Text) (states : ℕ) → IsFlow task nodes → rows ≡ map saturated (endings task) → text ≡ endings_text (failing_on nodes) rows (counted rows) states
-    → text ≡ endings_text (failing task) (endings task) (length (all_runs task)) states
-text_told task nodes rows text states flow e h =
-    h ∙ ap (λ (x : List Row). endings_text (failing_on nodes) x (counted x) states) e
-    ∙ saturated_told (failing_on nodes) (failing task) (λ w. ap (λ (s : Seen). failed s.log) (flow w)) (endings task) states
-    ∙ ap (λ (n : ℕ). endings_text (failing task) (endings task) n states) (counted_all task)
+pub text_told : (names : List Text) (task : Task) (nodes : List Node) (rows : List Row) (text : Text) (states : ℕ) → IsFlow task nodes → rows ≡ map saturated (endings names task) → text ≡ endings_text names (failing_on nodes) rows (counted rows) states
+    → text ≡ endings_text names (failing task) (endings names task) (length (all_runs task)) states
+text_told names task nodes rows text states flow e h =
+    h ∙ ap (λ (x : List Row). endings_text names (failing_on nodes) x (counted x) states) e
+    ∙ saturated_told names (failing_on nodes) (failing task) (λ w. ap (λ (s : Seen). failed s.log) (flow w)) (endings names task) states
+    ∙ ap (λ (n : ℕ). endings_text names (failing task) (endings names task) n states) (counted_all names task)
+
+-- ---- the lines of one ending
+
+-- lines that are put in three pieces
+pub three_pieces : (old a b c new values fails : Text) → values ≡ old ++ a → fails ≡ values ++ b → new ≡ fails ++ c → new ≡ old ++ (a ++ b ++ c)
+three_pieces old a b c new values fails h k l =
+    l
+    ∙ ap (λ (t : Text). t ++ c) (k ∙ ap (λ (t : Text). t ++ b) h ∙ append_assoc old a b)
+    ∙ append_assoc old (a ++ b) c
 
 -- ---- digits
 

@@ -1,6 +1,6 @@
 -- Worked examples, computed: from the text of `bootcmd` to the rows of its runs and their lines. A word starts with the
 -- first device command; `0` means that it succeeded.
-use Rattle.std.proofs.Common.{ℕ, Bool, true, [], ◌∷◌, ◌+◌, ◌-◌, ◌^◌, List, codes, refl, ◌≡◌, map, length, nat_eq}
+use Rattle.std.proofs.Common.{ℕ, Bool, true, [], ◌∷◌, ◌+◌, ◌-◌, ◌^◌, List, Some, None, Option, codes, refl, ◌≡◌, map, length, nat_eq}
 use Rattle.std.specs.Fmt.{digits}
 use Rattle.hushlang.specs.Expansion.{fields, joined, atoms}
 use Rattle.rehearse_terms.specs.Outcomes.{OutcomeWord, Success, Failure, failures}
@@ -11,16 +11,20 @@ use Rattle.rehearse_terms.specs.State.{Text}
 use Rattle.rehearse_rules.specs.Execution.{Ending, End, CutDevices, CutSteps, Unknown, Syntax, Unsupported, Size, Booted}
 use Rattle.rehearse_rules.specs.Runs.{Task, all_runs}
 use Rattle.rehearse_rules.proofs.ExampleRehearsals.{only_load, limits, bootcmd}
-use Rattle.rehearse_states.specs.Endings.{Row, ending_eq, fewer, joined as with_further, with_row, gather, endings, of_both}
+use Rattle.rehearse_states.specs.Endings.{RunEnd, Row, ending_eq, end_eq, fewer, joined as with_further, with_row, gather, endings, of_both}
 use Rattle.rehearse_states.specs.EndingLines.{failing, count_text, endings_text, counted}
 use Rattle.rehearse_states.specs.RowsShown.{most_runs, saturated, with_row_up}
 
 abbrev task : ℕ → Text → Task
 task devices text = bootcmd (limits only_load devices 20) text
 
--- the lines of all runs, with the number of states
+-- the lines of all runs with the values of these variables, with the number of states
+abbrev lines_with : List Text → Task → ℕ → Text
+lines_with names t states = endings_text names (failing t) (endings names t) (length (all_runs t)) states
+
+-- without variables
 abbrev lines : Task → ℕ → Text
-lines t states = endings_text (failing t) (endings t) (length (all_runs t)) states
+lines t states = lines_with [] t states
 
 -- ---- scripts
 
@@ -78,6 +82,28 @@ after_expansion : lines (task 3 (codes "x=\"a b\"; load \"$x\" ''; exit $?")) 1 
 unfolding tree_of fields joined atoms digits
 after_expansion = refl
 
+-- ---- variables
+
+-- runs that leave other values are told apart, and the same ending comes once for each value
+two_values : lines_with (codes "v" ∷ []) (task 3 (codes "if load a; then v=1; else v=2; fi; load b; setenv v $v; true")) 3 ≡ codes "ends 2 first 00 fewest 0 00 end 0\nvar v=1\nends 2 first 10 fewest 1 10 end 0\nvar v=2\nfails load a\nall 4 states 3\n"
+unfolding tree_of fields joined atoms digits
+two_values = refl
+
+-- without the variable they are one
+not_asked_for : lines (task 3 (codes "if load a; then v=1; else v=2; fi; load b; setenv v $v; true")) 3 ≡ codes "ends 4 first 00 fewest 0 00 end 0\nall 4 states 3\n"
+unfolding tree_of fields joined atoms digits
+not_asked_for = refl
+
+-- a variable of the environment, not of the shell; in the order asked, before what fails
+order_asked : lines_with (codes "w" ∷ codes "v" ∷ []) (task 3 (codes "v=1; load a || setenv w 'x y'; true")) 1 ≡ codes "ends 1 first 0 fewest 0 0 end 0\nunset w\nunset v\nends 1 first 1 fewest 1 1 end 0\nvar w=x y\nunset v\nfails load a\nall 2 states 1\n"
+unfolding tree_of fields joined atoms digits
+order_asked = refl
+
+-- the value at the end of the run, not before
+at_the_end : lines_with (codes "v" ∷ []) (task 3 (codes "setenv v 1; load a && setenv v; setenv v 2")) 1 ≡ codes "ends 2 first 0 fewest 0 0 end 0\nvar v=2\nall 2 states 1\n"
+unfolding tree_of fields joined atoms digits
+at_the_end = refl
+
 -- the device list `steady load`: of the four runs that succeed and fail in turn, two are left, and each is one state
 abbrev steady : Text → Task
 steady text = bootcmd (limits (only ((codes "load", record quiet { stays = true }) ∷ [])) 3 20) text
@@ -114,6 +140,23 @@ only_at n = map (nat_eq n) (0 ∷ 1 ∷ 2 ∷ 3 ∷ 4 ∷ 5 ∷ 6 ∷ 7 ∷ 8 �
 each_equals_itself : map equals kinds ≡ map only_at (0 ∷ 1 ∷ 2 ∷ 3 ∷ 4 ∷ 5 ∷ 6 ∷ 7 ∷ 8 ∷ 9 ∷ 10 ∷ 11 ∷ 12 ∷ [])
 each_equals_itself = refl
 
+-- how runs end: the ending alone, a value alone, and both
+
+abbrev left : Ending → List (Option Text) → RunEnd
+left ending values = record { ending = ending; values = values }
+
+-- no value is the empty one, and the order of values tells
+abbrev ways : List RunEnd
+ways =
+    left (End 0) (Some (codes "a") ∷ None ∷ []) ∷ left (End 1) (Some (codes "a") ∷ None ∷ []) ∷ left (End 0) (Some (codes "b") ∷ None ∷ [])
+    ∷ left (End 0) (Some (codes "a") ∷ Some [] ∷ []) ∷ left (End 0) (None ∷ Some (codes "a") ∷ []) ∷ left (End 0) (Some (codes "a") ∷ []) ∷ left (End 0) [] ∷ []
+
+abbrev only_way : ℕ → List Bool
+only_way n = map (nat_eq n) (0 ∷ 1 ∷ 2 ∷ 3 ∷ 4 ∷ 5 ∷ 6 ∷ [])
+
+each_way_equals_itself : map (λ e. map (end_eq e) ways) ways ≡ map only_way (0 ∷ 1 ∷ 2 ∷ 3 ∷ 4 ∷ 5 ∷ 6 ∷ [])
+each_way_equals_itself = refl
+
 -- ---- words
 
 failures_counted : map failures ([] ∷ (Success ∷ []) ∷ (Failure ∷ []) ∷ (Failure ∷ Success ∷ Failure ∷ []) ∷ []) ≡ 0 ∷ 0 ∷ 1 ∷ 2 ∷ []
@@ -131,8 +174,11 @@ fewer_of_as_many = refl
 
 -- ---- rows
 
+abbrev bare : Ending → RunEnd
+bare ending = record { ending = ending; values = [] }
+
 abbrev row : Ending → ℕ → OutcomeWord → OutcomeWord → Row
-row ending count word fewest = record { ending = ending; count = count; word = word; fewest = fewest }
+row ending count word fewest = record { run_end = bare ending; count = count; word = word; fewest = fewest }
 
 -- the counts are added, the first word stays, and the word with fewer failures is taken
 joined_row : with_further (row (End 3) 2 (Failure ∷ Failure ∷ []) (Success ∷ Failure ∷ [])) (row (End 3) 5 (Failure ∷ []) []) ≡ row (End 3) 7 (Failure ∷ Failure ∷ []) []
@@ -147,7 +193,7 @@ row_at_its_place : with_row (row (End 0) 2 [] [] ∷ row Size 3 [] [] ∷ []) (r
 row_at_its_place = refl
 
 -- four runs, in their order
-gathered : gather ((End 1, Success ∷ []) ∷ (End 0, Failure ∷ Success ∷ []) ∷ (End 1, Failure ∷ Failure ∷ Success ∷ []) ∷ (End 0, Failure ∷ Failure ∷ Failure ∷ []) ∷ []) ≡ row (End 1) 2 (Success ∷ []) (Success ∷ []) ∷ row (End 0) 2 (Failure ∷ Success ∷ []) (Failure ∷ Success ∷ []) ∷ []
+gathered : gather ((bare (End 1), Success ∷ []) ∷ (bare (End 0), Failure ∷ Success ∷ []) ∷ (bare (End 1), Failure ∷ Failure ∷ Success ∷ []) ∷ (bare (End 0), Failure ∷ Failure ∷ Failure ∷ []) ∷ []) ≡ row (End 1) 2 (Success ∷ []) (Success ∷ []) ∷ row (End 0) 2 (Failure ∷ Success ∷ []) (Failure ∷ Success ∷ []) ∷ []
 gathered = refl
 
 -- both sides of a device command: the counts of both are added; the first word is from the success; the word with the
@@ -174,7 +220,7 @@ too_great_together = refl
 -- ---- lines
 
 -- two commands fail for the first ending, and none for the second
-lines_of_rows : endings_text (λ w. elim w [ [] ↦ [] | d ∷ v ↦ (codes "load" ∷ codes "a b" ∷ []) ∷ (codes "b" ∷ []) ∷ [] ]) (row (Booted (codes "go")) 3 (Success ∷ Failure ∷ []) [] ∷ row (Syntax (codes "b")) 1 (Failure ∷ []) (Failure ∷ []) ∷ []) 4 17 ≡ codes "ends 3 first 01 fewest 0 . booted go\nends 1 first 1 fewest 1 1 stop syntax b\nfails load a\\x20b\nfails b\nall 4 states 17\n"
+lines_of_rows : endings_text [] (λ w. elim w [ [] ↦ [] | d ∷ v ↦ (codes "load" ∷ codes "a b" ∷ []) ∷ (codes "b" ∷ []) ∷ [] ]) (row (Booted (codes "go")) 3 (Success ∷ Failure ∷ []) [] ∷ row (Syntax (codes "b")) 1 (Failure ∷ []) (Failure ∷ []) ∷ []) 4 17 ≡ codes "ends 3 first 01 fewest 0 . booted go\nends 1 first 1 fewest 1 1 stop syntax b\nfails load a\\x20b\nfails b\nall 4 states 17\n"
 unfolding digits
 lines_of_rows = refl
 

@@ -3,20 +3,20 @@ use Rattle.std.proofs.Common.{ℕ, ◌+◌, ◌<◌, ◌≤◌, Bool, cond, List
 use Rattle.std.proofs.lemmas.Bool.{le-leb, lt-leb}
 use Rattle.std.proofs.lemmas.List.{reverse-append}
 use Rattle.rehearse_terms.specs.Outcomes.{OutcomeWord, Success, Failure, failures}
-use Rattle.rehearse_rules.specs.Execution.{Ending, outcome_when}
-use Rattle.rehearse_states.specs.Endings.{Row, fewer}
+use Rattle.rehearse_rules.specs.Execution.{outcome_when}
+use Rattle.rehearse_states.specs.Endings.{RunEnd, Row, fewer}
 
-abbrev row_with : Ending → ℕ → (word fewest : List Bool) → Row
+abbrev row_with : RunEnd → ℕ → (word fewest : List Bool) → Row
 row_with e n word fewest = record {
-  ending = e;
+  run_end = e;
   count = n;
   word = reverse (map outcome_when word);
   fewest = reverse (map outcome_when fewest);
 }
 
-pub row_same : (e e' : Ending) (n : ℕ) (v v' w w' : List Bool) → e ≡ e' → v ≡ v' → w ≡ w' → row_with e n v w ≡ row_with e' n v' w'
+pub row_same : (e e' : RunEnd) (n : ℕ) (v v' w w' : List Bool) → e ≡ e' → v ≡ v' → w ≡ w' → row_with e n v w ≡ row_with e' n v' w'
 row_same e e' n v v' w w' h k l =
-    ap (λ (x : Ending). row_with x n v w) h ∙ ap (λ (x : List Bool). row_with e' n x w) k ∙ ap (λ (x : List Bool). row_with e' n v' x) l
+    ap (λ (x : RunEnd). row_with x n v w) h ∙ ap (λ (x : List Bool). row_with e' n x w) k ∙ ap (λ (x : List Bool). row_with e' n v' x) l
 
 -- ---- failures
 

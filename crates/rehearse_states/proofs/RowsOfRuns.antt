@@ -1,13 +1,14 @@
 -- Rows of lists of runs: of two lists, of runs after one outcome, of both sides of a device command.
-use Rattle.std.proofs.Common.{ℕ, zero, suc, Bool, true, false, cond, ◌||◌, List, [], ◌∷◌, ◌++◌, map, filter, refl, sym, ap, subst, ◌∙◌, ◌≡◌, inl, inr, arith, ◌+◌, nat_le, eqb-true, eq-eqb}
+use Rattle.std.proofs.Common.{ℕ, zero, suc, Bool, true, false, cond, ◌||◌, ◌&&◌, Option, Some, None, List, [], ◌∷◌, ◌++◌, map, filter, refl, sym, ap, subst, ◌∙◌, ◌≡◌, inl, inr, arith, ◌+◌, nat_le, eqb-true, eq-eqb}
 use Rattle.std.proofs.lemmas.Bool.{le-leb, lt-leb, leb-true, leb-false}
 use Rattle.std.proofs.lemmas.List.{map-append}
 use Rattle.std.proofs.lemmas.List.Elements.{filter-append}
 use Rattle.std.proofs.lemmas.Slice.Eq.{bytes_eq-Decides}
 use Rattle.std.specs.List.{list_any}
 use Rattle.rehearse_terms.specs.Outcomes.{OutcomeWord, Outcome, Success, Failure, WordKind, Run, Short, Long, is_run_kind, words, beyond, runs_within, IsChoice, failures}
+use Rattle.rehearse_terms.specs.State.{Text}
 use Rattle.rehearse_rules.specs.Execution.{Ending, End, CutDevices, CutSteps, Unknown, Syntax, Unsupported, Size, Booted}
-use Rattle.rehearse_states.specs.Endings.{ending_eq, fewer, Row, joined, with_row, merge, one_run, gather, rows_within, in_front, of_both, HasRows, ends, asks}
+use Rattle.rehearse_states.specs.Endings.{ending_eq, RunEnd, value_eq, values_eq, end_eq, fewer, Row, joined, with_row, merge, one_run, gather, rows_within, in_front, of_both, HasRows, ends, asks}
 
 -- ---- endings
 
@@ -87,6 +88,53 @@ ending_itself (Unsupported a) = (bytes_eq-Decides a a).1 refl
 ending_itself Size = refl
 ending_itself (Booted a) = (bytes_eq-Decides a a).1 refl
 
+-- ---- how runs end
+
+value_same : (a b : Option Text) → value_eq a b ≡ true → a ≡ b
+value_same None None h = refl
+value_same None (Some b) h = absurd (let f = h in cc)
+value_same (Some a) None h = absurd (let f = h in cc)
+value_same (Some a) (Some b) h = ap Some ((bytes_eq-Decides a b).0 h)
+
+value_itself : (a : Option Text) → value_eq a a ≡ true
+value_itself None = refl
+value_itself (Some a) = (bytes_eq-Decides a a).1 refl
+
+both_left : (a b : Bool) → (a && b) ≡ true → a ≡ true
+both_left true b h = refl
+both_left false b h = absurd (let f = h in cc)
+
+both_right : (a b : Bool) → (a && b) ≡ true → b ≡ true
+both_right true b h = h
+both_right false b h = absurd (let f = h in cc)
+
+both_true : (a b : Bool) → a ≡ true → b ≡ true → (a && b) ≡ true
+both_true true b h k = k
+both_true false b h k = absurd (let f = h in cc)
+
+values_same : (a b : List (Option Text)) → values_eq a b ≡ true → a ≡ b
+values_same [] [] h = refl
+values_same [] (y ∷ b) h = absurd (let f = h in cc)
+values_same (x ∷ a) [] h = absurd (let f = h in cc)
+values_same (x ∷ a) (y ∷ b) h =
+    ap (λ (v : Option Text). v ∷ a) (value_same x y (both_left (value_eq x y) (values_eq a b) h))
+    ∙ ap (λ (vs : List (Option Text)). y ∷ vs) (values_same a b (both_right (value_eq x y) (values_eq a b) h))
+
+values_itself : (a : List (Option Text)) → values_eq a a ≡ true
+values_itself [] = refl
+values_itself (x ∷ a) = both_true (value_eq x x) (values_eq a a) (value_itself x) (values_itself a)
+
+abbrev made_end : Ending → List (Option Text) → RunEnd
+made_end ending values = record { ending = ending; values = values }
+
+pub end_same : (a b : RunEnd) → end_eq a b ≡ true → a ≡ b
+end_same a b h =
+    ap (λ (e : Ending). made_end e a.values) (ending_same a.ending b.ending (both_left (ending_eq a.ending b.ending) (values_eq a.values b.values) h))
+    ∙ ap (made_end b.ending) (values_same a.values b.values (both_right (ending_eq a.ending b.ending) (values_eq a.values b.values) h))
+
+pub end_itself : (a : RunEnd) → end_eq a a ≡ true
+end_itself a = both_true (ending_eq a.ending a.ending) (values_eq a.values a.values) (ending_itself a.ending) (values_itself a.values)
+
 -- ---- rows
 
 -- what `with_row` does to the first row
@@ -94,42 +142,42 @@ abbrev pub row_if : Bool → Row → List Row → Row → List Row
 row_if b r rs row = elim b [ true ↦ joined r row ∷ rs | false ↦ r ∷ with_row rs row ]
 
 -- rows have this ending
-abbrev pub Stands : Ending → List Row → Type 0
-Stands e rows = list_any (λ r. ending_eq r.ending e) rows ≡ true
+abbrev pub Stands : RunEnd → List Row → Type 0
+Stands e rows = list_any (λ r. end_eq r.run_end e) rows ≡ true
 
-stands_if : (b c : Bool) (e : Ending) (r : Row) (rs : List Row) (row : Row) → ending_eq r.ending e ≡ c → (list_any (λ q. ending_eq q.ending e) rs ≡ true → list_any (λ q. ending_eq q.ending e) (with_row rs row) ≡ true) → (c || list_any (λ q. ending_eq q.ending e) rs) ≡ true → list_any (λ q. ending_eq q.ending e) (row_if b r rs row) ≡ true
-stands_if true c e r rs row k ih h = ap (λ (x : Bool). x || list_any (λ q. ending_eq q.ending e) rs) k ∙ h
-stands_if false true e r rs row k ih h = ap (λ (x : Bool). x || list_any (λ q. ending_eq q.ending e) (with_row rs row)) k
-stands_if false false e r rs row k ih h = ap (λ (x : Bool). x || list_any (λ q. ending_eq q.ending e) (with_row rs row)) k ∙ ih h
+stands_if : (b c : Bool) (e : RunEnd) (r : Row) (rs : List Row) (row : Row) → end_eq r.run_end e ≡ c → (list_any (λ q. end_eq q.run_end e) rs ≡ true → list_any (λ q. end_eq q.run_end e) (with_row rs row) ≡ true) → (c || list_any (λ q. end_eq q.run_end e) rs) ≡ true → list_any (λ q. end_eq q.run_end e) (row_if b r rs row) ≡ true
+stands_if true c e r rs row k ih h = ap (λ (x : Bool). x || list_any (λ q. end_eq q.run_end e) rs) k ∙ h
+stands_if false true e r rs row k ih h = ap (λ (x : Bool). x || list_any (λ q. end_eq q.run_end e) (with_row rs row)) k
+stands_if false false e r rs row k ih h = ap (λ (x : Bool). x || list_any (λ q. end_eq q.run_end e) (with_row rs row)) k ∙ ih h
 
 -- an ending that rows have stays in them
-pub stands_on : (e : Ending) (rs : List Row) (row : Row) → Stands e rs → Stands e (with_row rs row)
+pub stands_on : (e : RunEnd) (rs : List Row) (row : Row) → Stands e rs → Stands e (with_row rs row)
 stands_on e [] row h = absurd (let f = h in cc)
-stands_on e (r ∷ rs) row h = stands_if (ending_eq r.ending row.ending) (ending_eq r.ending e) e r rs row refl (λ k. stands_on e rs row k) h
+stands_on e (r ∷ rs) row h = stands_if (end_eq r.run_end row.run_end) (end_eq r.run_end e) e r rs row refl (λ k. stands_on e rs row k) h
 
 or_true : (a b : Bool) → b ≡ true → (a || b) ≡ true
 or_true true b h = refl
 or_true false b h = h
 
-stands_new_if : (b : Bool) (e : Ending) (r : Row) (rs : List Row) (row : Row) → ending_eq r.ending row.ending ≡ b → row.ending ≡ e → list_any (λ q. ending_eq q.ending e) (with_row rs row) ≡ true → list_any (λ q. ending_eq q.ending e) (row_if b r rs row) ≡ true
-stands_new_if true e r rs row k same h = ap (λ (x : Bool). x || list_any (λ q. ending_eq q.ending e) rs) (sym (ap (λ (x : Ending). ending_eq r.ending x) same) ∙ k)
-stands_new_if false e r rs row k same h = or_true (ending_eq r.ending e) (list_any (λ q. ending_eq q.ending e) (with_row rs row)) h
+stands_new_if : (b : Bool) (e : RunEnd) (r : Row) (rs : List Row) (row : Row) → end_eq r.run_end row.run_end ≡ b → row.run_end ≡ e → list_any (λ q. end_eq q.run_end e) (with_row rs row) ≡ true → list_any (λ q. end_eq q.run_end e) (row_if b r rs row) ≡ true
+stands_new_if true e r rs row k same h = ap (λ (x : Bool). x || list_any (λ q. end_eq q.run_end e) rs) (sym (ap (λ (x : RunEnd). end_eq r.run_end x) same) ∙ k)
+stands_new_if false e r rs row k same h = or_true (end_eq r.run_end e) (list_any (λ q. end_eq q.run_end e) (with_row rs row)) h
 
 -- the ending of a row that was put is in the rows
-pub stands_new : (e : Ending) (rs : List Row) (row : Row) → row.ending ≡ e → Stands e (with_row rs row)
-stands_new e [] row same = ap (λ (x : Bool). x || false) (ap (λ (x : Ending). ending_eq x e) same ∙ ending_itself e)
-stands_new e (r ∷ rs) row same = stands_new_if (ending_eq r.ending row.ending) e r rs row refl same (stands_new e rs row same)
+pub stands_new : (e : RunEnd) (rs : List Row) (row : Row) → row.run_end ≡ e → Stands e (with_row rs row)
+stands_new e [] row same = ap (λ (x : Bool). x || false) (ap (λ (x : RunEnd). end_eq x e) same ∙ end_itself e)
+stands_new e (r ∷ rs) row same = stands_new_if (end_eq r.run_end row.run_end) e r rs row refl same (stands_new e rs row same)
 
 -- ---- rows with other endings
 
 -- rows do not have this ending
-abbrev pub Misses : Ending → List Row → Type 0
-Misses e rows = list_any (λ r. ending_eq r.ending e) rows ≡ false
+abbrev pub Misses : RunEnd → List Row → Type 0
+Misses e rows = list_any (λ r. end_eq r.run_end e) rows ≡ false
 
 -- no two rows have the same ending
 abbrev pub AreApart : List Row → Type 0
 AreApart [] = Unit {0}
-AreApart (r ∷ rs) = Misses r.ending rs × AreApart rs
+AreApart (r ∷ rs) = Misses r.run_end rs × AreApart rs
 
 pub either_left : (a b : Bool) → (a || b) ≡ false → a ≡ false
 either_left true b h = absurd (let f = h in cc)
@@ -143,29 +191,29 @@ pub neither : (a b : Bool) → a ≡ false → b ≡ false → (a || b) ≡ fals
 neither true b h k = absurd (let f = h in cc)
 neither false b h k = k
 
-other_way_if : (b : Bool) (x y : Ending) → ending_eq x y ≡ false → ending_eq y x ≡ b → ending_eq y x ≡ false
-other_way_if true x y h k = absurd (let e : ending_eq x y ≡ true = ap (λ (z : Ending). ending_eq x z) (ending_same y x k) ∙ ending_itself x in cc)
+other_way_if : (b : Bool) (x y : RunEnd) → end_eq x y ≡ false → end_eq y x ≡ b → end_eq y x ≡ false
+other_way_if true x y h k = absurd (let e : end_eq x y ≡ true = ap (λ (z : RunEnd). end_eq x z) (end_same y x k) ∙ end_itself x in cc)
 other_way_if false x y h k = k
 
-other_way : (x y : Ending) → ending_eq x y ≡ false → ending_eq y x ≡ false
-other_way x y h = other_way_if (ending_eq y x) x y h refl
+other_way : (x y : RunEnd) → end_eq x y ≡ false → end_eq y x ≡ false
+other_way x y h = other_way_if (end_eq y x) x y h refl
 
-misses_if : (b : Bool) (e : Ending) (r : Row) (rs : List Row) (u : Row) → ending_eq u.ending e ≡ false → Misses e (r ∷ rs) → Misses e (with_row rs u) → Misses e (row_if b r rs u)
+misses_if : (b : Bool) (e : RunEnd) (r : Row) (rs : List Row) (u : Row) → end_eq u.run_end e ≡ false → Misses e (r ∷ rs) → Misses e (with_row rs u) → Misses e (row_if b r rs u)
 misses_if true e r rs u k h l = h
-misses_if false e r rs u k h l = neither (ending_eq r.ending e) (list_any (λ q. ending_eq q.ending e) (with_row rs u)) (either_left (ending_eq r.ending e) (list_any (λ q. ending_eq q.ending e) rs) h) l
+misses_if false e r rs u k h l = neither (end_eq r.run_end e) (list_any (λ q. end_eq q.run_end e) (with_row rs u)) (either_left (end_eq r.run_end e) (list_any (λ q. end_eq q.run_end e) rs) h) l
 
-misses_on : (e : Ending) (rs : List Row) (u : Row) → ending_eq u.ending e ≡ false → Misses e rs → Misses e (with_row rs u)
-misses_on e [] u k h = neither (ending_eq u.ending e) false k refl
-misses_on e (r ∷ rs) u k h = misses_if (ending_eq r.ending u.ending) e r rs u k h (misses_on e rs u k (either_right (ending_eq r.ending e) (list_any (λ q. ending_eq q.ending e) rs) h))
+misses_on : (e : RunEnd) (rs : List Row) (u : Row) → end_eq u.run_end e ≡ false → Misses e rs → Misses e (with_row rs u)
+misses_on e [] u k h = neither (end_eq u.run_end e) false k refl
+misses_on e (r ∷ rs) u k h = misses_if (end_eq r.run_end u.run_end) e r rs u k h (misses_on e rs u k (either_right (end_eq r.run_end e) (list_any (λ q. end_eq q.run_end e) rs) h))
 
-apart_if : (b : Bool) (r : Row) (rs : List Row) (u : Row) → ending_eq r.ending u.ending ≡ b → AreApart (r ∷ rs) → AreApart (with_row rs u) → AreApart (row_if b r rs u)
+apart_if : (b : Bool) (r : Row) (rs : List Row) (u : Row) → end_eq r.run_end u.run_end ≡ b → AreApart (r ∷ rs) → AreApart (with_row rs u) → AreApart (row_if b r rs u)
 apart_if true r rs u k h l = h
-apart_if false r rs u k h l = (misses_on r.ending rs u (other_way r.ending u.ending k) h.0, l)
+apart_if false r rs u k h l = (misses_on r.run_end rs u (other_way r.run_end u.run_end k) h.0, l)
 
 -- no two rows get the same ending
 pub apart_on : (rs : List Row) (u : Row) → AreApart rs → AreApart (with_row rs u)
 apart_on [] u h = (refl, tt)
-apart_on (r ∷ rs) u h = apart_if (ending_eq r.ending u.ending) r rs u refl h (apart_on rs u h.1)
+apart_on (r ∷ rs) u h = apart_if (end_eq r.run_end u.run_end) r rs u refl h (apart_on rs u h.1)
 
 -- ---- the word with the fewest failures
 
@@ -204,8 +252,8 @@ joined_assoc r t u =
 -- ---- rows that are put
 
 -- rows of two endings, put in either order
-swap_if : (a b : Bool) (r : Row) (rs : List Row) (v u : Row) → ending_eq v.ending u.ending ≡ false → ending_eq r.ending v.ending ≡ a → ending_eq r.ending u.ending ≡ b → (b ≡ false → with_row (with_row rs v) u ≡ with_row (with_row rs u) v) → with_row (row_if a r rs v) u ≡ with_row (row_if b r rs u) v
-swap_if true true r rs v u d j k h = absurd (let e = sym (sym (ap (λ (x : Ending). ending_eq x u.ending) (ending_same r.ending v.ending j)) ∙ k) ∙ d in cc)
+swap_if : (a b : Bool) (r : Row) (rs : List Row) (v u : Row) → end_eq v.run_end u.run_end ≡ false → end_eq r.run_end v.run_end ≡ a → end_eq r.run_end u.run_end ≡ b → (b ≡ false → with_row (with_row rs v) u ≡ with_row (with_row rs u) v) → with_row (row_if a r rs v) u ≡ with_row (row_if b r rs u) v
+swap_if true true r rs v u d j k h = absurd (let e = sym (sym (ap (λ (x : RunEnd). end_eq x u.run_end) (end_same r.run_end v.run_end j)) ∙ k) ∙ d in cc)
 swap_if true false r rs v u d j k h =
     ap (λ (x : Bool). row_if x (joined r v) rs u) k
     ∙ sym (ap (λ (x : Bool). row_if x r (with_row rs u) v) j)
@@ -221,40 +269,40 @@ later_stands : (b c : Bool) → b ≡ false → (b || c) ≡ true → c ≡ true
 later_stands true c e h = absurd (let f = e in cc)
 later_stands false c e h = h
 
-swap : (rs : List Row) (v u : Row) → ending_eq v.ending u.ending ≡ false → Stands u.ending rs → with_row (with_row rs v) u ≡ with_row (with_row rs u) v
+swap : (rs : List Row) (v u : Row) → end_eq v.run_end u.run_end ≡ false → Stands u.run_end rs → with_row (with_row rs v) u ≡ with_row (with_row rs u) v
 swap [] v u d h = absurd (let f = h in cc)
-swap (r ∷ rs) v u d h = swap_if (ending_eq r.ending v.ending) (ending_eq r.ending u.ending) r rs v u d refl refl (λ k. swap rs v u d (later_stands (ending_eq r.ending u.ending) (list_any (λ q. ending_eq q.ending u.ending) rs) k h))
+swap (r ∷ rs) v u d h = swap_if (end_eq r.run_end v.run_end) (end_eq r.run_end u.run_end) r rs v u d refl refl (λ k. swap rs v u d (later_stands (end_eq r.run_end u.run_end) (list_any (λ q. end_eq q.run_end u.run_end) rs) k h))
 
 -- a row whose ending is there may be put before the rows with other endings
-put_first : (qs ts : List Row) (u : Row) → Misses u.ending ts → Stands u.ending qs → with_row (merge qs ts) u ≡ merge (with_row qs u) ts
+put_first : (qs ts : List Row) (u : Row) → Misses u.run_end ts → Stands u.run_end qs → with_row (merge qs ts) u ≡ merge (with_row qs u) ts
 put_first qs [] u d h = refl
 put_first qs (v ∷ vs) u d h =
-    put_first (with_row qs v) vs u (either_right (ending_eq v.ending u.ending) (list_any (λ q. ending_eq q.ending u.ending) vs) d) (stands_on u.ending qs v h)
-    ∙ ap (λ (x : List Row). merge x vs) (swap qs v u (either_left (ending_eq v.ending u.ending) (list_any (λ q. ending_eq q.ending u.ending) vs) d) h)
+    put_first (with_row qs v) vs u (either_right (end_eq v.run_end u.run_end) (list_any (λ q. end_eq q.run_end u.run_end) vs) d) (stands_on u.run_end qs v h)
+    ∙ ap (λ (x : List Row). merge x vs) (swap qs v u (either_left (end_eq v.run_end u.run_end) (list_any (λ q. end_eq q.run_end u.run_end) vs) d) h)
 
 -- two rows of one ending
-twice_if : (a : Bool) (r : Row) (rs : List Row) (t u : Row) → ending_eq r.ending t.ending ≡ a → t.ending ≡ u.ending → with_row (with_row rs t) u ≡ with_row rs (joined t u) → with_row (row_if a r rs t) u ≡ row_if a r rs (joined t u)
+twice_if : (a : Bool) (r : Row) (rs : List Row) (t u : Row) → end_eq r.run_end t.run_end ≡ a → t.run_end ≡ u.run_end → with_row (with_row rs t) u ≡ with_row rs (joined t u) → with_row (row_if a r rs t) u ≡ row_if a r rs (joined t u)
 twice_if true r rs t u k same h =
-    ap (λ (x : Bool). row_if x (joined r t) rs u) (sym (ap (λ (x : Ending). ending_eq r.ending x) same) ∙ k)
+    ap (λ (x : Bool). row_if x (joined r t) rs u) (sym (ap (λ (x : RunEnd). end_eq r.run_end x) same) ∙ k)
     ∙ ap (λ (x : Row). x ∷ rs) (joined_assoc r t u)
 twice_if false r rs t u k same h =
-    ap (λ (x : Bool). row_if x r (with_row rs t) u) (sym (ap (λ (x : Ending). ending_eq r.ending x) same) ∙ k)
+    ap (λ (x : Bool). row_if x r (with_row rs t) u) (sym (ap (λ (x : RunEnd). end_eq r.run_end x) same) ∙ k)
     ∙ ap (λ (x : List Row). r ∷ x) h
 
-twice : (rs : List Row) (t u : Row) → t.ending ≡ u.ending → with_row (with_row rs t) u ≡ with_row rs (joined t u)
-twice [] t u same = ap (λ (x : Bool). row_if x t [] u) (sym (ap (λ (x : Ending). ending_eq t.ending x) same) ∙ ending_itself t.ending)
-twice (r ∷ rs) t u same = twice_if (ending_eq r.ending t.ending) r rs t u refl same (twice rs t u same)
+twice : (rs : List Row) (t u : Row) → t.run_end ≡ u.run_end → with_row (with_row rs t) u ≡ with_row rs (joined t u)
+twice [] t u same = ap (λ (x : Bool). row_if x t [] u) (sym (ap (λ (x : RunEnd). end_eq t.run_end x) same) ∙ end_itself t.run_end)
+twice (r ∷ rs) t u same = twice_if (end_eq r.run_end t.run_end) r rs t u refl same (twice rs t u same)
 
 -- a row put into rows that are then merged
-put_later_if : (a : Bool) (rs : List Row) (t : Row) (ts : List Row) (u : Row) → Misses t.ending ts → ending_eq t.ending u.ending ≡ a → ((qs : List Row) → merge qs (with_row ts u) ≡ with_row (merge qs ts) u) → merge rs (row_if a t ts u) ≡ with_row (merge (with_row rs t) ts) u
+put_later_if : (a : Bool) (rs : List Row) (t : Row) (ts : List Row) (u : Row) → Misses t.run_end ts → end_eq t.run_end u.run_end ≡ a → ((qs : List Row) → merge qs (with_row ts u) ≡ with_row (merge qs ts) u) → merge rs (row_if a t ts u) ≡ with_row (merge (with_row rs t) ts) u
 put_later_if true rs t ts u d k h =
-    let same : t.ending ≡ u.ending = ending_same t.ending u.ending k in
-    ap (λ (x : List Row). merge x ts) (sym (twice rs t u same)) ∙ sym (put_first (with_row rs t) ts u (subst (λ (e : Ending). Misses e ts) same d) (stands_new u.ending rs t same))
+    let same : t.run_end ≡ u.run_end = end_same t.run_end u.run_end k in
+    ap (λ (x : List Row). merge x ts) (sym (twice rs t u same)) ∙ sym (put_first (with_row rs t) ts u (subst (λ (e : RunEnd). Misses e ts) same d) (stands_new u.run_end rs t same))
 put_later_if false rs t ts u d k h = h (with_row rs t)
 
 put_later : (rs ts : List Row) (u : Row) → AreApart ts → merge rs (with_row ts u) ≡ with_row (merge rs ts) u
 put_later rs [] u d = refl
-put_later rs (t ∷ ts) u d = put_later_if (ending_eq t.ending u.ending) rs t ts u d.0 refl (λ qs. put_later qs ts u d.1)
+put_later rs (t ∷ ts) u d = put_later_if (end_eq t.run_end u.run_end) rs t ts u d.0 refl (λ qs. put_later qs ts u d.1)
 
 pub merge_assoc : (rs ts us : List Row) → AreApart ts → merge rs (merge ts us) ≡ merge (merge rs ts) us
 merge_assoc rs ts [] d = refl
@@ -265,7 +313,7 @@ merge_append rs [] us = refl
 merge_append rs (t ∷ ts) us = merge_append (with_row rs t) ts us
 
 -- the law of two lists of runs
-pub gather_append : (xs ys : List (Ending × OutcomeWord)) → gather (xs ++ ys) ≡ merge (gather xs) (gather ys)
+pub gather_append : (xs ys : List (RunEnd × OutcomeWord)) → gather (xs ++ ys) ≡ merge (gather xs) (gather ys)
 gather_append xs ys =
     ap (λ (x : List Row). merge [] x) (map-append one_run xs ys)
     ∙ merge_append [] (map one_run xs) (map one_run ys)
@@ -280,17 +328,17 @@ put_behind_if false d r rs row h = ap (λ (x : List Row). in_front d r ∷ x) h
 
 put_behind : (d : Outcome) (rs : List Row) (row : Row) → map (in_front d) (with_row rs row) ≡ with_row (map (in_front d) rs) (in_front d row)
 put_behind d [] row = refl
-put_behind d (r ∷ rs) row = put_behind_if (ending_eq r.ending row.ending) d r rs row (put_behind d rs row)
+put_behind d (r ∷ rs) row = put_behind_if (end_eq r.run_end row.run_end) d r rs row (put_behind d rs row)
 
 pub merge_behind : (d : Outcome) (rs ts : List Row) → map (in_front d) (merge rs ts) ≡ merge (map (in_front d) rs) (map (in_front d) ts)
 merge_behind d rs [] = refl
 merge_behind d rs (t ∷ ts) = merge_behind d (with_row rs t) ts ∙ ap (λ (x : List Row). merge x (map (in_front d) ts)) (put_behind d rs t)
 
-singles_behind : (d : Outcome) (ending : OutcomeWord → Ending) (ws : List OutcomeWord) → map one_run (map (λ w. (ending w, w)) (map (λ w. d ∷ w) ws)) ≡ map (in_front d) (map one_run (map (λ w. (ending (d ∷ w), w)) ws))
+singles_behind : (d : Outcome) (ending : OutcomeWord → RunEnd) (ws : List OutcomeWord) → map one_run (map (λ w. (ending w, w)) (map (λ w. d ∷ w) ws)) ≡ map (in_front d) (map one_run (map (λ w. (ending (d ∷ w), w)) ws))
 singles_behind d ending [] = refl
 singles_behind d ending (w ∷ ws) = ap (λ (x : List Row). one_run (ending (d ∷ w), d ∷ w) ∷ x) (singles_behind d ending ws)
 
-pub gather_behind : (d : Outcome) (ending : OutcomeWord → Ending) (ws : List OutcomeWord) → gather (map (λ w. (ending w, w)) (map (λ w. d ∷ w) ws)) ≡ map (in_front d) (gather (map (λ w. (ending (d ∷ w), w)) ws))
+pub gather_behind : (d : Outcome) (ending : OutcomeWord → RunEnd) (ws : List OutcomeWord) → gather (map (λ w. (ending w, w)) (map (λ w. d ∷ w) ws)) ≡ map (in_front d) (gather (map (λ w. (ending (d ∷ w), w)) ws))
 gather_behind d ending ws = ap (merge []) (singles_behind d ending ws) ∙ sym (merge_behind d [] (map one_run (map (λ w. (ending (d ∷ w), w)) ws)))
 
 -- ---- both sides of a device command
@@ -339,11 +387,11 @@ runs_here kind (suc n) here others = rw here (ap (λ (l : List OutcomeWord). [] 
 runs_past : (kind : Kinds) (n : ℕ) → kind [] ≡ Short → runs_within kind (suc n) ≡ behind kind n Success ++ behind kind n Failure
 runs_past kind n asked = rw asked (both_is kind n)
 
-shown : (OutcomeWord → Ending) → OutcomeWord → Ending × OutcomeWord
+shown : (OutcomeWord → RunEnd) → OutcomeWord → RunEnd × OutcomeWord
 shown ending w = (ending w, w)
 
 -- the law of both sides
-pub rows_past : (kind : Kinds) (ending : OutcomeWord → Ending) (n : ℕ) → kind [] ≡ Short → rows_within kind ending (suc n) ≡ of_both (rows_within (beyond Success kind) (λ w. ending (Success ∷ w)) n) (rows_within (beyond Failure kind) (λ w. ending (Failure ∷ w)) n)
+pub rows_past : (kind : Kinds) (ending : OutcomeWord → RunEnd) (n : ℕ) → kind [] ≡ Short → rows_within kind ending (suc n) ≡ of_both (rows_within (beyond Success kind) (λ w. ending (Success ∷ w)) n) (rows_within (beyond Failure kind) (λ w. ending (Failure ∷ w)) n)
 unfolding behind
 rows_past kind ending n asked =
     ap (λ (ws : List OutcomeWord). gather (map (λ w. (ending w, w)) ws)) (runs_past kind n asked)
@@ -352,11 +400,11 @@ rows_past kind ending n asked =
     ∙ ap (λ (x : List Row). merge x (gather (map (λ w. (ending w, w)) (behind kind n Failure)))) (gather_behind Success ending (runs_within (beyond Success kind) n))
     ∙ ap (λ (x : List Row). merge (map (in_front Success) (rows_within (beyond Success kind) (λ w. ending (Success ∷ w)) n)) x) (gather_behind Failure ending (runs_within (beyond Failure kind) n))
 
-pub rows_here : (kind : Kinds) (ending : OutcomeWord → Ending) (n : ℕ) → kind [] ≡ Run → ((d : Outcome) (w : OutcomeWord) → kind (d ∷ w) ≡ Long) → rows_within kind ending n ≡ one_run (ending [], []) ∷ []
+pub rows_here : (kind : Kinds) (ending : OutcomeWord → RunEnd) (n : ℕ) → kind [] ≡ Run → ((d : Outcome) (w : OutcomeWord) → kind (d ∷ w) ≡ Long) → rows_within kind ending n ≡ one_run (ending [], []) ∷ []
 rows_here kind ending n here others = ap (λ (ws : List OutcomeWord). gather (map (λ w. (ending w, w)) ws)) (runs_here kind n here others)
 
 -- rows that are made from the ends are the rows
-pub are_rows : (kind : Kinds) (ending : OutcomeWord → Ending) (rows : List Row) (n : ℕ) → HasRows kind ending rows → IsChoice n kind → rows ≡ rows_within kind ending n
+pub are_rows : (kind : Kinds) (ending : OutcomeWord → RunEnd) (rows : List Row) (n : ℕ) → HasRows kind ending rows → IsChoice n kind → rows ≡ rows_within kind ending n
 are_rows kind ending rows n (ends here others) c = sym (rows_here kind ending n here others)
 are_rows kind ending rows zero (asks asked w l) c = absurd (let e = c.0 in cc)
 are_rows kind ending rows (suc n) (asks asked w l) (inl c) = absurd (let e = c.0 in cc)

@@ -1,7 +1,7 @@
 -- Counts up to the greatest count.
 use Rattle.std.proofs.Common.{ℕ, ◌+◌, min, Bool, true, false, List, [], ◌∷◌, map, refl, ap, ◌∙◌, ◌≡◌, arith}
 use Rattle.rehearse_terms.specs.Outcomes.{Outcome, Success, Failure}
-use Rattle.rehearse_states.specs.Endings.{Row, ending_eq, joined, with_row, merge, in_front, of_both}
+use Rattle.rehearse_states.specs.Endings.{Row, end_eq, joined, with_row, merge, in_front, of_both}
 use Rattle.rehearse_states.specs.RowsShown.{most_runs, saturated, joined_up, with_row_up, merge_up, of_both_up}
 
 sum_up : (a b m : ℕ) → min (a + b) m ≡ min (min a m + min b m) m
@@ -19,7 +19,7 @@ put_up_if false r rs row h = ap (λ (x : List Row). saturated r ∷ x) h
 
 put_up : (rs : List Row) (row : Row) → map saturated (with_row rs row) ≡ with_row_up (map saturated rs) (saturated row)
 put_up [] row = refl
-put_up (r ∷ rs) row = put_up_if (ending_eq r.ending row.ending) r rs row (put_up rs row)
+put_up (r ∷ rs) row = put_up_if (end_eq r.run_end row.run_end) r rs row (put_up rs row)
 
 merge_is_up : (rs ts : List Row) → map saturated (merge rs ts) ≡ merge_up (map saturated rs) (map saturated ts)
 merge_is_up rs [] = refl

@@ -1,9 +1,9 @@
 -- The lines that say how runs end. Ours.
-use Rattle.std.specs.Prelude.{ℕ, ◌+◌, nat_lt, not, List, [], ◌∷◌, ◌++◌, map, filter, flat_map, codes, decimal, if◌then◌else◌}
+use Rattle.std.specs.Prelude.{ℕ, ◌+◌, nat_lt, not, List, [], ◌∷◌, ◌++◌, map, filter, flat_map, Option, Some, None, codes, decimal, if◌then◌else◌}
 use Rattle.text.specs.Escapes.{word_form}
 use Rattle.text.specs.Words.{joined_words}
 use Rattle.rehearse_terms.specs.State.{Text}
-use Rattle.rehearse_rules.specs.Listing.{spelled, line, last_line}
+use Rattle.rehearse_rules.specs.Listing.{spelled, line, variable_line, last_line}
 use Rattle.rehearse_rules.specs.Runs.{Task, run_on, state_of}
 use Rattle.rehearse_terms.specs.Outcomes.{OutcomeWord, failures}
 use Rattle.rehearse_states.specs.Endings.{Row}
@@ -39,18 +39,30 @@ count_text n = if nat_lt n most_runs then decimal n else codes ">=" ++ decimal m
 abbrev pub row_text : Row → Text
 row_text r =
     codes "ends " ++ count_text r.count ++ codes " first " ++ spelled r.word ++ codes " fewest "
-    ++ decimal (failures r.fewest) ++ codes " " ++ spelled r.fewest ++ codes " " ++ last_line r.ending
+    ++ decimal (failures r.fewest) ++ codes " " ++ spelled r.fewest ++ codes " " ++ last_line r.run_end.ending
 
 abbrev pub all_text : (runs states : ℕ) → Text
 all_text runs states = codes "all " ++ count_text runs ++ codes " states " ++ decimal states
 
--- the line of an ending, and what has to fail for it: the commands that fail in its run with the fewest failures
-abbrev pub row_lines : (fails : OutcomeWord → List (List Text)) → Row → Text
-row_lines fails r = line (row_text r) ++ fails_lines (fails r.fewest)
+-- a variable and the value that is left, as in a record
+abbrev pub value_text : (name : Text) → Option Text → Text
+value_text name (Some value) = variable_line (name, value)
+value_text name None = codes "unset " ++ word_form name
+
+-- in the order asked
+abbrev pub value_lines : (names : List Text) → List (Option Text) → Text
+value_lines [] values = []
+value_lines (name ∷ names) [] = []
+value_lines (name ∷ names) (value ∷ values) = line (value_text name value) ++ value_lines names values
+
+-- the line of an ending, the values that are left, and what has to fail for it: the commands that fail in the run with
+-- the fewest failures
+abbrev pub row_lines : (names : List Text) → (fails : OutcomeWord → List (List Text)) → Row → Text
+row_lines names fails r = line (row_text r) ++ value_lines names r.run_end.values ++ fails_lines (fails r.fewest)
 
 -- the lines of each ending, and one for all
-abbrev pub endings_text : (fails : OutcomeWord → List (List Text)) → List Row → (runs states : ℕ) → Text
-endings_text fails rows runs states = flat_map (row_lines fails) rows ++ line (all_text runs states)
+abbrev pub endings_text : (names : List Text) → (fails : OutcomeWord → List (List Text)) → List Row → (runs states : ℕ) → Text
+endings_text names fails rows runs states = flat_map (row_lines names fails) rows ++ line (all_text runs states)
 
 -- how many runs the rows count
 abbrev pub counted : List Row → ℕ

@@ -1,9 +1,11 @@
--- How all runs end: for each ending how many runs end like this, and the first of them. Ours.
-use Rattle.std.specs.Prelude.{◌≡◌, ℕ, ◌+◌, nat_eq, nat_le, Bool, true, false, cond, List, [], ◌∷◌, map}
+-- How all runs end: for each ending how many runs end like this, and the first of them. Runs that leave other values of
+-- the variables that are asked for are told apart. Ours.
+use Rattle.std.specs.Prelude.{◌≡◌, ℕ, ◌+◌, nat_eq, nat_le, Bool, true, false, cond, ◌&&◌, List, [], ◌∷◌, map, Option, Some, None}
 use Rattle.std.specs.Str.{bytes_eq}
 use Rattle.rehearse_terms.specs.Outcomes.{OutcomeWord, Outcome, Success, Failure, WordKind, Run, Short, Long, failures, runs_within, beyond}
 use Rattle.rehearse_rules.specs.Execution.{Ending, End, CutDevices, CutSteps, Unknown, Syntax, Unsupported, Size, Booted}
-use Rattle.rehearse_rules.specs.Runs.{Task, run_on, ending_of, all_runs}
+use Rattle.rehearse_terms.specs.State.{Text, Variables, get}
+use Rattle.rehearse_rules.specs.Runs.{Task, run_on, state_of, ending_of, all_runs}
 
 abbrev pub ending_eq : Ending → Ending → Bool
 ending_eq (End a) (End b) = nat_eq a b
@@ -16,13 +18,34 @@ ending_eq Size Size = true
 ending_eq (Booted a) (Booted b) = bytes_eq a b
 ending_eq _ _ = false
 
+-- how a run ends, and the values that it leaves of some variables; none for one that is not set
+pub record RunEnd : Type 0 where
+  pub ending : Ending
+  pub values : List (Option Text)
+
+abbrev pub value_eq : Option Text → Option Text → Bool
+value_eq None None = true
+value_eq None (Some b) = false
+value_eq (Some a) None = false
+value_eq (Some a) (Some b) = bytes_eq a b
+
+abbrev pub values_eq : List (Option Text) → List (Option Text) → Bool
+values_eq [] [] = true
+values_eq [] (b ∷ bs) = false
+values_eq (a ∷ others) [] = false
+values_eq (a ∷ others) (b ∷ bs) = value_eq a b && values_eq others bs
+
+-- the same ending, and the same values
+abbrev pub end_eq : RunEnd → RunEnd → Bool
+end_eq a b = ending_eq a.ending b.ending && values_eq a.values b.values
+
 -- the word with fewer failures; if they have equally many, the first
 abbrev pub fewer : OutcomeWord → OutcomeWord → OutcomeWord
 fewer v w = cond (nat_le (failures v) (failures w)) v w
 
--- an ending, how many runs have it, the word of the first of these runs, and of the first with the fewest failures
+-- how runs end, how many do, the word of the first of these runs, and of the first with the fewest failures
 pub record Row : Type 0 where
-  pub ending : Ending
+  pub run_end : RunEnd
   pub count : ℕ
   pub word : OutcomeWord
   pub fewest : OutcomeWord
@@ -31,11 +54,11 @@ pub record Row : Type 0 where
 abbrev pub joined : Row → Row → Row
 joined r row = record r { count = r.count + row.count; fewest = fewer r.fewest row.fewest }
 
--- runs with an ending that is there raise its count; another ending comes after the ones that are there
+-- runs that end as others do raise their count; others come after the ones that are there
 abbrev pub with_row : List Row → Row → List Row
 with_row [] row = row ∷ []
 with_row (r ∷ rs) row =
-    elim (ending_eq r.ending row.ending) [
+    elim (end_eq r.run_end row.run_end) [
       | true ↦ joined r row ∷ rs
       | false ↦ r ∷ with_row rs row
     ]
@@ -44,24 +67,36 @@ abbrev pub merge : List Row → List Row → List Row
 merge rows [] = rows
 merge rows (r ∷ rs) = merge (with_row rows r) rs
 
-abbrev pub one_run : Ending × OutcomeWord → Row
-one_run e = record { ending = e.0; count = 1; word = e.1; fewest = e.1 }
+abbrev pub one_run : RunEnd × OutcomeWord → Row
+one_run e = record { run_end = e.0; count = 1; word = e.1; fewest = e.1 }
 
 -- the rows of runs in their order
-abbrev pub gather : List (Ending × OutcomeWord) → List Row
+abbrev pub gather : List (RunEnd × OutcomeWord) → List Row
 gather es = merge [] (map one_run es)
 
 -- the rows of the runs among the words of at most n outcomes
-abbrev pub rows_within : (OutcomeWord → WordKind) → (OutcomeWord → Ending) → ℕ → List Row
+abbrev pub rows_within : (OutcomeWord → WordKind) → (OutcomeWord → RunEnd) → ℕ → List Row
 rows_within kind ending n = gather (map (λ w. (ending w, w)) (runs_within kind n))
 
 -- how the run on a word ends
 abbrev pub ending : Task → OutcomeWord → Ending
 ending task w = ending_of (run_on task w)
 
--- the rows of all runs of a task
-abbrev pub endings : Task → List Row
-endings task = gather (map (λ w. (ending task w, w)) (all_runs task))
+-- the values of the variables with these names, in their order
+abbrev pub values_in : Variables → (names : List Text) → List (Option Text)
+values_in environment names = map (get environment) names
+
+-- an ending, and the values that these variables have there
+abbrev pub end_with : (names : List Text) → Ending → Variables → RunEnd
+end_with names ending environment = record { ending = ending; values = values_in environment names }
+
+-- how the run on a word ends, and the values that it leaves of the variables that are asked for
+abbrev pub end_of : (names : List Text) → Task → OutcomeWord → RunEnd
+end_of names task w = end_with names (ending task w) (state_of (run_on task w)).memory.environment
+
+-- the rows of all runs of a task, with the variables that are asked for
+abbrev pub endings : (names : List Text) → Task → List Row
+endings names task = gather (map (λ w. (end_of names task w, w)) (all_runs task))
 
 -- ---- from the rows of both sides
 
@@ -73,10 +108,10 @@ abbrev pub of_both : (won lost : List Row) → List Row
 of_both won lost = merge (map (in_front Success) won) (map (in_front Failure) lost)
 
 -- rows that are built from the ends: either the run ends here, or each outcome leads on
-pub data HasRows : (OutcomeWord → WordKind) → (OutcomeWord → Ending) → List Row → Type 0 where
-  ends : {kind : OutcomeWord → WordKind} {ending : OutcomeWord → Ending} → kind [] ≡ Run →
+pub data HasRows : (OutcomeWord → WordKind) → (OutcomeWord → RunEnd) → List Row → Type 0 where
+  ends : {kind : OutcomeWord → WordKind} {ending : OutcomeWord → RunEnd} → kind [] ≡ Run →
       ((d : Outcome) (w : OutcomeWord) → kind (d ∷ w) ≡ Long) →
       HasRows kind ending (one_run (ending [], []) ∷ [])
-  asks : {kind : OutcomeWord → WordKind} {ending : OutcomeWord → Ending} {won lost : List Row} → kind [] ≡ Short →
+  asks : {kind : OutcomeWord → WordKind} {ending : OutcomeWord → RunEnd} {won lost : List Row} → kind [] ≡ Short →
       HasRows (beyond Success kind) (λ w. ending (Success ∷ w)) won →
       HasRows (beyond Failure kind) (λ w. ending (Failure ∷ w)) lost → HasRows kind ending (of_both won lost)

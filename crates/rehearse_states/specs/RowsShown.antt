@@ -1,12 +1,14 @@
 -- What contracts see of rows and summaries. Ours.
-use Rattle.std.specs.Prelude.{ℕ, ◌+◌, min, List, [], ◌∷◌, map, reverse, Bool, true, false, Vec}
+use Rattle.std.specs.Prelude.{ℕ, ◌+◌, min, List, [], ◌∷◌, map, reverse, Bool, true, false, Option, option_map, Vec}
 use Rattle.std.specs.declared.alloc.Global.{Global}
 use Rattle.rehearse_terms.specs.Outcomes.{OutcomeWord, Success, Failure}
 use Rattle.rehearse_rules.specs.EndingsShown.{halt_shown}
 use Rattle.rehearse_rules.specs.Execution.{outcome_when}
-use Rattle.rehearse_states.specs.Endings.{Row, ending_eq, fewer, in_front}
+use Rattle.rehearse_states.specs.Endings.{RunEnd, Row, end_eq, fewer, in_front}
 use Rattle.rehearse_states.specs.Summaries.{Summary}
+use Rattle.rehearse_terms.specs.State.{Text}
 use Rattle.rehearse_states.specs.declared.rows.Row as rt
+use Rattle.rehearse_states.specs.declared.run_end.RunEnd as made
 use Rattle.rehearse_states.specs.declared.summary.Summary as kept
 
 -- the greatest count; a greater one is written as this
@@ -23,7 +25,7 @@ joined_up r row = record r { count = min (r.count + row.count) most_runs; fewest
 abbrev pub with_row_up : List Row → Row → List Row
 with_row_up [] row = row ∷ []
 with_row_up (r ∷ rs) row =
-    elim (ending_eq r.ending row.ending) [
+    elim (end_eq r.run_end row.run_end) [
       | true ↦ joined_up r row ∷ rs
       | false ↦ r ∷ with_row_up rs row
     ]
@@ -39,9 +41,15 @@ of_both_up won lost = merge_up (map (in_front Success) won) (map (in_front Failu
 abbrev pub word_shown : Vec Bool Global → OutcomeWord
 word_shown v = reverse (map outcome_when v.items)
 
+abbrev pub value_shown : Option (Vec ℕ Global) → Option Text
+value_shown value = option_map (λ v. v.items) value
+
+abbrev pub run_end_shown : made.RunEnd → RunEnd
+run_end_shown e = record { ending = halt_shown e.halt; values = map value_shown e.values.items }
+
 abbrev pub row_shown : rt.Row → Row
 row_shown r = record {
-  ending = halt_shown r.halt;
+  run_end = run_end_shown r.run_end.value;
   count = r.count;
   word = word_shown r.word;
   fewest = word_shown r.fewest;

@@ -1,7 +1,7 @@
 -- What is kept of a moment at which a device command asks. Ours.
 use Rattle.std.specs.Prelude.{ℕ, suc, max, List, [], ◌∷◌, Bool, true, false, ◌||◌}
 use Rattle.rehearse_rules.specs.Execution.{Ending, CutDevices, CutSteps}
-use Rattle.rehearse_states.specs.Endings.{Row, one_run}
+use Rattle.rehearse_states.specs.Endings.{RunEnd, Row, one_run}
 
 -- the rows of what is to come; the most steps and device commands that its runs reach; whether a run is cut
 pub record Summary : Type 0 where
@@ -20,13 +20,13 @@ is_cut_devices CutDevices = true
 is_cut_devices _ = false
 
 -- a run that is over after this many steps and device commands
-abbrev pub summary_at_end : Ending → (steps devices : ℕ) → Summary
-summary_at_end ending steps devices = record {
-  rows = one_run (ending, []) ∷ [];
+abbrev pub summary_at_end : RunEnd → (steps devices : ℕ) → Summary
+summary_at_end run_end steps devices = record {
+  rows = one_run (run_end, []) ∷ [];
   steps = steps;
   devices = devices;
-  cut_steps = is_cut_steps ending;
-  cut_devices = is_cut_devices ending;
+  cut_steps = is_cut_steps run_end.ending;
+  cut_devices = is_cut_devices run_end.ending;
 }
 
 -- a device command that asks there, from its two sides

@@ -6,13 +6,14 @@ ghost use Rattle.rehearse_rules.specs.Listing.{digit_when, line, last_line, spel
 ghost use Rattle.rehearse_rules.specs.EndingsShown.{halt_shown};
 ghost use Rattle.rehearse_rules.specs.Execution.{outcome_when};
 ghost use Rattle.rehearse_terms.specs.Outcomes.{failures};
-ghost use Rattle.rehearse_states.specs.EndingLines.{count_text, row_text, endings_text, counted};
+ghost use Rattle.rehearse_states.specs.EndingLines.{count_text, row_lines, row_text, endings_text, counted};
 ghost use Rattle.rehearse_states.specs.Drawing.{failing_on, nodes_shown};
 ghost use Rattle.rehearse_states.specs.RowsShown.{most_runs, row_shown, rows_shown};
 
 use crate::fail_lines::put_fails;
 use crate::flow::Node;
 use crate::rows::{Row, failures};
+use crate::value_lines::put_values;
 use bootstore_state::StoreError;
 use rehearse_rules::Halt;
 use std::alloc::Global;
@@ -126,8 +127,26 @@ fn put_row(alloc: Global, text: &mut Vec<u8>, row: &Row) -> Result<(), StoreErro
     put(text, b" ")?;
     put_digits(alloc, text, &row.fewest)?;
     put(text, b" ")?;
-    put_ending(text, &row.halt)?;
+    put_ending(text, &row.run_end.halt)?;
     put(text, b"\n")
+}
+
+/// Adds the lines of an ending: how many runs have it, the values that they leave, and what fails in
+/// the run with the fewest failures.
+fn put_lines(
+    alloc: Global,
+    text: &mut Vec<u8>,
+    names: &[&[u8]],
+    nodes: &Vec<Node>,
+    row: &Row,
+) -> Result<(), StoreError>
+    ensures { OnOk result (text.new.items ≡ text.old.items ++ row_lines (map (λ n. n.now) names.now)
+        (failing_on (nodes_shown nodes.now)) (row_shown row.now)) }
+{
+    put_row(alloc, text, row)?;
+    put_values(text, names, &row.run_end.values)?;
+    put_fails(text, nodes, &row.fewest, 1)?;
+    Ok(())
 }
 
 /// How many runs there are in all, or the greatest number if that is smaller.
@@ -141,21 +160,21 @@ fn total(rows: &Vec<Row>) -> u128
     count
 }
 
-/// The lines of all endings, and one for all runs. The nodes are the flow of these runs, with which
-/// it finds the commands that fail.
+/// The lines of all endings, and one for all runs. `names` are the variables whose values the rows
+/// have. The nodes are the flow of these runs, by which it finds the commands that fail.
 pub fn text_of(
     alloc: Global,
+    names: &[&[u8]],
     rows: &Vec<Row>,
     nodes: &Vec<Node>,
     states: u32,
 ) -> Result<Vec<u8>, StoreError>
-    ensures { IfOk result (λ text. text.items ≡ endings_text (failing_on (nodes_shown nodes.now))
+    ensures { IfOk result (λ text. text.items ≡ endings_text (map (λ n. n.now) names.now) (failing_on (nodes_shown nodes.now))
         (rows_shown rows.now) (counted (rows_shown rows.now)) states) }
 {
     let mut text = Vec::new(alloc);
     for row in rows {
-        put_row(alloc, &mut text, row)?;
-        put_fails(&mut text, nodes, &row.fewest, 1)?;
+        put_lines(alloc, &mut text, names, nodes, row)?;
     }
     put(&mut text, b"all ")?;
     put_count(&mut text, total(rows))?;

@@ -6,7 +6,7 @@ ghost use Rattle.rehearse_rules.specs.EndingsShown.{halt_shown};
 ghost use Rattle.rehearse_states.specs.Flow.{Asks, Ends};
 ghost use Rattle.rehearse_states.specs.Drawing.{node_shown, nodes_shown, renumbered, HasMore};
 
-use crate::rows::{copy_halt, same_halt};
+use crate::run_end::{copy_halt, same_halt};
 use bootstore_state::StoreError;
 use rehearse_rules::Halt;
 use std::alloc::Global;

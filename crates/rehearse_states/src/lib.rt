@@ -9,7 +9,9 @@ mod flow;
 mod flow_lines;
 mod hashing;
 mod rows;
+mod run_end;
 mod summary;
+mod value_lines;
 mod words;
 
 pub use cores::{Core, has_core, take_core};
@@ -19,5 +21,6 @@ pub use flow::{Flow, Node};
 pub use flow_lines::flow_text_of;
 pub use hashing::hash_of;
 pub use rows::{Row, copy_rows};
+pub use run_end::{RunEnd, run_end_of};
 pub use summary::{Summary, of_end, of_sides};
 pub use words::words_at;

@@ -1,21 +1,21 @@
 //! Rows: how runs end, how many do, and which is the first.
 ghost use Rattle.std.specs.Prelude.{◌≡◌, ◌≤◌, ◌∷◌, [], map, reverse, IfOk};
-ghost use Rattle.rehearse_rules.specs.EndingsShown.{halt_shown};
 ghost use Rattle.rehearse_rules.specs.Execution.{outcome_when};
-ghost use Rattle.rehearse_states.specs.RowsShown.{row_shown, rows_shown, word_shown, joined_up, with_row_up, merge_up};
+ghost use Rattle.rehearse_states.specs.RowsShown.{row_shown, run_end_shown, rows_shown, word_shown, joined_up, with_row_up, merge_up};
 ghost use Rattle.rehearse_terms.specs.Outcomes.{failures};
-ghost use Rattle.rehearse_states.specs.Endings.{fewer, one_run, in_front, ending_eq};
+ghost use Rattle.rehearse_states.specs.Endings.{fewer, one_run, in_front};
 
+use crate::run_end::{RunEnd, same_end};
 use bootstore_state::StoreError;
-use rehearse_rules::Halt;
 use std::alloc::Global;
+use std::rc::Rc;
 
 /// An ending, and the runs that have it. A word holds whether each of its device commands
 /// succeeded, the last one first.
 #[derive(Drop)]
 pub struct Row {
-    /// How these runs end.
-    pub halt: Halt,
+    /// How these runs end, shared by the rows that have it.
+    pub run_end: Rc<RunEnd>,
     /// How many runs there are, or 2^128 - 1 if there are more.
     pub count: u128,
     /// The word of the first of these runs.
@@ -25,49 +25,18 @@ pub struct Row {
 }
 
 /// The row of one run that is over.
-pub(crate) fn one_row(alloc: Global, halt: Halt) -> Result<Vec<Row>, StoreError>
-    ensures { IfOk result (λ rows. rows_shown rows ≡ one_run (halt_shown halt, []) ∷ []) }
+pub(crate) fn one_row(alloc: Global, run_end: RunEnd) -> Result<Vec<Row>, StoreError>
+    ensures { IfOk result (λ rows. rows_shown rows ≡ one_run (run_end_shown run_end, []) ∷ []) }
 {
+    let run_end = Rc::new(alloc, run_end)?;
     let mut rows = Vec::new(alloc);
     rows.push(Row {
-        halt,
+        run_end,
         count: 1,
         word: Vec::new(alloc),
         fewest: Vec::new(alloc),
     })?;
     Ok(rows)
-}
-
-/// Whether both end alike.
-pub(crate) fn same_halt(a: &Halt, b: &Halt) -> bool
-    ensures { result ≡ ending_eq (halt_shown a.now) (halt_shown b.now) }
-{
-    match (a, b) {
-        (Halt::End(x), Halt::End(y)) => x == y,
-        (Halt::CutDevices, Halt::CutDevices) => true,
-        (Halt::CutSteps, Halt::CutSteps) => true,
-        (Halt::Unknown(x), Halt::Unknown(y)) => x == y,
-        (Halt::Syntax(x), Halt::Syntax(y)) => x == y,
-        (Halt::Unsupported(x), Halt::Unsupported(y)) => x == y,
-        (Halt::Size, Halt::Size) => true,
-        (Halt::Booted(x), Halt::Booted(y)) => x == y,
-        _ => false,
-    }
-}
-
-pub(crate) fn copy_halt(halt: &Halt) -> Result<Halt, StoreError>
-    ensures { IfOk result (λ copy. halt_shown copy ≡ halt_shown halt.now) }
-{
-    Ok(match halt {
-        Halt::End(status) => Halt::End(*status),
-        Halt::CutDevices => Halt::CutDevices,
-        Halt::CutSteps => Halt::CutSteps,
-        Halt::Unknown(name) => Halt::Unknown(name.clone()?),
-        Halt::Syntax(name) => Halt::Syntax(name.clone()?),
-        Halt::Unsupported(name) => Halt::Unsupported(name.clone()?),
-        Halt::Size => Halt::Size,
-        Halt::Booted(name) => Halt::Booted(name.clone()?),
-    })
 }
 
 /// A copy of rows.
@@ -76,11 +45,11 @@ pub fn copy_rows(alloc: Global, rows: &Vec<Row>) -> Result<Vec<Row>, StoreError>
 {
     let mut copies = Vec::new(alloc);
     for row in rows {
-        let halt = copy_halt(&row.halt)?;
+        let run_end = row.run_end.clone()?;
         let word = Vec::from_slice(alloc, &row.word)?;
         let fewest = Vec::from_slice(alloc, &row.fewest)?;
         copies.push(Row {
-            halt,
+            run_end,
             count: row.count,
             word,
             fewest,
@@ -105,7 +74,7 @@ pub(crate) fn put_in_front(
         let mut fewest = row.fewest;
         fewest.push(success)?;
         made.push(Row {
-            halt: row.halt,
+            run_end: row.run_end,
             count: row.count,
             word,
             fewest,
@@ -152,7 +121,7 @@ fn join(alloc: Global, row: Row, further: &Row) -> Result<Row, StoreError>
 {
     let fewest = fewer(alloc, row.fewest, &further.fewest)?;
     Ok(Row {
-        halt: row.halt,
+        run_end: row.run_end,
         count: row.count.saturating_add(further.count),
         word: row.word,
         fewest,
@@ -167,7 +136,7 @@ fn put_row(alloc: Global, rows: Vec<Row>, row: Row) -> Result<Vec<Row>, StoreErr
     let mut made = Vec::new(alloc);
     let mut is_there = false;
     for old in rows {
-        if !is_there && same_halt(&old.halt, &row.halt) {
+        if !is_there && same_end(&old.run_end, &row.run_end) {
             is_there = true;
             let both = join(alloc, old, &row)?;
             made.push(both)?;

@@ -1,10 +1,11 @@
 //! What is kept of a state at which a device command asks.
 ghost use Rattle.std.specs.Prelude.{◌≡◌, ◌+◌, ◌||◌, max, suc, IfOk};
-ghost use Rattle.rehearse_rules.specs.EndingsShown.{halt_shown};
+ghost use Rattle.rehearse_states.specs.RowsShown.{run_end_shown};
 ghost use Rattle.rehearse_states.specs.RowsShown.{summary_shown, of_both_up};
 ghost use Rattle.rehearse_states.specs.Summaries.{summary_at_end, summary_of_sides};
 
 use crate::rows::{Row, merge_rows, one_row, put_in_front};
+use crate::run_end::RunEnd;
 use bootstore_state::StoreError;
 use rehearse_rules::Halt;
 use std::alloc::Global;
@@ -27,16 +28,16 @@ pub fn of_end(
     alloc: Global,
     steps: u32,
     devices: u32,
-    halt: Halt,
+    run_end: RunEnd,
     place: usize,
 ) -> Result<Summary, StoreError>
     ensures sums { IfOk result
-        (λ s. summary_shown s ≡ summary_at_end (halt_shown halt) steps devices) }
+        (λ s. summary_shown s ≡ summary_at_end (run_end_shown run_end) steps devices) }
     ensures place { IfOk result (λ s. s.place ≡ place) }
 {
-    let cut_steps = matches!(halt, Halt::CutSteps);
-    let cut_devices = matches!(halt, Halt::CutDevices);
-    let rows = one_row(alloc, halt)?;
+    let cut_steps = matches!(run_end.halt, Halt::CutSteps);
+    let cut_devices = matches!(run_end.halt, Halt::CutDevices);
+    let rows = one_row(alloc, run_end)?;
     Ok(Summary {
         rows,
         steps: u64::from(steps),

@@ -13,6 +13,7 @@ use rehearse_endings::{EndingsAsk, endings_env};
 use rehearse_runs::{Finish, RehearseError, Runs, WordKind, resume_point, try_word, write_listing};
 use rehearse_terms::{Bounds, Page, RunBounds};
 use std::alloc::Global;
+use tests_rows::slices;
 
 pub(crate) fn script_of(alloc: Global, text: &[u8]) -> Result<Script, SyntaxError> {
     parse(alloc, text)
@@ -138,10 +139,12 @@ pub(crate) fn endings<S: Store>(
     let Some(bounds) = RunBounds::new(devices, 1_000) else {
         anyhow::bail!("no bounds");
     };
+    let names = slices(case.alloc, &case.names)?;
     let ask = EndingsAsk {
         name: &case.name,
         bounds: bounds.in_shell(case.bounds.shell()),
         states,
+        names: &names,
         flow,
     };
     let mut out = Over::new(Vec::new(case.alloc));

@@ -266,6 +266,7 @@ all_endings : AsksFor (codes "endings" ∷ codes "-d" ∷ codes "d" ∷ [])
       variable = codes "bootcmd";
       bounds = record { devices = 1000; steps = 1000000; failures = None; shell = Profile };
       states = 1000000;
+      names = [];
       flow = false;
     }) Little)
 unfolding clap_on_literals ubtool
@@ -278,10 +279,23 @@ few_endings : AsksFor
       variable = codes "q";
       bounds = record { devices = 0; steps = 7; failures = None; shell = Profile };
       states = 0;
+      names = [];
       flow = true;
     }) Big)
 unfolding clap_on_literals ubtool
 few_endings = (refl, refl)
+
+-- endings bootargs -d d fdtfile
+endings_of_names : AsksFor (codes "endings" ∷ codes "bootargs" ∷ codes "-d" ∷ codes "d" ∷ codes "fdtfile" ∷ [])
+    (ending (codes "/etc/fw_env.config") (codes "d") (record {
+      variable = codes "bootcmd";
+      bounds = record { devices = 1000; steps = 1000000; failures = None; shell = Profile };
+      states = 1000000;
+      names = codes "bootargs" ∷ codes "fdtfile" ∷ [];
+      flow = false;
+    }) Little)
+unfolding clap_on_literals ubtool
+endings_of_names = (refl, refl)
 
 -- endings -d d --devices 1001
 too_many_run_devices : IsRefused (codes "endings" ∷ codes "-d" ∷ codes "d" ∷ codes "--devices" ∷ codes "1001" ∷ [])
@@ -373,6 +387,7 @@ flow_in_old_2023 : AsksFor (codes "endings" ∷ codes "-d" ∷ codes "d" ∷ cod
       variable = codes "bootcmd";
       bounds = record { devices = 1000; steps = 1000000; failures = None; shell = Old2023 };
       states = 1000000;
+      names = [];
       flow = true;
     }) Little)
 unfolding clap_on_literals ubtool
@@ -384,6 +399,7 @@ endings_in_newest_old : AsksFor (codes "endings" ∷ codes "-d" ∷ codes "d" �
       variable = codes "bootcmd";
       bounds = record { devices = 1000; steps = 1000000; failures = None; shell = Old2025 };
       states = 1000000;
+      names = [];
       flow = false;
     }) Little)
 unfolding clap_on_literals ubtool

@@ -24,6 +24,8 @@ pub record Endings : Type 0 where
   pub variable : Text
   pub bounds : BoundsShown
   pub states : ℕ
+  -- the variables by whose values runs are told apart
+  pub names : List Text
   pub flow : Bool
 
 -- what a call asks for, or which of the program's own refusals it meets
@@ -239,6 +241,7 @@ endings_with (Some device_list) (Some bounds) (Some states) shell rows =
       variable = variable_of rows;
       bounds = in_shell shell bounds;
       states = unwrap_or states usual_states;
+      names = values_of (codes "names") rows;
       flow = is_set (codes "flow") rows;
     }) (order_of rows))
 endings_with _ _ _ shell rows = None

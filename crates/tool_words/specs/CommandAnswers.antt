@@ -31,7 +31,13 @@ asking_of r = record {
 }
 
 abbrev pub endings_of : EndingsAsk → what.Endings
-endings_of e = record { variable = string_bytes e.name; bounds = e.bounds; states = e.states; flow = e.flow }
+endings_of e = record {
+  variable = string_bytes e.name;
+  bounds = e.bounds;
+  states = e.states;
+  names = map string_bytes e.names.items;
+  flow = e.flow;
+}
 
 abbrev pub change_of : Text → Change → ByteOrder → (one_copy : Bool) → Asked
 change_of config (One name words) order one_copy =

@@ -118,7 +118,7 @@ flow = long_flag (codes "flow")
 
 abbrev pub endings : App
 endings = command (codes "endings")
-    (config ∷ big_endian ∷ device_list ∷ variable ∷ devices ∷ steps ∷ shell ∷ states ∷ flow ∷ [])
+    (config ∷ big_endian ∷ device_list ∷ variable ∷ devices ∷ steps ∷ shell ∷ states ∷ flow ∷ names ∷ [])
 
 -- the program, which has no words of its own; its version can be asked for at each subcommand too
 abbrev pub base : App

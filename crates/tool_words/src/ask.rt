@@ -124,6 +124,8 @@ pub struct EndingsAsk {
     pub bounds: RunBounds,
     /// The most states to search.
     pub states: u32,
+    /// The variables by whose values runs are told apart, in this order.
+    pub names: Vec<String>,
     /// Whether to write the flow, not the endings.
     pub flow: bool,
 }

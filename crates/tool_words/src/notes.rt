@@ -123,15 +123,20 @@ comes a line for each device command that has to fail. The last line is about
 all runs:
 
   ends COUNT first WORD fewest FAILURES WORD ENDING
+  var NAME=VALUE
+  unset NAME
   fails WORDS
   all COUNT states STATES
 
 COUNT runs end so. The first WORD is that of the first of them, the second that
 of the first of those in which the fewest device commands fail, where what a
 steady command is told again does not count. ENDING is the last line of their
-records, as rehearse lists them. The lines fails are the device commands that
-fail in the run of the second WORD, in its order. A state is what variables,
-status and script are when a device command asks; each is gone through once.
+records, as rehearse lists them. Runs that leave another value of a NAME of the
+call are another ending, and each NAME has a line var or unset, in the order of
+the call; with --flow a NAME has no effect. The lines fails are the device
+commands that fail in the run of the second WORD, in its order. A state is what
+variables, status and script are when a device command asks; each is gone
+through once.
 
 With --flow a line for each state and for each way to end is written instead.
 Numbers count from 1, where a run begins, and a word leads from line to line:
@@ -146,4 +151,5 @@ Examples:
   ubtool endings -d devices.txt -b altbootcmd --devices 32
   ubtool endings -c fw_env.config -d devices.txt --states 5000000
   ubtool endings -d devices.txt --flow
+  ubtool endings -d devices.txt bootargs
 ";

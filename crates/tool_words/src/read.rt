@@ -372,6 +372,7 @@ fn endings_ask(alloc: Global, matches: &ArgMatches<'_>) -> Result<Ask, UseError>
             name: variable_of(alloc, matches)?,
             bounds: bounds.in_shell(shell),
             states: states.unwrap_or(DEFAULT_STATES),
+            names: texts_of(alloc, matches, "names")?,
             flow: is_set(matches, "flow"),
         },
         order: order_of(matches),

@@ -243,7 +243,7 @@ const FLOW: Argument<'static> = Argument {
     help: "Write the states as a graph, a line each",
 };
 
-const ENDINGS: [Argument<'static>; 9] = [
+const ENDINGS: [Argument<'static>; 10] = [
     CONFIG,
     BIG_ENDIAN,
     DEVICE_LIST,
@@ -259,6 +259,10 @@ const ENDINGS: [Argument<'static>; 9] = [
     SHELL,
     STATES,
     FLOW,
+    Argument {
+        help: "Variables whose values to tell apart and write, in this order",
+        ..NAMES
+    },
 ];
 
 /// The subcommands, in the order of the help.

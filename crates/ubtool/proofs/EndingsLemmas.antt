@@ -1,11 +1,12 @@
 -- Reporting how the runs of what was read end.
-use Rattle.std.proofs.Common.{ℕ, Bool, refl, List, IfOk, IfErr, Ok, Err}
+use Rattle.std.proofs.Common.{◌≡◌, ℕ, Bool, refl, List, IfOk, IfErr, Ok, Err}
 use Rattle.std.specs.Prelude.{Result}
 use Rattle.output.specs.Sink.{Sink}
 use Rattle.envimage.specs.declared.image.ByteOrder.{ByteOrder}
+use Rattle.rehearse_terms.specs.Bounds.{BoundsShown}
 use Rattle.tool_words.specs.declared.ask.EndingsAsk.{EndingsAsk}
 use Rattle.ubtool.specs.EndingsOfImages.{RefusesEndings, TellsEndings}
-use Rattle.ubtool.specs.Given.{FromFiles, Given, given_by}
+use Rattle.ubtool.specs.Given.{FromFiles, Given, all_runs, given_by}
 use Rattle.ubtool.specs.declared.rehearsal_error.RehearsalError.{RehearsalError}
 use Rattle.rehearse_rules.specs.declared.rehearse_error.RehearseError.TheVariants as rehearsal
 use Rattle.ubtool.specs.declared.rehearsal_error.RehearsalError.TheVariants as refused
@@ -22,7 +23,7 @@ module _ (order : ByteOrder) (config list : List ℕ) (what : EndingsAsk) (out o
   from-files : (IsSo : Given → Type 0) → IsSo (given_by order (copies sources.images) sources.device_list.items (all_asked what)) → FromFiles order config list (all_asked what) x z IsSo
   from-files IsSo so = so-of-sources config list sources x z (λ copies bytes. IsSo (given_by order copies bytes (all_asked what))) read so
 
-  pub tells-refused : (error : RehearsalError) → RefusesEndings (given_by order (copies sources.images) sources.device_list.items (all_asked what)) what.flow what.states out out' error
+  pub tells-refused : (error : RehearsalError) → TellsCopies (given_by order (copies sources.images) sources.device_list.items (all_asked what)) what.flow what.states out out' (Err error)
       → TellsFrom order config list what out out' x z (Err (endings_refusal what error))
   tells-refused (refused.Image error) h = from-files (λ g. RefusesEndings g what.flow what.states out out' (refused.Image error)) h
   tells-refused (refused.Rehearsal (rehearsal.DeviceList error)) h = from-files (λ g. RefusesEndings g what.flow what.states out out' (refused.Rehearsal (rehearsal.DeviceList error))) h
@@ -33,10 +34,17 @@ module _ (order : ByteOrder) (config list : List ℕ) (what : EndingsAsk) (out o
   tells-refused (refused.Rehearsal rehearsal.Failed) h = absurd h
   tells-refused (refused.Rehearsal rehearsal.States) h = from-files (λ g. RefusesEndings g what.flow what.states out out' (refused.Rehearsal rehearsal.States)) h
   tells-refused refused.Write h = from-files (λ g. RefusesEndings g what.flow what.states out out' refused.Write) h
-  tells-refused refused.Memory h = (only-read config list sources x z read, h.1)
+  tells-refused refused.Memory h = (only-read config list sources x z read, h)
 
 -- ---- an answer, by its clauses
 
 pub copies-told : (g : Given) (flow : Bool) (states : ℕ) (out out' : Sink) (r : Result (Unit {0}) RehearsalError) → IfOk r (λ done. TellsEndings g flow states out out') → IfErr r (λ e. RefusesEndings g flow states out out' e) → TellsCopies g flow states out out' r
 copies-told g flow states out out' (Ok done) ok err = ok
-copies-told g flow states out out' (Err error) ok err = err
+copies-told g flow states out out' (Err (refused.Image error)) ok err = err
+copies-told g flow states out out' (Err (refused.Rehearsal error)) ok err = err
+copies-told g flow states out out' (Err refused.Write) ok err = err
+copies-told g flow states out out' (Err refused.Memory) ok err = err.1
+
+-- what is asked, from its parts
+pub same-runs : (variable variable' : List ℕ) (bounds : BoundsShown) (names names' : List (List ℕ)) → variable ≡ variable' → names ≡ names' → all_runs variable bounds names ≡ all_runs variable' bounds names'
+same-runs variable variable' bounds names names' v n = rw (v, n) refl

@@ -1,6 +1,6 @@
 -- How all runs of the images of a configuration end, from files whose contents are known. The order of work is that of
 -- a rehearsal. Ours.
-use Rattle.std.specs.Prelude.{◌≡◌, ℕ, Bool, true, List, Result, Ok, Err, string_bytes}
+use Rattle.std.specs.Prelude.{◌≡◌, ℕ, Bool, true, List, map, Result, Ok, Err, string_bytes}
 use Rattle.output.specs.Sink.{Sink}
 use Rattle.envimage.specs.declared.image.ByteOrder.{ByteOrder}
 use Rattle.rehearse_terms.specs.Asking.{Asking}
@@ -21,9 +21,9 @@ use Rattle.tool_files.specs.CallOrder.{OnlyReads}
 use Rattle.tool_files.specs.Told.{Told}
 use Rattle.tool_steps.specs.Sources.{IsUnread}
 
--- what is asked for: all runs of the variable, within its bounds
+-- what is asked for: all runs of the variable, within its bounds, and the values of variables
 abbrev pub all_asked : EndingsAsk → Asking
-all_asked what = all_runs (string_bytes what.name) what.bounds
+all_asked what = all_runs (string_bytes what.name) what.bounds (map string_bytes what.names.items)
 
 -- how a refusal is reported: a variable that is not set, by its name
 abbrev pub endings_refusal : EndingsAsk → RehearsalError → ProgramFault
@@ -33,6 +33,7 @@ endings_refusal what error = reported error
 -- each answer to the endings of copies
 abbrev pub TellsCopies : Given → (flow : Bool) → (states : ℕ) → (old new : Sink) → Result (Unit {0}) RehearsalError → Type 0
 TellsCopies g flow states old new (Ok done) = TellsEndings g flow states old new
+TellsCopies g flow states old new (Err refused.Memory) = new ≡ old
 TellsCopies g flow states old new (Err error) = RefusesEndings g flow states old new error
 
 -- The images and the device list were read, and the lines were written; or the endings are refused; or a read is

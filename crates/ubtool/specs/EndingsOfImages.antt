@@ -5,7 +5,7 @@ use Rattle.output.specs.Sink.{Sink, Wrote, BrokeOff}
 use Rattle.envimage.specs.declared.image.ByteOrder.{ByteOrder}
 use Rattle.device_list.specs.DeviceList.{listed}
 use Rattle.rehearse_terms.specs.State.{Text}
-use Rattle.rehearse_endings.specs.TellingEndings.{AreLines, HasMoreStates}
+use Rattle.rehearse_endings.specs.TellingEndings.{AreLines, HasMoreStates, names_of}
 use Rattle.rehearse_endings.specs.declared.telling.EndingsAsk.{EndingsAsk}
 use Rattle.rehearse_rules.specs.declared.rehearse_error.RehearseError.TheVariants.{DeviceList, NoSuchVariable, States}
 use Rattle.ubtool.specs.Given.{Given, all_runs, given}
@@ -15,20 +15,21 @@ use Rattle.ubtool.specs.Refusing.{HasImage}
 use Rattle.ubtool.specs.declared.rehearsal_error.RehearsalError.{RehearsalError}
 use Rattle.ubtool.specs.declared.rehearsal_error.RehearsalError.TheVariants.{Image, Rehearsal, Write, Memory}
 
--- what is given: all runs of the variable that is asked for, within its bounds
+-- what is given: all runs of the variable that is asked for, within its bounds, and the variables whose values
+-- are told apart
 abbrev pub endings_given : ByteOrder → List ℕ → Option (List ℕ) → Text → EndingsAsk → Given
 endings_given order first second device_list ask =
-    given order first second device_list (all_runs ask.name.now ask.bounds)
+    given order first second device_list (all_runs ask.name.now ask.bounds (names_of ask))
 
 -- the lines, or the lines of the flow, are written, with at most this many states
 abbrev pub TellsEndings : Given → (flow : Bool) → (states : ℕ) → (old new : Sink) → Type 0
 TellsEndings g flow states old new =
-    HasDevices g (λ found. (text : Text) × AreLines flow states found text × Wrote old new text)
+    HasDevices g (λ found. (text : Text) × AreLines g.asking.names flow states found text × Wrote old new text)
 
 -- the output failed inside the lines
 abbrev pub BreaksOff : Given → (flow : Bool) → (states : ℕ) → (old new : Sink) → Type 0
 BreaksOff g flow states old new =
-    HasDevices g (λ found. (text : Text) × AreLines flow states found text × BrokeOff old new text)
+    HasDevices g (λ found. (text : Text) × AreLines g.asking.names flow states found text × BrokeOff old new text)
 
 abbrev pub RefusesEndings : Given → (flow : Bool) → (states : ℕ) → (old new : Sink) → RehearsalError → Type 0
 RefusesEndings g flow states old new (Image fault) = (environment_in g.order g.first g.second ≡ Err fault) × (new ≡ old)

@@ -1,5 +1,5 @@
 -- What a rehearsal is given. Ours.
-use Rattle.std.specs.Prelude.{ℕ, List, [], Option, None}
+use Rattle.std.specs.Prelude.{ℕ, List, Option, None}
 use Rattle.envimage.specs.declared.image.ByteOrder.{ByteOrder}
 use Rattle.rehearse_terms.specs.Asking.{Asking, Listed, whole_page}
 use Rattle.rehearse_terms.specs.Bounds.{BoundsShown}
@@ -23,9 +23,10 @@ abbrev pub given : ByteOrder → List ℕ → Option (List ℕ) → Text → Ask
 given order first second device_list asking =
     record { order = order; first = first; second = second; device_list = device_list; asking = asking }
 
--- all runs of a variable: no start word, the whole page, and no name asked for
-abbrev pub all_runs : (variable : Text) → BoundsShown → Asking
-all_runs variable bounds = record { variable = variable; bounds = bounds; wanted = Listed None whole_page; names = [] }
+-- all runs of a variable: no start word, and the whole page
+abbrev pub all_runs : (variable : Text) → BoundsShown → (names : List Text) → Asking
+all_runs variable bounds names =
+    record { variable = variable; bounds = bounds; wanted = Listed None whole_page; names = names }
 
 -- ---- what files that were read give
 

@@ -17,7 +17,7 @@ use rehearse_rules::RehearseError;
 use std::alloc::Global;
 use tool_files::Files;
 use tool_images::WordForm;
-use tool_steps::{Sources, read_sources};
+use tool_steps::{Sources, read_sources, slices_of};
 use tool_words::EndingsAsk;
 
 /// How a refusal of the endings is reported.
@@ -44,10 +44,14 @@ fn endings_of_sources<O: Out>(
         sources.now.device_list.items (all_asked what.now)) what.now.flow what.now.states
         (O.sink out.old) (O.sink out.new) result }
 {
+    let Ok(names) = slices_of(alloc, &what.names) else {
+        return Err(RehearsalError::Memory);
+    };
     let ask = rehearse_endings::EndingsAsk {
         name: what.name.as_bytes(),
         bounds: what.bounds,
         states: what.states,
+        names: &names,
         flow: what.flow,
     };
     let bytes = bytes_of(sources);

@@ -11,10 +11,11 @@ use output::Out;
 use rehearse_endings::{EndingsAsk, endings_env};
 use std::alloc::Global;
 
-/// Writes how all runs of a variable end, of an image or of the current copy of a pair: a line for
-/// each ending, and one for all runs. For the flow, writes a line for each state in which a device
-/// command asks and for each way to end. In a shell of U-Boot, the variables are those that U-Boot
-/// reads from the image.
+/// Writes how all runs of a variable end, of an image or of the current copy of a pair: for each
+/// ending a line, the values that are left of the named variables, and the device commands that fail
+/// in the run with the fewest failures; then a line for all runs. For the flow, writes a line for
+/// each state in which a device command asks and for each way to end. In a shell of U-Boot, the
+/// variables are those that U-Boot reads from the image.
 ///
 /// Refusals in order: the image, the device list, `NoSuchVariable`, `States` and `Memory`, with
 /// nothing written; then `Write` if the output fails, with a prefix of the lines written. `Memory`

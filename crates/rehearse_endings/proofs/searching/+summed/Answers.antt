@@ -1,10 +1,10 @@
-use Rattle.std.proofs.Common.{ℕ, refl, arith, rules, ap, sym, subst, ◌∙◌, ◌+◌, [], ◌∷◌, ◌++◌}
+use Rattle.std.proofs.Common.{ℕ, refl, arith, rules, map, ap, sym, subst, ◌∙◌, ◌+◌, [], ◌∷◌, ◌++◌}
 use Rattle.rehearse_terms.specs.Outcomes.{Success, Failure}
 use Rattle.rehearse_machine.specs.Tasks.{task_in}
 use Rattle.rehearse_machine.specs.declared.rehearsal.Stop.{Stop}
 use Rattle.rehearse_machine.specs.declared.rehearsal.Stop.TheVariants.{Asks}
 use Rattle.rehearse_states.specs.Cores.{core_shown}
-use Rattle.rehearse_states.specs.RowsShown.{summary_shown}
+use Rattle.rehearse_states.specs.RowsShown.{run_end_shown, summary_shown}
 use Rattle.rehearse_endings.specs.SummedRuns.{Summed}
 use Rattle.text.specs.TextsShown.{bytes_of_words}
 use Rattle.std.proofs.lemmas.List.{length-map}
@@ -48,7 +48,7 @@ summed-requires g t c κs within =
     let b = c.requires.bound in
     let r₁ = g.S.Store.record_of c.resume.new.store in
     let stops = won_on task r (g.S.Store.record_of c.mark.new.self) r₁ c.in_ok-won_stop-in-Asks.won_stop c.in_ok-mark-in-Asks.ensures.ok c.in_ok-won_stop-in-Asks.ensures.stops in
-    let entered = entered_as task.limits c.args.table.now c.enter.new.self c.in_ok-core-in-Asks.ensures.entries c.in_ok-core-in-Asks.ensures.flow c.requires.table in
+    let entered = entered_as (map (λ n. n.now) c.args.names.now) task.limits c.args.table.now c.enter.new.self c.in_ok-core-in-Asks.ensures.entries c.in_ok-core-in-Asks.ensures.flow c.requires.table in
     let marked = begun_marked r (g.S.Store.record_of c.mark.new.self) c.in_ok-mark-in-Asks.ensures.ok in
     let on = begun_on (g.S.Store.record_of c.mark.new.self) r₁ c.in_ok-won_stop-in-Asks.ensures.begun c.in_ok-won_stop-in-Asks.ensures.within in
     let room = c.requires.begun in
@@ -88,13 +88,13 @@ returns-in_ok-summary-in-Ends-clause-searched g t c =
     let nodes = nodes_shown c.end.new.self.nodes in
     record {
       sums =
-          subst (λ (x : Stop). Summed (future task.limits x m) (summary_shown c.in_ok-summary-in-Ends.summary)) (sym c.in-Ends.is)
-          (summed_end task.limits c.in-Ends.halt m c.logged-devices.result c.steps.result (summary_shown c.in_ok-summary-in-Ends.summary) (sym c.logged-devices.ensures) c.steps.ensures c.in_ok-summary-in-Ends.ensures.sums);
+          subst (λ (x : Stop). Summed (map (λ n. n.now) c.args.names.now) (future task.limits x m) (summary_shown c.in_ok-summary-in-Ends.summary)) (sym c.in-Ends.is)
+          (summed_end (map (λ n. n.now) c.args.names.now) task.limits c.in-Ends.halt (run_end_shown c.in_ok-run_end-in-Ends.run_end) m c.logged-devices.result c.steps.result (summary_shown c.in_ok-summary-in-Ends.summary) (sym c.logged-devices.ensures) c.steps.ensures c.in_ok-run_end-in-Ends.ensures c.in_ok-summary-in-Ends.ensures.sums);
       draws = ended_drawn task.limits nodes c.in_ok-place-in-Ends.place c.in_ok-summary-in-Ends.summary.place c.in-Ends.halt c.args.stop m c.in-Ends.is c.in_ok-summary-in-Ends.ensures.place c.in_ok-place-in-Ends.ensures.place;
       grows = c.in_ok-place-in-Ends.ensures.grows;
       last = λ none no_nodes. ap (λ (n : ℕ). n + 1) c.in_ok-summary-in-Ends.ensures.place ∙ c.in_ok-place-in-Ends.ensures.last no_nodes;
       marks = refl;
-      table = all_wider task.limits (nodes_shown c.args.table.now.flow.nodes) nodes c.args.table.now.entries.items c.in_ok-place-in-Ends.ensures.grows c.requires.table;
+      table = all_wider (map (λ n. n.now) c.args.names.now) task.limits (nodes_shown c.args.table.now.flow.nodes) nodes c.args.table.now.entries.items c.in_ok-place-in-Ends.ensures.grows c.requires.table;
       begun = omega arith;
       room = c.requires.room;
       most = refl;
@@ -123,7 +123,7 @@ returns-in_ok-keep-in-Asks-clause-searched g t c =
     let lost_at = (g.S.Store.record_of c.resume-in-Asks.new.store).present in
     let sides = sides_of task c.args.depth c.args.stop c.in_ok-won_stop-in-Asks.won_stop c.in_ok-lost_stop-in-Asks.lost_stop r (g.S.Store.record_of c.mark.new.self) (g.S.Store.record_of c.resume.new.store) (g.S.Store.record_of c.summed.new.store) (g.S.Store.record_of c.back.new.self) (g.S.Store.record_of c.resume-in-Asks.new.store)
     c.in-Asks.is c.requires.reached c.in_ok-mark-in-Asks.ensures.ok c.in_ok-won_stop-in-Asks.ensures.stops c.in_ok-won_stop-in-Asks.ensures.marks c.in_ok-won-in-Asks.ensures.searched.marks c.back.ensures c.in_ok-lost_stop-in-Asks.ensures.stops in
-    let summed = summed_sides task c.args.depth r.present sides.reached c.in_ok-won_stop-in-Asks.won_stop c.in_ok-lost_stop-in-Asks.lost_stop won_at lost_at (summary_shown c.in_ok-won-in-Asks.won) (summary_shown c.in_ok-lost-in-Asks.lost) (summary_shown c.in_ok-summary-in-Asks.summary) c.steps-steps.result c.logged-devices.result c.steps-steps.ensures c.logged-devices.ensures sides.won sides.lost c.in_ok-won-in-Asks.ensures.searched.sums c.in_ok-lost-in-Asks.ensures.searched.sums c.in_ok-summary-in-Asks.ensures.sums in
+    let summed = summed_sides (map (λ n. n.now) c.args.names.now) task c.args.depth r.present sides.reached c.in_ok-won_stop-in-Asks.won_stop c.in_ok-lost_stop-in-Asks.lost_stop won_at lost_at (summary_shown c.in_ok-won-in-Asks.won) (summary_shown c.in_ok-lost-in-Asks.lost) (summary_shown c.in_ok-summary-in-Asks.summary) c.steps-steps.result c.logged-devices.result c.steps-steps.ensures c.logged-devices.ensures sides.won sides.lost c.in_ok-won-in-Asks.ensures.searched.sums c.in_ok-lost-in-Asks.ensures.searched.sums c.in_ok-summary-in-Asks.ensures.sums in
     let won_nodes = nodes_shown c.summed.new.table.flow.nodes in
     let nodes = c.summed-in-Asks.new.table.flow.nodes in
     let same = ap (λ (x : Flow). nodes_shown x.nodes) c.in_ok-keep-in-Asks.ensures.flow in
@@ -145,7 +145,7 @@ returns-in_ok-keep-in-Asks-clause-searched g t c =
     let before = c.args.table.now in
     let after = c.keep.new.self in
     record {
-      sums = subst (λ (x : Stop). Summed (future task.limits x r.present) (summary_shown c.in_ok-summary-in-Asks.summary)) (sym c.in-Asks.is) summed;
+      sums = subst (λ (x : Stop). Summed (map (λ n. n.now) c.args.names.now) (future task.limits x r.present) (summary_shown c.in_ok-summary-in-Asks.summary)) (sym c.in-Asks.is) summed;
       draws =
           subst (λ (x : Stop). Draws (nodes_shown c.keep.new.self.flow.nodes) c.in_ok-summary-in-Asks.summary.place (seen_from task.limits x r.present)) (sym c.in-Asks.is) draws;
       grows =
@@ -161,8 +161,8 @@ returns-in_ok-keep-in-Asks-clause-searched g t c =
       last = λ none no_nodes. last_made nodes c.ask.new.self.nodes after.flow.nodes _ place c.in_ok-summary-in-Asks.summary.place c.in_ok-place-in-Asks.ensures.place c.in_ok-place-in-Asks.ensures.nodes (ap (λ (x : Flow). x.nodes) c.in_ok-keep-in-Asks.ensures.flow) kept_at;
       marks = marks_back r marked tried behind back failed done c.in_ok-mark-in-Asks.ensures.ok c.in_ok-won_stop-in-Asks.ensures.marks c.in_ok-won-in-Asks.ensures.searched.marks c.back.ensures c.in_ok-lost_stop-in-Asks.ensures.marks c.in_ok-lost-in-Asks.ensures.searched.marks;
       table =
-          entries_more task (nodes_shown c.keep.new.self.flow.nodes) c.args.depth c.logged-devices.result r.present c.summed-in-Asks.new.table.entries.items c.keep.new.self.entries.items (core_shown c.in_ok-core-in-Asks.core) c.steps-steps.result c.in_ok-summary-in-Asks.summary.place (summary_shown c.in_ok-summary-in-Asks.summary) sides.reached
-          (all_wider task.limits (nodes_shown nodes) (nodes_shown c.keep.new.self.flow.nodes) c.summed-in-Asks.new.table.entries.items more c.in_ok-lost-in-Asks.ensures.searched.table)
+          entries_more (map (λ n. n.now) c.args.names.now) task (nodes_shown c.keep.new.self.flow.nodes) c.args.depth c.logged-devices.result r.present c.summed-in-Asks.new.table.entries.items c.keep.new.self.entries.items (core_shown c.in_ok-core-in-Asks.core) c.steps-steps.result c.in_ok-summary-in-Asks.summary.place (summary_shown c.in_ok-summary-in-Asks.summary) sides.reached
+          (all_wider (map (λ n. n.now) c.args.names.now) task.limits (nodes_shown nodes) (nodes_shown c.keep.new.self.flow.nodes) c.summed-in-Asks.new.table.entries.items more c.in_ok-lost-in-Asks.ensures.searched.table)
           c.in_ok-core-in-Asks.ensures.core c.steps-steps.ensures summed draws c.logged-devices.ensures c.in_ok-keep-in-Asks.ensures.kept;
       begun = begun_sides r marked tried behind back failed done before.visited c.enter.new.self.visited c.summed.new.table.visited c.summed-in-Asks.new.table.visited after.visited c.in_ok-mark-in-Asks.ensures.ok c.in_ok-won_stop-in-Asks.ensures.begun c.in_ok-won_stop-in-Asks.ensures.within c.in_ok-core-in-Asks.ensures.visited
           c.in_ok-won-in-Asks.ensures.searched.begun c.back.ensures c.in_ok-lost_stop-in-Asks.ensures.begun c.in_ok-lost_stop-in-Asks.ensures.within c.in_ok-lost-in-Asks.ensures.searched.begun c.keep.ensures.visited;

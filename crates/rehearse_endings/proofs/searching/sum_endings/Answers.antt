@@ -1,4 +1,4 @@
-use Rattle.std.proofs.Common.{ℕ, ◌+◌, [], length, ap, sym, subst, ◌∙◌, Err}
+use Rattle.std.proofs.Common.{ℕ, ◌+◌, [], length, map, ap, sym, subst, ◌∙◌, Err}
 use Rattle.std.proofs.lemmas.List.{length-map}
 use Rattle.rehearse_states.specs.Drawing.{node_shown, nodes_shown}
 use Rattle.rehearse_endings.proofs.WrittenFlowLemmas.{whole_flow}
@@ -14,7 +14,7 @@ pub summed-requires-clause-reached : goal.summed-requires-clause-reached
 summed-requires-clause-reached g c = reached_first (task_in c.args.rehearsal.now) c.in_ok-stop.stop (g.S.Store.record_of c.begin.new.store).present c.in_ok-stop.ensures.stops
 
 pub returns-clause-rows : goal.returns-clause-rows
-returns-clause-rows g c = whole_rows (task_in c.args.rehearsal.now) c.in_ok-stop.stop (g.S.Store.record_of c.begin.new.store).present (summary_shown c.in_ok-summary.summary) c.in_ok-stop.ensures.stops c.in_ok-summary.ensures.searched.sums
+returns-clause-rows g c = whole_rows (map (λ n. n.now) c.args.names.now) (task_in c.args.rehearsal.now) c.in_ok-stop.stop (g.S.Store.record_of c.begin.new.store).present (summary_shown c.in_ok-summary.summary) c.in_ok-stop.ensures.stops c.in_ok-summary.ensures.searched.sums
 
 pub returns-clause-met : goal.returns-clause-met
 returns-clause-met g c =

@@ -1,4 +1,4 @@
-use Rattle.std.proofs.Common.{rules, refl, sym, subst, ◌≡◌, Bool, true, false}
+use Rattle.std.proofs.Common.{rules, refl, sym, subst, ◌≡◌, Bool, true, false, map}
 use Rattle.rehearse_machine.specs.Tasks.{task_in}
 use Rattle.rehearse_states.specs.Drawing.{nodes_shown}
 use Rattle.rehearse_states.specs.RowsShown.{rows_shown}
@@ -11,8 +11,9 @@ returns-then-flow-clause-ok g c =
     let task = task_in c.args.rehearsal.now in
     let states = c.in_ok-found.found.states in
     let is : c.args.flow ≡ true = search rules in
-    let told : Tells true task states c.in_ok-text.text.items = (nodes_shown c.in_ok-found.found.nodes, c.in_ok-found.ensures.flow, c.in_ok-text.ensures) in
-    (task, states, refl, c.in_ok-found.ensures.states, c.in_ok-found.ensures.met, subst (λ (flow : Bool). Tells flow task states c.in_ok-text.text.items) (sym is) told)
+    let names = map (λ n. n.now) c.args.names.now in
+    let told : Tells names true task states c.in_ok-text.text.items = (nodes_shown c.in_ok-found.found.nodes, c.in_ok-found.ensures.flow, c.in_ok-text.ensures) in
+    (task, states, refl, c.in_ok-found.ensures.states, c.in_ok-found.ensures.met, subst (λ (flow : Bool). Tells names flow task states c.in_ok-text.text.items) (sym is) told)
 
 pub returns-clause-ok : goal.returns-clause-ok
 returns-clause-ok g c =
@@ -20,5 +21,6 @@ returns-clause-ok g c =
     let states = c.in_ok-found.found.states in
     let is : c.args.flow ≡ false = search rules in
     let text = c.in_ok-text-2.text.items in
-    let told : Tells false task states text = text_told task (nodes_shown c.in_ok-found.found.nodes) (rows_shown c.in_ok-found.found.rows) text states c.in_ok-found.ensures.flow c.in_ok-found.ensures.rows c.in_ok-text-2.ensures in
-    (task, states, refl, c.in_ok-found.ensures.states, c.in_ok-found.ensures.met, subst (λ (flow : Bool). Tells flow task states text) (sym is) told)
+    let names = map (λ n. n.now) c.args.names.now in
+    let told : Tells names false task states text = text_told names task (nodes_shown c.in_ok-found.found.nodes) (rows_shown c.in_ok-found.found.rows) text states c.in_ok-found.ensures.flow c.in_ok-found.ensures.rows c.in_ok-text-2.ensures in
+    (task, states, refl, c.in_ok-found.ensures.states, c.in_ok-found.ensures.met, subst (λ (flow : Bool). Tells names flow task states text) (sym is) told)

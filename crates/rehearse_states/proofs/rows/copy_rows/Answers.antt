@@ -1,8 +1,7 @@
 use Rattle.std.proofs.Common.{◌∙◌, ap, sym, ◌≡◌, map, take, List, ◌++◌, ◌∷◌, []}
 use Rattle.std.proofs.lemmas.List.{map_more, map-append}
-use Rattle.rehearse_rules.specs.EndingsShown.{halt_shown}
 use Rattle.rehearse_states.specs.Endings.{Row}
-use Rattle.rehearse_states.specs.RowsShown.{row_shown}
+use Rattle.rehearse_states.specs.RowsShown.{row_shown, run_end_shown}
 use Rattle.rehearse_states.specs.declared.rows.Row as rt
 use Rattle.rehearse_states.proofs.RowLemmas.{row_same}
 use Rattle.rehearse_states.proofs.rows.copy_rows.Goals as goal
@@ -12,8 +11,8 @@ loop-row-preserved c =
     let items = c.deref-row-items.result.now in
     let i = c.loop-row.row-index in
     let row : rt.Row = c.row-item.result in
-    let made : rt.Row = record { halt = c.in_ok-halt.halt; count = row.count; word = c.in_ok-word.word; fewest = c.in_ok-fewest.fewest } in
-    let same : row_shown made ≡ row_shown row = row_same (halt_shown made.halt) (halt_shown row.halt) row.count made.word.items row.word.items made.fewest.items row.fewest.items c.in_ok-halt.ensures (c.in_ok-word.ensures.items ∙ c.deref.ensures.value) (c.in_ok-fewest.ensures.items ∙ c.deref-in-loop-row.ensures.value) in
+    let made : rt.Row = record { run_end = c.in_ok-run_end.run_end; count = row.count; word = c.in_ok-word.word; fewest = c.in_ok-fewest.fewest } in
+    let same : row_shown made ≡ row_shown row = row_same (run_end_shown made.run_end.value) (run_end_shown row.run_end.value) row.count made.word.items row.word.items made.fewest.items row.fewest.items (ap run_end_shown c.in_ok-run_end.ensures.cases) (c.in_ok-word.ensures.items ∙ c.deref.ensures.value) (c.in_ok-fewest.ensures.items ∙ c.deref-in-loop-row.ensures.value) in
     ap (map row_shown) c.in_ok-push.ensures.items
     ∙ map-append row_shown c.loop-row.copies.items (made ∷ [])
     ∙ ap (λ (x : List Row). x ++ row_shown made ∷ []) c.loop-row.invariant
