@@ -20,6 +20,8 @@ _ubtool_options() {
         printenv)
             specs=(
                 '(-c --config)'{-c,--config}'[Configuration, at most 1048576 bytes]:file:_files'
+                '(-i --image)'{-i,--image}'[Image, at most 1048576 bytes\: the whole FILE, in place of -c]:file:_files'
+                '--second[Second copy of a redundant pair, beside -i\: the whole FILE]:file:_files'
                 '--big-endian[The CRC is stored big-endian]'
                 '(-l --lock)'{-l,--lock}'[Wait for the lock file in DIR]:folder:_files -/'
                 '--one-copy[If one copy of a pair cannot be read, use the other]'
@@ -33,6 +35,8 @@ _ubtool_options() {
         setenv)
             specs=(
                 '(-c --config)'{-c,--config}'[Configuration, at most 1048576 bytes]:file:_files'
+                '(-i --image)'{-i,--image}'[Image, at most 1048576 bytes\: the whole FILE, in place of -c]:file:_files'
+                '--second[Second copy of a redundant pair, beside -i\: the whole FILE]:file:_files'
                 '--big-endian[The CRC is stored big-endian]'
                 '(-l --lock)'{-l,--lock}'[Folder of the lock file]:folder:_files -/'
                 '--one-copy[If one copy of a pair cannot be read, use the other]'
@@ -44,6 +48,8 @@ _ubtool_options() {
         rehearse)
             specs=(
                 '(-c --config)'{-c,--config}'[Configuration, at most 1048576 bytes]:file:_files'
+                '(-i --image)'{-i,--image}'[Image, at most 1048576 bytes\: the whole FILE, in place of -c]:file:_files'
+                '--second[Second copy of a redundant pair, beside -i\: the whole FILE]:file:_files'
                 '--big-endian[The CRC is stored big-endian]'
                 '(-d --device-list)'{-d,--device-list}'[Device list, at most 1048576 bytes\: a command that may fail a line]:file:_files'
                 '(-b --variable)'{-b,--variable}'[Variable whose text is run]:name:_ubtool_names'
@@ -61,6 +67,8 @@ _ubtool_options() {
         endings)
             specs=(
                 '(-c --config)'{-c,--config}'[Configuration, at most 1048576 bytes]:file:_files'
+                '(-i --image)'{-i,--image}'[Image, at most 1048576 bytes\: the whole FILE, in place of -c]:file:_files'
+                '--second[Second copy of a redundant pair, beside -i\: the whole FILE]:file:_files'
                 '--big-endian[The CRC is stored big-endian]'
                 '(-d --device-list)'{-d,--device-list}'[Device list, at most 1048576 bytes\: a command that may fail a line]:file:_files'
                 '(-b --variable)'{-b,--variable}'[Variable whose text is run]:name:_ubtool_names'

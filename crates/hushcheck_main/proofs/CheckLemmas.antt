@@ -32,6 +32,7 @@ use Rattle.tool_steps.specs.PrintingFiles.{FromImages, environment, first_bytes,
 use Rattle.tool_steps.specs.declared.images.Images.{Images}
 use Rattle.tool_steps.specs.declared.read.StoredCopy.{StoredCopy}
 use Rattle.tool_steps.specs.ReadingFiles.{IsTextFault}
+use Rattle.tool_words.specs.Asked.{configured}
 
 -- the bytes of a text, if there is one
 abbrev pub bytes_if : Option (Vec ℕ Global) → Option Text
@@ -52,6 +53,7 @@ unread asked out old new (fault.CannotRead path) reads h = (reads, h)
 unread asked out old new (fault.CannotWrite path) reads h = (reads, h)
 unread asked out old new (fault.FileShort path) reads h = (reads, h)
 unread asked out old new (fault.FileTooLong path) reads h = (reads, h)
+unread asked out old new fault.UnequalSizes reads h = (reads, h)
 unread asked out old new fault.CannotReadInput reads h = (reads, h)
 unread asked out old new fault.InputTooLong reads h = (reads, h)
 unread asked out old new (fault.InputCutOff line) reads h = (reads, h)
@@ -85,7 +87,7 @@ are-found : (config : Text) (list : Option Text) (found : List Copy) (x y z : To
 are-found config None found x y z None IsSo read listed so = subst (λ (t : Told). FromImages config x t (λ copies. IsSo copies None)) (sym listed) (record { found = found; read = read; so = so })
 are-found config None found x y z (Some text) IsSo read listed so = absurd listed
 are-found config (Some list) found x y z None IsSo read listed so = absurd listed
-are-found config (Some list) found x y z (Some text) IsSo read listed so = are-read config list found text x y z (λ copies bytes. IsSo copies (Some bytes)) read listed so
+are-found config (Some list) found x y z (Some text) IsSo read listed so = are-read (configured config) list found text x y z (λ copies bytes. IsSo copies (Some bytes)) read listed so
 
 only-read : (config : Text) (list : Option Text) (found : List Copy) (x y z : Told) (text : Option (Vec ℕ Global)) → HasRead config x y found → ReadsList list y z (Ok text) → OnlyReads x z
 only-read config None found x y z None read listed = subst (λ (t : Told). OnlyReads x t) (sym listed) (found-reads config x y found read)
@@ -120,6 +122,7 @@ module _ (asked : Asked) (out out' : Sink) (found : List Copy) (text : Option (V
   checks-read (Err (Shared (fault.CannotWrite path))) h = absurd h
   checks-read (Err (Shared (fault.FileShort path))) h = absurd h
   checks-read (Err (Shared (fault.FileTooLong path))) h = absurd h
+  checks-read (Err (Shared fault.UnequalSizes)) h = absurd h
   checks-read (Err (Shared fault.CannotReadInput)) h = absurd h
   checks-read (Err (Shared fault.InputTooLong)) h = absurd h
   checks-read (Err (Shared (fault.InputCutOff line))) h = absurd h
@@ -141,6 +144,7 @@ leaves-output g out out' (Err (Shared (fault.CannotRead path))) h = absurd h
 leaves-output g out out' (Err (Shared (fault.CannotWrite path))) h = absurd h
 leaves-output g out out' (Err (Shared (fault.FileShort path))) h = absurd h
 leaves-output g out out' (Err (Shared (fault.FileTooLong path))) h = absurd h
+leaves-output g out out' (Err (Shared fault.UnequalSizes)) h = absurd h
 leaves-output g out out' (Err (Shared fault.CannotReadInput)) h = absurd h
 leaves-output g out out' (Err (Shared fault.InputTooLong)) h = absurd h
 leaves-output g out out' (Err (Shared (fault.InputCutOff line))) h = absurd h
@@ -157,6 +161,7 @@ counts-none g out out' count (Err (Shared (fault.Config error))) h = refl
 counts-none g out out' count (Err (Shared (fault.Lock error))) h = refl
 counts-none g out out' count (Err (Shared (fault.FileShort path))) h = refl
 counts-none g out out' count (Err (Shared (fault.FileTooLong path))) h = refl
+counts-none g out out' count (Err (Shared fault.UnequalSizes)) h = refl
 counts-none g out out' count (Err (Shared fault.CannotReadInput)) h = refl
 counts-none g out out' count (Err (Shared fault.InputTooLong)) h = refl
 counts-none g out out' count (Err (Shared (fault.InputCutOff line))) h = refl
@@ -191,6 +196,7 @@ no-list answer env names all shell old (Shared (fault.CannotRead path)) h = absu
 no-list answer env names all shell old (Shared (fault.CannotWrite path)) h = absurd h
 no-list answer env names all shell old (Shared (fault.FileShort path)) h = absurd h
 no-list answer env names all shell old (Shared (fault.FileTooLong path)) h = absurd h
+no-list answer env names all shell old (Shared fault.UnequalSizes) h = absurd h
 no-list answer env names all shell old (Shared fault.CannotReadInput) h = absurd h
 no-list answer env names all shell old (Shared fault.InputTooLong) h = absurd h
 no-list answer env names all shell old (Shared (fault.InputCutOff line)) h = absurd h

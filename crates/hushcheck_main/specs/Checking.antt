@@ -24,6 +24,7 @@ use Rattle.tool_steps.specs.Images.{Copy, IsImagesFault}
 use Rattle.tool_steps.specs.PrintingFiles.{FromImages, environment}
 use Rattle.tool_steps.specs.ReadingFiles.{ReadsText}
 use Rattle.tool_steps.specs.Sources.{AreRead, IsUnlisted}
+use Rattle.tool_words.specs.Asked.{configured}
 
 -- ---- what is checked
 
@@ -123,12 +124,12 @@ ReadsList path old new _ = ⊥
 abbrev pub AreFound : (config : Text) → (list : Option Text) → (old new : Told) → (List Copy → Option Text → Type 0) →
     Type 0
 AreFound config None old new IsSo = FromImages config old new (λ found. IsSo found None)
-AreFound config (Some list) old new IsSo = AreRead config list old new (λ found text. IsSo found (Some text))
+AreFound config (Some list) old new IsSo = AreRead (configured config) list old new (λ found text. IsSo found (Some text))
 
 -- why a file is refused that is read
 abbrev pub IsUnread : (config : Text) → (list : Option Text) → Told → Fault → Type 0
 IsUnread config None old fault = IsImagesFault config old.stored fault
-IsUnread config (Some list) old fault = IsImagesFault config old.stored fault ⊎ IsUnlisted config list old fault
+IsUnread config (Some list) old fault = IsImagesFault config old.stored fault ⊎ IsUnlisted (configured config) list old fault
 
 -- and what is checked then has this property
 abbrev pub FromFiles : Asked → (old new : Told) → (Given → Type 0) → Type 0

@@ -30,6 +30,9 @@ pub enum Fault {
     /// The file has more bytes than are read.
     #[error("{0} is too long")]
     FileTooLong(WordForm),
+    /// The two files of a pair, of which each is one whole copy, are not of one size.
+    #[error("image sizes differ")]
+    UnequalSizes,
     /// Standard input failed.
     #[error("cannot read standard input")]
     CannotReadInput,

@@ -1,6 +1,7 @@
 pub mod PlaceLemmas
 pub mod ReadingLemmas
 pub mod CountLemmas
+pub mod OriginLemmas
 pub mod OneCopyLemmas
 pub mod PrintLemmas
 pub mod SpareLemmas

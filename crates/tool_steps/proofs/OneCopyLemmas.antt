@@ -1,6 +1,7 @@
 -- The images of a source, where one copy of a pair may be enough.
 use Rattle.std.proofs.Common.{◌≡◌, ◌∙◌, ◌⊎◌, ℕ, Bool, true, false, refl, sym, ap, subst, List, [], ◌∷◌, ◌++◌, append_assoc, Option, Some, None, Ok, Err, inl, inr}
-use Rattle.std.specs.Prelude.{Result, IfErr, is_some, string_bytes}
+use Rattle.std.specs.Prelude.{Result, IfErr, String, is_some, string_bytes}
+use Rattle.std.specs.declared.alloc.Global.{Global}
 use Rattle.envimage.specs.Config.{PlaceShown}
 use Rattle.envimage.specs.Place.{place_shown}
 use Rattle.envimage.specs.declared.config.Place.{Place}
@@ -16,17 +17,23 @@ use Rattle.tool_images.specs.FileFaults.{IsPathOf, read_fault}
 use Rattle.tool_images.specs.declared.fault.Fault.{Fault}
 use Rattle.tool_images.specs.declared.fault.Fault.TheVariants.{Memory}
 use Rattle.tool_images.specs.declared.word_form.WordForm.{WordForm}
-use Rattle.tool_steps.proofs.ReadingLemmas.{copy-reads, found-reads, images-read, named-reads}
+use Rattle.tool_steps.proofs.OriginLemmas.{origin-reads}
+use Rattle.tool_steps.proofs.ReadingLemmas.{copy-reads, images-read, named-reads}
 use Rattle.tool_steps.specs.Faults.{IsReadFault}
-use Rattle.tool_steps.specs.Images.{Copy, HasRead, NamesPlaces, ReadsImages, ReadsPlaces, copies, copy_of, second_place}
+use Rattle.tool_steps.specs.Images.{Copy, HasRead, NamesPlaces, ReadsPlaces, copies, copy_of, second_place}
 use Rattle.tool_steps.specs.Notes.{MayTell, TellsIf}
-use Rattle.tool_steps.specs.OneCopy.{Finds, FindsImages, FindsPair, HasFound, HasLost, IsLoss, IsSoughtFault, IsUnfound, Joins, LosesBoth, LosesCopy, LosesOne, ReadsBoth, ReadsPair, SeeksCopy, in_its_place}
+use Rattle.tool_steps.specs.OneCopy.{Finds, FindsEither, FindsImages, FindsPair, HasFound, HasLost, IsLoss, IsSoughtFault, IsUnfound, Joins, LacksImages, LosesBoth, LosesCopy, LosesOne, ReadsBoth, ReadsPair, SeeksCopy, in_its_place}
+use Rattle.tool_steps.specs.Origins.{IsOriginFault, ReadsOrigin}
 use Rattle.tool_steps.specs.ReadingFiles.{IsCopyFault, ReadsCopy, bytes_at, read_of}
 use Rattle.tool_steps.specs.declared.images.Images.{Images}
 use Rattle.tool_steps.specs.declared.one_copy.ImageSource.{ImageSource}
 use Rattle.tool_steps.specs.declared.read.SoughtCopy.{SoughtCopy}
 use Rattle.tool_steps.specs.declared.read.SoughtCopy.TheVariants.{Lost, Read}
 use Rattle.tool_steps.specs.declared.read.StoredCopy.{StoredCopy}
+use Rattle.tool_words.specs.Asked.{OriginShown, configured, whole}
+use Rattle.tool_words.specs.CommandAnswers.{origin_shown}
+use Rattle.tool_words.specs.declared.ask.Origin.{Origin}
+use Rattle.tool_words.specs.declared.ask.Origin.TheVariants.{Config, Files}
 
 -- ---- one copy
 
@@ -148,29 +155,40 @@ pair-fault program (Lost at fault) (Lost other more) err err' (Err f) h j = subs
 
 -- ---- the images of a source
 
--- all copies are needed
-pub all-found : (program : List ℕ) (source : ImageSource) (err : Sink) (old new : Told) (r : Result Images Fault) → source.one_copy ≡ false → ReadsImages (string_bytes source.config) old new r
-    → FindsImages program source err err old new r
-all-found program source err old new (Ok images) is h = record { lost = None; read = h; tells = refl }
-all-found program source err old new (Err f) is h = (h.0, rw is h.1)
+-- what names them, if all copies are needed
+pub all-found : (program : List ℕ) (source : ImageSource) (err : Sink) (old new : Told) (r : Result Images Fault) → (source.one_copy ≡ true → (config : String Global) → source.origin ≡ Config config → ⊥)
+    → ReadsOrigin (origin_shown source.origin) old new r → FindsImages program source err err old new r
+all-found program source err old new (Ok images) other h = record { lost = None; read = h; tells = refl }
+all-found program source err old new (Err f) other h = (h.0, why source.one_copy source.origin other h.1)
+  where
+    why : (one_copy : Bool) (origin : Origin) → (one_copy ≡ true → (config : String Global) → origin ≡ Config config → ⊥) → IsOriginFault (origin_shown origin) old.stored f
+        → IsUnfound one_copy (origin_shown origin) old new f
+    why false origin other h = h
+    why true (Files first second) other h = h
+    why true (Config config) other h = absurd (other refl config refl)
+
+-- a configuration, if one copy is enough
+pub either-found : (program : List ℕ) (source : ImageSource) (config : String Global) (err err' : Sink) (old new : Told) (r : Result Images Fault) → source.origin ≡ Config config → source.one_copy ≡ true
+    → FindsEither program (string_bytes config) err err' old new r → FindsImages program source err err' old new r
+either-found program source config err err' old new (Ok images) named is h = record { lost = h.0; read = rw (named, is) h.1; tells = h.2 }
+either-found program source config err err' old new (Err f) named is h = (h.0, rw (named, is) h.1)
 
 -- the configuration is refused
-pub places-unfound : (program : List ℕ) (source : ImageSource) (err : Sink) (old new : Told) (f : Fault) → source.one_copy ≡ true
-    → ReadsPlaces (string_bytes source.config) old new (Err f) → FindsImages program source err err old new (Err f)
-places-unfound program source err old new f is h = (h.0, rw is (inl h.1))
+pub places-unfound : (program config : List ℕ) (err : Sink) (old new : Told) (f : Fault) → ReadsPlaces config old new (Err f) → FindsEither program config err err old new (Err f)
+places-unfound program config err old new f h = (h.0, inl h.1)
 
 -- a single image
-pub single-found : (program : List ℕ) (source : ImageSource) (err : Sink) (p : Place) (x : StoredCopy) (a b c : Told) → ReadsPlaces (string_bytes source.config) a b (Ok (p, None))
-    → x.place ≡ p → ReadsCopy p b c (Ok x) → FindsImages program source err err a c (Ok (record { first = x; second = None }))
-single-found program source err p x a b c first place second =
-    record { lost = None; read = images-read (string_bytes source.config) p None x None a b c c first place second refl; tells = refl }
+pub single-found : (program config : List ℕ) (err : Sink) (p : Place) (x : StoredCopy) (a b c : Told) → ReadsPlaces config a b (Ok (p, None))
+    → x.place ≡ p → ReadsCopy p b c (Ok x) → FindsEither program config err err a c (Ok (record { first = x; second = None }))
+single-found program config err p x a b c first place second =
+    (None, images-read config p None x None a b c c first place second refl, refl)
 
-pub single-unfound : (program : List ℕ) (source : ImageSource) (err : Sink) (p : Place) (a b c : Told) (f : Fault) → source.one_copy ≡ true
-    → ReadsPlaces (string_bytes source.config) a b (Ok (p, None)) → ReadsCopy p b c (Err f) → FindsImages program source err err a c (Err f)
-single-unfound program source err p a b c f is first h =
+pub single-unfound : (program config : List ℕ) (err : Sink) (p : Place) (a b c : Told) (f : Fault)
+    → ReadsPlaces config a b (Ok (p, None)) → ReadsCopy p b c (Err f) → FindsEither program config err err a c (Err f)
+single-unfound program config err p a b c f first h =
     let why : IsCopyFault a.stored (place_shown p) f = subst (λ (s : Stored). IsCopyFault s (place_shown p) f) first.stored h.1 in (
-      OnlyReads-then a b c (named-reads (string_bytes source.config) a b (place_shown p ∷ []) first) h.0,
-      rw is (inr (inl (record { text = first.text; there = first.there; says = (place_shown p, first.names, why) }))),
+      OnlyReads-then a b c (named-reads config a b (place_shown p ∷ []) first) h.0,
+      inr (inl (record { text = first.text; there = first.there; says = (place_shown p, first.names, why) })),
     )
 
 -- both copies of a pair, as all images
@@ -187,30 +205,26 @@ pair-all config p q found a b c first second = subst (HasRead config a c) (sym s
   stored = second.stored ∙ first.stored;
 })
 
-pair-found-of : (program : List ℕ) (source : ImageSource) (err err' : Sink) (p q : Place) (a b c : Told) (r : Result Images Fault) → source.one_copy ≡ true
-    → ReadsPlaces (string_bytes source.config) a b (Ok (p, Some q)) → FindsPair program (place_shown p) (place_shown q) err err' b c r → FindsImages program source err err' a c r
-pair-found-of program source err err' p q a b c (Ok images) is first h = by h.0 h.1 h.2
+pair-found-of : (program config : List ℕ) (err err' : Sink) (p q : Place) (a b c : Told) (r : Result Images Fault)
+    → ReadsPlaces config a b (Ok (p, Some q)) → FindsPair program (place_shown p) (place_shown q) err err' b c r → FindsEither program config err err' a c r
+pair-found-of program config err err' p q a b c (Ok images) first h = by h.0 h.1 h.2
   where
     by : (lost : Option PlaceShown) → ReadsPair (place_shown p) (place_shown q) lost b c (copies images) → TellsIf program (is_some lost) err err'
-        → HasFound program source err err' a c (copies images)
-    by None read tells = record { lost = None; read = pair-all (string_bytes source.config) (place_shown p) (place_shown q) (copies images) a b c first read; tells = tells }
-    by (Some lost) read tells = record {
-      lost = Some lost;
-      read = rw is (record { first = place_shown p; second = place_shown q; after_config = b; named = first; loses = read });
-      tells = tells;
-    }
-pair-found-of program source err err' p q a b c (Err f) is first h =
-    (OnlyReads-then a b c (named-reads (string_bytes source.config) a b (place_shown p ∷ place_shown q ∷ []) first) h.0, rw is (why h.1))
+        → FindsEither program config err err' a c (Ok images)
+    by None read tells = (None, pair-all config (place_shown p) (place_shown q) (copies images) a b c first read, tells)
+    by (Some lost) read tells = (Some lost, record { first = place_shown p; second = place_shown q; after_config = b; named = first; loses = read }, tells)
+pair-found-of program config err err' p q a b c (Err f) first h =
+    (OnlyReads-then a b c (named-reads config a b (place_shown p ∷ place_shown q ∷ []) first) h.0, why h.1)
   where
-    why : (f ≡ Memory) ⊎ LosesBoth (place_shown p) (place_shown q) b c f → IsUnfound true (string_bytes source.config) a c f
-    why (inl memory) = subst (λ (f : Fault). IsUnfound true (string_bytes source.config) a c f) (sym memory) (inl tt)
+    why : (f ≡ Memory) ⊎ LosesBoth (place_shown p) (place_shown q) b c f → LacksImages config a c f
+    why (inl memory) = subst (λ (f : Fault). LacksImages config a c f) (sym memory) (inl tt)
     why (inr lost) = inr (inr (record { first = place_shown p; second = place_shown q; after_config = b; named = first; loses = lost }))
 
 -- the same, with the second place that was named
-pub source-found : (program : List ℕ) (source : ImageSource) (err err' : Sink) (p q : Place) (second : Option Place) (a b c : Told) (r : Result Images Fault) → source.one_copy ≡ true → second ≡ Some q
-    → ReadsPlaces (string_bytes source.config) a b (Ok (p, second)) → FindsPair program (place_shown p) (place_shown q) err err' b c r → FindsImages program source err err' a c r
-source-found program source err err' p q second a b c r is named first h =
-    pair-found-of program source err err' p q a b c r is (subst (λ (s : Option Place). ReadsPlaces (string_bytes source.config) a b (Ok (p, s))) named first) h
+pub source-found : (program config : List ℕ) (err err' : Sink) (p q : Place) (second : Option Place) (a b c : Told) (r : Result Images Fault) → second ≡ Some q
+    → ReadsPlaces config a b (Ok (p, second)) → FindsPair program (place_shown p) (place_shown q) err err' b c r → FindsEither program config err err' a c r
+source-found program config err err' p q second a b c r named first h =
+    pair-found-of program config err err' p q a b c r (subst (λ (s : Option Place). ReadsPlaces config a b (Ok (p, s))) named first) h
 
 -- ---- what finding them did
 
@@ -218,13 +232,14 @@ one-reads : (first second lost : PlaceShown) (old new : Told) (found : List Copy
 one-reads first second lost old new found h =
     record { reads = read_of first ∷ read_of second ∷ []; calls = h.calls; all = refl; stored = h.stored }
 
-finds-reads : (one_copy : Bool) (config : List ℕ) (lost : Option PlaceShown) (old new : Told) (found : List Copy) → Finds one_copy config lost old new found → OnlyReads old new
-finds-reads one_copy config None old new found h = found-reads config old new found h
-finds-reads true config (Some lost) old new found h =
+finds-reads : (one_copy : Bool) (origin : OriginShown) (lost : Option PlaceShown) (old new : Told) (found : List Copy) → Finds one_copy origin lost old new found → OnlyReads old new
+finds-reads one_copy origin None old new found h = origin-reads origin old new found h
+finds-reads true (whole first second) (Some lost) old new found h = absurd h
+finds-reads true (configured config) (Some lost) old new found h =
     OnlyReads-then old h.after_config new (named-reads config old h.after_config (h.first ∷ h.second ∷ []) h.named)
     (one-reads h.first h.second lost h.after_config new found h.loses)
-finds-reads false config (Some lost) old new found h = absurd h
+finds-reads false origin (Some lost) old new found h = absurd h
 
 -- files were only read
 pub source-reads : (program : List ℕ) (source : ImageSource) (err err' : Sink) (old new : Told) (found : List Copy) → HasFound program source err err' old new found → OnlyReads old new
-source-reads program source err err' old new found h = finds-reads source.one_copy (string_bytes source.config) h.lost old new found h.read
+source-reads program source err err' old new found h = finds-reads source.one_copy (origin_shown source.origin) h.lost old new found h.read

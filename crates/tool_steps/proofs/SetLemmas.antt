@@ -29,6 +29,7 @@ use Rattle.tool_steps.specs.Overlap.{are_overlapping}
 use Rattle.tool_steps.specs.PrintingFiles.{first_bytes, second_bytes}
 use Rattle.tool_steps.specs.ChangingFiles.{Edits, HasEdited, HasSet, IsChangeFault, IsPlaceOf, IsRefusedChange, Sets, WritesCopy, WritesIn, reads_of}
 use Rattle.tool_steps.specs.declared.one_copy.ImageSource.{ImageSource}
+use Rattle.tool_words.specs.CommandAnswers.{origin_shown}
 
 -- a change that was made only reads
 pub edit-reads : (input : Option (List ℕ)) (order : ByteOrder) (change : Change) (found : List Copy) (old new : Told) (which : Which) (bytes : List ℕ) → HasEdited input order change found old new which bytes
@@ -99,7 +100,7 @@ has-set program input source change found which bytes err noted err' x y z w r r
   safe = changed-safe input source.order change found y z which bytes made;
   warned = warned;
   written = h;
-  over_lost = over-lost source.one_copy (string_bytes source.config) read.lost x y found source.order made.edit which bytes h.place read.read made.made h.there;
+  over_lost = over-lost source.one_copy (origin_shown source.origin) read.lost x y found source.order made.edit which bytes h.place read.read made.made h.there;
 }
 
 pub sets-written : (program : List ℕ) (input : Option (List ℕ)) (source : ImageSource) (change : Change) (found : List Copy) (which : Which) (bytes : Vec ℕ Global) (err noted err' : Sink) (x y z w : Told)

@@ -10,6 +10,7 @@ use Rattle.tool_files.specs.Told.{Told}
 use Rattle.tool_steps.specs.ChangingFiles.{IsPlaceOf, edited}
 use Rattle.tool_steps.specs.Images.{Copy}
 use Rattle.tool_steps.specs.OneCopy.{Finds, in_its_place}
+use Rattle.tool_words.specs.Asked.{OriginShown, configured, whole}
 
 stands-in : (order : ByteOrder) (copy : Copy) (lost : PlaceShown) (edit : Edit) (which : Which) (bytes : List ℕ) (place : PlaceShown) → edited order (in_its_place copy lost) edit ≡ Ok (which, bytes)
     → IsPlaceOf which (in_its_place copy lost) place → place ≡ lost
@@ -17,10 +18,11 @@ stands-in order copy lost edit which bytes place made there =
     subst (λ (w : Which). IsPlaceOf w (in_its_place copy lost) place → place ≡ lost) (sym (equal-second order copy.1 edit which bytes made)) (λ (at : place ≡ lost). at) there
 
 -- a change is written over the copy that was lost
-pub over-lost : (one_copy : Bool) (config : List ℕ) (lost : Option PlaceShown) (old new : Told) (found : List Copy) (order : ByteOrder) (edit : Edit) (which : Which) (bytes : List ℕ) (place : PlaceShown)
-    → Finds one_copy config lost old new found → edited order found edit ≡ Ok (which, bytes) → IsPlaceOf which found place → IfSome lost (λ lost. place ≡ lost)
-over-lost one_copy config None old new found order edit which bytes place h made there = tt
-over-lost false config (Some lost) old new found order edit which bytes place h made there = absurd h
-over-lost true config (Some lost) old new found order edit which bytes place h made there =
+pub over-lost : (one_copy : Bool) (origin : OriginShown) (lost : Option PlaceShown) (old new : Told) (found : List Copy) (order : ByteOrder) (edit : Edit) (which : Which) (bytes : List ℕ) (place : PlaceShown)
+    → Finds one_copy origin lost old new found → edited order found edit ≡ Ok (which, bytes) → IsPlaceOf which found place → IfSome lost (λ lost. place ≡ lost)
+over-lost one_copy origin None old new found order edit which bytes place h made there = tt
+over-lost false origin (Some lost) old new found order edit which bytes place h made there = absurd h
+over-lost true (whole first second) (Some lost) old new found order edit which bytes place h made there = absurd h
+over-lost true (configured config) (Some lost) old new found order edit which bytes place h made there =
     subst (λ (found : List Copy). edited order found edit ≡ Ok (which, bytes) → IsPlaceOf which found place → place ≡ lost) (sym h.loses.are)
     (stands-in order h.loses.copy lost edit which bytes place) made there

@@ -31,6 +31,7 @@ use Rattle.tool_steps.specs.Overlap.{are_overlapping}
 use Rattle.tool_steps.specs.PrintingFiles.{first_bytes, second_bytes}
 use Rattle.tool_steps.specs.ReadingFiles.{IsInput, IsInputFault, IsTextFault}
 use Rattle.tool_steps.specs.declared.one_copy.ImageSource.{ImageSource}
+use Rattle.tool_words.specs.CommandAnswers.{origin_shown}
 use Rattle.output.specs.Sink.{Sink}
 
 -- which copy is written after an edit, and its bytes, or the refusal
@@ -159,7 +160,7 @@ abbrev pub IsSetFault : (program : List ℕ) → (input : Option (List ℕ)) →
     Told → Told → Fault → Type 0
 IsSetFault program input source change err err' old new faults.Memory = Unit {0}
 IsSetFault program input source change err err' old new fault =
-    (IsUnfound source.one_copy (string_bytes source.config) old new fault × (err' ≡ err))
+    (IsUnfound source.one_copy (origin_shown source.origin) old new fault × (err' ≡ err))
     ⊎ IsRefusedChange program input source change err err' old fault
 
 -- the change was written; or its write failed; or it was refused, and files were only read

@@ -2,7 +2,7 @@
 use Rattle.std.specs.Prelude.{◌≡◌, ◌⊎◌, ℕ, Bool, true, false, Result, Err}
 use Rattle.output.specs.Sink.{counted}
 use Rattle.tool_images.specs.declared.fault.Fault.{Fault}
-use Rattle.tool_images.specs.declared.fault.Fault.TheVariants.{Config, CannotRead, CannotWrite, FileShort, FileTooLong, Memory}
+use Rattle.tool_images.specs.declared.fault.Fault.TheVariants.{Config, CannotRead, CannotWrite, FileShort, FileTooLong, Memory, UnequalSizes}
 
 -- If "cannot read" or "cannot write" is answered, one more failure of the device is counted. No other answer changes
 -- the count.
@@ -22,6 +22,7 @@ IsReadFault (Config error) = Unit {0}
 IsReadFault (CannotRead path) = Unit {0}
 IsReadFault (FileShort path) = Unit {0}
 IsReadFault (FileTooLong path) = Unit {0}
+IsReadFault UnequalSizes = Unit {0}
 IsReadFault Memory = Unit {0}
 IsReadFault _ = ⊥
 

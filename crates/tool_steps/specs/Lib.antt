@@ -3,6 +3,7 @@ pub mod Faults
 pub mod Images
 pub mod Notes
 pub mod OneCopy
+pub mod Origins
 pub mod Overlap
 pub mod PrintingFiles
 pub mod ReadingFiles

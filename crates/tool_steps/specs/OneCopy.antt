@@ -1,6 +1,6 @@
 -- The images that a source names, where one copy of a pair may be enough. A copy that is lost counts as having the bytes
 -- of the other one: so the other one is current, and a change is written to the place of the lost one. All of it is ours.
-use Rattle.std.specs.Prelude.{◌≡◌, ◌⊎◌, ℕ, Bool, true, false, List, [], ◌∷◌, ◌++◌, Option, Some, None, Result, Ok, Err, is_some, string_bytes}
+use Rattle.std.specs.Prelude.{◌≡◌, ◌⊎◌, ℕ, Bool, true, false, List, [], ◌∷◌, ◌++◌, Option, Some, None, Result, Ok, Err, is_some}
 use Rattle.output.specs.Sink.{Sink, counted}
 use Rattle.envimage.specs.Config.{PlaceShown}
 use Rattle.envimage.specs.Place.{place_shown}
@@ -11,14 +11,17 @@ use Rattle.tool_images.specs.FaultLines.{TellsLine}
 use Rattle.tool_images.specs.declared.fault.Fault.{Fault}
 use Rattle.tool_images.specs.declared.fault.Fault.TheVariants.{Memory}
 use Rattle.tool_steps.specs.Faults.{CountsTold, IsReadFault}
-use Rattle.tool_steps.specs.Images.{Copy, FromConfig, HasRead, IsConfigFault, IsImagesFault, NamesPlaces, copies, copy_of}
+use Rattle.tool_steps.specs.Images.{Copy, FromConfig, IsConfigFault, NamesPlaces, copies, copy_of}
 use Rattle.tool_steps.specs.Notes.{TellsIf}
+use Rattle.tool_steps.specs.Origins.{HasReadImages, IsOriginFault}
 use Rattle.tool_steps.specs.ReadingFiles.{IsCopyFault, ReadsCopy, bytes_at, read_of}
 use Rattle.tool_steps.specs.declared.images.Images.{Images}
 use Rattle.tool_steps.specs.declared.one_copy.ImageSource.{ImageSource}
 use Rattle.tool_steps.specs.declared.read.SoughtCopy.{SoughtCopy}
 use Rattle.tool_steps.specs.declared.read.SoughtCopy.TheVariants.{Lost, Read}
 use Rattle.tool_steps.specs.declared.read.StoredCopy.{StoredCopy}
+use Rattle.tool_words.specs.Asked.{OriginShown, configured, whole}
+use Rattle.tool_words.specs.CommandAnswers.{origin_shown}
 
 -- ---- one copy
 
@@ -125,17 +128,18 @@ pub record HasLost (config : List ℕ) (lost : PlaceShown) (old new : Told) (fou
   pub named : NamesPlaces config old after_config (first ∷ second ∷ [])
   pub loses : LosesOne first second lost after_config new found
 
--- all copies were read; or this place is lost, if one copy is enough
-abbrev pub Finds : (one_copy : Bool) → (config : List ℕ) → (lost : Option PlaceShown) → Told → Told → List Copy → Type 0
-Finds one_copy config None old new found = HasRead config old new found
-Finds true config (Some lost) old new found = HasLost config lost old new found
-Finds false config (Some lost) old new found = ⊥
+-- all copies were read; or this place is lost, if one copy is enough and a configuration names it
+abbrev pub Finds : (one_copy : Bool) → OriginShown → (lost : Option PlaceShown) → Told → Told → List Copy → Type 0
+Finds one_copy origin None old new found = HasReadImages origin old new found
+Finds true (configured config) (Some lost) old new found = HasLost config lost old new found
+Finds true (whole first second) (Some lost) old new found = ⊥
+Finds false origin (Some lost) old new found = ⊥
 
 -- The images of a source were found. If one copy of a pair is lost, one line says so.
 pub record HasFound (program : List ℕ) (source : ImageSource) (err err' : Sink) (old new : Told) (found : List Copy) :
     Type 0 where
   pub lost : Option PlaceShown
-  pub read : Finds source.one_copy (string_bytes source.config) lost old new found
+  pub read : Finds source.one_copy (origin_shown source.origin) lost old new found
   pub tells : TellsIf program (is_some lost) err err'
 
 -- the configuration names a single image, and it is refused for this
@@ -151,15 +155,27 @@ pub record LacksPair (config : List ℕ) (old new : Told) (fault : Fault) : Type
   pub named : NamesPlaces config old after_config (first ∷ second ∷ [])
   pub loses : LosesBoth first second after_config new fault
 
--- why the images are not found: if one copy is enough, for a pair only if both are lost
-abbrev pub IsUnfound : (one_copy : Bool) → (config : List ℕ) → Told → Told → Fault → Type 0
-IsUnfound false config old new fault = IsImagesFault config old.stored fault
-IsUnfound true config old new fault = IsConfigFault config old.stored fault
+-- why the images of a configuration are not found if one copy of a pair is enough: for a pair only if both are lost
+abbrev pub LacksImages : (config : List ℕ) → Told → Told → Fault → Type 0
+LacksImages config old new fault = IsConfigFault config old.stored fault
     ⊎ (IsSingleFault config old.stored fault ⊎ LacksPair config old new fault)
+
+-- why the images are not found; of whole files, all are needed
+abbrev pub IsUnfound : (one_copy : Bool) → OriginShown → Told → Told → Fault → Type 0
+IsUnfound true (configured config) old new fault = LacksImages config old new fault
+IsUnfound true (whole first second) old new fault = IsOriginFault (whole first second) old.stored fault
+IsUnfound false origin old new fault = IsOriginFault origin old.stored fault
+
+-- the images of a configuration were found, or refused, if one copy of a pair is enough
+abbrev pub FindsEither : (program config : List ℕ) → (err err' : Sink) → Told → Told → Result Images Fault → Type 0
+FindsEither program config err err' old new (Ok images) = (lost : Option PlaceShown)
+    × Finds true (configured config) lost old new (copies images)
+    × TellsIf program (is_some lost) err err'
+FindsEither program config err err' old new (Err fault) = OnlyReads old new × LacksImages config old new fault
 
 -- the images were found, or refused, and files were only read
 abbrev pub FindsImages : (program : List ℕ) → ImageSource → (err err' : Sink) → Told → Told → Result Images Fault →
     Type 0
 FindsImages program source err err' old new (Ok images) = HasFound program source err err' old new (copies images)
 FindsImages program source err err' old new (Err fault) =
-    OnlyReads old new × IsUnfound source.one_copy (string_bytes source.config) old new fault
+    OnlyReads old new × IsUnfound source.one_copy (origin_shown source.origin) old new fault

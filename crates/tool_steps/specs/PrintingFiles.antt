@@ -1,6 +1,6 @@
--- What printing the images of a configuration does, from files whose contents are known. It follows fw_printenv
+-- What printing images does, from files whose contents are known. It follows fw_printenv
 -- (U-Boot, tools/env README).
-use Rattle.std.specs.Prelude.{◌≡◌, ◌⊎◌, ℕ, Bool, List, [], ◌∷◌, Option, Some, None, Result, Ok, Err, string_bytes}
+use Rattle.std.specs.Prelude.{◌≡◌, ◌⊎◌, ℕ, Bool, List, [], ◌∷◌, Option, Some, None, Result, Ok, Err}
 use Rattle.envimage.specs.Data.{Pair}
 use Rattle.envimage.specs.declared.image.ByteOrder.{ByteOrder}
 use Rattle.envimage.specs.declared.image.ImageError.{ImageError}
@@ -17,6 +17,7 @@ use Rattle.tool_steps.specs.Images.{Copy, HasRead}
 use Rattle.tool_steps.specs.Notes.{MayTell}
 use Rattle.tool_steps.specs.OneCopy.{HasFound, IsUnfound}
 use Rattle.tool_steps.specs.declared.one_copy.ImageSource.{ImageSource}
+use Rattle.tool_words.specs.CommandAnswers.{origin_shown}
 
 -- the bytes of the first copy, and of the second if there is one
 abbrev pub first_bytes : List Copy → List ℕ
@@ -59,7 +60,7 @@ pub record FromFound (program : List ℕ) (source : ImageSource) (s : Outputs) (
 abbrev pub IsNotFound : ImageSource → Outputs → Told → Told → Result Bool Fault → Type 0
 IsNotFound source outputs old new (Ok all) = ⊥
 IsNotFound source outputs old new (Err fault) = OnlyReads old new
-    × IsUnfound source.one_copy (string_bytes source.config) old new fault
+    × IsUnfound source.one_copy (origin_shown source.origin) old new fault
     × AreUnchanged outputs
 
 -- the images of the source were found and then printed, or they are refused

@@ -1,4 +1,4 @@
-//! What the programs do with files: the images of a configuration, printed and changed; the device list; how a program
+//! What the programs do with files: the images, printed and changed; the device list; how a program
 //! starts, what it shows, and how it ends.
 #![tactic(auto)]
 
@@ -7,6 +7,7 @@ mod ending;
 mod images;
 mod note;
 mod one_copy;
+mod origin;
 mod print;
 mod read;
 mod set;
@@ -20,6 +21,7 @@ pub use ending::{end, finish, refuse, status_of};
 pub use images::{Images, read_images};
 pub use note::Note;
 pub use one_copy::{ImageSource, read_source};
+pub use origin::read_origin;
 pub use print::{print_files, slices_of};
 pub use read::{SoughtCopy, StoredCopy, read_text};
 pub use set::set_files;

@@ -16,7 +16,7 @@ use Rattle.tool_words.specs.declared.answer.Answer.{Answer}
 use Rattle.tool_words.specs.declared.answer.Answer.TheVariants.{Asks, Help, Version}
 use Rattle.tool_words.specs.declared.ask.UseError.{UseError}
 use Rattle.tool_words.specs.declared.called.CalledAs.{CalledAs}
-use Rattle.tool_words.specs.declared.ask.UseError.TheVariants.{Line, LockNeedsFolder, NeedName, ScriptAndName, HeaderNeedsOne, WordAlone, TooManyDevices, Memory}
+use Rattle.tool_words.specs.declared.ask.UseError.TheVariants.{Line, LockNeedsFolder, NeedName, ScriptAndName, HeaderNeedsOne, Misnamed, WordAlone, TooManyDevices, Memory}
 use Rattle.tool_words.specs.Asked.{Asked, asked_of, lock_of}
 use Rattle.tool_words.specs.CommandAnswers.{Answers, NamesLock, Says, asked}
 use Rattle.tool_words.specs.Answered.{AnswersBy, IsAccepted, Refuses, Reports}
@@ -34,14 +34,15 @@ ubtool_free = refl
 pub accepted_answer : (called : CalledAs) (words : List Text) (a : Option Asked) (r : Result Ask UseError) → IsAccepted ubtool words → a ≡ asked called words → Says a r → Answers called words r
 accepted_answer called words a (Ok (ask.Help text)) fine is says = absurd says
 accepted_answer called words a (Ok ask.Version) fine is says = absurd says
-accepted_answer called words a (Ok (ask.Print config what order one_copy)) fine is says = (fine, says ∙ is)
-accepted_answer called words a (Ok (ask.Setenv config change order one_copy)) fine is says = (fine, says ∙ is)
-accepted_answer called words a (Ok (ask.Rehearse config list what order)) fine is says = (fine, says ∙ is)
-accepted_answer called words a (Ok (ask.Endings config list what order)) fine is says = (fine, says ∙ is)
+accepted_answer called words a (Ok (ask.Print origin what order one_copy)) fine is says = (fine, says ∙ is)
+accepted_answer called words a (Ok (ask.Setenv origin change order one_copy)) fine is says = (fine, says ∙ is)
+accepted_answer called words a (Ok (ask.Rehearse origin list what order)) fine is says = (fine, says ∙ is)
+accepted_answer called words a (Ok (ask.Endings origin list what order)) fine is says = (fine, says ∙ is)
 accepted_answer called words a (Err LockNeedsFolder) fine is says = (fine, says ∙ is)
 accepted_answer called words a (Err NeedName) fine is says = (fine, says ∙ is)
 accepted_answer called words a (Err ScriptAndName) fine is says = (fine, says ∙ is)
 accepted_answer called words a (Err HeaderNeedsOne) fine is says = (fine, says ∙ is)
+accepted_answer called words a (Err (Misnamed error)) fine is says = (fine, says ∙ is)
 accepted_answer called words a (Err WordAlone) fine is says = (fine, says ∙ is)
 accepted_answer called words a (Err TooManyDevices) fine is says = (fine, says ∙ is)
 accepted_answer called words a (Err (Line text)) fine is says = inr (fine, says ∙ is)
@@ -55,6 +56,7 @@ refused_answer called words LockNeedsFolder is = absurd is
 refused_answer called words NeedName is = absurd is
 refused_answer called words ScriptAndName is = absurd is
 refused_answer called words HeaderNeedsOne is = absurd is
+refused_answer called words (Misnamed error) is = absurd is
 refused_answer called words WordAlone is = absurd is
 refused_answer called words TooManyDevices is = absurd is
 
@@ -82,6 +84,7 @@ reported app words Means k (Err LockNeedsFolder) among is = absurd is
 reported app words Means k (Err NeedName) among is = absurd is
 reported app words Means k (Err ScriptAndName) among is = absurd is
 reported app words Means k (Err HeaderNeedsOne) among is = absurd is
+reported app words Means k (Err (Misnamed error)) among is = absurd is
 reported app words Means k (Err WordAlone) among is = absurd is
 reported app words Means k (Err TooManyDevices) among is = absurd is
 

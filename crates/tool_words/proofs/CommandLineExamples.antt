@@ -8,9 +8,10 @@ use Rattle.envtools.specs.Printing.{plain}
 use Rattle.envtools.specs.declared.print_form.PrintForm.{PrintForm}
 use Rattle.tool_words.specs.CommandAnswers.{asked}
 use Rattle.tool_words.specs.Answered.{IsAccepted}
+use Rattle.tool_words.specs.declared.ask.OriginError.TheVariants.{ImageAndConfig, SecondAndOneCopy, SecondNeedsImage}
 use Rattle.tool_words.specs.declared.called.CalledAs.{CalledAs}
 use Rattle.tool_words.specs.declared.called.CalledAs.TheVariants.{FwSetenv, Ubtool}
-use Rattle.tool_words.specs.Asked.{Asked, ending, header_needs_one, input_scripted, lock_needs_folder, lock_of, needs_name, page_with, printing, rehearsing, script_and_name, scripted, setting, too_many_devices, word_alone}
+use Rattle.tool_words.specs.Asked.{Asked, configured, ending, header_needs_one, input_scripted, lock_needs_folder, lock_of, misnamed, needs_name, page_with, printing, rehearsing, script_and_name, scripted, setting, too_many_devices, whole, word_alone}
 use Rattle.rehearse_terms.specs.declared.shell.Shell.TheVariants.{Old2023, Old2025, Profile}
 use Rattle.rehearse_terms.specs.Asking.{Alone, Listed, whole_page}
 use Rattle.tool_words.specs.CommandLine.{ubtool}
@@ -38,7 +39,7 @@ IsRefused words = nat_lt 0 (length (fault_of ubtool words)) ≡ true
 -- rehearse -d d.txt --limit 1 z
 rehearsal : AsksFor
     (codes "rehearse" ∷ codes "-d" ∷ codes "d.txt" ∷ codes "--limit" ∷ codes "1" ∷ codes "z" ∷ [])
-    (rehearsing (codes "/etc/fw_env.config") (codes "d.txt") (record {
+    (rehearsing (configured (codes "/etc/fw_env.config")) (codes "d.txt") (record {
       variable = codes "bootcmd";
       bounds = record { devices = 16; steps = 10000; failures = None; shell = Profile };
       wanted = Listed None (page_with (Some 1));
@@ -59,43 +60,43 @@ two_names_printed = (refl, refl)
 
 -- printenv -- -x
 dashed_name : AsksFor (codes "printenv" ∷ codes "--" ∷ codes "-x" ∷ [])
-    (printing (codes "/etc/fw_env.config") plain (codes "-x" ∷ []) Little false)
+    (printing (configured (codes "/etc/fw_env.config")) plain (codes "-x" ∷ []) Little false)
 unfolding clap_on_literals ubtool
 dashed_name = (refl, refl)
 
 -- printenv -0
 null_ended : AsksFor (codes "printenv" ∷ codes "-0" ∷ [])
-    (printing (codes "/etc/fw_env.config") (record plain { null = true }) [] Little false)
+    (printing (configured (codes "/etc/fw_env.config")) (record plain { null = true }) [] Little false)
 unfolding clap_on_literals ubtool
 null_ended = (refl, refl)
 
 -- printenv --escaped -n a
 escaped_value : AsksFor (codes "printenv" ∷ codes "--escaped" ∷ codes "-n" ∷ codes "a" ∷ [])
-    (printing (codes "/etc/fw_env.config") (record bare { escaped = true }) (codes "a" ∷ []) Little false)
+    (printing (configured (codes "/etc/fw_env.config")) (record bare { escaped = true }) (codes "a" ∷ []) Little false)
 unfolding clap_on_literals ubtool
 escaped_value = (refl, refl)
 
 -- printenv --one-copy a
 printed_from_one : AsksFor (codes "printenv" ∷ codes "--one-copy" ∷ codes "a" ∷ [])
-    (printing (codes "/etc/fw_env.config") plain (codes "a" ∷ []) Little true)
+    (printing (configured (codes "/etc/fw_env.config")) plain (codes "a" ∷ []) Little true)
 unfolding clap_on_literals ubtool
 printed_from_one = (refl, refl)
 
 -- setenv --one-copy a
 deleted_in_one : AsksFor (codes "setenv" ∷ codes "--one-copy" ∷ codes "a" ∷ [])
-    (setting (codes "/etc/fw_env.config") (codes "a") [] Little true)
+    (setting (configured (codes "/etc/fw_env.config")) (codes "a") [] Little true)
 unfolding clap_on_literals ubtool
 deleted_in_one = (refl, refl)
 
 -- fw_setenv --one-copy -s -
 input_script_in_one : AsksForAs FwSetenv (codes "setenv" ∷ codes "--one-copy" ∷ codes "-s" ∷ codes "-" ∷ [])
-    (input_scripted (codes "/etc/fw_env.config") Little true)
+    (input_scripted (configured (codes "/etc/fw_env.config")) Little true)
 unfolding clap_on_literals ubtool
 input_script_in_one = (refl, refl)
 
 -- setenv -s f --one-copy
 script_in_one : AsksFor (codes "setenv" ∷ codes "-s" ∷ codes "f" ∷ codes "--one-copy" ∷ [])
-    (scripted (codes "/etc/fw_env.config") (codes "f") Little true)
+    (scripted (configured (codes "/etc/fw_env.config")) (codes "f") Little true)
 unfolding clap_on_literals ubtool
 script_in_one = (refl, refl)
 
@@ -111,7 +112,7 @@ no_name_set = (refl, refl)
 
 -- setenv a 1 2
 words_set : AsksFor (codes "setenv" ∷ codes "a" ∷ codes "1" ∷ codes "2" ∷ [])
-    (setting (codes "/etc/fw_env.config") (codes "a") (codes "1" ∷ codes "2" ∷ []) Little false)
+    (setting (configured (codes "/etc/fw_env.config")) (codes "a") (codes "1" ∷ codes "2" ∷ []) Little false)
 unfolding clap_on_literals ubtool
 words_set = (refl, refl)
 
@@ -122,7 +123,7 @@ script_beside_name = (refl, refl)
 
 -- setenv -l d a 1
 locked_change : AsksFor (codes "setenv" ∷ codes "-l" ∷ codes "d" ∷ codes "a" ∷ codes "1" ∷ [])
-    (setting (codes "/etc/fw_env.config") (codes "a") (codes "1" ∷ []) Little false)
+    (setting (configured (codes "/etc/fw_env.config")) (codes "a") (codes "1" ∷ []) Little false)
 unfolding clap_on_literals ubtool
 locked_change = (refl, refl)
 
@@ -154,25 +155,25 @@ locked_rehearsal = refl
 
 -- setenv -s f --big-endian
 big_script : AsksFor (codes "setenv" ∷ codes "-s" ∷ codes "f" ∷ codes "--big-endian" ∷ [])
-    (scripted (codes "/etc/fw_env.config") (codes "f") Big false)
+    (scripted (configured (codes "/etc/fw_env.config")) (codes "f") Big false)
 unfolding clap_on_literals ubtool
 big_script = (refl, refl)
 
 -- setenv -s -: a file of that name
 dashed_script : AsksFor (codes "setenv" ∷ codes "-s" ∷ codes "-" ∷ [])
-    (scripted (codes "/etc/fw_env.config") (codes "-") Little false)
+    (scripted (configured (codes "/etc/fw_env.config")) (codes "-") Little false)
 unfolding clap_on_literals ubtool
 dashed_script = (refl, refl)
 
 -- fw_setenv -s -: standard input
 input_script : AsksForAs FwSetenv (codes "setenv" ∷ codes "-s" ∷ codes "-" ∷ [])
-    (input_scripted (codes "/etc/fw_env.config") Little false)
+    (input_scripted (configured (codes "/etc/fw_env.config")) Little false)
 unfolding clap_on_literals ubtool
 input_script = (refl, refl)
 
 -- fw_setenv -s f: a file
 named_script : AsksForAs FwSetenv (codes "setenv" ∷ codes "-s" ∷ codes "f" ∷ [])
-    (scripted (codes "/etc/fw_env.config") (codes "f") Little false)
+    (scripted (configured (codes "/etc/fw_env.config")) (codes "f") Little false)
 unfolding clap_on_literals ubtool
 named_script = (refl, refl)
 
@@ -184,7 +185,7 @@ input_beside_name = (refl, refl)
 -- rehearse -d d --devices 32 --steps 0 --after . --big-endian
 bounded : AsksFor
     (codes "rehearse" ∷ codes "-d" ∷ codes "d" ∷ codes "--devices" ∷ codes "32" ∷ codes "--steps" ∷ codes "0" ∷ codes "--after" ∷ codes "." ∷ codes "--big-endian" ∷ [])
-    (rehearsing (codes "/etc/fw_env.config") (codes "d") (record {
+    (rehearsing (configured (codes "/etc/fw_env.config")) (codes "d") (record {
       variable = codes "bootcmd";
       bounds = record { devices = 32; steps = 0; failures = None; shell = Profile };
       wanted = Listed (Some (codes ".")) whole_page;
@@ -192,6 +193,150 @@ bounded : AsksFor
     }) Big)
 unfolding clap_on_literals ubtool
 bounded = (refl, refl)
+
+-- ---- what names the images
+
+-- printenv -i f a
+image_printed : AsksFor (codes "printenv" ∷ codes "-i" ∷ codes "f" ∷ codes "a" ∷ [])
+    (printing (whole (codes "f") None) plain (codes "a" ∷ []) Little false)
+unfolding clap_on_literals ubtool
+image_printed = (refl, refl)
+
+-- printenv --second g -i f
+pair_printed : AsksFor (codes "printenv" ∷ codes "--second" ∷ codes "g" ∷ codes "-i" ∷ codes "f" ∷ [])
+    (printing (whole (codes "f") (Some (codes "g"))) plain [] Little false)
+unfolding clap_on_literals ubtool
+pair_printed = (refl, refl)
+
+-- printenv -i f --one-copy
+image_in_one : AsksFor (codes "printenv" ∷ codes "-i" ∷ codes "f" ∷ codes "--one-copy" ∷ [])
+    (printing (whole (codes "f") None) plain [] Little true)
+unfolding clap_on_literals ubtool
+image_in_one = (refl, refl)
+
+-- printenv -c c -i f
+image_beside_config : AsksFor (codes "printenv" ∷ codes "-c" ∷ codes "c" ∷ codes "-i" ∷ codes "f" ∷ [])
+    (misnamed ImageAndConfig)
+unfolding clap_on_literals ubtool
+image_beside_config = (refl, refl)
+
+-- printenv -c c -i f --second g --one-copy
+pair_beside_config : AsksFor (codes "printenv" ∷ codes "-c" ∷ codes "c" ∷ codes "-i" ∷ codes "f" ∷ codes "--second" ∷ codes "g" ∷ codes "--one-copy" ∷ [])
+    (misnamed ImageAndConfig)
+unfolding clap_on_literals ubtool
+pair_beside_config = (refl, refl)
+
+-- printenv --second g
+second_alone : AsksFor (codes "printenv" ∷ codes "--second" ∷ codes "g" ∷ [])
+    (misnamed SecondNeedsImage)
+unfolding clap_on_literals ubtool
+second_alone = (refl, refl)
+
+-- printenv -c c --second g
+second_beside_config : AsksFor (codes "printenv" ∷ codes "-c" ∷ codes "c" ∷ codes "--second" ∷ codes "g" ∷ [])
+    (misnamed SecondNeedsImage)
+unfolding clap_on_literals ubtool
+second_beside_config = (refl, refl)
+
+-- printenv -i f --second g --one-copy
+pair_in_one : AsksFor (codes "printenv" ∷ codes "-i" ∷ codes "f" ∷ codes "--second" ∷ codes "g" ∷ codes "--one-copy" ∷ [])
+    (misnamed SecondAndOneCopy)
+unfolding clap_on_literals ubtool
+pair_in_one = (refl, refl)
+
+-- printenv -n -c c -i f
+names_before_images : AsksFor (codes "printenv" ∷ codes "-n" ∷ codes "-c" ∷ codes "c" ∷ codes "-i" ∷ codes "f" ∷ [])
+    header_needs_one
+unfolding clap_on_literals ubtool
+names_before_images = (refl, refl)
+
+-- setenv -i f a 1 --big-endian
+image_set : AsksFor (codes "setenv" ∷ codes "-i" ∷ codes "f" ∷ codes "a" ∷ codes "1" ∷ codes "--big-endian" ∷ [])
+    (setting (whole (codes "f") None) (codes "a") (codes "1" ∷ []) Big false)
+unfolding clap_on_literals ubtool
+image_set = (refl, refl)
+
+-- setenv -i f --second g a
+pair_set : AsksFor (codes "setenv" ∷ codes "-i" ∷ codes "f" ∷ codes "--second" ∷ codes "g" ∷ codes "a" ∷ [])
+    (setting (whole (codes "f") (Some (codes "g"))) (codes "a") [] Little false)
+unfolding clap_on_literals ubtool
+pair_set = (refl, refl)
+
+-- setenv -i f -s s
+script_of_image : AsksFor (codes "setenv" ∷ codes "-i" ∷ codes "f" ∷ codes "-s" ∷ codes "s" ∷ [])
+    (scripted (whole (codes "f") None) (codes "s") Little false)
+unfolding clap_on_literals ubtool
+script_of_image = (refl, refl)
+
+-- setenv -i f --second g --one-copy a
+set_in_one_of_pair : AsksFor (codes "setenv" ∷ codes "-i" ∷ codes "f" ∷ codes "--second" ∷ codes "g" ∷ codes "--one-copy" ∷ codes "a" ∷ [])
+    (misnamed SecondAndOneCopy)
+unfolding clap_on_literals ubtool
+set_in_one_of_pair = (refl, refl)
+
+-- setenv -c c -i f
+name_before_images : AsksFor (codes "setenv" ∷ codes "-c" ∷ codes "c" ∷ codes "-i" ∷ codes "f" ∷ [])
+    needs_name
+unfolding clap_on_literals ubtool
+name_before_images = (refl, refl)
+
+-- setenv -s s -c c -i f
+script_beside_two : AsksFor (codes "setenv" ∷ codes "-s" ∷ codes "s" ∷ codes "-c" ∷ codes "c" ∷ codes "-i" ∷ codes "f" ∷ [])
+    (misnamed ImageAndConfig)
+unfolding clap_on_literals ubtool
+script_beside_two = (refl, refl)
+
+-- setenv --second g a
+set_beside_two : AsksFor (codes "setenv" ∷ codes "--second" ∷ codes "g" ∷ codes "a" ∷ [])
+    (misnamed SecondNeedsImage)
+unfolding clap_on_literals ubtool
+set_beside_two = (refl, refl)
+
+-- rehearse -d d -c c -i f --devices 33
+bounds_before_images : AsksFor (codes "rehearse" ∷ codes "-d" ∷ codes "d" ∷ codes "-c" ∷ codes "c" ∷ codes "-i" ∷ codes "f" ∷ codes "--devices" ∷ codes "33" ∷ [])
+    too_many_devices
+unfolding clap_on_literals ubtool
+bounds_before_images = (refl, refl)
+
+-- rehearse -d d -c c -i f
+rehearsed_beside_two : AsksFor (codes "rehearse" ∷ codes "-d" ∷ codes "d" ∷ codes "-c" ∷ codes "c" ∷ codes "-i" ∷ codes "f" ∷ [])
+    (misnamed ImageAndConfig)
+unfolding clap_on_literals ubtool
+rehearsed_beside_two = (refl, refl)
+
+-- endings -d d --second g
+ended_without_image : AsksFor (codes "endings" ∷ codes "-d" ∷ codes "d" ∷ codes "--second" ∷ codes "g" ∷ [])
+    (misnamed SecondNeedsImage)
+unfolding clap_on_literals ubtool
+ended_without_image = (refl, refl)
+
+-- fw_setenv -i f -s -
+input_script_of_image : AsksForAs FwSetenv (codes "setenv" ∷ codes "-i" ∷ codes "f" ∷ codes "-s" ∷ codes "-" ∷ [])
+    (input_scripted (whole (codes "f") None) Little false)
+unfolding clap_on_literals ubtool
+input_script_of_image = (refl, refl)
+
+-- rehearse -d d -i f
+image_rehearsed : AsksFor (codes "rehearse" ∷ codes "-d" ∷ codes "d" ∷ codes "-i" ∷ codes "f" ∷ [])
+    (rehearsing (whole (codes "f") None) (codes "d") (record {
+      variable = codes "bootcmd";
+      bounds = record { devices = 16; steps = 10000; failures = None; shell = Profile };
+      wanted = Listed None whole_page;
+      names = [];
+    }) Little)
+unfolding clap_on_literals ubtool
+image_rehearsed = (refl, refl)
+
+-- endings -i f --second g -d d
+pair_ended : AsksFor (codes "endings" ∷ codes "-i" ∷ codes "f" ∷ codes "--second" ∷ codes "g" ∷ codes "-d" ∷ codes "d" ∷ [])
+    (ending (whole (codes "f") (Some (codes "g"))) (codes "d") (record {
+      variable = codes "bootcmd";
+      bounds = record { devices = 1000; steps = 1000000; failures = None; shell = Profile };
+      states = 1000000;
+      flow = false;
+    }) Little)
+unfolding clap_on_literals ubtool
+pair_ended = (refl, refl)
 
 -- no words
 no_words : IsRefused []
@@ -210,7 +355,7 @@ more_devices_than_listed = (refl, refl)
 
 -- rehearse -d d --word 01 z
 one_run : AsksFor (codes "rehearse" ∷ codes "-d" ∷ codes "d" ∷ codes "--word" ∷ codes "01" ∷ codes "z" ∷ [])
-    (rehearsing (codes "/etc/fw_env.config") (codes "d") (record {
+    (rehearsing (configured (codes "/etc/fw_env.config")) (codes "d") (record {
       variable = codes "bootcmd";
       bounds = record { devices = 1000; steps = 1000000; failures = None; shell = Profile };
       wanted = Alone (codes "01");
@@ -226,7 +371,7 @@ word_beside_limit = (refl, refl)
 
 -- rehearse -d d --failures 3 --devices 1000
 few_failures : AsksFor (codes "rehearse" ∷ codes "-d" ∷ codes "d" ∷ codes "--failures" ∷ codes "3" ∷ codes "--devices" ∷ codes "1000" ∷ [])
-    (rehearsing (codes "/etc/fw_env.config") (codes "d") (record {
+    (rehearsing (configured (codes "/etc/fw_env.config")) (codes "d") (record {
       variable = codes "bootcmd";
       bounds = record { devices = 1000; steps = 10000; failures = Some 3; shell = Profile };
       wanted = Listed None whole_page;
@@ -262,7 +407,7 @@ limit_of_none = refl
 
 -- endings -d d
 all_endings : AsksFor (codes "endings" ∷ codes "-d" ∷ codes "d" ∷ [])
-    (ending (codes "/etc/fw_env.config") (codes "d") (record {
+    (ending (configured (codes "/etc/fw_env.config")) (codes "d") (record {
       variable = codes "bootcmd";
       bounds = record { devices = 1000; steps = 1000000; failures = None; shell = Profile };
       states = 1000000;
@@ -275,7 +420,7 @@ all_endings = (refl, refl)
 -- endings -c f -d d -b q --devices 0 --steps 7 --states 0 --flow --big-endian
 few_endings : AsksFor
     (codes "endings" ∷ codes "-c" ∷ codes "f" ∷ codes "-d" ∷ codes "d" ∷ codes "-b" ∷ codes "q" ∷ codes "--devices" ∷ codes "0" ∷ codes "--steps" ∷ codes "7" ∷ codes "--states" ∷ codes "0" ∷ codes "--flow" ∷ codes "--big-endian" ∷ [])
-    (ending (codes "f") (codes "d") (record {
+    (ending (configured (codes "f")) (codes "d") (record {
       variable = codes "q";
       bounds = record { devices = 0; steps = 7; failures = None; shell = Profile };
       states = 0;
@@ -339,7 +484,7 @@ signed_limit = (refl, refl)
 
 -- rehearse -d d --shell old-2023.01
 rehearsed_in_old_2023 : AsksFor (codes "rehearse" ∷ codes "-d" ∷ codes "d" ∷ codes "--shell" ∷ codes "old-2023.01" ∷ [])
-    (rehearsing (codes "/etc/fw_env.config") (codes "d") (record {
+    (rehearsing (configured (codes "/etc/fw_env.config")) (codes "d") (record {
       variable = codes "bootcmd";
       bounds = record { devices = 16; steps = 10000; failures = None; shell = Old2023 };
       wanted = Listed None whole_page;
@@ -350,7 +495,7 @@ rehearsed_in_old_2023 = (refl, refl)
 
 -- rehearse -d d --shell=old --failures 1
 failures_in_newest_old : AsksFor (codes "rehearse" ∷ codes "-d" ∷ codes "d" ∷ codes "--shell=old" ∷ codes "--failures" ∷ codes "1" ∷ [])
-    (rehearsing (codes "/etc/fw_env.config") (codes "d") (record {
+    (rehearsing (configured (codes "/etc/fw_env.config")) (codes "d") (record {
       variable = codes "bootcmd";
       bounds = record { devices = 16; steps = 10000; failures = Some 1; shell = Old2025 };
       wanted = Listed None whole_page;
@@ -361,7 +506,7 @@ failures_in_newest_old = (refl, refl)
 
 -- rehearse -d d --word 01 --shell old-2025.01
 word_in_old_2025 : AsksFor (codes "rehearse" ∷ codes "-d" ∷ codes "d" ∷ codes "--word" ∷ codes "01" ∷ codes "--shell" ∷ codes "old-2025.01" ∷ [])
-    (rehearsing (codes "/etc/fw_env.config") (codes "d") (record {
+    (rehearsing (configured (codes "/etc/fw_env.config")) (codes "d") (record {
       variable = codes "bootcmd";
       bounds = record { devices = 1000; steps = 1000000; failures = None; shell = Old2025 };
       wanted = Alone (codes "01");
@@ -372,7 +517,7 @@ word_in_old_2025 = (refl, refl)
 
 -- rehearse -d d --shell profile --after 0
 after_in_profile : AsksFor (codes "rehearse" ∷ codes "-d" ∷ codes "d" ∷ codes "--shell" ∷ codes "profile" ∷ codes "--after" ∷ codes "0" ∷ [])
-    (rehearsing (codes "/etc/fw_env.config") (codes "d") (record {
+    (rehearsing (configured (codes "/etc/fw_env.config")) (codes "d") (record {
       variable = codes "bootcmd";
       bounds = record { devices = 16; steps = 10000; failures = None; shell = Profile };
       wanted = Listed (Some (codes "0")) whole_page;
@@ -383,7 +528,7 @@ after_in_profile = (refl, refl)
 
 -- endings -d d --shell old-2023.01 --flow
 flow_in_old_2023 : AsksFor (codes "endings" ∷ codes "-d" ∷ codes "d" ∷ codes "--shell" ∷ codes "old-2023.01" ∷ codes "--flow" ∷ [])
-    (ending (codes "/etc/fw_env.config") (codes "d") (record {
+    (ending (configured (codes "/etc/fw_env.config")) (codes "d") (record {
       variable = codes "bootcmd";
       bounds = record { devices = 1000; steps = 1000000; failures = None; shell = Old2023 };
       states = 1000000;
@@ -395,7 +540,7 @@ flow_in_old_2023 = (refl, refl)
 
 -- endings -d d --shell old
 endings_in_newest_old : AsksFor (codes "endings" ∷ codes "-d" ∷ codes "d" ∷ codes "--shell" ∷ codes "old" ∷ [])
-    (ending (codes "/etc/fw_env.config") (codes "d") (record {
+    (ending (configured (codes "/etc/fw_env.config")) (codes "d") (record {
       variable = codes "bootcmd";
       bounds = record { devices = 1000; steps = 1000000; failures = None; shell = Old2025 };
       states = 1000000;

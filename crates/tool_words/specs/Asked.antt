@@ -10,6 +10,8 @@ use Rattle.clap.specs.ValueTests.{is_numeral}
 use Rattle.envimage.specs.declared.image.ByteOrder.{ByteOrder}
 use Rattle.envimage.specs.declared.image.ByteOrder.TheVariants.{Big, Little}
 use Rattle.envtools.specs.declared.print_form.PrintForm.{PrintForm}
+use Rattle.tool_words.specs.declared.ask.OriginError.{OriginError}
+use Rattle.tool_words.specs.declared.ask.OriginError.TheVariants.{ImageAndConfig, SecondNeedsImage, SecondAndOneCopy}
 use Rattle.tool_words.specs.declared.called.CalledAs.{CalledAs}
 use Rattle.tool_words.specs.Called.{is_tool}
 use Rattle.rehearse_terms.specs.Asking.{Asking, Wanted, Listed, Alone}
@@ -18,6 +20,12 @@ use Rattle.rehearse_terms.specs.Bounds.{BoundsShown, bounds_of, in_shell, run_bo
 use Rattle.rehearse_terms.specs.declared.shell.Shell.{Shell}
 use Rattle.rehearse_terms.specs.declared.shell.Shell.TheVariants.{Old2023, Old2025, Profile}
 use Rattle.tool_words.specs.CommandLine.{most_failures, most_records, most_states}
+
+-- what names the images: a configuration, or files, of which each is one whole copy: a single image, or the two copies
+-- of a pair
+pub data OriginShown : Type 0 where
+  configured : (config : Text) → OriginShown
+  whole : (first : Text) → (second : Option Text) → OriginShown
 
 -- what `endings` is asked for
 pub record Endings : Type 0 where
@@ -30,16 +38,17 @@ pub record Endings : Type 0 where
 
 -- what a call asks for, or which of the program's own refusals it meets
 pub data Asked : Type 0 where
-  printing : (config : Text) (form : PrintForm) (names : List Text) (order : ByteOrder) (one_copy : Bool) → Asked
-  setting : (config : Text) (name : Text) (words : List Text) (order : ByteOrder) (one_copy : Bool) → Asked
-  scripted : (config : Text) (script : Text) (order : ByteOrder) (one_copy : Bool) → Asked
-  input_scripted : (config : Text) (order : ByteOrder) (one_copy : Bool) → Asked
-  rehearsing : (config : Text) (device_list : Text) (what : Asking) (order : ByteOrder) → Asked
-  ending : (config : Text) (device_list : Text) (what : Endings) (order : ByteOrder) → Asked
+  printing : (origin : OriginShown) (form : PrintForm) (names : List Text) (order : ByteOrder) (one_copy : Bool) → Asked
+  setting : (origin : OriginShown) (name : Text) (words : List Text) (order : ByteOrder) (one_copy : Bool) → Asked
+  scripted : (origin : OriginShown) (script : Text) (order : ByteOrder) (one_copy : Bool) → Asked
+  input_scripted : (origin : OriginShown) (order : ByteOrder) (one_copy : Bool) → Asked
+  rehearsing : (origin : OriginShown) (device_list : Text) (what : Asking) (order : ByteOrder) → Asked
+  ending : (origin : OriginShown) (device_list : Text) (what : Endings) (order : ByteOrder) → Asked
   lock_needs_folder : Asked
   needs_name : Asked
   script_and_name : Asked
   header_needs_one : Asked
+  misnamed : (error : OriginError) → Asked
   word_alone : Asked
   too_many_devices : Asked
 
@@ -74,8 +83,12 @@ number_within least most id rows =
     option_and_then (λ given. if is_within least most given then Some given else None)
     (number_given id rows)
 
+-- the configuration that is given, or the usual one
+abbrev pub config_or : Option Text → Text
+config_or given = unwrap_or given (codes "/etc/fw_env.config")
+
 abbrev pub config_of : List Row → Text
-config_of rows = unwrap_or (first_of (codes "config") rows) (codes "/etc/fw_env.config")
+config_of rows = config_or (first_of (codes "config") rows)
 
 -- how the CRC of the image is stored
 abbrev pub order_of : List Row → ByteOrder
@@ -93,6 +106,27 @@ lock_of rows = if has_no_folder rows then None else first_of (codes "lock") rows
 abbrev pub one_copy : List Row → Bool
 one_copy rows = is_set (codes "one-copy") rows
 
+-- ---- what names the images
+
+-- from the configuration, the image and the second copy that are given, and whether one copy of a pair is enough: an
+-- image takes no configuration, a second copy needs an image, and then both copies are needed
+abbrev pub named_by : (config image second : Option Text) → (one_copy : Bool) → Result OriginShown OriginError
+named_by config None None one_copy = Ok (configured (config_or config))
+named_by config None (Some second) one_copy = Err SecondNeedsImage
+named_by (Some config) (Some image) second one_copy = Err ImageAndConfig
+named_by None (Some image) None one_copy = Ok (whole image None)
+named_by None (Some image) (Some second) one_copy =
+    if one_copy then Err SecondAndOneCopy else Ok (whole image (Some second))
+
+abbrev pub origin_asked : List Row → Result OriginShown OriginError
+origin_asked rows = named_by (first_of (codes "config") rows) (first_of (codes "image") rows)
+    (first_of (codes "second") rows) (one_copy rows)
+
+-- what is asked of the images that are named, or the refusal of their names
+abbrev pub of_images : Result OriginShown OriginError → (OriginShown → Asked) → Asked
+of_images (Ok origin) asked = asked origin
+of_images (Err error) asked = misnamed error
+
 -- ---- the four subcommands
 
 -- how a variable is printed
@@ -108,25 +142,25 @@ printing_asked rows =
     let names = values_of (codes "names") rows in
     let form = print_form rows in
     if not form.header && not (length names == 1) then header_needs_one
-    else printing (config_of rows) form names (order_of rows) (one_copy rows)
+    else of_images (origin_asked rows) (λ origin. printing origin form names (order_of rows) (one_copy rows))
 
 abbrev pub print_asked : List Row → Asked
 print_asked rows = if has_no_folder rows then lock_needs_folder else printing_asked rows
 
 -- the script at a path; if the program is called as one of U-Boot's tools and the path is `-`, the one on standard
 -- input
-abbrev pub script_asked : CalledAs → (config path : Text) → ByteOrder → (one_copy : Bool) → Asked
-script_asked called config path order one_copy =
-    if is_tool called && bytes_eq path (codes "-") then input_scripted config order one_copy
-    else scripted config path order one_copy
+abbrev pub script_asked : CalledAs → (path : Text) → OriginShown → ByteOrder → (one_copy : Bool) → Asked
+script_asked called path origin order one_copy =
+    if is_tool called && bytes_eq path (codes "-") then input_scripted origin order one_copy
+    else scripted origin path order one_copy
 
 -- from the script and the name that were given
 abbrev pub change_asked : CalledAs → Option Text → Option Text → List Row → Asked
 change_asked called (Some script) None rows =
-    script_asked called (config_of rows) script (order_of rows) (one_copy rows)
+    of_images (origin_asked rows) (λ origin. script_asked called script origin (order_of rows) (one_copy rows))
 change_asked called (Some script) (Some name) rows = script_and_name
-change_asked called None (Some name) rows = setting (config_of rows) name
-    (values_of (codes "values") rows) (order_of rows) (one_copy rows)
+change_asked called None (Some name) rows = of_images (origin_asked rows) (λ origin.
+    setting origin name (values_of (codes "values") rows) (order_of rows) (one_copy rows))
 change_asked called None None rows = needs_name
 
 abbrev pub set_asked : CalledAs → List Row → Asked
@@ -205,13 +239,13 @@ wanted_asked page failures rows =
 
 -- by the rules of this shell
 abbrev pub rehearsal_of : (device_list : Text) → Shell → List Row → WantedAsked → Asked
-rehearsal_of device_list shell rows (Ok within) =
-    rehearsing (config_of rows) device_list (record {
+rehearsal_of device_list shell rows (Ok within) = of_images (origin_asked rows) (λ origin.
+    rehearsing origin device_list (record {
       variable = variable_of rows;
       bounds = in_shell shell within.0;
       wanted = within.1;
       names = values_of (codes "names") rows;
-    }) (order_of rows)
+    }) (order_of rows))
 rehearsal_of device_list shell rows (Err refusal) = refusal
 
 -- with a device list, a page, a number of failures and bounds that can be read
@@ -237,13 +271,13 @@ usual_states = 1000000
 -- with a device list, bounds and a number of states that can be read
 abbrev pub endings_with : Option Text → Option BoundsShown → Option (Option ℕ) → Shell → List Row → Option Asked
 endings_with (Some device_list) (Some bounds) (Some states) shell rows =
-    Some (ending (config_of rows) device_list (record {
+    Some (of_images (origin_asked rows) (λ origin. ending origin device_list (record {
       variable = variable_of rows;
       bounds = in_shell shell bounds;
       states = unwrap_or states usual_states;
       names = values_of (codes "names") rows;
       flow = is_set (codes "flow") rows;
-    }) (order_of rows))
+    }) (order_of rows)))
 endings_with _ _ _ shell rows = None
 
 abbrev pub endings_asked : List Row → Option Asked

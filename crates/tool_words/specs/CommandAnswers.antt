@@ -1,5 +1,5 @@
 -- What an answer of the reader of words says, and when each refusal comes. The refusals are ours.
-use Rattle.std.specs.Prelude.{◌≡◌, ◌⊎◌, Bool, List, map, Option, Some, None, Result, Ok, Err, option_and_then, string_bytes, String}
+use Rattle.std.specs.Prelude.{◌≡◌, ◌⊎◌, Bool, List, map, Option, Some, None, Result, Ok, Err, option_and_then, option_map, string_bytes, String}
 use Rattle.std.specs.declared.alloc.Global.{Global}
 use Rattle.clap.specs.Words.{IsAmong, Text, fault_of, subcommand_of}
 use Rattle.clap.specs.declared.error.kind.ErrorKind.{ErrorKind}
@@ -11,13 +11,16 @@ use Rattle.tool_words.specs.declared.ask.Change.{Change}
 use Rattle.tool_words.specs.declared.ask.Change.TheVariants.{Input, One, Script}
 use Rattle.tool_words.specs.declared.ask.EndingsAsk.{EndingsAsk}
 use Rattle.tool_words.specs.declared.called.CalledAs.{CalledAs}
+use Rattle.tool_words.specs.declared.ask.Origin.{Origin}
+use Rattle.tool_words.specs.declared.ask.Origin.TheVariants.{Config, Files}
+use Rattle.tool_words.specs.declared.ask.OriginError.{OriginError}
 use Rattle.tool_words.specs.declared.ask.RehearseAsk.{RehearseAsk}
 use Rattle.tool_words.specs.declared.ask.UseError.{UseError}
 use Rattle.rehearse_terms.specs.declared.wanted.Wanted.{Wanted}
-use Rattle.tool_words.specs.declared.ask.UseError.TheVariants.{Line, LockNeedsFolder, NeedName, ScriptAndName, HeaderNeedsOne, Memory, TooManyDevices, WordAlone}
+use Rattle.tool_words.specs.declared.ask.UseError.TheVariants.{Line, LockNeedsFolder, NeedName, ScriptAndName, HeaderNeedsOne, Memory, Misnamed, TooManyDevices, WordAlone}
 use Rattle.tool_words.specs.Answered.{IsAccepted, IsMistaken}
 use Rattle.tool_words.specs.Asked as what
-use Rattle.tool_words.specs.Asked.{Asked, WantedAsked, asked_of, ending, input_scripted, lock_of, printing, setting, scripted, rehearsing, lock_needs_folder, needs_name, script_and_name, header_needs_one, too_many_devices, word_alone}
+use Rattle.tool_words.specs.Asked.{Asked, WantedAsked, OriginShown, asked_of, configured, ending, input_scripted, lock_of, printing, setting, scripted, rehearsing, lock_needs_folder, needs_name, script_and_name, header_needs_one, misnamed, too_many_devices, whole, word_alone}
 use Rattle.tool_words.specs.CommandLine.{ubtool}
 use Rattle.rehearse_terms.specs.WantedShown.{wanted_bounds, wanted_strings}
 use Rattle.rehearse_terms.specs.Asking.{Asking}
@@ -39,22 +42,26 @@ endings_of e = record {
   flow = e.flow;
 }
 
-abbrev pub change_of : Text → Change → ByteOrder → (one_copy : Bool) → Asked
-change_of config (One name words) order one_copy =
-    setting config (string_bytes name) (map string_bytes words.items) order one_copy
-change_of config (Script file) order one_copy = scripted config (string_bytes file) order one_copy
-change_of config Input order one_copy = input_scripted config order one_copy
+abbrev pub origin_shown : Origin → OriginShown
+origin_shown (Config config) = configured (string_bytes config)
+origin_shown (Files first second) = whole (string_bytes first) (option_map string_bytes second)
+
+abbrev pub change_of : OriginShown → Change → ByteOrder → (one_copy : Bool) → Asked
+change_of origin (One name words) order one_copy =
+    setting origin (string_bytes name) (map string_bytes words.items) order one_copy
+change_of origin (Script file) order one_copy = scripted origin (string_bytes file) order one_copy
+change_of origin Input order one_copy = input_scripted origin order one_copy
 
 -- what the value asks for, if it is neither a help text nor the version
 abbrev pub meaning_of : Ask → Option Asked
-meaning_of (Print config what order one_copy) =
-    Some (printing (string_bytes config) what.form (map string_bytes what.names.items) order one_copy)
-meaning_of (Setenv config change order one_copy) =
-    Some (change_of (string_bytes config) change order one_copy)
-meaning_of (Rehearse config list what order) =
-    Some (rehearsing (string_bytes config) (string_bytes list) (asking_of what) order)
-meaning_of (Endings config list what order) =
-    Some (ending (string_bytes config) (string_bytes list) (endings_of what) order)
+meaning_of (Print origin what order one_copy) =
+    Some (printing (origin_shown origin) what.form (map string_bytes what.names.items) order one_copy)
+meaning_of (Setenv origin change order one_copy) =
+    Some (change_of (origin_shown origin) change order one_copy)
+meaning_of (Rehearse origin list what order) =
+    Some (rehearsing (origin_shown origin) (string_bytes list) (asking_of what) order)
+meaning_of (Endings origin list what order) =
+    Some (ending (origin_shown origin) (string_bytes list) (endings_of what) order)
 meaning_of (Help text) = None
 meaning_of Version = None
 
@@ -73,6 +80,7 @@ Answers called words (Err LockNeedsFolder) =
 Answers called words (Err NeedName) = IsAccepted ubtool words × (Some needs_name ≡ asked called words)
 Answers called words (Err ScriptAndName) = IsAccepted ubtool words × (Some script_and_name ≡ asked called words)
 Answers called words (Err HeaderNeedsOne) = IsAccepted ubtool words × (Some header_needs_one ≡ asked called words)
+Answers called words (Err (Misnamed error)) = IsAccepted ubtool words × (Some (misnamed error) ≡ asked called words)
 Answers called words (Err WordAlone) = IsAccepted ubtool words × (Some word_alone ≡ asked called words)
 Answers called words (Err TooManyDevices) = IsAccepted ubtool words × (Some too_many_devices ≡ asked called words)
 Answers called words (Err (Line text)) = IsMistaken ubtool words ⊎ (IsAccepted ubtool words × (None ≡ asked called words))
@@ -93,6 +101,7 @@ Says a (Err LockNeedsFolder) = Some lock_needs_folder ≡ a
 Says a (Err NeedName) = Some needs_name ≡ a
 Says a (Err ScriptAndName) = Some script_and_name ≡ a
 Says a (Err HeaderNeedsOne) = Some header_needs_one ≡ a
+Says a (Err (Misnamed error)) = Some (misnamed error) ≡ a
 Says a (Err WordAlone) = Some word_alone ≡ a
 Says a (Err TooManyDevices) = Some too_many_devices ≡ a
 Says a (Err (Line text)) = None ≡ a
@@ -106,6 +115,13 @@ SaysWanted a (Err TooManyDevices) = Some (Err too_many_devices) ≡ a
 SaysWanted a (Err (Line text)) = None ≡ a
 SaysWanted a (Err Memory) = Unit {0}
 SaysWanted a (Err error) = ⊥
+
+-- the same for what names the images
+abbrev pub SaysOrigin : Result OriginShown OriginError → Result Origin UseError → Type 0
+SaysOrigin a (Ok origin) = Ok (origin_shown origin) ≡ a
+SaysOrigin a (Err (Misnamed error)) = Err error ≡ a
+SaysOrigin a (Err Memory) = Unit {0}
+SaysOrigin a (Err error) = ⊥
 
 -- a line, or memory ran out
 abbrev pub IsUnread : UseError → Type 0

@@ -25,6 +25,13 @@ most_failures = 32
 abbrev pub config : Rule
 config = lettered_option (codes "config") (letter (codes "c"))
 
+-- `-i FILE`, and the second copy of a pair beside it
+abbrev pub image : Rule
+image = lettered_option (codes "image") (letter (codes "i"))
+
+abbrev pub second : Rule
+second = long_option (codes "second")
+
 abbrev pub big_endian : Rule
 big_endian = long_flag (codes "big-endian")
 
@@ -54,7 +61,7 @@ names = many (codes "names")
 
 abbrev pub printenv : App
 printenv = command (codes "printenv")
-    (config ∷ big_endian ∷ lock ∷ one_copy ∷ no_header ∷ null ∷ escaped ∷ names ∷ [])
+    (config ∷ image ∷ second ∷ big_endian ∷ lock ∷ one_copy ∷ no_header ∷ null ∷ escaped ∷ names ∷ [])
 
 -- `-s FILE`, `[NAME]` and `[VALUE]..`
 abbrev pub script : Rule
@@ -67,7 +74,7 @@ abbrev pub values : Rule
 values = many (codes "values")
 
 abbrev pub setenv : App
-setenv = command (codes "setenv") (config ∷ big_endian ∷ lock ∷ one_copy ∷ script ∷ name ∷ values ∷ [])
+setenv = command (codes "setenv") (config ∷ image ∷ second ∷ big_endian ∷ lock ∷ one_copy ∷ script ∷ name ∷ values ∷ [])
 
 -- `-d FILE`, which each call needs
 abbrev pub device_list : Rule
@@ -103,7 +110,7 @@ limit = number_option (codes "limit") 1 most_records
 
 abbrev pub rehearse : App
 rehearse = command (codes "rehearse")
-    (config ∷ big_endian ∷ device_list ∷ variable ∷ devices ∷ steps ∷ shell ∷ word ∷ failures ∷ after ∷ limit ∷ names ∷ [])
+    (config ∷ image ∷ second ∷ big_endian ∷ device_list ∷ variable ∷ devices ∷ steps ∷ shell ∷ word ∷ failures ∷ after ∷ limit ∷ names ∷ [])
 
 -- how many states may be searched, and the greatest number of them that can be allowed
 abbrev pub most_states : ℕ
@@ -118,7 +125,7 @@ flow = long_flag (codes "flow")
 
 abbrev pub endings : App
 endings = command (codes "endings")
-    (config ∷ big_endian ∷ device_list ∷ variable ∷ devices ∷ steps ∷ shell ∷ states ∷ flow ∷ names ∷ [])
+    (config ∷ image ∷ second ∷ big_endian ∷ device_list ∷ variable ∷ devices ∷ steps ∷ shell ∷ states ∷ flow ∷ names ∷ [])
 
 -- the program, which has no words of its own; its version can be asked for at each subcommand too
 abbrev pub base : App

@@ -35,8 +35,8 @@ pub const DEFAULT_STATES: u32 = 1_000_000;
 pub enum Ask {
     /// To print variables.
     Print {
-        /// The path of the configuration.
-        config: String,
+        /// What names the images.
+        origin: Origin,
         /// What to print.
         what: PrintAsk,
         /// How the image's CRC is stored.
@@ -46,8 +46,8 @@ pub enum Ask {
     },
     /// To set or delete variables.
     Setenv {
-        /// The path of the configuration.
-        config: String,
+        /// What names the images.
+        origin: Origin,
         /// What to change.
         change: Change,
         /// How the image's CRC is stored.
@@ -57,8 +57,8 @@ pub enum Ask {
     },
     /// To list the runs of a boot script.
     Rehearse {
-        /// The path of the configuration.
-        config: String,
+        /// What names the images.
+        origin: Origin,
         /// The path of the device list.
         devices_file: String,
         /// What to list.
@@ -68,8 +68,8 @@ pub enum Ask {
     },
     /// To count how all runs of a boot script end.
     Endings {
-        /// The path of the configuration.
-        config: String,
+        /// What names the images.
+        origin: Origin,
         /// The path of the device list.
         devices_file: String,
         /// What to write.
@@ -81,6 +81,34 @@ pub enum Ask {
     Help(String),
     /// To read the version.
     Version,
+}
+
+/// What names the images.
+#[derive(Debug, Drop)]
+pub enum Origin {
+    /// The configuration at this path, which names their places.
+    Config(String),
+    /// Files, each of which is one whole copy.
+    Files {
+        /// The path of a single image, or of the first copy of a pair.
+        first: String,
+        /// The path of the second copy of a pair.
+        second: Option<String>,
+    },
+}
+
+/// Why the words that name the images are refused.
+#[derive(Clone, Copy, Debug, Drop, PartialEq, Eq, Error)]
+pub enum OriginError {
+    /// An image is named, and a configuration too.
+    #[error("-i takes no -c")]
+    ImageAndConfig,
+    /// A second copy is named, and no first one.
+    #[error("--second needs -i")]
+    SecondNeedsImage,
+    /// One copy of a pair is enough, but the pair is two whole files.
+    #[error("--second takes no --one-copy")]
+    SecondAndOneCopy,
 }
 
 /// What `printenv` is to print.
@@ -149,6 +177,9 @@ pub enum UseError {
     /// `printenv -n` is given no name, or several.
     #[error("-n takes exactly one NAME")]
     HeaderNeedsOne,
+    /// The words that name the images do not go together.
+    #[error("{0}")]
+    Misnamed(OriginError),
     /// `rehearse` is given the word of one run, and which runs a listing has.
     #[error("--word takes no --failures, no --after and no --limit")]
     WordAlone,

@@ -4,7 +4,7 @@ ghost use Rattle.rehearse_terms.specs.Asking.{page_of};
 ghost use Rattle.rehearse_terms.specs.Asking.{HasRoom};
 ghost use Rattle.clap.specs.Words.{Text, first_of, found_of, rows_of, subcommand_rows_of};
 ghost use Rattle.envimage.specs.declared.image.ByteOrder.{ByteOrder as Order};
-ghost use Rattle.tool_words.specs.Asked.{asked_of, bounds_or, config_of, endings_asked, has_no_folder, is_set, lock_of, number_given, number_of, number_within, order_of, page_asked, print_asked, rehearse_asked, script_asked, set_asked, values_of, variable_of, wanted_asked, wanted_by};
+ghost use Rattle.tool_words.specs.Asked.{OriginShown, asked_of, bounds_or, config_of, endings_asked, has_no_folder, is_set, lock_of, number_given, number_of, number_within, order_of, page_asked, print_asked, rehearse_asked, script_asked, set_asked, values_of, variable_of, wanted_asked, wanted_by};
 ghost use Rattle.rehearse_terms.specs.WantedShown.{wanted_strings};
 ghost use Rattle.tool_words.specs.declared.ask.UseError.TheVariants.{Memory};
 ghost use Rattle.tool_words.specs.CommandAnswers.{Answers, IsUnread, NamesLock, Says, SaysWanted, change_of};
@@ -15,6 +15,7 @@ use crate::ask::{
     DEFAULT_STATES, DEFAULT_STEPS, DEFAULT_VARIABLE, EndingsAsk, PrintAsk, RehearseAsk, UseError,
 };
 use crate::called::CalledAs;
+use crate::origin::origin_of;
 use crate::shell::{shell_of, unnamed, wanted_in_shell};
 use crate::{FAILURES_MAX, ubtool};
 use clap::ArgMatches;
@@ -161,7 +162,7 @@ fn print_ask(alloc: Global, matches: &ArgMatches<'_>) -> Result<Ask, UseError>
         null: is_set(matches, "null"),
     };
     Ok(Ask::Print {
-        config: config_of(alloc, matches)?,
+        origin: origin_of(alloc, matches)?,
         what: PrintAsk { names, form },
         order: order_of(matches),
         one_copy: is_set(matches, "one-copy"),
@@ -171,9 +172,9 @@ fn print_ask(alloc: Global, matches: &ArgMatches<'_>) -> Result<Ask, UseError>
 /// The change by the script at a path. If the program was called as one of U-Boot's tools, the path
 /// `-` is standard input.
 fn script_change(called: CalledAs, path: String) -> Change
-    ensures { (config : Text) → (order : Order) → (one_copy : Bool) →
-        change_of config result order one_copy
-        ≡ script_asked called config (string_bytes path) order one_copy }
+    ensures { (origin : OriginShown) → (order : Order) → (one_copy : Bool) →
+        change_of origin result order one_copy
+        ≡ script_asked called (string_bytes path) origin order one_copy }
 {
     if called.is_tool() && path.as_str() == "-" {
         Change::Input
@@ -200,7 +201,7 @@ fn set_ask(alloc: Global, called: CalledAs, matches: &ArgMatches<'_>) -> Result<
         (None, None) => return Err(UseError::NeedName),
     };
     Ok(Ask::Setenv {
-        config: config_of(alloc, matches)?,
+        origin: origin_of(alloc, matches)?,
         change,
         order: order_of(matches),
         one_copy: is_set(matches, "one-copy"),
@@ -342,7 +343,7 @@ fn rehearse_ask(alloc: Global, matches: &ArgMatches<'_>) -> Result<Ask, UseError
         Err(error) => return Err(error),
     };
     Ok(Ask::Rehearse {
-        config: config_of(alloc, matches)?,
+        origin: origin_of(alloc, matches)?,
         devices_file,
         what: RehearseAsk {
             name: variable_of(alloc, matches)?,
@@ -366,7 +367,7 @@ fn endings_ask(alloc: Global, matches: &ArgMatches<'_>) -> Result<Ask, UseError>
         return Err(unread(alloc));
     };
     Ok(Ask::Endings {
-        config: config_of(alloc, matches)?,
+        origin: origin_of(alloc, matches)?,
         devices_file,
         what: EndingsAsk {
             name: variable_of(alloc, matches)?,
@@ -429,8 +430,9 @@ pub fn read_lock<S: AsStr>(alloc: Global, words: &[S]) -> Result<Option<String>,
 /// no shell has. Then both `printenv` and `setenv` refuse an empty folder of the lock (`LockNeedsFolder`),
 /// `setenv` refuses to have no name (`NeedName`) or a script and a name (`ScriptAndName`), and `printenv -n` refuses any number of
 /// names but one (`HeaderNeedsOne`). `rehearse` refuses a word beside `--after` or `--limit`
-/// (`WordAlone`), and a listing with too great a device bound (`TooManyDevices`). `Memory` is
-/// returned if a growth is refused.
+/// (`WordAlone`), and a listing with too great a device bound (`TooManyDevices`). Last, each of them
+/// refuses words for the images that do not go together (`Misnamed`). `Memory` is returned if a growth is
+/// refused.
 pub fn read_command<S: AsStr>(alloc: Global, called: CalledAs, words: &[S]) -> Result<Ask, UseError>
     ensures { Answers called (map S.text words.now) result }
 {

@@ -13,6 +13,28 @@ pub const CONFIG: Argument<'static> = Argument {
     help: "Configuration, at most 1048576 bytes [default: /etc/fw_env.config]",
 };
 
+/// The option that names a file which is a whole image.
+pub const IMAGE: Argument<'static> = Argument {
+    id: "image",
+    form: Form::Value,
+    letter: Some('i'),
+    alias: None,
+    required: false,
+    value: "FILE",
+    help: "Image, at most 1048576 bytes: the whole FILE, in place of -c [default: none]",
+};
+
+/// The option that names the second copy of a pair, which is a whole file too.
+pub const SECOND: Argument<'static> = Argument {
+    id: "second",
+    form: Form::Value,
+    letter: None,
+    alias: None,
+    required: false,
+    value: "FILE",
+    help: "Second copy of a redundant pair, beside -i: the whole FILE [default: none]",
+};
+
 /// The flag for a checksum that is stored big-endian.
 pub const BIG_ENDIAN: Argument<'static> = Argument {
     id: "big-endian",

@@ -4,7 +4,7 @@ use crate::argument::{Argument, Form};
 use crate::notes::{
     ENDINGS_NOTES, FW_PRINTENV_NOTES, FW_SETENV_NOTES, PRINTENV_NOTES, REHEARSE_NOTES, SETENV_NOTES,
 };
-use crate::shared::{BIG_ENDIAN, CONFIG, DEVICE_LIST, NAMES};
+use crate::shared::{BIG_ENDIAN, CONFIG, DEVICE_LIST, IMAGE, NAMES, SECOND};
 use crate::subcommand::{Subcommand, Tool};
 use rehearse_terms::{RUN_DEVICES_MAX, STEPS_MAX};
 
@@ -66,8 +66,10 @@ const ESCAPED: Argument<'static> = Argument {
     help: "Print newlines as \\n and other bytes by their digits [default: as they are]",
 };
 
-const PRINTENV: [Argument<'static>; 8] = [
+const PRINTENV: [Argument<'static>; 10] = [
     CONFIG,
+    IMAGE,
+    SECOND,
     BIG_ENDIAN,
     LOCK,
     ONE_COPY,
@@ -110,8 +112,10 @@ const VALUES: Argument<'static> = Argument {
     help: "Its new value [default: delete the variable]",
 };
 
-const SETENV: [Argument<'static>; 7] = [
+const SETENV: [Argument<'static>; 9] = [
     CONFIG,
+    IMAGE,
+    SECOND,
     BIG_ENDIAN,
     Argument {
         help: "Folder of the lock file [default: /var/lock]",
@@ -205,8 +209,10 @@ const LIMIT: Argument<'static> = Argument {
     help: "At most N records, 1 to 4294967295 [default: all]",
 };
 
-const REHEARSE: [Argument<'static>; 12] = [
+const REHEARSE: [Argument<'static>; 14] = [
     CONFIG,
+    IMAGE,
+    SECOND,
     BIG_ENDIAN,
     DEVICE_LIST,
     VARIABLE,
@@ -243,8 +249,10 @@ const FLOW: Argument<'static> = Argument {
     help: "Write the states as a graph, a line each",
 };
 
-const ENDINGS: [Argument<'static>; 10] = [
+const ENDINGS: [Argument<'static>; 12] = [
     CONFIG,
+    IMAGE,
+    SECOND,
     BIG_ENDIAN,
     DEVICE_LIST,
     VARIABLE,

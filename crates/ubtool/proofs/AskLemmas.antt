@@ -2,18 +2,19 @@
 use Rattle.std.proofs.Common.{◌≡◌, ◌==◌, ℕ, Bool, true, false, not, refl, sym, subst, ◌∙◌, List, length, Option, Some, None, Ok, Err}
 use Rattle.std.proofs.lemmas.Bool.{eqb-true}
 use Rattle.std.proofs.lemmas.List.{length-map}
-use Rattle.std.specs.Prelude.{is_some, ◌||◌, option_and_then, option_map, if◌then◌else◌, ◌&&◌, codes, string_bytes}
+use Rattle.std.specs.Prelude.{Result, is_some, unwrap_or, ◌||◌, option_and_then, option_map, if◌then◌else◌, ◌&&◌, codes, string_bytes}
 use Rattle.std.specs.Str.{bytes_eq}
 use Rattle.clap.specs.Words.{Row, Text, first_of, subcommand_of}
 use Rattle.envimage.specs.declared.image.ByteOrder.{ByteOrder}
-use Rattle.rehearse_terms.specs.Asking.{Alone, Listed}
+use Rattle.rehearse_terms.specs.Asking.{Alone, Listed, Wanted}
 use Rattle.rehearse_terms.specs.declared.wanted.Page.{Page}
-use Rattle.rehearse_terms.specs.Bounds.{BoundsShown, bounds_of}
+use Rattle.rehearse_terms.specs.Bounds.{BoundsShown, bounds_of, in_shell}
 use Rattle.rehearse_terms.specs.declared.shell.Shell.{Shell}
 use Rattle.tool_words.specs.CommandAnswers.{Answers, asked, meaning_of}
 use Rattle.tool_words.specs.Called.{is_tool}
-use Rattle.tool_words.specs.Asked.{Asked, asked_of, bounds_asked, change_asked, config_of, endings_asked, endings_with, has_no_folder, header_needs_one, input_scripted, is_set, listing_asked, lock_needs_folder, number_within, one_copy, order_of, page_asked, print_asked, print_form, printing, printing_asked, rehearsal_of, rehearsal_with, rehearse_asked, run_bounds_asked, scripted, set_asked, shell_of, too_many_devices, values_of, wanted_by, word_alone, word_asked}
+use Rattle.tool_words.specs.Asked.{Asked, OriginShown, asked_of, bounds_asked, change_asked, ending, endings_asked, endings_with, has_no_folder, header_needs_one, input_scripted, is_set, listing_asked, lock_needs_folder, number_within, of_images, one_copy, order_of, origin_asked, page_asked, print_asked, print_form, printing, printing_asked, rehearsal_of, rehearsal_with, rehearse_asked, rehearsing, run_bounds_asked, script_asked, scripted, set_asked, setting, shell_of, too_many_devices, usual_states, values_of, variable_of, wanted_by, word_alone, word_asked}
 use Rattle.tool_words.specs.CommandLine.{most_failures, most_states, ubtool}
+use Rattle.tool_words.specs.declared.ask.OriginError.{OriginError}
 use Rattle.tool_words.specs.declared.called.CalledAs.{CalledAs}
 use Rattle.tool_words.specs.declared.ask.Ask.{Ask}
 use Rattle.tool_words.specs.declared.ask.Ask.TheVariants.{Endings, Help, Print, Rehearse, Setenv, Version}
@@ -21,7 +22,7 @@ use Rattle.ubtool.specs.Performing.{IsComplete}
 
 -- a value without its name is asked for only with one name
 abbrev IsFit : Option Asked → Type 0
-IsFit (Some (printing config form names order one_copy)) = form.header ≡ false → length names ≡ 1
+IsFit (Some (printing origin form names order one_copy)) = form.header ≡ false → length names ≡ 1
 IsFit asked = Unit {0}
 
 either : (b : Bool) (x y : Option Asked) → IsFit x → IsFit y → IsFit (if b then x else y)
@@ -36,6 +37,11 @@ found-fit : {X : Type 0} (found : Option X) (what : X → Option Asked) → ((x 
 found-fit None what fit = tt
 found-fit (Some x) what fit = fit x
 
+-- of images that are named, or refused for their names
+named-fit : (named : Result OriginShown OriginError) (what : OriginShown → Asked) → ((origin : OriginShown) → IsFit (Some (what origin))) → IsFit (Some (of_images named what))
+named-fit (Ok origin) what fit = fit origin
+named-fit (Err error) what fit = tt
+
 print-fit : (header one : Bool) (what : Asked) → (one ≡ true → IsFit (Some what)) → (header ≡ true → IsFit (Some what))
     → IsFit (Some (if not header && not one then header_needs_one else what))
 print-fit false true what of-one of-header = of-one refl
@@ -44,14 +50,24 @@ print-fit true one what of-one of-header = of-header refl
 
 set-fit : (called : CalledAs) (script name : Option Text) (rows : List Row) → IsFit (Some (change_asked called script name rows))
 set-fit called (Some script) None rows =
-    either-asked (is_tool called && bytes_eq script (codes "-")) (input_scripted (config_of rows) (order_of rows) (one_copy rows)) (scripted (config_of rows) script (order_of rows) (one_copy rows)) tt tt
+    named-fit (origin_asked rows) (λ origin. script_asked called script origin (order_of rows) (one_copy rows))
+    (λ origin. either-asked (is_tool called && bytes_eq script (codes "-")) (input_scripted origin (order_of rows) (one_copy rows)) (scripted origin script (order_of rows) (one_copy rows)) tt tt)
 set-fit called (Some script) (Some name) rows = tt
-set-fit called None (Some name) rows = tt
+set-fit called None (Some name) rows =
+    named-fit (origin_asked rows) (λ origin. setting origin name (values_of (codes "values") rows) (order_of rows) (one_copy rows)) (λ origin. tt)
 set-fit called None None rows = tt
+
+rehearsal-fit : (list : Text) (shell : Shell) (rows : List Row) (within : BoundsShown × Wanted) → IsFit (Some (rehearsal_of list shell rows (Ok within)))
+rehearsal-fit list shell rows within = named-fit (origin_asked rows) (λ origin. rehearsing origin list (record {
+  variable = variable_of rows;
+  bounds = in_shell shell within.0;
+  wanted = within.1;
+  names = values_of (codes "names") rows;
+}) (order_of rows)) (λ origin. tt)
 
 listing-fit : (list : Text) (shell : Shell) (rows : List Row) (after : Option Text) (page : Page) (narrow : Option BoundsShown)
     → IsFit (Some (rehearsal_of list shell rows (elim narrow [ Some within ↦ Ok (within, Listed after page) | None ↦ Err too_many_devices ])))
-listing-fit list shell rows after page (Some within) = tt
+listing-fit list shell rows after page (Some within) = rehearsal-fit list shell rows (within, Listed after page)
 listing-fit list shell rows after page None = tt
 
 narrow-fit : (list : Text) (shell : Shell) (rows : List Row) (after : Option Text) (page : Page) (failures : Option ℕ) (bounds : Option BoundsShown) → IsFit (option_map (rehearsal_of list shell rows) (option_map (listing_asked after page failures) bounds))
@@ -60,7 +76,7 @@ narrow-fit list shell rows after page failures None = tt
 
 word-fit : (list : Text) (shell : Shell) (rows : List Row) (word : Text) (bounds : BoundsShown) (beside : Bool) → IsFit (Some (rehearsal_of list shell rows (if beside then Err word_alone else Ok (bounds, Alone word))))
 word-fit list shell rows word bounds true = tt
-word-fit list shell rows word bounds false = tt
+word-fit list shell rows word bounds false = rehearsal-fit list shell rows (bounds, Alone word)
 
 wide-fit : (list : Text) (shell : Shell) (rows : List Row) (word : Text) (after : Option Text) (page : Page) (failures : Option ℕ) (bounds : Option BoundsShown) → IsFit (option_map (rehearsal_of list shell rows) (option_map (word_asked word after page failures) bounds))
 wide-fit list shell rows word after page failures (Some bounds) = word-fit list shell rows word bounds (is_some after || is_some page.limit || is_some failures)
@@ -77,7 +93,12 @@ rehearse-fit (Some list) None failures shell rows = tt
 rehearse-fit (Some list) (Some page) None shell rows = tt
 
 endings-fit : (list : Option Text) (bounds : Option BoundsShown) (states : Option (Option ℕ)) (shell : Shell) (rows : List Row) → IsFit (endings_with list bounds states shell rows)
-endings-fit (Some list) (Some bounds) (Some states) shell rows = tt
+endings-fit (Some list) (Some bounds) (Some states) shell rows = named-fit (origin_asked rows) (λ origin. ending origin list (record {
+  variable = variable_of rows;
+  bounds = in_shell shell bounds;
+  states = unwrap_or states usual_states;
+  flow = is_set (codes "flow") rows;
+}) (order_of rows)) (λ origin. tt)
 endings-fit None bounds states shell rows = tt
 endings-fit (Some list) None states shell rows = tt
 endings-fit (Some list) (Some bounds) None shell rows = tt
@@ -89,8 +110,9 @@ asked-fit called words = found-fit (subcommand_of ubtool words) (λ s. asked_of 
     of name rows =
         let names = values_of (codes "names") rows in
         let printed = either-asked (has_no_folder rows) lock_needs_folder (printing_asked rows) tt
-        (print-fit (not (is_set (codes "noheader") rows)) (length names == 1) (printing (config_of rows) (print_form rows) names (order_of rows) (one_copy rows))
-        (λ e h. eqb-true (length names) 1 e) (λ is h. let none : ⊥ = cc in absurd none)) in
+        (print-fit (not (is_set (codes "noheader") rows)) (length names == 1) (of_images (origin_asked rows) (λ origin. printing origin (print_form rows) names (order_of rows) (one_copy rows)))
+        (λ e. named-fit (origin_asked rows) (λ origin. printing origin (print_form rows) names (order_of rows) (one_copy rows)) (λ origin h. eqb-true (length names) 1 e))
+        (λ is. named-fit (origin_asked rows) (λ origin. printing origin (print_form rows) names (order_of rows) (one_copy rows)) (λ origin h. let none : ⊥ = cc in absurd none))) in
         let set = either-asked (has_no_folder rows) lock_needs_folder (change_asked called (first_of (codes "script") rows) (first_of (codes "name") rows) rows) tt
         (set-fit called (first_of (codes "script") rows) (first_of (codes "name") rows) rows) in
         let list = first_of (codes "device-list") rows in
@@ -109,11 +131,11 @@ asked-fit called words = found-fit (subcommand_of ubtool words) (λ s. asked_of 
 
 -- what was asked for is complete
 pub answer-complete : (called : CalledAs) (words : List Text) (ask : Ask) → Answers called words (Ok ask) → IsComplete ask
-answer-complete called words (Print config what order one_copy) h =
-    let fit : IsFit (meaning_of (Print config what order one_copy)) = subst IsFit (sym h.1) (asked-fit called words) in
+answer-complete called words (Print origin what order one_copy) h =
+    let fit : IsFit (meaning_of (Print origin what order one_copy)) = subst IsFit (sym h.1) (asked-fit called words) in
     λ none. sym (length-map what.names.items string_bytes) ∙ fit none
-answer-complete called words (Setenv config change order one_copy) h = tt
-answer-complete called words (Rehearse config list what order) h = tt
-answer-complete called words (Endings config list what order) h = tt
+answer-complete called words (Setenv origin change order one_copy) h = tt
+answer-complete called words (Rehearse origin list what order) h = tt
+answer-complete called words (Endings origin list what order) h = tt
 answer-complete called words (Help text) h = tt
 answer-complete called words Version h = tt

@@ -4,6 +4,7 @@ use Rattle.std.specs.Prelude.{Result}
 use Rattle.output.specs.Sink.{Sink}
 use Rattle.envimage.specs.declared.image.ByteOrder.{ByteOrder}
 use Rattle.rehearse_terms.specs.Bounds.{BoundsShown}
+use Rattle.tool_words.specs.Asked.{OriginShown}
 use Rattle.tool_words.specs.declared.ask.EndingsAsk.{EndingsAsk}
 use Rattle.ubtool.specs.EndingsOfImages.{RefusesEndings, TellsEndings}
 use Rattle.ubtool.specs.Given.{FromFiles, Given, all_runs, given_by}
@@ -19,12 +20,12 @@ use Rattle.tool_steps.specs.declared.sources.Sources.{Sources}
 
 -- ---- the endings of what was read
 
-module _ (order : ByteOrder) (config list : List ℕ) (what : EndingsAsk) (out out' : Sink) (sources : Sources) (x z : Told) (read : ReadsSources config list x z (Ok sources)) where
-  from-files : (IsSo : Given → Type 0) → IsSo (given_by order (copies sources.images) sources.device_list.items (all_asked what)) → FromFiles order config list (all_asked what) x z IsSo
-  from-files IsSo so = so-of-sources config list sources x z (λ copies bytes. IsSo (given_by order copies bytes (all_asked what))) read so
+module _ (order : ByteOrder) (origin : OriginShown) (list : List ℕ) (what : EndingsAsk) (out out' : Sink) (sources : Sources) (x z : Told) (read : ReadsSources origin list x z (Ok sources)) where
+  from-files : (IsSo : Given → Type 0) → IsSo (given_by order (copies sources.images) sources.device_list.items (all_asked what)) → FromFiles order origin list (all_asked what) x z IsSo
+  from-files IsSo so = so-of-sources origin list sources x z (λ copies bytes. IsSo (given_by order copies bytes (all_asked what))) read so
 
   pub tells-refused : (error : RehearsalError) → TellsCopies (given_by order (copies sources.images) sources.device_list.items (all_asked what)) what.flow what.states out out' (Err error)
-      → TellsFrom order config list what out out' x z (Err (endings_refusal what error))
+      → TellsFrom order origin list what out out' x z (Err (endings_refusal what error))
   tells-refused (refused.Image error) h = from-files (λ g. RefusesEndings g what.flow what.states out out' (refused.Image error)) h
   tells-refused (refused.Rehearsal (rehearsal.DeviceList error)) h = from-files (λ g. RefusesEndings g what.flow what.states out out' (refused.Rehearsal (rehearsal.DeviceList error))) h
   tells-refused (refused.Rehearsal rehearsal.NoSuchVariable) h = (refl, from-files (λ g. RefusesEndings g what.flow what.states out out' (refused.Rehearsal rehearsal.NoSuchVariable)) h)
@@ -34,7 +35,7 @@ module _ (order : ByteOrder) (config list : List ℕ) (what : EndingsAsk) (out o
   tells-refused (refused.Rehearsal rehearsal.Failed) h = absurd h
   tells-refused (refused.Rehearsal rehearsal.States) h = from-files (λ g. RefusesEndings g what.flow what.states out out' (refused.Rehearsal rehearsal.States)) h
   tells-refused refused.Write h = from-files (λ g. RefusesEndings g what.flow what.states out out' refused.Write) h
-  tells-refused refused.Memory h = (only-read config list sources x z read, h)
+  tells-refused refused.Memory h = (only-read origin list sources x z read, h)
 
 -- ---- an answer, by its clauses
 

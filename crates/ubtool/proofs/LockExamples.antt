@@ -1,10 +1,10 @@
 -- What takes the lock, in worked cases.
 use Rattle.std.proofs.Common.{◌≡◌, ap, arith, ℕ, Bool, true, false, refl, inl, inr, None, Ok, Err}
-use Rattle.std.specs.Prelude.{Result, String}
-use Rattle.std.specs.declared.alloc.Global.{Global}
+use Rattle.std.specs.Prelude.{Result}
 use Rattle.envimage.specs.declared.image.ByteOrder.{ByteOrder}
 use Rattle.tool_words.specs.declared.ask.Ask.TheVariants.{Print, Setenv, Version}
 use Rattle.tool_words.specs.declared.ask.Change.{Change}
+use Rattle.tool_words.specs.declared.ask.Origin.{Origin}
 use Rattle.tool_words.specs.declared.ask.PrintAsk.{PrintAsk}
 use Rattle.tool_files.specs.declared.files.LockFault.TheVariants.{NoFile}
 use Rattle.ubtool.specs.declared.fault.ProgramFault.TheVariants.{Shared}
@@ -16,16 +16,16 @@ use Rattle.ubtool.specs.Locking.{IsLockedOut, LocksFor}
 abbrev files : ℕ → Bool → FilesShown
 files faults locked = record { faults = faults; told = None; locked = locked }
 
-module _ (config : String Global) (change : Change) (what : PrintAsk) (order : ByteOrder) (one_copy : Bool) where
+module _ (origin : Origin) (change : Change) (what : PrintAsk) (order : ByteOrder) (one_copy : Bool) where
   -- a change takes the lock, or goes on under a lock that is held already
-  change_takes_it : LocksFor (Setenv config change order one_copy) (Ok true) (files 0 false) (files 0 true)
+  change_takes_it : LocksFor (Setenv origin change order one_copy) (Ok true) (files 0 false) (files 0 true)
   change_takes_it = inl refl
 
-  change_keeps_it : LocksFor (Setenv config change order one_copy) (Ok true) (files 0 true) (files 0 true)
+  change_keeps_it : LocksFor (Setenv origin change order one_copy) (Ok true) (files 0 true) (files 0 true)
   change_keeps_it = inl refl
 
   -- it is refused if the lock is, and touches no file then
-  refused_with_it : LocksFor (Setenv config change order one_copy) (Err (Shared (Lock NoFile))) (files 0 false) (files 0 false)
+  refused_with_it : LocksFor (Setenv origin change order one_copy) (Err (Shared (Lock NoFile))) (files 0 false) (files 0 false)
   refused_with_it = inr (record { fault = NoFile; told = refl; untouched = refl })
 
   touching_without_it : IsLockedOut (Err (Shared (Lock NoFile))) (files 0 false) (files 1 false) → ⊥
@@ -39,10 +39,10 @@ module _ (config : String Global) (change : Change) (what : PrintAsk) (order : B
   no_other_refusal_without_it h = let is = h.told in cc
 
   -- printing takes none, and keeps a lock that is held
-  printing_takes_none : LocksFor (Print config what order one_copy) (Ok true) (files 0 false) (files 0 true) → ⊥
+  printing_takes_none : LocksFor (Print origin what order one_copy) (Ok true) (files 0 false) (files 0 true) → ⊥
   printing_takes_none h = cc
 
-  printing_keeps_it : LocksFor (Print config what order one_copy) (Ok true) (files 0 true) (files 0 true)
+  printing_keeps_it : LocksFor (Print origin what order one_copy) (Ok true) (files 0 true) (files 0 true)
   printing_keeps_it = refl
 
 version_takes_none : LocksFor Version (Ok true) (files 0 false) (files 0 true) → ⊥

@@ -8,6 +8,7 @@ use Rattle.rehearse_terms.specs.Asking.{Asking, Wanted}
 use Rattle.rehearse_terms.specs.Bounds.{BoundsShown}
 use Rattle.tool_words.specs.CommandAnswers.{asking_of}
 use Rattle.rehearse_runs.specs.declared.listing.Finish.{Finish}
+use Rattle.tool_words.specs.Asked.{OriginShown}
 use Rattle.tool_words.specs.declared.ask.RehearseAsk.{RehearseAsk}
 use Rattle.tool_images.specs.FileFaults.{path_form}
 use Rattle.ubtool.specs.Given.{FromFiles, Given, given_by}
@@ -29,20 +30,20 @@ asking_made variable bounds wanted names = record { variable = variable; bounds 
 
 -- ---- the rehearsal of what was read
 
-module _ (order : ByteOrder) (config list : List ℕ) (what : RehearseAsk) (out out' : Sink) (sources : Sources) (x z : Told) (read : ReadsSources config list x z (Ok sources)) where
-  from-files : (IsSo : Given → Type 0) → IsSo (given_by order (copies sources.images) sources.device_list.items (asking_of what)) → FromFiles order config list (asking_of what) x z IsSo
-  from-files IsSo so = so-of-sources config list sources x z (λ copies bytes. IsSo (given_by order copies bytes (asking_of what))) read so
+module _ (order : ByteOrder) (origin : OriginShown) (list : List ℕ) (what : RehearseAsk) (out out' : Sink) (sources : Sources) (x z : Told) (read : ReadsSources origin list x z (Ok sources)) where
+  from-files : (IsSo : Given → Type 0) → IsSo (given_by order (copies sources.images) sources.device_list.items (asking_of what)) → FromFiles order origin list (asking_of what) x z IsSo
+  from-files IsSo so = so-of-sources origin list sources x z (λ copies bytes. IsSo (given_by order copies bytes (asking_of what))) read so
 
-  pub rehearses-found : (finish : Finish) → RehearsesCopies (given_by order (copies sources.images) sources.device_list.items (asking_of what)) out out' (Ok finish) → RehearsesFrom order config list what out out' x z (Ok true)
+  pub rehearses-found : (finish : Finish) → RehearsesCopies (given_by order (copies sources.images) sources.device_list.items (asking_of what)) out out' (Ok finish) → RehearsesFrom order origin list what out out' x z (Ok true)
   rehearses-found finish h = (refl, from-files (λ g. (f : Finish) × Rehearses g out out' f) (finish, h))
 
   no-run : (given : Option (String Global)) → wanted_word what.wanted ≡ given
-      → FromFiles order config list (asking_of what) x z (λ g. Refuses g out out' (refused.Rehearsal rehearsal.NotARun)) → RehearsesFrom order config list what out out' x z (Err (no_run_of given))
+      → FromFiles order origin list (asking_of what) x z (λ g. Refuses g out out' (refused.Rehearsal rehearsal.NotARun)) → RehearsesFrom order origin list what out out' x z (Err (no_run_of given))
   no-run None is h = h
   no-run (Some word) is h = (ap (option_map path_form) (sym is), h)
 
   pub rehearses-refused : (error : RehearsalError) → RehearsesCopies (given_by order (copies sources.images) sources.device_list.items (asking_of what)) out out' (Err error)
-      → RehearsesFrom order config list what out out' x z (Err (refusal_of what error))
+      → RehearsesFrom order origin list what out out' x z (Err (refusal_of what error))
   rehearses-refused (refused.Image error) h = from-files (λ g. Refuses g out out' (refused.Image error)) h
   rehearses-refused (refused.Rehearsal (rehearsal.DeviceList error)) h = from-files (λ g. Refuses g out out' (refused.Rehearsal (rehearsal.DeviceList error))) h
   rehearses-refused (refused.Rehearsal rehearsal.NoSuchVariable) h = (refl, from-files (λ g. Refuses g out out' (refused.Rehearsal rehearsal.NoSuchVariable)) h)

@@ -8,6 +8,7 @@ use Rattle.tool_files.specs.Told.{Told}
 use Rattle.tool_steps.specs.Images.{Copy}
 use Rattle.tool_steps.specs.PrintingFiles.{first_bytes, second_bytes}
 use Rattle.tool_steps.specs.Sources.{AreRead}
+use Rattle.tool_words.specs.Asked.{OriginShown}
 
 pub record Given : Type 0 where
   -- the bytes of a single image, or of the copies of a pair, and how their checksum is stored
@@ -35,6 +36,6 @@ abbrev pub given_by : ByteOrder → List Copy → (device_list : Text) → Askin
 given_by order found device_list asking = given order (first_bytes found) (second_bytes found) device_list asking
 
 -- the images and the device list were read, and this holds of what they give
-abbrev pub FromFiles : ByteOrder → (config device_list : List ℕ) → Asking → (old new : Told) → (Given → Type 0) → Type 0
-FromFiles order config device_list asking old new IsSo =
-    AreRead config device_list old new (λ found text. IsSo (given_by order found text asking))
+abbrev pub FromFiles : ByteOrder → OriginShown → (device_list : List ℕ) → Asking → (old new : Told) → (Given → Type 0) → Type 0
+FromFiles order origin device_list asking old new IsSo =
+    AreRead origin device_list old new (λ found text. IsSo (given_by order found text asking))

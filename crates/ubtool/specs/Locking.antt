@@ -16,6 +16,6 @@ pub record IsLockedOut (answer : Result Bool ProgramFault) (before after : Files
 
 -- a change takes the lock, or it is refused and touches no file; nothing else takes it
 abbrev pub LocksFor : Ask → Result Bool ProgramFault → (before after : FilesShown) → Type 0
-LocksFor (Setenv config change order one_copy) answer before after =
+LocksFor (Setenv origin change order one_copy) answer before after =
     (after.locked ≡ true) ⊎ IsLockedOut answer before after
 LocksFor ask answer before after = after.locked ≡ before.locked

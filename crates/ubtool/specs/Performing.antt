@@ -1,11 +1,12 @@
 -- What is done for what is asked, on files whose contents are known. The subcommands follow fw_printenv and fw_setenv
 -- (U-Boot, tools/env README). The rehearsal is ours.
-use Rattle.std.specs.Prelude.{◌≡◌, ◌⊎◌, ℕ, Bool, true, false, List, codes, length, map, Option, Result, Ok, Err, String, string_bytes}
-use Rattle.std.specs.declared.alloc.Global.{Global}
+use Rattle.std.specs.Prelude.{◌≡◌, ◌⊎◌, ℕ, Bool, true, false, List, codes, length, map, Option, Result, Ok, Err, string_bytes}
 use Rattle.envimage.specs.declared.image.ByteOrder.{ByteOrder}
 use Rattle.tool_words.specs.declared.ask.Ask.{Ask}
 use Rattle.tool_words.specs.declared.ask.Ask.TheVariants.{Endings, Help, Print, Rehearse, Setenv, Version}
 use Rattle.tool_words.specs.declared.ask.Change.{Change}
+use Rattle.tool_words.specs.declared.ask.Origin.{Origin}
+use Rattle.tool_words.specs.CommandAnswers.{origin_shown}
 use Rattle.output.specs.Outputs.{Outputs}
 use Rattle.output.specs.Sink.{Sink}
 use Rattle.tool_files.specs.Told.{IfTold, Told}
@@ -29,12 +30,12 @@ use Rattle.tool_steps.specs.declared.one_copy.ImageSource.{ImageSource}
 
 -- a value without its name is asked for only with one name
 abbrev pub IsComplete : Ask → Type 0
-IsComplete (Print config what order one_copy) = what.form.header ≡ false → length what.names.items ≡ 1
+IsComplete (Print origin what order one_copy) = what.form.header ≡ false → length what.names.items ≡ 1
 IsComplete ask = Unit {0}
 
 -- the images that are meant, and how they are read
-abbrev pub source_of : String Global → ByteOrder → (one_copy : Bool) → ImageSource
-source_of config order one_copy = record { config = config; order = order; one_copy = one_copy }
+abbrev pub source_of : Origin → ByteOrder → (one_copy : Bool) → ImageSource
+source_of origin order one_copy = record { origin = origin; order = order; one_copy = one_copy }
 
 -- The lock is refused: no file was read or written, and nothing was reported before.
 pub record IsUnlocked (fault : Fault) (err err' : Sink) (old new : Told) : Type 0 where
@@ -53,8 +54,8 @@ SetsOf program input source change err err' old new (Err fault) =
 
 -- the count of failures of the device: one more than the answer tells, if one copy of a pair is enough and one is lost
 abbrev pub Counts : Ask → ℕ → ℕ → Result Bool ProgramFault → Type 0
-Counts (Print config what order one_copy) old new result = IsShared (CountsReads one_copy old new) result
-Counts (Setenv config change order one_copy) old new result = IsShared (CountsReads one_copy old new) result
+Counts (Print origin what order one_copy) old new result = IsShared (CountsReads one_copy old new) result
+Counts (Setenv origin change order one_copy) old new result = IsShared (CountsReads one_copy old new) result
 Counts ask old new result = CountsShared old new result
 
 -- what the files show afterwards: the failures that are counted, and the lock
@@ -66,25 +67,25 @@ Leaves ask result before after =
 -- before and after, and on the outputs.
 abbrev pub Does : (program : List ℕ) → Build → (input : Option (List ℕ)) → Ask → Option Told → Option Told → Outputs →
     Result Bool ProgramFault → Type 0
-Does program build input (Print config what order one_copy) before after outputs result = IsShared (λ answer.
-    IfTold before after (λ old new. PrintsFrom program (source_of config order one_copy)
+Does program build input (Print origin what order one_copy) before after outputs result = IsShared (λ answer.
+    IfTold before after (λ old new. PrintsFrom program (source_of origin order one_copy)
     (map string_bytes what.names.items) what.form outputs old new answer)
     × LeavesOutputs program one_copy answer outputs)
     result
-Does program build input (Setenv config change order one_copy) before after outputs result = IsShared (λ answer.
+Does program build input (Setenv origin change order one_copy) before after outputs result = IsShared (λ answer.
     IfTold before after (λ old new.
-    SetsOf program input (source_of config order one_copy) change outputs.err outputs.err' old new answer)
+    SetsOf program input (source_of origin order one_copy) change outputs.err outputs.err' old new answer)
     × (outputs.out' ≡ outputs.out)
     × TellsNotes program one_copy answer outputs.err outputs.err')
     result
-Does program build input (Rehearse config device_list what order) before after outputs result =
+Does program build input (Rehearse origin device_list what order) before after outputs result =
     IfTold before after (λ old new.
-    RehearsesFrom order (string_bytes config) (string_bytes device_list) what outputs.out outputs.out' old new result)
+    RehearsesFrom order (origin_shown origin) (string_bytes device_list) what outputs.out outputs.out' old new result)
     × LeavesOutput result outputs.out outputs.out'
     × (outputs.err' ≡ outputs.err)
-Does program build input (Endings config device_list what order) before after outputs result =
+Does program build input (Endings origin device_list what order) before after outputs result =
     IfTold before after (λ old new.
-    TellsFrom order (string_bytes config) (string_bytes device_list) what outputs.out outputs.out' old new result)
+    TellsFrom order (origin_shown origin) (string_bytes device_list) what outputs.out outputs.out' old new result)
     × LeavesOutput result outputs.out outputs.out'
     × (outputs.err' ≡ outputs.err)
 Does program build input (Help text) before after outputs result =

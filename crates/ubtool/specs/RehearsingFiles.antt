@@ -1,10 +1,11 @@
--- What rehearsing the images of a configuration does, from files whose contents are known. The order of work is ours.
+-- What rehearsing images does, from files whose contents are known. The order of work is ours.
 use Rattle.std.specs.Prelude.{◌≡◌, ◌⊎◌, ℕ, Bool, true, List, Option, Some, None, option_map, Result, Ok, Err, String}
 use Rattle.std.specs.declared.alloc.Global.{Global}
 use Rattle.output.specs.Sink.{Sink, counted}
 use Rattle.envimage.specs.declared.image.ByteOrder.{ByteOrder}
 use Rattle.rehearse_runs.specs.declared.listing.Finish.{Finish}
 use Rattle.tool_words.specs.CommandAnswers.{asking_of}
+use Rattle.tool_words.specs.Asked.{OriginShown}
 use Rattle.tool_words.specs.declared.ask.RehearseAsk.{RehearseAsk}
 use Rattle.rehearse_terms.specs.WantedShown.{wanted_word}
 use Rattle.tool_images.specs.FileFaults.{path_form}
@@ -47,31 +48,31 @@ RehearsesCopies g old new (Err error) = Refuses g old new error
 -- The images and the device list were read, and the whole listing was written; or the rehearsal is refused, and the
 -- fault names what the words said; or a read is refused, and files were only read. If memory runs out while they are
 -- read, nothing is written; if it runs out later, whole records may be written.
-abbrev pub RehearsesFrom : ByteOrder → (config device_list : List ℕ) → RehearseAsk → (out out' : Sink) →
+abbrev pub RehearsesFrom : ByteOrder → OriginShown → (device_list : List ℕ) → RehearseAsk → (out out' : Sink) →
     (old new : Told) → Result Bool ProgramFault → Type 0
-RehearsesFrom order config device_list what out out' old new (Ok all) =
-    (all ≡ true) × FromFiles order config device_list (asking_of what) old new (λ g. (finish : Finish)
+RehearsesFrom order origin device_list what out out' old new (Ok all) =
+    (all ≡ true) × FromFiles order origin device_list (asking_of what) old new (λ g. (finish : Finish)
     × Rehearses g out out' finish)
-RehearsesFrom order config device_list what out out' old new (Err (Shared Memory)) =
+RehearsesFrom order origin device_list what out out' old new (Err (Shared Memory)) =
     (OnlyReads old new × (out' ≡ out))
-    ⊎ FromFiles order config device_list (asking_of what) old new (λ g. RunsOut g out out')
-RehearsesFrom order config device_list what out out' old new (Err (Shared (Tool (tool.Image error)))) =
-    FromFiles order config device_list (asking_of what) old new (λ g. Refuses g out out' (refused.Image error))
-RehearsesFrom order config device_list what out out' old new (Err (Shared (Tool tool.Write))) =
-    FromFiles order config device_list (asking_of what) old new (λ g. Refuses g out out' refused.Write)
-RehearsesFrom order config device_list what out out' old new (Err (Shared (Tool error))) = ⊥
-RehearsesFrom order config device_list what out out' old new (Err (Shared fault)) =
-    IsUnread config device_list old new fault
-RehearsesFrom order config device_list what out out' old new (Err (NoSuchVariable name)) =
+    ⊎ FromFiles order origin device_list (asking_of what) old new (λ g. RunsOut g out out')
+RehearsesFrom order origin device_list what out out' old new (Err (Shared (Tool (tool.Image error)))) =
+    FromFiles order origin device_list (asking_of what) old new (λ g. Refuses g out out' (refused.Image error))
+RehearsesFrom order origin device_list what out out' old new (Err (Shared (Tool tool.Write))) =
+    FromFiles order origin device_list (asking_of what) old new (λ g. Refuses g out out' refused.Write)
+RehearsesFrom order origin device_list what out out' old new (Err (Shared (Tool error))) = ⊥
+RehearsesFrom order origin device_list what out out' old new (Err (Shared fault)) =
+    IsUnread origin device_list old new fault
+RehearsesFrom order origin device_list what out out' old new (Err (NoSuchVariable name)) =
     (name ≡ path_form what.name)
-    × FromFiles order config device_list (asking_of what) old new (λ g.
+    × FromFiles order origin device_list (asking_of what) old new (λ g.
     Refuses g out out' (refused.Rehearsal rehearsal.NoSuchVariable))
-RehearsesFrom order config device_list what out out' old new (Err (NotARun word)) =
+RehearsesFrom order origin device_list what out out' old new (Err (NotARun word)) =
     (Some word ≡ option_map path_form (wanted_word what.wanted))
-    × FromFiles order config device_list (asking_of what) old new (λ g.
+    × FromFiles order origin device_list (asking_of what) old new (λ g.
     Refuses g out out' (refused.Rehearsal rehearsal.NotARun))
-RehearsesFrom order config device_list what out out' old new (Err (program.Rehearsal error)) =
-    FromFiles order config device_list (asking_of what) old new (λ g. Refuses g out out' (refused.Rehearsal error))
+RehearsesFrom order origin device_list what out out' old new (Err (program.Rehearsal error)) =
+    FromFiles order origin device_list (asking_of what) old new (λ g. Refuses g out out' (refused.Rehearsal error))
 
 -- over any files: a reported failure of the output is counted, and any refusal but this and memory leaves the output as
 -- it was

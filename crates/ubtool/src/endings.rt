@@ -6,6 +6,7 @@ ghost use Rattle.ubtool.specs.Given.{given_by};
 ghost use Rattle.ubtool.specs.Faults.{CountsShared};
 ghost use Rattle.tool_steps.specs.Images.{copies};
 ghost use Rattle.ubtool.specs.RehearsingFiles.{LeavesOutput};
+ghost use Rattle.tool_words.specs.CommandAnswers.{origin_shown};
 
 use crate::fault::ProgramFault;
 use crate::image_endings::endings_bytes;
@@ -18,7 +19,7 @@ use std::alloc::Global;
 use tool_files::Files;
 use tool_images::WordForm;
 use tool_steps::{Sources, read_sources, slices_of};
-use tool_words::EndingsAsk;
+use tool_words::{EndingsAsk, Origin};
 
 /// How a refusal of the endings is reported.
 fn refusal_of(error: RehearsalError, what: EndingsAsk) -> ProgramFault
@@ -66,12 +67,12 @@ fn endings_of_sources<O: Out>(
     )
 }
 
-/// Reports how all runs of a variable end, for the images that a configuration names. Reads the
-/// images, then the device list, and then writes the lines.
+/// Reports how all runs of a variable of images end. Reads the images, then the device list, and then
+/// writes the lines.
 pub fn endings<F: Files, O: Out>(
     alloc: Global,
     files: &mut F,
-    config: String,
+    origin: Origin,
     device_list: String,
     what: EndingsAsk,
     order: ByteOrder,
@@ -80,11 +81,11 @@ pub fn endings<F: Files, O: Out>(
     ensures count { CountsShared (F.faults files.old) (F.faults files.new) result }
     ensures lock { F.locked files.new ≡ F.locked files.old }
     ensures told { IfTold (F.told files.old) (F.told files.new) (λ old new.
-        TellsFrom order (string_bytes config) (string_bytes device_list) what (O.sink out.old)
+        TellsFrom order (origin_shown origin) (string_bytes device_list) what (O.sink out.old)
         (O.sink out.new) old new result) }
     ensures output { LeavesOutput result (O.sink out.old) (O.sink out.new) }
 {
-    let sources = read_sources(alloc, files, config, device_list)?;
+    let sources = read_sources(alloc, files, origin, device_list)?;
     match endings_of_sources(alloc, &sources, order, &what, out) {
         Ok(()) => Ok(true),
         Err(error) => Err(refusal_of(error, what)),

@@ -24,4 +24,6 @@ pub use tool::{REFUSED, run_tool};
 pub use tool_files::{FileFault, Files};
 pub use tool_images as images;
 pub use tool_images::{Edit, ToolError, print_bytes, set_bytes};
-pub use tool_words::{Ask, Change, EndingsAsk, PrintAsk, RehearseAsk, UseError, read_command};
+pub use tool_words::{
+    Ask, Change, EndingsAsk, Origin, OriginError, PrintAsk, RehearseAsk, UseError, read_command,
+};

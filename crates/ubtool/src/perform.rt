@@ -38,27 +38,27 @@ pub fn perform<R: Read, F: Files, O: Out, E: Out>(
 {
     match ask {
         Ask::Print {
-            config,
+            origin,
             what,
             order,
             one_copy,
         } => {
             let source = ImageSource {
-                config,
+                origin,
                 order,
                 one_copy,
             };
             Ok(print_files(alloc, files, program, source, &what, out, err)?)
         }
         Ask::Setenv {
-            config,
+            origin,
             change,
             order,
             one_copy,
         } => {
             files.lock()?;
             let source = ImageSource {
-                config,
+                origin,
                 order,
                 one_copy,
             };
@@ -66,17 +66,17 @@ pub fn perform<R: Read, F: Files, O: Out, E: Out>(
             Ok(true)
         }
         Ask::Rehearse {
-            config,
+            origin,
             devices_file,
             what,
             order,
-        } => rehearse(alloc, files, config, devices_file, what, order, out),
+        } => rehearse(alloc, files, origin, devices_file, what, order, out),
         Ask::Endings {
-            config,
+            origin,
             devices_file,
             what,
             order,
-        } => endings(alloc, files, config, devices_file, what, order, out),
+        } => endings(alloc, files, origin, devices_file, what, order, out),
         Ask::Help(text) => Ok(show_help(out, &text)?),
         Ask::Version => Ok(show_version(out, PROGRAM, build)?),
     }

@@ -5,7 +5,7 @@ ghost use Rattle.ubtool.specs.Faults.{CountsShared};
 ghost use Rattle.tool_steps.specs.Images.{copies};
 ghost use Rattle.ubtool.specs.RehearsingFiles.{LeavesOutput, RehearsesCopies, RehearsesFrom, refusal_of};
 ghost use Rattle.ubtool.specs.Given.{given_by};
-ghost use Rattle.tool_words.specs.CommandAnswers.{asking_of};
+ghost use Rattle.tool_words.specs.CommandAnswers.{asking_of, origin_shown};
 
 use crate::fault::ProgramFault;
 use crate::image_rehearsal::rehearse_bytes;
@@ -19,7 +19,7 @@ use std::alloc::Global;
 use tool_files::Files;
 use tool_images::WordForm;
 use tool_steps::{Sources, read_sources, slices_of};
-use tool_words::RehearseAsk;
+use tool_words::{Origin, RehearseAsk};
 
 /// How a refusal of a rehearsal is reported.
 fn refusal_of(error: RehearsalError, what: RehearseAsk) -> ProgramFault
@@ -68,12 +68,11 @@ fn rehearse_sources<O: Out>(
     )
 }
 
-/// Rehearses a variable of the images that a configuration names. Reads the images, then the device
-/// list, and then writes the listing.
+/// Rehearses a variable of images. Reads the images, then the device list, and then writes the listing.
 pub fn rehearse<F: Files, O: Out>(
     alloc: Global,
     files: &mut F,
-    config: String,
+    origin: Origin,
     device_list: String,
     what: RehearseAsk,
     order: ByteOrder,
@@ -82,11 +81,11 @@ pub fn rehearse<F: Files, O: Out>(
     ensures count { CountsShared (F.faults files.old) (F.faults files.new) result }
     ensures lock { F.locked files.new ≡ F.locked files.old }
     ensures told { IfTold (F.told files.old) (F.told files.new) (λ old new.
-        RehearsesFrom order (string_bytes config) (string_bytes device_list) what (O.sink out.old)
+        RehearsesFrom order (origin_shown origin) (string_bytes device_list) what (O.sink out.old)
         (O.sink out.new) old new result) }
     ensures output { LeavesOutput result (O.sink out.old) (O.sink out.new) }
 {
-    let sources = read_sources(alloc, files, config, device_list)?;
+    let sources = read_sources(alloc, files, origin, device_list)?;
     match rehearse_sources(alloc, &sources, order, &what, out) {
         Ok(_) => Ok(true),
         Err(error) => Err(refusal_of(error, what)),

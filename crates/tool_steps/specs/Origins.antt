@@ -1,0 +1,100 @@
+-- The images of a call, read by what names them: a configuration, or files of which each is one whole copy. All of it is
+-- ours.
+use Rattle.std.specs.Prelude.{◌≡◌, ◌≢◌, ◌⊎◌, ℕ, List, [], ◌∷◌, ◌++◌, length, Option, Some, None, Result, Ok, Err}
+use Rattle.envimage.specs.Config.{PlaceShown}
+use Rattle.tool_files.specs.CallOrder.{OnlyReads}
+use Rattle.tool_files.specs.Told.{Stored, Told, file_at}
+use Rattle.tool_files.specs.declared.files.Action.TheVariants.{ReadAll}
+use Rattle.tool_images.specs.declared.fault.Fault.{Fault}
+use Rattle.tool_images.specs.declared.fault.Fault.TheVariants.{UnequalSizes}
+use Rattle.tool_steps.specs.Images.{Copy, HasRead, IsImagesFault, copies, copy_of}
+use Rattle.tool_steps.specs.ReadingFiles.{IsTextFault, Reads}
+use Rattle.tool_steps.specs.declared.images.Images.{Images}
+use Rattle.tool_steps.specs.declared.read.StoredCopy.{StoredCopy}
+use Rattle.tool_words.specs.Asked.{OriginShown, configured, whole}
+
+-- ---- one file
+
+-- a file that is one whole copy: its place starts at the first byte and is as long as the file
+abbrev pub whole_place : (path bytes : List ℕ) → PlaceShown
+whole_place path bytes = record { device = path; offset = 0; size = length bytes }
+
+abbrev pub whole_copy : (path bytes : List ℕ) → Copy
+whole_copy path bytes = (whole_place path bytes, bytes)
+
+-- the file was read as such a copy, or refused
+abbrev pub ReadsFile : List ℕ → Told → Told → Result StoredCopy Fault → Type 0
+ReadsFile path old new (Ok copy) = (copy_of copy ≡ whole_copy path copy.bytes.items)
+    × Reads (path, ReadAll) (file_at path old.stored) old new copy.bytes.items
+ReadsFile path old new (Err fault) = OnlyReads old new × IsTextFault path (file_at path old.stored) fault
+
+-- ---- a single image, or a pair
+
+-- The file was read, and is the single image.
+pub record HasReadFile (path : List ℕ) (old new : Told) (found : List Copy) : Type 0 where
+  pub bytes : List ℕ
+  pub there : file_at path old.stored ≡ Some bytes
+  pub are : found ≡ whole_copy path bytes ∷ []
+  pub calls : new.calls ≡ old.calls ++ (path, ReadAll) ∷ []
+  pub stored : new.stored ≡ old.stored
+
+-- Both files were read, the first one first. They are of one size, and are the copies of the pair.
+pub record HasReadPair (first second : List ℕ) (old new : Told) (found : List Copy) : Type 0 where
+  pub bytes : List ℕ
+  pub more : List ℕ
+  pub there : file_at first old.stored ≡ Some bytes
+  pub there_too : file_at second old.stored ≡ Some more
+  pub equal : length bytes ≡ length more
+  pub are : found ≡ whole_copy first bytes ∷ whole_copy second more ∷ []
+  pub calls : new.calls ≡ old.calls ++ (first, ReadAll) ∷ (second, ReadAll) ∷ []
+  pub stored : new.stored ≡ old.stored
+
+-- the files were read
+abbrev pub HasReadFiles : List ℕ → Option (List ℕ) → Told → Told → List Copy → Type 0
+HasReadFiles first None old new found = HasReadFile first old new found
+HasReadFiles first (Some second) old new found = HasReadPair first second old new found
+
+-- Both files are there, and they are not of one size.
+pub record AreUnequal (first second : List ℕ) (stored : Stored) : Type 0 where
+  pub bytes : List ℕ
+  pub more : List ℕ
+  pub there : file_at first stored ≡ Some bytes
+  pub there_too : file_at second stored ≡ Some more
+  pub unequal : length bytes ≢ length more
+
+-- why files may be refused: one of them fails or is too long, or memory runs out; or two are not of one size. The fault
+-- names the file.
+abbrev pub IsFilesFault : List ℕ → Option (List ℕ) → Stored → Fault → Type 0
+IsFilesFault first None stored fault = IsTextFault first (file_at first stored) fault
+IsFilesFault first (Some second) stored UnequalSizes = AreUnequal first second stored
+IsFilesFault first (Some second) stored fault =
+    IsTextFault first (file_at first stored) fault ⊎ IsTextFault second (file_at second stored) fault
+
+-- the files were read, or refused
+abbrev pub ReadsFiles : List ℕ → Option (List ℕ) → Told → Told → Result Images Fault → Type 0
+ReadsFiles first second old new (Ok images) = HasReadFiles first second old new (copies images)
+ReadsFiles first second old new (Err fault) = OnlyReads old new × IsFilesFault first second old.stored fault
+
+-- two copies as a pair, or the refusal of their sizes
+abbrev pub PairsUp : (first second : StoredCopy) → Result Images Fault → Type 0
+PairsUp first second (Ok images) = (length first.bytes.items ≡ length second.bytes.items)
+    × (copies images ≡ copy_of first ∷ copy_of second ∷ [])
+PairsUp first second (Err fault) =
+    (length first.bytes.items ≢ length second.bytes.items) × (fault ≡ UnequalSizes)
+
+-- ---- what names the images
+
+-- the images that this names were read
+abbrev pub HasReadImages : OriginShown → Told → Told → List Copy → Type 0
+HasReadImages (configured config) old new found = HasRead config old new found
+HasReadImages (whole first second) old new found = HasReadFiles first second old new found
+
+-- why they may be refused
+abbrev pub IsOriginFault : OriginShown → Stored → Fault → Type 0
+IsOriginFault (configured config) stored fault = IsImagesFault config stored fault
+IsOriginFault (whole first second) stored fault = IsFilesFault first second stored fault
+
+-- the images were read, or refused, and files were only read
+abbrev pub ReadsOrigin : OriginShown → Told → Told → Result Images Fault → Type 0
+ReadsOrigin origin old new (Ok images) = HasReadImages origin old new (copies images)
+ReadsOrigin origin old new (Err fault) = OnlyReads old new × IsOriginFault origin old.stored fault
