@@ -1,5 +1,6 @@
 //! Laws of printing and of writing back, each the contract of a function that does nothing.
 
+ghost use Rattle.envtools.specs.FromText.{TextsEnd};
 ghost use Rattle.envtools.specs.Printing.{EntriesStandApart, EscapedIsPrintable};
 ghost use Rattle.envtools.specs.Saving.{FrontMayStand, SpareMayBreak, SavedIsLoaded};
 
@@ -27,4 +28,9 @@ pub fn entries_stand_apart()
 /// In the escaped form an entry has printable bytes alone before its end.
 pub fn escaped_is_printable()
     ensures { EscapedIsPrintable }
+{}
+
+/// The data of a text always end: a text is refused only for a line that is no variable, or because memory ran out.
+pub fn texts_end()
+    ensures { TextsEnd }
 {}
