@@ -51,7 +51,7 @@ told_none = refl
 told_profile : told_by (Some Profile) ((0, Warns MixedList) ∷ (1, Warns Exit) ∷ (2, NotFollowed) ∷ (3, Lacks (codes "a")) ∷ []) ≡ (2, NotFollowed) ∷ (3, Lacks (codes "a")) ∷ []
 told_profile = refl
 
-told_2023 : told_by (Some Old2023) ((0, Warns MixedList) ∷ (1, Warns Exit) ∷ (2, Warns WordOfFor) ∷ (3, Warns OptionOfSetenv) ∷ (4, Warns FileTest) ∷ []) ≡ (3, Warns OptionOfSetenv) ∷ (4, Warns FileTest) ∷ []
+told_2023 : told_by (Some Old2023) ((0, Warns MixedList) ∷ (1, Warns Exit) ∷ (2, Warns WordOfFor) ∷ (3, Warns OptionOfSetenv) ∷ (4, Warns FileTest) ∷ []) ≡ (3, Warns OptionOfSetenv) ∷ []
 told_2023 = refl
 
 told_2025 : told_by (Some Old2025) ((0, Warns MixedList) ∷ (1, Warns Exit) ∷ (2, Warns ManyWords) ∷ (3, Warns ReservedName) ∷ (4, Warns StraightBehind) ∷ []) ≡ (1, Warns Exit) ∷ (2, Warns ManyWords) ∷ (3, Warns ReservedName) ∷ (4, Warns StraightBehind) ∷ []

@@ -90,7 +90,7 @@ pub(crate) fn warning_text(warning: Warning) -> &'static [u8]
             b"warning: U-Boot's old shell does not split a word of which a part is quoted"
         }
         Warning::LooseOperand => {
-            b"warning: test is true in U-Boot if this leaves words over or too few: quote it"
+            b"warning: test may be true in U-Boot if this leaves words over or too few: quote it"
         }
         Warning::FileTest => b"warning: U-Boot's test asks for a file here",
         Warning::EmptyWord => b"warning: U-Boot's modern shell drops '', but keeps \"\"",
