@@ -333,6 +333,7 @@ pair_ended : AsksFor (codes "endings" ∷ codes "-i" ∷ codes "f" ∷ codes "--
       variable = codes "bootcmd";
       bounds = record { devices = 1000; steps = 1000000; failures = None; shell = Profile };
       states = 1000000;
+      names = [];
       flow = false;
     }) Little)
 unfolding clap_on_literals ubtool
@@ -432,7 +433,7 @@ few_endings = (refl, refl)
 
 -- endings bootargs -d d fdtfile
 endings_of_names : AsksFor (codes "endings" ∷ codes "bootargs" ∷ codes "-d" ∷ codes "d" ∷ codes "fdtfile" ∷ [])
-    (ending (codes "/etc/fw_env.config") (codes "d") (record {
+    (ending (configured (codes "/etc/fw_env.config")) (codes "d") (record {
       variable = codes "bootcmd";
       bounds = record { devices = 1000; steps = 1000000; failures = None; shell = Profile };
       states = 1000000;
