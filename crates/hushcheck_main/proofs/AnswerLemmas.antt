@@ -6,7 +6,7 @@ use Rattle.hushcheck_main.specs.CommandAnswers.{Answers, Says, asked}
 use Rattle.hushcheck_main.specs.CommandLine.{hushcheck}
 use Rattle.tool_words.specs.Answered.{IsAccepted, Refuses}
 use Rattle.tool_words.specs.declared.ask.UseError.{UseError}
-use Rattle.tool_words.specs.declared.ask.UseError.TheVariants.{HeaderNeedsOne, Line, LockNeedsFolder, Memory, NeedName, ScriptAndName, TooManyDevices, WordAlone}
+use Rattle.tool_words.specs.declared.ask.UseError.TheVariants.{HeaderNeedsOne, Line, LockNeedsFolder, Memory, Misnamed, NeedName, ScriptAndName, TooManyDevices, WordAlone}
 
 pub hushcheck_simple : is_simple hushcheck ≡ true
 unfolding clap_on_literals hushcheck
@@ -26,6 +26,7 @@ clap-refused words ScriptAndName h = absurd h
 clap-refused words HeaderNeedsOne h = absurd h
 clap-refused words WordAlone h = absurd h
 clap-refused words TooManyDevices h = absurd h
+clap-refused words (Misnamed error) h = absurd h
 
 -- a name that no shell has
 pub unnamed-refused : (words : List Text) (error : UseError) → IsAccepted hushcheck words → Says (asked words) (Err error) → Answers words (Err error)
@@ -37,3 +38,4 @@ unnamed-refused words ScriptAndName accepted h = absurd h
 unnamed-refused words HeaderNeedsOne accepted h = absurd h
 unnamed-refused words WordAlone accepted h = absurd h
 unnamed-refused words TooManyDevices accepted h = absurd h
+unnamed-refused words (Misnamed error) accepted h = absurd h

@@ -97,6 +97,7 @@ endings-fit (Some list) (Some bounds) (Some states) shell rows = named-fit (orig
   variable = variable_of rows;
   bounds = in_shell shell bounds;
   states = unwrap_or states usual_states;
+  names = values_of (codes "names") rows;
   flow = is_set (codes "flow") rows;
 }) (order_of rows)) (λ origin. tt)
 endings-fit None bounds states shell rows = tt

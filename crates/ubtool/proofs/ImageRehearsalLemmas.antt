@@ -1,5 +1,5 @@
 -- From the rehearsal of an environment to the rehearsal of an image.
-use Rattle.std.proofs.Common.{◌≡◌, ℕ, List, Option, Result, Ok, Err, inl, inr, subst}
+use Rattle.std.proofs.Common.{◌≡◌, ℕ, List, Option, None, Result, Ok, Err, inl, inr, subst}
 use Rattle.envimage.specs.Data.{Pair}
 use Rattle.output.specs.Sink.{Sink}
 use Rattle.envimage.specs.declared.image.ByteOrder.{ByteOrder}
@@ -36,14 +36,14 @@ module _ (order : ByteOrder) (first : List ℕ) (second : Option (List ℕ)) (li
   on devices IsSo h = subst (λ (env : List Pair). IsSo (below.task_asked env devices asking)) is h
 
   pub rehearses-image : (finish : Finish) → below.WithDevices list (λ devices. below.Rehearses (below.task_asked board devices asking) asking old new finish) → Rehearses (given order first second list asking) old new finish
-  rehearses-image finish h = record { environment = environment; devices = h.devices; image = image; device_list = h.listed_as; so = on h.devices _ h.so }
+  rehearses-image finish h = record { environment = environment; devices = h.devices; image = image; device_list = h.listed_as; so = on h.devices (λ found. below.Rehearses found asking old new finish) h.so }
 
   pub refused-image : (error : RehearseError) → below.RefusesAsk board list asking old new error → Refuses (given order first second list asking) old new (rehearse_error error)
   refused-image (rehearsal.DeviceList fault) h = (record { environment = environment; image = image }, h.0, h.1)
-  refused-image rehearsal.NoSuchVariable h = (record { environment = environment; devices = h.devices; image = image; device_list = h.listed_as; so = on h.devices _ h.so.0 }, h.so.1)
-  refused-image rehearsal.NotARun h = (record { environment = environment; devices = h.devices; image = image; device_list = h.listed_as; so = on h.devices _ h.so.0 }, h.so.1)
+  refused-image rehearsal.NoSuchVariable h = (record { environment = environment; devices = h.devices; image = image; device_list = h.listed_as; so = on h.devices (λ found. found ≡ None) h.so.0 }, h.so.1)
+  refused-image rehearsal.NotARun h = (record { environment = environment; devices = h.devices; image = image; device_list = h.listed_as; so = on h.devices (λ found. below.LacksRun found asking.wanted) h.so.0 }, h.so.1)
   refused-image rehearsal.States h = h.so
   refused-image rehearsal.Failed h = h.so
-  refused-image rehearsal.Write h = record { environment = environment; devices = h.devices; image = image; device_list = h.listed_as; so = on h.devices _ h.so }
+  refused-image rehearsal.Write h = record { environment = environment; devices = h.devices; image = image; device_list = h.listed_as; so = on h.devices (λ found. below.LeavesPrefix found asking old new) h.so }
   refused-image rehearsal.Memory (inl nothing) = inl (record { environment = environment; image = image }, nothing)
-  refused-image rehearsal.Memory (inr h) = inr (record { environment = environment; devices = h.devices; image = image; device_list = h.listed_as; so = on h.devices _ h.so })
+  refused-image rehearsal.Memory (inr h) = inr (record { environment = environment; devices = h.devices; image = image; device_list = h.listed_as; so = on h.devices (λ found. below.LeavesRecords found asking old new) h.so })

@@ -1,25 +1,14 @@
 //! The environment that a rehearsal starts with.
 ghost use Rattle.std.specs.Prelude.{◌≡◌, IfOk};
 ghost use Rattle.std.specs.Option.{option_copied};
-ghost use Rattle.rehearse_terms.specs.WantedShown.{wanted_bounds};
 ghost use Rattle.tool_images.specs.PrintingImages.{environment_in};
 ghost use Rattle.ubtool.specs.BoardEnvironment.{FindsOnBoard, on_board};
 
 use envimage::{ByteOrder, ImageError};
 use envtools::Env;
-use rehearse_terms::{Shell, Wanted};
+use rehearse_terms::Shell;
 use std::alloc::{AllocError, Global};
 use tool_images::env_of_image;
-
-/// The shell in which the runs are wanted.
-pub(crate) fn shell_wanted(wanted: Wanted<&[u8]>) -> Shell
-    ensures { result ≡ (wanted_bounds wanted).shell }
-{
-    match wanted {
-        Wanted::Listing { bounds, .. } => bounds.shell(),
-        Wanted::Word { bounds, .. } => bounds.shell(),
-    }
-}
 
 /// The environment that a board of this shell has of a stored one. Errors: memory ran out.
 fn env_on_board(shell: Shell, env: Env) -> Result<Env, AllocError>

@@ -1,5 +1,5 @@
 //! The rehearsal, from the bytes of an image to the bytes of the listing.
-ghost use Rattle.std.specs.Prelude.{IfOk, IfErr};
+ghost use Rattle.std.specs.Prelude.{◌≡◌, IfOk, IfErr};
 ghost use Rattle.std.specs.Option.{option_copied};
 ghost use Rattle.rehearse_terms.specs.Asking.{page_of};
 ghost use Rattle.rehearse_terms.specs.Asking.{HasRoom};
@@ -9,12 +9,13 @@ ghost use Rattle.ubtool.specs.Given.{given};
 ghost use Rattle.ubtool.specs.Headline.{Rehearses};
 ghost use Rattle.ubtool.specs.Refusing.{Refuses};
 
-use crate::board_environment::{env_of_board, shell_wanted};
+use crate::board_environment::env_of_board;
 use crate::rehearsal_error::RehearsalError;
 use bootstore_trail::Trail;
 use envimage::ByteOrder;
 use output::Out;
 use rehearse_runs::{Ask, Finish, rehearse_env};
+use rehearse_terms::{Shell, Wanted};
 use std::alloc::Global;
 
 /// Rehearses a variable of an image, or of the current copy of a pair, and writes the listing of
@@ -42,6 +43,33 @@ pub fn rehearse_bytes<O: Out>(
         (λ e. Refuses (given order first.now (option_copied second.entry) devices_text.now
         (asking_of ask.now)) (O.sink out.old) (O.sink out.new) e) }
 {
-    let env = env_of_board(alloc, first, second, order, shell_wanted(ask.wanted))?;
+    let shell = match ask.wanted {
+        Wanted::Listing { bounds, .. } => bounds.shell(),
+        Wanted::Word { bounds, .. } => bounds.shell(),
+    };
+    rehearse_in(alloc, first, second, order, shell, devices_text, ask, out)
+}
+
+/// The same in this shell, which is that of the bounds.
+fn rehearse_in<O: Out>(
+    alloc: Global,
+    first: &[u8],
+    second: Option<&[u8]>,
+    order: ByteOrder,
+    shell: Shell,
+    devices_text: &[u8],
+    ask: &Ask<'_>,
+    out: &mut O,
+) -> Result<Finish, RehearsalError>
+    requires room { HasRoom (page_of (wanted_slices ask.now.wanted)) }
+    requires shell { shell ≡ (asking_of ask.now).bounds.shell }
+    ensures ok { IfOk result (λ finish. Rehearses
+        (given order first.now (option_copied second.entry) devices_text.now (asking_of ask.now))
+        (O.sink out.old) (O.sink out.new) finish) }
+    ensures err { IfErr result
+        (λ e. Refuses (given order first.now (option_copied second.entry) devices_text.now
+        (asking_of ask.now)) (O.sink out.old) (O.sink out.new) e) }
+{
+    let env = env_of_board(alloc, first, second, order, shell)?;
     Ok(rehearse_env::<Trail, O>(alloc, &env, devices_text, ask, out)?)
 }

@@ -11,7 +11,7 @@ use Rattle.tool_images.specs.PrintingImages.{environment_in}
 use Rattle.ubtool.specs.Refusing.{Refuses}
 use Rattle.ubtool.specs.declared.rehearsal_error.RehearsalError.{RehearsalError}
 use Rattle.ubtool.proofs.ImageRehearsalLemmas.{rehearses-image, refused-image, unfound}
-use Rattle.ubtool.proofs.image_rehearsal.rehearse_bytes.Goals as goal
+use Rattle.ubtool.proofs.image_rehearsal.rehearse_in.Goals as goal
 
 pub returns-in_err-env-clause-err : goal.returns-in_err-env-clause-err
 returns-in_err-env-clause-err g c =
@@ -31,8 +31,8 @@ returns-in_err-rehearse_env-clause-err g c =
     let p = err_from_is_err_and c.from_residual-in_err-rehearse_env.result c.from_residual-in_err-rehearse_env.ensures.1 in
     let answer : c.from_residual-in_err-rehearse_env.result ≡ Err (rehearse_error c.in_err-rehearse_env.field-0.0) = p.1 ∙ ap Err p.2 in
     let P : Result Finish RehearsalError → Type 0 = λ r. IfErr r (λ e. Refuses (given c.args.order c.args.first.now second c.args.devices_text.now (asking_of c.args.ask.now)) out out' e) in
-    subst P (sym answer) (refused-image c.args.order c.args.first.now second c.args.devices_text.now (asking_of c.args.ask.now) _ c.in_ok-env.ensures.0 out out' c.in_ok-env.ensures.1 (c.in_ok-env.ensures.2 ∙ ap (λ (shell : Shell). on_board shell c.in_ok-env.ensures.0) c.shell_wanted.ensures) c.in_err-rehearse_env.field-0.0 c.in_err-rehearse_env.ensures.err)
+    subst P (sym answer) (refused-image c.args.order c.args.first.now second c.args.devices_text.now (asking_of c.args.ask.now) _ c.in_ok-env.ensures.0 out out' c.in_ok-env.ensures.1 (c.in_ok-env.ensures.2 ∙ ap (λ (shell : Shell). on_board shell c.in_ok-env.ensures.0) c.requires.shell) c.in_err-rehearse_env.field-0.0 c.in_err-rehearse_env.ensures.err)
 
 pub returns-clause-ok : goal.returns-clause-ok
 returns-clause-ok g c =
-    rehearses-image c.args.order c.args.first.now (option_copied c.args.second) c.args.devices_text.now (asking_of c.args.ask.now) _ c.in_ok-env.ensures.0 (g.O.Out.sink c.args.out.now) (g.O.Out.sink c.rehearse_env.new.out) c.in_ok-env.ensures.1 (c.in_ok-env.ensures.2 ∙ ap (λ (shell : Shell). on_board shell c.in_ok-env.ensures.0) c.shell_wanted.ensures) c.in_ok-rehearse_env.field-0 c.in_ok-rehearse_env.ensures.ok
+    rehearses-image c.args.order c.args.first.now (option_copied c.args.second) c.args.devices_text.now (asking_of c.args.ask.now) _ c.in_ok-env.ensures.0 (g.O.Out.sink c.args.out.now) (g.O.Out.sink c.rehearse_env.new.out) c.in_ok-env.ensures.1 (c.in_ok-env.ensures.2 ∙ ap (λ (shell : Shell). on_board shell c.in_ok-env.ensures.0) c.requires.shell) c.in_ok-rehearse_env.field-0 c.in_ok-rehearse_env.ensures.ok
