@@ -14,8 +14,8 @@ there is a line: 'NAME: ok', 'NAME: not set', or 'NAME:LINE:COLUMN: what is
 wrong' with the line of the text, at most 80 bytes of it, and a mark under the
 byte. Lines and columns count from 1. The image is read and never written.
 
-A line with 'warning:' in it names a place that a shell of U-Boot reads otherwise
-than ubtool does by itself, and says how. It changes no status.
+A line with 'warning:' names a place that a shell of U-Boot reads otherwise than
+ubtool does by itself, and says how. It changes no status.
 
 With -d there is such a place, and 'the device list lacks COMMAND', for each
 command that a text calls by a plain name and that is neither built in nor in
