@@ -38,6 +38,7 @@ accepted_answer called words a (Ok (ask.Print origin what order one_copy)) fine 
 accepted_answer called words a (Ok (ask.Setenv origin change order one_copy)) fine is says = (fine, says ∙ is)
 accepted_answer called words a (Ok (ask.Rehearse origin list what order)) fine is says = (fine, says ∙ is)
 accepted_answer called words a (Ok (ask.Endings origin list what order)) fine is says = (fine, says ∙ is)
+accepted_answer called words a (Ok (ask.Causes origin list what order)) fine is says = (fine, says ∙ is)
 accepted_answer called words a (Err LockNeedsFolder) fine is says = (fine, says ∙ is)
 accepted_answer called words a (Err NeedName) fine is says = (fine, says ∙ is)
 accepted_answer called words a (Err ScriptAndName) fine is says = (fine, says ∙ is)

@@ -19,7 +19,7 @@ use Rattle.rehearse_terms.specs.declared.wanted.Page.{Page}
 use Rattle.rehearse_terms.specs.Bounds.{BoundsShown, bounds_of, in_shell, run_bounds_of, most_run_devices, most_steps}
 use Rattle.rehearse_terms.specs.declared.shell.Shell.{Shell}
 use Rattle.rehearse_terms.specs.declared.shell.Shell.TheVariants.{Old2023, Old2025, Profile}
-use Rattle.tool_words.specs.CommandLine.{most_failures, most_records, most_states}
+use Rattle.tool_words.specs.CommandLine.{most_cause_failures, most_failures, most_records, most_states}
 
 -- what names the images: a configuration, or files, of which each is one whole copy: a single image, or the two copies
 -- of a pair
@@ -36,6 +36,12 @@ pub record Endings : Type 0 where
   pub names : List Text
   pub flow : Bool
 
+-- what `causes` is asked for
+pub record Causes : Type 0 where
+  pub variable : Text
+  pub bounds : BoundsShown
+  pub check : Bool
+
 -- what a call asks for, or which of the program's own refusals it meets
 pub data Asked : Type 0 where
   printing : (origin : OriginShown) (form : PrintForm) (names : List Text) (order : ByteOrder) (one_copy : Bool) → Asked
@@ -44,6 +50,7 @@ pub data Asked : Type 0 where
   input_scripted : (origin : OriginShown) (order : ByteOrder) (one_copy : Bool) → Asked
   rehearsing : (origin : OriginShown) (device_list : Text) (what : Asking) (order : ByteOrder) → Asked
   ending : (origin : OriginShown) (device_list : Text) (what : Endings) (order : ByteOrder) → Asked
+  causing : (origin : OriginShown) (device_list : Text) (what : Causes) (order : ByteOrder) → Asked
   lock_needs_folder : Asked
   needs_name : Asked
   script_and_name : Asked
@@ -127,7 +134,7 @@ abbrev pub of_images : Result OriginShown OriginError → (OriginShown → Asked
 of_images (Ok origin) asked = asked origin
 of_images (Err error) asked = misnamed error
 
--- ---- the four subcommands
+-- ---- the five subcommands
 
 -- how a variable is printed
 abbrev pub print_form : List Row → PrintForm
@@ -286,10 +293,38 @@ endings_asked rows =
     (number_within 0 most_states (codes "states") rows) shell rows)
     (shell_of rows)
 
+-- how many device commands may fail if no number is given
+abbrev pub usual_cause_failures : ℕ
+usual_cause_failures = 2
+
+-- so many may fail, 0 to 3, in the runs of these bounds
+abbrev pub cause_bounds_asked : List Row → Option BoundsShown
+cause_bounds_asked rows =
+    option_and_then (λ f. option_and_then (λ (b : BoundsShown).
+    bounds_of b.devices b.steps (Some (unwrap_or f usual_cause_failures)))
+    (run_bounds_asked rows))
+    (number_within 0 most_cause_failures (codes "failures") rows)
+
+-- with a device list, and bounds that can be read
+abbrev pub causes_with : Option Text → Option BoundsShown → Shell → List Row → Option Asked
+causes_with (Some device_list) (Some bounds) shell rows =
+    Some (of_images (origin_asked rows) (λ origin. causing origin device_list (record {
+      variable = variable_of rows;
+      bounds = in_shell shell bounds;
+      check = is_set (codes "check") rows;
+    }) (order_of rows)))
+causes_with _ _ shell rows = None
+
+abbrev pub causes_asked : List Row → Option Asked
+causes_asked rows =
+    option_and_then (λ shell. causes_with (first_of (codes "device-list") rows) (cause_bounds_asked rows) shell rows)
+    (shell_of rows)
+
 -- what the entries of the subcommand of this name ask for
 abbrev pub asked_of : CalledAs → Text → List Row → Option Asked
 asked_of called name rows =
     if bytes_eq name (codes "printenv") then Some (print_asked rows)
     else (if bytes_eq name (codes "setenv") then Some (set_asked called rows)
     else (if bytes_eq name (codes "rehearse") then rehearse_asked rows
-    else (if bytes_eq name (codes "endings") then endings_asked rows else None)))
+    else (if bytes_eq name (codes "endings") then endings_asked rows
+    else (if bytes_eq name (codes "causes") then causes_asked rows else None))))

@@ -6,7 +6,8 @@ use Rattle.clap.specs.declared.error.kind.ErrorKind.{ErrorKind}
 use Rattle.clap.specs.declared.error.kind.ErrorKind.TheVariants.{DisplayHelp, DisplayVersion}
 use Rattle.envimage.specs.declared.image.ByteOrder.{ByteOrder}
 use Rattle.tool_words.specs.declared.ask.Ask.{Ask}
-use Rattle.tool_words.specs.declared.ask.Ask.TheVariants.{Print, Setenv, Rehearse, Endings, Help, Version}
+use Rattle.tool_words.specs.declared.ask.Ask.TheVariants.{Print, Setenv, Rehearse, Endings, Causes, Help, Version}
+use Rattle.tool_words.specs.declared.ask.CausesAsk.{CausesAsk}
 use Rattle.tool_words.specs.declared.ask.Change.{Change}
 use Rattle.tool_words.specs.declared.ask.Change.TheVariants.{Input, One, Script}
 use Rattle.tool_words.specs.declared.ask.EndingsAsk.{EndingsAsk}
@@ -20,7 +21,7 @@ use Rattle.rehearse_terms.specs.declared.wanted.Wanted.{Wanted}
 use Rattle.tool_words.specs.declared.ask.UseError.TheVariants.{Line, LockNeedsFolder, NeedName, ScriptAndName, HeaderNeedsOne, Memory, Misnamed, TooManyDevices, WordAlone}
 use Rattle.tool_words.specs.Answered.{IsAccepted, IsMistaken}
 use Rattle.tool_words.specs.Asked as what
-use Rattle.tool_words.specs.Asked.{Asked, WantedAsked, OriginShown, asked_of, configured, ending, input_scripted, lock_of, printing, setting, scripted, rehearsing, lock_needs_folder, needs_name, script_and_name, header_needs_one, misnamed, too_many_devices, whole, word_alone}
+use Rattle.tool_words.specs.Asked.{Asked, WantedAsked, OriginShown, asked_of, causing, configured, ending, input_scripted, lock_of, printing, setting, scripted, rehearsing, lock_needs_folder, needs_name, script_and_name, header_needs_one, misnamed, too_many_devices, whole, word_alone}
 use Rattle.tool_words.specs.CommandLine.{ubtool}
 use Rattle.rehearse_terms.specs.WantedShown.{wanted_bounds, wanted_strings}
 use Rattle.rehearse_terms.specs.Asking.{Asking}
@@ -40,6 +41,13 @@ endings_of e = record {
   states = e.states;
   names = map string_bytes e.names.items;
   flow = e.flow;
+}
+
+abbrev pub causes_of : CausesAsk → what.Causes
+causes_of c = record {
+  variable = string_bytes c.name;
+  bounds = c.bounds;
+  check = c.check;
 }
 
 abbrev pub origin_shown : Origin → OriginShown
@@ -62,6 +70,8 @@ meaning_of (Rehearse origin list what order) =
     Some (rehearsing (origin_shown origin) (string_bytes list) (asking_of what) order)
 meaning_of (Endings origin list what order) =
     Some (ending (origin_shown origin) (string_bytes list) (endings_of what) order)
+meaning_of (Causes origin list what order) =
+    Some (causing (origin_shown origin) (string_bytes list) (causes_of what) order)
 meaning_of (Help text) = None
 meaning_of Version = None
 
@@ -70,7 +80,7 @@ abbrev pub asked : CalledAs → List Text → Option Asked
 asked called words = option_and_then (λ s. asked_of called s.0 s.1) (subcommand_of ubtool words)
 
 -- The answer to words. A line without a mistake is that of a number with a sign, or of a name that no shell has, which
--- `clap` accepts. It accepts no `rehearse` or `endings` without a device list, and no number out of its range.
+-- `clap` accepts. It accepts no `rehearse`, `endings` or `causes` without a device list, and no number out of its range.
 abbrev pub Answers : CalledAs → List Text → Result Ask UseError → Type 0
 Answers called words (Ok (Help text)) = IsAmong DisplayHelp (fault_of ubtool words)
 Answers called words (Ok Version) = IsAmong DisplayVersion (fault_of ubtool words)

@@ -1,4 +1,4 @@
--- The command line that `clap` is given: four subcommands with their options and names. It is ours, but `-c`, `-l`,
+-- The command line that `clap` is given: five subcommands with their options and names. It is ours, but `-c`, `-l`,
 -- `-n` and `-s` and their long forms are those of fw_printenv and fw_setenv (U-Boot, tools/env README), and
 -- `--no-header` is libubootenv's.
 use Rattle.std.specs.Prelude.{ℕ, [], ◌∷◌, true, codes}
@@ -127,6 +127,21 @@ abbrev pub endings : App
 endings = command (codes "endings")
     (config ∷ image ∷ second ∷ big_endian ∷ device_list ∷ variable ∷ devices ∷ steps ∷ shell ∷ states ∷ flow ∷ names ∷ [])
 
+-- how many device commands may fail in a run that `causes` looks at, and the greatest number of them that can be allowed
+abbrev pub most_cause_failures : ℕ
+most_cause_failures = 3
+
+abbrev pub cause_failures : Rule
+cause_failures = number_option (codes "failures") 0 most_cause_failures
+
+-- to write only what does not boot
+abbrev pub check : Rule
+check = long_flag (codes "check")
+
+abbrev pub causes : App
+causes = command (codes "causes")
+    (config ∷ image ∷ second ∷ big_endian ∷ device_list ∷ variable ∷ devices ∷ steps ∷ shell ∷ cause_failures ∷ check ∷ [])
+
 -- the program, which has no words of its own; its version can be asked for at each subcommand too
 abbrev pub base : App
 base = on_top (λ (s : Shape). record s {
@@ -138,4 +153,4 @@ base = on_top (λ (s : Shape). record s {
 }) (new_app (codes "ubtool"))
 
 unfoldable pub ubtool : App
-ubtool = with_subcommands base (printenv ∷ setenv ∷ rehearse ∷ endings ∷ [])
+ubtool = with_subcommands base (printenv ∷ setenv ∷ rehearse ∷ endings ∷ causes ∷ [])

@@ -5,7 +5,7 @@ ghost use Rattle.rehearse_terms.specs.WantedShown.{wanted_strings};
 
 use envimage::ByteOrder;
 use envtools::PrintForm;
-use rehearse_terms::{RunBounds, Wanted};
+use rehearse_terms::{Bounds, RunBounds, Wanted};
 use thiserror::Error;
 
 /// The configuration that is read if a call names none.
@@ -21,7 +21,7 @@ pub const DEFAULT_DEVICES: u32 = 16;
 pub const DEFAULT_STEPS: u32 = 10_000;
 
 /// The device commands that a run which is not listed may have if a call sets no bound: for
-/// `endings`, and for `rehearse --word`.
+/// `endings` and `causes`, and for `rehearse --word`.
 pub const DEFAULT_RUN_DEVICES: u32 = 1_000;
 
 /// The steps that a run which is not listed may begin if a call sets no bound.
@@ -29,6 +29,9 @@ pub const DEFAULT_RUN_STEPS: u32 = 1_000_000;
 
 /// The states that `endings` may search if a call sets no bound.
 pub const DEFAULT_STATES: u32 = 1_000_000;
+
+/// The device commands that may fail in a run that `causes` looks at if a call sets no bound.
+pub const DEFAULT_CAUSE_FAILURES: u32 = 2;
 
 /// What the words of a call ask for.
 #[derive(Debug, Drop)]
@@ -74,6 +77,17 @@ pub enum Ask {
         devices_file: String,
         /// What to write.
         what: EndingsAsk,
+        /// How the image's CRC is stored.
+        order: ByteOrder,
+    },
+    /// To tell what has to fail for each ending of a boot script.
+    Causes {
+        /// What names the images.
+        origin: Origin,
+        /// The path of the device list.
+        devices_file: String,
+        /// What to write.
+        what: CausesAsk,
         /// How the image's CRC is stored.
         order: ByteOrder,
     },
@@ -156,6 +170,17 @@ pub struct EndingsAsk {
     pub names: Vec<String>,
     /// Whether to write the flow, not the endings.
     pub flow: bool,
+}
+
+/// What `causes` is to write.
+#[derive(Debug, Drop)]
+pub struct CausesAsk {
+    /// The variable whose text is run.
+    pub name: String,
+    /// Which runs are looked at.
+    pub bounds: Bounds,
+    /// Whether to write only what does not boot, and to answer whether there is such a run.
+    pub check: bool,
 }
 
 /// Why the words of a call are refused.

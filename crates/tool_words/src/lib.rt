@@ -20,14 +20,14 @@ mod version;
 pub use answer::{Answer, parse};
 pub use argument::{Argument, Form, with_arguments};
 pub use ask::{
-    Ask, Change, DEFAULT_CONFIG, DEFAULT_DEVICES, DEFAULT_RUN_DEVICES, DEFAULT_RUN_STEPS,
-    DEFAULT_STATES, DEFAULT_STEPS, DEFAULT_VARIABLE, EndingsAsk, Origin, OriginError, PrintAsk,
-    RehearseAsk, UseError,
+    Ask, CausesAsk, Change, DEFAULT_CAUSE_FAILURES, DEFAULT_CONFIG, DEFAULT_DEVICES,
+    DEFAULT_RUN_DEVICES, DEFAULT_RUN_STEPS, DEFAULT_STATES, DEFAULT_STEPS, DEFAULT_VARIABLE,
+    EndingsAsk, Origin, OriginError, PrintAsk, RehearseAsk, UseError,
 };
 pub use called::{CalledAs, called_as, words_called};
 pub use command::ubtool;
 pub use origin::origin_of;
 pub use read::{config_of, is_set, order_of, read_command, read_lock, text_of, texts_of};
 pub use shared::{BIG_ENDIAN, CONFIG, DEVICE_LIST, IMAGE, NAMES, SECOND};
-pub use tables::FAILURES_MAX;
+pub use tables::{CAUSE_FAILURES_MAX, FAILURES_MAX};
 pub use version::VERSION;

@@ -12,6 +12,7 @@ Examples:
   ubtool setenv bootdelay 3
   ubtool rehearse -d devices.txt
   ubtool endings -d devices.txt
+  ubtool causes -d devices.txt
   ubtool < env.img
 
 'ubtool help printenv' and its like tell more.
@@ -152,4 +153,29 @@ Examples:
   ubtool endings -c fw_env.config -d devices.txt --states 5000000
   ubtool endings -d devices.txt --flow
   ubtool endings -d devices.txt bootargs
+";
+
+pub(crate) const CAUSES_NOTES: &str = "\
+All runs are gone through in which at most N device commands fail. For each
+ending it is told what has to fail, in one or more causes: a line, and then a
+line for each device command that fails:
+
+  cause FAILURES ENDING
+  fails WORDS
+
+FAILURES device commands fail in a run, and no run with the same ending has only
+some of these failures. ENDING is the last line of its record, as rehearse lists
+it. A cause of 0 failures is how the script ends if all goes well. What a steady
+command is told again does not count. A run that meets a bound has an ending
+too, cut devices or cut steps.
+
+With --check the endings that boot are left out, and the status is 1 if another
+is left. Status 0 says: whatever N device commands fail, this board boots. The
+image is read and never written.
+
+Examples:
+  ubtool causes -d devices.txt
+  ubtool causes -d devices.txt -b altbootcmd --failures 1
+  ubtool causes -c fw_env.config -d devices.txt --check
+  ubtool causes -i env.img -d devices.txt --failures 3
 ";

@@ -4,20 +4,21 @@ ghost use Rattle.rehearse_terms.specs.Asking.{page_of};
 ghost use Rattle.rehearse_terms.specs.Asking.{HasRoom};
 ghost use Rattle.clap.specs.Words.{Text, first_of, found_of, rows_of, subcommand_rows_of};
 ghost use Rattle.envimage.specs.declared.image.ByteOrder.{ByteOrder as Order};
-ghost use Rattle.tool_words.specs.Asked.{OriginShown, asked_of, bounds_or, config_of, endings_asked, has_no_folder, is_set, lock_of, number_given, number_of, number_within, order_of, page_asked, print_asked, rehearse_asked, script_asked, set_asked, values_of, variable_of, wanted_asked, wanted_by};
+ghost use Rattle.tool_words.specs.Asked.{OriginShown, asked_of, bounds_or, cause_bounds_asked, causes_asked, config_of, endings_asked, has_no_folder, is_set, lock_of, number_given, number_of, number_within, order_of, page_asked, print_asked, rehearse_asked, script_asked, set_asked, values_of, variable_of, wanted_asked, wanted_by};
 ghost use Rattle.rehearse_terms.specs.WantedShown.{wanted_strings};
 ghost use Rattle.tool_words.specs.declared.ask.UseError.TheVariants.{Memory};
 ghost use Rattle.tool_words.specs.CommandAnswers.{Answers, IsUnread, NamesLock, Says, SaysWanted, change_of};
 
 use crate::answer::{Answer, parse};
 use crate::ask::{
-    Ask, Change, DEFAULT_CONFIG, DEFAULT_DEVICES, DEFAULT_RUN_DEVICES, DEFAULT_RUN_STEPS,
-    DEFAULT_STATES, DEFAULT_STEPS, DEFAULT_VARIABLE, EndingsAsk, PrintAsk, RehearseAsk, UseError,
+    Ask, CausesAsk, Change, DEFAULT_CAUSE_FAILURES, DEFAULT_CONFIG, DEFAULT_DEVICES,
+    DEFAULT_RUN_DEVICES, DEFAULT_RUN_STEPS, DEFAULT_STATES, DEFAULT_STEPS, DEFAULT_VARIABLE,
+    EndingsAsk, PrintAsk, RehearseAsk, UseError,
 };
 use crate::called::CalledAs;
 use crate::origin::origin_of;
 use crate::shell::{shell_of, unnamed, wanted_in_shell};
-use crate::{FAILURES_MAX, ubtool};
+use crate::{CAUSE_FAILURES_MAX, FAILURES_MAX, ubtool};
 use clap::ArgMatches;
 use clap::error::ErrorKind;
 use envimage::ByteOrder;
@@ -143,7 +144,7 @@ fn has_no_folder(matches: &ArgMatches<'_>) -> bool
     }
 }
 
-// ---- the four subcommands
+// ---- the five subcommands
 
 fn print_ask(alloc: Global, matches: &ArgMatches<'_>) -> Result<Ask, UseError>
     ensures { Says (Some (print_asked (rows_of (found_of matches.now)))) result }
@@ -380,6 +381,38 @@ fn endings_ask(alloc: Global, matches: &ArgMatches<'_>) -> Result<Ask, UseError>
     })
 }
 
+/// The bounds of the runs in which so many device commands may fail; `None` if a number is out of its range.
+fn cause_bounds(matches: &ArgMatches<'_>) -> Option<Bounds>
+    ensures { result ≡ cause_bounds_asked (rows_of (found_of matches.now)) }
+{
+    let failures = number_within(matches, "failures", 0, CAUSE_FAILURES_MAX)?;
+    let wide = bounds_or(matches, DEFAULT_RUN_DEVICES, DEFAULT_RUN_STEPS)?;
+    let failures = failures.unwrap_or(DEFAULT_CAUSE_FAILURES);
+    Bounds::with_failures(wide.devices(), wide.steps(), Some(failures))
+}
+
+fn causes_ask(alloc: Global, matches: &ArgMatches<'_>) -> Result<Ask, UseError>
+    ensures { Says (causes_asked (rows_of (found_of matches.now))) result }
+{
+    let Some(shell) = shell_of(matches) else {
+        return Err(unnamed(alloc, matches));
+    };
+    let list = text_of(alloc, matches, "device-list")?;
+    let (Some(devices_file), Some(bounds)) = (list, cause_bounds(matches)) else {
+        return Err(unread(alloc));
+    };
+    Ok(Ask::Causes {
+        origin: origin_of(alloc, matches)?,
+        devices_file,
+        what: CausesAsk {
+            name: variable_of(alloc, matches)?,
+            bounds: bounds.in_shell(shell),
+            check: is_set(matches, "check"),
+        },
+        order: order_of(matches),
+    })
+}
+
 fn ask_of(alloc: Global, called: CalledAs, matches: &ArgMatches<'_>) -> Result<Ask, UseError>
     ensures { Says (option_and_then (λ s. asked_of called s.0 s.1) (subcommand_rows_of matches.now))
         result }
@@ -392,6 +425,7 @@ fn ask_of(alloc: Global, called: CalledAs, matches: &ArgMatches<'_>) -> Result<A
         "setenv" => set_ask(alloc, called, entries),
         "rehearse" => rehearse_ask(alloc, entries),
         "endings" => endings_ask(alloc, entries),
+        "causes" => causes_ask(alloc, entries),
         _ => Err(unread(alloc)),
     }
 }

@@ -2,7 +2,8 @@
 
 use crate::argument::{Argument, Form};
 use crate::notes::{
-    ENDINGS_NOTES, FW_PRINTENV_NOTES, FW_SETENV_NOTES, PRINTENV_NOTES, REHEARSE_NOTES, SETENV_NOTES,
+    CAUSES_NOTES, ENDINGS_NOTES, FW_PRINTENV_NOTES, FW_SETENV_NOTES, PRINTENV_NOTES,
+    REHEARSE_NOTES, SETENV_NOTES,
 };
 use crate::shared::{BIG_ENDIAN, CONFIG, DEVICE_LIST, IMAGE, NAMES, SECOND};
 use crate::subcommand::{Subcommand, Tool};
@@ -10,6 +11,9 @@ use rehearse_terms::{RUN_DEVICES_MAX, STEPS_MAX};
 
 /// The most device commands that may fail in a run that is listed.
 pub const FAILURES_MAX: u32 = 32;
+
+/// The most device commands that may fail in a run that `causes` looks at.
+pub const CAUSE_FAILURES_MAX: u32 = 3;
 
 /// The option that names the folder of the lock, as `printenv` has it.
 const LOCK: Argument<'static> = Argument {
@@ -273,8 +277,42 @@ const ENDINGS: [Argument<'static>; 12] = [
     },
 ];
 
+const CHECK: Argument<'static> = Argument {
+    id: "check",
+    form: Form::Flag,
+    letter: None,
+    alias: None,
+    required: false,
+    value: "",
+    help: "Only what does not boot; status 1 if there is any",
+};
+
+const CAUSES: [Argument<'static>; 11] = [
+    CONFIG,
+    IMAGE,
+    SECOND,
+    BIG_ENDIAN,
+    DEVICE_LIST,
+    VARIABLE,
+    Argument {
+        help: "At most N device commands a run, 0 to 1000 [default: 1000]",
+        ..DEVICES
+    },
+    Argument {
+        help: "At most N steps (commands begun) a run, 0 to 1000000 [default: 1000000]",
+        ..STEPS
+    },
+    SHELL,
+    Argument {
+        form: Form::Number(0, CAUSE_FAILURES_MAX),
+        help: "The runs in which at most N device commands fail, 0 to 3 [default: 2]",
+        ..FAILURES
+    },
+    CHECK,
+];
+
 /// The subcommands, in the order of the help.
-pub(crate) const SUBCOMMANDS: [Subcommand<'static>; 4] = [
+pub(crate) const SUBCOMMANDS: [Subcommand<'static>; 5] = [
     Subcommand {
         name: "printenv",
         about: "Print variables of the environment",
@@ -307,6 +345,13 @@ pub(crate) const SUBCOMMANDS: [Subcommand<'static>; 4] = [
         about: "Tell how all runs of a boot script end",
         notes: ENDINGS_NOTES,
         arguments: &ENDINGS,
+        tool: None,
+    },
+    Subcommand {
+        name: "causes",
+        about: "Tell what has to fail for each ending of a boot script",
+        notes: CAUSES_NOTES,
+        arguments: &CAUSES,
         tool: None,
     },
 ];
