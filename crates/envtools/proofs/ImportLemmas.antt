@@ -1,5 +1,5 @@
 -- The variables that U-Boot reads from an image, one after another.
-use Rattle.std.proofs.Common.{◌≡◌, ◌≢◌, ℕ, zero, suc, ◌+◌, ◌==◌, ◌&&◌, ◌||◌, not, Bool, true, false, cond, length, take, List, [], ◌∷◌, ◌++◌, map, Option, Some, None, refl, sym, ap, subst, ◌∙◌, arith}
+use Rattle.std.proofs.Common.{◌≡◌, ◌≢◌, ℕ, zero, suc, ◌+◌, ◌==◌, ◌&&◌, ◌||◌, not, Bool, true, false, cond, take, List, [], ◌∷◌, ◌++◌, map, Some, refl, sym, ap, subst, ◌∙◌, arith, add-one}
 use Rattle.std.specs.Prelude.{slice_get, filter, if◌then◌else◌}
 use Rattle.std.specs.List.{AllByRecursion, list_any}
 use Rattle.std.proofs.lemmas.List.{append-nil, map-append}
@@ -8,9 +8,10 @@ use Rattle.std.proofs.lemmas.List.Folds.{list_any-append}
 use Rattle.std.proofs.lemmas.Option.{none-some}
 use Rattle.text.specs.Words.{cut_front, is_space}
 use Rattle.envimage.specs.Data.{Pair, IsNameByte, IsVariable}
-use Rattle.envtools.specs.Environment.{assigned, env_of}
-use Rattle.envtools.specs.Importing.{imported_name, imported_value, imported_pair, is_kept, is_doubtful, begins_with_blank, with_imported, imported}
-use Rattle.envtools.proofs.EnvOf.{env_of-snoc, take-next}
+use Rattle.std.specs.Cmp.Lexicographic.{nat_list_eq_equiv}
+use Rattle.envtools.specs.Environment.{assigned, env_of, same, HasDistinctNames}
+use Rattle.envtools.specs.Importing.{imported_name, imported_value, imported_pair, is_read, is_doubtful, names_variable, is_set, with_imported, imported}
+use Rattle.envtools.proofs.EnvOf.{env_of-snoc, take-next, all-at}
 
 abbrev HasNoNul : List ℕ → Type 0
 HasNoNul = AllByRecursion (λ b. b ≢ 0)
@@ -32,33 +33,33 @@ all_cut : (P : ℕ → Type 0) (name : List ℕ) → AllByRecursion P name → A
 all_cut P [] all = tt
 all_cut P (byte ∷ bytes) all = cut_byte P (is_space byte) byte bytes all.0 all.1 (all_cut P bytes all.1)
 
--- a name that is not doubtful is not empty
-some_left : (cut : List ℕ) (other : Bool) → (length cut == 0 || other) ≡ false → cut ≢ []
-some_left [] other e none = absurd (let f = e in cc)
-some_left (byte ∷ bytes) other e none = absurd (cc)
+-- what names a variable is not empty
+some_left : (cut : List ℕ) → names_variable cut ≡ true → cut ≢ []
+some_left [] e none = absurd (let f = e in cc)
+some_left (byte ∷ bytes) e none = absurd (cc)
 
-pub imported_is_variable : (name value cut made : List ℕ) → cut ≡ imported_name name → made ≡ imported_value false value → is_doubtful (name, value) ≡ false → IsVariable (name, value) → IsVariable (cut, made)
-imported_is_variable name value cut made c e plain v = record {
-  named = subst (λ (n : List ℕ). n ≢ []) (sym c) (some_left (imported_name name) (begins_with_blank name && length value == 0) plain);
+pub imported_is_variable : (name value cut made : List ℕ) → cut ≡ imported_name name → made ≡ imported_value false value → names_variable cut ≡ true → IsVariable (name, value) → IsVariable (cut, made)
+imported_is_variable name value cut made c e named v = record {
+  named = some_left cut named;
   name = subst (AllByRecursion IsNameByte) (sym c) (all_cut IsNameByte name v.name);
   value = subst HasNoNul (sym e) (no_nul false value v.value);
 }
 
 -- what is imported of the variables in front of a place
 abbrev pub imported_of : List Pair → List Pair
-imported_of pairs = env_of (map imported_pair (filter is_kept pairs))
+imported_of pairs = env_of (map imported_pair (filter is_read pairs))
 
-one_more : (kept : Bool) (pairs : List Pair) (p : Pair) → is_kept p ≡ kept → env_of (map imported_pair (filter is_kept pairs) ++ map imported_pair (cond kept (p ∷ []) [])) ≡ cond kept (assigned (imported_of pairs) (imported_name p.0) (imported_value false p.1)) (imported_of pairs)
-one_more true pairs p e = env_of-snoc (map imported_pair (filter is_kept pairs)) (imported_pair p)
-one_more false pairs p e = ap env_of (append-nil (map imported_pair (filter is_kept pairs)))
+one_more : (kept : Bool) (pairs : List Pair) (p : Pair) → is_read p ≡ kept → env_of (map imported_pair (filter is_read pairs) ++ map imported_pair (cond kept (p ∷ []) [])) ≡ cond kept (assigned (imported_of pairs) (imported_name p.0) (imported_value false p.1)) (imported_of pairs)
+one_more true pairs p e = env_of-snoc (map imported_pair (filter is_read pairs)) (imported_pair p)
+one_more false pairs p e = ap env_of (append-nil (map imported_pair (filter is_read pairs)))
 
 pub imported_next : (pairs : List Pair) (place : ℕ) (p : Pair) → slice_get pairs place ≡ Some p → with_imported (imported_of (take place pairs)) p ≡ imported_of (take (place + 1) pairs)
 imported_next pairs place p there =
     let before = take place pairs in
     sym (ap imported_of (take-next pairs place p there)
-    ∙ ap (λ kept. env_of (map imported_pair kept)) (filter-append is_kept before (p ∷ []))
-    ∙ ap env_of (map-append imported_pair (filter is_kept before) (filter is_kept (p ∷ [])))
-    ∙ one_more (is_kept p) before p refl)
+    ∙ ap (λ kept. env_of (map imported_pair kept)) (filter-append is_read before (p ∷ []))
+    ∙ ap env_of (map-append imported_pair (filter is_read before) (filter is_read (p ∷ [])))
+    ∙ one_more (is_read p) before p refl)
 
 pub none_blank_next : (pairs : List Pair) (place : ℕ) (p : Pair) → slice_get pairs place ≡ Some p → list_any is_doubtful (take place pairs) ≡ false → is_doubtful p ≡ false → list_any is_doubtful (take (place + 1) pairs) ≡ false
 none_blank_next pairs place p there before here =
@@ -79,7 +80,33 @@ one_blank (q ∷ pairs) (suc place) p there blank =
     or_true false = refl
 
 pub none_imported : (pairs : List Pair) (place : ℕ) (p : Pair) → slice_get pairs place ≡ Some p → is_doubtful p ≡ true → [] ≡ imported pairs
-none_imported pairs place p there blank = sym (ap (λ (b : Bool). if b then [] else imported_of pairs) (one_blank pairs place p there blank))
+none_imported pairs place p there blank = sym (ap (λ (b : Bool). if b then [] else filter is_set (imported_of pairs)) (one_blank pairs place p there blank))
 
-pub all_imported : (pairs : List Pair) → list_any is_doubtful pairs ≡ false → imported_of pairs ≡ imported pairs
-all_imported pairs none = sym (ap (λ (b : Bool). if b then [] else imported_of pairs) none)
+pub all_imported : (pairs : List Pair) → list_any is_doubtful pairs ≡ false → filter is_set (imported_of pairs) ≡ imported pairs
+all_imported pairs none = sym (ap (λ (b : Bool). if b then [] else filter is_set (imported_of pairs)) none)
+
+-- ---- the variables that are set
+
+behind_first : (first : Bool) (q p : Pair) (before after : List Pair) → same p.0 q.0 ≡ false → assigned before p.0 p.1 ≡ after → assigned (cond first (q ∷ before) before) p.0 p.1 ≡ cond first (q ∷ after) after
+behind_first true q p before after apart e = rw apart (ap (λ t. q ∷ t) e)
+behind_first false q p before after apart e = e
+
+set_suc : (pairs : List Pair) (place : ℕ) (p : Pair) → HasDistinctNames pairs → slice_get pairs place ≡ Some p → is_set p ≡ true → assigned (filter is_set (take place pairs)) p.0 p.1 ≡ filter is_set (take (suc place) pairs)
+set_suc [] place p d there kept = absurd (none-some p there)
+set_suc (q ∷ pairs) zero p d there kept = let one : p ≡ q = cc in rw (sym (ap is_set one) ∙ kept) (ap (λ r. r ∷ []) one)
+set_suc (q ∷ pairs) (suc place) p d there kept =
+    let apart : same q.0 p.0 ≡ false = all-at (λ r. same q.0 r.0 ≡ false) pairs place p d.0 there in
+    behind_first (is_set q) q p (filter is_set (take place pairs)) (filter is_set (take (suc place) pairs)) (nat_list_eq_equiv.symm p.0 q.0 ∙ apart) (set_suc pairs place p d.1 there kept)
+
+-- a variable that is set is the next one
+pub set_next : (pairs : List Pair) (place : ℕ) (p : Pair) → HasDistinctNames pairs → slice_get pairs place ≡ Some p → is_set p ≡ true → assigned (filter is_set (take place pairs)) p.0 p.1 ≡ filter is_set (take (place + 1) pairs)
+set_next pairs place p d there kept = rw add-one (set_suc pairs place p d there kept)
+
+-- and one that is not set leaves them as they are
+pub unset_next : (pairs : List Pair) (place : ℕ) (p : Pair) → slice_get pairs place ≡ Some p → is_set p ≡ false → filter is_set (take place pairs) ≡ filter is_set (take (place + 1) pairs)
+unset_next pairs place p there empty =
+    let before = take place pairs in
+    sym (ap (filter is_set) (take-next pairs place p there)
+    ∙ filter-append is_set before (p ∷ [])
+    ∙ ap (λ (b : Bool). filter is_set before ++ cond b (p ∷ []) []) empty
+    ∙ append-nil (filter is_set before))

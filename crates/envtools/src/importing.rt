@@ -1,5 +1,5 @@
 //! The environment that a board has once U-Boot has read an image.
-ghost use Rattle.std.specs.Prelude.{◌≡◌, IfOk, OnOk, false};
+ghost use Rattle.std.specs.Prelude.{◌≡◌, IfOk, OnOk, false, filter};
 ghost use Rattle.text.specs.Words.{is_space};
 ghost use Rattle.envimage.specs.Data.{IsVariable};
 ghost use Rattle.envtools.specs.Importing as says;
@@ -7,26 +7,6 @@ ghost use Rattle.envtools.specs.Importing as says;
 use crate::env::Env;
 use std::alloc::{AllocError, Global};
 use text::{cut_front, is_space};
-
-/// Whether a name begins with `#`.
-fn begins_comment(name: &[u8]) -> bool
-    ensures { result ≡ says.begins_comment name.now }
-{
-    match name {
-        [byte, ..] => *byte == b'#',
-        [] => false,
-    }
-}
-
-/// Whether a name begins with a space or a tab.
-fn begins_with_blank(name: &[u8]) -> bool
-    ensures { result ≡ says.begins_with_blank name.now }
-{
-    match name {
-        [byte, ..] => is_space(*byte),
-        [] => false,
-    }
-}
 
 /// Whether a byte is a space or a tab.
 fn is_blank(byte: u8) -> bool
@@ -42,18 +22,21 @@ fn imported_name(name: &[u8]) -> &[u8]
     cut_front(name, is_blank)
 }
 
-/// Whether a stored variable is set on the board.
-fn is_kept(name: &[u8], value: &[u8]) -> bool
-    ensures { result ≡ says.is_kept (name.now, value.now) }
+/// Whether a name without the blanks in front of it names a variable.
+fn names_variable(name: &[u8]) -> bool
+    ensures { result ≡ says.names_variable name.now }
 {
-    !begins_comment(imported_name(name)) && !value.is_empty()
+    match name {
+        [byte, ..] => *byte != b'#',
+        [] => false,
+    }
 }
 
 /// Whether it is not followed what U-Boot does with a stored variable.
 fn is_doubtful(name: &[u8], value: &[u8]) -> bool
     ensures { result ≡ says.is_doubtful (name.now, value.now) }
 {
-    imported_name(name).is_empty() || begins_with_blank(name) && value.is_empty()
+    imported_name(name).is_empty() && !value.is_empty()
 }
 
 /// A value without the backslash before each byte.
@@ -75,24 +58,37 @@ fn imported_value(alloc: Global, value: &[u8]) -> Result<Vec<u8>, AllocError>
 }
 
 impl Env {
-    /// Sets a stored variable, unless it is not set on the board.
+    /// Gives the name of a stored variable its value, which may be empty.
     fn import(&mut self, name: &[u8], value: &[u8]) -> Result<(), AllocError>
-        requires variable { IsVariable (name.now, value.now) }
-        requires plain { says.is_doubtful (name.now, value.now) ≡ false }
+        requires { IsVariable (name.now, value.now) }
         ensures { OnOk result (self.new ≡ says.with_imported self.old (name.now, value.now)) }
     {
-        if !is_kept(name, value) {
+        let name = imported_name(name);
+        if !names_variable(name) {
             return Ok(());
         }
         let value = imported_value(self.allocator(), value)?;
-        self.assign(imported_name(name), &value)
+        self.assign(name, &value)
+    }
+
+    /// The variables whose values are not empty.
+    fn only_set(&self) -> Result<Env, AllocError>
+        ensures { IfOk result (λ env. env ≡ filter says.is_set self.now) }
+    {
+        let mut env = Env::new(self.allocator());
+        for place in 0..self.len() {
+            let (name, value) = self.pair(place).unwrap();
+            if !value.is_empty() {
+                env.assign(name, value)?;
+            }
+        }
+        Ok(env)
     }
 
     /// The environment that a board has once U-Boot has read this one from its image: backslashes in
-    /// values and blanks in front of names are dropped, and empty values and names that begin with `#`
-    /// are left out. It is empty if a name has blanks alone, or a variable whose name begins with one
-    /// an empty value: what U-Boot does then is not followed. Errors: memory ran out. Source:
-    /// lib/hashtable.c, `himport_r`.
+    /// values and blanks in front of names are dropped, names that begin with `#` are left out, and an
+    /// empty value deletes. It is empty if a variable with a value has a name of blanks alone: what
+    /// U-Boot does then is not followed. Errors: memory ran out. Source: lib/hashtable.c, `himport_r`.
     pub fn imported(&self) -> Result<Env, AllocError>
         ensures { IfOk result (λ env. env ≡ says.imported self.now) }
     {
@@ -104,6 +100,6 @@ impl Env {
             }
             env.import(name, value)?;
         }
-        Ok(env)
+        env.only_set()
     }
 }

@@ -1,4 +1,4 @@
-use Rattle.std.proofs.Common.{◌≡◌, ◌∙◌, ap, sym, false, Some}
+use Rattle.std.proofs.Common.{◌≡◌, ◌∙◌, ap, sym, Some}
 use Rattle.std.specs.Prelude.{slice_get}
 use Rattle.std.specs.Option.{option_map}
 use Rattle.envimage.specs.Data.{Pair, IsVariable}
@@ -14,8 +14,8 @@ returns-then-is_doubtful c =
     sym c.pair.ensures ∙ ap (option_map (λ p. (p.0.now, p.1.now))) c.unwrap.ensures in
     c.new.ensures ∙ none_imported c.args.self.now c.loop-place.place p there (sym c.if-is_doubtful.ensures)
 
-pub import-requires-clause-variable : goal.import-requires-clause-variable
-import-requires-clause-variable c =
+pub import-requires : goal.import-requires
+import-requires c =
     let p : Pair = (c.unwrap.result.0.now, c.unwrap.result.1.now) in
     let there : slice_get c.args.self.now c.loop-place.place ≡ Some p =
     sym c.pair.ensures ∙ ap (option_map (λ p. (p.0.now, p.1.now))) c.unwrap.ensures in
