@@ -3,7 +3,7 @@
 # growth refused, for each of its commands. It does its work with status 0, or tells the line `ubtool: out of memory`
 # alone: with status 2 and no output until the words are read, then with status 1 (and with the name that it was called
 # by in front) and a front of the output, of a
-# listing whole records, after which it goes on, of endings nothing. If it refused, the image is as it was, else
+# listing whole records, after which it goes on, of endings and causes nothing. If it refused, the image is as it was, else
 # it is the wanted one; and nothing is written before the last read.
 . "$(dirname "$0")/../tests/lib"
 set -e
@@ -61,7 +61,7 @@ each_growth() {
         cmp -s env.img image || fail 'another image'
         head -c "$(wc -c <output)" ample | cmp -s - output || fail 'no front of the output'
         [ "${words[0]-}" != rehearse ] || goes_on
-        [ "${words[0]-}" != endings ] || [ ! -s output ] || fail 'an output'
+        [[ ${words[0]-} != @(endings|causes) ]] || [ ! -s output ] || fail 'an output'
         before=$status
     done
     [ "$status" -eq 0 ] || fail "status $status without a refusal"
@@ -91,6 +91,7 @@ begin rehearse -c fw_env.config -d devices.txt a v
 begin endings -c fw_env.config -d devices.txt
 begin endings -c fw_env.config -d devices.txt --devices 5 --steps 40
 begin endings -c fw_env.config -d devices.txt --flow
+begin causes -c fw_env.config -d devices.txt
 begin
 begin printenv -c fw_env.config
 begin printenv -c fw_env.config t bootcmd t
