@@ -28,7 +28,7 @@ pub(crate) fn put(text: &mut Vec<u8>, bytes: &[u8]) -> Result<(), StoreError>
 }
 
 /// Adds a number at the end of a text.
-pub(crate) fn put_number(text: &mut Vec<u8>, number: u128) -> Result<(), StoreError>
+pub fn put_number(text: &mut Vec<u8>, number: u128) -> Result<(), StoreError>
     ensures { OnOk result (text.new.items ≡ text.old.items ++ decimal number) }
 {
     let mut digits = itoa::Buffer::new();
@@ -84,7 +84,7 @@ pub(crate) fn put_word(text: &mut Vec<u8>, word: &[u8]) -> Result<(), StoreError
 }
 
 /// Adds the last line of the record of a run with this ending.
-pub(crate) fn put_ending(text: &mut Vec<u8>, halt: &Halt) -> Result<(), StoreError>
+pub fn put_ending(text: &mut Vec<u8>, halt: &Halt) -> Result<(), StoreError>
     ensures { OnOk result (text.new.items ≡ text.old.items ++ last_line (halt_shown halt.now)) }
 {
     match halt {

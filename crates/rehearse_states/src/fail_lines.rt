@@ -4,7 +4,8 @@ ghost use Rattle.text.specs.TextsShown.{bytes_of_words};
 ghost use Rattle.rehearse_rules.specs.Execution.{outcome_when};
 ghost use Rattle.rehearse_states.specs.Flow.{next, numbered, walk};
 ghost use Rattle.rehearse_states.specs.Drawing.{node_shown};
-ghost use Rattle.rehearse_states.specs.EndingLines.{failed, fails_lines};
+ghost use Rattle.rehearse_rules.specs.Listing.{line};
+ghost use Rattle.rehearse_states.specs.EndingLines.{failed, fails_lines, fails_text};
 
 use crate::ending_lines::put;
 use crate::flow::Node;
@@ -27,17 +28,26 @@ fn next_of(success: bool, won: usize, lost: usize) -> usize
     if success { won } else { lost }
 }
 
+/// Adds the line of a device command that failed.
+pub fn put_fail(text: &mut Vec<u8>, words: &[Vec<u8>]) -> Result<(), StoreError>
+    ensures { OnOk result (text.new.items
+        ≡ text.old.items ++ line (fails_text (bytes_of_words words.now))) }
+{
+    put(text, b"fails ")?;
+    put_words(text, words)?;
+    put(text, b"\n")
+}
+
 /// Adds the line of a device command, if it failed.
-fn put_fail(text: &mut Vec<u8>, words: &[Vec<u8>], success: bool) -> Result<(), StoreError>
+fn put_if_failed(text: &mut Vec<u8>, words: &[Vec<u8>], success: bool) -> Result<(), StoreError>
     ensures { OnOk result (text.new.items
         ≡ text.old.items ++ fails_lines (failed ((success, bytes_of_words words.now) ∷ []))) }
 {
     if success {
-        return Ok(());
+        Ok(())
+    } else {
+        put_fail(text, words)
     }
-    put(text, b"fails ")?;
-    put_words(text, words)?;
-    put(text, b"\n")
 }
 
 /// Adds a line for each device command that fails on the way from a line of a flow by the outcomes
@@ -65,6 +75,6 @@ pub(crate) fn put_fails(
     else {
         return Ok(());
     };
-    put_fail(text, words, *success)?;
+    put_if_failed(text, words, *success)?;
     put_fails(text, nodes, rest, next_of(*success, *won, *lost))
 }

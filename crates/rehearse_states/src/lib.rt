@@ -15,12 +15,13 @@ mod value_lines;
 mod words;
 
 pub use cores::{Core, has_core, take_core};
-pub use ending_lines::text_of;
+pub use ending_lines::{put_ending, put_number, text_of};
 pub use environments::Environments;
+pub use fail_lines::put_fail;
 pub use flow::{Flow, Node};
 pub use flow_lines::flow_text_of;
 pub use hashing::hash_of;
 pub use rows::{Row, copy_rows};
-pub use run_end::{RunEnd, run_end_of};
+pub use run_end::{RunEnd, run_end_of, same_halt};
 pub use summary::{Summary, of_end, of_sides};
 pub use words::words_at;

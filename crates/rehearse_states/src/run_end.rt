@@ -19,7 +19,7 @@ pub struct RunEnd {
 }
 
 /// Whether both end alike.
-pub(crate) fn same_halt(a: &Halt, b: &Halt) -> bool
+pub fn same_halt(a: &Halt, b: &Halt) -> bool
     ensures { result ≡ ending_eq (halt_shown a.now) (halt_shown b.now) }
 {
     match (a, b) {
