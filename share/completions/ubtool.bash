@@ -37,6 +37,7 @@ _ubtool_options() {
         setenv) options='-c --config -i --image --second --big-endian -l --lock --one-copy -s --script -h --help -V --version' ;;
         rehearse) options='-c --config -i --image --second --big-endian -d --device-list -b --variable --devices --steps --shell --word --failures --after --limit -h --help -V --version' ;;
         endings) options='-c --config -i --image --second --big-endian -d --device-list -b --variable --devices --steps --shell --states --flow -h --help -V --version' ;;
+        causes) options='-c --config -i --image --second --big-endian -d --device-list -b --variable --devices --steps --shell --failures --check -h --help -V --version' ;;
         *) options='' ;;
     esac
 }
@@ -74,11 +75,11 @@ _ubtool() {
     COMPREPLY=()
     case $last-${line[1]} in
         1-*)
-            mapfile -t COMPREPLY < <(compgen -W 'printenv setenv rehearse endings help version -h --help -V --version' -- "$word")
+            mapfile -t COMPREPLY < <(compgen -W 'printenv setenv rehearse endings causes help version -h --help -V --version' -- "$word")
             return
             ;;
         2-help)
-            mapfile -t COMPREPLY < <(compgen -W 'printenv setenv rehearse endings' -- "$word")
+            mapfile -t COMPREPLY < <(compgen -W 'printenv setenv rehearse endings causes' -- "$word")
             return
             ;;
         *) _ubtool_options "${line[1]}" ;;

@@ -46,9 +46,10 @@ complete -c ubtool -n __fish_use_subcommand -a printenv -d 'Print variables of t
 complete -c ubtool -n __fish_use_subcommand -a setenv -d 'Set or delete variables of the environment'
 complete -c ubtool -n __fish_use_subcommand -a rehearse -d 'List every run of a boot script'
 complete -c ubtool -n __fish_use_subcommand -a endings -d 'Tell how all runs of a boot script end'
+complete -c ubtool -n __fish_use_subcommand -a causes -d 'Tell what has to fail for each ending of a boot script'
 complete -c ubtool -n __fish_use_subcommand -a help -d 'Print help'
 complete -c ubtool -n __fish_use_subcommand -a version -d 'Print version'
-complete -c ubtool -n __ubtool_after_help -a 'printenv setenv rehearse endings'
+complete -c ubtool -n __ubtool_after_help -a 'printenv setenv rehearse endings causes'
 
 # options: completions
 # Whether the word is an option whose value comes after it.
@@ -58,10 +59,10 @@ end
 
 complete -c ubtool -s h -l help -d 'Print help'
 complete -c ubtool -s V -l version -d 'Print version'
-complete -c ubtool -n '__fish_seen_subcommand_from printenv setenv rehearse endings' -s c -l config -r -F -d 'Configuration, at most 1048576 bytes'
-complete -c ubtool -n '__fish_seen_subcommand_from printenv setenv rehearse endings' -s i -l image -r -F -d 'Image, at most 1048576 bytes: the whole FILE, in place of -c'
-complete -c ubtool -n '__fish_seen_subcommand_from printenv setenv rehearse endings' -l second -r -F -d 'Second copy of a redundant pair, beside -i: the whole FILE'
-complete -c ubtool -n '__fish_seen_subcommand_from printenv setenv rehearse endings' -l big-endian -d 'The CRC is stored big-endian'
+complete -c ubtool -n '__fish_seen_subcommand_from printenv setenv rehearse endings causes' -s c -l config -r -F -d 'Configuration, at most 1048576 bytes'
+complete -c ubtool -n '__fish_seen_subcommand_from printenv setenv rehearse endings causes' -s i -l image -r -F -d 'Image, at most 1048576 bytes: the whole FILE, in place of -c'
+complete -c ubtool -n '__fish_seen_subcommand_from printenv setenv rehearse endings causes' -l second -r -F -d 'Second copy of a redundant pair, beside -i: the whole FILE'
+complete -c ubtool -n '__fish_seen_subcommand_from printenv setenv rehearse endings causes' -l big-endian -d 'The CRC is stored big-endian'
 complete -c ubtool -n '__fish_seen_subcommand_from printenv' -s l -l lock -x -a '(__fish_complete_directories)' -d 'Wait for the lock file in DIR'
 complete -c ubtool -n '__fish_seen_subcommand_from setenv' -s l -l lock -x -a '(__fish_complete_directories)' -d 'Folder of the lock file'
 complete -c ubtool -n '__fish_seen_subcommand_from printenv setenv' -l one-copy -d 'If one copy of a pair cannot be read, use the other'
@@ -69,19 +70,21 @@ complete -c ubtool -n '__fish_seen_subcommand_from printenv' -s n -l noheader -d
 complete -c ubtool -n '__fish_seen_subcommand_from printenv' -s 0 -l null -d 'End each variable with a NUL byte'
 complete -c ubtool -n '__fish_seen_subcommand_from printenv' -l escaped -d 'Print newlines as \\n and other bytes by their digits'
 complete -c ubtool -n '__fish_seen_subcommand_from setenv' -s s -l script -r -F -d 'Script of changes, at most 1048576 bytes'
-complete -c ubtool -n '__fish_seen_subcommand_from rehearse endings' -s d -l device-list -r -F -d 'Device list, at most 1048576 bytes: a command that may fail a line'
-complete -c ubtool -n '__fish_seen_subcommand_from rehearse endings' -s b -l variable -x -a '(__ubtool_names)' -d 'Variable whose text is run'
+complete -c ubtool -n '__fish_seen_subcommand_from rehearse endings causes' -s d -l device-list -r -F -d 'Device list, at most 1048576 bytes: a command that may fail a line'
+complete -c ubtool -n '__fish_seen_subcommand_from rehearse endings causes' -s b -l variable -x -a '(__ubtool_names)' -d 'Variable whose text is run'
 complete -c ubtool -n '__fish_seen_subcommand_from rehearse' -l devices -x -d 'At most N device commands a run, 0 to 32, with --word or --failures 3 to 1000'
-complete -c ubtool -n '__fish_seen_subcommand_from endings' -l devices -x -d 'At most N device commands a run, 0 to 1000'
+complete -c ubtool -n '__fish_seen_subcommand_from endings causes' -l devices -x -d 'At most N device commands a run, 0 to 1000'
 complete -c ubtool -n '__fish_seen_subcommand_from rehearse' -l steps -x -d 'At most N steps (commands begun) a run, 0 to 1000000'
-complete -c ubtool -n '__fish_seen_subcommand_from endings' -l steps -x -d 'At most N steps (commands begun) a run, 0 to 1000000'
-complete -c ubtool -n '__fish_seen_subcommand_from rehearse endings' -l shell -x -a 'profile old-2023.01 old-2025.01 old' -d 'The shell by whose rules the scripts run: profile, old-2023.01, old-2025.01 or old'
+complete -c ubtool -n '__fish_seen_subcommand_from endings causes' -l steps -x -d 'At most N steps (commands begun) a run, 0 to 1000000'
+complete -c ubtool -n '__fish_seen_subcommand_from rehearse endings causes' -l shell -x -a 'profile old-2023.01 old-2025.01 old' -d 'The shell by whose rules the scripts run: profile, old-2023.01, old-2025.01 or old'
 complete -c ubtool -n '__fish_seen_subcommand_from rehearse' -l word -x -d 'The run of WORD alone, . for the empty one'
 complete -c ubtool -n '__fish_seen_subcommand_from rehearse' -l failures -x -d 'The runs in which at most N device commands fail, 0 to 32'
+complete -c ubtool -n '__fish_seen_subcommand_from causes' -l failures -x -d 'The runs in which at most N device commands fail, 0 to 3'
 complete -c ubtool -n '__fish_seen_subcommand_from rehearse' -l after -x -d 'Begin after the run of WORD, . for the empty one'
 complete -c ubtool -n '__fish_seen_subcommand_from rehearse' -l limit -x -d 'At most N records, 1 to 4294967295'
 complete -c ubtool -n '__fish_seen_subcommand_from endings' -l states -x -d 'At most N states in all, 0 to 4294967295'
 complete -c ubtool -n '__fish_seen_subcommand_from endings' -l flow -d 'Write the states as a graph, a line each'
+complete -c ubtool -n '__fish_seen_subcommand_from causes' -l check -d 'Only what does not boot; status 1 if there is any'
 # end
 
 complete -c ubtool -n '__fish_seen_subcommand_from printenv rehearse endings' -a '(__ubtool_names)' -d Variable

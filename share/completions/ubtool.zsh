@@ -81,6 +81,23 @@ _ubtool_options() {
                 '(- *)'{-V,--version}'[Print version]'
             )
             ;;
+        causes)
+            specs=(
+                '(-c --config)'{-c,--config}'[Configuration, at most 1048576 bytes]:file:_files'
+                '(-i --image)'{-i,--image}'[Image, at most 1048576 bytes\: the whole FILE, in place of -c]:file:_files'
+                '--second[Second copy of a redundant pair, beside -i\: the whole FILE]:file:_files'
+                '--big-endian[The CRC is stored big-endian]'
+                '(-d --device-list)'{-d,--device-list}'[Device list, at most 1048576 bytes\: a command that may fail a line]:file:_files'
+                '(-b --variable)'{-b,--variable}'[Variable whose text is run]:name:_ubtool_names'
+                '--devices[At most N device commands a run, 0 to 1000]:n: '
+                '--steps[At most N steps (commands begun) a run, 0 to 1000000]:n: '
+                '--shell[The shell by whose rules the scripts run\: profile, old-2023.01, old-2025.01 or old]:name:(profile old-2023.01 old-2025.01 old)'
+                '--failures[The runs in which at most N device commands fail, 0 to 3]:n: '
+                '--check[Only what does not boot; status 1 if there is any]'
+                '(- *)'{-h,--help}'[Print help]'
+                '(- *)'{-V,--version}'[Print version]'
+            )
+            ;;
     esac
 }
 # end
@@ -94,6 +111,7 @@ _ubtool() {
         'setenv:set or delete variables of the environment'
         'rehearse:list every run of a boot script'
         'endings:tell how all runs of a boot script end'
+        'causes:tell what has to fail for each ending of a boot script'
     )
     words_alone=('help:print help' 'version:print version')
     _arguments -C '(- *)'{-h,--help}'[print help]' '(- *)'{-V,--version}'[print version]' \
@@ -106,6 +124,7 @@ _ubtool() {
             case $words[1] in
                 help) (( CURRENT != 2 )) || _describe -t commands command commands ;;
                 printenv|rehearse|endings) _arguments -S $specs '*: :_ubtool_names' ;;
+                causes) _arguments -S $specs ;;
                 setenv) _arguments -S $specs '1: :_ubtool_names' '*:value: ' ;;
             esac
             ;;
