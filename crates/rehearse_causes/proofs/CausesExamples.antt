@@ -1,0 +1,108 @@
+-- Worked examples, computed: from the text of `bootcmd` to the lines of its causes.
+use Rattle.std.proofs.Common.{ℕ, Bool, true, false, [], ◌∷◌, List, Some, codes, refl, ◌≡◌}
+use Rattle.std.specs.Fmt.{digits}
+use Rattle.hushlang.specs.Expansion.{fields, joined, atoms}
+use Rattle.hushlang.specs.Trees.{tree_of}
+use Rattle.device_list.specs.DeviceLaws.{quiet}
+use Rattle.device_list.specs.DeviceList.{only}
+use Rattle.rehearse_terms.specs.State.{Text}
+use Rattle.rehearse_rules.specs.Execution.{End}
+use Rattle.rehearse_rules.specs.Runs.{Task}
+use Rattle.rehearse_rules.proofs.ExampleRehearsals.{limits, bootcmd}
+use Rattle.rehearse_causes.specs.Causes.{Cause, are_among, causes, covers, least, needs_less, times}
+use Rattle.rehearse_causes.specs.CauseLines.{causes_text, is_fine, reported}
+
+-- a script whose runs may fail so often; `load` comes back, `boot` does not
+abbrev task : ℕ → Text → Task
+task failures text = record (bootcmd (limits (only ((codes "load", quiet) ∷ (codes "boot", record quiet { ends = true }) ∷ [])) 4 20) text) { failures = Some failures }
+
+abbrev lines : ℕ → Text → Text
+lines failures text = causes_text (causes (task failures text))
+
+abbrev checked : ℕ → Text → Text × Bool
+checked failures text = let told = reported true (causes (task failures text)) in (causes_text told, is_fine true told)
+
+-- ---- scripts
+
+-- what fails besides is not told; a command that succeeds is not either
+only_what_it_takes : lines 2 (codes "load a || load b; boot") ≡ codes "cause 0 booted boot\ncause 1 end 1\nfails boot\n"
+unfolding tree_of fields joined atoms digits
+only_what_it_takes = refl
+
+-- two ways to one ending
+two_ways : lines 2 (codes "load a || load b || exit 3; load c || exit 3; boot") ≡ codes "cause 0 booted boot\ncause 1 end 1\nfails boot\ncause 1 end 3\nfails load c\ncause 2 end 3\nfails load a\nfails load b\n"
+unfolding tree_of fields joined atoms digits
+two_ways = refl
+
+-- a later run needs less than an earlier one
+later_needs_less : lines 2 (codes "if load a; then load b || load a || exit 3; else exit 3; fi; boot") ≡ codes "cause 0 booted boot\ncause 1 end 1\nfails boot\ncause 1 end 3\nfails load a\n"
+unfolding tree_of fields joined atoms digits
+later_needs_less = refl
+
+-- the same command may have to fail twice
+twice : lines 2 (codes "load || load || exit 3; boot") ≡ codes "cause 0 booted boot\ncause 1 end 1\nfails boot\ncause 2 end 3\nfails load\nfails load\n"
+unfolding tree_of fields joined atoms digits
+twice = refl
+
+-- of two runs that fail in the same commands, the first
+the_first : lines 2 (codes "if load; then load || exit 3; else exit 3; fi; boot") ≡ codes "cause 0 booted boot\ncause 1 end 1\nfails boot\ncause 1 end 3\nfails load\n"
+unfolding tree_of fields joined atoms digits
+the_first = refl
+
+-- runs with more failures than allowed are not looked at
+within_failures : lines 1 (codes "load a || load b || exit 3; boot") ≡ codes "cause 0 booted boot\ncause 1 end 1\nfails boot\n"
+unfolding tree_of fields joined atoms digits
+within_failures = refl
+
+-- no device command asks
+no_device : lines 2 (codes "exit 4") ≡ codes "cause 0 end 4\n"
+unfolding tree_of fields joined atoms digits
+no_device = refl
+
+-- in the order of the run
+in_order : lines 2 (codes "load b || load a || exit 3; boot") ≡ codes "cause 0 booted boot\ncause 1 end 1\nfails boot\ncause 2 end 3\nfails load b\nfails load a\n"
+unfolding tree_of fields joined atoms digits
+in_order = refl
+
+-- ---- checks
+
+-- what boots is not told
+amiss : checked 2 (codes "load a || load b; boot") ≡ (codes "cause 1 end 1\nfails boot\n", false)
+unfolding tree_of fields joined atoms digits
+amiss = refl
+
+all_boot : checked 1 (codes "boot a || boot b; boot c") ≡ ([], true)
+unfolding tree_of fields joined atoms digits
+all_boot = refl
+
+-- without a check all is well
+not_checked : is_fine false (reported false (causes (task 2 (codes "load a || load b; boot")))) ≡ true
+unfolding tree_of fields joined atoms
+not_checked = refl
+
+-- ---- what needs less
+
+abbrev a : List Text
+a = codes "load" ∷ codes "a" ∷ []
+
+abbrev b : List Text
+b = codes "load" ∷ codes "b" ∷ []
+
+counted : times a (a ∷ b ∷ a ∷ []) ≡ 2
+counted = refl
+
+-- as often, and in any order
+among_as_often : are_among (b ∷ a ∷ []) (a ∷ b ∷ []) ≡ true
+among_as_often = refl
+
+not_as_often : are_among (a ∷ a ∷ []) (a ∷ b ∷ []) ≡ false
+not_as_often = refl
+
+another_ending : covers (record { ending = End 0; fails = [] }) (record { ending = End 1; fails = a ∷ [] }) ≡ false
+another_ending = refl
+
+needs_as_much : needs_less (record { ending = End 0; fails = a ∷ b ∷ [] }) (record { ending = End 0; fails = b ∷ a ∷ [] }) ≡ false
+needs_as_much = refl
+
+needs_nothing : needs_less (record { ending = End 0; fails = [] }) (record { ending = End 0; fails = b ∷ [] }) ≡ true
+needs_nothing = refl

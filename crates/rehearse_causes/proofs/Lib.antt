@@ -1,0 +1,5 @@
+mod CoveringLemmas
+mod LeastLemmas
+mod LawLemmas
+mod TellingLemmas
+mod CausesExamples

@@ -1,0 +1,19 @@
+-- Causes that are not found are not written.
+use Rattle.std.proofs.Common.{◌≡◌, List, Ok, refl}
+use Rattle.output.specs.Sink.{Sink}
+use Rattle.device_list.specs.DeviceList.{Devices, listed}
+use Rattle.rehearse_terms.specs.State.{Text}
+use Rattle.rehearse_rules.specs.declared.rehearse_error.RehearseError.{RehearseError}
+use Rattle.rehearse_rules.specs.declared.rehearse_error.RehearseError.TheVariants.{DeviceList, NoSuchVariable, NotARun, States, Write, Memory, Failed}
+use Rattle.rehearse_causes.specs.TellingCauses.{IsUntold, RefusesCauses, task_asked}
+use Rattle.rehearse_causes.specs.declared.telling.CausesAsk.{CausesAsk}
+
+pub untold : (env : List (Text × Text)) (text : Text) (devices : Devices) (ask : CausesAsk) (s : Sink) (e : RehearseError) → listed text ≡ Ok devices
+    → IsUntold (task_asked env devices ask) e → RefusesCauses env text ask s s e
+untold env text devices ask s (DeviceList fault) l h = absurd h
+untold env text devices ask s NoSuchVariable l h = (record { devices = devices; listed_as = l; so = h }, refl)
+untold env text devices ask s NotARun l h = h
+untold env text devices ask s States l h = h
+untold env text devices ask s Write l h = absurd h
+untold env text devices ask s Memory l h = refl
+untold env text devices ask s Failed l h = h

@@ -1,0 +1,4 @@
+pub mod Causes
+pub mod CauseLines
+pub mod TellingCauses
+pub mod Laws

@@ -1,0 +1,10 @@
+//! What has to fail in a boot script for each way to end.
+#![tactic(auto)]
+
+mod cause;
+pub mod laws;
+mod least;
+mod telling;
+
+pub use cause::Cause;
+pub use telling::{CausesAsk, causes_env};

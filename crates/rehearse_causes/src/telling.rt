@@ -1,0 +1,122 @@
+//! The causes of an environment's variable, from the text of its device list to the lines.
+ghost use Rattle.std.specs.Prelude.{◌≡◌, IfOk, IfErr, Ok};
+ghost use Rattle.device_list.specs.DeviceList.{listed};
+ghost use Rattle.rehearse_terms.specs.State.{Text};
+ghost use Rattle.rehearse_causes.specs.CauseLines.{causes_text, reported};
+ghost use Rattle.rehearse_causes.specs.TellingCauses.{IsUntold, RefusesCauses, TellsCauses, WithCauses, task_asked};
+
+use crate::cause::Cause;
+use crate::least::least_of;
+use bootstore_state::{Store, StoreError};
+use device_list::Devices;
+use envtools::Env;
+use output::{Out, write_all};
+use rehearse_rules::{RehearseError, read_devices};
+use rehearse_runs::Runs;
+use rehearse_terms::Bounds;
+use std::alloc::Global;
+
+/// What is asked of the causes of a script.
+#[derive(Clone, Copy)]
+pub struct CausesAsk<'a> {
+    /// The variable whose text is rehearsed.
+    pub name: &'a [u8],
+    /// The bounds of its runs, and how many device commands may fail in those that are looked at.
+    pub bounds: Bounds,
+    /// Whether only causes are told that do not boot.
+    pub check: bool,
+}
+
+/// Those that are told. Errors: `Memory`.
+fn reported(alloc: Global, check: bool, causes: Vec<Cause>) -> Result<Vec<Cause>, StoreError>
+    ensures { IfOk result (λ told. told.items ≡ reported check causes.items) }
+{
+    if !check {
+        return Ok(causes);
+    }
+    let mut told = Vec::new(alloc);
+    for cause in causes {
+        if !cause.is_booted() {
+            told.push(cause)?;
+        }
+    }
+    Ok(told)
+}
+
+/// The lines of causes. Errors: `Memory`.
+fn text_of(alloc: Global, causes: &[Cause]) -> Result<Vec<u8>, StoreError>
+    ensures { IfOk result (λ text. text.items ≡ causes_text causes.now) }
+{
+    let mut text = Vec::new(alloc);
+    for cause in causes {
+        cause.put(&mut text)?;
+    }
+    Ok(text)
+}
+
+/// The causes of a variable that are told. Errors: `NoSuchVariable`, `Memory`.
+fn causes_in<S: Store>(
+    alloc: Global,
+    env: &Env,
+    devices: &Devices,
+    ask: &CausesAsk<'_>,
+) -> Result<Vec<Cause>, RehearseError>
+    ensures ok { IfOk result (λ told. WithCauses (task_asked env.now devices.now ask.now)
+        ask.now.check (λ causes. told.items ≡ causes)) }
+    ensures err { IfErr result (λ e. IsUntold (task_asked env.now devices.now ask.now) e) }
+{
+    let mut runs = Runs::<S>::new(alloc, env, devices, ask.name, ask.bounds)?;
+    let causes = least_of(alloc, &mut runs)?;
+    match reported(alloc, ask.check, causes) {
+        Ok(told) => Ok(told),
+        Err(_) => Err(RehearseError::Memory),
+    }
+}
+
+/// Writes the causes of a variable, with a device list that was read. Errors: `NoSuchVariable`,
+/// `Memory`, `Write`.
+fn causes_with<S: Store, O: Out>(
+    alloc: Global,
+    env: &Env,
+    devices: &Devices,
+    ask: &CausesAsk<'_>,
+    out: &mut O,
+) -> Result<bool, RehearseError>
+    ensures ok { (devices_text : Text) → listed devices_text ≡ Ok devices.now
+        → IfOk result (λ fine. TellsCauses env.now devices_text ask.now (O.sink out.old)
+        (O.sink out.new) fine) }
+    ensures err { (devices_text : Text) → listed devices_text ≡ Ok devices.now
+        → IfErr result (λ e. RefusesCauses env.now devices_text ask.now (O.sink out.old)
+        (O.sink out.new) e) }
+{
+    let told = causes_in::<S>(alloc, env, devices, ask)?;
+    let Ok(text) = text_of(alloc, &told) else {
+        return Err(RehearseError::Memory);
+    };
+    write_all(out, &text)?;
+    Ok(!ask.check || told.is_empty())
+}
+
+/// Writes what has to fail for each way in which the runs of a variable end: for each cause a line,
+/// and a line for each device command that fails. A cause is a run of which no other with the same
+/// ending needs less. For a check, writes only those that do not boot, and returns false if there is
+/// one; else returns true. Goes through all runs of the bounds, and compares each with the causes
+/// that are kept.
+///
+/// Refusals in order: the device list, the variable, and `Memory`, with nothing written; then
+/// `Write`, with a prefix of the lines written.
+pub fn causes_env<S: Store, O: Out>(
+    alloc: Global,
+    env: &Env,
+    devices_text: &[u8],
+    ask: &CausesAsk<'_>,
+    out: &mut O,
+) -> Result<bool, RehearseError>
+    ensures ok { IfOk result (λ fine. TellsCauses env.now devices_text.now ask.now (O.sink out.old)
+        (O.sink out.new) fine) }
+    ensures err { IfErr result (λ e. RefusesCauses env.now devices_text.now ask.now
+        (O.sink out.old) (O.sink out.new) e) }
+{
+    let devices = read_devices(alloc, devices_text)?;
+    causes_with::<S, O>(alloc, env, &devices, ask, out)
+}
