@@ -5,19 +5,18 @@ use Rattle.std.proofs.lemmas.List.{length-map}
 use Rattle.std.specs.Prelude.{Result, is_some, unwrap_or, ◌||◌, option_and_then, option_map, if◌then◌else◌, ◌&&◌, codes, string_bytes}
 use Rattle.std.specs.Str.{bytes_eq}
 use Rattle.clap.specs.Words.{Row, Text, first_of, subcommand_of}
-use Rattle.envimage.specs.declared.image.ByteOrder.{ByteOrder}
 use Rattle.rehearse_terms.specs.Asking.{Alone, Listed, Wanted}
 use Rattle.rehearse_terms.specs.declared.wanted.Page.{Page}
 use Rattle.rehearse_terms.specs.Bounds.{BoundsShown, bounds_of, in_shell}
 use Rattle.rehearse_terms.specs.declared.shell.Shell.{Shell}
 use Rattle.tool_words.specs.CommandAnswers.{Answers, asked, meaning_of}
 use Rattle.tool_words.specs.Called.{is_tool}
-use Rattle.tool_words.specs.Asked.{Asked, OriginShown, asked_of, bounds_asked, change_asked, ending, endings_asked, endings_with, has_no_folder, header_needs_one, input_scripted, is_set, listing_asked, lock_needs_folder, number_within, of_images, one_copy, order_of, origin_asked, page_asked, print_asked, print_form, printing, printing_asked, rehearsal_of, rehearsal_with, rehearse_asked, rehearsing, run_bounds_asked, script_asked, scripted, set_asked, setting, shell_of, too_many_devices, usual_states, values_of, variable_of, wanted_by, word_alone, word_asked}
+use Rattle.tool_words.specs.Asked.{Asked, OriginShown, asked_of, bounds_asked, cause_bounds_asked, causes_asked, causes_with, causing, change_asked, ending, endings_asked, endings_with, has_no_folder, header_needs_one, input_scripted, is_set, listing_asked, lock_needs_folder, number_within, of_images, one_copy, order_of, origin_asked, page_asked, print_asked, print_form, printing, printing_asked, rehearsal_of, rehearsal_with, rehearse_asked, rehearsing, run_bounds_asked, script_asked, scripted, set_asked, setting, shell_of, too_many_devices, usual_states, values_of, variable_of, wanted_by, word_alone, word_asked}
 use Rattle.tool_words.specs.CommandLine.{most_failures, most_states, ubtool}
 use Rattle.tool_words.specs.declared.ask.OriginError.{OriginError}
 use Rattle.tool_words.specs.declared.called.CalledAs.{CalledAs}
 use Rattle.tool_words.specs.declared.ask.Ask.{Ask}
-use Rattle.tool_words.specs.declared.ask.Ask.TheVariants.{Endings, Help, Print, Rehearse, Setenv, Version}
+use Rattle.tool_words.specs.declared.ask.Ask.TheVariants.{Causes, Endings, Help, Print, Rehearse, Setenv, Version}
 use Rattle.ubtool.specs.Performing.{IsComplete}
 
 -- a value without its name is asked for only with one name
@@ -104,6 +103,15 @@ endings-fit None bounds states shell rows = tt
 endings-fit (Some list) None states shell rows = tt
 endings-fit (Some list) (Some bounds) None shell rows = tt
 
+causes-fit : (list : Option Text) (bounds : Option BoundsShown) (shell : Shell) (rows : List Row) → IsFit (causes_with list bounds shell rows)
+causes-fit (Some list) (Some bounds) shell rows = named-fit (origin_asked rows) (λ origin. causing origin list (record {
+  variable = variable_of rows;
+  bounds = in_shell shell bounds;
+  check = is_set (codes "check") rows;
+}) (order_of rows)) (λ origin. tt)
+causes-fit None bounds shell rows = tt
+causes-fit (Some list) None shell rows = tt
+
 asked-fit : (called : CalledAs) (words : List Text) → IsFit (asked called words)
 asked-fit called words = found-fit (subcommand_of ubtool words) (λ s. asked_of called s.0 s.1) (λ s. of s.0 s.1)
   where
@@ -123,12 +131,17 @@ asked-fit called words = found-fit (subcommand_of ubtool words) (λ s. asked_of 
         (λ shell. rehearse-fit list (page_asked rows) failures shell rows) in
         let ended = found-fit (shell_of rows) (λ shell. endings_with list (run_bounds_asked rows) states shell rows)
         (λ shell. endings-fit list (run_bounds_asked rows) states shell rows) in
-        let last = either (bytes_eq name (codes "endings")) (endings_asked rows) None ended tt in
-        let two = either (bytes_eq name (codes "rehearse")) (rehearse_asked rows) (if bytes_eq name (codes "endings") then endings_asked rows else None) rehearsed last in
-        let three = either (bytes_eq name (codes "setenv")) (Some (set_asked called rows))
-        (if bytes_eq name (codes "rehearse") then rehearse_asked rows else (if bytes_eq name (codes "endings") then endings_asked rows else None)) set two in
-        either (bytes_eq name (codes "printenv")) (Some (print_asked rows))
-        (if bytes_eq name (codes "setenv") then Some (set_asked called rows) else (if bytes_eq name (codes "rehearse") then rehearse_asked rows else (if bytes_eq name (codes "endings") then endings_asked rows else None))) printed three
+        let caused = found-fit (shell_of rows) (λ shell. causes_with list (cause_bounds_asked rows) shell rows)
+        (λ shell. causes-fit list (cause_bounds_asked rows) shell rows) in
+        let last : Option Asked = if bytes_eq name (codes "causes") then causes_asked rows else None in
+        let two : Option Asked = if bytes_eq name (codes "endings") then endings_asked rows else last in
+        let three : Option Asked = if bytes_eq name (codes "rehearse") then rehearse_asked rows else two in
+        let four : Option Asked = if bytes_eq name (codes "setenv") then Some (set_asked called rows) else three in
+        let last-fit = either (bytes_eq name (codes "causes")) (causes_asked rows) None caused tt in
+        let two-fit = either (bytes_eq name (codes "endings")) (endings_asked rows) last ended last-fit in
+        let three-fit = either (bytes_eq name (codes "rehearse")) (rehearse_asked rows) two rehearsed two-fit in
+        let four-fit = either (bytes_eq name (codes "setenv")) (Some (set_asked called rows)) three set three-fit in
+        either (bytes_eq name (codes "printenv")) (Some (print_asked rows)) four printed four-fit
 
 -- what was asked for is complete
 pub answer-complete : (called : CalledAs) (words : List Text) (ask : Ask) → Answers called words (Ok ask) → IsComplete ask
@@ -138,5 +151,6 @@ answer-complete called words (Print origin what order one_copy) h =
 answer-complete called words (Setenv origin change order one_copy) h = tt
 answer-complete called words (Rehearse origin list what order) h = tt
 answer-complete called words (Endings origin list what order) h = tt
+answer-complete called words (Causes origin list what order) h = tt
 answer-complete called words (Help text) h = tt
 answer-complete called words Version h = tt

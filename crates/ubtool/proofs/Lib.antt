@@ -1,7 +1,9 @@
 pub mod ImageRehearsalLemmas
 pub mod GivenLemmas
 pub mod ImageEndingsLemmas
+pub mod ImageCausesLemmas
 pub mod AskLemmas
 pub mod RehearseLemmas
 pub mod EndingsLemmas
+pub mod CausesLemmas
 mod LockExamples

@@ -4,11 +4,13 @@ pub mod BoardEnvironment
 pub mod Headline
 pub mod Refusing
 pub mod EndingsOfImages
+pub mod CausesOfImages
 pub mod Performing
 pub mod Locking
 pub mod WholeProgram
 pub mod RehearsingFiles
 pub mod EndingsOfFiles
+pub mod CausesOfFiles
 pub use Rattle.tool_images.specs.ChangingImages
 pub use Rattle.tool_images.specs.PrintingImages
 pub use Rattle.tool_words.specs.Asked

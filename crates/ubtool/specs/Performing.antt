@@ -3,7 +3,7 @@
 use Rattle.std.specs.Prelude.{◌≡◌, ◌⊎◌, ℕ, Bool, true, false, List, codes, length, map, Option, Result, Ok, Err, string_bytes}
 use Rattle.envimage.specs.declared.image.ByteOrder.{ByteOrder}
 use Rattle.tool_words.specs.declared.ask.Ask.{Ask}
-use Rattle.tool_words.specs.declared.ask.Ask.TheVariants.{Endings, Help, Print, Rehearse, Setenv, Version}
+use Rattle.tool_words.specs.declared.ask.Ask.TheVariants.{Causes, Endings, Help, Print, Rehearse, Setenv, Version}
 use Rattle.tool_words.specs.declared.ask.Change.{Change}
 use Rattle.tool_words.specs.declared.ask.Origin.{Origin}
 use Rattle.tool_words.specs.CommandAnswers.{origin_shown}
@@ -18,6 +18,7 @@ use Rattle.ubtool.specs.Locking.{LocksFor}
 use Rattle.tool_steps.specs.Builds.{version_line}
 use Rattle.tool_steps.specs.Showing.{Shows}
 use Rattle.tool_steps.specs.declared.build.Build.{Build}
+use Rattle.ubtool.specs.CausesOfFiles.{TellsCausesFrom}
 use Rattle.ubtool.specs.EndingsOfFiles.{TellsFrom}
 use Rattle.tool_steps.specs.PrintingFiles.{LeavesOutputs, PrintsFrom}
 use Rattle.ubtool.specs.RehearsingFiles.{LeavesOutput, RehearsesFrom}
@@ -86,6 +87,11 @@ Does program build input (Rehearse origin device_list what order) before after o
 Does program build input (Endings origin device_list what order) before after outputs result =
     IfTold before after (λ old new.
     TellsFrom order (origin_shown origin) (string_bytes device_list) what outputs.out outputs.out' old new result)
+    × LeavesOutput result outputs.out outputs.out'
+    × (outputs.err' ≡ outputs.err)
+Does program build input (Causes origin device_list what order) before after outputs result =
+    IfTold before after (λ old new.
+    TellsCausesFrom order (origin_shown origin) (string_bytes device_list) what outputs.out outputs.out' old new result)
     × LeavesOutput result outputs.out outputs.out'
     × (outputs.err' ≡ outputs.err)
 Does program build input (Help text) before after outputs result =

@@ -2,8 +2,10 @@
 #![tactic(auto)]
 
 mod board_environment;
+mod causes;
 mod endings;
 mod fault;
+mod image_causes;
 mod image_endings;
 mod image_rehearsal;
 mod perform;
@@ -15,6 +17,7 @@ mod tool;
 pub use envimage::{ByteOrder, Which};
 pub use envtools::PrintForm;
 pub use fault::ProgramFault;
+pub use image_causes::causes_bytes;
 pub use image_endings::endings_bytes;
 pub use image_rehearsal::rehearse_bytes;
 pub use output::{Out, OutFault, Over};
@@ -25,5 +28,6 @@ pub use tool_files::{FileFault, Files};
 pub use tool_images as images;
 pub use tool_images::{Edit, ToolError, print_bytes, set_bytes};
 pub use tool_words::{
-    Ask, Change, EndingsAsk, Origin, OriginError, PrintAsk, RehearseAsk, UseError, read_command,
+    Ask, CausesAsk, Change, EndingsAsk, Origin, OriginError, PrintAsk, RehearseAsk, UseError,
+    read_command,
 };

@@ -4,6 +4,7 @@ ghost use Rattle.ubtool.specs.Performing.{Counts, Does, IsComplete};
 ghost use Rattle.tool_steps.specs.Running.{files_shown};
 ghost use Rattle.ubtool.specs.Locking.{LocksFor};
 
+use crate::causes::causes;
 use crate::endings::endings;
 use crate::fault::ProgramFault;
 use crate::rehearsing::rehearse;
@@ -18,7 +19,8 @@ use tool_words::Ask;
 /// Does what is asked for. Takes the lock for a change, before its first read, and for nothing else. If
 /// the lock is refused, no file is touched.
 /// A script of changes may be on `input`, and the version names `build`. What is reported meanwhile has
-/// the name `program` in front. Returns false if a variable that was to be printed is missing.
+/// the name `program` in front. Returns false if a variable that was to be printed is missing,
+/// or if a check of the causes finds what does not boot.
 pub fn perform<R: Read, F: Files, O: Out, E: Out>(
     alloc: Global,
     program: &str,
@@ -77,6 +79,12 @@ pub fn perform<R: Read, F: Files, O: Out, E: Out>(
             what,
             order,
         } => endings(alloc, files, origin, devices_file, what, order, out),
+        Ask::Causes {
+            origin,
+            devices_file,
+            what,
+            order,
+        } => causes(alloc, files, origin, devices_file, what, order, out),
         Ask::Help(text) => Ok(show_help(out, &text)?),
         Ask::Version => Ok(show_version(out, PROGRAM, build)?),
     }

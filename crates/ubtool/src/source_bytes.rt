@@ -1,4 +1,4 @@
-//! The bytes of the files that were read, as a rehearsal and the endings take them.
+//! The bytes of the files that were read, as a rehearsal, the endings and the causes take them.
 ghost use Rattle.std.specs.Prelude.{◌≡◌};
 ghost use Rattle.std.specs.Option.{option_copied};
 ghost use Rattle.tool_steps.specs.Images.{copies};

@@ -51,10 +51,11 @@ fn run_words<S: AsStr, R: Read, F: Files, O: Out, E: Out>(
 /// The whole program, from what it was called as and its words to its status. Without words it
 /// prints the single image on `input`, whose checksum is little-endian. If the program was called
 /// as one of U-Boot's tools, the script of `-s -` is read from `input`. The version names `build`.
-/// The status is 0 if all was done, 1 if something was refused or a variable to be printed is
-/// missing, and 2 if the words were not understood. A fault is reported on `err` in one line, with
-/// the name that the program was called by in front. If `err` fails, nothing more is written there.
-/// A change is made under the lock, and nothing else takes it.
+/// The status is 0 if all was done, 1 if something was refused, a variable to be printed is missing
+/// or a check of the causes found what does not boot, and 2 if the words were not understood. A
+/// fault is reported on `err` in one line, with the name that the program was called by in front. If
+/// `err` fails, nothing more is written there. A change is made under the lock, and nothing else
+/// takes it.
 pub fn run_tool<S: AsStr, R: Read, F: Files, O: Out, E: Out>(
     alloc: Global,
     build: Build,

@@ -1,0 +1,17 @@
+use Rattle.std.proofs.Common.{[], ap, subst, List, ℕ}
+use Rattle.std.specs.Option.{option_copied}
+use Rattle.ubtool.specs.CausesOfFiles.{TellsCausesOfCopies}
+use Rattle.ubtool.specs.Given.{Given, all_runs}
+use Rattle.ubtool.proofs.CausesLemmas.{causes-told}
+use Rattle.ubtool.proofs.GivenLemmas.{given-same}
+use Rattle.ubtool.proofs.causes.causes_of_sources.Goals as goal
+
+pub returns : goal.returns
+returns g c =
+    let out = g.O.Out.sink c.args.out.now in
+    let out' = g.O.Out.sink c.causes_bytes.new.out in
+    let what = c.args.what.now in
+    let read = c.bytes_of-bytes.result in
+    let asking = ap (λ (name : List ℕ). all_runs name what.bounds []) c.as_bytes.ensures.value in
+    let same = given-same c.args.order read.first.now _ (option_copied read.second) _ read.device_list.now _ _ _ c.bytes_of-bytes.ensures.first c.bytes_of-bytes.ensures.second c.bytes_of-bytes.ensures.device_list asking in
+    subst (λ (x : Given). TellsCausesOfCopies x what.check out out' c.causes_bytes.result) same (causes-told _ what.check out out' c.causes_bytes.result c.causes_bytes.ensures.ok c.causes_bytes.ensures.err)

@@ -1,0 +1,88 @@
+//! `causes`, from files to the lines.
+ghost use Rattle.std.specs.Prelude.{◌≡◌, string_bytes};
+ghost use Rattle.tool_files.specs.Told.{IfTold};
+ghost use Rattle.ubtool.specs.CausesOfFiles.{TellsCausesFrom, TellsCausesOfCopies, causes_refusal, runs_asked};
+ghost use Rattle.ubtool.specs.Given.{given_by};
+ghost use Rattle.ubtool.specs.Faults.{CountsShared};
+ghost use Rattle.tool_steps.specs.Images.{copies};
+ghost use Rattle.ubtool.specs.RehearsingFiles.{LeavesOutput};
+ghost use Rattle.tool_words.specs.CommandAnswers.{origin_shown};
+
+use crate::fault::ProgramFault;
+use crate::image_causes::causes_bytes;
+use crate::rehearsal_error::RehearsalError;
+use crate::source_bytes::bytes_of;
+use envimage::ByteOrder;
+use output::Out;
+use rehearse_rules::RehearseError;
+use std::alloc::Global;
+use tool_files::Files;
+use tool_images::WordForm;
+use tool_steps::{Sources, read_sources};
+use tool_words::{CausesAsk, Origin};
+
+/// How a refusal of the causes is reported.
+fn refusal_of(error: RehearsalError, what: CausesAsk) -> ProgramFault
+    ensures { result ≡ causes_refusal what error }
+{
+    match error {
+        RehearsalError::Rehearsal(RehearseError::NoSuchVariable) => {
+            ProgramFault::NoSuchVariable(WordForm(what.name))
+        }
+        error => error.into(),
+    }
+}
+
+/// Reports what has to fail for each ending of a variable of what was read.
+fn causes_of_sources<O: Out>(
+    alloc: Global,
+    sources: &Sources,
+    order: ByteOrder,
+    what: &CausesAsk,
+    out: &mut O,
+) -> Result<bool, RehearsalError>
+    ensures { TellsCausesOfCopies (given_by order (copies sources.now.images)
+        sources.now.device_list.items (runs_asked what.now)) what.now.check
+        (O.sink out.old) (O.sink out.new) result }
+{
+    let ask = rehearse_causes::CausesAsk {
+        name: what.name.as_bytes(),
+        bounds: what.bounds,
+        check: what.check,
+    };
+    let bytes = bytes_of(sources);
+    causes_bytes(
+        alloc,
+        bytes.first,
+        bytes.second,
+        order,
+        bytes.device_list,
+        &ask,
+        out,
+    )
+}
+
+/// Reports what has to fail for each ending of a variable of images. Reads the images, then the
+/// device list, and then writes the lines. Returns true, or in a check whether nothing was written.
+pub fn causes<F: Files, O: Out>(
+    alloc: Global,
+    files: &mut F,
+    origin: Origin,
+    device_list: String,
+    what: CausesAsk,
+    order: ByteOrder,
+    out: &mut O,
+) -> Result<bool, ProgramFault>
+    ensures count { CountsShared (F.faults files.old) (F.faults files.new) result }
+    ensures lock { F.locked files.new ≡ F.locked files.old }
+    ensures told { IfTold (F.told files.old) (F.told files.new) (λ old new.
+        TellsCausesFrom order (origin_shown origin) (string_bytes device_list) what
+        (O.sink out.old) (O.sink out.new) old new result) }
+    ensures output { LeavesOutput result (O.sink out.old) (O.sink out.new) }
+{
+    let sources = read_sources(alloc, files, origin, device_list)?;
+    match causes_of_sources(alloc, &sources, order, &what, out) {
+        Ok(fine) => Ok(fine),
+        Err(error) => Err(refusal_of(error, what)),
+    }
+}
