@@ -4,3 +4,6 @@ pub mod SettingLemmas
 pub mod ImageLemmas
 pub mod LineLemmas
 pub mod SpareLemmas
+pub mod DumpLemmas
+mod DumpExamples
+pub mod TextLemmas

@@ -4,3 +4,5 @@ pub mod PrintingImages
 pub mod ChangingImages
 pub mod FileFaults
 pub mod FaultLines
+pub mod Dump
+pub mod TextImages

@@ -3,6 +3,7 @@
 use crate::error::ToolError;
 use crate::word_form::WordForm;
 use envimage::ConfigError;
+use envtools::TextError;
 use thiserror::Error;
 use tool_files::{FileFault, LockFault};
 
@@ -15,6 +16,12 @@ pub enum Fault {
     /// A call from bytes to bytes was refused, for a reason other than memory.
     #[error("{0}")]
     Tool(ToolError),
+    /// The text of variables was refused, for a reason other than memory.
+    #[error("{0}")]
+    Text(TextError),
+    /// The variables of the text do not fit an image.
+    #[error("environment is too large")]
+    TextTooLarge,
     /// The lock is refused.
     #[error("{0}")]
     Lock(LockFault),

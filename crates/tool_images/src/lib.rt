@@ -2,12 +2,14 @@
 #![tactic(auto)]
 
 mod change;
+mod dump;
 mod error;
 mod fault;
 mod fault_line;
 mod image_env;
 mod print;
 mod standard_input;
+mod text_image;
 mod word_form;
 
 pub use change::{Edit, set_bytes};
@@ -17,4 +19,5 @@ pub use fault_line::write_fault_of;
 pub use image_env::env_of_image;
 pub use print::{PrintAsk, print_bytes};
 pub use standard_input::run_input;
+pub use text_image::{env_of_text, image_of_text};
 pub use word_form::WordForm;
