@@ -2,7 +2,8 @@ pub mod ArgumentLemmas
 pub mod MadeLemmas
 pub mod EntryLemmas
 pub mod AnswerLemmas
-mod CommandLineExamples
+pub mod CommandLineExamples
+mod TextExamples
 pub mod CalledLemmas
 mod CalledExamples
 mod LongForms

@@ -11,7 +11,7 @@ use Rattle.envimage.specs.declared.image.ByteOrder.{ByteOrder}
 use Rattle.envimage.specs.declared.image.ByteOrder.TheVariants.{Big, Little}
 use Rattle.envtools.specs.declared.print_form.PrintForm.{PrintForm}
 use Rattle.tool_words.specs.declared.ask.OriginError.{OriginError}
-use Rattle.tool_words.specs.declared.ask.OriginError.TheVariants.{ImageAndConfig, SecondNeedsImage, SecondAndOneCopy}
+use Rattle.tool_words.specs.declared.ask.OriginError.TheVariants.{ImageAndConfig, SecondNeedsImage, SecondAndOneCopy, TextAlone}
 use Rattle.tool_words.specs.declared.called.CalledAs.{CalledAs}
 use Rattle.tool_words.specs.Called.{is_tool}
 use Rattle.rehearse_terms.specs.Asking.{Asking, Wanted, Listed, Alone}
@@ -21,11 +21,12 @@ use Rattle.rehearse_terms.specs.declared.shell.Shell.{Shell}
 use Rattle.rehearse_terms.specs.declared.shell.Shell.TheVariants.{Old2023, Old2025, Profile}
 use Rattle.tool_words.specs.CommandLine.{most_cause_failures, most_failures, most_records, most_states}
 
--- what names the images: a configuration, or files, of which each is one whole copy: a single image, or the two copies
--- of a pair
+-- what names the images: a configuration; or files, of which each is one whole copy: a single image, or the two copies
+-- of a pair; or a text of variables, of which an image is made, whose CRC is stored so
 pub data OriginShown : Type 0 where
   configured : (config : Text) → OriginShown
   whole : (first : Text) → (second : Option Text) → OriginShown
+  texts : (path : Text) → (order : ByteOrder) → OriginShown
 
 -- what `endings` is asked for
 pub record Endings : Type 0 where
@@ -125,9 +126,20 @@ named_by None (Some image) None one_copy = Ok (whole image None)
 named_by None (Some image) (Some second) one_copy =
     if one_copy then Err SecondAndOneCopy else Ok (whole image (Some second))
 
-abbrev pub origin_asked : List Row → Result OriginShown OriginError
-origin_asked rows = named_by (first_of (codes "config") rows) (first_of (codes "image") rows)
+-- no text names them
+abbrev pub images_asked : List Row → Result OriginShown OriginError
+images_asked rows = named_by (first_of (codes "config") rows) (first_of (codes "image") rows)
     (first_of (codes "second") rows) (one_copy rows)
+
+-- from the text, the configuration, the image and the second copy that are given: a text takes none of the others
+abbrev pub named_in : (text config image second : Option Text) → ByteOrder → (one_copy : Bool) → Result OriginShown OriginError
+named_in None config image second order one_copy = named_by config image second one_copy
+named_in (Some path) None None None order one_copy = Ok (texts path order)
+named_in (Some path) config image second order one_copy = Err TextAlone
+
+abbrev pub origin_asked : List Row → Result OriginShown OriginError
+origin_asked rows = named_in (first_of (codes "text") rows) (first_of (codes "config") rows)
+    (first_of (codes "image") rows) (first_of (codes "second") rows) (order_of rows) (one_copy rows)
 
 -- what is asked of the images that are named, or the refusal of their names
 abbrev pub of_images : Result OriginShown OriginError → (OriginShown → Asked) → Asked
@@ -164,9 +176,9 @@ script_asked called path origin order one_copy =
 -- from the script and the name that were given
 abbrev pub change_asked : CalledAs → Option Text → Option Text → List Row → Asked
 change_asked called (Some script) None rows =
-    of_images (origin_asked rows) (λ origin. script_asked called script origin (order_of rows) (one_copy rows))
+    of_images (images_asked rows) (λ origin. script_asked called script origin (order_of rows) (one_copy rows))
 change_asked called (Some script) (Some name) rows = script_and_name
-change_asked called None (Some name) rows = of_images (origin_asked rows) (λ origin.
+change_asked called None (Some name) rows = of_images (images_asked rows) (λ origin.
     setting origin name (values_of (codes "values") rows) (order_of rows) (one_copy rows))
 change_asked called None None rows = needs_name
 

@@ -13,7 +13,7 @@ use Rattle.tool_words.specs.declared.ask.Change.TheVariants.{Input, One, Script}
 use Rattle.tool_words.specs.declared.ask.EndingsAsk.{EndingsAsk}
 use Rattle.tool_words.specs.declared.called.CalledAs.{CalledAs}
 use Rattle.tool_words.specs.declared.ask.Origin.{Origin}
-use Rattle.tool_words.specs.declared.ask.Origin.TheVariants.{Config, Files}
+use Rattle.tool_words.specs.declared.ask.Origin.TheVariants as named
 use Rattle.tool_words.specs.declared.ask.OriginError.{OriginError}
 use Rattle.tool_words.specs.declared.ask.RehearseAsk.{RehearseAsk}
 use Rattle.tool_words.specs.declared.ask.UseError.{UseError}
@@ -21,7 +21,7 @@ use Rattle.rehearse_terms.specs.declared.wanted.Wanted.{Wanted}
 use Rattle.tool_words.specs.declared.ask.UseError.TheVariants.{Line, LockNeedsFolder, NeedName, ScriptAndName, HeaderNeedsOne, Memory, Misnamed, TooManyDevices, WordAlone}
 use Rattle.tool_words.specs.Answered.{IsAccepted, IsMistaken}
 use Rattle.tool_words.specs.Asked as what
-use Rattle.tool_words.specs.Asked.{Asked, WantedAsked, OriginShown, asked_of, causing, configured, ending, input_scripted, lock_of, printing, setting, scripted, rehearsing, lock_needs_folder, needs_name, script_and_name, header_needs_one, misnamed, too_many_devices, whole, word_alone}
+use Rattle.tool_words.specs.Asked.{Asked, WantedAsked, OriginShown, asked_of, causing, configured, ending, input_scripted, lock_of, printing, setting, scripted, rehearsing, lock_needs_folder, needs_name, script_and_name, header_needs_one, misnamed, texts, too_many_devices, whole, word_alone}
 use Rattle.tool_words.specs.CommandLine.{ubtool}
 use Rattle.rehearse_terms.specs.WantedShown.{wanted_bounds, wanted_strings}
 use Rattle.rehearse_terms.specs.Asking.{Asking}
@@ -51,8 +51,9 @@ causes_of c = record {
 }
 
 abbrev pub origin_shown : Origin → OriginShown
-origin_shown (Config config) = configured (string_bytes config)
-origin_shown (Files first second) = whole (string_bytes first) (option_map string_bytes second)
+origin_shown (named.Config config) = configured (string_bytes config)
+origin_shown (named.Files first second) = whole (string_bytes first) (option_map string_bytes second)
+origin_shown (named.Text path order) = texts (string_bytes path) order
 
 abbrev pub change_of : OriginShown → Change → ByteOrder → (one_copy : Bool) → Asked
 change_of origin (One name words) order one_copy =

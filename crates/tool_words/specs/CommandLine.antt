@@ -32,6 +32,10 @@ image = lettered_option (codes "image") (letter (codes "i"))
 abbrev pub second : Rule
 second = long_option (codes "second")
 
+-- `--text FILE`, in place of images
+abbrev pub text_file : Rule
+text_file = long_option (codes "text")
+
 abbrev pub big_endian : Rule
 big_endian = long_flag (codes "big-endian")
 
@@ -61,7 +65,7 @@ names = many (codes "names")
 
 abbrev pub printenv : App
 printenv = command (codes "printenv")
-    (config ∷ image ∷ second ∷ big_endian ∷ lock ∷ one_copy ∷ no_header ∷ null ∷ escaped ∷ names ∷ [])
+    (config ∷ image ∷ second ∷ text_file ∷ big_endian ∷ lock ∷ one_copy ∷ no_header ∷ null ∷ escaped ∷ names ∷ [])
 
 -- `-s FILE`, `[NAME]` and `[VALUE]..`
 abbrev pub script : Rule
@@ -110,7 +114,7 @@ limit = number_option (codes "limit") 1 most_records
 
 abbrev pub rehearse : App
 rehearse = command (codes "rehearse")
-    (config ∷ image ∷ second ∷ big_endian ∷ device_list ∷ variable ∷ devices ∷ steps ∷ shell ∷ word ∷ failures ∷ after ∷ limit ∷ names ∷ [])
+    (config ∷ image ∷ second ∷ text_file ∷ big_endian ∷ device_list ∷ variable ∷ devices ∷ steps ∷ shell ∷ word ∷ failures ∷ after ∷ limit ∷ names ∷ [])
 
 -- how many states may be searched, and the greatest number of them that can be allowed
 abbrev pub most_states : ℕ
@@ -125,7 +129,7 @@ flow = long_flag (codes "flow")
 
 abbrev pub endings : App
 endings = command (codes "endings")
-    (config ∷ image ∷ second ∷ big_endian ∷ device_list ∷ variable ∷ devices ∷ steps ∷ shell ∷ states ∷ flow ∷ names ∷ [])
+    (config ∷ image ∷ second ∷ text_file ∷ big_endian ∷ device_list ∷ variable ∷ devices ∷ steps ∷ shell ∷ states ∷ flow ∷ names ∷ [])
 
 -- how many device commands may fail in a run that `causes` looks at, and the greatest number of them that can be allowed
 abbrev pub most_cause_failures : ℕ
@@ -140,7 +144,7 @@ check = long_flag (codes "check")
 
 abbrev pub causes : App
 causes = command (codes "causes")
-    (config ∷ image ∷ second ∷ big_endian ∷ device_list ∷ variable ∷ devices ∷ steps ∷ shell ∷ cause_failures ∷ check ∷ [])
+    (config ∷ image ∷ second ∷ text_file ∷ big_endian ∷ device_list ∷ variable ∷ devices ∷ steps ∷ shell ∷ cause_failures ∷ check ∷ [])
 
 -- the program, which has no words of its own; its version can be asked for at each subcommand too
 abbrev pub base : App

@@ -109,6 +109,13 @@ pub enum Origin {
         /// The path of the second copy of a pair.
         second: Option<String>,
     },
+    /// A text of variables, of which an image is made. `setenv` has none.
+    Text {
+        /// Its path.
+        path: String,
+        /// How the image's CRC is stored.
+        order: ByteOrder,
+    },
 }
 
 /// Why the words that name the images are refused.
@@ -123,6 +130,9 @@ pub enum OriginError {
     /// One copy of a pair is enough, but the pair is two whole files.
     #[error("--second takes no --one-copy")]
     SecondAndOneCopy,
+    /// A text is named, and a configuration or an image too.
+    #[error("--text takes no -c, no -i and no --second")]
+    TextAlone,
 }
 
 /// What `printenv` is to print.

@@ -26,8 +26,8 @@ pub use ask::{
 };
 pub use called::{CalledAs, called_as, words_called};
 pub use command::ubtool;
-pub use origin::origin_of;
+pub use origin::{images_of, origin_of};
 pub use read::{config_of, is_set, order_of, read_command, read_lock, text_of, texts_of};
-pub use shared::{BIG_ENDIAN, CONFIG, DEVICE_LIST, IMAGE, NAMES, SECOND};
+pub use shared::{BIG_ENDIAN, CONFIG, DEVICE_LIST, IMAGE, NAMES, SECOND, TEXT};
 pub use tables::{CAUSE_FAILURES_MAX, FAILURES_MAX};
 pub use version::VERSION;

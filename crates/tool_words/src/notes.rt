@@ -28,11 +28,15 @@ image, two for the copies of a redundant pair. Offset and size are bytes. The
 offset is decimal, hexadecimal after 0x or octal after 0; the size is
 hexadecimal, at most 100000 (1048576 bytes).
 
+A text has a line NAME=VALUE for each variable, as mkenvimage reads it. Or it is
+what U-Boot's printenv wrote to its console, up to the line of the size.
+
 Examples:
   ubtool printenv
   ubtool printenv bootcmd bootdelay
   ubtool printenv -n serverip
   ubtool printenv -c fw_env.config --big-endian
+  ubtool printenv --text env.txt
 ";
 
 /// The same as `PRINTENV_NOTES`, with examples of the tool.
@@ -46,11 +50,15 @@ image, two for the copies of a redundant pair. Offset and size are bytes. The
 offset is decimal, hexadecimal after 0x or octal after 0; the size is
 hexadecimal, at most 100000 (1048576 bytes).
 
+A text has a line NAME=VALUE for each variable, as mkenvimage reads it. Or it is
+what U-Boot's printenv wrote to its console, up to the line of the size.
+
 Examples:
   fw_printenv
   fw_printenv bootcmd bootdelay
   fw_printenv -n serverip
   fw_printenv -c fw_env.config --big-endian
+  fw_printenv --text env.txt
 ";
 
 pub(crate) const SETENV_NOTES: &str = "\
@@ -115,6 +123,7 @@ Examples:
   ubtool rehearse -d devices.txt -b altbootcmd --failures 1 bootargs fdtfile
   ubtool rehearse -d devices.txt --limit 20 --after 0110
   ubtool rehearse -d devices.txt --word 0110 bootargs
+  ubtool rehearse --text env.txt -d devices.txt
 ";
 
 pub(crate) const ENDINGS_NOTES: &str = "\
@@ -153,6 +162,7 @@ Examples:
   ubtool endings -c fw_env.config -d devices.txt --states 5000000
   ubtool endings -d devices.txt --flow
   ubtool endings -d devices.txt bootargs
+  ubtool endings --text env.txt -d devices.txt
 ";
 
 pub(crate) const CAUSES_NOTES: &str = "\

@@ -1,12 +1,13 @@
 //! Reads what names the images of a call.
 ghost use Rattle.std.specs.Prelude.{◌≡◌, option_map, string_bytes};
 ghost use Rattle.clap.specs.Words.{found_of, rows_of};
-ghost use Rattle.tool_words.specs.Asked.{named_by, origin_asked};
+ghost use Rattle.tool_words.specs.Asked.{images_asked, named_by, named_in, origin_asked};
 ghost use Rattle.tool_words.specs.CommandAnswers.{SaysOrigin};
 
 use crate::ask::{DEFAULT_CONFIG, Origin, OriginError, UseError};
-use crate::read::{is_set, text_of};
+use crate::read::{is_set, order_of, text_of};
 use clap::ArgMatches;
+use envimage::ByteOrder;
 use std::alloc::Global;
 
 /// What names the images, from the configuration, the image and the second copy that are given, and whether
@@ -33,13 +34,54 @@ fn named_by(
     }
 }
 
-/// What names the images: the configuration, the usual one if none is given, or one file or two. Errors:
-/// `ImageAndConfig`, `SecondNeedsImage` and `SecondAndOneCopy`, each a `Misnamed`; `Memory`.
-pub fn origin_of(alloc: Global, matches: &ArgMatches<'_>) -> Result<Origin, UseError>
-    ensures { SaysOrigin (origin_asked (rows_of (found_of matches.now))) result }
+/// The same, where a text may be given in place of them, with the byte order of the image that is made of it.
+fn named_in(
+    alloc: Global,
+    text: Option<String>,
+    config: Option<String>,
+    image: Option<String>,
+    second: Option<String>,
+    order: ByteOrder,
+    one_copy: bool,
+) -> Result<Origin, UseError>
+    ensures { SaysOrigin (named_in (option_map string_bytes text) (option_map string_bytes config)
+        (option_map string_bytes image) (option_map string_bytes second) order one_copy) result }
+{
+    match (text, config, image, second) {
+        (None, config, image, second) => named_by(alloc, config, image, second, one_copy),
+        (Some(path), None, None, None) => Ok(Origin::Text { path, order }),
+        (Some(_), _, _, _) => Err(UseError::Misnamed(OriginError::TextAlone)),
+    }
+}
+
+/// What names the images, and no text: the configuration, the usual one if none is given, or one file or two.
+/// Errors: `ImageAndConfig`, `SecondNeedsImage` and `SecondAndOneCopy`, each a `Misnamed`; `Memory`.
+pub fn images_of(alloc: Global, matches: &ArgMatches<'_>) -> Result<Origin, UseError>
+    ensures { SaysOrigin (images_asked (rows_of (found_of matches.now))) result }
 {
     let config = text_of(alloc, matches, "config")?;
     let image = text_of(alloc, matches, "image")?;
     let second = text_of(alloc, matches, "second")?;
     named_by(alloc, config, image, second, is_set(matches, "one-copy"))
+}
+
+/// What names the images: a text, or what `images_of` finds. Errors: those of `images_of`, and `TextAlone`, a
+/// `Misnamed`.
+pub fn origin_of(alloc: Global, matches: &ArgMatches<'_>) -> Result<Origin, UseError>
+    ensures { SaysOrigin (origin_asked (rows_of (found_of matches.now))) result }
+{
+    let text = text_of(alloc, matches, "text")?;
+    let config = text_of(alloc, matches, "config")?;
+    let image = text_of(alloc, matches, "image")?;
+    let second = text_of(alloc, matches, "second")?;
+    let one_copy = is_set(matches, "one-copy");
+    named_in(
+        alloc,
+        text,
+        config,
+        image,
+        second,
+        order_of(matches),
+        one_copy,
+    )
 }

@@ -16,7 +16,7 @@ use crate::ask::{
     EndingsAsk, PrintAsk, RehearseAsk, UseError,
 };
 use crate::called::CalledAs;
-use crate::origin::origin_of;
+use crate::origin::{images_of, origin_of};
 use crate::shell::{shell_of, unnamed, wanted_in_shell};
 use crate::{CAUSE_FAILURES_MAX, FAILURES_MAX, ubtool};
 use clap::ArgMatches;
@@ -202,7 +202,7 @@ fn set_ask(alloc: Global, called: CalledAs, matches: &ArgMatches<'_>) -> Result<
         (None, None) => return Err(UseError::NeedName),
     };
     Ok(Ask::Setenv {
-        origin: origin_of(alloc, matches)?,
+        origin: images_of(alloc, matches)?,
         change,
         order: order_of(matches),
         one_copy: is_set(matches, "one-copy"),

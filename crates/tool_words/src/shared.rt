@@ -35,6 +35,17 @@ pub const SECOND: Argument<'static> = Argument {
     help: "Second copy of a redundant pair, beside -i: the whole FILE [default: none]",
 };
 
+/// The option that names a text of variables, which no call that changes an image has.
+pub const TEXT: Argument<'static> = Argument {
+    id: "text",
+    form: Form::Value,
+    letter: None,
+    alias: None,
+    required: false,
+    value: "FILE",
+    help: "Text for mkenvimage, at most 1048576 bytes, in place of -c [default: none]",
+};
+
 /// The flag for a checksum that is stored big-endian.
 pub const BIG_ENDIAN: Argument<'static> = Argument {
     id: "big-endian",

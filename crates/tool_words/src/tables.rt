@@ -5,7 +5,7 @@ use crate::notes::{
     CAUSES_NOTES, ENDINGS_NOTES, FW_PRINTENV_NOTES, FW_SETENV_NOTES, PRINTENV_NOTES,
     REHEARSE_NOTES, SETENV_NOTES,
 };
-use crate::shared::{BIG_ENDIAN, CONFIG, DEVICE_LIST, IMAGE, NAMES, SECOND};
+use crate::shared::{BIG_ENDIAN, CONFIG, DEVICE_LIST, IMAGE, NAMES, SECOND, TEXT};
 use crate::subcommand::{Subcommand, Tool};
 use rehearse_terms::{RUN_DEVICES_MAX, STEPS_MAX};
 
@@ -70,10 +70,11 @@ const ESCAPED: Argument<'static> = Argument {
     help: "Print newlines as \\n and other bytes by their digits [default: as they are]",
 };
 
-const PRINTENV: [Argument<'static>; 10] = [
+const PRINTENV: [Argument<'static>; 11] = [
     CONFIG,
     IMAGE,
     SECOND,
+    TEXT,
     BIG_ENDIAN,
     LOCK,
     ONE_COPY,
@@ -213,10 +214,11 @@ const LIMIT: Argument<'static> = Argument {
     help: "At most N records, 1 to 4294967295 [default: all]",
 };
 
-const REHEARSE: [Argument<'static>; 14] = [
+const REHEARSE: [Argument<'static>; 15] = [
     CONFIG,
     IMAGE,
     SECOND,
+    TEXT,
     BIG_ENDIAN,
     DEVICE_LIST,
     VARIABLE,
@@ -253,10 +255,11 @@ const FLOW: Argument<'static> = Argument {
     help: "Write the states as a graph, a line each",
 };
 
-const ENDINGS: [Argument<'static>; 12] = [
+const ENDINGS: [Argument<'static>; 13] = [
     CONFIG,
     IMAGE,
     SECOND,
+    TEXT,
     BIG_ENDIAN,
     DEVICE_LIST,
     VARIABLE,
@@ -287,10 +290,11 @@ const CHECK: Argument<'static> = Argument {
     help: "Only what does not boot; status 1 if there is any",
 };
 
-const CAUSES: [Argument<'static>; 11] = [
+const CAUSES: [Argument<'static>; 12] = [
     CONFIG,
     IMAGE,
     SECOND,
+    TEXT,
     BIG_ENDIAN,
     DEVICE_LIST,
     VARIABLE,

@@ -1,1 +1,0 @@
-use Rattle.tool_words.proofs.subcommand.described.Goals as goal
