@@ -1,5 +1,5 @@
 -- Texts whose last line is cut off, in worked cases.
-use Rattle.std.proofs.Common.{◌≡◌, List, [], ◌∷◌, ◌++◌, None, Some, ℕ, refl}
+use Rattle.std.proofs.Common.{◌≡◌, [], ◌∷◌, ◌++◌, None, Some, refl}
 use Rattle.std.specs.Prelude.{codes}
 use Rattle.text.specs.Bytes as ascii
 use Rattle.tool_steps.specs.ReadingFiles.{cut_off_line}

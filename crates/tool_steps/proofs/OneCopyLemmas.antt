@@ -20,9 +20,9 @@ use Rattle.tool_images.specs.declared.word_form.WordForm.{WordForm}
 use Rattle.tool_steps.proofs.OriginLemmas.{origin-reads}
 use Rattle.tool_steps.proofs.ReadingLemmas.{copy-reads, images-read, named-reads}
 use Rattle.tool_steps.specs.Faults.{IsReadFault}
-use Rattle.tool_steps.specs.Images.{Copy, HasRead, NamesPlaces, ReadsPlaces, copies, copy_of, second_place}
+use Rattle.tool_steps.specs.Images.{Copy, HasRead, NamesPlaces, ReadsPlaces, copies, copy_of}
 use Rattle.tool_steps.specs.Notes.{MayTell, TellsIf}
-use Rattle.tool_steps.specs.OneCopy.{Finds, FindsEither, FindsImages, FindsPair, HasFound, HasLost, IsLoss, IsSoughtFault, IsUnfound, Joins, LacksImages, LosesBoth, LosesCopy, LosesOne, ReadsBoth, ReadsPair, SeeksCopy, in_its_place}
+use Rattle.tool_steps.specs.OneCopy.{Finds, FindsEither, FindsImages, FindsPair, HasFound, IsLoss, IsSoughtFault, IsUnfound, Joins, LacksImages, LosesBoth, LosesCopy, LosesOne, ReadsBoth, ReadsPair, SeeksCopy, in_its_place}
 use Rattle.tool_steps.specs.Origins.{IsOriginFault, ReadsOrigin}
 use Rattle.tool_steps.specs.ReadingFiles.{IsCopyFault, ReadsCopy, bytes_at, read_of}
 use Rattle.tool_steps.specs.declared.images.Images.{Images}
@@ -30,10 +30,10 @@ use Rattle.tool_steps.specs.declared.one_copy.ImageSource.{ImageSource}
 use Rattle.tool_steps.specs.declared.read.SoughtCopy.{SoughtCopy}
 use Rattle.tool_steps.specs.declared.read.SoughtCopy.TheVariants.{Lost, Read}
 use Rattle.tool_steps.specs.declared.read.StoredCopy.{StoredCopy}
-use Rattle.tool_words.specs.Asked.{OriginShown, configured, whole}
+use Rattle.tool_words.specs.Asked.{OriginShown, configured, texts, whole}
 use Rattle.tool_words.specs.CommandAnswers.{origin_shown}
 use Rattle.tool_words.specs.declared.ask.Origin.{Origin}
-use Rattle.tool_words.specs.declared.ask.Origin.TheVariants.{Config, Files}
+use Rattle.tool_words.specs.declared.ask.Origin.TheVariants.{Config, Files, Text}
 
 -- ---- one copy
 
@@ -165,6 +165,7 @@ all-found program source err old new (Err f) other h = (h.0, why source.one_copy
         → IsUnfound one_copy (origin_shown origin) old new f
     why false origin other h = h
     why true (Files first second) other h = h
+    why true (Text path order) other h = h
     why true (Config config) other h = absurd (other refl config refl)
 
 -- a configuration, if one copy is enough
@@ -235,6 +236,7 @@ one-reads first second lost old new found h =
 finds-reads : (one_copy : Bool) (origin : OriginShown) (lost : Option PlaceShown) (old new : Told) (found : List Copy) → Finds one_copy origin lost old new found → OnlyReads old new
 finds-reads one_copy origin None old new found h = origin-reads origin old new found h
 finds-reads true (whole first second) (Some lost) old new found h = absurd h
+finds-reads true (texts path order) (Some lost) old new found h = absurd h
 finds-reads true (configured config) (Some lost) old new found h =
     OnlyReads-then old h.after_config new (named-reads config old h.after_config (h.first ∷ h.second ∷ []) h.named)
     (one-reads h.first h.second lost h.after_config new found h.loses)

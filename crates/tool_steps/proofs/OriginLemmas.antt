@@ -1,6 +1,6 @@
 -- The images of a call, read by what names them.
-use Rattle.std.proofs.Common.{◌≡◌, ◌≢◌, ◌∙◌, ℕ, refl, sym, ap, subst, List, [], ◌∷◌, ◌++◌, length, append_assoc, Option, Some, None, Ok, Err, inl, inr}
-use Rattle.std.specs.Prelude.{Result, Vec}
+use Rattle.std.proofs.Common.{◌∙◌, ℕ, refl, sym, ap, subst, List, [], ◌∷◌, ◌++◌, append_assoc, Option, Some, None, Ok, Err, inl, inr}
+use Rattle.std.specs.Prelude.{Result}
 use Rattle.tool_files.proofs.OrderLemmas.{OnlyReads-one, OnlyReads-then}
 use Rattle.tool_files.specs.CallOrder.{OnlyReads}
 use Rattle.tool_files.specs.Told.{Stored, Told, file_at}
@@ -9,12 +9,12 @@ use Rattle.tool_files.specs.declared.files.Action.TheVariants.{ReadAll}
 use Rattle.tool_images.specs.declared.fault.Fault.{Fault}
 use Rattle.tool_images.specs.declared.fault.Fault.TheVariants as fault
 use Rattle.tool_steps.proofs.ReadingLemmas.{found-reads}
-use Rattle.tool_steps.specs.Images.{Copy, copies, copy_of}
-use Rattle.tool_steps.specs.Origins.{AreUnequal, HasReadFiles, HasReadImages, IsFilesFault, PairsUp, ReadsFile, ReadsFiles, whole_copy}
+use Rattle.tool_steps.specs.Images.{Copy}
+use Rattle.tool_steps.specs.Origins.{AreUnequal, HasReadFiles, HasReadImages, IsFilesFault, PairsUp, ReadsFile, ReadsFiles}
 use Rattle.tool_steps.specs.ReadingFiles.{IsTextFault}
 use Rattle.tool_steps.specs.declared.images.Images.{Images}
 use Rattle.tool_steps.specs.declared.read.StoredCopy.{StoredCopy}
-use Rattle.tool_words.specs.Asked.{OriginShown, configured, whole}
+use Rattle.tool_words.specs.Asked.{OriginShown, configured, texts, whole}
 
 -- ---- each of them only reads
 
@@ -28,6 +28,7 @@ files-read first (Some second) old new found h = record { reads = (first, ReadAl
 pub origin-reads : (origin : OriginShown) (old new : Told) (found : List Copy) → HasReadImages origin old new found → OnlyReads old new
 origin-reads (configured config) old new found h = found-reads config old new found h
 origin-reads (whole first second) old new found h = files-read first second old new found h
+origin-reads (texts path order) old new found h = OnlyReads-one path ReadAll old new refl h.calls h.stored
 
 -- ---- a single image
 

@@ -1,6 +1,6 @@
 -- Reading, changing and writing one after another.
 use Rattle.std.proofs.Common.{◌≡◌, ◌∙◌, ℕ, Bool, true, false, refl, sym, subst, List, [], Option, Ok, Err, inl, inr, append-nil}
-use Rattle.std.specs.Prelude.{IfErr, Result, Vec, string_bytes}
+use Rattle.std.specs.Prelude.{IfErr, Result, Vec}
 use Rattle.std.specs.declared.alloc.Global.{Global}
 use Rattle.envimage.specs.Config.{PlaceShown}
 use Rattle.envimage.specs.declared.image.ByteOrder.{ByteOrder}

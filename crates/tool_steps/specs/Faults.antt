@@ -2,7 +2,7 @@
 use Rattle.std.specs.Prelude.{◌≡◌, ◌⊎◌, ℕ, Bool, true, false, Result, Err}
 use Rattle.output.specs.Sink.{counted}
 use Rattle.tool_images.specs.declared.fault.Fault.{Fault}
-use Rattle.tool_images.specs.declared.fault.Fault.TheVariants.{Config, CannotRead, CannotWrite, FileShort, FileTooLong, Memory, UnequalSizes}
+use Rattle.tool_images.specs.declared.fault.Fault.TheVariants.{Config, CannotRead, CannotWrite, FileShort, FileTooLong, Memory, Text, TextTooLarge, UnequalSizes}
 
 -- If "cannot read" or "cannot write" is answered, one more failure of the device is counted. No other answer changes
 -- the count.
@@ -16,13 +16,15 @@ abbrev pub CountsReads : {T : Type 0} → (one_copy : Bool) → ℕ → ℕ → 
 CountsReads false old new answer = CountsTold old new answer
 CountsReads true old new answer = CountsTold old new answer ⊎ CountsTold (counted old) new answer
 
--- the faults of reading files and a configuration
+-- the faults of reading files, a configuration and a text of variables
 abbrev pub IsReadFault : Fault → Type 0
 IsReadFault (Config error) = Unit {0}
 IsReadFault (CannotRead path) = Unit {0}
 IsReadFault (FileShort path) = Unit {0}
 IsReadFault (FileTooLong path) = Unit {0}
 IsReadFault UnequalSizes = Unit {0}
+IsReadFault (Text error) = Unit {0}
+IsReadFault TextTooLarge = Unit {0}
 IsReadFault Memory = Unit {0}
 IsReadFault _ = ⊥
 

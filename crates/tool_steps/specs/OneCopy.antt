@@ -1,7 +1,7 @@
 -- The images that a source names, where one copy of a pair may be enough. A copy that is lost counts as having the bytes
 -- of the other one: so the other one is current, and a change is written to the place of the lost one. All of it is ours.
 use Rattle.std.specs.Prelude.{◌≡◌, ◌⊎◌, ℕ, Bool, true, false, List, [], ◌∷◌, ◌++◌, Option, Some, None, Result, Ok, Err, is_some}
-use Rattle.output.specs.Sink.{Sink, counted}
+use Rattle.output.specs.Sink.{Sink}
 use Rattle.envimage.specs.Config.{PlaceShown}
 use Rattle.envimage.specs.Place.{place_shown}
 use Rattle.envimage.specs.declared.config.Place.{Place}
@@ -19,8 +19,7 @@ use Rattle.tool_steps.specs.declared.images.Images.{Images}
 use Rattle.tool_steps.specs.declared.one_copy.ImageSource.{ImageSource}
 use Rattle.tool_steps.specs.declared.read.SoughtCopy.{SoughtCopy}
 use Rattle.tool_steps.specs.declared.read.SoughtCopy.TheVariants.{Lost, Read}
-use Rattle.tool_steps.specs.declared.read.StoredCopy.{StoredCopy}
-use Rattle.tool_words.specs.Asked.{OriginShown, configured, whole}
+use Rattle.tool_words.specs.Asked.{OriginShown, configured, texts, whole}
 use Rattle.tool_words.specs.CommandAnswers.{origin_shown}
 
 -- ---- one copy
@@ -133,6 +132,7 @@ abbrev pub Finds : (one_copy : Bool) → OriginShown → (lost : Option PlaceSho
 Finds one_copy origin None old new found = HasReadImages origin old new found
 Finds true (configured config) (Some lost) old new found = HasLost config lost old new found
 Finds true (whole first second) (Some lost) old new found = ⊥
+Finds true (texts path order) (Some lost) old new found = ⊥
 Finds false origin (Some lost) old new found = ⊥
 
 -- The images of a source were found. If one copy of a pair is lost, one line says so.
@@ -160,10 +160,11 @@ abbrev pub LacksImages : (config : List ℕ) → Told → Told → Fault → Typ
 LacksImages config old new fault = IsConfigFault config old.stored fault
     ⊎ (IsSingleFault config old.stored fault ⊎ LacksPair config old new fault)
 
--- why the images are not found; of whole files, all are needed
+-- why the images are not found; of whole files, all are needed, and of a text there is one
 abbrev pub IsUnfound : (one_copy : Bool) → OriginShown → Told → Told → Fault → Type 0
 IsUnfound true (configured config) old new fault = LacksImages config old new fault
 IsUnfound true (whole first second) old new fault = IsOriginFault (whole first second) old.stored fault
+IsUnfound true (texts path order) old new fault = IsOriginFault (texts path order) old.stored fault
 IsUnfound false origin old new fault = IsOriginFault origin old.stored fault
 
 -- the images of a configuration were found, or refused, if one copy of a pair is enough

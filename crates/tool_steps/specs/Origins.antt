@@ -1,17 +1,19 @@
--- The images of a call, read by what names them: a configuration, or files of which each is one whole copy. All of it is
--- ours.
-use Rattle.std.specs.Prelude.{◌≡◌, ◌≢◌, ◌⊎◌, ℕ, List, [], ◌∷◌, ◌++◌, length, Option, Some, None, Result, Ok, Err}
+-- The images of a call, read by what names them: a configuration; files of which each is one whole copy; or a text, of
+-- which an image is made. All of it is ours.
+use Rattle.std.specs.Prelude.{◌≡◌, ◌≢◌, ◌⊎◌, IsSomeAnd, ℕ, List, [], ◌∷◌, ◌++◌, length, Option, Some, None, Result, Ok, Err}
 use Rattle.envimage.specs.Config.{PlaceShown}
+use Rattle.envimage.specs.declared.image.ByteOrder.{ByteOrder}
 use Rattle.tool_files.specs.CallOrder.{OnlyReads}
 use Rattle.tool_files.specs.Told.{Stored, Told, file_at}
 use Rattle.tool_files.specs.declared.files.Action.TheVariants.{ReadAll}
 use Rattle.tool_images.specs.declared.fault.Fault.{Fault}
-use Rattle.tool_images.specs.declared.fault.Fault.TheVariants.{UnequalSizes}
+use Rattle.tool_images.specs.declared.fault.Fault.TheVariants.{Text, TextTooLarge, UnequalSizes}
+use Rattle.tool_images.specs.TextImages.{IsTextsFault, StandsFor}
 use Rattle.tool_steps.specs.Images.{Copy, HasRead, IsImagesFault, copies, copy_of}
 use Rattle.tool_steps.specs.ReadingFiles.{IsTextFault, Reads}
 use Rattle.tool_steps.specs.declared.images.Images.{Images}
 use Rattle.tool_steps.specs.declared.read.StoredCopy.{StoredCopy}
-use Rattle.tool_words.specs.Asked.{OriginShown, configured, whole}
+use Rattle.tool_words.specs.Asked.{OriginShown, configured, texts, whole}
 
 -- ---- one file
 
@@ -82,17 +84,48 @@ PairsUp first second (Ok images) = (length first.bytes.items ≡ length second.b
 PairsUp first second (Err fault) =
     (length first.bytes.items ≢ length second.bytes.items) × (fault ≡ UnequalSizes)
 
+-- ---- a text
+
+-- The file was read, and the image found has the environment of its text.
+pub record HasReadTexts (path : List ℕ) (order : ByteOrder) (old new : Told) (found : List Copy) : Type 0 where
+  pub text : List ℕ
+  pub image : List ℕ
+  pub there : file_at path old.stored ≡ Some text
+  pub are : found ≡ whole_copy path image ∷ []
+  pub stands : StandsFor order text image
+  pub calls : new.calls ≡ old.calls ++ (path, ReadAll) ∷ []
+  pub stored : new.stored ≡ old.stored
+
+-- why it may be refused: the file fails or is too long, or memory runs out; or no image can be made of its text
+abbrev pub IsTextsReadFault : List ℕ → Stored → Fault → Type 0
+IsTextsReadFault path stored (Text error) = IsSomeAnd (file_at path stored) (λ text. IsTextsFault text (Text error))
+IsTextsReadFault path stored TextTooLarge = IsSomeAnd (file_at path stored) (λ text. IsTextsFault text TextTooLarge)
+IsTextsReadFault path stored fault = IsTextFault path (file_at path stored) fault
+
+-- the text was read, or refused
+abbrev pub ReadsTexts : List ℕ → ByteOrder → Told → Told → Result Images Fault → Type 0
+ReadsTexts path order old new (Ok images) = HasReadTexts path order old new (copies images)
+ReadsTexts path order old new (Err fault) = OnlyReads old new × IsTextsReadFault path old.stored fault
+
+-- the image of a text, as the one copy of its file, or why there is none
+abbrev pub MakesImages : ByteOrder → (path text : List ℕ) → Result Images Fault → Type 0
+MakesImages order path text (Ok images) =
+    (image : List ℕ) × (copies images ≡ whole_copy path image ∷ []) × StandsFor order text image
+MakesImages order path text (Err fault) = IsTextsFault text fault
+
 -- ---- what names the images
 
 -- the images that this names were read
 abbrev pub HasReadImages : OriginShown → Told → Told → List Copy → Type 0
 HasReadImages (configured config) old new found = HasRead config old new found
 HasReadImages (whole first second) old new found = HasReadFiles first second old new found
+HasReadImages (texts path order) old new found = HasReadTexts path order old new found
 
 -- why they may be refused
 abbrev pub IsOriginFault : OriginShown → Stored → Fault → Type 0
 IsOriginFault (configured config) stored fault = IsImagesFault config stored fault
 IsOriginFault (whole first second) stored fault = IsFilesFault first second stored fault
+IsOriginFault (texts path order) stored fault = IsTextsReadFault path stored fault
 
 -- the images were read, or refused, and files were only read
 abbrev pub ReadsOrigin : OriginShown → Told → Told → Result Images Fault → Type 0

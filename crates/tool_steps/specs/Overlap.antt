@@ -1,5 +1,5 @@
 -- Two places that share a byte. What is made of it is ours.
-use Rattle.std.specs.Prelude.{ℕ, ◌+◌, ◌&&◌, nat_lt, max, min, Bool, false, List, ◌∷◌}
+use Rattle.std.specs.Prelude.{◌+◌, ◌&&◌, nat_lt, max, min, Bool, false, List, ◌∷◌}
 use Rattle.std.specs.Str.{bytes_eq}
 use Rattle.envimage.specs.Config.{PlaceShown}
 use Rattle.tool_steps.specs.Images.{Copy}

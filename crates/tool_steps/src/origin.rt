@@ -2,16 +2,30 @@
 ghost use Rattle.std.specs.Prelude.{◌≡◌, IfErr, Some, option_map, string_bytes};
 ghost use Rattle.tool_files.specs.Told.{IfTold};
 ghost use Rattle.tool_steps.specs.Faults.{CountsTold, IsReadFault};
-ghost use Rattle.tool_steps.specs.Origins.{PairsUp, ReadsFile, ReadsFiles, ReadsOrigin};
+ghost use Rattle.tool_steps.specs.Images.{copy_of};
+ghost use Rattle.tool_steps.specs.Origins.{MakesImages, PairsUp, ReadsFile, ReadsFiles, ReadsOrigin, ReadsTexts, whole_copy};
 ghost use Rattle.tool_words.specs.CommandAnswers.{origin_shown};
 
 use crate::images::{Images, read_images};
-use crate::read::StoredCopy;
-use envimage::Place;
+use crate::read::{StoredCopy, read_text};
+use envimage::{ByteOrder, Place};
 use std::alloc::Global;
 use tool_files::Files;
-use tool_images::Fault;
+use tool_images::{Fault, image_of_text};
 use tool_words::Origin;
+
+/// A file that is one whole copy.
+fn whole(path: String, bytes: Vec<u8>) -> StoredCopy
+    ensures copy { copy_of result ≡ whole_copy (string_bytes path) bytes.items }
+    ensures bytes { result.bytes.items ≡ bytes.items }
+{
+    let place = Place {
+        device: path,
+        offset: 0,
+        size: bytes.len(),
+    };
+    StoredCopy { place, bytes }
+}
 
 /// Reads the file at the path, which is one whole copy.
 fn read_file<F: Files>(alloc: Global, files: &mut F, path: String) -> Result<StoredCopy, Fault>
@@ -22,14 +36,7 @@ fn read_file<F: Files>(alloc: Global, files: &mut F, path: String) -> Result<Sto
         (λ old new. ReadsFile (string_bytes path) old new result) }
 {
     match files.read_all(alloc, &path) {
-        Ok(bytes) => {
-            let place = Place {
-                device: path,
-                offset: 0,
-                size: bytes.len(),
-            };
-            Ok(StoredCopy { place, bytes })
-        }
+        Ok(bytes) => Ok(whole(path, bytes)),
         Err(fault) => Err(Fault::of_read(path, fault)),
     }
 }
@@ -88,9 +95,41 @@ fn read_files<F: Files>(
     read_pair(alloc, files, first, second)
 }
 
-/// Reads the images that a configuration names, its text first, or those that are whole files. Of a pair
-/// the first copy is read before the second. Errors: those of the reads and of the configuration;
-/// `UnequalSizes`, if the two files of a pair are not of one size.
+/// The image of a text, as the one copy of its file.
+fn image_of(alloc: Global, path: String, text: &[u8], order: ByteOrder) -> Result<Images, Fault>
+    ensures { MakesImages order (string_bytes path) text.now result }
+{
+    let bytes = image_of_text(alloc, text, order)?;
+    Ok(Images {
+        first: whole(path, bytes),
+        second: None,
+    })
+}
+
+/// Reads the text at the path, and makes an image of its environment.
+fn read_texts<F: Files>(
+    alloc: Global,
+    files: &mut F,
+    path: String,
+    order: ByteOrder,
+) -> Result<Images, Fault>
+    ensures count { CountsTold (F.faults files.old) (F.faults files.new) result }
+    ensures lock { F.locked files.new ≡ F.locked files.old }
+    ensures fault { IfErr result IsReadFault }
+    ensures told { IfTold (F.told files.old) (F.told files.new)
+        (λ old new. ReadsTexts (string_bytes path) order old new result) }
+{
+    let Ok(device) = path.clone() else {
+        return Err(Fault::Memory);
+    };
+    let text = read_text(alloc, files, path)?;
+    image_of(alloc, device, &text, order)
+}
+
+/// Reads the images that a configuration names, its text first, or those that are whole files; or reads a
+/// text, and makes an image of its environment. Of a pair the first copy is read before the second. Errors:
+/// those of the reads and of the configuration; `UnequalSizes`, if the two files of a pair are not of one
+/// size; `Text` and `TextTooLarge`, if no image can be made of a text.
 pub fn read_origin<F: Files>(alloc: Global, files: &mut F, origin: Origin) -> Result<Images, Fault>
     ensures count { CountsTold (F.faults files.old) (F.faults files.new) result }
     ensures lock { F.locked files.new ≡ F.locked files.old }
@@ -101,5 +140,6 @@ pub fn read_origin<F: Files>(alloc: Global, files: &mut F, origin: Origin) -> Re
     match origin {
         Origin::Config(config) => read_images(alloc, files, config),
         Origin::Files { first, second } => read_files(alloc, files, first, second),
+        Origin::Text { path, order } => read_texts(alloc, files, path, order),
     }
 }

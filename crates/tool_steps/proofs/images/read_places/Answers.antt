@@ -1,8 +1,5 @@
-use Rattle.std.proofs.Common.{List, ℕ, subst, string_bytes, Ok, Err}
-use Rattle.std.specs.Prelude.{Option, Result}
+use Rattle.std.proofs.Common.{List, ℕ, subst, string_bytes}
 use Rattle.envimage.specs.Config.{places}
-use Rattle.envimage.specs.declared.config.Place.{Place}
-use Rattle.tool_images.specs.declared.fault.Fault.{Fault}
 use Rattle.tool_steps.specs.Images.{Names}
 use Rattle.tool_steps.proofs.ReadingLemmas.{IfTold-weaker, places-told}
 use Rattle.tool_steps.proofs.images.read_places.Goals as goal

@@ -1,5 +1,4 @@
 use Rattle.tool_steps.proofs.CountLemmas.{pair-counts}
-use Rattle.envimage.specs.Place.{place_shown}
 use Rattle.tool_steps.proofs.OneCopyLemmas.{pair-found}
 use Rattle.tool_files.proofs.ToldLemmas.{IfTold-then}
 use Rattle.tool_steps.proofs.one_copy.read_either.Goals as goal
