@@ -4,8 +4,8 @@ pub(crate) const UBTOOL_NOTES: &str = "\
 Without words, one image is read from standard input, and all its variables
 are printed. Words that begin with - come after --, as in 'printenv -- -x'.
 
-The status is 0 when all is done, 1 when something is refused or a variable is
-missing, and 2 when the words are wrong.
+The status is 0 when all is done, 1 when something is refused, a variable is
+missing or a check finds something, and 2 when the words are wrong.
 
 Examples:
   ubtool printenv bootcmd
