@@ -33,11 +33,11 @@ _ubtool_names() {
 # _ubtool_options COMMAND: the options of the command, in `options`.
 _ubtool_options() {
     case $1 in
-        printenv) options='-c --config -i --image --second --big-endian -l --lock --one-copy -n --noheader -0 --null --escaped -h --help -V --version' ;;
+        printenv) options='-c --config -i --image --second --text --big-endian -l --lock --one-copy -n --noheader -0 --null --escaped -h --help -V --version' ;;
         setenv) options='-c --config -i --image --second --big-endian -l --lock --one-copy -s --script -h --help -V --version' ;;
-        rehearse) options='-c --config -i --image --second --big-endian -d --device-list -b --variable --devices --steps --shell --word --failures --after --limit -h --help -V --version' ;;
-        endings) options='-c --config -i --image --second --big-endian -d --device-list -b --variable --devices --steps --shell --states --flow -h --help -V --version' ;;
-        causes) options='-c --config -i --image --second --big-endian -d --device-list -b --variable --devices --steps --shell --failures --check -h --help -V --version' ;;
+        rehearse) options='-c --config -i --image --second --text --big-endian -d --device-list -b --variable --devices --steps --shell --word --failures --after --limit -h --help -V --version' ;;
+        endings) options='-c --config -i --image --second --text --big-endian -d --device-list -b --variable --devices --steps --shell --states --flow -h --help -V --version' ;;
+        causes) options='-c --config -i --image --second --text --big-endian -d --device-list -b --variable --devices --steps --shell --failures --check -h --help -V --version' ;;
         *) options='' ;;
     esac
 }
@@ -45,7 +45,7 @@ _ubtool_options() {
 # _ubtool_value WORD: if the word is an option with a value, what the value is, in `value`.
 _ubtool_value() {
     case $1 in
-        -c | --config | -i | --image | --second | -s | --script | -d | --device-list) value='file' ;;
+        -c | --config | -i | --image | --second | --text | -s | --script | -d | --device-list) value='file' ;;
         -l | --lock) value='folder' ;;
         -b | --variable) value='name' ;;
         --devices | --steps | --word | --failures | --after | --limit | --states) value='other' ;;

@@ -54,7 +54,7 @@ complete -c ubtool -n __ubtool_after_help -a 'printenv setenv rehearse endings c
 # options: completions
 # Whether the word is an option whose value comes after it.
 function __ubtool_takes_value
-    contains -- $argv[1] -c --config -i --image --second -l --lock -s --script -d --device-list -b --variable --devices --steps --shell --word --failures --after --limit --states
+    contains -- $argv[1] -c --config -i --image --second --text -l --lock -s --script -d --device-list -b --variable --devices --steps --shell --word --failures --after --limit --states
 end
 
 complete -c ubtool -s h -l help -d 'Print help'
@@ -62,6 +62,7 @@ complete -c ubtool -s V -l version -d 'Print version'
 complete -c ubtool -n '__fish_seen_subcommand_from printenv setenv rehearse endings causes' -s c -l config -r -F -d 'Configuration, at most 1048576 bytes'
 complete -c ubtool -n '__fish_seen_subcommand_from printenv setenv rehearse endings causes' -s i -l image -r -F -d 'Image, at most 1048576 bytes: the whole FILE, in place of -c'
 complete -c ubtool -n '__fish_seen_subcommand_from printenv setenv rehearse endings causes' -l second -r -F -d 'Second copy of a redundant pair, beside -i: the whole FILE'
+complete -c ubtool -n '__fish_seen_subcommand_from printenv rehearse endings causes' -l text -r -F -d 'Text for mkenvimage, at most 1048576 bytes, in place of -c'
 complete -c ubtool -n '__fish_seen_subcommand_from printenv setenv rehearse endings causes' -l big-endian -d 'The CRC is stored big-endian'
 complete -c ubtool -n '__fish_seen_subcommand_from printenv' -s l -l lock -x -a '(__fish_complete_directories)' -d 'Wait for the lock file in DIR'
 complete -c ubtool -n '__fish_seen_subcommand_from setenv' -s l -l lock -x -a '(__fish_complete_directories)' -d 'Folder of the lock file'
