@@ -11,7 +11,7 @@ use Rattle.rehearse_terms.specs.Bounds.{BoundsShown, bounds_of, in_shell}
 use Rattle.rehearse_terms.specs.declared.shell.Shell.{Shell}
 use Rattle.tool_words.specs.CommandAnswers.{Answers, asked, meaning_of}
 use Rattle.tool_words.specs.Called.{is_tool}
-use Rattle.tool_words.specs.Asked.{Asked, OriginShown, asked_of, bounds_asked, cause_bounds_asked, causes_asked, causes_with, causing, change_asked, ending, endings_asked, endings_with, has_no_folder, header_needs_one, input_scripted, is_set, listing_asked, lock_needs_folder, number_within, of_images, one_copy, order_of, origin_asked, page_asked, print_asked, print_form, printing, printing_asked, rehearsal_of, rehearsal_with, rehearse_asked, rehearsing, run_bounds_asked, script_asked, scripted, set_asked, setting, shell_of, too_many_devices, usual_states, values_of, variable_of, wanted_by, word_alone, word_asked}
+use Rattle.tool_words.specs.Asked.{Asked, OriginShown, asked_of, bounds_asked, cause_bounds_asked, causes_asked, causes_with, causing, change_asked, ending, endings_asked, endings_with, has_no_folder, header_needs_one, images_asked, input_scripted, is_set, listing_asked, lock_needs_folder, number_within, of_images, one_copy, order_of, origin_asked, page_asked, print_asked, print_form, printing, printing_asked, rehearsal_of, rehearsal_with, rehearse_asked, rehearsing, run_bounds_asked, script_asked, scripted, set_asked, setting, shell_of, too_many_devices, usual_states, values_of, variable_of, wanted_by, word_alone, word_asked}
 use Rattle.tool_words.specs.CommandLine.{most_failures, most_states, ubtool}
 use Rattle.tool_words.specs.declared.ask.OriginError.{OriginError}
 use Rattle.tool_words.specs.declared.called.CalledAs.{CalledAs}
@@ -49,11 +49,11 @@ print-fit true one what of-one of-header = of-header refl
 
 set-fit : (called : CalledAs) (script name : Option Text) (rows : List Row) → IsFit (Some (change_asked called script name rows))
 set-fit called (Some script) None rows =
-    named-fit (origin_asked rows) (λ origin. script_asked called script origin (order_of rows) (one_copy rows))
+    named-fit (images_asked rows) (λ origin. script_asked called script origin (order_of rows) (one_copy rows))
     (λ origin. either-asked (is_tool called && bytes_eq script (codes "-")) (input_scripted origin (order_of rows) (one_copy rows)) (scripted origin script (order_of rows) (one_copy rows)) tt tt)
 set-fit called (Some script) (Some name) rows = tt
 set-fit called None (Some name) rows =
-    named-fit (origin_asked rows) (λ origin. setting origin name (values_of (codes "values") rows) (order_of rows) (one_copy rows)) (λ origin. tt)
+    named-fit (images_asked rows) (λ origin. setting origin name (values_of (codes "values") rows) (order_of rows) (one_copy rows)) (λ origin. tt)
 set-fit called None None rows = tt
 
 rehearsal-fit : (list : Text) (shell : Shell) (rows : List Row) (within : BoundsShown × Wanted) → IsFit (Some (rehearsal_of list shell rows (Ok within)))
