@@ -28,14 +28,14 @@ clap-refused words WordAlone h = absurd h
 clap-refused words TooManyDevices h = absurd h
 clap-refused words (Misnamed error) h = absurd h
 
--- a name that no shell has
-pub unnamed-refused : (words : List Text) (error : UseError) → IsAccepted hushcheck words → Says (asked words) (Err error) → Answers words (Err error)
-unnamed-refused words (Line text) accepted h = inr (accepted, h)
-unnamed-refused words Memory accepted h = tt
-unnamed-refused words LockNeedsFolder accepted h = absurd h
-unnamed-refused words NeedName accepted h = absurd h
-unnamed-refused words ScriptAndName accepted h = absurd h
-unnamed-refused words HeaderNeedsOne accepted h = absurd h
-unnamed-refused words WordAlone accepted h = absurd h
-unnamed-refused words TooManyDevices accepted h = absurd h
-unnamed-refused words (Misnamed error) accepted h = absurd h
+-- a name that no shell has, or words that name no images
+pub entries-refused : (words : List Text) (error : UseError) → IsAccepted hushcheck words → Says (asked words) (Err error) → Answers words (Err error)
+entries-refused words (Line text) accepted h = inr (accepted, h)
+entries-refused words Memory accepted h = tt
+entries-refused words LockNeedsFolder accepted h = absurd h
+entries-refused words NeedName accepted h = absurd h
+entries-refused words ScriptAndName accepted h = absurd h
+entries-refused words HeaderNeedsOne accepted h = absurd h
+entries-refused words WordAlone accepted h = absurd h
+entries-refused words TooManyDevices accepted h = absurd h
+entries-refused words (Misnamed error) accepted h = (accepted, h)

@@ -8,7 +8,7 @@ use Rattle.envimage.specs.declared.image.ImageError.{ImageError}
 use Rattle.envimage.specs.declared.image.ImageError.TheVariants as image
 use Rattle.output.specs.Sink.{Sink}
 use Rattle.hushcheck_main.specs.Asked.{Asked}
-use Rattle.hushcheck_main.specs.Checking.{AreFound, ChecksFrom, ChecksText, FromFiles, Given, IsUnread, LeavesOutput, Lists, ReadsList, given, given_by, TellsAll, IsBadList, BreaksOff, WritesFront}
+use Rattle.hushcheck_main.specs.Checking.{AreFound, ChecksFrom, ChecksText, FromFiles, FromImages, Given, IsUnread, LeavesOutput, Lists, ReadsList, given, given_by, TellsAll, IsBadList, BreaksOff, WritesFront}
 use Rattle.hushcheck.specs.Names.{Text}
 use Rattle.device_list.specs.DeviceList.{Devices}
 use Rattle.rehearse_terms.specs.declared.shell.Shell.{Shell}
@@ -17,6 +17,7 @@ use Rattle.hushcheck_main.specs.Faults.{CountsShared, of_image}
 use Rattle.hushcheck_main.specs.declared.fault.CheckFault.{CheckFault}
 use Rattle.hushcheck_main.specs.declared.fault.CheckFault.TheVariants.{DeviceList, Shared}
 use Rattle.tool_images.specs.PrintingImages.{Finds, environment_in}
+use Rattle.tool_images.specs.declared.error.ToolError.{ToolError}
 use Rattle.tool_images.specs.declared.error.ToolError.TheVariants as tool
 use Rattle.tool_images.specs.declared.fault.Fault.{Fault}
 use Rattle.tool_images.specs.declared.fault.Fault.TheVariants as fault
@@ -25,14 +26,15 @@ use Rattle.tool_files.specs.CallOrder.{OnlyReads}
 use Rattle.tool_files.specs.Told.{Stored, Told, file_at}
 use Rattle.tool_files.specs.declared.files.Action.TheVariants.{ReadAll}
 use Rattle.tool_steps.proofs.PrintLemmas.{image-bytes}
-use Rattle.tool_steps.proofs.ReadingLemmas.{found-reads}
+use Rattle.tool_steps.proofs.OriginLemmas.{origin-reads}
 use Rattle.tool_steps.proofs.SourceLemmas.{are-read}
-use Rattle.tool_steps.specs.Images.{Copy, HasRead, ReadsImages, copies}
-use Rattle.tool_steps.specs.PrintingFiles.{FromImages, environment, first_bytes, second_bytes}
+use Rattle.tool_steps.specs.Images.{Copy, copies}
+use Rattle.tool_steps.specs.Origins.{HasReadImages, IsOriginFault, ReadsOrigin}
+use Rattle.tool_steps.specs.PrintingFiles.{environment, first_bytes, second_bytes}
 use Rattle.tool_steps.specs.declared.images.Images.{Images}
 use Rattle.tool_steps.specs.declared.read.StoredCopy.{StoredCopy}
 use Rattle.tool_steps.specs.ReadingFiles.{IsTextFault}
-use Rattle.tool_words.specs.Asked.{configured}
+use Rattle.tool_words.specs.Asked.{OriginShown, configured, texts, whole}
 
 -- the bytes of a text, if there is one
 abbrev pub bytes_if : Option (Vec ℕ Global) → Option Text
@@ -40,14 +42,22 @@ bytes_if text = option_map (λ v. v.items) text
 
 -- ---- reads that were refused
 
+-- reading images gives no refusal of the tools
+no-tool : (origin : OriginShown) (stored : Stored) (error : ToolError) → IsOriginFault origin stored (fault.Tool error) → ⊥
+no-tool (configured config) stored error h = h
+no-tool (whole first None) stored error h = h
+no-tool (whole first (Some second)) stored error (inl h) = h
+no-tool (whole first (Some second)) stored error (inr h) = h
+no-tool (texts path order) stored error h = h
+
 -- checking gives no such refusal
-unread : (asked : Asked) (out : Sink) (old new : Told) (f : Fault) → OnlyReads old new → IsUnread asked.config asked.device_list old f → ChecksFrom asked out out old new (Err (Shared f))
+unread : (asked : Asked) (out : Sink) (old new : Told) (f : Fault) → OnlyReads old new → IsUnread asked.origin asked.device_list old f → ChecksFrom asked out out old new (Err (Shared f))
 unread asked out old new (fault.Config error) reads h = (reads, h)
 unread asked out old new (fault.Tool error) reads h = absurd (none asked.device_list h)
   where
-    none : (list : Option Text) → IsUnread asked.config list old (fault.Tool error) → ⊥
-    none None h = h
-    none (Some list) (inl h) = h
+    none : (list : Option Text) → IsUnread asked.origin list old (fault.Tool error) → ⊥
+    none None h = no-tool asked.origin old.stored error h
+    none (Some list) (inl h) = no-tool asked.origin old.stored error h
     none (Some list) (inr h) = h.refused
 unread asked out old new (fault.CannotRead path) reads h = (reads, h)
 unread asked out old new (fault.CannotWrite path) reads h = (reads, h)
@@ -63,46 +73,47 @@ unread asked out old new (fault.Lock error) reads h = (reads, h)
 unread asked out old new fault.Memory reads h = (reads, inl refl)
 
 -- the refusal of the images
-pub checks-unread : (asked : Asked) (out : Sink) (old new : Told) (f : Fault) → ReadsImages asked.config old new (Err f) → ChecksFrom asked out out old new (Err (Shared f))
+pub checks-unread : (asked : Asked) (out : Sink) (old new : Told) (f : Fault) → ReadsOrigin asked.origin old new (Err f) → ChecksFrom asked out out old new (Err (Shared f))
 checks-unread asked out old new f h = unread asked out old new f h.0 (by asked.device_list)
   where
-    by : (list : Option Text) → IsUnread asked.config list old f
+    by : (list : Option Text) → IsUnread asked.origin list old f
     by None = h.1
     by (Some list) = inl h.1
 
 -- the refusal of the device list
-pub checks-unlisted : (asked : Asked) (out : Sink) (found : List Copy) (x y z : Told) (f : Fault) → HasRead asked.config x y found → ReadsList asked.device_list y z (Err f) → ChecksFrom asked out out x z (Err (Shared f))
+pub checks-unlisted : (asked : Asked) (out : Sink) (found : List Copy) (x y z : Told) (f : Fault) → HasReadImages asked.origin x y found → ReadsList asked.device_list y z (Err f) → ChecksFrom asked out out x z (Err (Shared f))
 checks-unlisted asked out found x y z f read h =
     let both = by asked.device_list h in
     unread asked out x z f both.0 both.1
   where
-    by : (list : Option Text) → ReadsList list y z (Err f) → OnlyReads x z × IsUnread asked.config list x f
+    by : (list : Option Text) → ReadsList list y z (Err f) → OnlyReads x z × IsUnread asked.origin list x f
     by None h = absurd h
     by (Some list) h =
-        let refused : IsTextFault list (file_at list x.stored) f = subst (λ (s : Stored). IsTextFault list (file_at list s) f) read.stored h.1 in
-        (OnlyReads-then x y z (found-reads asked.config x y found read) h.0, inr (record { found = found; after_images = y; read = read; refused = refused }))
+        let reads = origin-reads asked.origin x y found read in
+        let refused : IsTextFault list (file_at list x.stored) f = subst (λ (s : Stored). IsTextFault list (file_at list s) f) reads.stored h.1 in
+        (OnlyReads-then x y z reads h.0, inr (record { found = found; after_images = y; read = read; refused = refused }))
 
 -- ---- the texts of what was read
 
-are-found : (config : Text) (list : Option Text) (found : List Copy) (x y z : Told) (text : Option (Vec ℕ Global)) (IsSo : List Copy → Option Text → Type 0) → HasRead config x y found
-    → ReadsList list y z (Ok text) → IsSo found (bytes_if text) → AreFound config list x z IsSo
-are-found config None found x y z None IsSo read listed so = subst (λ (t : Told). FromImages config x t (λ copies. IsSo copies None)) (sym listed) (record { found = found; read = read; so = so })
-are-found config None found x y z (Some text) IsSo read listed so = absurd listed
-are-found config (Some list) found x y z None IsSo read listed so = absurd listed
-are-found config (Some list) found x y z (Some text) IsSo read listed so = are-read (configured config) list found text x y z (λ copies bytes. IsSo copies (Some bytes)) read listed so
+are-found : (origin : OriginShown) (list : Option Text) (found : List Copy) (x y z : Told) (text : Option (Vec ℕ Global)) (IsSo : List Copy → Option Text → Type 0) → HasReadImages origin x y found
+    → ReadsList list y z (Ok text) → IsSo found (bytes_if text) → AreFound origin list x z IsSo
+are-found origin None found x y z None IsSo read listed so = subst (λ (t : Told). FromImages origin x t (λ copies. IsSo copies None)) (sym listed) (record { found = found; read = read; so = so })
+are-found origin None found x y z (Some text) IsSo read listed so = absurd listed
+are-found origin (Some list) found x y z None IsSo read listed so = absurd listed
+are-found origin (Some list) found x y z (Some text) IsSo read listed so = are-read origin list found text x y z (λ copies bytes. IsSo copies (Some bytes)) read listed so
 
-only-read : (config : Text) (list : Option Text) (found : List Copy) (x y z : Told) (text : Option (Vec ℕ Global)) → HasRead config x y found → ReadsList list y z (Ok text) → OnlyReads x z
-only-read config None found x y z None read listed = subst (λ (t : Told). OnlyReads x t) (sym listed) (found-reads config x y found read)
-only-read config None found x y z (Some text) read listed = absurd listed
-only-read config (Some list) found x y z None read listed = absurd listed
-only-read config (Some list) found x y z (Some text) read listed = OnlyReads-then x y z (found-reads config x y found read) (OnlyReads-one list ReadAll y z refl listed.calls listed.stored)
+only-read : (origin : OriginShown) (list : Option Text) (found : List Copy) (x y z : Told) (text : Option (Vec ℕ Global)) → HasReadImages origin x y found → ReadsList list y z (Ok text) → OnlyReads x z
+only-read origin None found x y z None read listed = subst (λ (t : Told). OnlyReads x t) (sym listed) (origin-reads origin x y found read)
+only-read origin None found x y z (Some text) read listed = absurd listed
+only-read origin (Some list) found x y z None read listed = absurd listed
+only-read origin (Some list) found x y z (Some text) read listed = OnlyReads-then x y z (origin-reads origin x y found read) (OnlyReads-one list ReadAll y z refl listed.calls listed.stored)
 
-module _ (asked : Asked) (out out' : Sink) (found : List Copy) (text : Option (Vec ℕ Global)) (x y z : Told) (read : HasRead asked.config x y found) (listed : ReadsList asked.device_list y z (Ok text)) where
+module _ (asked : Asked) (out out' : Sink) (found : List Copy) (text : Option (Vec ℕ Global)) (x y z : Told) (read : HasReadImages asked.origin x y found) (listed : ReadsList asked.device_list y z (Ok text)) where
   abbrev pub here : Given
   here = given_by asked.order found (bytes_if text) asked.names asked.all asked.shell
 
   from-files : (IsSo : Given → Type 0) → IsSo here → FromFiles asked x z IsSo
-  from-files IsSo so = are-found asked.config asked.device_list found x y z text (λ copies list. IsSo (given_by asked.order copies list asked.names asked.all asked.shell)) read listed so
+  from-files IsSo so = are-found asked.origin asked.device_list found x y z text (λ copies list. IsSo (given_by asked.order copies list asked.names asked.all asked.shell)) read listed so
 
   -- what is not refused so by the texts: the images and the list were read
   pub checks-read : (answer : Result Bool CheckFault) → ChecksText here out out' answer → ChecksFrom asked out out' x z answer
@@ -110,7 +121,7 @@ module _ (asked : Asked) (out out' : Sink) (found : List Copy) (text : Option (V
   checks-read (Err (DeviceList error)) h = from-files (λ g. IsBadList g error) h.0
   checks-read (Err (Shared (fault.Tool (tool.Image error)))) h = from-files (λ g. g.env ≡ Err error) h.0
   checks-read (Err (Shared (fault.Tool tool.Write))) h = from-files (λ g. BreaksOff g out out') h
-  checks-read (Err (Shared fault.Memory)) h = (only-read asked.config asked.device_list found x y z text read listed, by h)
+  checks-read (Err (Shared fault.Memory)) h = (only-read asked.origin asked.device_list found x y z text read listed, by h)
     where
       by : ChecksText here out out' (Err (Shared fault.Memory)) → (out' ≡ out) ⊎ FromFiles asked x z (λ g. WritesFront g out out')
       by (inl same) = inl same

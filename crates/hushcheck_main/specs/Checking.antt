@@ -20,11 +20,12 @@ use Rattle.tool_files.specs.Told.{Told}
 use Rattle.tool_images.specs.declared.error.ToolError.TheVariants.{Image, Write}
 use Rattle.tool_images.specs.declared.fault.Fault.{Fault}
 use Rattle.tool_images.specs.declared.fault.Fault.TheVariants.{Memory, Tool}
-use Rattle.tool_steps.specs.Images.{Copy, IsImagesFault}
-use Rattle.tool_steps.specs.PrintingFiles.{FromImages, environment}
+use Rattle.tool_steps.specs.Images.{Copy}
+use Rattle.tool_steps.specs.Origins.{HasReadImages, IsOriginFault}
+use Rattle.tool_steps.specs.PrintingFiles.{environment}
 use Rattle.tool_steps.specs.ReadingFiles.{ReadsText}
 use Rattle.tool_steps.specs.Sources.{AreRead, IsUnlisted}
-use Rattle.tool_words.specs.Asked.{configured}
+use Rattle.tool_words.specs.Asked.{OriginShown}
 
 -- ---- what is checked
 
@@ -120,21 +121,27 @@ ReadsList (Some path) old new (Ok (Some text)) = ReadsText path old new (Ok text
 ReadsList (Some path) old new (Err fault) = ReadsText path old new (Err fault)
 ReadsList path old new _ = ⊥
 
+-- The images were read, and this holds of them.
+pub record FromImages (origin : OriginShown) (old new : Told) (IsSo : List Copy → Type 0) : Type 0 where
+  pub found : List Copy
+  pub read : HasReadImages origin old new found
+  pub so : IsSo found
+
 -- the images were read, and then the device list if one is named, and this holds of what they give
-abbrev pub AreFound : (config : Text) → (list : Option Text) → (old new : Told) → (List Copy → Option Text → Type 0) →
-    Type 0
-AreFound config None old new IsSo = FromImages config old new (λ found. IsSo found None)
-AreFound config (Some list) old new IsSo = AreRead (configured config) list old new (λ found text. IsSo found (Some text))
+abbrev pub AreFound : (origin : OriginShown) → (list : Option Text) → (old new : Told) →
+    (List Copy → Option Text → Type 0) → Type 0
+AreFound origin None old new IsSo = FromImages origin old new (λ found. IsSo found None)
+AreFound origin (Some list) old new IsSo = AreRead origin list old new (λ found text. IsSo found (Some text))
 
 -- why a file is refused that is read
-abbrev pub IsUnread : (config : Text) → (list : Option Text) → Told → Fault → Type 0
-IsUnread config None old fault = IsImagesFault config old.stored fault
-IsUnread config (Some list) old fault = IsImagesFault config old.stored fault ⊎ IsUnlisted (configured config) list old fault
+abbrev pub IsUnread : (origin : OriginShown) → (list : Option Text) → Told → Fault → Type 0
+IsUnread origin None old fault = IsOriginFault origin old.stored fault
+IsUnread origin (Some list) old fault = IsOriginFault origin old.stored fault ⊎ IsUnlisted origin list old fault
 
 -- and what is checked then has this property
 abbrev pub FromFiles : Asked → (old new : Told) → (Given → Type 0) → Type 0
 FromFiles asked old new IsSo =
-    AreFound asked.config asked.device_list old new (λ found list.
+    AreFound asked.origin asked.device_list old new (λ found list.
     IsSo (given_by asked.order found list asked.names asked.all asked.shell))
 
 -- The images and the device list were read and the texts checked, or the image or the list is refused; or a read is
@@ -146,7 +153,7 @@ ChecksFrom asked out out' old new (Err (DeviceList fault)) = FromFiles asked old
 ChecksFrom asked out out' old new (Err (Shared (Tool Write))) = FromFiles asked old new (λ g. BreaksOff g out out')
 ChecksFrom asked out out' old new (Err (Shared Memory)) =
     OnlyReads old new × ((out' ≡ out) ⊎ FromFiles asked old new (λ g. WritesFront g out out'))
-ChecksFrom asked out out' old new (Err (Shared fault)) = OnlyReads old new × IsUnread asked.config asked.device_list old fault
+ChecksFrom asked out out' old new (Err (Shared fault)) = OnlyReads old new × IsUnread asked.origin asked.device_list old fault
 
 -- a refusal leaves the output as it was, unless it says that the output failed or that memory ran out
 abbrev pub LeavesOutput : Result Bool CheckFault → (old new : Sink) → Type 0

@@ -20,7 +20,7 @@ use Rattle.tool_steps.specs.Showing.{Shows}
 abbrev pub Does : Build → Answer Ask → Option Told → Option Told → Outputs → Result Bool CheckFault → Type 0
 Does build (Asks ask) before after outputs result =
     IfTold before after (λ old new.
-    ChecksFrom (asked_by ask.config ask.devices_file ask.what ask.order) outputs.out outputs.out' old new result)
+    ChecksFrom (asked_by ask.origin ask.devices_file ask.what ask.order) outputs.out outputs.out' old new result)
     × LeavesOutput result outputs.out outputs.out'
     × (outputs.err' ≡ outputs.err)
 Does build (Help text) before after outputs result = IsShared (Shows (string_bytes text) before after outputs) result

@@ -2,12 +2,13 @@
 
 use envimage::ByteOrder;
 use rehearse_terms::Shell;
+use tool_words::Origin;
 
 /// To check the texts of variables, and the texts that these run.
 #[derive(Debug, Drop)]
 pub struct Ask {
-    /// The path of the configuration.
-    pub config: String,
+    /// What names the images.
+    pub origin: Origin,
     /// The path of the device list, if there is one.
     pub devices_file: Option<String>,
     /// What to check.

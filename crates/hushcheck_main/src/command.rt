@@ -5,7 +5,10 @@ ghost use Rattle.tool_words.specs.Made.{IsMade};
 
 use clap::Command;
 use std::alloc::{AllocError, Global};
-use tool_words::{Argument, BIG_ENDIAN, CONFIG, DEVICE_LIST, Form, NAMES, VERSION, with_arguments};
+use tool_words::{
+    Argument, BIG_ENDIAN, CONFIG, DEVICE_LIST, Form, IMAGE, NAMES, SECOND, TEXT, VERSION,
+    with_arguments,
+};
 
 const NOTES: &str = "\
 The texts of the variables are read as boot scripts, and then those of the
@@ -31,6 +34,7 @@ Examples:
   hushcheck --all -d devices
   hushcheck -c fw_env.config --big-endian
   hushcheck --shell old
+  hushcheck --text env.txt
 ";
 
 /// The program, without its words.
@@ -45,8 +49,11 @@ fn base<'a>(alloc: Global) -> Result<Command<'a>, AllocError>
     Ok(command.no_binary_name(true))
 }
 
-const ARGUMENTS: [Argument<'static>; 6] = [
+const ARGUMENTS: [Argument<'static>; 9] = [
     CONFIG,
+    IMAGE,
+    SECOND,
+    TEXT,
     BIG_ENDIAN,
     Argument {
         required: false,

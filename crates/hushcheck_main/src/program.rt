@@ -38,12 +38,12 @@ fn perform<F: Files, O: Out>(
     match ask {
         Answer::Asks(
             Ask {
-                config,
+                origin,
                 devices_file,
                 what,
                 order,
             },
-        ) => check_files(alloc, files, config, devices_file, &what, order, out),
+        ) => check_files(alloc, files, origin, devices_file, &what, order, out),
         Answer::Help(text) => Ok(show_help(out, &text)?),
         Answer::Version => Ok(show_version(out, PROGRAM, build)?),
     }

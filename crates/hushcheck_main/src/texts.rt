@@ -19,7 +19,8 @@ use rehearse_terms::Shell;
 use std::alloc::Global;
 use tool_files::Files;
 use tool_images::{Fault, ToolError, env_of_image};
-use tool_steps::{Images, read_images, read_text, slices_of};
+use tool_steps::{Images, read_origin, read_text, slices_of};
+use tool_words::Origin;
 
 /// The device list of a text, if there is one.
 fn list_of(alloc: Global, text: Option<&[u8]>) -> Result<Option<Devices>, CheckFault>
@@ -114,12 +115,13 @@ fn read_list<F: Files>(
     }
 }
 
-/// Checks the texts of the images that a configuration names. Reads the images, then the device
-/// list if one is named, and then writes the lines.
+/// Checks the scripts of the images that this names. Reads the images, then the device list if one is
+/// named, and then writes the lines. Errors: those of `read_origin` and of `read_text`; the image, and
+/// after it the device list, is refused; the output failed; or memory ran out.
 pub fn check_files<F: Files, O: Out>(
     alloc: Global,
     files: &mut F,
-    config: String,
+    origin: Origin,
     list: Option<String>,
     what: &CheckAsk,
     order: ByteOrder,
@@ -127,11 +129,11 @@ pub fn check_files<F: Files, O: Out>(
 ) -> Result<bool, CheckFault>
     ensures count { CountsShared (F.faults files.old) (F.faults files.new) result }
     ensures told { IfTold (F.told files.old) (F.told files.new) (λ old new.
-        ChecksFrom (asked_by config list what.now order) (O.sink out.old) (O.sink out.new) old new
+        ChecksFrom (asked_by origin list what.now order) (O.sink out.old) (O.sink out.new) old new
         result) }
     ensures output { LeavesOutput result (O.sink out.old) (O.sink out.new) }
 {
-    let images = read_images(alloc, files, config)?;
+    let images = read_origin(alloc, files, origin)?;
     let list = read_list(alloc, files, list)?;
     check_images(alloc, &images, list.as_deref(), what, order, out)
 }

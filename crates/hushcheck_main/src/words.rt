@@ -15,7 +15,7 @@ use rehearse_terms::Shell;
 use std::alloc::{AllocError, Global};
 use std::convert::AsStr;
 use tool_words::{
-    Answer, DEFAULT_VARIABLE, UseError, config_of, is_set, order_of, parse, text_of, texts_of,
+    Answer, DEFAULT_VARIABLE, UseError, is_set, order_of, origin_of, parse, text_of, texts_of,
 };
 
 /// The variables that are named. If none is, and not every variable is to be checked, it is the one
@@ -81,7 +81,8 @@ fn unnamed(alloc: Global, matches: &ArgMatches<'_>) -> UseError
     }
 }
 
-/// What the entries ask for. Errors: no shell has the name that is given, or memory ran out.
+/// What the entries ask for. Errors: no shell has the name that is given, as a `Line`; then `Misnamed`, if
+/// the words that name the images do not go together; or memory ran out.
 fn ask_of(alloc: Global, matches: &ArgMatches<'_>) -> Result<Ask, UseError>
     ensures { Says (asked_of (rows_of (found_of matches.now))) result }
 {
@@ -90,7 +91,7 @@ fn ask_of(alloc: Global, matches: &ArgMatches<'_>) -> Result<Ask, UseError>
     };
     let all = is_set(matches, "all");
     Ok(Ask {
-        config: config_of(alloc, matches)?,
+        origin: origin_of(alloc, matches)?,
         devices_file: text_of(alloc, matches, "device-list")?,
         what: CheckAsk {
             names: names_of(alloc, matches, all)?,
@@ -101,7 +102,9 @@ fn ask_of(alloc: Global, matches: &ArgMatches<'_>) -> Result<Ask, UseError>
     })
 }
 
-/// Reads the words after the program's name.
+/// Reads the words after the program's name. Errors: `clap` refuses the words, or no shell has the name that
+/// is given, each as a `Line`; then `Misnamed`, if the words that name the images do not go together; or
+/// memory ran out.
 pub fn read_words<S: AsStr>(alloc: Global, words: &[S]) -> Result<Answer<Ask>, UseError>
     ensures { Answers (map S.text words.now) result }
 {

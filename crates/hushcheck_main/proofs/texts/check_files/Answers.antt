@@ -13,10 +13,10 @@ use Rattle.hushcheck_main.proofs.texts.check_files.Goals as goal
 pub returns-in_err-list-clause-told : goal.returns-in_err-list-clause-told
 returns-in_err-list-clause-told g c =
     let a = g.F.Files.told c.args.files.now in
-    let b = g.F.Files.told c.read_images.new.files in
+    let b = g.F.Files.told c.read_origin.new.files in
     let d = g.F.Files.told c.read_list.new.files in
     let out = g.O.Out.sink c.args.out.now in
-    let asked : Asked = asked_by c.args.config c.args.list c.args.what.now c.args.order in
+    let asked : Asked = asked_by c.args.origin c.args.list c.args.what.now c.args.order in
     let fault = c.in_err-list.field-0.0 in
     let p = err_from_is_err_and c.from_residual-in_err-list.result c.from_residual-in_err-list.ensures.1 in
     let answer : c.from_residual-in_err-list.result ≡ Err (Shared fault) = p.1 ∙ ap Err p.2 in
@@ -27,11 +27,11 @@ returns-in_err-list-clause-told g c =
 pub returns-clause-told : goal.returns-clause-told
 returns-clause-told g c =
     let a = g.F.Files.told c.args.files.now in
-    let b = g.F.Files.told c.read_images.new.files in
+    let b = g.F.Files.told c.read_origin.new.files in
     let d = g.F.Files.told c.read_list.new.files in
     let out = g.O.Out.sink c.args.out.now in
     let out' = g.O.Out.sink c.check_images.new.out in
-    let asked : Asked = asked_by c.args.config c.args.list c.args.what.now c.args.order in
+    let asked : Asked = asked_by c.args.origin c.args.list c.args.what.now c.args.order in
     let found = copies c.in_ok-images.images in
     let text = c.in_ok-list.list in
     let Q : Option (List ℕ) → Type 0 = λ t. ChecksText (given_by asked.order found t asked.names asked.all asked.shell) out out' c.check_images.result in

@@ -5,7 +5,7 @@ use Rattle.clap.specs.declared.error.kind.ErrorKind.TheVariants.{DisplayHelp, Di
 use Rattle.hushcheck_main.specs.Asked.{asked_of}
 use Rattle.hushcheck_main.specs.CommandAnswers.{Says}
 use Rattle.tool_words.specs.Answered.{IsAccepted, Refuses}
-use Rattle.hushcheck_main.proofs.AnswerLemmas.{clap-refused, hushcheck_free, hushcheck_simple, unnamed-refused}
+use Rattle.hushcheck_main.proofs.AnswerLemmas.{clap-refused, hushcheck_free, hushcheck_simple, entries-refused}
 use Rattle.hushcheck_main.proofs.words.read_words.Goals as goal
 
 pub parse-requires : goal.parse-requires
@@ -28,7 +28,7 @@ returns-in_err-ask_of-in-Ok-Asks g c =
     let accepted = subst (λ (a : App). IsAccepted a words) is parsed.0 in
     let error = c.in_err-ask_of-in-Ok-Asks.field-0.0 in
     let p = err_from_is_err_and c.from_residual-in_err-ask_of-in-Ok-Asks.result c.from_residual-in_err-ask_of-in-Ok-Asks.ensures.1 in
-    rw (p.1, p.2) (unnamed-refused words error accepted (subst (λ o. Says o (Err error)) (ap asked_of found) c.in_err-ask_of-in-Ok-Asks.ensures))
+    rw (p.1, p.2) (entries-refused words error accepted (subst (λ o. Says o (Err error)) (ap asked_of found) c.in_err-ask_of-in-Ok-Asks.ensures))
 
 pub returns-in-Err : goal.returns-in-Err
 returns-in-Err g c =
