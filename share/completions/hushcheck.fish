@@ -21,12 +21,15 @@ complete -c hushcheck -f
 # options: completions
 # Whether the word is an option whose value comes after it.
 function __hushcheck_takes_value
-    contains -- $argv[1] -c --config -d --device-list --shell
+    contains -- $argv[1] -c --config -i --image --second --text -d --device-list --shell
 end
 
 complete -c hushcheck -s h -l help -d 'Print help'
 complete -c hushcheck -s V -l version -d 'Print version'
 complete -c hushcheck -s c -l config -r -F -d 'Configuration, at most 1048576 bytes'
+complete -c hushcheck -s i -l image -r -F -d 'Image, at most 1048576 bytes: the whole FILE, in place of -c'
+complete -c hushcheck -l second -r -F -d 'Second copy of a redundant pair, beside -i: the whole FILE'
+complete -c hushcheck -l text -r -F -d 'Text for mkenvimage, at most 1048576 bytes, in place of -c'
 complete -c hushcheck -l big-endian -d 'The CRC is stored big-endian'
 complete -c hushcheck -s d -l device-list -r -F -d 'Device list, at most 1048576 bytes, that the commands are looked up in'
 complete -c hushcheck -l all -d 'Check every variable of the image, after the NAMEs'

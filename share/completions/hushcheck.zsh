@@ -20,6 +20,9 @@ _hushcheck_options() {
         hushcheck)
             specs=(
                 '(-c --config)'{-c,--config}'[Configuration, at most 1048576 bytes]:file:_files'
+                '(-i --image)'{-i,--image}'[Image, at most 1048576 bytes\: the whole FILE, in place of -c]:file:_files'
+                '--second[Second copy of a redundant pair, beside -i\: the whole FILE]:file:_files'
+                '--text[Text for mkenvimage, at most 1048576 bytes, in place of -c]:file:_files'
                 '--big-endian[The CRC is stored big-endian]'
                 '(-d --device-list)'{-d,--device-list}'[Device list, at most 1048576 bytes, that the commands are looked up in]:file:_files'
                 '--all[Check every variable of the image, after the NAMEs]'
