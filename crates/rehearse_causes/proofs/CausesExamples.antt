@@ -1,14 +1,17 @@
 -- Worked examples, computed: from the text of `bootcmd` to the lines of its causes.
 use Rattle.std.proofs.Common.{ℕ, Bool, true, false, [], ◌∷◌, List, Some, codes, refl, ◌≡◌}
+use Rattle.std.specs.Prelude.{option_map}
 use Rattle.std.specs.Fmt.{digits}
 use Rattle.hushlang.specs.Expansion.{fields, joined, atoms}
 use Rattle.hushlang.specs.Trees.{tree_of}
 use Rattle.device_list.specs.DeviceLaws.{quiet}
 use Rattle.device_list.specs.DeviceList.{only}
 use Rattle.rehearse_terms.specs.State.{Text}
+use Rattle.rehearse_terms.specs.declared.shell.Shell.TheVariants.{Profile}
 use Rattle.rehearse_rules.specs.Execution.{End}
 use Rattle.rehearse_rules.specs.Runs.{Task}
 use Rattle.rehearse_rules.proofs.ExampleRehearsals.{limits, bootcmd}
+use Rattle.rehearse_machine.specs.Tasks.{task_found}
 use Rattle.rehearse_causes.specs.Causes.{Cause, are_among, causes, covers, least, needs_less, times}
 use Rattle.rehearse_causes.specs.CauseLines.{causes_text, is_fine, reported}
 
@@ -63,6 +66,13 @@ no_device = refl
 in_order : lines 2 (codes "load b || load a || exit 3; boot") ≡ codes "cause 0 booted boot\ncause 1 end 1\nfails boot\ncause 2 end 3\nfails load b\nfails load a\n"
 unfolding tree_of fields joined atoms digits
 in_order = refl
+
+-- a text that is given, though a variable of its name is set (fails if the variable goes first)
+of_a_given_text : option_map (λ t. causes_text (causes t)) (task_found ((codes "boot.cmd", codes "exit 4") ∷ []) (only ((codes "load", quiet) ∷ []))
+    (record { name = codes "boot.cmd"; given = Some (codes "load a || exit 3") }) (record { devices = 4; steps = 20; failures = Some 1; shell = Profile }))
+    ≡ Some (codes "cause 0 end 0\ncause 1 end 3\nfails load a\n")
+unfolding tree_of fields joined atoms digits
+of_a_given_text = refl
 
 -- ---- checks
 

@@ -1,5 +1,5 @@
 -- What covers what: each cause itself, and what is covered by a cause that it covers.
-use Rattle.std.proofs.Common.{ℕ, zero, suc, Bool, true, false, cond, ◌&&◌, List, [], ◌∷◌, filter, length, map, not, refl, sym, ap, subst, ◌∙◌, ◌≡◌, ◌≤◌, ◌+◌, nat_le, arith}
+use Rattle.std.proofs.Common.{ℕ, suc, Bool, true, false, cond, ◌&&◌, List, [], ◌∷◌, filter, length, map, not, refl, sym, ap, subst, ◌∙◌, ◌≡◌, ◌≤◌, nat_le, arith}
 use Rattle.std.proofs.lemmas.Bool.{le-leb, leb-true}
 use Rattle.std.proofs.lemmas.Slice.Eq.{bytes_eq-Decides}
 use Rattle.std.specs.List.{list_all}
@@ -25,7 +25,7 @@ both_true false b h k = absurd (let f = h in cc)
 
 -- ---- words
 
-words_same : (v w : List Text) → same_words v w ≡ true → v ≡ w
+pub words_same : (v w : List Text) → same_words v w ≡ true → v ≡ w
 words_same [] [] h = refl
 words_same [] (y ∷ w) h = absurd (let f = h in cc)
 words_same (x ∷ v) [] h = absurd (let f = h in cc)
@@ -33,18 +33,18 @@ words_same (x ∷ v) (y ∷ w) h =
     ap (λ (t : Text). t ∷ v) ((bytes_eq-Decides x y).0 (both_left (bytes_eq x y) (same_words v w) h))
     ∙ ap (λ (ts : List Text). y ∷ ts) (words_same v w (both_right (bytes_eq x y) (same_words v w) h))
 
-words_themselves : (v : List Text) → same_words v v ≡ true
+pub words_themselves : (v : List Text) → same_words v v ≡ true
 words_themselves [] = refl
 words_themselves (x ∷ v) = both_true (bytes_eq x x) (same_words v v) ((bytes_eq-Decides x x).1 refl) (words_themselves v)
 
 -- ---- commands among others
 
 -- whether a command is one of them
-data IsOne (c : List Text) : List (List Text) → Type 0 where
+pub data IsOne (c : List Text) : List (List Text) → Type 0 where
   first : {d : List Text} {cs : List (List Text)} → c ≡ d → IsOne c (d ∷ cs)
   later : {d : List Text} {cs : List (List Text)} → IsOne c cs → IsOne c (d ∷ cs)
 
-one_counts : (c : List Text) (cs : List (List Text)) → IsOne c cs → 1 ≤ times c cs
+pub one_counts : (c : List Text) (cs : List (List Text)) → IsOne c cs → 1 ≤ times c cs
 one_counts c [] one = elim one [ ]
 one_counts c (d ∷ cs) (first e) =
     let same : same_words c d ≡ true = subst (λ (x : List Text). same_words c x ≡ true) e (words_themselves c) in
@@ -55,7 +55,7 @@ one_counts c (d ∷ cs) (later one) = by (same_words c d) refl (one_counts c cs 
     by true e on = rw e (omega arith)
     by false e on = rw e on
 
-counted_is_one : (c : List Text) (cs : List (List Text)) → 1 ≤ times c cs → IsOne c cs
+pub counted_is_one : (c : List Text) (cs : List (List Text)) → 1 ≤ times c cs → IsOne c cs
 counted_is_one c [] h = absurd (omega (arith, h))
 counted_is_one c (d ∷ cs) h = by (same_words c d) refl (counted_is_one c cs)
   where
@@ -64,11 +64,11 @@ counted_is_one c (d ∷ cs) h = by (same_words c d) refl (counted_is_one c cs)
     by false e on = later (on (subst (λ (b : Bool). 1 ≤ length (cond b (d ∷ filter (same_words c) cs) (filter (same_words c) cs))) e h))
 
 -- a test that each of them passes
-all_pass : (p : List Text → Bool) (cs : List (List Text)) → ((c : List Text) → IsOne c cs → p c ≡ true) → list_all p cs ≡ true
+pub all_pass : (p : List Text → Bool) (cs : List (List Text)) → ((c : List Text) → IsOne c cs → p c ≡ true) → list_all p cs ≡ true
 all_pass p [] each = refl
 all_pass p (c ∷ cs) each = both_true (p c) (list_all p cs) (each c (first refl)) (all_pass p cs (λ d one. each d (later one)))
 
-passes_all : (p : List Text → Bool) (c : List Text) (cs : List (List Text)) → list_all p cs ≡ true → IsOne c cs → p c ≡ true
+pub passes_all : (p : List Text → Bool) (c : List Text) (cs : List (List Text)) → list_all p cs ≡ true → IsOne c cs → p c ≡ true
 passes_all p c [] h one = elim one [ ]
 passes_all p c (d ∷ cs) h (first e) = subst (λ (x : List Text). p x ≡ true) (sym e) (both_left (p d) (list_all p cs) h)
 passes_all p c (d ∷ cs) h (later one) = passes_all p c cs (both_right (p d) (list_all p cs) h) one

@@ -1,8 +1,7 @@
 -- The least of causes, found by adding one cause after another.
-use Rattle.std.proofs.Common.{Bool, true, false, cond, not, ◌&&◌, ◌||◌, List, [], ◌∷◌, ◌++◌, filter, map, refl, sym, ap, subst, ◌∙◌, ◌≡◌, inl, inr, ◌⊎◌, append_assoc, append-nil}
+use Rattle.std.proofs.Common.{Bool, true, false, cond, not, ◌||◌, List, [], ◌∷◌, ◌++◌, filter, refl, sym, ap, subst, ◌∙◌, ◌≡◌, inl, inr, ◌⊎◌, append_assoc, append-nil}
 use Rattle.std.specs.List.{list_any}
 use Rattle.std.proofs.lemmas.List.Folds.{list_any-append}
-use Rattle.std.proofs.lemmas.List.{map-append}
 use Rattle.bootstore_state.specs.declared.store.Store.{Ghosts}
 use Rattle.rehearse_terms.specs.Outcomes.{OutcomeWord}
 use Rattle.rehearse_terms.specs.State.{State, Text}
@@ -10,12 +9,11 @@ use Rattle.rehearse_rules.specs.Execution.{Ending}
 use Rattle.rehearse_rules.specs.Runs.{Task, ending_of, run_on}
 use Rattle.rehearse_records.specs.RunViewShown.{shown_ending, shown_moment}
 use Rattle.rehearse_records.specs.declared.run_view.RunView.{RunView}
-use Rattle.rehearse_runs.specs.Giving.{GivesNone, GivesWord, ShowsRun}
-use Rattle.rehearse_runs.specs.RunsShown.{RunsShown, last_given}
+use Rattle.rehearse_runs.specs.Giving.{ShowsRun}
 use Rattle.rehearse_states.specs.EndingLines.{failed}
 use Rattle.rehearse_states.specs.Flow.{asked_in}
 use Rattle.rehearse_causes.specs.Causes.{Cause, cause_on, covers, needs_less, least_behind, least}
-use Rattle.rehearse_causes.proofs.CoveringLemmas.{both_left, both_right, both_true, covers_itself, covers_on}
+use Rattle.rehearse_causes.proofs.CoveringLemmas.{both_left, both_right, both_true, covers_on}
 
 -- whether one of them covers a cause, or needs less
 abbrev pub covered : Cause → List Cause → Bool
@@ -70,7 +68,7 @@ covers_less v c x h k =
     both_true (covers v x) (not (covers x v)) (covers_on v c x h (less_covers c x k))
     (not_true (covers x v) (λ back. less_not_back c x k (covers_on x v c back h)))
 
-covered_on : (c x : Cause) (ks : List Cause) → covered c ks ≡ true → covers c x ≡ true → covered x ks ≡ true
+pub covered_on : (c x : Cause) (ks : List Cause) → covered c ks ≡ true → covers c x ≡ true → covered x ks ≡ true
 covered_on c x [] h k = absurd (let f = h in cc)
 covered_on c x (d ∷ ks) h k =
     elim (either (covers d c) (covered c ks) h) [
@@ -213,7 +211,7 @@ kept_are_of before (x ∷ cs) q h =
     by true e on = rw e on
     by false e on = rw e (rw (neither_left (covers x q) (covered q cs) h) on)
 
--- ---- what the code does
+-- ---- one more, as it is kept
 
 -- those that a cause does not cover
 abbrev pub uncovered : Cause → List Cause → List Cause
@@ -238,46 +236,8 @@ kept_step cs c = least_more [] cs c ∙ by (covered c cs) refl
     by true t = rw (t, kept_covers cs c t) (append-nil (unbeaten c (least cs)) ∙ beats_none [] cs c t)
     by false t = rw (t, kept_are_of [] cs c t) (ap (λ (ks : List Cause). ks ++ c ∷ []) (uncovered_is c (least cs) (kept_are_of [] cs c t)))
 
--- ---- among the runs of a rehearsal
+-- ---- what is seen of a run
 
--- what is kept are the causes among the runs that were given
-pub record Kept (old new : RunsShown) (kept : List Cause) : Type 0 where
-  pub ws : List OutcomeWord
-  pub words : old.to_come ≡ ws ++ new.to_come
-  pub task : new.task ≡ old.task
-  pub sound : new.failed ≡ false
-  pub are : kept ≡ least (map (cause_on old.task) ws)
-
-pub kept_none : (runs : RunsShown) → runs.failed ≡ false → Kept runs runs []
-kept_none runs f = record { ws = []; words = refl; task = refl; sound = f; are = refl }
-
--- one more run was given
-pub kept_more : {old mid : RunsShown} {kept : List Cause} (new : RunsShown) (c : Cause) (made : List Cause) → Kept old mid kept → GivesWord mid new
-    → c ≡ cause_on new.task (last_given new)
-    → made ≡ cond (covered c kept) kept (uncovered c kept ++ c ∷ []) → Kept old new made
-kept_more {old} {mid} {kept} new c made k g is m =
-    let w = last_given new in
-    let said : c ≡ cause_on old.task w = is ∙ ap (λ (task : Task). cause_on task w) (g.task ∙ k.task) in
-    let causes = map (cause_on old.task) k.ws in
-    record {
-      ws = k.ws ++ w ∷ [];
-      words = k.words ∙ ap (λ (ws : List OutcomeWord). k.ws ++ ws) g.first ∙ sym (append_assoc k.ws (w ∷ []) new.to_come);
-      task = g.task ∙ k.task;
-      sound = g.still;
-      are =
-          m
-          ∙ ap (λ (ks : List Cause). cond (covered c ks) ks (uncovered c ks ++ c ∷ [])) k.are
-          ∙ sym (kept_step causes c)
-          ∙ ap (λ (d : Cause). least (causes ++ d ∷ [])) said
-          ∙ ap least (sym (map-append (cause_on old.task) k.ws (w ∷ [])));
-    }
-
--- no run is left
-pub kept_all : {old mid new : RunsShown} {kept : List Cause} → Kept old mid kept → GivesNone mid new → kept ≡ least (map (cause_on old.task) old.to_come)
-kept_all {old} {mid} {new} k g =
-    k.are ∙ ap (λ (ws : List OutcomeWord). least (map (cause_on old.task) ws)) (sym (append-nil k.ws) ∙ ap (λ (ws : List OutcomeWord). k.ws ++ ws) (sym g.none) ∙ sym k.words)
-
--- what is seen of a run that is shown
 pub cause_shown : {S : Type 0} (g : Ghosts S) (task : Task) (w : OutcomeWord) (v : RunView S) → ShowsRun g task w v
     → record { ending = shown_ending v; fails = failed (asked_in (shown_moment g v).log) } ≡ cause_on task w
 cause_shown g task w v h =

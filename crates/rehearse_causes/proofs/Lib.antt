@@ -1,5 +1,10 @@
 mod CoveringLemmas
 mod LeastLemmas
+mod NumberLemmas
+mod PlaceLemmas
+mod FromBothEndsLemmas
+mod KeptLemmas
 mod LawLemmas
 mod TellingLemmas
 mod CausesExamples
+mod KeepingExamples

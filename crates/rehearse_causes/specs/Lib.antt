@@ -1,4 +1,6 @@
 pub mod Causes
+pub mod Numbers
+pub mod Keeping
 pub mod CauseLines
 pub mod TellingCauses
 pub mod Laws

@@ -1,10 +1,11 @@
--- What is written of the causes of an environment's variable, and why it is refused. Ours.
+-- What is written of the causes of an environment's variable or of a given text, and why it is refused. Ours.
 use Rattle.std.specs.Prelude.{◌≡◌, Bool, List, Option, Some, None, Err}
 use Rattle.output.specs.Sink.{Sink, Wrote, BrokeOff}
+use Rattle.text.specs.TextsShown.{option_bytes}
 use Rattle.rehearse_terms.specs.State.{Text}
 use Rattle.device_list.specs.DeviceList.{Devices, listed}
 use Rattle.rehearse_rules.specs.Runs.{Task}
-use Rattle.rehearse_machine.specs.Tasks.{task_set}
+use Rattle.rehearse_machine.specs.Tasks.{SourceShown, task_found}
 use Rattle.rehearse_runs.specs.RehearsedEnvironment.{WithDevices}
 use Rattle.rehearse_causes.specs.Causes.{Cause, causes}
 use Rattle.rehearse_causes.specs.CauseLines.{causes_text, is_fine, reported}
@@ -12,11 +13,15 @@ use Rattle.rehearse_causes.specs.declared.telling.CausesAsk.{CausesAsk}
 use Rattle.rehearse_rules.specs.declared.rehearse_error.RehearseError.{RehearseError}
 use Rattle.rehearse_rules.specs.declared.rehearse_error.RehearseError.TheVariants.{DeviceList, NoSuchVariable, Write, Memory}
 
--- the rehearsal of the variable, if it is set
-abbrev pub task_asked : List (Text × Text) → Devices → CausesAsk → Option Task
-task_asked environment devices ask = task_set environment devices ask.name.now ask.bounds
+-- what is rehearsed
+abbrev pub source_of : CausesAsk → SourceShown
+source_of ask = record { name = ask.name.now; given = option_bytes ask.text }
 
--- the variable is set, and this holds of its causes, or of those that do not boot
+-- the rehearsal of it, if a text is given or the variable is set
+abbrev pub task_asked : List (Text × Text) → Devices → CausesAsk → Option Task
+task_asked environment devices ask = task_found environment devices (source_of ask) ask.bounds
+
+-- there is a text, and this holds of its causes, or of those that do not boot
 pub record WithCauses (found : Option Task) (check : Bool) (IsSo : List Cause → Type 0) : Type 0 where
   pub task : Task
   pub task_is : found ≡ Some task

@@ -9,8 +9,10 @@ ghost use Rattle.rehearse_states.specs.EndingLines.{fails_lines, failed};
 ghost use Rattle.rehearse_states.specs.Flow.{asked_in};
 ghost use Rattle.rehearse_causes.specs.Causes.{are_among, covers, times};
 ghost use Rattle.rehearse_causes.specs.CauseLines.{cause_line, cause_lines, causes_text, is_booted};
+ghost use Rattle.rehearse_causes.specs.Numbers.{cause_number, part_numbers};
 ghost use Rattle.text.specs.TextsShown.{bytes_of_words};
 
+use crate::number::{fails_number, part_numbers};
 use bootstore_state::{LogEntry, Store, StoreError};
 use rehearse_rules::{Ending, Halt};
 use rehearse_runs::RunView;
@@ -132,6 +134,27 @@ impl Cause {
         ensures { result ≡ covers self.now other.now }
     {
         same_halt(&self.halt, &other.halt) && are_among(&self.fails, &other.fails)
+    }
+
+    /// How many commands fail.
+    pub(crate) fn count(&self) -> usize
+        ensures { result ≡ length self.now.fails }
+    {
+        self.fails.len()
+    }
+
+    /// Its number, which only depends on what fails.
+    pub(crate) fn number(&self) -> u64
+        ensures { result ≡ cause_number self.now }
+    {
+        fails_number(&self.fails)
+    }
+
+    /// The number of each part of what fails. Errors: `Memory`.
+    pub(crate) fn part_numbers(&self, alloc: Global) -> Result<Vec<u64>, StoreError>
+        ensures { IfOk result (λ made. made.items ≡ part_numbers self.now.fails) }
+    {
+        part_numbers(alloc, &self.fails)
     }
 
     /// Whether the run boots.

@@ -1,48 +1,45 @@
 //! Of the runs that end alike, those of which no other needs less.
-ghost use Rattle.std.specs.Prelude.{◌≡◌, ◌++◌, ◌∷◌, [], false, true, IfOk, IfErr, cond, filter, map, not};
-ghost use Rattle.std.specs.List.{list_any};
-ghost use Rattle.rehearse_causes.specs.Causes.{cause_on, covers, least};
+ghost use Rattle.std.specs.Prelude.{◌≡◌, false, IfOk, IfErr, map, reverse};
+ghost use Rattle.rehearse_causes.specs.Causes.{cause_on, least};
+ghost use Rattle.rehearse_causes.specs.Keeping.{foremost};
 ghost use Rattle.rehearse_rules.specs.declared.rehearse_error.RehearseError.TheVariants.{Memory};
 
 use crate::cause::Cause;
+use crate::kept::{Kept, foremost};
 use bootstore_state::{Store, StoreError};
 use rehearse_rules::RehearseError;
 use rehearse_runs::Runs;
 use std::alloc::Global;
 
-/// Whether one of them covers a cause.
-fn is_covered(kept: &[Cause], cause: &Cause) -> bool
-    ensures { result ≡ list_any (λ one. covers one cause.now) kept.now }
+/// Of causes of which none is covered by one before it, those that none behind them covers. Errors:
+/// `Memory`.
+fn least(alloc: Global, causes: Vec<Cause>) -> Result<Vec<Cause>, StoreError>
+    ensures { IfOk result (λ made. made.items ≡ reverse (foremost (reverse causes.items))) }
 {
-    kept.iter().any(|one| one.covers(cause))
+    let mut back = causes;
+    back.reverse();
+    let mut made = foremost(alloc, back)?;
+    made.reverse();
+    Ok(made)
 }
 
-/// Those that a cause does not cover. Errors: `Memory`.
-fn uncovered(alloc: Global, kept: Vec<Cause>, cause: &Cause) -> Result<Vec<Cause>, StoreError>
-    ensures { IfOk result (λ left. left.items
-        ≡ filter (λ one. not (covers cause.now one)) kept.items) }
+/// Of the causes of the runs still to come, those that none before them covers. Errors: `Memory`.
+fn gathered<S: Store>(alloc: Global, runs: &mut Runs<'_, S>) -> Result<Vec<Cause>, RehearseError>
+    requires { runs.old.failed ≡ false }
+    ensures ok { IfOk result (λ made. made.items
+        ≡ foremost (map (cause_on runs.old.task) runs.old.to_come)) }
+    ensures err { IfErr result (λ e. e ≡ Memory) }
 {
-    let mut left = Vec::new(alloc);
-    for one in kept {
-        if !cause.covers(&one) {
-            left.push(one)?;
-        }
+    let mut kept = Kept::new(alloc);
+    while let Some(view) = runs.next()? {
+        let Ok(cause) = Cause::of(alloc, &view) else {
+            return Err(RehearseError::Memory);
+        };
+        let Ok(()) = kept.keep(alloc, cause) else {
+            return Err(RehearseError::Memory);
+        };
     }
-    Ok(left)
-}
-
-/// Keeps one more. Looks at each that is kept. Errors: `Memory`.
-fn keep(alloc: Global, kept: Vec<Cause>, cause: Cause) -> Result<Vec<Cause>, StoreError>
-    ensures { IfOk result (λ made. made.items
-        ≡ cond (list_any (λ one. covers one cause) kept.items) kept.items
-        (filter (λ one. not (covers cause one)) kept.items ++ cause ∷ [])) }
-{
-    if is_covered(&kept, &cause) {
-        return Ok(kept);
-    }
-    let mut left = uncovered(alloc, kept, &cause)?;
-    left.push(cause)?;
-    Ok(left)
+    Ok(kept.causes)
 }
 
 /// The causes among the runs still to come. Errors: `Memory`.
@@ -55,15 +52,9 @@ pub(crate) fn least_of<S: Store>(
         ≡ least (map (cause_on runs.old.task) runs.old.to_come)) }
     ensures err { IfErr result (λ e. e ≡ Memory) }
 {
-    let mut kept = Vec::new(alloc);
-    while let Some(view) = runs.next()? {
-        let Ok(cause) = Cause::of(alloc, &view) else {
-            return Err(RehearseError::Memory);
-        };
-        let Ok(more) = keep(alloc, kept, cause) else {
-            return Err(RehearseError::Memory);
-        };
-        kept = more;
+    let causes = gathered(alloc, runs)?;
+    match least(alloc, causes) {
+        Ok(made) => Ok(made),
+        Err(_) => Err(RehearseError::Memory),
     }
-    Ok(kept)
 }

@@ -2,8 +2,10 @@
 #![tactic(auto)]
 
 mod cause;
+mod kept;
 pub mod laws;
 mod least;
+mod number;
 mod telling;
 
 pub use cause::Cause;

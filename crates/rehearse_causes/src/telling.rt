@@ -1,4 +1,4 @@
-//! The causes of an environment's variable, from the text of its device list to the lines.
+//! The causes of an environment's variable, or of a given text, from the text of its device list to the lines.
 ghost use Rattle.std.specs.Prelude.{◌≡◌, IfOk, IfErr, Ok};
 ghost use Rattle.device_list.specs.DeviceList.{listed};
 ghost use Rattle.rehearse_terms.specs.State.{Text};
@@ -11,6 +11,7 @@ use bootstore_state::{Store, StoreError};
 use device_list::Devices;
 use envtools::Env;
 use output::{Out, write_all};
+use rehearse_machine::Source;
 use rehearse_rules::{RehearseError, read_devices};
 use rehearse_runs::Runs;
 use rehearse_terms::Bounds;
@@ -19,8 +20,10 @@ use std::alloc::Global;
 /// What is asked of the causes of a script.
 #[derive(Clone, Copy)]
 pub struct CausesAsk<'a> {
-    /// The variable whose text is rehearsed.
+    /// The variable whose text is rehearsed, or what the given text is called.
     pub name: &'a [u8],
+    /// A text that is rehearsed in place of a variable's.
+    pub text: Option<&'a [u8]>,
     /// The bounds of its runs, and how many device commands may fail in those that are looked at.
     pub bounds: Bounds,
     /// Whether only causes are told that do not boot.
@@ -54,7 +57,7 @@ fn text_of(alloc: Global, causes: &[Cause]) -> Result<Vec<u8>, StoreError>
     Ok(text)
 }
 
-/// The causes of a variable that are told. Errors: `NoSuchVariable`, `Memory`.
+/// The causes of the given text, or else of a variable, that are told. Errors: `NoSuchVariable`, `Memory`.
 fn causes_in<S: Store>(
     alloc: Global,
     env: &Env,
@@ -65,7 +68,11 @@ fn causes_in<S: Store>(
         ask.now.check (λ causes. told.items ≡ causes)) }
     ensures err { IfErr result (λ e. IsUntold (task_asked env.now devices.now ask.now) e) }
 {
-    let mut runs = Runs::<S>::new(alloc, env, devices, ask.name, ask.bounds)?;
+    let source = Source {
+        name: ask.name,
+        text: ask.text,
+    };
+    let mut runs = Runs::<S>::of(alloc, env, devices, source, ask.bounds)?;
     let causes = least_of(alloc, &mut runs)?;
     match reported(alloc, ask.check, causes) {
         Ok(told) => Ok(told),
@@ -97,8 +104,8 @@ fn causes_with<S: Store, O: Out>(
     Ok(!ask.check || told.is_empty())
 }
 
-/// Writes what has to fail for each way in which the runs of a variable end: for each cause a line,
-/// and a line for each device command that fails. A cause is a run of which no other with the same
+/// Writes what has to fail for each way in which the runs of a variable or of a given text end: for
+/// each cause a line, and a line for each device command that fails. A cause is a run of which no other with the same
 /// ending needs less. For a check, writes only those that do not boot, and returns false if there is
 /// one; else returns true. Goes through all runs of the bounds, and compares each with the causes
 /// that are kept.

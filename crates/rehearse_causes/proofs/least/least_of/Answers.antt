@@ -1,11 +1,11 @@
-use Rattle.std.proofs.Common.{◌∙◌}
-use Rattle.rehearse_runs.specs.RunsShown.{last_given}
-use Rattle.rehearse_runs.proofs.ListingLemmas.{given_by}
-use Rattle.rehearse_causes.proofs.LeastLemmas.{cause_shown, kept_more}
+use Rattle.std.proofs.Common.{◌∙◌, ap, List, map, reverse}
+use Rattle.rehearse_causes.specs.Causes.{Cause, cause_on}
+use Rattle.rehearse_causes.specs.Keeping.{foremost}
+use Rattle.rehearse_causes.proofs.FromBothEndsLemmas.{least_from_both_ends}
 use Rattle.rehearse_causes.proofs.least.least_of.Goals as goal
 
-pub loop-view-preserved : goal.loop-view-preserved
-loop-view-preserved g c =
-    let new = c.next.follows.lender-at-none in
-    let m = given_by g.S.Store c.loop-view.runs new c.next.result c.in_ok-view.field-0 c.in-Some.view c.in_ok-view.was c.in-Some.is c.next.follows.holds-at-none in
-    kept_more new c.in-Ok.cause c.in-Ok-keep.more.items c.loop-view.invariant m.0 (c.in-Ok.ensures ∙ cause_shown g.S.Store new.task (last_given new) c.in-Some.view m.1) c.in-Ok-keep.ensures
+pub returns-in-Ok-clause-ok : goal.returns-in-Ok-clause-ok
+returns-in-Ok-clause-ok g c =
+    c.in-Ok.ensures
+    ∙ ap (λ (cs : List Cause). reverse (foremost (reverse cs))) c.in_ok-causes.ensures.ok
+    ∙ least_from_both_ends (map (cause_on c.args.runs.now.task) c.args.runs.now.to_come)
