@@ -10,7 +10,7 @@ pub use output::{Out, OutFault, Over};
 pub use rehearse_records::RunView;
 pub use rehearse_rules::{Ending, RehearseError, read_devices};
 pub use rehearse_runs::{
-    Ask, Finish, Point, Runs, WordKind, rehearse_env, resume_point, try_word, write_listing,
+    Ask, Finish, Point, Runs, Source, WordKind, rehearse_env, resume_point, try_word, write_listing,
 };
 pub use rehearse_terms::{
     Bounds, DEVICES_MAX, Page, RUN_DEVICES_MAX, RunBounds, STEPS_MAX, Wanted,

@@ -1,10 +1,11 @@
--- What is written of the endings of an environment's variable, and why it is refused. Ours.
+-- What is written of the endings of an environment's variable or of a given text, and why it is refused. Ours.
 use Rattle.std.specs.Prelude.{◌≡◌, ℕ, ◌+◌, ◌≤◌, Bool, true, false, List, length, map, Option, Some, None, Ok, Err}
 use Rattle.output.specs.Sink.{Sink, Wrote, BrokeOff}
+use Rattle.text.specs.TextsShown.{option_bytes}
 use Rattle.rehearse_terms.specs.State.{Text}
 use Rattle.device_list.specs.DeviceList.{Devices, listed}
 use Rattle.rehearse_rules.specs.Runs.{Task, all_runs}
-use Rattle.rehearse_machine.specs.Tasks.{task_set}
+use Rattle.rehearse_machine.specs.Tasks.{SourceShown, task_found}
 use Rattle.rehearse_states.specs.Endings.{endings}
 use Rattle.rehearse_states.specs.Flow.{Node, IsFlow, flow_text}
 use Rattle.rehearse_states.specs.EndingLines.{endings_text, failing}
@@ -17,12 +18,16 @@ use Rattle.rehearse_rules.specs.declared.rehearse_error.RehearseError.TheVariant
 abbrev pub names_of : EndingsAsk → List Text
 names_of ask = map (λ n. n.now) ask.names.now
 
--- the device list is valid, and the task has this property, if the variable is set
+-- what is rehearsed
+abbrev pub source_of : EndingsAsk → SourceShown
+source_of ask = record { name = ask.name.now; given = option_bytes ask.text }
+
+-- the device list is valid, and the task has this property, if there is a text
 pub record HasDevices (environment : List (Text × Text)) (devices_text : Text) (ask : EndingsAsk)
     (IsSo : Option Task → Type 0) : Type 0 where
   pub devices : Devices
   pub listed_as : listed devices_text ≡ Ok devices
-  pub so : IsSo (task_set environment devices ask.name.now ask.bounds)
+  pub so : IsSo (task_found environment devices (source_of ask) ask.bounds)
 
 -- the flow of the task, or how its runs end, and the values of these variables there; its runs come to this many states
 abbrev pub Tells : (names : List Text) → (flow : Bool) → Task → (states : ℕ) → Text → Type 0

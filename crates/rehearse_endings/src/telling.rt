@@ -1,11 +1,11 @@
-//! How the runs of an environment's variable end, from the text of its device list to the lines.
+//! How the runs of an environment's variable, or of a given text, end, from the text of its device list to the lines.
 ghost use Rattle.std.specs.Prelude.{◌≡◌, ◌+◌, IfOk, IfErr, Ok, Some, map};
 ghost use Rattle.rehearse_terms.specs.State.{Text};
 ghost use Rattle.device_list.specs.DeviceList.{listed};
-ghost use Rattle.rehearse_machine.specs.Tasks.{task_in, task_set};
+ghost use Rattle.rehearse_machine.specs.Tasks.{task_found, task_in};
 ghost use Rattle.rehearse_endings.specs.declared.sum_error.SumError.TheVariants.{States};
 ghost use Rattle.rehearse_endings.specs.States.{HasStates};
-ghost use Rattle.rehearse_endings.specs.TellingEndings.{AreLines, IsUntold, names_of, TellsEndings, RefusesEndings};
+ghost use Rattle.rehearse_endings.specs.TellingEndings.{AreLines, IsUntold, names_of, source_of, TellsEndings, RefusesEndings};
 
 use crate::searching::sum_endings;
 use crate::sum_error::SumError;
@@ -13,7 +13,7 @@ use bootstore_state::Store;
 use device_list::Devices;
 use envtools::Env;
 use output::{Out, write_all};
-use rehearse_machine::Rehearsal;
+use rehearse_machine::{Rehearsal, Source};
 use rehearse_rules::{RehearseError, read_devices};
 use rehearse_states::{flow_text_of, text_of};
 use rehearse_terms::RunBounds;
@@ -22,8 +22,10 @@ use std::alloc::Global;
 /// What is asked of the endings of a script.
 #[derive(Clone, Copy)]
 pub struct EndingsAsk<'a> {
-    /// The variable whose text is rehearsed.
+    /// The variable whose text is rehearsed, or what the given text is called.
     pub name: &'a [u8],
+    /// A text that is rehearsed in place of a variable's.
+    pub text: Option<&'a [u8]>,
     /// The bounds of its runs.
     pub bounds: RunBounds,
     /// How many states may be searched.
@@ -63,7 +65,8 @@ fn lines_of<S: Store>(
     Ok(text)
 }
 
-/// The lines of all runs of a variable, if it is set. Errors: `NoSuchVariable`, `States`, `Memory`.
+/// The lines of all runs of the given text, or else of a variable, if it is set. Errors:
+/// `NoSuchVariable`, `States`, `Memory`.
 fn lines_in<S: Store>(
     alloc: Global,
     env: &Env,
@@ -71,12 +74,15 @@ fn lines_in<S: Store>(
     ask: &EndingsAsk<'_>,
 ) -> Result<Vec<u8>, RehearseError>
     ensures ok { IfOk result (λ text. AreLines (names_of ask.now) ask.now.flow ask.now.states
-        (task_set env.now devices.now ask.now.name.now ask.now.bounds) text.items) }
-    ensures err { IfErr result
-        (λ e. IsUntold ask.now.states (task_set env.now devices.now ask.now.name.now ask.now.bounds)
-        e) }
+        (task_found env.now devices.now (source_of ask.now) ask.now.bounds) text.items) }
+    ensures err { IfErr result (λ e. IsUntold ask.now.states
+        (task_found env.now devices.now (source_of ask.now) ask.now.bounds) e) }
 {
-    let Some(rehearsal) = Rehearsal::of(alloc, env, devices, ask.name, ask.bounds) else {
+    let source = Source {
+        name: ask.name,
+        text: ask.text,
+    };
+    let Some(rehearsal) = Rehearsal::of(alloc, env, devices, source, ask.bounds) else {
         return Err(RehearseError::NoSuchVariable);
     };
     match lines_of::<S>(&rehearsal, ask.names, ask.states, ask.flow) {
@@ -109,7 +115,7 @@ fn endings_with<S: Store, O: Out>(
     }
 }
 
-/// Writes how all runs of a variable end: for each ending a line, the values that are left of the
+/// Writes how all runs of a variable or of a given text end: for each ending a line, the values that are left of the
 /// named variables, and the device commands that fail in the run with the fewest failures; then a
 /// line for all runs. Or it writes their flow: a line for each state in which a device command
 /// asks, and for each way to end. Refusals in order: the device list, the variable, `States` and

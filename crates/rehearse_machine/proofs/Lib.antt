@@ -29,4 +29,5 @@ pub mod FoundAgain
 pub mod Limits
 pub mod TextLemmas
 pub mod TaskSet
+mod SourceExamples
 pub mod StoppedTextLemmas

@@ -1,4 +1,4 @@
--- A variable is set in an environment exactly if it is set in the environment of a script.
+-- There is a text to run in an environment exactly if there is one in the environment of a script.
 use Rattle.std.proofs.Common.{◌≡◌, Bool, true, false, cond, ◌||◌, List, [], ◌∷◌, Option, Some, None, IsSome, unwrap_or, option_map, rules, refl, sym, ap, ◌∙◌}
 use Rattle.std.specs.Prelude.{if◌then◌else◌}
 use Rattle.std.specs.FinMap as finite
@@ -14,7 +14,7 @@ use Rattle.rehearse_terms.specs.State.{Text, get}
 use Rattle.device_list.specs.DeviceList.{Devices}
 use Rattle.rehearse_terms.specs.Bounds.{BoundsShown}
 use Rattle.rehearse_rules.specs.Runs.{Task}
-use Rattle.rehearse_machine.specs.Tasks.{task_shown, task_set}
+use Rattle.rehearse_machine.specs.Tasks.{SourceShown, task_found, task_from, text_by, text_in}
 use Rattle.bootstore_state.proofs.StateLemmas.{stored_values}
 
 abbrev is_there : Option Text → Bool
@@ -47,8 +47,15 @@ unmade f value None e h = refl
 unmade f None (Some text) e h = absurd cc
 unmade f (Some v) (Some text) e h = absurd cc
 
-pub task_is_set : (env : List (Text × Text)) (devices : Devices) (name : Text) (bounds : BoundsShown) → IsSome (value_of env name) → task_set env devices name bounds ≡ Some (task_shown env devices name bounds)
-task_is_set env devices name bounds h = made (λ text. record (task_shown env devices name bounds) { text = text }) (value_of env name) (get (entries (environment_of env)) name) (stays_there env name) h
+there_by : (given value o : Option Text) → is_there o ≡ is_there value → is_there (text_by given o) ≡ is_there (text_by given value)
+there_by (Some text) value o e = refl
+there_by None value o e = e
 
-pub task_is_unset : (env : List (Text × Text)) (devices : Devices) (name : Text) (bounds : BoundsShown) → value_of env name ≡ None → task_set env devices name bounds ≡ None
-task_is_unset env devices name bounds h = unmade (λ text. record (task_shown env devices name bounds) { text = text }) (value_of env name) (get (entries (environment_of env)) name) (stays_there env name) h
+text_stays : (env : List (Text × Text)) (source : SourceShown) → is_there (text_by source.given (get (entries (environment_of env)) source.name)) ≡ is_there (text_in env source)
+text_stays env source = there_by source.given (value_of env source.name) (get (entries (environment_of env)) source.name) (stays_there env source.name)
+
+pub task_is_found : (env : List (Text × Text)) (devices : Devices) (source : SourceShown) (bounds : BoundsShown) → IsSome (text_in env source) → task_found env devices source bounds ≡ Some (task_from env devices source bounds)
+task_is_found env devices source bounds h = made (λ text. record (task_from env devices source bounds) { text = text }) (text_in env source) (text_by source.given (get (entries (environment_of env)) source.name)) (text_stays env source) h
+
+pub task_is_missing : (env : List (Text × Text)) (devices : Devices) (source : SourceShown) (bounds : BoundsShown) → text_in env source ≡ None → task_found env devices source bounds ≡ None
+task_is_missing env devices source bounds h = unmade (λ text. record (task_from env devices source bounds) { text = text }) (text_in env source) (text_by source.given (get (entries (environment_of env)) source.name)) (text_stays env source) h

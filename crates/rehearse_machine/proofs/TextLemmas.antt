@@ -1,4 +1,4 @@
--- The text of a variable at the start of a run.
+-- The text that is run, at the start of a run.
 use Rattle.std.proofs.Common.{List, [], ◌∷◌, Option, Some, None, refl, sym, ap, subst, ◌∙◌, ◌≡◌}
 use Rattle.std.specs.Prelude.{unwrap_or}
 use Rattle.std.specs.FinMap as finite
@@ -21,6 +21,7 @@ use Rattle.hushlang_old.proofs.TreeByShellLemmas.{trees_in_are_proper}
 use Rattle.rehearse_machine.specs.Frames.{Frame, Lists, begun_text}
 use Rattle.rehearse_machine.specs.Places.{frames_of, text_frame}
 use Rattle.rehearse_machine.specs.Came.{Over, settled}
+use Rattle.rehearse_machine.specs.Tasks.{text_by}
 use Rattle.rehearse_machine.specs.Meaning.{continue, with, AreProperFrames}
 use Rattle.rehearse_machine.specs.Turning.{IsSound, to_come}
 use Rattle.rehearse_machine.proofs.PlaceMoves.{text_begins}
@@ -64,5 +65,5 @@ pub refused_runs : (task : Task) (w : OutcomeWord) → tree_in task.limits.shell
 refused_runs task w e = begins task None e w
 
 -- the text that a rehearsal reads
-pub same_text : (variables : stored.Variables) (name found : Text) (present : stored.Moment) → present.environment ≡ variables → found ≡ unwrap_or (finite.get present.environment name) [] → found ≡ unwrap_or (get (entries variables) name) []
-same_text variables name found present e h = h ∙ ap (λ (v : stored.Variables). unwrap_or (finite.get v name) []) e ∙ ap (λ (o : Option Text). unwrap_or o []) (sym (stored_values variables name))
+pub same_text : (variables : stored.Variables) (given : Option Text) (name found : Text) (present : stored.Moment) → present.environment ≡ variables → found ≡ unwrap_or (text_by given (finite.get present.environment name)) [] → found ≡ unwrap_or (text_by given (get (entries variables) name)) []
+same_text variables given name found present e h = h ∙ ap (λ (v : stored.Variables). unwrap_or (text_by given (finite.get v name)) []) e ∙ ap (λ (o : Option Text). unwrap_or (text_by given o) []) (sym (stored_values variables name))

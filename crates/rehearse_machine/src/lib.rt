@@ -23,7 +23,9 @@ mod rehearsal;
 mod run_and_exit;
 mod scripts;
 mod simple;
+mod source;
 mod steps;
 mod told;
 
 pub use rehearsal::{Rehearsal, Stop, begin, resume};
+pub use source::Source;

@@ -7,7 +7,7 @@ ghost use Rattle.rehearse_machine.specs.Came.{settled};
 ghost use Rattle.rehearse_machine.specs.MovesShown.{Keeps, limits_of};
 ghost use Rattle.rehearse_machine.specs.Turning.{IsSound, to_come};
 ghost use Rattle.rehearse_machine.specs.Machine.{Stops, IsAsking, TakesOutcome, asked_at, outcome_when};
-ghost use Rattle.rehearse_machine.specs.Tasks.{task_in};
+ghost use Rattle.rehearse_machine.specs.Tasks.{source_shown, task_in, text_by};
 
 use crate::ask::Step;
 use crate::asking::find_again;
@@ -15,6 +15,7 @@ use crate::by_shell::unread;
 use crate::frames::text;
 use crate::machine::drive;
 use crate::outcomes::answer;
+use crate::source::Source;
 use bootstore_state::{Store, StoreError, read_script};
 use device_list::Devices;
 use envtools::Env;
@@ -42,40 +43,39 @@ pub struct Rehearsal<'a> {
     pub env: &'a Env,
     /// The device commands.
     pub devices: &'a Devices,
-    /// The variable whose text is run.
-    pub name: &'a [u8],
+    /// What is run.
+    pub source: Source<'a>,
     /// The bounds of a run.
     pub bounds: RunBounds,
 }
 
 impl<'a> Rehearsal<'a> {
     ghost use Rattle.std.specs.Prelude.{IfSome, option_map, Some, None};
-    ghost use Rattle.envtools.specs.Environment.{value_of};
-    ghost use Rattle.rehearse_machine.specs.Tasks.{task_shown, task_set};
+    ghost use Rattle.rehearse_machine.specs.Tasks.{task_found, task_from, text_in};
 
-    /// The rehearsal of the text of a variable, if it is set.
-    #[tactic(auto, using(crate::proofs::TaskSet::task_is_set, crate::proofs::TaskSet::task_is_unset))]
+    /// The rehearsal of a given text, or else of the text of a variable, if it is set.
     pub fn of(
         alloc: Global,
         env: &'a Env,
         devices: &'a Devices,
-        name: &'a [u8],
+        source: Source<'a>,
         bounds: RunBounds,
     ) -> Option<Self>
-        ensures set { option_map task_in result ≡ task_set env.now devices.now name.now bounds }
+        ensures found { option_map task_in result
+            ≡ task_found env.now devices.now (source_shown source.entry) bounds }
         ensures shown { IfSome result
-            (λ r. task_in r ≡ task_shown env.now devices.now name.now bounds) }
-        ensures there { IfSome result (λ _. IsSome (value_of env.now name.now)) }
-        ensures unset { result ≡ None → value_of env.now name.now ≡ None }
+            (λ r. task_in r ≡ task_from env.now devices.now (source_shown source.entry) bounds) }
+        ensures there { IfSome result (λ _. IsSome (text_in env.now (source_shown source.entry))) }
+        ensures missing { result ≡ None → text_in env.now (source_shown source.entry) ≡ None }
     {
-        if env.get(name).is_none() {
+        if source.text.is_none() && env.get(source.name).is_none() {
             return None;
         }
         Some(Rehearsal {
             alloc,
             env,
             devices,
-            name,
+            source,
             bounds,
         })
     }
@@ -110,18 +110,22 @@ fn go_on<S: Store>(rehearsal: &Rehearsal<'_>, store: &mut S) -> Result<Stop, Sto
     }
 }
 
-/// The text of an environment variable, or the empty text if it is not set.
-fn text_of<'s, S: Store>(store: &'s S, name: &[u8]) -> &'s [u8]
-    ensures { result.now ≡ unwrap_or (get (S.record_of store.now).present.environment name.now) [] }
+/// The text that is given, or else that of the variable, or the empty text if it is not set.
+fn text_of<'s, S: Store>(store: &'s S, source: Source<'s>) -> &'s [u8]
+    ensures { result.now ≡ unwrap_or (text_by (source_shown source.entry).given
+        (get (S.record_of store.now).present.environment source.entry.name.now)) [] }
 {
-    match store.get_env(name) {
+    if let Some(text) = source.text {
+        return text;
+    }
+    match store.get_env(source.name) {
         Some(value) => value,
         None => &[],
     }
 }
 
-/// Starts the text of the variable, and goes on until a device command asks, or the run ends. A
-/// variable that is not set is run as the empty text. Errors: `Memory`.
+/// Starts the text that is given, or else that of the variable, and goes on until a device command
+/// asks, or the run ends. A variable that is not set is run as the empty text. Errors: `Memory`.
 pub fn begin<S: Store>(rehearsal: &Rehearsal<'_>, store: &mut S) -> Result<Stop, StoreError>
     requires { (S.record_of store.old).begun + most_steps + 1 < 2 ^ 64 }
     ensures stops { IfOk result
@@ -136,9 +140,9 @@ pub fn begin<S: Store>(rehearsal: &Rehearsal<'_>, store: &mut S) -> Result<Stop,
     let _bound = rehearsal.bounds.steps();
     let shell = rehearsal.bounds.shell();
     store.start(rehearsal.env)?;
-    let text_found = text_of(store, rehearsal.name);
+    let text_found = text_of(store, rehearsal.source);
     let Some(script) = read_script(rehearsal.alloc, shell, text_found)? else {
-        let name = Vec::from_slice(rehearsal.alloc, rehearsal.name)?;
+        let name = Vec::from_slice(rehearsal.alloc, rehearsal.source.name)?;
         return Ok(Stop::Ends(unread(shell, name)));
     };
     store.push(text(Rc::new(rehearsal.alloc, script)?))?;

@@ -5,7 +5,6 @@ use Rattle.std.specs.Borrow.{Bor}
 use Rattle.std.specs.List.{flat_map}
 use Rattle.std.proofs.lemmas.Bool.{eqb-true}
 use Rattle.output.specs.Sink.{Sink, Wrote, BrokeOff}
-use Rattle.envtools.specs.Environment.{value_of}
 use Rattle.rehearse_terms.specs.Asking.{Alone, Asking, Listed, whole_page}
 use Rattle.rehearse_rules.specs.RunsToCome.{AreToCome, GivesNoRun, SpellsNoRun}
 use Rattle.rehearse_rules.specs.Listing.{outcome_digit, spelled, record_of, line}
@@ -13,9 +12,9 @@ use Rattle.rehearse_terms.specs.Outcomes.{Outcome, OutcomeWord, Success, Failure
 use Rattle.rehearse_terms.specs.State.{Text}
 use Rattle.device_list.specs.DeviceList.{Devices, listed}
 use Rattle.rehearse_rules.specs.Runs.{Task}
-use Rattle.rehearse_machine.specs.Tasks.{task_shown, task_set}
+use Rattle.rehearse_machine.specs.Tasks.{SourceShown, task_found, task_from, text_in}
 use Rattle.rehearse_terms.specs.Bounds.{BoundsShown}
-use Rattle.rehearse_runs.specs.AskShown.{asking_by, asking_for, asking_of}
+use Rattle.rehearse_runs.specs.AskShown.{asking_by, asking_for, asking_of, text_given}
 use Rattle.rehearse_runs.specs.Behind.{GoesOnBehind, IsNoRun, IsNotListed, RefusesWord}
 use Rattle.rehearse_runs.specs.RehearsedEnvironment.{Begins, Refuses, RefusesAsk, RefusesRuns, Rehearses, WithDevices, WithRuns, task_asked}
 use Rattle.rehearse_runs.specs.ListingRuns.{Breaks, Lists}
@@ -29,7 +28,7 @@ use Rattle.rehearse_runs.specs.declared.listing.Finish.{Finish}
 use Rattle.rehearse_runs.specs.declared.listing.Finish.TheVariants.{Done}
 use Rattle.rehearse_rules.specs.declared.rehearse_error.RehearseError.{RehearseError}
 use Rattle.rehearse_rules.specs.declared.rehearse_error.RehearseError.TheVariants.{DeviceList, NoSuchVariable, NotARun, States, Write, Memory, Failed}
-use Rattle.rehearse_machine.proofs.TaskSet.{task_is_set}
+use Rattle.rehearse_machine.proofs.TaskSet.{task_is_found}
 
 -- ---- a word as it is printed, and its digits
 
@@ -66,44 +65,44 @@ gives_no_run task printed digits is h = λ w e. h w (is ∙ ap digits_in e ∙ s
 
 -- ---- the runs of a listing
 
-begins_from : (env : List (Text × Text)) (devices : Devices) (name : Text) (bounds : BoundsShown) (printed digits : Text) (r : RunsShown) → digits ≡ digits_in printed → GoesOnBehind (task_shown env devices name bounds) digits r
-    → task_set env devices name bounds ≡ Some (task_shown env devices name bounds) → Begins env devices name bounds (Some printed) r
-begins_from env devices name bounds printed digits r is h set =
-    let P : RunsShown → Type 0 = λ r. Begins env devices name bounds (Some printed) r in
+begins_from : (env : List (Text × Text)) (devices : Devices) (source : SourceShown) (bounds : BoundsShown) (printed digits : Text) (r : RunsShown) → digits ≡ digits_in printed → GoesOnBehind (task_from env devices source bounds) digits r
+    → task_found env devices source bounds ≡ Some (task_from env devices source bounds) → Begins env devices source bounds (Some printed) r
+begins_from env devices source bounds printed digits r is h set =
+    let P : RunsShown → Type 0 = λ r. Begins env devices source bounds (Some printed) r in
     subst P (sym h.behind) (record {
       task_is = set;
       to_come = (h.word, digits-spelled printed h.word (sym is ∙ h.digits), h.run, refl);
       sound = refl;
     })
 
-pub begins_behind : (result : Result RunsShown RehearseError) (env : List (Text × Text)) (devices : Devices) (name : Text) (bounds : BoundsShown) (after : Option Text) (printed digits : Text) → after ≡ Some printed → digits ≡ digits_in printed
-    → IfOk result (λ r. GoesOnBehind (task_shown env devices name bounds) digits r) → OnOk result (task_set env devices name bounds ≡ Some (task_shown env devices name bounds)) → IfOk result (λ r. Begins env devices name bounds after r)
-begins_behind (Ok r) env devices name bounds after printed digits s is h set =
-    let P : Option Text → Type 0 = λ o. Begins env devices name bounds o r in
-    subst P (sym s) (begins_from env devices name bounds printed digits r is h set)
-begins_behind (Err e) env devices name bounds after printed digits s is h set = tt
+pub begins_behind : (result : Result RunsShown RehearseError) (env : List (Text × Text)) (devices : Devices) (source : SourceShown) (bounds : BoundsShown) (after : Option Text) (printed digits : Text) → after ≡ Some printed → digits ≡ digits_in printed
+    → IfOk result (λ r. GoesOnBehind (task_from env devices source bounds) digits r) → OnOk result (task_found env devices source bounds ≡ Some (task_from env devices source bounds)) → IfOk result (λ r. Begins env devices source bounds after r)
+begins_behind (Ok r) env devices source bounds after printed digits s is h set =
+    let P : Option Text → Type 0 = λ o. Begins env devices source bounds o r in
+    subst P (sym s) (begins_from env devices source bounds printed digits r is h set)
+begins_behind (Err e) env devices source bounds after printed digits s is h set = tt
 
-refuses_behind : (env : List (Text × Text)) (devices : Devices) (name : Text) (bounds : BoundsShown) (printed digits : Text) (e : RehearseError) → digits ≡ digits_in printed → RefusesWord (task_shown env devices name bounds) (value_of env name) digits e
-    → (e ≡ NoSuchVariable → task_set env devices name bounds ≡ None) → RefusesRuns env devices name bounds (Some printed) e
-refuses_behind env devices name bounds printed digits NoSuchVariable is h u = u refl
-refuses_behind env devices name bounds printed digits Memory is h u = tt
-refuses_behind env devices name bounds printed digits NotARun is h u = record {
-  task = task_shown env devices name bounds;
-  task_is = task_is_set env devices name bounds h.0;
-  no_run = gives_no_run (task_shown env devices name bounds) printed digits is h.1;
+refuses_behind : (env : List (Text × Text)) (devices : Devices) (source : SourceShown) (bounds : BoundsShown) (printed digits : Text) (e : RehearseError) → digits ≡ digits_in printed → RefusesWord (task_from env devices source bounds) (text_in env source) digits e
+    → (e ≡ NoSuchVariable → task_found env devices source bounds ≡ None) → RefusesRuns env devices source bounds (Some printed) e
+refuses_behind env devices source bounds printed digits NoSuchVariable is h u = u refl
+refuses_behind env devices source bounds printed digits Memory is h u = tt
+refuses_behind env devices source bounds printed digits NotARun is h u = record {
+  task = task_from env devices source bounds;
+  task_is = task_is_found env devices source bounds h.0;
+  no_run = gives_no_run (task_from env devices source bounds) printed digits is h.1;
 }
-refuses_behind env devices name bounds printed digits (DeviceList fault) is h u = h
-refuses_behind env devices name bounds printed digits States is h u = h
-refuses_behind env devices name bounds printed digits Write is h u = h
-refuses_behind env devices name bounds printed digits Failed is h u = h
+refuses_behind env devices source bounds printed digits (DeviceList fault) is h u = h
+refuses_behind env devices source bounds printed digits States is h u = h
+refuses_behind env devices source bounds printed digits Write is h u = h
+refuses_behind env devices source bounds printed digits Failed is h u = h
 
-pub refused_behind : {X : Type 0} (result : Result X RehearseError) (env : List (Text × Text)) (devices : Devices) (name : Text) (bounds : BoundsShown) (after : Option Text) (printed digits : Text) → after ≡ Some printed → digits ≡ digits_in printed
-    → IfErr result (λ e. RefusesWord (task_shown env devices name bounds) (value_of env name) digits e)
-    → IfErr result (λ e. e ≡ NoSuchVariable → task_set env devices name bounds ≡ None) → IfErr result (λ e. RefusesRuns env devices name bounds after e)
-refused_behind (Ok x) env devices name bounds after printed digits s is h u = tt
-refused_behind (Err e) env devices name bounds after printed digits s is h u =
-    let P : Option Text → Type 0 = λ o. RefusesRuns env devices name bounds o e in
-    subst P (sym s) (refuses_behind env devices name bounds printed digits e is h u)
+pub refused_behind : {X : Type 0} (result : Result X RehearseError) (env : List (Text × Text)) (devices : Devices) (source : SourceShown) (bounds : BoundsShown) (after : Option Text) (printed digits : Text) → after ≡ Some printed → digits ≡ digits_in printed
+    → IfErr result (λ e. RefusesWord (task_from env devices source bounds) (text_in env source) digits e)
+    → IfErr result (λ e. e ≡ NoSuchVariable → task_found env devices source bounds ≡ None) → IfErr result (λ e. RefusesRuns env devices source bounds after e)
+refused_behind (Ok x) env devices source bounds after printed digits s is h u = tt
+refused_behind (Err e) env devices source bounds after printed digits s is h u =
+    let P : Option Text → Type 0 = λ o. RefusesRuns env devices source bounds o e in
+    subst P (sym s) (refuses_behind env devices source bounds printed digits e is h u)
 
 -- ---- a listing, by its runs
 
@@ -115,9 +114,9 @@ no_run_within : (task : Task) (after : Option Text) (page : Page) → GivesNoRun
 no_run_within task None page h = h
 no_run_within task (Some text) page h = h
 
-module _ (env : List (Text × Text)) (devices : Devices) (name : Text) (bounds : BoundsShown) (after : Option Text) (page : Page) (names : List Text) where
+module _ (env : List (Text × Text)) (devices : Devices) (source : SourceShown) (bounds : BoundsShown) (after : Option Text) (page : Page) (names : List Text) where
   -- its runs do not begin
-  pub unstarted : (s : Sink) (e : RehearseError) → RefusesRuns env devices name bounds after e → Refuses (task_set env devices name bounds) (asking_for name bounds (Listed after page) names) s s e
+  pub unstarted : (s : Sink) (e : RehearseError) → RefusesRuns env devices source bounds after e → Refuses (task_found env devices source bounds) (asking_for source.name bounds (Listed after page) names) s s e
   unstarted s (DeviceList fault) h = h
   unstarted s NoSuchVariable h = (h, refl)
   unstarted s NotARun h = (record { task = h.task; task_is = h.task_is; no_run = no_run_within h.task after page h.no_run }, refl)
@@ -126,16 +125,16 @@ module _ (env : List (Text × Text)) (devices : Devices) (name : Text) (bounds :
   unstarted s Memory h = inl refl
   unstarted s Failed h = h
 
-  begun : (r : RunsShown) (IsSo : Task → List OutcomeWord → Type 0) → Begins env devices name bounds after r → IsSo r.task r.to_come → WithRuns (task_set env devices name bounds) (Listed after page) IsSo
+  begun : (r : RunsShown) (IsSo : Task → List OutcomeWord → Type 0) → Begins env devices source bounds after r → IsSo r.task r.to_come → WithRuns (task_found env devices source bounds) (Listed after page) IsSo
   begun r IsSo b so = record { task = r.task; task_is = b.task_is; words = r.to_come; to_come = to_come_within r.task after page r.to_come b.to_come; so = so }
 
   -- it is written
-  pub written : (result : Result Finish RehearseError) (old new : Sink) (r r' : RunsShown) → Begins env devices name bounds after r → IfOk result (λ finish. Lists old new r r' names page finish)
-      → IfOk result (λ finish. Rehearses (task_set env devices name bounds) (asking_for name bounds (Listed after page) names) old new finish)
+  pub written : (result : Result Finish RehearseError) (old new : Sink) (r r' : RunsShown) → Begins env devices source bounds after r → IfOk result (λ finish. Lists old new r r' names page finish)
+      → IfOk result (λ finish. Rehearses (task_found env devices source bounds) (asking_for source.name bounds (Listed after page) names) old new finish)
   written (Ok finish) old new r r' b h = begun r _ b (h.wrote, h.finish_is)
   written (Err e) old new r r' b h = tt
 
-  broken : (old new : Sink) (r r' : RunsShown) (e : RehearseError) → Begins env devices name bounds after r → Breaks old new r r' names page e → Refuses (task_set env devices name bounds) (asking_for name bounds (Listed after page) names) old new e
+  broken : (old new : Sink) (r r' : RunsShown) (e : RehearseError) → Begins env devices source bounds after r → Breaks old new r r' names page e → Refuses (task_found env devices source bounds) (asking_for source.name bounds (Listed after page) names) old new e
   broken old new r r' (DeviceList fault) b h = h
   broken old new r r' NoSuchVariable b h = absurd h
   broken old new r r' NotARun b h = absurd h
@@ -145,8 +144,8 @@ module _ (env : List (Text × Text)) (devices : Devices) (name : Text) (bounds :
   broken old new r r' Failed b h = let f = h.failed in let s = b.sound in absurd cc
 
   -- or it breaks off
-  pub unwritten : (result : Result Finish RehearseError) (old new : Sink) (r r' : RunsShown) → Begins env devices name bounds after r → IfErr result (λ e. Breaks old new r r' names page e)
-      → IfErr result (λ e. Refuses (task_set env devices name bounds) (asking_for name bounds (Listed after page) names) old new e)
+  pub unwritten : (result : Result Finish RehearseError) (old new : Sink) (r r' : RunsShown) → Begins env devices source bounds after r → IfErr result (λ e. Breaks old new r r' names page e)
+      → IfErr result (λ e. Refuses (task_found env devices source bounds) (asking_for source.name bounds (Listed after page) names) old new e)
   unwritten (Ok finish) old new r r' b h = tt
   unwritten (Err e) old new r r' b h = broken old new r r' e b h
 
@@ -155,10 +154,10 @@ module _ (env : List (Text × Text)) (devices : Devices) (name : Text) (bounds :
 listed_alone : (f : OutcomeWord → Text) (w : OutcomeWord) (last : Text) → f w ++ last ≡ flat_map f (w ∷ []) ++ last
 listed_alone f w last = ap (λ (t : Text). t ++ last) (sym (append-nil (f w)))
 
-pub writes_alone : (env : List (Text × Text)) (devices : Devices) (name : Text) (bounds : BoundsShown) (printed : Text) (names : List Text) (old new : Sink) → task_set env devices name bounds ≡ Some (task_shown env devices name bounds)
-    → WritesAlone (task_shown env devices name bounds) printed names old new → Rehearses (task_set env devices name bounds) (asking_for name bounds (Alone printed) names) old new Done
-writes_alone env devices name bounds printed names old new set h =
-    let task = task_shown env devices name bounds in
+pub writes_alone : (env : List (Text × Text)) (devices : Devices) (source : SourceShown) (bounds : BoundsShown) (printed : Text) (names : List Text) (old new : Sink) → task_found env devices source bounds ≡ Some (task_from env devices source bounds)
+    → WritesAlone (task_from env devices source bounds) printed names old new → Rehearses (task_found env devices source bounds) (asking_for source.name bounds (Alone printed) names) old new Done
+writes_alone env devices source bounds printed names old new set h =
+    let task = task_from env devices source bounds in
     let w = h.is_run.word in
     let P : Text → Type 0 = λ t. Wrote old new t in
     record {
@@ -169,13 +168,13 @@ writes_alone env devices name bounds printed names old new set h =
       so = (subst P (listed_alone (record_of task names) w (line (codes "done"))) h.wrote, refl);
     }
 
-pub breaks_alone : (env : List (Text × Text)) (devices : Devices) (name : Text) (bounds : BoundsShown) (printed : Text) (names : List Text) (old new : Sink) (e : RehearseError) → task_set env devices name bounds ≡ Some (task_shown env devices name bounds)
-    → BreaksAlone (task_shown env devices name bounds) printed names old new e → Refuses (task_set env devices name bounds) (asking_for name bounds (Alone printed) names) old new e
-breaks_alone env devices name bounds printed names old new (DeviceList fault) set h = absurd h
-breaks_alone env devices name bounds printed names old new NoSuchVariable set h = absurd h
-breaks_alone env devices name bounds printed names old new NotARun set h = (record { task = task_shown env devices name bounds; task_is = set; no_run = h.0 }, h.1)
-breaks_alone env devices name bounds printed names old new Write set h =
-    let task = task_shown env devices name bounds in
+pub breaks_alone : (env : List (Text × Text)) (devices : Devices) (source : SourceShown) (bounds : BoundsShown) (printed : Text) (names : List Text) (old new : Sink) (e : RehearseError) → task_found env devices source bounds ≡ Some (task_from env devices source bounds)
+    → BreaksAlone (task_from env devices source bounds) printed names old new e → Refuses (task_found env devices source bounds) (asking_for source.name bounds (Alone printed) names) old new e
+breaks_alone env devices source bounds printed names old new (DeviceList fault) set h = absurd h
+breaks_alone env devices source bounds printed names old new NoSuchVariable set h = absurd h
+breaks_alone env devices source bounds printed names old new NotARun set h = (record { task = task_from env devices source bounds; task_is = set; no_run = h.0 }, h.1)
+breaks_alone env devices source bounds printed names old new Write set h =
+    let task = task_from env devices source bounds in
     let w = h.is_run.word in
     let P : Text → Type 0 = λ t. BrokeOff old new t in
     record {
@@ -185,9 +184,9 @@ breaks_alone env devices name bounds printed names old new Write set h =
       to_come = (w, h.is_run.spells, h.is_run.run, refl);
       so = subst P (listed_alone (record_of task names) w (line (codes "done"))) h.broke;
     }
-breaks_alone env devices name bounds printed names old new Memory set h = inl h
-breaks_alone env devices name bounds printed names old new States set h = absurd h
-breaks_alone env devices name bounds printed names old new Failed set h = absurd h
+breaks_alone env devices source bounds printed names old new Memory set h = inl h
+breaks_alone env devices source bounds printed names old new States set h = absurd h
+breaks_alone env devices source bounds printed names old new Failed set h = absurd h
 
 -- ---- with the device list
 
@@ -195,27 +194,27 @@ asked_as : (ask : Ask) (wanted : Wanted (Bor (List ℕ))) → ask.wanted ≡ wan
 asked_as ask wanted is = ap (λ (w : Wanted (Bor (List ℕ))). asking_by ask.name.now w (map (λ n. n.now) ask.names.now)) (sym is)
 
 pub rehearses_with : (result : Result Finish RehearseError) (env : List (Text × Text)) (text : Text) (devices : Devices) (ask : Ask) (wanted : Wanted (Bor (List ℕ))) (old new : Sink) → listed text ≡ Ok devices → ask.wanted ≡ wanted
-    → IfOk result (λ finish. Rehearses (task_asked env devices (asking_by ask.name.now wanted (map (λ n. n.now) ask.names.now))) (asking_by ask.name.now wanted (map (λ n. n.now) ask.names.now)) old new finish)
-    → IfOk result (λ finish. WithDevices text (λ devices. Rehearses (task_asked env devices (asking_of ask)) (asking_of ask) old new finish))
+    → IfOk result (λ finish. Rehearses (task_asked env devices (text_given ask) (asking_by ask.name.now wanted (map (λ n. n.now) ask.names.now))) (asking_by ask.name.now wanted (map (λ n. n.now) ask.names.now)) old new finish)
+    → IfOk result (λ finish. WithDevices text (λ devices. Rehearses (task_asked env devices (text_given ask) (asking_of ask)) (asking_of ask) old new finish))
 rehearses_with (Ok finish) env text devices ask wanted old new l is h =
-    let P : Asking → Type 0 = λ a. Rehearses (task_asked env devices a) a old new finish in
+    let P : Asking → Type 0 = λ a. Rehearses (task_asked env devices (text_given ask) a) a old new finish in
     record { devices = devices; listed_as = l; so = subst P (asked_as ask wanted is) h }
 rehearses_with (Err e) env text devices ask wanted old new l is h = tt
 
-refuses_with : (env : List (Text × Text)) (text : Text) (devices : Devices) (asking : Asking) (old new : Sink) (e : RehearseError) → listed text ≡ Ok devices → Refuses (task_asked env devices asking) asking old new e → RefusesAsk env text asking old new e
-refuses_with env text devices asking old new (DeviceList fault) l h = absurd h
-refuses_with env text devices asking old new States l h = absurd h
-refuses_with env text devices asking old new Failed l h = absurd h
-refuses_with env text devices asking old new NoSuchVariable l h = record { devices = devices; listed_as = l; so = h }
-refuses_with env text devices asking old new NotARun l h = record { devices = devices; listed_as = l; so = h }
-refuses_with env text devices asking old new Write l h = record { devices = devices; listed_as = l; so = h }
-refuses_with env text devices asking old new Memory l (inl same) = inl same
-refuses_with env text devices asking old new Memory l (inr h) = inr (record { devices = devices; listed_as = l; so = h })
+refuses_with : (env : List (Text × Text)) (text : Text) (devices : Devices) (given : Option Text) (asking : Asking) (old new : Sink) (e : RehearseError) → listed text ≡ Ok devices → Refuses (task_asked env devices given asking) asking old new e → RefusesAsk env text given asking old new e
+refuses_with env text devices given asking old new (DeviceList fault) l h = absurd h
+refuses_with env text devices given asking old new States l h = absurd h
+refuses_with env text devices given asking old new Failed l h = absurd h
+refuses_with env text devices given asking old new NoSuchVariable l h = record { devices = devices; listed_as = l; so = h }
+refuses_with env text devices given asking old new NotARun l h = record { devices = devices; listed_as = l; so = h }
+refuses_with env text devices given asking old new Write l h = record { devices = devices; listed_as = l; so = h }
+refuses_with env text devices given asking old new Memory l (inl same) = inl same
+refuses_with env text devices given asking old new Memory l (inr h) = inr (record { devices = devices; listed_as = l; so = h })
 
 pub refused_with : {T : Type 0} (result : Result T RehearseError) (env : List (Text × Text)) (text : Text) (devices : Devices) (ask : Ask) (wanted : Wanted (Bor (List ℕ))) (old new : Sink) → listed text ≡ Ok devices → ask.wanted ≡ wanted
-    → IfErr result (λ e. Refuses (task_asked env devices (asking_by ask.name.now wanted (map (λ n. n.now) ask.names.now))) (asking_by ask.name.now wanted (map (λ n. n.now) ask.names.now)) old new e)
-    → IfErr result (λ e. RefusesAsk env text (asking_of ask) old new e)
+    → IfErr result (λ e. Refuses (task_asked env devices (text_given ask) (asking_by ask.name.now wanted (map (λ n. n.now) ask.names.now))) (asking_by ask.name.now wanted (map (λ n. n.now) ask.names.now)) old new e)
+    → IfErr result (λ e. RefusesAsk env text (text_given ask) (asking_of ask) old new e)
 refused_with (Ok x) env text devices ask wanted old new l is h = tt
 refused_with (Err e) env text devices ask wanted old new l is h =
-    let P : Asking → Type 0 = λ a. Refuses (task_asked env devices a) a old new e in
-    refuses_with env text devices (asking_of ask) old new e l (subst P (asked_as ask wanted is) h)
+    let P : Asking → Type 0 = λ a. Refuses (task_asked env devices (text_given ask) a) a old new e in
+    refuses_with env text devices (text_given ask) (asking_of ask) old new e l (subst P (asked_as ask wanted is) h)

@@ -1,6 +1,7 @@
 -- What contracts see of what is asked of a rehearsal. Ours.
-use Rattle.std.specs.Prelude.{ℕ, List, map}
+use Rattle.std.specs.Prelude.{ℕ, List, map, Option}
 use Rattle.std.specs.Borrow.{Bor}
+use Rattle.text.specs.TextsShown.{option_bytes}
 use Rattle.rehearse_terms.specs.Asking.{Asking}
 use Rattle.rehearse_terms.specs.Asking as spec
 use Rattle.rehearse_terms.specs.Bounds.{BoundsShown}
@@ -18,3 +19,7 @@ asking_by variable wanted names = asking_for variable (wanted_bounds wanted) (wa
 
 abbrev pub asking_of : Ask → Asking
 asking_of ask = asking_by ask.name.now ask.wanted (map (λ n. n.now) ask.names.now)
+
+-- the text that is rehearsed in place of the variable's
+abbrev pub text_given : Ask → Option Text
+text_given ask = option_bytes ask.text

@@ -39,7 +39,7 @@ IsNoRun task text = (w : OutcomeWord) → text ≡ map outcome_digit w → kind 
 abbrev pub IsNotListed : Task → Text → Type 0
 IsNotListed task text = (w : OutcomeWord) → text ≡ map outcome_digit w → IsListed task w → ⊥
 
--- why there are no runs after a text, if the variable has this value
+-- why there are no runs after a word, if the text of the rehearsal is this one, or not there
 abbrev pub RefusesWord : Task → (value : Option Text) → Text → RehearseError → Type 0
 RefusesWord task value text NoSuchVariable = value ≡ None
 RefusesWord task value text Memory = IsSome value

@@ -10,7 +10,7 @@ use Rattle.rehearse_rules.specs.Listing.{record_of, page_text}
 use Rattle.rehearse_terms.specs.Outcomes.{OutcomeWord}
 use Rattle.rehearse_rules.specs.Runs.{Task}
 use Rattle.rehearse_terms.specs.State.{Text}
-use Rattle.rehearse_machine.specs.Tasks.{task_set}
+use Rattle.rehearse_machine.specs.Tasks.{SourceShown, task_found}
 use Rattle.rehearse_runs.specs.ListingRuns.{finish_of}
 use Rattle.rehearse_runs.specs.RunsShown.{RunsShown}
 use Rattle.rehearse_runs.specs.UnfinishedListings.{BreaksOff, LacksMemory}
@@ -18,9 +18,13 @@ use Rattle.rehearse_runs.specs.declared.listing.Finish.{Finish}
 use Rattle.rehearse_rules.specs.declared.rehearse_error.RehearseError.{RehearseError}
 use Rattle.rehearse_rules.specs.declared.rehearse_error.RehearseError.TheVariants.{DeviceList, NoSuchVariable, NotARun, Write, Memory}
 
--- the rehearsal that an environment, a device list and what is asked give, if the variable is set
-abbrev pub task_asked : List (Text × Text) → Devices → Asking → Option Task
-task_asked environment devices asking = task_set environment devices asking.variable asking.bounds
+-- the text that is given, which is called as the variable would be, or else the variable
+abbrev pub source_asked : (given : Option Text) → Asking → SourceShown
+source_asked given asking = record { name = asking.variable; given = given }
+
+-- the rehearsal that an environment, a device list and what is asked give, if a text is given or the variable is set
+abbrev pub task_asked : List (Text × Text) → Devices → (given : Option Text) → Asking → Option Task
+task_asked environment devices given asking = task_found environment devices (source_asked given asking) asking.bounds
 
 -- a rehearsal was found, and this holds of it and of the words of its runs
 pub record WithRuns (found : Option Task) (wanted : Wanted) (IsSo : Task → List OutcomeWord → Type 0) : Type 0 where
@@ -71,25 +75,27 @@ pub record WithDevices (devices_text : Text) (IsSo : Devices → Type 0) : Type 
   pub listed_as : listed devices_text ≡ Ok devices
   pub so : IsSo devices
 
-abbrev pub RefusesAsk : List (Text × Text) → Text → Asking → (old new : Sink) → RehearseError → Type 0
-RefusesAsk environment devices_text asking old new (DeviceList fault) = (listed devices_text ≡ Err fault) × (new ≡ old)
-RefusesAsk environment devices_text asking old new Memory =
-    (new ≡ old) ⊎ WithDevices devices_text (λ devices. LeavesRecords (task_asked environment devices asking) asking old new)
-RefusesAsk environment devices_text asking old new error =
-    WithDevices devices_text (λ devices. Refuses (task_asked environment devices asking) asking old new error)
+abbrev pub RefusesAsk : List (Text × Text) → Text → (given : Option Text) → Asking → (old new : Sink) → RehearseError →
+    Type 0
+RefusesAsk environment devices_text given asking old new (DeviceList fault) =
+    (listed devices_text ≡ Err fault) × (new ≡ old)
+RefusesAsk environment devices_text given asking old new Memory = (new ≡ old)
+    ⊎ WithDevices devices_text (λ devices. LeavesRecords (task_asked environment devices given asking) asking old new)
+RefusesAsk environment devices_text given asking old new error =
+    WithDevices devices_text (λ devices. Refuses (task_asked environment devices given asking) asking old new error)
 
 -- where the runs of a listing start
-pub record Begins (environment : List (Text × Text)) (devices : Devices) (name : Text) (bounds : BoundsShown)
+pub record Begins (environment : List (Text × Text)) (devices : Devices) (source : SourceShown) (bounds : BoundsShown)
     (after : Option Text) (r : RunsShown) : Type 0 where
-  pub task_is : task_set environment devices name bounds ≡ Some r.task
+  pub task_is : task_found environment devices source bounds ≡ Some r.task
   pub to_come : AreToCome r.task (Listed after whole_page) r.to_come
   pub sound : r.failed ≡ false
 
 -- why a listing does not start
-abbrev pub RefusesRuns : List (Text × Text) → Devices → Text → BoundsShown → (after : Option Text) → RehearseError →
-    Type 0
-RefusesRuns environment devices name bounds after NoSuchVariable = task_set environment devices name bounds ≡ None
-RefusesRuns environment devices name bounds after Memory = Unit {0}
-RefusesRuns environment devices name bounds after NotARun =
-    LacksRun (task_set environment devices name bounds) (Listed after whole_page)
-RefusesRuns environment devices name bounds after _ = ⊥
+abbrev pub RefusesRuns : List (Text × Text) → Devices → SourceShown → BoundsShown → (after : Option Text) →
+    RehearseError → Type 0
+RefusesRuns environment devices source bounds after NoSuchVariable = task_found environment devices source bounds ≡ None
+RefusesRuns environment devices source bounds after Memory = Unit {0}
+RefusesRuns environment devices source bounds after NotARun =
+    LacksRun (task_found environment devices source bounds) (Listed after whole_page)
+RefusesRuns environment devices source bounds after _ = ⊥

@@ -7,8 +7,10 @@ use rehearse_terms::Wanted;
 /// What is asked of a rehearsal.
 #[derive(Clone, Copy)]
 pub struct Ask<'a> {
-    /// The variable whose text is rehearsed.
+    /// The variable whose text is rehearsed, or what the given text is called.
     pub name: &'a [u8],
+    /// A text that is rehearsed in place of a variable's.
+    pub text: Option<&'a [u8]>,
     /// The runs whose records are written.
     pub wanted: Wanted<&'a [u8]>,
     /// The variables that each record shows, in this order; none for all.

@@ -14,6 +14,7 @@ mod walking;
 
 pub use ask::Ask;
 pub use listing::{Finish, write_listing};
+pub use rehearse_machine::Source;
 pub use rehearse_records::RunView;
 pub use rehearse_rules::{Ending, RehearseError};
 pub use rehearsing::rehearse_env;

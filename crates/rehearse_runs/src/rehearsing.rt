@@ -6,7 +6,8 @@ ghost use Rattle.text.specs.TextsShown.{option_bytes};
 ghost use Rattle.rehearse_terms.specs.Asking.{Alone, Listed, page_of};
 ghost use Rattle.rehearse_terms.specs.Asking.{HasRoom};
 ghost use Rattle.rehearse_terms.specs.WantedShown.{wanted_slices};
-ghost use Rattle.rehearse_runs.specs.AskShown.{asking_for, asking_of};
+ghost use Rattle.rehearse_machine.specs.Tasks.{source_shown, task_found};
+ghost use Rattle.rehearse_runs.specs.AskShown.{asking_for, asking_of, text_given};
 ghost use Rattle.rehearse_runs.specs.RehearsedEnvironment.{Begins, Refuses, RefusesAsk, RefusesRuns, Rehearses, WithDevices, task_asked};
 
 use crate::ask::{Ask, digits_of};
@@ -17,7 +18,7 @@ use bootstore_state::Store;
 use device_list::Devices;
 use envtools::Env;
 use output::Out;
-use rehearse_machine::Rehearsal;
+use rehearse_machine::{Rehearsal, Source};
 use rehearse_rules::{RehearseError, read_devices};
 use rehearse_terms::{Bounds, Page, RunBounds, Wanted};
 use std::alloc::Global;
@@ -27,18 +28,18 @@ fn begin_runs<'a, S: Store>(
     alloc: Global,
     env: &'a Env,
     devices: &'a Devices,
-    name: &'a [u8],
+    source: Source<'a>,
     bounds: Bounds,
     after: Option<&[u8]>,
 ) -> Result<Runs<'a, S>, RehearseError>
-    ensures ok { IfOk result (λ r. Begins env.now devices.now name.now bounds
+    ensures ok { IfOk result (λ r. Begins env.now devices.now (source_shown source.entry) bounds
         (option_bytes after.entry) r) }
-    ensures err { IfErr result
-        (λ e. RefusesRuns env.now devices.now name.now bounds (option_bytes after.entry) e) }
+    ensures err { IfErr result (λ e. RefusesRuns env.now devices.now (source_shown source.entry) bounds
+        (option_bytes after.entry) e) }
 {
     match after {
-        None => Runs::new(alloc, env, devices, name, bounds),
-        Some(word) => Runs::after(alloc, env, devices, name, bounds, digits_of(word)),
+        None => Runs::of(alloc, env, devices, source, bounds),
+        Some(word) => Runs::behind(alloc, env, devices, source, bounds, digits_of(word)),
     }
 }
 
@@ -47,7 +48,7 @@ fn list_runs<'x, S: Store, O: Out>(
     alloc: Global,
     env: &'x Env,
     devices: &'x Devices,
-    name: &'x [u8],
+    source: Source<'x>,
     bounds: Bounds,
     after: Option<&[u8]>,
     page: Page,
@@ -55,16 +56,18 @@ fn list_runs<'x, S: Store, O: Out>(
     out: &mut O,
 ) -> Result<Finish, RehearseError>
     requires { HasRoom page }
-    ensures ok { let asking = asking_for name.now bounds
+    ensures ok { let asking = asking_for source.entry.name.now bounds
         (Listed (option_bytes after.entry) page) (map (λ n. n.now) names.now) in
-        IfOk result (λ finish. Rehearses (task_asked env.now devices.now asking) asking
+        IfOk result (λ finish. Rehearses
+        (task_found env.now devices.now (source_shown source.entry) bounds) asking
         (O.sink out.old) (O.sink out.new) finish) }
-    ensures err { let asking = asking_for name.now bounds
+    ensures err { let asking = asking_for source.entry.name.now bounds
         (Listed (option_bytes after.entry) page) (map (λ n. n.now) names.now) in
-        IfErr result (λ e. Refuses (task_asked env.now devices.now asking) asking
+        IfErr result (λ e. Refuses
+        (task_found env.now devices.now (source_shown source.entry) bounds) asking
         (O.sink out.old) (O.sink out.new) e) }
 {
-    let mut runs = begin_runs::<S>(alloc, env, devices, name, bounds, after)?;
+    let mut runs = begin_runs::<S>(alloc, env, devices, source, bounds, after)?;
     write_listing(&mut runs, names, page, out)
 }
 
@@ -73,22 +76,24 @@ fn list_one<S: Store, O: Out>(
     alloc: Global,
     env: &Env,
     devices: &Devices,
-    name: &[u8],
+    source: Source<'_>,
     bounds: RunBounds,
     word: &[u8],
     names: &[&[u8]],
     out: &mut O,
 ) -> Result<Finish, RehearseError>
-    ensures ok { let asking = asking_for name.now bounds (Alone word.now)
+    ensures ok { let asking = asking_for source.entry.name.now bounds (Alone word.now)
         (map (λ n. n.now) names.now) in
-        IfOk result (λ finish. Rehearses (task_asked env.now devices.now asking) asking
+        IfOk result (λ finish. Rehearses
+        (task_found env.now devices.now (source_shown source.entry) bounds) asking
         (O.sink out.old) (O.sink out.new) finish) }
-    ensures err { let asking = asking_for name.now bounds (Alone word.now)
+    ensures err { let asking = asking_for source.entry.name.now bounds (Alone word.now)
         (map (λ n. n.now) names.now) in
-        IfErr result (λ e. Refuses (task_asked env.now devices.now asking) asking
+        IfErr result (λ e. Refuses
+        (task_found env.now devices.now (source_shown source.entry) bounds) asking
         (O.sink out.old) (O.sink out.new) e) }
 {
-    let Some(rehearsal) = Rehearsal::of(alloc, env, devices, name, bounds) else {
+    let Some(rehearsal) = Rehearsal::of(alloc, env, devices, source, bounds) else {
         return Err(RehearseError::NoSuchVariable);
     };
     match write_run::<S, O>(&rehearsal, word, names, out) {
@@ -109,29 +114,33 @@ fn rehearse_with<'x, S: Store, O: Out>(
     ensures ok { (devices_text : Text) → listed devices_text ≡ Ok devices.now
         → let asking = asking_of ask.now in
         IfOk result (λ finish. WithDevices devices_text (λ devices.
-        Rehearses (task_asked env.now devices asking) asking (O.sink out.old)
-        (O.sink out.new) finish)) }
+        Rehearses (task_asked env.now devices (text_given ask.now) asking) asking
+        (O.sink out.old) (O.sink out.new) finish)) }
     ensures err { (devices_text : Text) → listed devices_text ≡ Ok devices.now
-        → IfErr result (λ e. RefusesAsk env.now devices_text (asking_of ask.now) (O.sink out.old)
-        (O.sink out.new) e) }
+        → IfErr result (λ e. RefusesAsk env.now devices_text (text_given ask.now)
+        (asking_of ask.now) (O.sink out.old) (O.sink out.new) e) }
 {
+    let source = Source {
+        name: ask.name,
+        text: ask.text,
+    };
     match ask.wanted {
         Wanted::Listing {
             bounds,
             after,
             page,
         } => list_runs::<S, O>(
-            alloc, env, devices, ask.name, bounds, after, page, ask.names, out,
+            alloc, env, devices, source, bounds, after, page, ask.names, out,
         ),
         Wanted::Word { bounds, word } => {
-            list_one::<S, O>(alloc, env, devices, ask.name, bounds, word, ask.names, out)
+            list_one::<S, O>(alloc, env, devices, source, bounds, word, ask.names, out)
         }
     }
 }
 
 /// Writes the listing of the runs that are asked for, or the record of the one run, and `done`.
-/// Refusals in order: the device list, the variable, the word, with nothing written; then `Write`
-/// during the listing, and `Memory` wherever a growth is made.
+/// Refusals in order: the device list, the variable if no text is given, the word, with nothing
+/// written; then `Write` during the listing, and `Memory` wherever a growth is made.
 pub fn rehearse_env<'x, S: Store, O: Out>(
     alloc: Global,
     env: &'x Env,
@@ -142,10 +151,10 @@ pub fn rehearse_env<'x, S: Store, O: Out>(
     requires { HasRoom (page_of (wanted_slices ask.now.wanted)) }
     ensures ok { let asking = asking_of ask.now in
         IfOk result (λ finish. WithDevices devices_text.now (λ devices.
-        Rehearses (task_asked env.now devices asking) asking (O.sink out.old)
-        (O.sink out.new) finish)) }
-    ensures err { IfErr result (λ e. RefusesAsk env.now devices_text.now (asking_of ask.now)
-        (O.sink out.old) (O.sink out.new) e) }
+        Rehearses (task_asked env.now devices (text_given ask.now) asking) asking
+        (O.sink out.old) (O.sink out.new) finish)) }
+    ensures err { IfErr result (λ e. RefusesAsk env.now devices_text.now (text_given ask.now)
+        (asking_of ask.now) (O.sink out.old) (O.sink out.new) e) }
 {
     let devices = read_devices(alloc, devices_text)?;
     rehearse_with::<S, O>(alloc, env, &devices, ask, out)

@@ -1,11 +1,11 @@
-//! The runs of the text of a variable.
+//! The runs of a text: of a variable's, or of one that is given.
 ghost use Rattle.std.specs.Prelude.{◌≡◌, [], false, true, map, option_map, IfSome, IsSome, None};
 ghost use Rattle.text.specs.TextsShown.{option_bytes};
 ghost use Rattle.rehearse_terms.specs.Bounds.{are_bounds};
 ghost use Rattle.rehearse_rules.specs.Listing.{outcome_digit};
 ghost use Rattle.rehearse_terms.specs.Outcomes.{has_success};
 ghost use Rattle.envtools.specs.Environment.{value_of};
-ghost use Rattle.rehearse_machine.specs.Tasks.{task_in, task_set, task_shown};
+ghost use Rattle.rehearse_machine.specs.Tasks.{source_shown, task_found, task_from, task_in, task_set, task_shown, text_in};
 ghost use Rattle.rehearse_runs.specs.RunsShown.{has_words, last_given, outcomes, words_made, work_of};
 ghost use Rattle.std.specs.Borrow.{sem};
 
@@ -16,7 +16,7 @@ use bootstore_state::Store;
 use device_list::Devices;
 use envtools::Env;
 use output::Bytes;
-use rehearse_machine::Rehearsal;
+use rehearse_machine::{Rehearsal, Source};
 use rehearse_records::RunView;
 use rehearse_rules::{Halt, RehearseError};
 use rehearse_terms::Bounds;
@@ -36,24 +36,25 @@ enum Phase {
     Failed,
 }
 
-/// The rehearsal of a variable whose runs are listed, if it is set.
+/// The rehearsal whose runs are listed, if a text is given or the variable is set.
 pub(crate) fn rehearsal_of<'a>(
     alloc: Global,
     env: &'a Env,
     devices: &'a Devices,
-    name: &'a [u8],
+    source: Source<'a>,
     bounds: Bounds,
 ) -> Option<Rehearsal<'a>>
-    ensures set { option_map task_in result ≡ task_set env.now devices.now name.now bounds }
+    ensures found { option_map task_in result
+        ≡ task_found env.now devices.now (source_shown source.entry) bounds }
     ensures shown { IfSome result
-        (λ r. task_in r ≡ task_shown env.now devices.now name.now bounds) }
+        (λ r. task_in r ≡ task_from env.now devices.now (source_shown source.entry) bounds) }
     ensures bounds { IfSome result
         (λ r. are_bounds r.bounds.devices r.bounds.steps r.bounds.failures ≡ true) }
-    ensures there { IfSome result (λ _. IsSome (value_of env.now name.now)) }
-    ensures unset { result ≡ None → value_of env.now name.now ≡ None }
+    ensures there { IfSome result (λ _. IsSome (text_in env.now (source_shown source.entry))) }
+    ensures missing { result ≡ None → text_in env.now (source_shown source.entry) ≡ None }
 {
     let _bound = bounds.devices();
-    Rehearsal::of(alloc, env, devices, name, bounds.of_run())
+    Rehearsal::of(alloc, env, devices, source, bounds.of_run())
 }
 
 /// The same digits.
@@ -78,8 +79,8 @@ fn has_success(digits: &[u8], most: Option<u32>) -> bool
     false
 }
 
-/// The runs of the text of a variable in which no more device commands fail than the bounds allow, in dictionary order
-/// of their words, success before failure.
+/// The runs of a text in which no more device commands fail than the bounds allow, in dictionary order of their words,
+/// success before failure.
 #[derive(Drop)]
 pub struct Runs<'a, S: Store> {
     rehearsal: Rehearsal<'a>,
@@ -138,7 +139,28 @@ impl<'a, S: Store> Runs<'a, S> {
             (λ e. (e ≡ NoSuchVariable) × (value_of env.now name.now ≡ None)) }
         ensures unset { OnErr result (task_set env.now devices.now name.now bounds ≡ None) }
     {
-        let Some(rehearsal) = rehearsal_of(alloc, env, devices, name, bounds) else {
+        let source = Source { name, text: None };
+        Self::of(alloc, env, devices, source, bounds)
+    }
+
+    /// The runs of a text that is given, or else of the text of a variable. Takes no memory. Errors: `NoSuchVariable`.
+    pub fn of(
+        alloc: Global,
+        env: &'a Env,
+        devices: &'a Devices,
+        source: Source<'a>,
+        bounds: Bounds,
+    ) -> Result<Self, RehearseError>
+        ensures ok { IfOk result (λ r. r
+            ≡ new_runs (task_from env.now devices.now (source_shown source.entry) bounds)) }
+        ensures found { OnOk result (task_found env.now devices.now (source_shown source.entry) bounds
+            ≡ Some (task_from env.now devices.now (source_shown source.entry) bounds)) }
+        ensures err { IfErr result
+            (λ e. (e ≡ NoSuchVariable) × (text_in env.now (source_shown source.entry) ≡ None)) }
+        ensures missing { OnErr result
+            (task_found env.now devices.now (source_shown source.entry) bounds ≡ None) }
+    {
+        let Some(rehearsal) = rehearsal_of(alloc, env, devices, source, bounds) else {
             return Err(RehearseError::NoSuchVariable);
         };
         Ok(Runs {
@@ -171,7 +193,31 @@ impl<'a, S: Store> Runs<'a, S> {
         ensures unset { IfErr result
             (λ e. e ≡ NoSuchVariable → task_set env.now devices.now name.now bounds ≡ None) }
     {
-        let Some(rehearsal) = rehearsal_of(alloc, env, devices, name, bounds) else {
+        let source = Source { name, text: None };
+        Self::behind(alloc, env, devices, source, bounds, word)
+    }
+
+    /// The same of a text that is given, or else of the text of a variable.
+    pub fn behind(
+        alloc: Global,
+        env: &'a Env,
+        devices: &'a Devices,
+        source: Source<'a>,
+        bounds: Bounds,
+        word: &[u8],
+    ) -> Result<Self, RehearseError>
+        ensures ok { IfOk result
+            (λ r. GoesOnBehind (task_from env.now devices.now (source_shown source.entry) bounds)
+            word.now r) }
+        ensures found { OnOk result (task_found env.now devices.now (source_shown source.entry) bounds
+            ≡ Some (task_from env.now devices.now (source_shown source.entry) bounds)) }
+        ensures err { IfErr result
+            (λ e. RefusesWord (task_from env.now devices.now (source_shown source.entry) bounds)
+            (text_in env.now (source_shown source.entry)) word.now e) }
+        ensures missing { IfErr result (λ e. e ≡ NoSuchVariable
+            → task_found env.now devices.now (source_shown source.entry) bounds ≡ None) }
+    {
+        let Some(rehearsal) = rehearsal_of(alloc, env, devices, source, bounds) else {
             return Err(RehearseError::NoSuchVariable);
         };
         if !is_within(bounds.failures(), word) {

@@ -11,6 +11,7 @@ use crate::walking::{Walked, walk_to};
 use bootstore_state::Store;
 use device_list::Devices;
 use envtools::Env;
+use rehearse_machine::Source;
 use rehearse_rules::RehearseError;
 use rehearse_terms::Bounds;
 use std::alloc::Global;
@@ -44,7 +45,8 @@ pub fn try_word<S: Store>(
     ensures unset { IfErr result
         (λ e. e ≡ NoSuchVariable → task_set env.now devices.now name.now bounds ≡ None) }
 {
-    let Some(rehearsal) = rehearsal_of(alloc, env, devices, name, bounds) else {
+    let source = Source { name, text: None };
+    let Some(rehearsal) = rehearsal_of(alloc, env, devices, source, bounds) else {
         return Err(RehearseError::NoSuchVariable);
     };
     let mut store = S::new(alloc);

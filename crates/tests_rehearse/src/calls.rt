@@ -10,7 +10,9 @@ use hushlang::{
 };
 use output::{Out, Over};
 use rehearse_endings::{EndingsAsk, endings_env};
-use rehearse_runs::{Finish, RehearseError, Runs, WordKind, resume_point, try_word, write_listing};
+use rehearse_runs::{
+    Finish, RehearseError, Runs, Source, WordKind, resume_point, try_word, write_listing,
+};
 use rehearse_terms::{Bounds, Page, RunBounds};
 use std::alloc::Global;
 use tests_rows::slices;
@@ -43,13 +45,13 @@ pub(crate) fn devices_of(alloc: Global, list: &[u8]) -> Result<Devices, DevicesE
     Devices::parse(alloc, list)
 }
 
-/// What is rehearsed: the environment and the device list of a case, its variable and its bounds.
+/// What is rehearsed: the environment and the device list of a case, its variable or its text, and its bounds.
 #[derive(Drop)]
 pub(crate) struct Given<'a> {
     pub(crate) alloc: Global,
     pub(crate) env: Env,
     pub(crate) devices: Devices,
-    pub(crate) name: &'a [u8],
+    pub(crate) source: Source<'a>,
     pub(crate) bounds: Bounds,
 }
 
@@ -62,13 +64,21 @@ pub(crate) fn env_of(case: &Case) -> anyhow::Result<Env> {
     Ok(env)
 }
 
+/// The variable or the text of a case.
+fn source_of(case: &Case) -> Source<'_> {
+    Source {
+        name: &case.name,
+        text: case.text.as_ref().map(|text| text.as_slice()),
+    }
+}
+
 /// What a case rehearses.
 pub(crate) fn given_of(case: &Case) -> anyhow::Result<Given<'_>> {
     Ok(Given {
         alloc: case.alloc,
         env: env_of(case)?,
         devices: devices_of(case.alloc, &case.devices)?,
-        name: &case.name,
+        source: source_of(case),
         bounds: case.bounds,
     })
 }
@@ -81,15 +91,15 @@ impl Given<'_> {
     ) -> Result<Runs<'_, S>, RehearseError> {
         let (alloc, env, devices) = (self.alloc, &self.env, &self.devices);
         match after {
-            None => Runs::new(alloc, env, devices, self.name, self.bounds),
-            Some(word) => Runs::after(alloc, env, devices, self.name, self.bounds, word),
+            None => Runs::of(alloc, env, devices, self.source, self.bounds),
+            Some(word) => Runs::behind(alloc, env, devices, self.source, self.bounds, word),
         }
     }
 
     /// What kind of word a text is.
     pub(crate) fn kind<S: Store>(&self, word: &[u8]) -> Result<WordKind, RehearseError> {
         let (alloc, env, devices) = (self.alloc, &self.env, &self.devices);
-        try_word::<S>(alloc, env, devices, self.name, self.bounds, word)
+        try_word::<S>(alloc, env, devices, self.source.name, self.bounds, word)
     }
 }
 
@@ -140,8 +150,10 @@ pub(crate) fn endings<S: Store>(
         anyhow::bail!("no bounds");
     };
     let names = slices(case.alloc, &case.names)?;
+    let source = source_of(case);
     let ask = EndingsAsk {
-        name: &case.name,
+        name: source.name,
+        text: source.text,
         bounds: bounds.in_shell(case.bounds.shell()),
         states,
         names: &names,

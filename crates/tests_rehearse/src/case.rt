@@ -21,6 +21,8 @@ pub(crate) struct Case {
     pub(crate) devices: Vec<u8>,
     /// The variable that is rehearsed, `bootcmd` before a row sets it.
     pub(crate) name: Vec<u8>,
+    /// The text that is rehearsed in place of the variable's, none before a row sets it.
+    pub(crate) text: Option<Vec<u8>>,
     /// The names that are asked for.
     pub(crate) names: Vec<Vec<u8>>,
     /// 16 device commands and 10,000 steps before a row sets them.
@@ -96,6 +98,7 @@ impl Case {
             status: 0,
             devices: Vec::from_slice(alloc, b"load")?,
             name: Vec::from_slice(alloc, b"bootcmd")?,
+            text: None,
             names: Vec::new(alloc),
             bounds: bounds_of(16, 10_000)?,
             stores: (Plain::new(alloc), Trail::new(alloc)),
@@ -129,6 +132,7 @@ impl Case {
             "names" => self.names = words_of(self.alloc, says)?,
             "devices" => self.devices = unescaped(self.alloc, says)?,
             "name" => self.name = unescaped(self.alloc, says)?,
+            "text" => self.text = Some(unescaped(self.alloc, says)?),
             "status" => self.status = u8::try_from(number(says)?)?,
             _ => anyhow::bail!("no row begins so"),
         }

@@ -6,7 +6,8 @@
 //! Rows that set something:
 //!
 //! - `set NAME VALUE`, a variable, `devices LIST`, the device list, `name NAME`, the variable that is rehearsed,
-//!   `names NAME..`, those that are asked for, `status STATUS`, and `bounds DEVICES STEPS`, which answers them.
+//!   `text TEXT`, a text that is rehearsed in its place, `names NAME..`, those that are asked for, `status STATUS`, and
+//!   `bounds DEVICES STEPS`, which answers them.
 //!
 //! Rows of the language:
 //!

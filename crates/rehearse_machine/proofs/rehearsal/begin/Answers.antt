@@ -11,7 +11,7 @@ use Rattle.bootstore_state.specs.StoredState.{state_at}
 use Rattle.rehearse_rules.specs.Runs.{run_on}
 use Rattle.bootstore_state.proofs.StateLemmas.{stored_starts}
 use Rattle.rehearse_machine.specs.Came.{Over, settled}
-use Rattle.rehearse_machine.specs.Tasks.{task_in}
+use Rattle.rehearse_machine.specs.Tasks.{source_shown, task_in}
 use Rattle.rehearse_machine.specs.Turning.{to_come}
 use Rattle.rehearse_machine.proofs.StoppingLemmas.{all_stop_as}
 use Rattle.rehearse_machine.proofs.TextLemmas.{refused_runs, same_text, stands_sound, stands_runs}
@@ -20,9 +20,10 @@ use Rattle.rehearse_machine.proofs.rehearsal.begin.Goals as goal
 pub returns-in_default-clause-stops : goal.returns-in_default-clause-stops
 returns-in_default-clause-stops g c w =
     let task = task_in c.args.rehearsal.now in
+    let source = source_shown c.args.rehearsal.now.source in
     let variables = environment_of c.args.rehearsal.now.env.now in
     let start = g.S.Store.record_of c.start.new.self in
-    let same = same_text variables task.name c.text_of-text_found.result.now start.present (ap (λ (r : Record). r.present.environment) c.in_ok-start.ensures.ok) c.text_of-text_found.ensures in
+    let same = same_text variables source.given task.name c.text_of-text_found.result.now start.present (ap (λ (r : Record). r.present.environment) c.in_ok-start.ensures.ok) c.text_of-text_found.ensures in
     let read = ap (λ (x : Shell). tree_in x task.text) (sym c.shell-shell.ensures) ∙ ap (tree_in c.shell-shell.result) (sym same) ∙ sym c.in_ok-script.ensures ∙ ap (option_map view.script) c.in_default.is in
     refused_runs task w read ∙ ap (Over (unread task.limits.shell task.name)) (sym (stored_starts variables w))
     ∙ ap (λ (r : Record). Over (unread task.limits.shell task.name) (state_at r.present w)) (sym c.in_ok-start.ensures.ok)
@@ -33,9 +34,10 @@ returns-in_default-clause-stops g c w =
 pub go_on-requires-clause-sound : goal.go_on-requires-clause-sound
 go_on-requires-clause-sound g c =
     let task = task_in c.args.rehearsal.now in
+    let source = source_shown c.args.rehearsal.now.source in
     let variables = environment_of c.args.rehearsal.now.env.now in
     let start = g.S.Store.record_of c.start.new.self in
-    let same = same_text variables task.name c.text_of-text_found.result.now start.present (ap (λ (r : Record). r.present.environment) c.in_ok-start.ensures.ok) c.text_of-text_found.ensures in
+    let same = same_text variables source.given task.name c.text_of-text_found.result.now start.present (ap (λ (r : Record). r.present.environment) c.in_ok-start.ensures.ok) c.text_of-text_found.ensures in
     let read = ap (λ (x : Shell). tree_in x task.text) (sym c.shell-shell.ensures) ∙ ap (tree_in c.shell-shell.result) (sym same) ∙ sym c.in_ok-script.ensures ∙ ap (option_map view.script) c.in-Some.is in
     stands_sound task.limits (g.S.Store.record_of c.args.store.now) start (g.S.Store.record_of c.push.new.self) variables c.text.result c.in_ok-new.field-0.value c.in-Some.script task.text
     c.in_ok-start.ensures.ok c.in_ok-push.ensures.ok c.text.ensures c.in_ok-new.ensures.ok read
@@ -43,11 +45,12 @@ go_on-requires-clause-sound g c =
 pub returns-clause-stops : goal.returns-clause-stops
 returns-clause-stops g c =
     let task = task_in c.args.rehearsal.now in
+    let source = source_shown c.args.rehearsal.now.source in
     let variables = environment_of c.args.rehearsal.now.env.now in
     let old = g.S.Store.record_of c.args.store.now in
     let start = g.S.Store.record_of c.start.new.self in
     let new = g.S.Store.record_of c.push.new.self in
-    let same = same_text variables task.name c.text_of-text_found.result.now start.present (ap (λ (r : Record). r.present.environment) c.in_ok-start.ensures.ok) c.text_of-text_found.ensures in
+    let same = same_text variables source.given task.name c.text_of-text_found.result.now start.present (ap (λ (r : Record). r.present.environment) c.in_ok-start.ensures.ok) c.text_of-text_found.ensures in
     let read = ap (λ (x : Shell). tree_in x task.text) (sym c.shell-shell.ensures) ∙ ap (tree_in c.shell-shell.result) (sym same) ∙ sym c.in_ok-script.ensures ∙ ap (option_map view.script) c.in-Some.is in
     all_stop_as c.go_on.result task.limits (to_come task.limits new.present) (λ w. settled (run_on task w)) (g.S.Store.record_of c.go_on.new.store)
     (λ w. sym (stands_runs task.limits old start new variables c.text.result c.in_ok-new.field-0.value c.in-Some.script task.text c.in_ok-start.ensures.ok c.in_ok-push.ensures.ok c.text.ensures c.in_ok-new.ensures.ok read task.name w))

@@ -6,10 +6,10 @@ use Rattle.rehearse_runs.specs.Behind.{GoesOnBehind}
 use Rattle.rehearse_runs.specs.Phases.{shown_at}
 use Rattle.rehearse_runs.specs.declared.runs.Phase.TheVariants.{At}
 use Rattle.rehearse_runs.specs.RunsShown.{outcomes}
-use Rattle.rehearse_machine.specs.Tasks.{task_in, task_shown}
+use Rattle.rehearse_machine.specs.Tasks.{source_shown, task_from, task_in}
 use Rattle.rehearse_runs.specs.declared.walking.Walked.TheVariants.{Ends, Short}
 use Rattle.rehearse_runs.proofs.BehindLemmas.{fails_too_often, stands_from, goes_on_from, run_not_listed, short_no_run, walked_at}
-use Rattle.rehearse_runs.proofs.runs.Runs.after.Goals as goal
+use Rattle.rehearse_runs.proofs.runs.Runs.behind.Goals as goal
 
 pub invariant_of-result : goal.invariant_of-result
 invariant_of-result g c =
@@ -24,7 +24,7 @@ invariant_of-result g c =
 
 pub returns-in-Short-clause-err : goal.returns-in-Short-clause-err
 returns-in-Short-clause-err g c =
-    let task = task_shown c.args.env.now c.args.devices.now c.args.name.now c.args.bounds in
+    let task = task_from c.args.env.now c.args.devices.now (source_shown c.args.source) c.args.bounds in
     let text = c.args.word.now in
     let all = c.walk_to.new.digits.items in
     let old = g.S.Store.record_of c.new-store.result in
@@ -47,5 +47,5 @@ returns-in-Ends-clause-ok g c =
 
 pub returns-then-not-is_within-clause-err : goal.returns-then-not-is_within-clause-err
 returns-then-not-is_within-clause-err g c =
-    let task = task_shown c.args.env.now c.args.devices.now c.args.name.now c.args.bounds in
+    let task = task_from c.args.env.now c.args.devices.now (source_shown c.args.source) c.args.bounds in
     (search rules, fails_too_often task c.args.word.now (c.if-not-is_within.ensures ∙ ap (λ (m : Option ℕ). is_within m (outcomes c.args.word.now)) c.failures.ensures))

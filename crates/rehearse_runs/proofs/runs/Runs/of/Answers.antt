@@ -1,6 +1,6 @@
 use Rattle.rehearse_machine.specs.Tasks.{task_in}
 use Rattle.rehearse_runs.proofs.AdvanceLemmas.{stands_fresh}
-use Rattle.rehearse_runs.proofs.runs.Runs.new.Goals as goal
+use Rattle.rehearse_runs.proofs.runs.Runs.of.Goals as goal
 
 pub invariant_of-result : goal.invariant_of-result
 invariant_of-result g c =
